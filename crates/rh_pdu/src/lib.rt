@@ -1,0 +1,21 @@
+//! The common header of connection-oriented PDUs (C706 12.6.3.1), and the frames of a stream in
+//! whatever pieces it comes.
+#![tactic(auto)]
+
+pub mod fault;
+pub mod feed;
+mod filling;
+pub mod framer;
+pub mod header;
+pub mod laws;
+pub mod pdu;
+mod reading;
+#[cfg(test)]
+mod tests;
+
+pub use fault::{HeadFault, PduFault};
+pub use feed::Feed;
+pub use framer::Framer;
+pub use header::Header;
+pub use laws::one_framing;
+pub use pdu::check;
