@@ -1,0 +1,6 @@
+pub mod Recording
+pub mod Report
+pub mod Direct
+pub mod Pieces
+pub mod Carrying
+pub mod Order

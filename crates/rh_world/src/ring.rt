@@ -1,0 +1,40 @@
+//! Rings of items that grow before they are filled, so that filling them takes no memory.
+
+ghost use Rattle.std.specs.Prelude.{◌≡◌, ◌+◌, ◌≤◌, IfOk, OnOk, OnErr, length, take, drop};
+
+use crate::bytes::Bytes;
+use circular_buffer::HeapCircularBuffer;
+use std::alloc::{AllocError, Global};
+
+/// Makes room for `count` items more. The room at least doubles where it doesn't suffice.
+pub(crate) fn make_room<T: Copy>(
+    ring: &mut HeapCircularBuffer<T>,
+    count: usize,
+) -> Result<(), AllocError>
+    ensures items { ring.new.items ≡ ring.old.items }
+    ensures room { OnOk result (length ring.new.items + count ≤ ring.new.capacity) }
+    ensures within { length ring.new.items ≤ ring.new.capacity }
+{
+    let room = ring.capacity();
+    if count > room - ring.len() {
+        let needed = ring.len().checked_add(count).ok_or(AllocError)?;
+        ring.resize(needed.max(room.saturating_mul(2)))?;
+    }
+    Ok(())
+}
+
+/// Takes the first bytes out: `count` of them, or all where there are fewer. The others stay where they are.
+pub(crate) fn take_front(
+    alloc: Global,
+    ring: &mut HeapCircularBuffer<u8>,
+    count: usize,
+) -> Result<Bytes, AllocError>
+    ensures taken { IfOk result (λ front. front ≡ take count ring.old.items) }
+    ensures left { OnOk result (ring.new.items ≡ drop count ring.old.items) }
+    ensures room { ring.new.capacity ≡ ring.old.capacity }
+    ensures err { OnErr result (ring.new ≡ ring.old) }
+{
+    let mut front = vec![in alloc; 0u8; count.min(ring.len())]?;
+    ring.read_into(&mut front);
+    Ok(Bytes::new(front))
+}

@@ -1,0 +1,134 @@
+//! The direct world: one leg, `cs`, between a client and a server.
+
+ghost use Rattle.std.specs.Prelude.{◌≡◌, ◌↔◌, ◌+◌, ◌<◌, ◌≤◌, IsTrue, ◌++◌, [], ◌∷◌, IfOk, OnOk, OnErr};
+
+use crate::answer::{Answer, Report};
+use crate::line::{Dir, Line, Side};
+use crate::way::Way;
+use std::alloc::{AllocError, Global};
+use std::marker::Model;
+
+/// How many PDUs a world counts at most.
+pub const MOST_PDUS: u32 = u32::MAX;
+
+/// A client and a server, and the leg that carries what each gives to the other. After want of memory a
+/// world may only be dropped.
+#[derive(Drop)]
+pub struct World {
+    up: Way,
+    down: Way,
+}
+
+impl Model for World {
+    ghost use Rattle.rh_world.specs.Direct as seen;
+
+    ghost Value = { seen.World };
+
+    ghost view = { λ a. record { up = a.up; down = a.down } };
+}
+
+impl World {
+    ghost use Rattle.rh_world.specs.Direct as seen;
+
+    /// A world in which nothing was given.
+    pub fn new(alloc: Global) -> Result<World, AllocError>
+        ensures { IfOk result (λ world. world ≡ seen.empty) }
+    {
+        Ok(World {
+            up: Way::new(alloc)?,
+            down: Way::new(alloc)?,
+        })
+    }
+
+    /// Whether so many PDUs were given that no further line may be done.
+    pub fn is_full(&self) -> bool
+        ensures { IsTrue result ↔ (MOST_PDUS ≤ self.now.up.given + self.now.down.given) }
+    {
+        let given = u64::from(self.up.given()) + u64::from(self.down.given());
+        given >= u64::from(MOST_PDUS)
+    }
+
+    /// Does what a line says, and adds its answer to the report. A first line does nothing.
+    pub fn step(
+        &mut self,
+        alloc: Global,
+        line: &Line,
+        report: &mut Report,
+    ) -> Result<(), AllocError>
+        requires { self.old.up.given + self.old.down.given < MOST_PDUS }
+        ensures world { OnOk result (self.new ≡ seen.step self.old line.now) }
+        ensures report { OnOk result (report.new ≡ report.old ++ seen.answers self.old line.now) }
+    {
+        let answer = match line {
+            Line::First => return Ok(()),
+            Line::Give { side, pdu } => self.give(alloc, *side, pdu.as_slice())?,
+            Line::Take { side } => self.take(alloc, *side)?,
+            Line::Send { dir, count } => self.send(*dir, *count)?,
+            Line::Move { dir, count } => self.feed(alloc, *dir, *count)?,
+        };
+        report.push(answer)
+    }
+
+    /// Adds the last lines of a report: how many PDUs were given and taken in each direction.
+    pub fn last(&self, report: &mut Report) -> Result<(), AllocError>
+        ensures { OnOk result (report.new ≡ report.old ++ seen.last self.now) }
+    {
+        report.push(Answer::Up {
+            given: self.up.given(),
+            taken: self.up.taken(),
+        })?;
+        report.push(Answer::Down {
+            given: self.down.given(),
+            taken: self.down.taken(),
+        })
+    }
+
+    fn give(&mut self, alloc: Global, side: Side, pdu: &[u8]) -> Result<Answer, AllocError>
+        requires { self.old.up.given + self.old.down.given < MOST_PDUS }
+        ensures world { OnOk result (self.new ≡ seen.step self.old (Line.Give side pdu.now)) }
+        ensures answer { IfOk result (λ answer. seen.answers self.old (Line.Give side pdu.now) ≡ answer ∷ []) }
+        ensures err { OnErr result (self.new ≡ self.old) }
+    {
+        let answer = match side {
+            Side::Client => self.up.give(alloc, pdu)?,
+            Side::Server => self.down.give(alloc, pdu)?,
+        };
+        Ok(Answer::Give { side, answer })
+    }
+
+    fn take(&mut self, alloc: Global, side: Side) -> Result<Answer, AllocError>
+        ensures world { OnOk result (self.new ≡ seen.step self.old (Line.Take side)) }
+        ensures answer { IfOk result (λ answer. seen.answers self.old (Line.Take side) ≡ answer ∷ []) }
+        ensures err { OnErr result (self.new ≡ self.old) }
+    {
+        let answer = match side {
+            Side::Client => self.down.take(alloc)?,
+            Side::Server => self.up.take(alloc)?,
+        };
+        Ok(Answer::Take { side, answer })
+    }
+
+    fn send(&mut self, dir: Dir, count: u32) -> Result<Answer, AllocError>
+        ensures world { OnOk result (self.new ≡ seen.step self.old (Line.Send dir count)) }
+        ensures answer { IfOk result (λ answer. seen.answers self.old (Line.Send dir count) ≡ answer ∷ []) }
+        ensures err { OnErr result (self.new ≡ self.old) }
+    {
+        let count = match dir {
+            Dir::U => self.up.send(count)?,
+            Dir::D => self.down.send(count)?,
+        };
+        Ok(Answer::Send { dir, count })
+    }
+
+    fn feed(&mut self, alloc: Global, dir: Dir, count: u32) -> Result<Answer, AllocError>
+        ensures world { OnOk result (self.new ≡ seen.step self.old (Line.Move dir count)) }
+        ensures answer { IfOk result (λ answer. seen.answers self.old (Line.Move dir count) ≡ answer ∷ []) }
+        ensures err { OnErr result (self.new ≡ self.old) }
+    {
+        let bytes = match dir {
+            Dir::U => self.up.feed(alloc, count)?,
+            Dir::D => self.down.feed(alloc, count)?,
+        };
+        Ok(Answer::Move { dir, bytes })
+    }
+}
