@@ -1,0 +1,12 @@
+-- words in no form are in none of the three
+use Rattle.rh_cli.specs.declared.form.Form.TheVariants.{Replay, Help, Version}
+use Rattle.rh_cli.proofs.run.run.Goals as goal
+
+pub returns-in-None-clause-help : goal.returns-in-None-clause-help
+returns-in-None-clause-help g c = λ is. absurd (c.in-None.ensures Help is)
+
+pub returns-in-None-clause-version : goal.returns-in-None-clause-version
+returns-in-None-clause-version g c = λ is. absurd (c.in-None.ensures Version is)
+
+pub returns-in-None-clause-replay : goal.returns-in-None-clause-replay
+returns-in-None-clause-replay g c = λ is. absurd (c.in-None.ensures Replay is)

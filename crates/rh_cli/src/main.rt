@@ -1,0 +1,43 @@
+//! The program: replays a recording and writes its report.
+#![tactic(auto)]
+
+mod form;
+mod lines;
+mod replay;
+mod run;
+mod status;
+#[cfg(test)]
+mod tests;
+
+use rh_io::{ReaderSource, WriterSink};
+use std::env;
+use std::io::ErrorKind;
+use std::process::ExitCode;
+
+/// The words behind the program's own name.
+fn words(rt: &HostRuntime) -> Result<Vec<String>, status::Status> {
+    let mut words = Vec::new(rt.alloc());
+    match env::args(rt) {
+        Ok(args) => {
+            for word in args.skip(1) {
+                words.push(word)?;
+            }
+            Ok(words)
+        }
+        Err(error) if error.kind() == ErrorKind::InvalidData => Err(status::Status::Usage),
+        Err(_) => Err(status::Status::NoMemory),
+    }
+}
+
+fn main(rt: HostRuntime) -> ExitCode {
+    let mut input = ReaderSource::new(rt.stdin());
+    let mut output = WriterSink::new(rt.stdout());
+    let status = match words(&rt) {
+        Ok(words) => run::run(rt.alloc(), &words, &mut input, &mut output),
+        Err(status) => status,
+    };
+    if status.number() != 0 {
+        let _ = eprintln!(rt; "{status}");
+    }
+    ExitCode::from(status.number())
+}
