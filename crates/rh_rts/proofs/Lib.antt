@@ -1,0 +1,12 @@
+pub mod Fields
+pub mod Reread
+pub mod Standing
+pub mod Bodies
+pub mod Heads
+pub mod Packets
+pub mod Steps
+pub mod OneReading
+pub mod Making
+pub mod Overs
+pub mod Encoded
+pub mod Exact

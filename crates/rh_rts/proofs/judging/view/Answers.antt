@@ -1,0 +1,8 @@
+use Rattle.rh_rts.proofs.Exact.{seen_packet, seen_fault}
+use Rattle.rh_rts.proofs.judging.view.Goals as goal
+
+pub returns-clause-packet : goal.returns-clause-packet
+returns-clause-packet c = seen_packet c.args.bytes.now c.judge.result c.judge.ensures
+
+pub returns-clause-fault : goal.returns-clause-fault
+returns-clause-fault c = seen_fault c.args.bytes.now c.judge.result c.judge.ensures

@@ -1,0 +1,72 @@
+-- the whole packet (MS-RPCH 2.2.3.6)
+use Rattle.std.specs.Prelude.{◌≤◌, ◌+◌, ◌-◌, ◌^◌, ℕ, List, [], ◌∷◌, ◌++◌, length, min, nat_lt, if◌then◌else◌}
+use Rattle.std.specs.Prelude.{Some, None, Ok, Err}
+use Rattle.std.specs.declared.option.Option.{Option}
+use Rattle.std.specs.declared.result.Result.{Result}
+use Rattle.std.specs.Int.{w16, to_le_bytes}
+use Rattle.rh_rts.specs.declared.command.Command.{Command}
+use Rattle.rh_rts.specs.declared.command.Command.TheVariants as commands
+use Rattle.rh_rts.specs.declared.fault.PacketFault.{PacketFault}
+use Rattle.rh_rts.specs.declared.fault.PacketFault.TheVariants.{BadFlags, BadDestination, TooLong}
+use Rattle.rh_rts.specs.Commands.{spellings, AreCommands, greatest_destination}
+
+-- what a packet says
+pub record Parts : Type 0 where
+  pub flags : ℕ
+  pub commands : List Command
+
+-- a number of two bytes, the least first
+abbrev pub le2 : ℕ → List ℕ
+le2 n = to_le_bytes w16 n
+
+-- the bytes in front of the commands
+abbrev pub header_length : ℕ
+header_length = 20
+
+-- all flags, and the greatest frag_length
+abbrev pub all_flags : ℕ
+all_flags = 0x7F
+
+abbrev pub greatest_length : ℕ
+greatest_length = 65535
+
+-- frag_length: the sum of the parts
+abbrev pub packet_length : Parts → ℕ
+packet_length p = header_length + length (spellings p.commands)
+
+-- the header, up to the commands: version, PTYPE, frag_length, no authentication, no call
+abbrev pub header_bytes : ℕ → ℕ → ℕ → List ℕ
+header_bytes frag flags count =
+    (5 ∷ 0 ∷ 20 ∷ 3 ∷ 16 ∷ 0 ∷ 0 ∷ 0 ∷ []) ++ (le2 frag ++ ((0 ∷ 0 ∷ 0 ∷ 0 ∷ 0 ∷ 0 ∷ []) ++ (le2 flags ++ le2 count)))
+
+-- the one spelling of a packet
+unfoldable pub packet_bytes : Parts → List ℕ
+packet_bytes p = header_bytes (packet_length p) p.flags (length p.commands) ++ spellings p.commands
+
+-- what can be sent
+pub record IsPacket (p : Parts) : Type 0 where
+  pub flags : p.flags ≤ all_flags
+  pub commands : AreCommands p.commands
+  pub length : packet_length p ≤ greatest_length
+
+-- ---- making a packet
+
+-- the first destination that is none
+abbrev pub bad_destination : List Command → Option ℕ
+bad_destination [] = None
+bad_destination (commands.Destination n ∷ cs) =
+    if nat_lt greatest_destination n then Some n else bad_destination cs
+bad_destination (c ∷ cs) = bad_destination cs
+
+-- a sum as it is told: the greatest u64 at most
+abbrev pub capped : ℕ → ℕ
+capped n = min n (2 ^ 64 - 1)
+
+-- where the destinations are in range
+abbrev pub made_of : Option ℕ → Parts → Result Parts PacketFault
+made_of (Some n) p = Err (BadDestination n)
+made_of None p = if nat_lt greatest_length (packet_length p) then Err (TooLong (capped (packet_length p))) else Ok p
+
+-- the packet of these parts, or the first of the reasons why there is none
+abbrev pub made : Parts → Result Parts PacketFault
+made p = if nat_lt all_flags p.flags then Err (BadFlags p.flags) else made_of (bad_destination p.commands) p

@@ -1,0 +1,80 @@
+//! Reads a packet from its bytes (MS-RPCH 2.2.3.6).
+
+ghost use Rattle.std.specs.Prelude.{◌≡◌, MatchResult, IfOk};
+ghost use Rattle.rh_rts.specs.Showing.{shown};
+ghost use Rattle.rh_rts.specs.declared.fault.RtsFault.{RtsFault};
+ghost use Rattle.rh_rts.specs.Packets.{Parts, IsPacket, packet_bytes};
+ghost use Rattle.rh_rts.specs.Refusals.{FirstFault};
+ghost use Rattle.rh_rts.specs.Judging.{Decoded, IsPacketOf, IsFaultOf};
+ghost use Rattle.rh_rts.specs.declared.fault.DecodeFault.TheVariants.{NoMemory};
+
+use crate::bytes::Bytes;
+use crate::command::{Command, CommandRef};
+use crate::fault::DecodeFault;
+use crate::judging::view;
+use crate::layout::{fields, layouts};
+use crate::packet::Packet;
+use crate::viewed::Commands;
+use std::alloc::Global;
+
+/// The command, with memory of its own for a padding.
+fn owned(alloc: Global, command: CommandRef<'_>) -> Result<Command, DecodeFault>
+    ensures { MatchResult result (λ c. c ≡ shown command.entry) (λ e. e ≡ NoMemory) }
+{
+    macro_rules! owned {
+        ($name:ident counted $a:ident $b:ident $c:ident) => {
+            Command::$name(Bytes::new(Vec::from_slice(alloc, $a)?))
+        };
+        ($name:ident $layout:ident $a:ident $b:ident $c:ident) => {
+            fields!(Command $name $layout $a $b $c)
+        };
+    }
+    macro_rules! rows {
+        ($($kind:literal $name:ident $layout:ident;)*) => {
+            match command {
+                $(fields!(CommandRef $name $layout a b c) => owned!($name $layout a b c),)*
+            }
+        };
+    }
+    Ok(layouts!(rows))
+}
+
+/// The commands, each with memory of its own.
+fn all_owned(alloc: Global, commands: Commands<'_>) -> Result<Vec<Command>, DecodeFault>
+    ensures { MatchResult result (λ all. all.items ≡ commands.entry) (λ e. e ≡ NoMemory) }
+{
+    let mut all = Vec::new(alloc);
+    let mut left = commands;
+    while let Some(command) = left.next() {
+        all.push(owned(alloc, command)?)?;
+    }
+    Ok(all)
+}
+
+/// The packet whose spelling the bytes are; else the first part that is wrong.
+///
+/// It takes memory for the list of commands, and for the bytes of each `Padding`.
+pub fn decode(alloc: Global, bytes: &[u8]) -> Result<Packet, DecodeFault>
+    ensures reads { Decoded bytes.now result }
+    ensures packet { (p : Parts) → IsPacket p → bytes.now ≡ packet_bytes p → IsPacketOf p result }
+    ensures fault { (wrong : RtsFault) → FirstFault bytes.now wrong → IsFaultOf wrong result }
+{
+    read(alloc, bytes)
+}
+
+/// Reads the packet, from which the laws of `decode` follow.
+fn read(alloc: Global, bytes: &[u8]) -> Result<Packet, DecodeFault>
+    ensures { Decoded bytes.now result }
+{
+    let seen = match view(bytes) {
+        Ok(seen) => seen,
+        Err(fault) => {
+            return Err(DecodeFault::Rts {
+                place: fault.place,
+                kind: fault.kind,
+            });
+        }
+    };
+    let commands = all_owned(alloc, seen.commands())?;
+    Ok(Packet::of(seen.flags(), bytes.len() as u16, commands))
+}

@@ -1,0 +1,161 @@
+//! Writes the bytes of a packet (MS-RPCH 2.2.3.5, 2.2.3.6).
+
+ghost use Rattle.std.specs.Prelude.{◌≡◌, ◌+◌, ◌++◌, ◌≤◌, ◌<◌, length, drop, MatchResult};
+ghost use Rattle.rh_rts.specs.Commands.{le4, spelling, spellings, address_bytes, IsCommand, AreCommands};
+ghost use Rattle.rh_rts.specs.Packets.{packet_bytes, header_bytes};
+ghost use Rattle.rh_rts.specs.Writing.{over};
+
+use crate::command::{Address4or16, Command, Cookie};
+use crate::fault::NoRoom;
+use crate::kinds;
+use crate::layout::{fields, layouts};
+use crate::packet::Packet;
+use crate::reading::HEADER_LEN;
+
+/// Writes the piece from this place on, and answers the place behind it.
+#[tactic(auto, unfolding(crate::specs::Writing::over))]
+fn put(room: &mut [u8], at: usize, piece: &[u8]) -> usize
+    requires { at + length piece.now ≤ length room.old }
+    ensures place { result ≡ at + length piece.now }
+    ensures bytes { room.new ≡ over room.old at piece.now }
+{
+    let end = at + piece.len();
+    room[at..end].copy_from_slice(piece);
+    end
+}
+
+/// Writes a number of four bytes, and answers the place behind it.
+fn put_number(room: &mut [u8], at: usize, number: u32) -> usize
+    requires { at + 4 ≤ length room.old }
+    ensures place { result ≡ at + 4 }
+    ensures bytes { room.new ≡ over room.old at (le4 number) }
+{
+    put(room, at, &number.to_le_bytes())
+}
+
+/// Writes an address type and the address, and answers the place behind them.
+#[tactic(auto, using(crate::proofs::Overs::over_over))]
+fn put_address(room: &mut [u8], at: usize, address: Address4or16) -> usize
+    requires { at + length (address_bytes address) ≤ length room.old }
+    ensures place { result ≡ at + length (address_bytes address) }
+    ensures bytes { room.new ≡ over room.old at (address_bytes address) }
+{
+    match address {
+        Address4or16::V4(bytes) => {
+            let at = put_number(room, at, kinds::V4);
+            put(room, at, &bytes)
+        }
+        Address4or16::V6(bytes) => {
+            let at = put_number(room, at, kinds::V6);
+            put(room, at, &bytes)
+        }
+    }
+}
+
+/// Writes two numbers of four bytes, and answers the place behind them.
+#[tactic(auto, using(crate::proofs::Overs::over_over))]
+fn put_pair(room: &mut [u8], at: usize, first: u32, second: u32) -> usize
+    requires { at + 8 ≤ length room.old }
+    ensures place { result ≡ at + 8 }
+    ensures bytes { room.new ≡ over room.old at (le4 first ++ le4 second) }
+{
+    let at = put_number(room, at, first);
+    put_number(room, at, second)
+}
+
+/// Writes a type and a cookie, and answers the place behind them.
+#[tactic(auto, using(crate::proofs::Overs::over_over))]
+fn put_cookie(room: &mut [u8], at: usize, kind: u32, cookie: Cookie) -> usize
+    requires { at + (4 + length cookie.0) ≤ length room.old }
+    ensures place { result ≡ at + (4 + length cookie.0) }
+    ensures bytes { room.new ≡ over room.old at (le4 kind ++ cookie.0) }
+{
+    let at = put_number(room, at, kind);
+    put(room, at, &cookie.0)
+}
+
+/// Writes a command, and answers the place behind it.
+#[tactic(auto, using(crate::proofs::Overs::over_over), unfolding(crate::specs::Commands::spelling))]
+fn put_command(room: &mut [u8], at: usize, command: &Command) -> usize
+    requires room { at + length (spelling command.now) ≤ length room.old }
+    requires sound { IsCommand command.now }
+    ensures place { result ≡ at + length (spelling command.now) }
+    ensures bytes { room.new ≡ over room.old at (spelling command.now) }
+{
+    macro_rules! put_fields {
+        ($kind:literal nothing $a:ident $b:ident $c:ident) => { put_number(room, at, $kind) };
+        ($kind:literal number $a:ident $b:ident $c:ident) => { put_pair(room, at, $kind, *$a) };
+        ($kind:literal cookie $a:ident $b:ident $c:ident) => { put_cookie(room, at, $kind, *$a) };
+        ($kind:literal ack $a:ident $b:ident $c:ident) => {{
+            let at = put_pair(room, at, $kind, *$a);
+            put_cookie(room, at, *$b, *$c)
+        }};
+        ($kind:literal counted $a:ident $b:ident $c:ident) => {{
+            let at = put_pair(room, at, $kind, $a.len() as u32);
+            put(room, at, $a.as_slice())
+        }};
+        ($kind:literal address $a:ident $b:ident $c:ident) => {{
+            let at = put_number(room, at, $kind);
+            let at = put_address(room, at, *$a);
+            put(room, at, $b)
+        }};
+    }
+    macro_rules! rows {
+        ($($kind:literal $name:ident $layout:ident;)*) => {
+            match command {
+                $(fields!(Command $name $layout a b c) => put_fields!($kind $layout a b c),)*
+            }
+        };
+    }
+    layouts!(rows)
+}
+
+/// Writes the commands, and answers the place behind them.
+fn put_commands(room: &mut [u8], at: usize, commands: &[Command]) -> usize
+    requires room { at + length (spellings commands.now) ≤ length room.old }
+    requires sound { AreCommands commands.now }
+    ensures place { result ≡ at + length (spellings commands.now) }
+    ensures bytes { room.new ≡ over room.old at (spellings commands.now) }
+{
+    let mut place = at;
+    for command in commands {
+        place = put_command(room, place, command);
+    }
+    place
+}
+
+/// Writes the header in front.
+fn put_header(room: &mut [u8], frag: u16, flags: u16, count: u16) -> usize
+    requires { 20 ≤ length room.old }
+    ensures place { result ≡ 20 }
+    ensures bytes { room.new ≡ over room.old 0 (header_bytes frag flags count) }
+{
+    let frag = frag.to_le_bytes();
+    let flags = flags.to_le_bytes();
+    let count = count.to_le_bytes();
+    let header: [u8; HEADER_LEN] = [
+        5, 0, 20, 3, 16, 0, 0, 0, frag[0], frag[1], 0, 0, 0, 0, 0, 0, flags[0], flags[1], count[0],
+        count[1],
+    ];
+    put(room, 0, &header)
+}
+
+/// Writes the packet at the front of the room, and answers its length in bytes.
+///
+/// Fails where the packet is longer than the room, which then stays as it was.
+#[tactic(auto, using(crate::proofs::Overs::over_over), unfolding(crate::specs::Packets::packet_bytes))]
+pub fn encode(packet: &Packet, room: &mut [u8]) -> Result<usize, NoRoom>
+    ensures { MatchResult result
+        (λ len. (len ≡ length (packet_bytes packet.now)) × (len ≤ length room.old)
+        × (room.new ≡ packet_bytes packet.now ++ drop len room.old))
+        (λ no. (no.need ≡ length (packet_bytes packet.now)) × (length room.old < no.need)
+        × (room.new ≡ room.old)) }
+{
+    let need = packet.length();
+    if need > room.len() {
+        return Err(NoRoom { need });
+    }
+    let commands = packet.commands();
+    let at = put_header(room, need as u16, packet.flags(), commands.len() as u16);
+    Ok(put_commands(room, at, commands))
+}

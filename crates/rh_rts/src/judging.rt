@@ -1,0 +1,51 @@
+//! Judges the bytes of a packet, and reads it (MS-RPCH 2.2.3.6).
+
+ghost use Rattle.std.specs.Prelude.{◌≡◌, ◌+◌, ◌≤◌, ◌<◌, ◌-◌, ◌^◌, length, drop, MatchResult, Some, None};
+ghost use Rattle.std.specs.Prelude.{Ok, Err};
+ghost use Rattle.rh_rts.specs.declared.fault.RtsFault.{RtsFault};
+ghost use Rattle.rh_rts.specs.Packets.{Parts, IsPacket, packet_bytes};
+ghost use Rattle.rh_rts.specs.Refusals.{FirstFault};
+ghost use Rattle.rh_rts.specs.Judging.{Judged};
+ghost use Rattle.rh_rts.specs.Showing.{body_fault, listed};
+
+use crate::fault::{RtsFault, RtsKind};
+use crate::reading::{read_command, read_head};
+use crate::viewed::View;
+
+/// Whether so many commands are all of the bytes.
+fn check_body(total: usize, count: u16, body: &[u8]) -> Result<(), RtsFault>
+    requires { length body.now ≤ total }
+    ensures { MatchResult result (λ _. body_fault total count body.now ≡ None)
+        (λ wrong. body_fault total count body.now ≡ Some wrong) }
+{
+    let mut rest = body;
+    for _ in 0..count {
+        let (_, after) = read_command(total - rest.len(), rest)?;
+        rest = after;
+    }
+    if rest.is_empty() {
+        return Ok(());
+    }
+    Err(RtsFault {
+        place: total - rest.len(),
+        kind: RtsKind::Left,
+    })
+}
+
+/// The packet that the bytes are; else the first part that is wrong.
+pub fn view(bytes: &[u8]) -> Result<View<'_>, RtsFault>
+    ensures reads { Judged bytes.now result }
+    ensures packet { (p : Parts) → IsPacket p → bytes.now ≡ packet_bytes p → result ≡ Ok p }
+    ensures fault { (wrong : RtsFault) → FirstFault bytes.now wrong → result ≡ Err wrong }
+{
+    judge(bytes)
+}
+
+/// Judges the bytes, from which the laws of `view` follow.
+fn judge(bytes: &[u8]) -> Result<View<'_>, RtsFault>
+    ensures { Judged bytes.now result }
+{
+    let (flags, count, rest) = read_head(bytes)?;
+    check_body(bytes.len(), count, rest)?;
+    Ok(View { flags, count, rest })
+}
