@@ -12,9 +12,9 @@ use crate::layout::{fields, layouts};
 use crate::reading::{ALL_FLAGS, GREATEST_DESTINATION, HEADER_LEN};
 use std::marker::Model;
 
-/// The channel is to be kept open.
+/// A ping.
 pub const PING: u16 = 0x0001;
-/// The packet has commands other than those that the connection needs.
+/// An acknowledgement, a keepalive interval, or the traffic of pings.
 pub const OTHER_CMD: u16 = 0x0002;
 /// A channel is being replaced.
 pub const RECYCLE_CHANNEL: u16 = 0x0004;

@@ -66,6 +66,13 @@ const OTHERS: [u8; 84] = [
     8, 0, 0, 0, 8, 0, 0, 0, 8, 7, 6, 5, 4, 3, 2, 1,
 ];
 
+// The greatest destination, and an address of 4 bytes with padding that isn't zero.
+const DESTINATION_AND_V4: [u8; 52] = [
+    5, 0, 20, 3, 0x10, 0, 0, 0, 52, 0, 0, 0, 0, 0, 0, 0, 0, 0, 2, 0, //
+    13, 0, 0, 0, 3, 0, 0, 0, //
+    11, 0, 0, 0, 0, 0, 0, 0, 127, 0, 0, 1, 1, 2, 3, 4, 5, 6, 7, 8, 9, 10, 11, 12,
+];
+
 // Whether the bytes are a packet of these flags and commands.
 fn says<'a>(bytes: &'a [u8], flags: u16, commands: &[CommandRef<'a>]) -> bool {
     let Ok(seen) = view(bytes) else {
@@ -117,6 +124,11 @@ fn each_other_command_is_read(rt: HostRuntime) {
         padding: [1, 2, 3, 4, 5, 6, 7, 8, 9, 10, 11, 12],
     };
     assert!(rt; says(&ADDRESS, 0x0008, &[address]));
+    let v4 = CommandRef::ClientAddress {
+        address: Address4or16::V4([127, 0, 0, 1]),
+        padding: [1, 2, 3, 4, 5, 6, 7, 8, 9, 10, 11, 12],
+    };
+    assert!(rt; says(&DESTINATION_AND_V4, 0, &[CommandRef::Destination(3), v4]));
     let others = [
         CommandRef::ConnectionTimeout(120_000),
         CommandRef::Empty,
@@ -174,86 +186,97 @@ fn packet(rt: &HostRuntime, flags: u16, count: u16, body: &[u8]) -> Result<Vec<u
     Ok(bytes)
 }
 
-// Flags, the number of commands, their bytes; where what is wrong stands, and what it is.
-type Wrong<'a> = (u16, u16, &'a [u8], usize, RtsKind);
+// The number of commands and their bytes; where what is wrong stands, and what it is.
+type Wrong<'a> = (u16, &'a [u8], usize, RtsKind);
+
+// The first row whose packet with these flags isn't refused as it says.
+fn first_taken(rt: &HostRuntime, flags: u16, rows: &[Wrong<'_>]) -> Result<Option<usize>, Fail> {
+    for (row, (count, body, place, kind)) in rows.iter().enumerate() {
+        let bytes = packet(rt, flags, *count, body)?;
+        if !is_refused(rt, &bytes, *place, *kind) {
+            return Ok(Some(row));
+        }
+    }
+    Ok(None)
+}
 
 #[test]
-fn the_first_part_that_is_wrong_is_named(rt: HostRuntime) -> Result<(), Fail> {
-    let rows: [Wrong<'_>; 24] = [
-        (0x0080, 0, &[], 16, RtsKind::BadFlags),
-        (0x8000, 0, &[], 16, RtsKind::BadFlags),
-        (0x0081, 1, &[15, 0, 0, 0], 16, RtsKind::BadFlags),
-        (0, 1, &[], 20, RtsKind::CutShort),
-        (0, 1, &[6, 0, 0], 20, RtsKind::CutShort),
-        (0, 2, &[7, 0, 0, 0, 6, 0, 0], 24, RtsKind::CutShort),
-        (0, 1, &[15, 0, 0, 0], 20, RtsKind::BadType),
-        (0, 1, &[0, 0, 0, 7], 20, RtsKind::BadType),
-        (0, 2, &[7, 0, 0, 0, 15, 0, 0, 0], 24, RtsKind::BadType),
-        (0, 1, &[6, 0, 0, 0, 1, 0, 0], 20, RtsKind::CutShort),
+fn unknown_flags_are_refused_before_commands(rt: HostRuntime) -> Result<(), Fail> {
+    let rows: [Wrong<'_>; 2] = [
+        (0, &[], 16, RtsKind::BadFlags),
+        (1, &[15, 0, 0, 0], 16, RtsKind::BadFlags),
+    ];
+    assert_eq!(rt; first_taken(&rt, 0x0080, &rows)?, None);
+    assert_eq!(rt; first_taken(&rt, 0x8000, &rows)?, None);
+    Ok(())
+}
+
+#[test]
+fn a_number_out_of_range_is_refused(rt: HostRuntime) -> Result<(), Fail> {
+    let rows: [Wrong<'_>; 6] = [
+        (1, &[15, 0, 0, 0], 20, RtsKind::BadType),
+        (1, &[0, 0, 0, 7], 20, RtsKind::BadType),
+        (2, &[7, 0, 0, 0, 15, 0, 0, 0], 24, RtsKind::BadType),
+        (1, &[11, 0, 0, 0, 2, 0, 0, 0], 24, RtsKind::BadAddressType),
+        (1, &[8, 0, 0, 0, 0, 0, 1, 0], 24, RtsKind::BadCount),
+        (1, &[13, 0, 0, 0, 4, 0, 0, 0], 24, RtsKind::BadType),
+    ];
+    assert_eq!(rt; first_taken(&rt, 0, &rows)?, None);
+    Ok(())
+}
+
+// Commands that end before their last byte.
+const CUT_COOKIE: [u8; 19] = [
+    3, 0, 0, 0, 1, 2, 3, 4, 5, 6, 7, 8, 9, 10, 11, 12, 13, 14, 15,
+];
+
+const CUT_ACK: [u8; 27] = [
+    1, 0, 0, 0, 1, 0, 0, 0, 1, 0, 0, 0, 1, 2, 3, 4, 5, 6, 7, 8, 9, 10, 11, 12, 13, 14, 15,
+];
+
+const CUT_V4: [u8; 23] = [
+    11, 0, 0, 0, 0, 0, 0, 0, 127, 0, 0, 1, 0, 0, 0, 0, 0, 0, 0, 0, 0, 0, 0,
+];
+
+const CUT_V6: [u8; 35] = [
+    11, 0, 0, 0, 1, 0, 0, 0, 1, 2, 3, 4, 5, 6, 7, 8, 9, 10, 11, 12, 13, 14, 15, 16, 0, 0, 0, 0, 0,
+    0, 0, 0, 0, 0, 0,
+];
+
+#[test]
+fn a_command_cut_short_is_refused(rt: HostRuntime) -> Result<(), Fail> {
+    let rows: [Wrong<'_>; 13] = [
+        (1, &[], 20, RtsKind::CutShort),
+        (1, &[6, 0, 0], 20, RtsKind::CutShort),
+        (2, &[7, 0, 0, 0], 24, RtsKind::CutShort),
+        (2, &[7, 0, 0, 0, 6, 0, 0], 24, RtsKind::CutShort),
+        (1, &[6, 0, 0, 0, 1, 0, 0], 20, RtsKind::CutShort),
+        (1, &CUT_COOKIE, 20, RtsKind::CutShort),
+        (1, &CUT_ACK, 20, RtsKind::CutShort),
+        (1, &[8, 0, 0, 0, 0, 0, 1], 20, RtsKind::CutShort),
+        (1, &[11, 0, 0, 0, 2, 0, 0], 20, RtsKind::CutShort),
+        (1, &[8, 0, 0, 0, 3, 0, 0, 0, 1, 2], 20, RtsKind::CutShort),
+        (1, &[8, 0, 0, 0, 0xff, 0xff, 0, 0], 20, RtsKind::CutShort),
+        (1, &CUT_V4, 20, RtsKind::CutShort),
+        (1, &CUT_V6, 20, RtsKind::CutShort),
+    ];
+    assert_eq!(rt; first_taken(&rt, 0, &rows)?, None);
+    Ok(())
+}
+
+#[test]
+fn bytes_left_are_refused(rt: HostRuntime) -> Result<(), Fail> {
+    let rows: [Wrong<'_>; 3] = [
+        (0, &[0], 20, RtsKind::Left),
+        (1, &[7, 0, 0, 0, 9], 24, RtsKind::Left),
         (
-            0,
-            1,
-            &[
-                3, 0, 0, 0, 1, 2, 3, 4, 5, 6, 7, 8, 9, 10, 11, 12, 13, 14, 15,
-            ],
-            20,
-            RtsKind::CutShort,
-        ),
-        (
-            0,
-            1,
-            &[
-                1, 0, 0, 0, 1, 0, 0, 0, 1, 0, 0, 0, 1, 2, 3, 4, 5, 6, 7, 8, 9, 10, 11, 12, 13, 14,
-                15,
-            ],
-            20,
-            RtsKind::CutShort,
-        ),
-        (0, 1, &[8, 0, 0, 0, 0, 0, 1], 20, RtsKind::CutShort),
-        (0, 1, &[11, 0, 0, 0, 2, 0, 0], 20, RtsKind::CutShort),
-        (
-            0,
-            1,
-            &[11, 0, 0, 0, 2, 0, 0, 0],
-            24,
-            RtsKind::BadAddressType,
-        ),
-        (0, 1, &[8, 0, 0, 0, 0, 0, 1, 0], 24, RtsKind::BadCount),
-        (0, 1, &[13, 0, 0, 0, 4, 0, 0, 0], 24, RtsKind::BadType),
-        (0, 1, &[8, 0, 0, 0, 3, 0, 0, 0, 1, 2], 20, RtsKind::CutShort),
-        (0, 1, &[8, 0, 0, 0, 0xff, 0xff, 0, 0], 20, RtsKind::CutShort),
-        (
-            0,
-            1,
-            &[
-                11, 0, 0, 0, 0, 0, 0, 0, 127, 0, 0, 1, 0, 0, 0, 0, 0, 0, 0, 0, 0, 0, 0,
-            ],
-            20,
-            RtsKind::CutShort,
-        ),
-        (
-            0,
-            1,
-            &[
-                11, 0, 0, 0, 1, 0, 0, 0, 127, 0, 0, 1, 0, 0, 0, 0, 0, 0, 0, 0, 0, 0, 0, 0,
-            ],
-            20,
-            RtsKind::CutShort,
-        ),
-        (0, 0, &[0], 20, RtsKind::Left),
-        (0, 1, &[7, 0, 0, 0, 9], 24, RtsKind::Left),
-        (
-            0,
             2,
             &[10, 0, 0, 0, 8, 0, 0, 0, 1, 0, 0, 0, 5, 6],
             33,
             RtsKind::Left,
         ),
     ];
-    for (row, (flags, count, body, place, kind)) in rows.iter().enumerate() {
-        let bytes = packet(&rt, *flags, *count, body)?;
-        assert!(rt; is_refused(&rt, &bytes, *place, *kind), "row {row}");
-    }
+    assert_eq!(rt; first_taken(&rt, 0, &rows)?, None);
     Ok(())
 }
 
@@ -311,7 +334,7 @@ fn parts_are_refused_in_order(rt: HostRuntime) -> Result<(), Fail> {
 
 #[test]
 fn what_is_decoded_is_encoded_as_the_same_bytes(rt: HostRuntime) -> Result<(), Fail> {
-    let packets: [&[u8]; 8] = [
+    let packets: [&[u8]; 9] = [
         &CONN_A1,
         &CONN_B1,
         &ACK_TO_SERVER,
@@ -320,6 +343,7 @@ fn what_is_decoded_is_encoded_as_the_same_bytes(rt: HostRuntime) -> Result<(), F
         &PADDED,
         &ADDRESS,
         &OTHERS,
+        &DESTINATION_AND_V4,
     ];
     for (row, bytes) in packets.iter().enumerate() {
         let packet = decode(rt.alloc(), bytes)?;
