@@ -19,4 +19,4 @@ pub use bytes::Bytes;
 pub use line::{Dir, Line, RecordKind, Side};
 pub use reading::{LineRefused, one_reading, one_recording, read_line, split_line};
 pub use world::World;
-pub use writing::{write_answer, write_report};
+pub use writing::{write_answer, write_pdu_fault, write_report};

@@ -54,8 +54,10 @@ fn write_head_fault(fault: HeadFault, out: &mut String) -> Result<(), AllocError
     }
 }
 
-/// Appends the text of a PDU's fault.
-fn write_pdu_fault(fault: PduFault, out: &mut String) -> Result<(), AllocError>
+/// Appends the text of a PDU's fault: its name and its numbers.
+///
+/// Fails where there is no memory, and a part of the text may then stand in `out`.
+pub fn write_pdu_fault(fault: PduFault, out: &mut String) -> Result<(), AllocError>
     ensures { OnOk result (string_bytes out.new ≡ string_bytes out.old ++ pdu_fault_text fault) }
 {
     match fault {
