@@ -2,5 +2,13 @@
 #![tactic(auto)]
 
 mod cookie;
+mod kinds;
+mod name;
+mod naming;
+mod rows;
+mod sig;
 
 pub use cookie::{COOKIE_TEXT_LEN, cookie_text};
+pub use name::{Name, Pipe};
+pub use naming::name_by;
+pub use sig::Sig;
