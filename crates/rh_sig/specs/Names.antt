@@ -79,8 +79,7 @@ kind_of (commands.PingTrafficSentNotify n) = ping_traffic_sent_notify
 
 -- the types of commands, in their order
 abbrev pub kinds : List Command → List ℕ
-kinds [] = []
-kinds (c ∷ cs) = kind_of c ∷ kinds cs
+kinds cs = map kind_of cs
 
 -- the commands without those of type Padding
 abbrev pub unpadded : List Command → List Command

@@ -2,13 +2,20 @@
 #![tactic(auto)]
 
 mod cookie;
+mod fault;
+mod fields;
 mod kinds;
 mod name;
+mod named;
 mod naming;
 mod rows;
 mod sig;
+mod values;
+
 
 pub use cookie::{COOKIE_TEXT_LEN, cookie_text};
+pub use fault::SigFault;
 pub use name::{Name, Pipe};
+pub use named::Named;
 pub use naming::name_by;
 pub use sig::Sig;
