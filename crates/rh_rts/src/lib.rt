@@ -17,7 +17,7 @@ mod viewed;
 pub use bytes::Bytes;
 pub use command::{Address4or16, Command, CommandRef, Cookie};
 pub use decoding::decode;
-pub use encoding::encode;
+pub use encoding::{encode, encode_parts};
 pub use fault::{DecodeFault, NoRoom, PacketFault, RtsFault, RtsKind};
 pub use judging::view;
 pub use laws::one_packet;
