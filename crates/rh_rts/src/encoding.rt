@@ -7,8 +7,7 @@ ghost use Rattle.rh_rts.specs.Writing.{over, Writes};
 
 use crate::command::{Address4or16, Command, Cookie};
 use crate::fault::NoRoom;
-use crate::kinds;
-use crate::layout::{fields, layouts};
+use crate::layout::{V4, V6, fields, layouts};
 use crate::packet::{Packet, length_of};
 use crate::reading::HEADER_LEN;
 
@@ -42,11 +41,11 @@ fn put_address(room: &mut [u8], at: usize, address: Address4or16) -> usize
 {
     match address {
         Address4or16::V4(bytes) => {
-            let at = put_number(room, at, kinds::V4);
+            let at = put_number(room, at, V4);
             put(room, at, &bytes)
         }
         Address4or16::V6(bytes) => {
-            let at = put_number(room, at, kinds::V6);
+            let at = put_number(room, at, V6);
             put(room, at, &bytes)
         }
     }
@@ -85,6 +84,9 @@ fn put_command(room: &mut [u8], at: usize, command: &Command) -> usize
     macro_rules! put_fields {
         ($kind:literal nothing $a:ident $b:ident $c:ident) => { put_number(room, at, $kind) };
         ($kind:literal number $a:ident $b:ident $c:ident) => { put_pair(room, at, $kind, *$a) };
+        ($kind:literal destination $a:ident $b:ident $c:ident) => {
+            put_pair(room, at, $kind, *$a)
+        };
         ($kind:literal cookie $a:ident $b:ident $c:ident) => { put_cookie(room, at, $kind, *$a) };
         ($kind:literal ack $a:ident $b:ident $c:ident) => {{
             let at = put_pair(room, at, $kind, *$a);

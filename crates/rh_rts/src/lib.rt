@@ -7,7 +7,6 @@ mod decoding;
 mod encoding;
 mod fault;
 mod judging;
-mod kinds;
 pub mod laws;
 mod layout;
 pub mod packet;
