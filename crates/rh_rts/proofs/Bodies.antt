@@ -9,7 +9,8 @@ use Rattle.rh_rts.specs.declared.fault.RtsFault.{RtsFault}
 use Rattle.rh_rts.specs.declared.fault.RtsKind.TheVariants.{Left}
 use Rattle.rh_rts.specs.Commands.{spelling, spellings, AreCommands}
 use Rattle.rh_rts.specs.Refusals.{fault, length_of, command_fault, RestFault, BodyFault}
-use Rattle.rh_rts.specs.Showing.{command_of, listed, or_else, body_fault}
+use Rattle.rh_rts.specs.Showing.{command_of, listed, AreAll}
+use Rattle.rh_rts.proofs.InTurn.{or_else, body_fault}
 use Rattle.rh_rts.proofs.Fields.{IsBytes, IsBytes-drop}
 use Rattle.rh_rts.proofs.Standing.{stands}
 use Rattle.rh_rts.proofs.Reread.{again}
@@ -26,12 +27,6 @@ anywhere at b fits e =
     let there : command_fault 0 (spelling (command_of b) ++ drop (length_of b) b) ≡ None =
     (again 0 (command_of b) (drop (length_of b) b) st.is_command).fault in
     subst (λ (x : List ℕ). command_fault 0 x ≡ None) (sym st.bytes) there
-
--- so many commands are all of the bytes
-pub record AreAll (n : ℕ) (cs : List Command) (b : List ℕ) : Type 0 where
-  pub bytes : b ≡ spellings cs
-  pub commands : AreCommands cs
-  pub count : length cs ≡ n
 
 some_none : (w : RtsFault) → Some w ≡ None → ⊥
 some_none w e = absurd cc

@@ -31,26 +31,20 @@ all_came room whole at end cs none h =
 pub count_fits : (p : Parts) → IsPacket p → length p.commands ≤ 65535
 count_fits p is = omega (arith, is.length, no_more_than_bytes p.commands)
 
-pub whole_packet : (p : Parts) (room one two : List ℕ) (cs : List Command) (need flags at len : ℕ)
-    → need ≡ packet_length p → flags ≡ p.flags → cs ≡ p.commands
-    → one ≡ over room 0 (header_bytes need flags (length cs)) → at ≡ 20
-    → two ≡ over one at (spellings cs) → len ≡ at + length (spellings cs) → need ≤ length room
+pub whole_packet : (p : Parts) (room one two : List ℕ) (need at len : ℕ) → need ≡ packet_length p
+    → one ≡ over room 0 (header_bytes need p.flags (length p.commands)) → at ≡ 20
+    → two ≡ over one at (spellings p.commands) → len ≡ at + length (spellings p.commands) → need ≤ length room
     → (len ≡ length (packet_bytes p)) × (len ≤ length room) × (two ≡ packet_bytes p ++ drop len room)
 unfolding packet_bytes
-whole_packet p room one two cs need flags at len size told same head place body end fits =
+whole_packet p room one two need at len size head place body end fits =
     let header = header_bytes (packet_length p) p.flags (length p.commands) in
-    let count : length (spellings cs) ≡ length (spellings p.commands) =
-    ap (λ (x : List Command). length (spellings x)) same in
-    let bytes : len ≡ length (packet_bytes p) = omega (arith, end, place, count) in
+    let bytes : len ≡ length (packet_bytes p) = omega (arith, end, place) in
     let head' : one ≡ over room 0 header =
-    head ∙ ap (λ (n : ℕ). over room 0 (header_bytes n flags (length cs))) size
-    ∙ ap (λ (n : ℕ). over room 0 (header_bytes (packet_length p) n (length cs))) told
-    ∙ ap (λ (x : List Command). over room 0 (header_bytes (packet_length p) p.flags (length x))) same in
+    head ∙ ap (λ (n : ℕ). over room 0 (header_bytes n p.flags (length p.commands))) size in
     let both : two ≡ over room 0 (packet_bytes p) =
-    body ∙ ap (λ (x : List Command). over one at (spellings x)) same
-    ∙ ap (λ (x : List ℕ). over x at (spellings p.commands)) head'
+    body ∙ ap (λ (x : List ℕ). over x at (spellings p.commands)) head'
     ∙ over_over room 0 header (spellings p.commands) at (omega (arith, place)) (omega arith) in (
       bytes,
-      omega (arith, end, place, count, size, fits),
+      omega (arith, end, place, size, fits),
       both ∙ over_front room (packet_bytes p) ∙ ap (λ (n : ℕ). packet_bytes p ++ drop n room) (sym bytes),
     )

@@ -1,3 +1,4 @@
+pub mod InTurn
 pub mod Fields
 pub mod Reread
 pub mod Standing

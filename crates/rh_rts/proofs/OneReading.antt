@@ -9,7 +9,8 @@ use Rattle.rh_rts.specs.declared.fault.RtsFault.{RtsFault}
 use Rattle.rh_rts.specs.Commands.{spelling, spellings}
 use Rattle.rh_rts.specs.Packets.{Parts, IsPacket, packet_bytes, packet_length}
 use Rattle.rh_rts.specs.Refusals.{FirstFault, BodyFault, frag_of, flags_of, count_of}
-use Rattle.rh_rts.specs.Showing.{listed, body_fault}
+use Rattle.rh_rts.specs.Showing.{listed}
+use Rattle.rh_rts.proofs.InTurn.{body_fault}
 use Rattle.rh_rts.proofs.Bodies.{all_read, first_again}
 use Rattle.rh_rts.proofs.Heads.{head_again, HeadAgain, frag_again}
 

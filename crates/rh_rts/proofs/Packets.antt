@@ -1,14 +1,13 @@
 -- what is read with nothing wrong is a packet, and a packet is read with nothing wrong
 use Rattle.std.proofs.Common.{◌≡◌, ℕ, ◌+◌, ◌≤◌, List, ◌++◌, length, drop, sym, ap, ◌∙◌, arith, inr}
-use Rattle.std.specs.Prelude.{Some, None}
+use Rattle.std.specs.Prelude.{None}
 use Rattle.std.proofs.lemmas.List.{length-drop}
 use Rattle.rh_rts.specs.declared.fault.RtsFault.{RtsFault}
 use Rattle.rh_rts.specs.Commands.{spellings}
 use Rattle.rh_rts.specs.Packets.{Parts, IsPacket, packet_bytes, header_bytes}
-use Rattle.rh_rts.specs.Refusals.{FirstFault, head_fault, frag_of, flags_of, count_of}
-use Rattle.rh_rts.specs.Showing.{listed, body_fault}
-use Rattle.rh_rts.proofs.Fields.{IsBytes, IsBytes-drop}
-use Rattle.rh_rts.proofs.Bodies.{all_listed, first_found}
+use Rattle.rh_rts.specs.Refusals.{FirstFault, BodyFault, head_fault, frag_of, flags_of, count_of}
+use Rattle.rh_rts.specs.Showing.{listed, AreAll}
+use Rattle.rh_rts.proofs.Fields.{IsBytes}
 use Rattle.rh_rts.proofs.Heads.{is_head, head_bytes}
 
 -- the bytes are of this packet
@@ -19,12 +18,11 @@ frag_below : (b : List ℕ) → IsBytes b → frag_of b ≤ 65535
 frag_below b fits = omega (arith, fits 8, fits 9)
 
 pub is_packet : (b : List ℕ) → IsBytes b → head_fault b ≡ None
-    → body_fault (length b) (count_of b) (drop 20 b) ≡ None
+    → AreAll (count_of b) (listed (count_of b) (drop 20 b)) (drop 20 b)
     → IsOf b (record { flags = flags_of b; commands = listed (count_of b) (drop 20 b) })
 unfolding packet_bytes
-is_packet b fits e f =
+is_packet b fits e all =
     let h = is_head b e in
-    let all = all_listed (length b) (count_of b) (drop 20 b) (IsBytes-drop 20 b fits) f in
     let cs = listed (count_of b) (drop 20 b) in
     let size : 20 + length (spellings cs) ≡ length b =
     omega (arith, length-drop 20 b, h.long, ap (λ (x : List ℕ). length x) all.bytes) in (
@@ -41,12 +39,11 @@ is_packet b fits e f =
 
 -- the same with the parts as they were read
 pub is_packet_of : (b rest : List ℕ) (flags count : ℕ) → IsBytes b → head_fault b ≡ None → flags ≡ flags_of b
-    → count ≡ count_of b → rest ≡ drop 20 b → body_fault (length b) count rest ≡ None
+    → count ≡ count_of b → rest ≡ drop 20 b → AreAll count (listed count rest) rest
     → IsOf b (record { flags = flags; commands = listed count rest })
-is_packet_of b rest flags count fits e f g h body =
-    rw (f, g, h) (is_packet b fits e (rw (sym g, sym h) body))
+is_packet_of b rest flags count fits e f g h all =
+    rw (f, g, h) (is_packet b fits e (rw (sym g, sym h) all))
 
-pub is_first : (b rest : List ℕ) (count : ℕ) (wrong : RtsFault) → IsBytes b → head_fault b ≡ None
-    → count ≡ count_of b → rest ≡ drop 20 b → body_fault (length b) count rest ≡ Some wrong → FirstFault b wrong
-is_first b rest count wrong fits e g h body =
-    inr (e, first_found (length b) (count_of b) (drop 20 b) wrong (IsBytes-drop 20 b fits) (rw (sym g, sym h) body))
+pub is_first : (b rest : List ℕ) (count : ℕ) (wrong : RtsFault) → head_fault b ≡ None → count ≡ count_of b
+    → rest ≡ drop 20 b → BodyFault (length b) count rest wrong → FirstFault b wrong
+is_first b rest count wrong e g h body = inr (e, rw (sym g, sym h) body)

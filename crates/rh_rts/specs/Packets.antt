@@ -1,5 +1,5 @@
 -- the whole packet (MS-RPCH 2.2.3.6)
-use Rattle.std.specs.Prelude.{◌≤◌, ◌+◌, ◌-◌, ◌^◌, ℕ, List, [], ◌∷◌, ◌++◌, length, min, nat_lt, if◌then◌else◌}
+use Rattle.std.specs.Prelude.{◌≡◌, ◌⊎◌, ◌≤◌, ◌+◌, ◌-◌, ◌^◌, ℕ, List, [], ◌∷◌, ◌++◌, length, min, nat_lt, if◌then◌else◌}
 use Rattle.std.specs.Prelude.{Some, None, Ok, Err}
 use Rattle.std.specs.declared.option.Option.{Option}
 use Rattle.std.specs.declared.result.Result.{Result}
@@ -7,7 +7,7 @@ use Rattle.std.specs.Int.{w16, to_le_bytes}
 use Rattle.rh_rts.specs.declared.command.Command.{Command}
 use Rattle.rh_rts.specs.declared.command.Command.TheVariants as commands
 use Rattle.rh_rts.specs.declared.fault.PacketFault.{PacketFault}
-use Rattle.rh_rts.specs.declared.fault.PacketFault.TheVariants.{BadFlags, BadDestination, TooLong}
+use Rattle.rh_rts.specs.declared.fault.PacketFault.TheVariants.{BadFlags, BadDestination, TooLong, NoMemory}
 use Rattle.rh_rts.specs.Commands.{spellings, AreCommands, greatest_destination}
 
 -- what a packet says
@@ -70,3 +70,7 @@ made_of None p = if nat_lt greatest_length (packet_length p) then Err (TooLong (
 -- the packet of these parts, or the first of the reasons why there is none
 abbrev pub made : Parts → Result Parts PacketFault
 made p = if nat_lt all_flags p.flags then Err (BadFlags p.flags) else made_of (bad_destination p.commands) p
+
+-- it is that, or there was no memory for the packet
+abbrev pub IsMade : Parts → Result Parts PacketFault → Type 0
+IsMade p result = (result ≡ made p) ⊎ ((made p ≡ Ok p) × (result ≡ Err NoMemory))

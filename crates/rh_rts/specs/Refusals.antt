@@ -1,5 +1,5 @@
 -- what is the first to be wrong with bytes that are to be a packet (MS-RPCH 2.2.3.5, 2.2.3.6)
-use Rattle.std.specs.Prelude.{◌≡◌, ◌≢◌, ◌<◌, ◌+◌, ◌-◌, ◌==◌, ◌&&◌, ◌⊎◌, ℕ, List, [], ◌∷◌, ◌++◌, length, take, drop}
+use Rattle.std.specs.Prelude.{◌≡◌, ◌≢◌, ◌<◌, ◌+◌, ◌-◌, ◌==◌, ◌⊎◌, ℕ, List, [], ◌∷◌, ◌++◌, length, take, drop}
 use Rattle.std.specs.Prelude.{not, nat_lt, if◌then◌else◌, slice_index, Some, None}
 use Rattle.std.specs.declared.option.Option.{Option}
 use Rattle.std.specs.Int.{w16, w32, from_le_bytes}
@@ -66,6 +66,10 @@ type_of b = number_of b
 abbrev pub field_of : List ℕ → ℕ
 field_of b = number_of (drop 4 b)
 
+-- the types are 0 to 14
+abbrev pub greatest_type : ℕ
+greatest_type = 14
+
 -- how many bytes each type has, as far as no field tells it
 abbrev pub fixed_lengths : List ℕ
 fixed_lengths =
@@ -88,12 +92,21 @@ length_by type field = fixed_length type + asked_length type field
 abbrev pub length_of : List ℕ → ℕ
 length_of b = length_by (type_of b) (field_of b)
 
--- a field out of its range, and how it is told
+-- the greatest number behind a type that has a range, and how a greater one is told
+abbrev pub greatest_field : ℕ → Option (ℕ × RtsKind)
+greatest_field type =
+    if type == 11 then Some (1, BadAddressType)
+    else (if type == 8 then Some (greatest_count, BadCount)
+    else (if type == 13 then Some (greatest_destination, BadType) else None))
+
+-- a number above this greatest one is wrong
+abbrev pub above : ℕ → ℕ → Option (ℕ × RtsKind) → Option RtsFault
+above at field None = None
+above at field (Some most) = if nat_lt most.0 field then fault (at + 4) most.1 else None
+
+-- a number out of its range, and how it is told
 abbrev pub field_fault : ℕ → ℕ → ℕ → Option RtsFault
-field_fault at type field =
-    if (type == 11) && nat_lt 1 field then fault (at + 4) BadAddressType
-    else (if (type == 8) && nat_lt greatest_count field then fault (at + 4) BadCount
-    else (if (type == 13) && nat_lt greatest_destination field then fault (at + 4) BadType else None))
+field_fault at type field = above at field (greatest_field type)
 
 -- where the fields are in range: whether all of the bytes are there
 abbrev pub end_fault : ℕ → List ℕ → Option RtsFault → Option RtsFault
@@ -104,7 +117,7 @@ end_fault at b None = if nat_lt (length b) (length_of b) then fault at CutShort 
 unfoldable pub command_fault : ℕ → List ℕ → Option RtsFault
 command_fault at b =
     if nat_lt (length b) 4 then fault at CutShort
-    else (if nat_lt 14 (type_of b) then fault at BadType
+    else (if nat_lt greatest_type (type_of b) then fault at BadType
     else (if nat_lt (length b) (fixed_length (type_of b)) then fault at CutShort
     else end_fault at b (field_fault at (type_of b) (field_of b))))
 

@@ -1,5 +1,5 @@
 -- the commands that stand at the front of bytes
-use Rattle.std.specs.Prelude.{◌≡◌, ◌==◌, ◌-◌, ℕ, zero, suc, List, [], ◌∷◌, length, take, drop, if◌then◌else◌, Some, None}
+use Rattle.std.specs.Prelude.{◌≡◌, ◌==◌, ℕ, zero, suc, List, [], ◌∷◌, length, take, drop, if◌then◌else◌, Some, None}
 use Rattle.std.specs.declared.option.Option.{Option}
 use Rattle.rh_rts.specs.declared.command.Cookie.{Cookie}
 use Rattle.rh_rts.specs.declared.command.Address4or16.TheVariants.{V4, V6}
@@ -8,8 +8,8 @@ use Rattle.rh_rts.specs.declared.command.Command.TheVariants as commands
 use Rattle.rh_rts.specs.declared.command.CommandRef.{CommandRef}
 use Rattle.rh_rts.specs.declared.command.CommandRef.TheVariants as refs
 use Rattle.rh_rts.specs.declared.fault.RtsFault.{RtsFault}
-use Rattle.rh_rts.specs.declared.fault.RtsKind.TheVariants.{Left}
-use Rattle.rh_rts.specs.Refusals.{fault, command_fault, type_of, field_of, number_of, length_of}
+use Rattle.rh_rts.specs.Commands.{spellings, AreCommands}
+use Rattle.rh_rts.specs.Refusals.{command_fault, type_of, field_of, number_of, length_of}
 
 -- a command whose padding stands elsewhere
 abbrev pub shown : CommandRef → Command
@@ -82,16 +82,11 @@ abbrev pub listed : ℕ → List ℕ → List Command
 listed zero b = []
 listed (suc n) b = unless (command_fault 0 b) (command_of b ∷ listed n (drop (length_of b) b))
 
--- the first of the two that is there
-abbrev pub or_else : Option RtsFault → Option RtsFault → Option RtsFault
-or_else None later = later
-or_else (Some wrong) later = Some wrong
-
--- what is wrong with the rest of a packet of so many bytes, where so many commands are to come
-abbrev pub body_fault : ℕ → ℕ → List ℕ → Option RtsFault
-body_fault total zero b = if length b == 0 then None else fault (total - length b) Left
-body_fault total (suc n) b =
-    or_else (command_fault (total - length b) b) (body_fault total n (drop (length_of b) b))
+-- so many commands are all of the bytes
+pub record AreAll (n : ℕ) (cs : List Command) (b : List ℕ) : Type 0 where
+  pub bytes : b ≡ spellings cs
+  pub commands : AreCommands cs
+  pub count : length cs ≡ n
 
 -- the next command, where there is one
 abbrev pub Gives : List Command → Option CommandRef → List Command → Type 0

@@ -1,9 +1,15 @@
 //! The commands of RTS packets (MS-RPCH 2.2.3.5).
 
 use crate::bytes::Bytes;
+use crate::layout::{fields, layouts};
+use std::alloc::{AllocError, Global};
 
 /// The length of a cookie, in bytes.
 pub const COOKIE_LEN: usize = 16;
+/// The length of an address of IPv4 and of one of IPv6, in bytes.
+pub const V4_LEN: usize = 4;
+
+pub const V6_LEN: usize = 16;
 /// The length of the padding behind a client's address, in bytes.
 pub const ADDRESS_PADDING_LEN: usize = 12;
 
@@ -14,8 +20,8 @@ pub struct Cookie(pub [u8; COOKIE_LEN]);
 /// A client's address, as its bytes stand in the packet (MS-RPCH 2.2.3.2).
 #[derive(Clone, Copy, Debug, PartialEq, Eq)]
 pub enum Address4or16 {
-    V4([u8; 4]),
-    V6([u8; 16]),
+    V4([u8; V4_LEN]),
+    V6([u8; V6_LEN]),
 }
 
 /// A command (MS-RPCH 2.2.3.5), in the order of the types.
@@ -78,4 +84,61 @@ pub enum CommandRef<'a> {
     AssociationGroupId(Cookie),
     Destination(u32),
     PingTrafficSentNotify(u32),
+}
+
+impl Command {
+    ghost use Rattle.std.specs.Prelude.{◌≡◌};
+    ghost use Rattle.rh_rts.specs.Showing.{shown};
+
+    /// The command, with its padding lent.
+    pub fn borrowed(&self) -> CommandRef<'_>
+        ensures { shown result ≡ self.now }
+    {
+        macro_rules! borrowed {
+            ($name:ident nothing $a:ident $b:ident $c:ident) => { CommandRef::$name };
+            ($name:ident counted $a:ident $b:ident $c:ident) => { CommandRef::$name($a.as_slice()) };
+            ($name:ident ack $a:ident $b:ident $c:ident) => {
+                CommandRef::$name { received: *$a, window: *$b, cookie: *$c }
+            };
+            ($name:ident address $a:ident $b:ident $c:ident) => {
+                CommandRef::$name { address: *$a, padding: *$b }
+            };
+            ($name:ident $one:ident $a:ident $b:ident $c:ident) => { CommandRef::$name(*$a) };
+        }
+        macro_rules! rows {
+            ($($kind:literal $name:ident $layout:ident;)*) => {
+                match self {
+                    $(fields!(Command $name $layout a b c) => borrowed!($name $layout a b c),)*
+                }
+            };
+        }
+        layouts!(rows)
+    }
+}
+
+impl CommandRef<'_> {
+    ghost use Rattle.std.specs.Prelude.{◌≡◌, IfOk};
+    ghost use Rattle.rh_rts.specs.Showing.{shown};
+
+    /// The command, with memory of its own for a padding.
+    pub fn owned(self, alloc: Global) -> Result<Command, AllocError>
+        ensures { IfOk result (λ command. command ≡ shown self.entry) }
+    {
+        macro_rules! owned {
+            ($name:ident counted $a:ident $b:ident $c:ident) => {
+                Command::$name(Bytes::new(Vec::from_slice(alloc, $a)?))
+            };
+            ($name:ident $layout:ident $a:ident $b:ident $c:ident) => {
+                fields!(Command $name $layout $a $b $c)
+            };
+        }
+        macro_rules! rows {
+            ($($kind:literal $name:ident $layout:ident;)*) => {
+                match self {
+                    $(fields!(CommandRef $name $layout a b c) => owned!($name $layout a b c),)*
+                }
+            };
+        }
+        Ok(layouts!(rows))
+    }
 }

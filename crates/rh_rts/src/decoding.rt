@@ -1,43 +1,18 @@
 //! Reads a packet from its bytes (MS-RPCH 2.2.3.6).
 
 ghost use Rattle.std.specs.Prelude.{◌≡◌, MatchResult, IfOk};
-ghost use Rattle.rh_rts.specs.Showing.{shown};
 ghost use Rattle.rh_rts.specs.declared.fault.RtsFault.{RtsFault};
 ghost use Rattle.rh_rts.specs.Packets.{Parts, IsPacket, packet_bytes};
 ghost use Rattle.rh_rts.specs.Refusals.{FirstFault};
 ghost use Rattle.rh_rts.specs.Judging.{Decoded, IsPacketOf, IsFaultOf};
 ghost use Rattle.rh_rts.specs.declared.fault.DecodeFault.TheVariants.{NoMemory};
 
-use crate::bytes::Bytes;
-use crate::command::{Command, CommandRef};
+use crate::command::Command;
 use crate::fault::DecodeFault;
 use crate::judging::view;
-use crate::layout::{fields, layouts};
 use crate::packet::Packet;
 use crate::viewed::Commands;
 use std::alloc::Global;
-
-/// The command, with memory of its own for a padding.
-fn owned(alloc: Global, command: CommandRef<'_>) -> Result<Command, DecodeFault>
-    ensures { MatchResult result (λ c. c ≡ shown command.entry) (λ e. e ≡ NoMemory) }
-{
-    macro_rules! owned {
-        ($name:ident counted $a:ident $b:ident $c:ident) => {
-            Command::$name(Bytes::new(Vec::from_slice(alloc, $a)?))
-        };
-        ($name:ident $layout:ident $a:ident $b:ident $c:ident) => {
-            fields!(Command $name $layout $a $b $c)
-        };
-    }
-    macro_rules! rows {
-        ($($kind:literal $name:ident $layout:ident;)*) => {
-            match command {
-                $(fields!(CommandRef $name $layout a b c) => owned!($name $layout a b c),)*
-            }
-        };
-    }
-    Ok(layouts!(rows))
-}
 
 /// The commands, each with memory of its own.
 fn all_owned(alloc: Global, commands: Commands<'_>) -> Result<Vec<Command>, DecodeFault>
@@ -46,7 +21,7 @@ fn all_owned(alloc: Global, commands: Commands<'_>) -> Result<Vec<Command>, Deco
     let mut all = Vec::new(alloc);
     let mut left = commands;
     while let Some(command) = left.next() {
-        all.push(owned(alloc, command)?)?;
+        all.push(command.owned(alloc)?)?;
     }
     Ok(all)
 }

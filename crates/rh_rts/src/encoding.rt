@@ -1,15 +1,14 @@
 //! Writes the bytes of a packet (MS-RPCH 2.2.3.5, 2.2.3.6).
 
-ghost use Rattle.std.specs.Prelude.{◌≡◌, ◌+◌, ◌++◌, ◌≤◌, ◌<◌, length, drop, MatchResult};
+ghost use Rattle.std.specs.Prelude.{◌≡◌, ◌+◌, ◌++◌, ◌≤◌, ◌<◌, length};
 ghost use Rattle.rh_rts.specs.Commands.{le4, spelling, spellings, address_bytes, IsCommand, AreCommands};
-ghost use Rattle.rh_rts.specs.Packets.{packet_bytes, header_bytes};
-ghost use Rattle.rh_rts.specs.Writing.{over};
+ghost use Rattle.rh_rts.specs.Packets.{IsPacket, packet_length, header_bytes};
+ghost use Rattle.rh_rts.specs.Writing.{over, Writes};
 
 use crate::command::{Address4or16, Command, Cookie};
 use crate::fault::NoRoom;
-use crate::kinds;
-use crate::layout::{fields, layouts};
-use crate::packet::Packet;
+use crate::layout::{V4, V6, fields, layouts};
+use crate::packet::{Packet, length_of};
 use crate::reading::HEADER_LEN;
 
 /// Writes the piece from this place on, and answers the place behind it.
@@ -42,11 +41,11 @@ fn put_address(room: &mut [u8], at: usize, address: Address4or16) -> usize
 {
     match address {
         Address4or16::V4(bytes) => {
-            let at = put_number(room, at, kinds::V4);
+            let at = put_number(room, at, V4);
             put(room, at, &bytes)
         }
         Address4or16::V6(bytes) => {
-            let at = put_number(room, at, kinds::V6);
+            let at = put_number(room, at, V6);
             put(room, at, &bytes)
         }
     }
@@ -85,6 +84,9 @@ fn put_command(room: &mut [u8], at: usize, command: &Command) -> usize
     macro_rules! put_fields {
         ($kind:literal nothing $a:ident $b:ident $c:ident) => { put_number(room, at, $kind) };
         ($kind:literal number $a:ident $b:ident $c:ident) => { put_pair(room, at, $kind, *$a) };
+        ($kind:literal destination $a:ident $b:ident $c:ident) => {
+            put_pair(room, at, $kind, *$a)
+        };
         ($kind:literal cookie $a:ident $b:ident $c:ident) => { put_cookie(room, at, $kind, *$a) };
         ($kind:literal ack $a:ident $b:ident $c:ident) => {{
             let at = put_pair(room, at, $kind, *$a);
@@ -140,22 +142,36 @@ fn put_header(room: &mut [u8], frag: u16, flags: u16, count: u16) -> usize
     put(room, 0, &header)
 }
 
-/// Writes the packet at the front of the room, and answers its length in bytes.
-///
-/// Fails where the packet is longer than the room, which then stays as it was.
+/// Writes a packet of so many bytes at the front of the room, and answers its length in bytes.
 #[tactic(auto, using(crate::proofs::Overs::over_over), unfolding(crate::specs::Packets::packet_bytes))]
-pub fn encode(packet: &Packet, room: &mut [u8]) -> Result<usize, NoRoom>
-    ensures { MatchResult result
-        (λ len. (len ≡ length (packet_bytes packet.now)) × (len ≤ length room.old)
-        × (room.new ≡ packet_bytes packet.now ++ drop len room.old))
-        (λ no. (no.need ≡ length (packet_bytes packet.now)) × (length room.old < no.need)
-        × (room.new ≡ room.old)) }
+fn write(need: usize, flags: u16, commands: &[Command], room: &mut [u8]) -> Result<usize, NoRoom>
+    requires sound { IsPacket (record { flags = flags; commands = commands.now }) }
+    requires length { need ≡ packet_length (record { flags = flags; commands = commands.now }) }
+    ensures { Writes (record { flags = flags; commands = commands.now }) room.old room.new result }
 {
-    let need = packet.length();
     if need > room.len() {
         return Err(NoRoom { need });
     }
-    let commands = packet.commands();
-    let at = put_header(room, need as u16, packet.flags(), commands.len() as u16);
+    let at = put_header(room, need as u16, flags, commands.len() as u16);
     Ok(put_commands(room, at, commands))
+}
+
+/// Writes the packet at the front of the room, and answers its length in bytes.
+///
+/// Fails where the packet is longer than the room, which then stays as it was.
+pub fn encode(packet: &Packet, room: &mut [u8]) -> Result<usize, NoRoom>
+    ensures { Writes packet.now room.old room.new result }
+{
+    write(packet.length(), packet.flags(), packet.commands(), room)
+}
+
+/// Writes the packet of these flags and commands as `encode` does, with no memory for a packet.
+///
+/// They are to be those of a packet: no bit outside 0x007F, no destination above 3, and at most
+/// 65,535 bytes in all.
+pub fn encode_parts(flags: u16, commands: &[Command], room: &mut [u8]) -> Result<usize, NoRoom>
+    requires { IsPacket (record { flags = flags; commands = commands.now }) }
+    ensures { Writes (record { flags = flags; commands = commands.now }) room.old room.new result }
+{
+    write(length_of(commands) as usize, flags, commands, room)
 }

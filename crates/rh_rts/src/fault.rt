@@ -1,7 +1,8 @@
 //! What can be wrong with a packet, with its bytes and with the room for them.
 
 ghost use Rattle.std.specs.Prelude.{◌≡◌};
-ghost use Rattle.rh_rts.specs.declared.fault.DecodeFault.TheVariants.{NoMemory};
+ghost use Rattle.rh_rts.specs.declared.fault.DecodeFault.TheVariants as decode;
+ghost use Rattle.rh_rts.specs.declared.fault.PacketFault.TheVariants as packet;
 
 use std::alloc::{AllocError, AllocFailed};
 
@@ -51,6 +52,8 @@ pub enum PacketFault {
     TooLong(u64),
     /// The first destination that is above 3.
     BadDestination(u32),
+    /// There was no memory for the commands.
+    NoMemory,
 }
 
 /// The room is shorter than the packet, which needs so many bytes.
@@ -60,7 +63,7 @@ pub struct NoRoom {
 }
 
 impl From<AllocError> for DecodeFault {
-    ghost from_gives = { λ _ fault. fault ≡ NoMemory };
+    ghost from_gives = { λ _ fault. fault ≡ decode.NoMemory };
 
     fn from(_: AllocError) -> DecodeFault {
         DecodeFault::NoMemory
@@ -68,9 +71,25 @@ impl From<AllocError> for DecodeFault {
 }
 
 impl<T: Drop> From<AllocFailed<T>> for DecodeFault {
-    ghost from_gives = { λ _ fault. fault ≡ NoMemory };
+    ghost from_gives = { λ _ fault. fault ≡ decode.NoMemory };
 
     fn from(_: AllocFailed<T>) -> DecodeFault {
         DecodeFault::NoMemory
+    }
+}
+
+impl From<AllocError> for PacketFault {
+    ghost from_gives = { λ _ fault. fault ≡ packet.NoMemory };
+
+    fn from(_: AllocError) -> PacketFault {
+        PacketFault::NoMemory
+    }
+}
+
+impl<T: Drop> From<AllocFailed<T>> for PacketFault {
+    ghost from_gives = { λ _ fault. fault ≡ packet.NoMemory };
+
+    fn from(_: AllocFailed<T>) -> PacketFault {
+        PacketFault::NoMemory
     }
 }

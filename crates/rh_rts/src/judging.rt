@@ -4,9 +4,9 @@ ghost use Rattle.std.specs.Prelude.{◌≡◌, ◌+◌, ◌≤◌, ◌<◌, ◌-
 ghost use Rattle.std.specs.Prelude.{Ok, Err};
 ghost use Rattle.rh_rts.specs.declared.fault.RtsFault.{RtsFault};
 ghost use Rattle.rh_rts.specs.Packets.{Parts, IsPacket, packet_bytes};
-ghost use Rattle.rh_rts.specs.Refusals.{FirstFault};
+ghost use Rattle.rh_rts.specs.Refusals.{FirstFault, BodyFault};
 ghost use Rattle.rh_rts.specs.Judging.{Judged};
-ghost use Rattle.rh_rts.specs.Showing.{body_fault, listed};
+ghost use Rattle.rh_rts.specs.Showing.{listed, AreAll};
 
 use crate::fault::{RtsFault, RtsKind};
 use crate::reading::{read_command, read_head};
@@ -15,8 +15,8 @@ use crate::viewed::View;
 /// Whether so many commands are all of the bytes.
 fn check_body(total: usize, count: u16, body: &[u8]) -> Result<(), RtsFault>
     requires { length body.now ≤ total }
-    ensures { MatchResult result (λ _. body_fault total count body.now ≡ None)
-        (λ wrong. body_fault total count body.now ≡ Some wrong) }
+    ensures { MatchResult result (λ _. AreAll count (listed count body.now) body.now)
+        (λ wrong. BodyFault total count body.now wrong) }
 {
     let mut rest = body;
     for _ in 0..count {

@@ -1,15 +1,16 @@
 //! A packet (MS-RPCH 2.2.3.6).
 
-ghost use Rattle.std.specs.Prelude.{◌≡◌, ◌+◌, ◌<◌, ◌^◌, length};
+ghost use Rattle.std.specs.Prelude.{◌≡◌, ◌+◌, ◌<◌, ◌^◌, length, MatchResult};
 ghost use Rattle.rh_rts.specs.Commands.{spelling, spellings, address_bytes, IsAddress};
 ghost use Rattle.rh_rts.specs.Packets.{bad_destination, capped};
 ghost use Rattle.rh_rts.specs.Sizes.{HasSize, HaveSizes};
+ghost use Rattle.rh_rts.specs.declared.fault.PacketFault.TheVariants.{NoMemory};
 
 use crate::command::{ADDRESS_PADDING_LEN, Address4or16, Command, Cookie};
 use crate::fault::PacketFault;
-use crate::kinds::TYPE_LEN;
-use crate::layout::{fields, layouts};
-use crate::reading::{ALL_FLAGS, GREATEST_DESTINATION, HEADER_LEN};
+use crate::layout::{GREATEST_DESTINATION, TYPE_LEN, fields, layouts};
+use crate::reading::{ALL_FLAGS, HEADER_LEN};
+use std::alloc::Global;
 use std::marker::Model;
 
 /// A ping.
@@ -52,26 +53,27 @@ impl Model for Packet {
 
 impl Packet {
     ghost use Rattle.std.specs.Prelude.{◌≡◌, IfOk};
-    ghost use Rattle.rh_rts.specs.Packets.{Parts, IsPacket, packet_length, made};
+    ghost use Rattle.rh_rts.specs.Packets.{Parts, IsPacket, packet_length, IsMade};
 
-    /// The packet of these flags and commands, whose memory is kept.
+    /// The packet of these flags and commands, which are copied.
     ///
     /// Fails with the first of these that is so: a bit outside 0x007F is set; a destination is above
-    /// 3; the sum of the parts is above 65,535 bytes.
-    pub fn new(flags: u16, commands: Vec<Command>) -> Result<Packet, PacketFault>
-        ensures made { result ≡ made (record { flags = flags; commands = commands.items }) }
+    /// 3; the sum of the parts is above 65,535 bytes; there is no memory for the copy.
+    pub fn new(alloc: Global, flags: u16, commands: &[Command]) -> Result<Packet, PacketFault>
+        ensures made { IsMade (record { flags = flags; commands = commands.now }) result }
         ensures sound { IfOk result IsPacket }
     {
         if flags > ALL_FLAGS {
             return Err(PacketFault::BadFlags(flags));
         }
-        if let Some(destination) = bad_destination(&commands) {
+        if let Some(destination) = bad_destination(commands) {
             return Err(PacketFault::BadDestination(destination));
         }
-        let length = length_of(&commands);
+        let length = length_of(commands);
         if length > GREATEST_LENGTH {
             return Err(PacketFault::TooLong(length));
         }
+        let commands = copy_of(alloc, commands)?;
         Ok(Packet::of(flags, length as u16, commands))
     }
 
@@ -112,6 +114,17 @@ impl Packet {
     }
 }
 
+/// The commands, each with memory of its own.
+fn copy_of(alloc: Global, commands: &[Command]) -> Result<Vec<Command>, PacketFault>
+    ensures { MatchResult result (λ all. all.items ≡ commands.now) (λ fault. fault ≡ NoMemory) }
+{
+    let mut all = Vec::with_capacity(alloc, commands.len())?;
+    for command in commands {
+        all.push(command.borrowed().owned(alloc)?)?;
+    }
+    Ok(all)
+}
+
 /// The first destination that is none.
 fn bad_destination(commands: &[Command]) -> Option<u32>
     ensures { result ≡ bad_destination commands.now }
@@ -127,7 +140,7 @@ fn bad_destination(commands: &[Command]) -> Option<u32>
 }
 
 /// The length of a packet of these commands, in bytes: 2^64 - 1 where it is above that.
-fn length_of(commands: &[Command]) -> u64
+pub(crate) fn length_of(commands: &[Command]) -> u64
     ensures length { result ≡ capped (20 + length (spellings commands.now)) }
     ensures size { HaveSizes commands.now }
 {
@@ -177,6 +190,7 @@ fn command_length(command: &Command) -> u64
     macro_rules! fields_length {
         (nothing $a:ident $b:ident $c:ident) => { 0 };
         (number $a:ident $b:ident $c:ident) => { number_length(*$a) };
+        (destination $a:ident $b:ident $c:ident) => { number_length(*$a) };
         (cookie $a:ident $b:ident $c:ident) => { cookie_length(*$a) };
         (ack $a:ident $b:ident $c:ident) => {
             number_length(*$a) + number_length(*$b) + cookie_length(*$c)

@@ -3,13 +3,16 @@
 ghost use Rattle.std.specs.Prelude.{◌≡◌, ◌≤◌, ◌<◌, ◌+◌, ◌^◌, length, take, drop, MatchResult, Some, None};
 ghost use Rattle.rh_rts.specs.Refusals.{first_difference, head_fault, flags_of, count_of, short_at};
 ghost use Rattle.rh_rts.specs.Refusals.{number_of, type_of, field_of, fixed_length, length_of, field_fault};
-ghost use Rattle.rh_rts.specs.Refusals.{command_fault, asked_length};
+ghost use Rattle.rh_rts.specs.Refusals.{command_fault, asked_length, greatest_type};
 ghost use Rattle.rh_rts.specs.Showing.{command_of, cookie_at, address_of, ack_of, shown};
 
-use crate::command::{ADDRESS_PADDING_LEN, Address4or16, COOKIE_LEN, CommandRef, Cookie};
+use crate::command::{
+    ADDRESS_PADDING_LEN, Address4or16, COOKIE_LEN, CommandRef, Cookie, V4_LEN, V6_LEN,
+};
 use crate::fault::{RtsFault, RtsKind};
-use crate::kinds;
-use crate::layout::{FIXED_LENGTHS, layouts};
+use crate::layout::{
+    ACK_COOKIE_AT, FIELDS_AT, TYPE_LEN, V4, asked_length, fixed_length, greatest_field, layouts,
+};
 
 /// The length of the header, in bytes.
 pub const HEADER_LEN: usize = 20;
@@ -21,14 +24,6 @@ pub const FLAGS_AT: usize = 16;
 pub const COUNT_AT: usize = 18;
 /// All the flags of a packet, one bit each: any number above has a bit that is no flag.
 pub const ALL_FLAGS: u16 = 0x007F;
-/// The greatest type of a command.
-pub const GREATEST_TYPE: u32 = 14;
-/// The greatest ConformanceCount, in bytes.
-pub const GREATEST_COUNT: u32 = 65_535;
-/// The greatest AddressType.
-pub const GREATEST_ADDRESS_TYPE: u32 = kinds::V6;
-/// The greatest destination: the out proxy.
-pub const GREATEST_DESTINATION: u32 = 3;
 
 /// The place of the first byte that isn't the one that is wanted.
 fn first_difference(want: &[u8], bytes: &[u8]) -> Option<usize>
@@ -56,7 +51,7 @@ fn number(bytes: &[u8]) -> u32
     requires { 4 ≤ length bytes.now }
     ensures { result ≡ number_of bytes.now }
 {
-    let (front, _) = bytes.split_at(kinds::TYPE_LEN);
+    let (front, _) = bytes.split_at(TYPE_LEN);
     u32::from_le_bytes([front[0], front[1], front[2], front[3]])
 }
 
@@ -65,7 +60,7 @@ fn field(bytes: &[u8]) -> u32
     requires { 8 ≤ length bytes.now }
     ensures { result ≡ field_of bytes.now }
 {
-    let (_, rest) = bytes.split_at(kinds::TYPE_LEN);
+    let (_, rest) = bytes.split_at(TYPE_LEN);
     number(rest)
 }
 
@@ -126,26 +121,14 @@ fn field_fault(place: usize, kind: u32, field: u32) -> Option<RtsFault>
     requires { place + 4 < 2 ^ 64 }
     ensures { result ≡ field_fault place kind field }
 {
-    let place = place + kinds::TYPE_LEN;
-    if kind == kinds::CLIENT_ADDRESS && field > GREATEST_ADDRESS_TYPE {
-        return Some(RtsFault {
-            place,
-            kind: RtsKind::BadAddressType,
-        });
+    let (greatest, kind) = greatest_field(kind)?;
+    if field <= greatest {
+        return None;
     }
-    if kind == kinds::PADDING && field > GREATEST_COUNT {
-        return Some(RtsFault {
-            place,
-            kind: RtsKind::BadCount,
-        });
-    }
-    if kind == kinds::DESTINATION && field > GREATEST_DESTINATION {
-        return Some(RtsFault {
-            place,
-            kind: RtsKind::BadType,
-        });
-    }
-    None
+    Some(RtsFault {
+        place: place + TYPE_LEN,
+        kind,
+    })
 }
 
 /// What is wrong with the command in front, which begins at that place; else its length.
@@ -153,7 +136,7 @@ fn field_fault(place: usize, kind: u32, field: u32) -> Option<RtsFault>
 fn judge(place: usize, bytes: &[u8]) -> Result<usize, RtsFault>
     requires { place + length bytes.now < 2 ^ 64 }
     ensures fits { MatchResult result (λ len. len ≤ length bytes.now) (λ _. Unit {0}) }
-    ensures kind { MatchResult result (λ _. (type_of bytes.now ≤ 14) × (4 ≤ length bytes.now)) (λ _. Unit {0}) }
+    ensures kind { MatchResult result (λ _. (type_of bytes.now ≤ greatest_type) × (4 ≤ length bytes.now)) (λ _. Unit {0}) }
     ensures verdict { MatchResult result
         (λ len. (command_fault place bytes.now ≡ None) × (len ≡ length_of bytes.now))
         (λ wrong. command_fault place bytes.now ≡ Some wrong) }
@@ -162,21 +145,20 @@ fn judge(place: usize, bytes: &[u8]) -> Result<usize, RtsFault>
         place,
         kind: RtsKind::CutShort,
     };
-    if bytes.len() < kinds::TYPE_LEN {
+    if bytes.len() < TYPE_LEN {
         return Err(cut);
     }
     let kind = number(bytes);
-    if kind > GREATEST_TYPE {
+    let Some(fixed) = fixed_length(kind) else {
         return Err(RtsFault {
             place,
             kind: RtsKind::BadType,
         });
-    }
-    let fixed = FIXED_LENGTHS[kind as usize];
+    };
     if bytes.len() < fixed {
         return Err(cut);
     }
-    if fixed == kinds::TYPE_LEN {
+    if fixed == TYPE_LEN {
         return Ok(fixed);
     }
     let field = field(bytes);
@@ -190,18 +172,6 @@ fn judge(place: usize, bytes: &[u8]) -> Result<usize, RtsFault>
     Ok(len)
 }
 
-/// The bytes that a ConformanceCount or an AddressType asks for.
-fn asked_length(kind: u32, field: u32) -> usize
-    ensures { result ≡ asked_length kind field }
-{
-    match kind {
-        kinds::PADDING => field as usize,
-        kinds::CLIENT_ADDRESS if field == kinds::V4 => 16,
-        kinds::CLIENT_ADDRESS => 28,
-        _ => 0,
-    }
-}
-
 /// The address type and the address behind the type, and the padding behind them.
 fn read_address(bytes: &[u8]) -> CommandRef<'_>
     requires fixed { 8 ≤ length bytes.now }
@@ -209,16 +179,16 @@ fn read_address(bytes: &[u8]) -> CommandRef<'_>
     ensures { shown result ≡ address_of bytes.now }
 {
     let field = field(bytes);
-    let (_, address) = bytes.split_at(kinds::FIELDS_AT);
-    if field == kinds::V4 {
-        let (address, rest) = address.split_at(4);
+    let (_, address) = bytes.split_at(FIELDS_AT);
+    if field == V4 {
+        let (address, rest) = address.split_at(V4_LEN);
         return CommandRef::ClientAddress {
             address: Address4or16::V4([address[0], address[1], address[2], address[3]]),
             padding: padding(rest),
         };
     }
-    let (address, rest) = address.split_at(16);
-    let mut bytes = [0; 16];
+    let (address, rest) = address.split_at(V6_LEN);
+    let mut bytes = [0; V6_LEN];
     bytes.copy_from_slice(address);
     CommandRef::ClientAddress {
         address: Address4or16::V6(bytes),
@@ -242,11 +212,11 @@ fn read_ack(bytes: &[u8]) -> CommandRef<'_>
     requires { 28 ≤ length bytes.now }
     ensures { shown result ≡ ack_of bytes.now }
 {
-    let (_, rest) = bytes.split_at(kinds::FIELDS_AT);
+    let (_, rest) = bytes.split_at(FIELDS_AT);
     CommandRef::FlowControlAck {
         received: field(bytes),
         window: number(rest),
-        cookie: cookie_at(kinds::ACK_COOKIE_AT, bytes),
+        cookie: cookie_at(ACK_COOKIE_AT, bytes),
     }
 }
 
@@ -256,7 +226,7 @@ fn counted(bytes: &[u8]) -> &[u8]
     requires whole { 8 + field_of bytes.now ≤ length bytes.now }
     ensures { result.now ≡ take (field_of bytes.now) (drop 8 bytes.now) }
 {
-    let (_, rest) = bytes.split_at(kinds::FIELDS_AT);
+    let (_, rest) = bytes.split_at(FIELDS_AT);
     let (counted, _) = rest.split_at(field(bytes) as usize);
     counted
 }
@@ -264,7 +234,7 @@ fn counted(bytes: &[u8]) -> &[u8]
 /// The command in front, which is whole.
 #[tactic(auto, unfolding(crate::specs::Showing::command_of))]
 fn read_whole(bytes: &[u8]) -> CommandRef<'_>
-    requires kind { type_of bytes.now ≤ 14 }
+    requires kind { type_of bytes.now ≤ greatest_type }
     requires fixed { 4 ≤ length bytes.now }
     requires whole { length_of bytes.now ≤ length bytes.now }
     ensures { shown result ≡ command_of bytes.now }
@@ -272,7 +242,8 @@ fn read_whole(bytes: &[u8]) -> CommandRef<'_>
     macro_rules! read_fields {
         ($name:ident nothing) => { CommandRef::$name };
         ($name:ident number) => { CommandRef::$name(field(bytes)) };
-        ($name:ident cookie) => { CommandRef::$name(cookie_at(kinds::TYPE_LEN, bytes)) };
+        ($name:ident destination) => { CommandRef::$name(field(bytes)) };
+        ($name:ident cookie) => { CommandRef::$name(cookie_at(TYPE_LEN, bytes)) };
         ($name:ident ack) => { read_ack(bytes) };
         ($name:ident counted) => { CommandRef::$name(counted(bytes)) };
         ($name:ident address) => { read_address(bytes) };

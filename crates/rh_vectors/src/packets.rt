@@ -2,7 +2,7 @@
 
 use rh_rts::{
     Address4or16, Bytes, Command, CommandRef, Cookie, DecodeFault, NoRoom, Packet, PacketFault,
-    RtsFault, RtsKind, decode, encode, view,
+    RtsFault, RtsKind, decode, encode, encode_parts, view,
 };
 use std::test::Fail;
 
@@ -300,7 +300,7 @@ fn a_packet_is_encoded_as_by_hand(rt: HostRuntime) -> Result<(), Fail> {
         Command::Cookie(cookie(3)),
         Command::ReceiveWindowSize(65_536),
     ]?;
-    let packet = Packet::new(0, commands)?;
+    let packet = Packet::new(rt.alloc(), 0, &commands)?;
     let mut room = [0xee; 80];
     assert_eq!(rt; encode(&packet, &mut room), Ok(76));
     assert!(rt; room.starts_with(&CONN_A1));
@@ -313,22 +313,29 @@ fn a_packet_is_encoded_as_by_hand(rt: HostRuntime) -> Result<(), Fail> {
 
 #[test]
 fn parts_are_refused_in_order(rt: HostRuntime) -> Result<(), Fail> {
-    let none = Packet::new(0x0180, Vec::new(rt.alloc()));
+    let none = Packet::new(rt.alloc(), 0x0180, &[]);
     assert!(rt; matches!(none, Err(PacketFault::BadFlags(0x0180))));
     let padding = Bytes::new(vec![in rt.alloc(); 1; 65_508]?);
-    let commands = vec![in rt.alloc();
+    let mut commands = vec![in rt.alloc();
+        Command::Padding(padding),
         Command::Destination(3),
         Command::Destination(4),
-        Command::Padding(padding),
+        Command::Destination(5),
     ]?;
-    let none = Packet::new(0, commands);
+    let none = Packet::new(rt.alloc(), 0x0180, &commands);
+    assert!(rt; matches!(none, Err(PacketFault::BadFlags(0x0180))));
+    let none = Packet::new(rt.alloc(), 0, &commands);
     assert!(rt; matches!(none, Err(PacketFault::BadDestination(4))));
-    let padding = Bytes::new(vec![in rt.alloc(); 1; 65_508]?);
-    let none = Packet::new(0, vec![in rt.alloc(); Command::Padding(padding)]?);
+    commands.truncate(1);
+    let none = Packet::new(rt.alloc(), 0, &commands);
     assert!(rt; matches!(none, Err(PacketFault::TooLong(65_536))));
     let padding = Bytes::new(vec![in rt.alloc(); 1; 65_507]?);
-    let longest = Packet::new(0x007f, vec![in rt.alloc(); Command::Padding(padding)]?)?;
+    let commands = vec![in rt.alloc(); Command::Padding(padding)]?;
+    let longest = Packet::new(rt.alloc(), 0x007f, &commands)?;
     assert_eq!(rt; longest.length(), 65_535);
+    assert_eq!(rt; longest.flags(), 0x007f);
+    let lent = longest.commands().first().map(Command::borrowed);
+    assert_eq!(rt; lent, commands.first().map(Command::borrowed));
     Ok(())
 }
 
@@ -349,6 +356,15 @@ fn what_is_decoded_is_encoded_as_the_same_bytes(rt: HostRuntime) -> Result<(), F
         let packet = decode(rt.alloc(), bytes)?;
         let mut room = [0; 104];
         assert_eq!(rt; encode(&packet, &mut room), Ok(bytes.len()), "row {row}");
+        assert!(rt; room.starts_with(bytes), "row {row}");
+        let (flags, commands) = (packet.flags(), packet.commands());
+        let mut room = [0; 104];
+        let len = encode_parts(flags, commands, &mut room);
+        assert_eq!(rt; len, Ok(bytes.len()), "row {row}");
+        assert!(rt; room.starts_with(bytes), "row {row}");
+        let len = encode_parts(flags, commands, &mut room[1..bytes.len()]);
+        let need = bytes.len();
+        assert_eq!(rt; len, Err(NoRoom { need }), "row {row}");
         assert!(rt; room.starts_with(bytes), "row {row}");
     }
     Ok(())

@@ -10,7 +10,7 @@ check_body-requires c = rw c.in_ok-flags.ensures.3 (omega (arith, length-drop 20
 pub returns-in_err-check_body : goal.returns-in_err-check_body
 returns-in_err-check_body c =
     let p = err_from_is_err_and c.from_residual-in_err-check_body.result c.from_residual-in_err-check_body.ensures.1 in
-    rw (p.1, p.2) (is_first c.args.bytes.now c.in_ok-flags.rest.now c.in_ok-flags.count _ (λ i. omega (arith, c.type_inv.bytes i))
+    rw (p.1, p.2) (is_first c.args.bytes.now c.in_ok-flags.rest.now c.in_ok-flags.count _
     c.in_ok-flags.ensures.0 c.in_ok-flags.ensures.2 c.in_ok-flags.ensures.3 c.in_err-check_body.ensures)
 
 pub returns : goal.returns
