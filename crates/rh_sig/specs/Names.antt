@@ -127,18 +127,18 @@ unfoldable pub table : List Row
 table =
     row ConnA1 (CoU ∷ []) none (version ∷ cookie ∷ cookie ∷ receive_window_size ∷ [])
     ∷ row ConnA2 (OsU ∷ []) out_channel
-        (version ∷ cookie ∷ cookie ∷ channel_lifetime ∷ receive_window_size ∷ [])
+    (version ∷ cookie ∷ cookie ∷ channel_lifetime ∷ receive_window_size ∷ [])
     ∷ row ConnA3 (CoD ∷ []) none (connection_timeout ∷ [])
     ∷ row ConnB1 (CiU ∷ []) none
-        (version ∷ cookie ∷ cookie ∷ channel_lifetime ∷ client_keepalive ∷ association_group_id ∷ [])
+    (version ∷ cookie ∷ cookie ∷ channel_lifetime ∷ client_keepalive ∷ association_group_id ∷ [])
     ∷ row ConnB2 (IsU ∷ []) in_channel
-        (version ∷ cookie ∷ cookie ∷ receive_window_size ∷ connection_timeout ∷ association_group_id ∷ client_address ∷ [])
+    (version ∷ cookie ∷ cookie ∷ receive_window_size ∷ connection_timeout ∷ association_group_id ∷ client_address ∷ [])
     ∷ row ConnB3 (IsD ∷ []) none (receive_window_size ∷ version ∷ [])
     ∷ row ConnC1 (OsD ∷ []) none (version ∷ receive_window_size ∷ connection_timeout ∷ [])
     ∷ row ConnC2 (CoD ∷ []) none (version ∷ receive_window_size ∷ connection_timeout ∷ [])
     ∷ row InR1A1 (CiU ∷ []) recycle_channel (version ∷ cookie ∷ cookie ∷ cookie ∷ [])
     ∷ row InR1A2 (IsU ∷ []) (in_channel + recycle_channel)
-        (version ∷ cookie ∷ cookie ∷ cookie ∷ receive_window_size ∷ connection_timeout ∷ [])
+    (version ∷ cookie ∷ cookie ∷ cookie ∷ receive_window_size ∷ connection_timeout ∷ [])
     ∷ row InR1A3 (OsD ∷ []) none (destination ∷ version ∷ receive_window_size ∷ connection_timeout ∷ [])
     ∷ row InR1A4 (CoD ∷ []) none (destination ∷ version ∷ receive_window_size ∷ connection_timeout ∷ [])
     ∷ row InR1A5 (CiU ∷ []) none (cookie ∷ [])
@@ -150,7 +150,7 @@ table =
     ∷ row OutR1A3 (CoU ∷ []) recycle_channel (version ∷ cookie ∷ cookie ∷ cookie ∷ receive_window_size ∷ [])
     ∷ row OutR2C1 (CoU ∷ []) ping (empty ∷ [])
     ∷ row OutR1A4 (OsU ∷ []) (out_channel + recycle_channel)
-        (version ∷ cookie ∷ cookie ∷ cookie ∷ channel_lifetime ∷ receive_window_size ∷ connection_timeout ∷ [])
+    (version ∷ cookie ∷ cookie ∷ cookie ∷ channel_lifetime ∷ receive_window_size ∷ connection_timeout ∷ [])
     ∷ row OutR1A5 (OsD ∷ []) out_channel (destination ∷ version ∷ connection_timeout ∷ [])
     ∷ row OutR1A6 (CoD ∷ []) out_channel (destination ∷ version ∷ connection_timeout ∷ [])
     ∷ row OutR1A7 (CiU ∷ []) out_channel (destination ∷ cookie ∷ [])

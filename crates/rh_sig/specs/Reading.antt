@@ -82,23 +82,23 @@ value ConnA1 cs =
     named.ConnA1 (value_of (first cs)) (cookie_of (second cs)) (cookie_of (third cs)) (value_of (fourth cs))
 value ConnA2 cs =
     named.ConnA2 (value_of (first cs)) (cookie_of (second cs)) (cookie_of (third cs)) (value_of (fourth cs))
-        (value_of (fifth cs))
+    (value_of (fifth cs))
 value ConnA3 cs = named.ConnA3 (value_of (first cs))
 value ConnB1 cs =
     named.ConnB1 (value_of (first cs)) (cookie_of (second cs)) (cookie_of (third cs)) (value_of (fourth cs))
-        (value_of (fifth cs)) (cookie_of (sixth cs))
+    (value_of (fifth cs)) (cookie_of (sixth cs))
 value ConnB2 cs =
     named.ConnB2 (value_of (first cs)) (cookie_of (second cs)) (cookie_of (third cs)) (value_of (fourth cs))
-        (value_of (fifth cs)) (cookie_of (sixth cs)) (address_of (seventh cs)) (padding_of (seventh cs))
+    (value_of (fifth cs)) (cookie_of (sixth cs)) (address_of (seventh cs)) (padding_of (seventh cs))
 value ConnB3 cs = named.ConnB3 (value_of (first cs)) (value_of (second cs))
 value ConnC1 cs = named.ConnC1 (value_of (first cs)) (value_of (second cs)) (value_of (third cs))
 value ConnC2 cs = named.ConnC2 (value_of (first cs)) (value_of (second cs)) (value_of (third cs))
 value InR1A1 cs =
     named.InR1A1 (value_of (first cs)) (cookie_of (second cs)) (cookie_of (third cs))
-        (cookie_of (fourth cs))
+    (cookie_of (fourth cs))
 value InR1A2 cs =
     named.InR1A2 (value_of (first cs)) (cookie_of (second cs)) (cookie_of (third cs))
-        (cookie_of (fourth cs)) (value_of (fifth cs)) (value_of (sixth cs))
+    (cookie_of (fourth cs)) (value_of (fifth cs)) (value_of (sixth cs))
 value InR1A3 cs =
     named.InR1A3 (value_of (first cs)) (value_of (second cs)) (value_of (third cs)) (value_of (fourth cs))
 value InR1A4 cs =
@@ -111,11 +111,11 @@ value OutR1A1 cs = named.OutR1A1 (value_of (first cs))
 value OutR1A2 cs = named.OutR1A2 (value_of (first cs))
 value OutR1A3 cs =
     named.OutR1A3 (value_of (first cs)) (cookie_of (second cs)) (cookie_of (third cs))
-        (cookie_of (fourth cs)) (value_of (fifth cs))
+    (cookie_of (fourth cs)) (value_of (fifth cs))
 value OutR2C1 cs = named.OutR2C1
 value OutR1A4 cs =
     named.OutR1A4 (value_of (first cs)) (cookie_of (second cs)) (cookie_of (third cs))
-        (cookie_of (fourth cs)) (value_of (fifth cs)) (value_of (sixth cs)) (value_of (seventh cs))
+    (cookie_of (fourth cs)) (value_of (fifth cs)) (value_of (sixth cs)) (value_of (seventh cs))
 value OutR1A5 cs = named.OutR1A5 (value_of (first cs)) (value_of (second cs)) (value_of (third cs))
 value OutR1A6 cs = named.OutR1A6 (value_of (first cs)) (value_of (second cs)) (value_of (third cs))
 value OutR1A7 cs = named.OutR1A7 (value_of (first cs)) (cookie_of (second cs))
@@ -129,7 +129,7 @@ value EndB2 cs = named.EndB2
 value Ack cs = named.Ack (received_of (first cs)) (window_of (first cs)) (ack_cookie_of (first cs))
 value AckTo cs =
     named.AckTo (value_of (first cs)) (received_of (second cs)) (window_of (second cs))
-        (ack_cookie_of (second cs))
+    (ack_cookie_of (second cs))
 value KeepAlive cs = named.KeepAlive (value_of (first cs))
 value PingTraffic cs = named.PingTraffic (value_of (first cs))
 value Ping cs = named.Ping

@@ -59,40 +59,40 @@ parts flags commands = record { flags = flags; commands = commands }
 abbrev pub parts_of : Named → Parts
 parts_of (named.ConnA1 version connection channel window) =
     parts none (commands.Version version ∷ commands.Cookie connection ∷ commands.Cookie channel
-        ∷ commands.ReceiveWindowSize window ∷ [])
+    ∷ commands.ReceiveWindowSize window ∷ [])
 parts_of (named.ConnA2 version connection channel lifetime window) =
     parts out_channel (commands.Version version ∷ commands.Cookie connection ∷ commands.Cookie channel
-        ∷ commands.ChannelLifetime lifetime ∷ commands.ReceiveWindowSize window ∷ [])
+    ∷ commands.ChannelLifetime lifetime ∷ commands.ReceiveWindowSize window ∷ [])
 parts_of (named.ConnA3 timeout) = parts none (commands.ConnectionTimeout timeout ∷ [])
 parts_of (named.ConnB1 version connection channel lifetime keepalive group) =
     parts none (commands.Version version ∷ commands.Cookie connection ∷ commands.Cookie channel
-        ∷ commands.ChannelLifetime lifetime ∷ commands.ClientKeepalive keepalive
-        ∷ commands.AssociationGroupId group ∷ [])
+    ∷ commands.ChannelLifetime lifetime ∷ commands.ClientKeepalive keepalive
+    ∷ commands.AssociationGroupId group ∷ [])
 parts_of (named.ConnB2 version connection channel window timeout group address padding) =
     parts in_channel (commands.Version version ∷ commands.Cookie connection ∷ commands.Cookie channel
-        ∷ commands.ReceiveWindowSize window ∷ commands.ConnectionTimeout timeout
-        ∷ commands.AssociationGroupId group ∷ commands.ClientAddress address padding ∷ [])
+    ∷ commands.ReceiveWindowSize window ∷ commands.ConnectionTimeout timeout
+    ∷ commands.AssociationGroupId group ∷ commands.ClientAddress address padding ∷ [])
 parts_of (named.ConnB3 window version) =
     parts none (commands.ReceiveWindowSize window ∷ commands.Version version ∷ [])
 parts_of (named.ConnC1 version window timeout) =
     parts none (commands.Version version ∷ commands.ReceiveWindowSize window
-        ∷ commands.ConnectionTimeout timeout ∷ [])
+    ∷ commands.ConnectionTimeout timeout ∷ [])
 parts_of (named.ConnC2 version window timeout) =
     parts none (commands.Version version ∷ commands.ReceiveWindowSize window
-        ∷ commands.ConnectionTimeout timeout ∷ [])
+    ∷ commands.ConnectionTimeout timeout ∷ [])
 parts_of (named.InR1A1 version connection predecessor successor) =
     parts recycle_channel (commands.Version version ∷ commands.Cookie connection
-        ∷ commands.Cookie predecessor ∷ commands.Cookie successor ∷ [])
+    ∷ commands.Cookie predecessor ∷ commands.Cookie successor ∷ [])
 parts_of (named.InR1A2 version connection predecessor successor window timeout) =
     parts (in_channel + recycle_channel) (commands.Version version ∷ commands.Cookie connection
-        ∷ commands.Cookie predecessor ∷ commands.Cookie successor ∷ commands.ReceiveWindowSize window
-        ∷ commands.ConnectionTimeout timeout ∷ [])
+    ∷ commands.Cookie predecessor ∷ commands.Cookie successor ∷ commands.ReceiveWindowSize window
+    ∷ commands.ConnectionTimeout timeout ∷ [])
 parts_of (named.InR1A3 destination version window timeout) =
     parts none (commands.Destination destination ∷ commands.Version version
-        ∷ commands.ReceiveWindowSize window ∷ commands.ConnectionTimeout timeout ∷ [])
+    ∷ commands.ReceiveWindowSize window ∷ commands.ConnectionTimeout timeout ∷ [])
 parts_of (named.InR1A4 destination version window timeout) =
     parts none (commands.Destination destination ∷ commands.Version version
-        ∷ commands.ReceiveWindowSize window ∷ commands.ConnectionTimeout timeout ∷ [])
+    ∷ commands.ReceiveWindowSize window ∷ commands.ConnectionTimeout timeout ∷ [])
 parts_of (named.InR1A5 successor) = parts none (commands.Cookie successor ∷ [])
 parts_of (named.InR1A6 successor) = parts none (commands.Cookie successor ∷ [])
 parts_of named.InR1B1 = parts none (commands.Empty ∷ [])
@@ -101,18 +101,18 @@ parts_of (named.OutR1A1 destination) = parts recycle_channel (commands.Destinati
 parts_of (named.OutR1A2 destination) = parts recycle_channel (commands.Destination destination ∷ [])
 parts_of (named.OutR1A3 version connection predecessor successor window) =
     parts recycle_channel (commands.Version version ∷ commands.Cookie connection
-        ∷ commands.Cookie predecessor ∷ commands.Cookie successor ∷ commands.ReceiveWindowSize window ∷ [])
+    ∷ commands.Cookie predecessor ∷ commands.Cookie successor ∷ commands.ReceiveWindowSize window ∷ [])
 parts_of named.OutR2C1 = parts ping (commands.Empty ∷ [])
 parts_of (named.OutR1A4 version connection predecessor successor lifetime window timeout) =
     parts (out_channel + recycle_channel) (commands.Version version ∷ commands.Cookie connection
-        ∷ commands.Cookie predecessor ∷ commands.Cookie successor ∷ commands.ChannelLifetime lifetime
-        ∷ commands.ReceiveWindowSize window ∷ commands.ConnectionTimeout timeout ∷ [])
+    ∷ commands.Cookie predecessor ∷ commands.Cookie successor ∷ commands.ChannelLifetime lifetime
+    ∷ commands.ReceiveWindowSize window ∷ commands.ConnectionTimeout timeout ∷ [])
 parts_of (named.OutR1A5 destination version timeout) =
     parts out_channel (commands.Destination destination ∷ commands.Version version
-        ∷ commands.ConnectionTimeout timeout ∷ [])
+    ∷ commands.ConnectionTimeout timeout ∷ [])
 parts_of (named.OutR1A6 destination version timeout) =
     parts out_channel (commands.Destination destination ∷ commands.Version version
-        ∷ commands.ConnectionTimeout timeout ∷ [])
+    ∷ commands.ConnectionTimeout timeout ∷ [])
 parts_of (named.OutR1A7 destination successor) =
     parts out_channel (commands.Destination destination ∷ commands.Cookie successor ∷ [])
 parts_of (named.OutR1A8 destination successor) =

@@ -90,7 +90,11 @@ impl<'a> Fields<'a> {
         ensures rest { self.new ≡ rest self.old }
     {
         match self.next() {
-            CommandRef::FlowControlAck { received, window, cookie } => (received, window, cookie),
+            CommandRef::FlowControlAck {
+                received,
+                window,
+                cookie,
+            } => (received, window, cookie),
             _ => (0, 0, NO_COOKIE),
         }
     }

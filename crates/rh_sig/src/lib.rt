@@ -4,6 +4,7 @@
 mod cookie;
 mod fault;
 mod fields;
+mod kept;
 mod kinds;
 mod name;
 mod named;
@@ -11,7 +12,6 @@ mod naming;
 mod rows;
 mod sig;
 mod values;
-
 
 pub use cookie::{COOKIE_TEXT_LEN, cookie_text};
 pub use fault::SigFault;

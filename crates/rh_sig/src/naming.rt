@@ -7,9 +7,7 @@ use crate::kinds::kind;
 use crate::name::{Name, Pipe};
 use crate::rows::named_packets;
 use crate::sig::Sig;
-use rh_rts::packet::{
-    EOF, IN_CHANNEL, OTHER_CMD, OUT_CHANNEL, PING, RECYCLE_CHANNEL,
-};
+use rh_rts::packet::{EOF, IN_CHANNEL, OTHER_CMD, OUT_CHANNEL, PING, RECYCLE_CHANNEL};
 
 /// No flags.
 const NONE: u16 = 0;
