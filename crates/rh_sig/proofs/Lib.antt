@@ -1,2 +1,6 @@
 pub mod Texts
-mod Keeping
+pub mod Keeping
+pub mod Members
+pub mod Again
+pub mod Table
+pub mod FirstOut

@@ -177,6 +177,10 @@ pub record IsNamed (p : Parts) (pipe : Pipe) (name : Name) : Type 0 where
   pub flags : row.flags ≡ p.flags
   pub types : row.types ≡ kinds (unpadded p.commands)
 
+-- on that pipe the packet has no name
+abbrev pub IsNameless : Parts → Pipe → Type 0
+IsNameless p pipe = (name : Name) → IsNamed p pipe name → ⊥
+
 -- ---- looking the name up
 
 abbrev pub place : Pipe → ℕ

@@ -7,11 +7,12 @@ use Rattle.rh_sig.specs.declared.name.Name.TheVariants.{OutR1A1, OutR1A2, OutR1A
 use Rattle.rh_sig.specs.declared.named.Named.{Named}
 use Rattle.rh_sig.specs.declared.named.Named.TheVariants as named
 use Rattle.rh_sig.specs.declared.fault.SigFault.{SigFault}
-use Rattle.rh_sig.specs.declared.fault.SigFault.TheVariants.{OutOfRange}
+use Rattle.rh_sig.specs.declared.fault.SigFault.TheVariants.{Unknown, OutOfRange}
 use Rattle.rh_rts.specs.declared.command.Command.{Command}
 use Rattle.rh_rts.specs.declared.command.Command.TheVariants as commands
 use Rattle.rh_rts.specs.Packets.{Parts}
-use Rattle.rh_sig.specs.Names.{none, ping, other_cmd, recycle_channel, in_channel, out_channel, eof, kind_of}
+use Rattle.rh_sig.specs.declared.name.Pipe.{Pipe}
+use Rattle.rh_sig.specs.Names.{IsNamed, IsNameless, none, ping, other_cmd, recycle_channel, in_channel, out_channel, eof, kind_of}
 
 -- the name of a named packet
 abbrev pub name_of_named : Named → Name
@@ -179,3 +180,9 @@ abbrev pub first_out_of_range : List Command → Option SigFault
 first_out_of_range [] = None
 first_out_of_range (c ∷ cs) =
     if in_range c then first_out_of_range cs else Some (OutOfRange (kind_of c) (value_of c))
+
+-- no name fits; or one does, and this is the first value that is out of range
+abbrev pub IsRefused : Parts → Pipe → SigFault → Type 0
+IsRefused p pipe Unknown = IsNameless p pipe
+IsRefused p pipe (OutOfRange command value) =
+    ((name : Name) × IsNamed p pipe name) × (first_out_of_range p.commands ≡ Some (OutOfRange command value))
