@@ -1,6 +1,5 @@
 -- one more command behind those that were kept
-use Rattle.std.proofs.Common.{◌≡◌, ℕ, ◌+◌, ◌<◌, ◌≤◌, List, [], ◌∷◌, ◌++◌, length, take, set, refl, ap, sym, ◌∙◌, arith, length-take-le}
-use Rattle.std.specs.Prelude.{map}
+use Rattle.std.proofs.Common.{◌≡◌, ℕ, ◌+◌, ◌<◌, ◌≤◌, List, [], ◌∷◌, ◌++◌, length, take, set, ap, sym, ◌∙◌, length-take-le}
 use Rattle.std.proofs.lemmas.List.{take_more_set, map-append, length-map}
 use Rattle.rh_rts.specs.declared.command.CommandRef.{CommandRef}
 use Rattle.rh_rts.specs.Showing.{shown}

@@ -4,3 +4,5 @@ pub mod Members
 pub mod Again
 pub mod Table
 pub mod FirstOut
+pub mod Small
+pub mod Clear

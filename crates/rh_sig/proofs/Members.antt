@@ -1,5 +1,5 @@
 -- elements of a list, and the pipes of a row
-use Rattle.std.proofs.Common.{◌≡◌, ℕ, zero, suc, ◌<◌, List, [], ◌∷◌, length, Bool, true, false, refl, sym, ap, ◌∙◌, inl, inr, arith, subst, if◌then◌else◌}
+use Rattle.std.proofs.Common.{◌≡◌, ℕ, zero, suc, List, [], ◌∷◌, Bool, true, false, refl, sym, ap, ◌∙◌, inl, inr, arith, subst, if◌then◌else◌}
 use Rattle.std.specs.Prelude.{◌==◌, ◌||◌, ◌⊎◌}
 use Rattle.std.specs.List.{Contains}
 use Rattle.std.proofs.lemmas.Bool.{eqb-true, eq-eqb}
@@ -51,7 +51,8 @@ pub carried : (qs : List Pipe) (pipe : Pipe) → carries qs pipe ≡ true → Co
 carried [] pipe e = absurd cc
 carried (q ∷ qs) pipe e = carried_step q pipe qs (place q == place pipe) refl e (carried qs pipe)
 
-any_or : (a b : Bool) → b ≡ true → (a || b) ≡ true
+-- a later test may be the one that is true
+pub any_or : (a b : Bool) → b ≡ true → (a || b) ≡ true
 any_or true b e = refl
 any_or false b e = e
 

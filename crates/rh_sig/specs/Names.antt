@@ -1,5 +1,5 @@
 -- the names of packets (MS-RPCH 2.2.4); replacement and the clean end are this profile's own
-use Rattle.std.specs.Prelude.{◌≡◌, ◌==◌, ◌&&◌, ◌||◌, ◌+◌, ℕ, List, [], ◌∷◌, Bool, true, false, if◌then◌else◌, Some, None, map}
+use Rattle.std.specs.Prelude.{◌≡◌, ◌==◌, ◌&&◌, ◌||◌, ◌+◌, ℕ, List, [], ◌∷◌, Bool, false, if◌then◌else◌, Some, None, map}
 use Rattle.std.specs.List.{Contains}
 use Rattle.std.specs.Str.{bytes_eq}
 use Rattle.std.specs.declared.option.Option.{Option}
@@ -176,6 +176,13 @@ pub record IsNamed (p : Parts) (pipe : Pipe) (name : Name) : Type 0 where
   pub carried : Contains row.pipes pipe
   pub flags : row.flags ≡ p.flags
   pub types : row.types ≡ kinds (unpadded p.commands)
+
+-- a row of that name lists the pipe
+pub record IsCarried (name : Name) (pipe : Pipe) : Type 0 where
+  pub row : Row
+  pub listed : Contains table row
+  pub named : row.name ≡ name
+  pub carried : Contains row.pipes pipe
 
 -- on that pipe the packet has no name
 abbrev pub IsNameless : Parts → Pipe → Type 0

@@ -1,5 +1,5 @@
 -- what named packets say, and which values are in range
-use Rattle.std.specs.Prelude.{◌≡◌, ◌≤◌, ◌+◌, ◌==◌, ◌&&◌, ◌||◌, ℕ, List, [], ◌∷◌, Bool, true, false, if◌then◌else◌, nat_le, Some, None}
+use Rattle.std.specs.Prelude.{◌≡◌, ◌≤◌, ◌+◌, ◌==◌, ◌&&◌, ◌||◌, ℕ, List, [], ◌∷◌, Bool, true, if◌then◌else◌, nat_le, Some, None, IfSome}
 use Rattle.std.specs.declared.option.Option.{Option}
 use Rattle.rh_sig.specs.declared.name.Name.{Name}
 use Rattle.rh_sig.specs.declared.name.Name.TheVariants.{ConnA1, ConnA2, ConnA3, ConnB1, ConnB2, ConnB3, ConnC1, ConnC2, InR1A1, InR1A2, InR1A3, InR1A4, InR1A5, InR1A6, InR1B1, InR1B2}
@@ -10,9 +10,10 @@ use Rattle.rh_sig.specs.declared.fault.SigFault.{SigFault}
 use Rattle.rh_sig.specs.declared.fault.SigFault.TheVariants.{Unknown, OutOfRange}
 use Rattle.rh_rts.specs.declared.command.Command.{Command}
 use Rattle.rh_rts.specs.declared.command.Command.TheVariants as commands
+use Rattle.rh_rts.specs.Commands.{greatest_destination}
 use Rattle.rh_rts.specs.Packets.{Parts}
 use Rattle.rh_sig.specs.declared.name.Pipe.{Pipe}
-use Rattle.rh_sig.specs.Names.{IsNamed, IsNameless, none, ping, other_cmd, recycle_channel, in_channel, out_channel, eof, kind_of}
+use Rattle.rh_sig.specs.Names.{IsNamed, IsNameless, unpadded, none, ping, other_cmd, recycle_channel, in_channel, out_channel, eof, kind_of}
 
 -- the name of a named packet
 abbrev pub name_of_named : Named → Name
@@ -135,6 +136,10 @@ parts_of named.Ping = parts ping []
 abbrev pub commands_of : Named → List Command
 commands_of n = (parts_of n).commands
 
+-- on that pipe the packet has this name, and these are its fields
+abbrev pub ReadsAs : Parts → Pipe → Named → Type 0
+ReadsAs p pipe n = IsNamed p pipe (name_of_named n) × (commands_of n ≡ unpadded p.commands)
+
 -- its destination, where it has one
 abbrev pub destination_of : Named → Option ℕ
 destination_of (named.InR1A3 destination version window timeout) = Some destination
@@ -147,6 +152,20 @@ destination_of (named.OutR1A7 destination successor) = Some destination
 destination_of (named.OutR1A8 destination successor) = Some destination
 destination_of (named.AckTo destination received window cookie) = Some destination
 destination_of _ = None
+
+-- which is that of a role
+abbrev pub HasDestination : Named → Type 0
+HasDestination n = IfSome (destination_of n) (λ destination. destination ≤ greatest_destination)
+
+-- a command that named packets have, with a destination that is one
+abbrev pub IsPlain : Command → Type 0
+IsPlain (commands.Padding bytes) = ⊥
+IsPlain (commands.Destination n) = n ≤ greatest_destination
+IsPlain _ = Unit {0}
+
+abbrev pub ArePlain : List Command → Type 0
+ArePlain [] = Unit {0}
+ArePlain (c ∷ cs) = IsPlain c × ArePlain cs
 
 -- ---- ranges
 

@@ -1,8 +1,8 @@
 //! Which named packet a packet is.
 
 ghost use Rattle.std.specs.Prelude.{◌≡◌, MatchOption, MatchResult, None};
-ghost use Rattle.rh_sig.specs.Names.{IsNamed, IsNameless, unpadded};
-ghost use Rattle.rh_sig.specs.Values.{name_of_named, commands_of, first_out_of_range, IsRefused};
+ghost use Rattle.rh_sig.specs.Names.{IsNamed, IsNameless};
+ghost use Rattle.rh_sig.specs.Values.{ReadsAs, first_out_of_range, IsRefused};
 
 use crate::fault::SigFault;
 use crate::kept::without_padding;
@@ -27,9 +27,7 @@ pub fn name_of(view: &View<'_>, pipe: Pipe) -> Option<Name>
 /// is out of range. The ranges are those of `ranges`; the window of an acknowledgement has none.
 pub fn read_named(view: &View<'_>, pipe: Pipe) -> Result<Named, SigFault>
     ensures { MatchResult result
-        (λ named. IsNamed view.now pipe (name_of_named named)
-        × (commands_of named ≡ unpadded view.now.commands)
-        × (first_out_of_range view.now.commands ≡ None))
+        (λ named. ReadsAs view.now pipe named × (first_out_of_range view.now.commands ≡ None))
         (λ fault. IsRefused view.now pipe fault) }
 {
     let Some(kept) = without_padding(view) else {

@@ -1,6 +1,3 @@
-use Rattle.std.proofs.Common.{◌≡◌, ap, ◌∙◌, List}
-use Rattle.rh_rts.specs.declared.command.Command.{Command}
-use Rattle.rh_sig.specs.Names.{found, table, kinds}
 use Rattle.rh_sig.proofs.Table.{named_by, too_many}
 use Rattle.rh_sig.proofs.reading.name_of.Goals as goal
 

@@ -1,7 +1,7 @@
 use Rattle.std.proofs.Common.{◌≡◌, ap, ◌∙◌, sym, List, subst, Some, None}
 use Rattle.rh_rts.specs.declared.command.Command.{Command}
-use Rattle.rh_sig.specs.Names.{found, table, kinds, unpadded, IsNamed}
-use Rattle.rh_sig.specs.Values.{first_out_of_range, name_of_named, commands_of}
+use Rattle.rh_sig.specs.Names.{kinds, unpadded, IsNamed}
+use Rattle.rh_sig.specs.Values.{first_out_of_range, name_of_named, commands_of, ReadsAs}
 use Rattle.rh_sig.specs.Reading.{all_shown, value}
 use Rattle.rh_sig.specs.declared.name.Name.{Name}
 use Rattle.rh_sig.specs.declared.name.Pipe.{Pipe}
@@ -27,11 +27,12 @@ returns-in-Some-first_out_of_range c =
 -- the value of the name that was found
 is_value : (p : Parts) (pipe : Pipe) (name : Name) (cs : List Command) (n : Named) → IsNamed p pipe name
     → cs ≡ unpadded p.commands → n ≡ value name cs → first_out_of_range cs ≡ None
-    → IsNamed p pipe (name_of_named n) × (commands_of n ≡ unpadded p.commands) × (first_out_of_range p.commands ≡ None)
+    → ReadsAs p pipe n × (first_out_of_range p.commands ≡ None)
 is_value p pipe name cs n is kept read fine =
-    let types : kinds cs ≡ types_of name = ap kinds kept ∙ named_types p pipe name is in (
-      subst (λ (x : Name). IsNamed p pipe x) (sym (same_name name cs) ∙ ap name_of_named (sym read)) is,
-      ap commands_of read ∙ same_commands name cs types ∙ kept,
+    let types : kinds cs ≡ types_of name = ap kinds kept ∙ named_types p pipe name is in
+    let named : IsNamed p pipe (name_of_named n) =
+    subst (λ (x : Name). IsNamed p pipe x) (sym (same_name name cs) ∙ ap name_of_named (sym read)) is in (
+      (named, ap commands_of read ∙ same_commands name cs types ∙ kept),
       sym (first_unpadded p.commands) ∙ ap first_out_of_range (sym kept) ∙ fine,
     )
 

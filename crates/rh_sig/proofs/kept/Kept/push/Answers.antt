@@ -1,4 +1,4 @@
-use Rattle.std.proofs.Common.{◌≡◌, ◌<◌, ◌≤◌, length, arith, ◌∙◌, ap, ◌++◌, [], ◌∷◌, length-set}
+use Rattle.std.proofs.Common.{◌<◌, length, arith, ◌∙◌, ap, ◌++◌, [], ◌∷◌, length-set}
 use Rattle.rh_rts.specs.Showing.{shown}
 use Rattle.rh_sig.proofs.Keeping.{shown_more, types_more, kept_length}
 use Rattle.rh_sig.proofs.kept.Kept.push.Goals as goal
