@@ -42,8 +42,8 @@ sharing (p ∷ ps) qs pipe a b =
       | inr more ↦ any_or (carries qs p) (shares ps qs) (sharing ps qs pipe more b)
     ]
 
-meeting : (r s : Row) (pipe : Pipe) → Contains r.pipes pipe → Contains s.pipes pipe → r.flags ≡ s.flags → r.types ≡ s.types
-    → meets r s ≡ true
+meeting : (r s : Row) (pipe : Pipe) → Contains r.pipes pipe → Contains s.pipes pipe → r.flags ≡ s.flags
+    → r.types ≡ s.types → meets r s ≡ true
 unfolding meets
 meeting r s pipe a b flags types =
     rw (sharing r.pipes s.pipes pipe a b) (fits_so r.flags s.flags r.types s.types flags types)
@@ -66,7 +66,8 @@ apart r s (q ∷ rs) e h =
 abbrev Alike : Row → Row → Pipe → Type 0
 Alike a b pipe = Contains a.pipes pipe × Contains b.pipes pipe × (a.flags ≡ b.flags) × (a.types ≡ b.types)
 
-never : {X : Type 0} (r s : Row) (rs : List Row) (pipe : Pipe) → meets_none r rs ≡ true → Contains rs s → Alike r s pipe → X
+never : {X : Type 0} (r s : Row) (rs : List Row) (pipe : Pipe) → meets_none r rs ≡ true → Contains rs s
+    → Alike r s pipe → X
 never r s rs pipe e h (a, b, flags, types) =
     let no_meet = apart r s rs e h in
     let meet = meeting r s pipe a b flags types in
@@ -78,7 +79,8 @@ front_alike r a b pipe same h = subst (λ (x : Row). Alike x b pipe) (sym same) 
 turned : (a b : Row) (pipe : Pipe) → Alike a b pipe → Alike b a pipe
 turned a b pipe (p, q, flags, types) = (q, p, sym flags, sym types)
 
-one_in : (rs : List Row) (a b : Row) (pipe : Pipe) → is_clear rs ≡ true → Contains rs a → Contains rs b → Alike a b pipe → a ≡ b
+one_in : (rs : List Row) (a b : Row) (pipe : Pipe) → is_clear rs ≡ true → Contains rs a → Contains rs b
+    → Alike a b pipe → a ≡ b
 unfolding is_clear
 one_in [] a b pipe e p q alike = absurd (in_none a p)
 one_in (r ∷ rs) a b pipe e p q alike =
@@ -96,8 +98,8 @@ one_in (r ∷ rs) a b pipe e p q alike =
 
 -- ---- the laws
 
-pub one_row : (pipe : Pipe) (a b : Row) → Contains table a → Contains table b → Contains a.pipes pipe → Contains b.pipes pipe
-    → a.flags ≡ b.flags → a.types ≡ b.types → a ≡ b
+pub one_row : (pipe : Pipe) (a b : Row) → Contains table a → Contains table b → Contains a.pipes pipe
+    → Contains b.pipes pipe → a.flags ≡ b.flags → a.types ≡ b.types → a ≡ b
 one_row pipe a b p q carried both flags types = one_in table a b pipe table_clear p q (carried, both, flags, types)
 
 pub one_name : (p : Parts) (pipe : Pipe) (a b : Name) → IsNamed p pipe a → IsNamed p pipe b → a ≡ b
@@ -107,10 +109,11 @@ one_name p pipe a b x y =
     (x.flags ∙ sym y.flags) (x.types ∙ sym y.types))
     ∙ y.named
 
-pub one_meaning : (a b : Row) → Contains table a → Contains table b → a.name ≡ b.name → (a.flags ≡ b.flags) × (a.types ≡ b.types)
+pub one_meaning : (a b : Row) → Contains table a → Contains table b → a.name ≡ b.name
+    → (a.flags ≡ b.flags) × (a.types ≡ b.types)
 one_meaning a b p q same = (
-  (row_typed a p).1 ∙ ap flags_of same ∙ sym (row_typed b q).1,
-  (row_typed a p).0 ∙ ap types_of same ∙ sym (row_typed b q).0,
+  (row_typed a p).0 ∙ ap flags_of same ∙ sym (row_typed b q).0,
+  (row_typed a p).1 ∙ ap types_of same ∙ sym (row_typed b q).1,
 )
 
 pub one_value : (a b : Named) → name_of_named a ≡ name_of_named b → commands_of a ≡ commands_of b → a ≡ b
@@ -133,8 +136,8 @@ reads_as n pipe is =
         listed = is.listed;
         named = is.named;
         carried = is.carried;
-        flags = typed.1 ∙ ap flags_of is.named ∙ same_flags n;
-        types = typed.0 ∙ ap types_of is.named ∙ same_types n;
+        flags = typed.0 ∙ ap flags_of is.named ∙ same_flags n;
+        types = typed.1 ∙ ap types_of is.named ∙ same_types n;
       },
       sym (plain n),
     )

@@ -22,13 +22,18 @@ one_more c xs ys e =
 pub first_unpadded : (cs : List Command) → first_out_of_range (unpadded cs) ≡ first_out_of_range cs
 first_unpadded [] = refl
 first_unpadded (commands.Padding bytes ∷ cs) = first_unpadded cs
-first_unpadded (commands.ReceiveWindowSize n ∷ cs) = one_more (commands.ReceiveWindowSize n) (unpadded cs) cs (first_unpadded cs)
+first_unpadded (commands.ReceiveWindowSize n ∷ cs) =
+    one_more (commands.ReceiveWindowSize n) (unpadded cs) cs (first_unpadded cs)
 first_unpadded (commands.FlowControlAck received window cookie ∷ cs) =
     one_more (commands.FlowControlAck received window cookie) (unpadded cs) cs (first_unpadded cs)
-first_unpadded (commands.ConnectionTimeout n ∷ cs) = one_more (commands.ConnectionTimeout n) (unpadded cs) cs (first_unpadded cs)
-first_unpadded (commands.Cookie cookie ∷ cs) = one_more (commands.Cookie cookie) (unpadded cs) cs (first_unpadded cs)
-first_unpadded (commands.ChannelLifetime n ∷ cs) = one_more (commands.ChannelLifetime n) (unpadded cs) cs (first_unpadded cs)
-first_unpadded (commands.ClientKeepalive n ∷ cs) = one_more (commands.ClientKeepalive n) (unpadded cs) cs (first_unpadded cs)
+first_unpadded (commands.ConnectionTimeout n ∷ cs) =
+    one_more (commands.ConnectionTimeout n) (unpadded cs) cs (first_unpadded cs)
+first_unpadded (commands.Cookie cookie ∷ cs) =
+    one_more (commands.Cookie cookie) (unpadded cs) cs (first_unpadded cs)
+first_unpadded (commands.ChannelLifetime n ∷ cs) =
+    one_more (commands.ChannelLifetime n) (unpadded cs) cs (first_unpadded cs)
+first_unpadded (commands.ClientKeepalive n ∷ cs) =
+    one_more (commands.ClientKeepalive n) (unpadded cs) cs (first_unpadded cs)
 first_unpadded (commands.Version n ∷ cs) = one_more (commands.Version n) (unpadded cs) cs (first_unpadded cs)
 first_unpadded (commands.Empty ∷ cs) = one_more commands.Empty (unpadded cs) cs (first_unpadded cs)
 first_unpadded (commands.NegativeAnce ∷ cs) = one_more commands.NegativeAnce (unpadded cs) cs (first_unpadded cs)
@@ -37,7 +42,8 @@ first_unpadded (commands.ClientAddress address padding ∷ cs) =
     one_more (commands.ClientAddress address padding) (unpadded cs) cs (first_unpadded cs)
 first_unpadded (commands.AssociationGroupId cookie ∷ cs) =
     one_more (commands.AssociationGroupId cookie) (unpadded cs) cs (first_unpadded cs)
-first_unpadded (commands.Destination n ∷ cs) = one_more (commands.Destination n) (unpadded cs) cs (first_unpadded cs)
+first_unpadded (commands.Destination n ∷ cs) =
+    one_more (commands.Destination n) (unpadded cs) cs (first_unpadded cs)
 first_unpadded (commands.PingTrafficSentNotify n ∷ cs) =
     one_more (commands.PingTrafficSentNotify n) (unpadded cs) cs (first_unpadded cs)
 

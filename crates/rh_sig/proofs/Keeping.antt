@@ -1,5 +1,6 @@
 -- one more command behind those that were kept
-use Rattle.std.proofs.Common.{◌≡◌, ℕ, ◌+◌, ◌<◌, ◌≤◌, List, [], ◌∷◌, ◌++◌, length, take, set, ap, sym, ◌∙◌, length-take-le}
+use Rattle.std.proofs.Common.{◌≡◌, ℕ, ◌+◌, ◌<◌, ◌≤◌, List, [], ◌∷◌, ◌++◌, length, take, set, ap}
+use Rattle.std.proofs.Common.{sym, ◌∙◌, length-take-le}
 use Rattle.std.proofs.lemmas.List.{take_more_set, map-append, length-map}
 use Rattle.rh_rts.specs.declared.command.CommandRef.{CommandRef}
 use Rattle.rh_rts.specs.Showing.{shown}
@@ -12,8 +13,8 @@ pub shown_more : (cs : List CommandRef) (n : ℕ) (c : CommandRef) → n < lengt
 shown_more cs n c inside = ap all_shown (take_more_set cs n c inside) ∙ map-append shown (take n cs) (c ∷ [])
 
 -- and the types with one more
-pub types_more : (types : List ℕ) (cs : List CommandRef) (n kind : ℕ) (c : CommandRef) → n < length types → n < length cs
-    → kind ≡ kind_of (shown c) → take n types ≡ kinds (all_shown (take n cs))
+pub types_more : (types : List ℕ) (cs : List CommandRef) (n kind : ℕ) (c : CommandRef) → n < length types
+    → n < length cs → kind ≡ kind_of (shown c) → take n types ≡ kinds (all_shown (take n cs))
     → take (n + 1) (set types n kind) ≡ kinds (all_shown (take (n + 1) (set cs n c)))
 types_more types cs n kind c room inside is same =
     take_more_set types n kind room

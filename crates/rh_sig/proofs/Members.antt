@@ -1,5 +1,6 @@
 -- elements of a list, and the pipes of a row
-use Rattle.std.proofs.Common.{◌≡◌, ℕ, zero, suc, List, [], ◌∷◌, Bool, true, false, refl, sym, ap, ◌∙◌, inl, inr, arith, subst, if◌then◌else◌}
+use Rattle.std.proofs.Common.{◌≡◌, ℕ, zero, suc, List, [], ◌∷◌, Bool, true, false, refl, sym, ap}
+use Rattle.std.proofs.Common.{◌∙◌, inl, inr, arith, subst, if◌then◌else◌}
 use Rattle.std.specs.Prelude.{◌==◌, ◌||◌, ◌⊎◌}
 use Rattle.std.specs.List.{Contains}
 use Rattle.std.proofs.lemmas.Bool.{eqb-true, eq-eqb}
@@ -40,7 +41,8 @@ placed OsD = refl
 pub same_place : (p q : Pipe) → place p ≡ place q → p ≡ q
 same_place p q e = sym (placed p) ∙ ap pipe_at e ∙ placed q
 
-carried_step : (q pipe : Pipe) (qs : List Pipe) (t : Bool) → (place q == place pipe) ≡ t → (t || carries qs pipe) ≡ true
+carried_step : (q pipe : Pipe) (qs : List Pipe) (t : Bool) → (place q == place pipe) ≡ t
+    → (t || carries qs pipe) ≡ true
     → (carries qs pipe ≡ true → Contains qs pipe) → Contains (q ∷ qs) pipe
 carried_step q pipe qs true is e more =
     subst (λ (x : Pipe). Contains (q ∷ qs) x) (same_place q pipe (eqb-true _ _ is)) (in_front q qs)

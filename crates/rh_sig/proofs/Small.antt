@@ -60,8 +60,8 @@ no_bad (commands.ClientAddress address padding ∷ cs) plain = no_bad cs plain.1
 no_bad (commands.AssociationGroupId cookie ∷ cs) plain = no_bad cs plain.1
 no_bad (commands.PingTrafficSentNotify n ∷ cs) plain = no_bad cs plain.1
 
-pub small_packet : (flags : ℕ) (cs : List Command) → flags ≤ all_flags → length cs ≤ 7 → ArePlain cs → HaveSizes cs
-    → IsPacket (record { flags = flags; commands = cs })
+pub small_packet : (flags : ℕ) (cs : List Command) → flags ≤ all_flags → length cs ≤ 7 → ArePlain cs
+    → HaveSizes cs → IsPacket (record { flags = flags; commands = cs })
 small_packet flags cs known few plain sizes =
     is_sound flags (capped (20 + length (spellings cs))) cs known sizes refl
     (omega (arith, all_short cs sizes plain, few)) (no_bad cs plain)

@@ -1,11 +1,18 @@
 -- the names of packets (MS-RPCH 2.2.4); replacement and the clean end are this profile's own
-use Rattle.std.specs.Prelude.{◌≡◌, ◌==◌, ◌&&◌, ◌||◌, ◌+◌, ℕ, List, [], ◌∷◌, Bool, false, if◌then◌else◌, Some, None, map}
+use Rattle.std.specs.Prelude.{◌≡◌, ◌==◌, ◌&&◌, ◌||◌, ◌+◌, ℕ, List, [], ◌∷◌, Bool, false}
+use Rattle.std.specs.Prelude.{if◌then◌else◌, Some, None, map}
 use Rattle.std.specs.List.{Contains}
 use Rattle.std.specs.Str.{bytes_eq}
 use Rattle.std.specs.declared.option.Option.{Option}
 use Rattle.rh_sig.specs.declared.name.Name.{Name}
-use Rattle.rh_sig.specs.declared.name.Name.TheVariants.{ConnA1, ConnA2, ConnA3, ConnB1, ConnB2, ConnB3, ConnC1, ConnC2, InR1A1, InR1A2, InR1A3, InR1A4, InR1A5, InR1A6, InR1B1, InR1B2}
-use Rattle.rh_sig.specs.declared.name.Name.TheVariants.{OutR1A1, OutR1A2, OutR1A3, OutR2C1, OutR1A4, OutR1A5, OutR1A6, OutR1A7, OutR1A8, OutR1A9, OutR1A10, EndA1, EndA2, EndB1, EndB2, Ack, AckTo, KeepAlive, PingTraffic, Ping}
+use Rattle.rh_sig.specs.declared.name.Name.TheVariants.{ConnA1, ConnA2, ConnA3, ConnB1, ConnB2}
+use Rattle.rh_sig.specs.declared.name.Name.TheVariants.{ConnB3, ConnC1, ConnC2, InR1A1, InR1A2}
+use Rattle.rh_sig.specs.declared.name.Name.TheVariants.{InR1A3, InR1A4, InR1A5, InR1A6, InR1B1}
+use Rattle.rh_sig.specs.declared.name.Name.TheVariants.{InR1B2}
+use Rattle.rh_sig.specs.declared.name.Name.TheVariants.{OutR1A1, OutR1A2, OutR1A3, OutR2C1, OutR1A4}
+use Rattle.rh_sig.specs.declared.name.Name.TheVariants.{OutR1A5, OutR1A6, OutR1A7, OutR1A8, OutR1A9}
+use Rattle.rh_sig.specs.declared.name.Name.TheVariants.{OutR1A10, EndA1, EndA2, EndB1, EndB2, Ack}
+use Rattle.rh_sig.specs.declared.name.Name.TheVariants.{AckTo, KeepAlive, PingTraffic, Ping}
 use Rattle.rh_sig.specs.declared.name.Pipe.{Pipe}
 use Rattle.rh_sig.specs.declared.name.Pipe.TheVariants.{CiU, IsU, IsD, CoU, CoD, OsU, OsD}
 use Rattle.rh_rts.specs.declared.command.Command.{Command}
@@ -132,7 +139,8 @@ table =
     ∷ row ConnB1 (CiU ∷ []) none
     (version ∷ cookie ∷ cookie ∷ channel_lifetime ∷ client_keepalive ∷ association_group_id ∷ [])
     ∷ row ConnB2 (IsU ∷ []) in_channel
-    (version ∷ cookie ∷ cookie ∷ receive_window_size ∷ connection_timeout ∷ association_group_id ∷ client_address ∷ [])
+    (version ∷ cookie ∷ cookie ∷ receive_window_size ∷ connection_timeout ∷ association_group_id
+    ∷ client_address ∷ [])
     ∷ row ConnB3 (IsD ∷ []) none (receive_window_size ∷ version ∷ [])
     ∷ row ConnC1 (OsD ∷ []) none (version ∷ receive_window_size ∷ connection_timeout ∷ [])
     ∷ row ConnC2 (CoD ∷ []) none (version ∷ receive_window_size ∷ connection_timeout ∷ [])
@@ -150,7 +158,8 @@ table =
     ∷ row OutR1A3 (CoU ∷ []) recycle_channel (version ∷ cookie ∷ cookie ∷ cookie ∷ receive_window_size ∷ [])
     ∷ row OutR2C1 (CoU ∷ []) ping (empty ∷ [])
     ∷ row OutR1A4 (OsU ∷ []) (out_channel + recycle_channel)
-    (version ∷ cookie ∷ cookie ∷ cookie ∷ channel_lifetime ∷ receive_window_size ∷ connection_timeout ∷ [])
+    (version ∷ cookie ∷ cookie ∷ cookie ∷ channel_lifetime ∷ receive_window_size
+    ∷ connection_timeout ∷ [])
     ∷ row OutR1A5 (OsD ∷ []) out_channel (destination ∷ version ∷ connection_timeout ∷ [])
     ∷ row OutR1A6 (CoD ∷ []) out_channel (destination ∷ version ∷ connection_timeout ∷ [])
     ∷ row OutR1A7 (CiU ∷ []) out_channel (destination ∷ cookie ∷ [])

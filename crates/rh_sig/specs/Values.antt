@@ -1,9 +1,16 @@
 -- what named packets say, and which values are in range
-use Rattle.std.specs.Prelude.{◌≡◌, ◌≤◌, ◌+◌, ◌==◌, ◌&&◌, ◌||◌, ℕ, List, [], ◌∷◌, Bool, true, if◌then◌else◌, nat_le, Some, None, IfSome}
+use Rattle.std.specs.Prelude.{◌≡◌, ◌≤◌, ◌+◌, ◌==◌, ◌&&◌, ◌||◌, ℕ, List, [], ◌∷◌, Bool, true}
+use Rattle.std.specs.Prelude.{if◌then◌else◌, nat_le, Some, None, IfSome}
 use Rattle.std.specs.declared.option.Option.{Option}
 use Rattle.rh_sig.specs.declared.name.Name.{Name}
-use Rattle.rh_sig.specs.declared.name.Name.TheVariants.{ConnA1, ConnA2, ConnA3, ConnB1, ConnB2, ConnB3, ConnC1, ConnC2, InR1A1, InR1A2, InR1A3, InR1A4, InR1A5, InR1A6, InR1B1, InR1B2}
-use Rattle.rh_sig.specs.declared.name.Name.TheVariants.{OutR1A1, OutR1A2, OutR1A3, OutR2C1, OutR1A4, OutR1A5, OutR1A6, OutR1A7, OutR1A8, OutR1A9, OutR1A10, EndA1, EndA2, EndB1, EndB2, Ack, AckTo, KeepAlive, PingTraffic, Ping}
+use Rattle.rh_sig.specs.declared.name.Name.TheVariants.{ConnA1, ConnA2, ConnA3, ConnB1, ConnB2}
+use Rattle.rh_sig.specs.declared.name.Name.TheVariants.{ConnB3, ConnC1, ConnC2, InR1A1, InR1A2}
+use Rattle.rh_sig.specs.declared.name.Name.TheVariants.{InR1A3, InR1A4, InR1A5, InR1A6, InR1B1}
+use Rattle.rh_sig.specs.declared.name.Name.TheVariants.{InR1B2}
+use Rattle.rh_sig.specs.declared.name.Name.TheVariants.{OutR1A1, OutR1A2, OutR1A3, OutR2C1, OutR1A4}
+use Rattle.rh_sig.specs.declared.name.Name.TheVariants.{OutR1A5, OutR1A6, OutR1A7, OutR1A8, OutR1A9}
+use Rattle.rh_sig.specs.declared.name.Name.TheVariants.{OutR1A10, EndA1, EndA2, EndB1, EndB2, Ack}
+use Rattle.rh_sig.specs.declared.name.Name.TheVariants.{AckTo, KeepAlive, PingTraffic, Ping}
 use Rattle.rh_sig.specs.declared.named.Named.{Named}
 use Rattle.rh_sig.specs.declared.named.Named.TheVariants as named
 use Rattle.rh_sig.specs.declared.fault.SigFault.{SigFault}
@@ -13,7 +20,8 @@ use Rattle.rh_rts.specs.declared.command.Command.TheVariants as commands
 use Rattle.rh_rts.specs.Commands.{greatest_destination}
 use Rattle.rh_rts.specs.Packets.{Parts}
 use Rattle.rh_sig.specs.declared.name.Pipe.{Pipe}
-use Rattle.rh_sig.specs.Names.{IsNamed, IsNameless, unpadded, none, ping, other_cmd, recycle_channel, in_channel, out_channel, eof, kind_of}
+use Rattle.rh_sig.specs.Names.{IsNamed, IsNameless, unpadded, none, ping, other_cmd}
+use Rattle.rh_sig.specs.Names.{recycle_channel, in_channel, out_channel, eof, kind_of}
 
 -- the name of a named packet
 abbrev pub name_of_named : Named → Name
@@ -153,9 +161,9 @@ destination_of (named.OutR1A8 destination successor) = Some destination
 destination_of (named.AckTo destination received window cookie) = Some destination
 destination_of _ = None
 
--- which is that of a role
-abbrev pub HasDestination : Named → Type 0
-HasDestination n = IfSome (destination_of n) (λ destination. destination ≤ greatest_destination)
+-- a destination is that of a role
+abbrev pub MayBeWritten : Named → Type 0
+MayBeWritten n = IfSome (destination_of n) (λ destination. destination ≤ greatest_destination)
 
 -- a command that named packets have, with a destination that is one
 abbrev pub IsPlain : Command → Type 0

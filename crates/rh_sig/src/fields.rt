@@ -31,7 +31,8 @@ impl<'a> Model for Fields<'a> {
 impl<'a> Fields<'a> {
     ghost use Rattle.std.specs.Prelude.{◌≡◌};
     ghost use Rattle.rh_rts.specs.Showing.{shown};
-    ghost use Rattle.rh_sig.specs.Reading.{all_shown, first, rest, cookie_of, received_of, window_of, ack_cookie_of};
+    ghost use Rattle.rh_sig.specs.Reading.{all_shown, first, rest, cookie_of, received_of};
+    ghost use Rattle.rh_sig.specs.Reading.{window_of, ack_cookie_of};
     ghost use Rattle.rh_sig.specs.Reading.{address_of, padding_of};
     ghost use Rattle.rh_sig.specs.Values.{value_of};
 

@@ -28,7 +28,8 @@ impl<'a> Model for Kept<'a> {
 
     ghost view = { λ k. all_shown (take k.len k.commands) };
 
-    ghost invariant = { λ k. (k.len ≤ 7) × (length k.commands ≡ 7) × (take k.len k.types ≡ kinds (all_shown (take k.len k.commands))) };
+    ghost invariant = { λ k. (k.len ≤ 7) × (length k.commands ≡ 7)
+        × (take k.len k.types ≡ kinds (all_shown (take k.len k.commands))) };
 }
 
 impl<'a> Kept<'a> {
@@ -82,7 +83,8 @@ impl<'a> Kept<'a> {
 
 /// The commands without the padding, unless there are more than seven.
 pub fn without_padding<'a>(view: &View<'a>) -> Option<Kept<'a>>
-    ensures { MatchOption result (7 < length (unpadded view.now.commands)) (λ k. k ≡ unpadded view.now.commands) }
+    ensures { MatchOption result (7 < length (unpadded view.now.commands))
+        (λ k. k ≡ unpadded view.now.commands) }
 {
     let mut kept = Kept::new();
     let mut left = view.commands();

@@ -14,10 +14,14 @@ ghost use Rattle.rh_sig.specs.Values.{name_of_named, commands_of, ReadsAs};
 /// nothing, and its contract is these laws.
 pub fn one_name()
     ensures row { (pipe : Pipe) (a b : Row) → Contains table a → Contains table b
-        → Contains a.pipes pipe → Contains b.pipes pipe → a.flags ≡ b.flags → a.types ≡ b.types → a ≡ b }
+        → Contains a.pipes pipe → Contains b.pipes pipe
+        → a.flags ≡ b.flags → a.types ≡ b.types → a ≡ b }
     ensures meaning { (a b : Row) → Contains table a → Contains table b → a.name ≡ b.name
         → (a.flags ≡ b.flags) × (a.types ≡ b.types) }
-    ensures name { (p : Parts) (pipe : Pipe) (a b : Name) → IsNamed p pipe a → IsNamed p pipe b → a ≡ b }
-    ensures value { (a b : Named) → name_of_named a ≡ name_of_named b → commands_of a ≡ commands_of b → a ≡ b }
-    ensures reading { (p : Parts) (pipe : Pipe) (a b : Named) → ReadsAs p pipe a → ReadsAs p pipe b → a ≡ b }
+    ensures name { (p : Parts) (pipe : Pipe) (a b : Name)
+        → IsNamed p pipe a → IsNamed p pipe b → a ≡ b }
+    ensures value { (a b : Named) → name_of_named a ≡ name_of_named b
+        → commands_of a ≡ commands_of b → a ≡ b }
+    ensures reading { (p : Parts) (pipe : Pipe) (a b : Named)
+        → ReadsAs p pipe a → ReadsAs p pipe b → a ≡ b }
 {}

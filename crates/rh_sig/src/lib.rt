@@ -15,6 +15,8 @@ mod reading;
 mod rows;
 mod sig;
 mod sizes;
+#[cfg(test)]
+mod tests;
 mod values;
 mod writing;
 
@@ -24,5 +26,4 @@ pub use laws::one_name;
 pub use name::{Name, Pipe};
 pub use named::Named;
 pub use reading::{name_of, read_named};
-pub use sig::Sig;
 pub use writing::write_named;

@@ -5,14 +5,11 @@ ghost use Rattle.rh_sig.specs.Names.{found, table};
 
 use crate::kinds::kind;
 use crate::name::{Name, Pipe};
-use crate::rows::named_packets;
+use crate::rows::{NONE, named_packets};
 use crate::sig::Sig;
 use rh_rts::packet::{EOF, IN_CHANNEL, OTHER_CMD, OUT_CHANNEL, PING, RECYCLE_CHANNEL};
 
-/// No flags.
-const NONE: u16 = 0;
-
-/// The name of a packet on this pipe with these flags and types of commands.
+/// The name that a packet has on this pipe with these flags and types of commands.
 #[tactic(auto, unfolding(crate::specs::Names::table))]
 pub fn name_by(pipe: Pipe, flags: u16, types: &[u32]) -> Option<Name>
     ensures { result ≡ found table pipe flags types.now }
@@ -21,7 +18,9 @@ pub fn name_by(pipe: Pipe, flags: u16, types: &[u32]) -> Option<Name>
         ($($name:ident $(($($field:ident),+))? on $($pipe:ident)|+ is $($flag:ident)|+
             [$($command:ident $(($of:ident))? $({ $($with:ident),+ })?),*];)*) => {
             match pipe {
-                $($(Pipe::$pipe)|+ if (Sig { flags: $($flag)|+, types: [$(kind!($command)),*] }).fits(flags, types) => Some(Name::$name),)*
+                $($(Pipe::$pipe)|+
+                    if (Sig { flags: $($flag)|+, types: [$(kind!($command)),*] })
+                        .fits(flags, types) => Some(Name::$name),)*
                 _ => None,
             }
         };

@@ -23,8 +23,8 @@ pub fn name_of(view: &View<'_>, pipe: Pipe) -> Option<Name>
 
 /// The named packet that the packet is on this pipe, with all its values in range.
 ///
-/// Fails with `Unknown` where no name fits; else with `OutOfRange` for the first command whose value
-/// is out of range. The ranges are those of `ranges`; the window of an acknowledgement has none.
+/// Fails with `Unknown` where no name fits; else with `OutOfRange` for the first command whose
+/// value is out of range. The ranges are those of `ranges`; an acknowledgement has none.
 pub fn read_named(view: &View<'_>, pipe: Pipe) -> Result<Named, SigFault>
     ensures { MatchResult result
         (λ named. ReadsAs view.now pipe named × (first_out_of_range view.now.commands ≡ None))

@@ -1,5 +1,8 @@
 //! The table of named packets (MS-RPCH 2.2.4), each row once.
 
+/// No flags.
+pub const NONE: u16 = 0;
+
 /// Calls a macro with a row for each named packet: its name with its fields, the pipes that carry
 /// it, its flags, and its commands with the fields that they have.
 macro_rules! named_packets {
@@ -14,9 +17,11 @@ macro_rules! named_packets {
             ConnB1(version, connection, channel, lifetime, keepalive, group) on CiU is NONE
                 [Version(version), Cookie(connection), Cookie(channel), ChannelLifetime(lifetime),
                 ClientKeepalive(keepalive), AssociationGroupId(group)];
-            ConnB2(version, connection, channel, window, timeout, group, address, padding) on IsU is IN_CHANNEL
+            ConnB2(version, connection, channel, window, timeout, group, address, padding)
+                on IsU is IN_CHANNEL
                 [Version(version), Cookie(connection), Cookie(channel), ReceiveWindowSize(window),
-                ConnectionTimeout(timeout), AssociationGroupId(group), ClientAddress { address, padding }];
+                ConnectionTimeout(timeout), AssociationGroupId(group),
+                ClientAddress { address, padding }];
             ConnB3(window, version) on IsD is NONE [ReceiveWindowSize(window), Version(version)];
             ConnC1(version, window, timeout) on OsD is NONE
                 [Version(version), ReceiveWindowSize(window), ConnectionTimeout(timeout)];
@@ -24,7 +29,8 @@ macro_rules! named_packets {
                 [Version(version), ReceiveWindowSize(window), ConnectionTimeout(timeout)];
             InR1A1(version, connection, predecessor, successor) on CiU is RECYCLE_CHANNEL
                 [Version(version), Cookie(connection), Cookie(predecessor), Cookie(successor)];
-            InR1A2(version, connection, predecessor, successor, window, timeout) on IsU is IN_CHANNEL | RECYCLE_CHANNEL
+            InR1A2(version, connection, predecessor, successor, window, timeout)
+                on IsU is IN_CHANNEL | RECYCLE_CHANNEL
                 [Version(version), Cookie(connection), Cookie(predecessor), Cookie(successor),
                 ReceiveWindowSize(window), ConnectionTimeout(timeout)];
             InR1A3(destination, version, window, timeout) on OsD is NONE
@@ -43,7 +49,8 @@ macro_rules! named_packets {
                 [Version(version), Cookie(connection), Cookie(predecessor), Cookie(successor),
                 ReceiveWindowSize(window)];
             OutR2C1 on CoU is PING [Empty];
-            OutR1A4(version, connection, predecessor, successor, lifetime, window, timeout) on OsU is OUT_CHANNEL | RECYCLE_CHANNEL
+            OutR1A4(version, connection, predecessor, successor, lifetime, window, timeout)
+                on OsU is OUT_CHANNEL | RECYCLE_CHANNEL
                 [Version(version), Cookie(connection), Cookie(predecessor), Cookie(successor),
                 ChannelLifetime(lifetime), ReceiveWindowSize(window), ConnectionTimeout(timeout)];
             OutR1A5(destination, version, timeout) on OsD is OUT_CHANNEL

@@ -40,4 +40,4 @@ pub returns : goal.returns
 returns c =
     is_value c.args.view.now c.args.pipe c.in-Some-name_by.name (all_shown c.commands-2.result.now) c.value_by.result
     (named_by c.args.view.now c.args.pipe (Some c.in-Some-name_by.name) (cc c.in-Some.ensures))
-    (cc c.in-Some.ensures) c.value_by.ensures (cc c.in-Some.ensures)
+    (cc c.in-Some.ensures) c.value_by.ensures (cc)

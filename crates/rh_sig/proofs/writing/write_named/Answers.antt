@@ -7,7 +7,8 @@ returns-clause-reads c = λ pipe is. reads_as c.args.named.now pipe is
 
 pub returns-clause-alone : goal.returns-clause-alone
 returns-clause-alone c = λ pipe other is named.
-    one_name (parts_of c.args.named.now) pipe other (name_of_named c.args.named.now) named (reads_as c.args.named.now pipe is).0
+    one_name (parts_of c.args.named.now) pipe other (name_of_named c.args.named.now) named
+    (reads_as c.args.named.now pipe is).0
 
 pub returns-clause-back : goal.returns-clause-back
 returns-clause-back c = λ pipe other is reads.
