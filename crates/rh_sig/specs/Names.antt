@@ -1,4 +1,5 @@
--- the names of packets (MS-RPCH 2.2.4); replacement and the clean end are this profile's own
+-- the names of packets: those of opening, flow control and pings (MS-RPCH 2.2.4), and the profile's own of
+-- replacement and of a clean end, after the same pattern
 use Rattle.std.specs.Prelude.{◌≡◌, ◌==◌, ◌&&◌, ◌||◌, ◌+◌, ℕ, List, [], ◌∷◌, Bool, false}
 use Rattle.std.specs.Prelude.{if◌then◌else◌, Some, None, map}
 use Rattle.std.specs.List.{Contains}
@@ -129,7 +130,7 @@ pub record Row : Type 0 where
 abbrev pub row : Name → List Pipe → ℕ → List ℕ → Row
 row name pipes flags types = record { name = name; pipes = pipes; flags = flags; types = types }
 
--- the named packets, in the order of that section
+-- the named packets: opening, replacement of an IN and of an OUT channel, clean end, and what may come again
 unfoldable pub table : List Row
 table =
     row ConnA1 (CoU ∷ []) none (version ∷ cookie ∷ cookie ∷ receive_window_size ∷ [])

@@ -65,7 +65,7 @@ name_of_named named.Ping = Ping
 abbrev pub parts : ℕ → List Command → Parts
 parts flags commands = record { flags = flags; commands = commands }
 
--- its flags and commands, in the order of MS-RPCH 2.2.4
+-- its flags and commands, in the order of its row
 abbrev pub parts_of : Named → Parts
 parts_of (named.ConnA1 version connection channel window) =
     parts none (commands.Version version ∷ commands.Cookie connection ∷ commands.Cookie channel
@@ -161,7 +161,7 @@ destination_of (named.OutR1A8 destination successor) = Some destination
 destination_of (named.AckTo destination received window cookie) = Some destination
 destination_of _ = None
 
--- a destination is that of a role
+-- it has no destination, or that of a role
 abbrev pub MayBeWritten : Named → Type 0
 MayBeWritten n = IfSome (destination_of n) (λ destination. destination ≤ greatest_destination)
 
@@ -182,7 +182,7 @@ abbrev pub is_within : ℕ → ℕ → ℕ → Bool
 is_within least greatest n = nat_le least n && nat_le n greatest
 
 -- whether a value is in range: windows and lifetimes in bytes, times in milliseconds. A keepalive of
--- 0 stands for the one that is agreed by default
+-- 0 stands for the default; the window of an acknowledgement has no range
 abbrev pub in_range : Command → Bool
 in_range (commands.ReceiveWindowSize n) = is_within 8192 262144 n
 in_range (commands.ConnectionTimeout n) = is_within 120000 14400000 n

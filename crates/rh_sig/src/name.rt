@@ -16,7 +16,10 @@ pub enum Pipe {
     OsD,
 }
 
-/// The name of a packet: that of MS-RPCH 2.2.4 without stroke and underscore, or (profile).
+/// The name of a packet, without stroke and underscore: `ConnA1` is CONN/A1.
+///
+/// The names of opening, flow control and pings are of MS-RPCH 2.2.4; those of replacement
+/// (`InR1..`, `OutR..`) and of a clean end (`End..`) are (profile).
 #[derive(Clone, Copy, Debug, PartialEq, Eq)]
 pub enum Name {
     ConnA1,

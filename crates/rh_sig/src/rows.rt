@@ -1,10 +1,13 @@
-//! The table of named packets (MS-RPCH 2.2.4), each row once.
+//! The table of named packets, each row once.
 
 /// No flags.
 pub const NONE: u16 = 0;
 
 /// Calls a macro with a row for each named packet: its name with its fields, the pipes that carry
 /// it, its flags, and its commands with the fields that they have.
+///
+/// The packets of opening, flow control and pings are those of MS-RPCH 2.2.4. Those of replacement
+/// (`InR1..`, `OutR..`) and of a clean end (`End..`) follow its pattern and are (profile).
 macro_rules! named_packets {
     ($rows:ident) => {
         $rows! {

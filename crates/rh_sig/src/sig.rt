@@ -4,7 +4,7 @@ ghost use Rattle.std.specs.Prelude.{◌≡◌};
 ghost use Rattle.rh_sig.specs.Names.{fits};
 
 /// The flags of a named packet, and the types of its commands in their order.
-#[derive(Clone, Copy, Debug, PartialEq, Eq)]
+#[derive(Clone, Copy)]
 pub struct Sig<const N: usize> {
     pub flags: u16,
     pub types: [u32; N],

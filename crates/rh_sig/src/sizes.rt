@@ -1,4 +1,6 @@
-//! The sizes of the fields of commands, which their types give.
+//! The sizes of the fields of commands.
+//!
+//! The types give them, so each test here is true. It is made where a proof is to know the size.
 
 ghost use Rattle.std.specs.Prelude.{◌≡◌, ◌<◌, ◌^◌, IsTrue, length};
 ghost use Rattle.rh_rts.specs.Commands.{IsAddress};
