@@ -1,3 +1,4 @@
 pub mod Results
 pub mod Reading
 pub mod Playing
+pub mod Completing

@@ -13,6 +13,10 @@ use Rattle.rh_cli.specs.declared.status.Status.TheVariants.{Done, Usage, BadInpu
 abbrev pub most_input : ℕ
 most_input = 67108864
 
+-- the bytes are a recording
+abbrev pub IsRecording : List ℕ → Type 0
+IsRecording bytes = (lines : List Line) × RecordingText bytes lines
+
 -- a line is done: the world takes its step, and the text of what it answers is gathered
 pub record Does (line : Line) (kind : RecordKind) (spelling : List ℕ) (world next : World) (gathered after : List ℕ) : Type 0 where
   pub is_line : IsLine kind spelling line

@@ -6,7 +6,8 @@ ghost use Rattle.rh_io.specs.Bytes.{Moves};
 ghost use Rattle.rh_io.specs.Counts.{Rose};
 ghost use Rattle.rh_world.specs.declared.line.Line.{Line};
 ghost use Rattle.rh_world.specs.Recording.{RecordingText, IsLine};
-ghost use Rattle.rh_cli.specs.Replay.{Answers, IsReadWhole, IsReplayed, IsBegun, Does};
+ghost use Rattle.rh_cli.specs.Replay.{Answers, IsReadWhole, IsRecording, IsReplayed, IsBegun, Does};
+ghost use Rattle.rh_cli.specs.Completing.{Completes};
 
 use crate::lines::first_bad_line;
 use crate::status::Status;
@@ -30,6 +31,8 @@ pub fn replay<R: Source, W: Sink>(alloc: Global, input: &mut R, output: &mut W) 
     ensures whole { IsReadWhole result → Rose (R.ends input.old) (R.ends input.new) × IsAtEnd (R.left input.new) }
     ensures read_fault { result ≡ Status.ReadFault → Rose (R.faults input.old) (R.faults input.new) }
     ensures write_fault { result ≡ Status.WriteFault → Rose (W.faults output.old) (W.faults output.new) }
+    ensures complete { Completes IsRecording (R.left input.old)
+        (Rose (R.faults input.old) (R.faults input.new)) (Rose (W.faults output.old) (W.faults output.new)) result }
 {
     let text = match read_whole(alloc, input, MOST_INPUT) {
         Ok(text) => text,

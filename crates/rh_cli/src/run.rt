@@ -7,7 +7,8 @@ ghost use Rattle.rh_io.specs.Counts.{Rose};
 ghost use Rattle.rh_cli.specs.declared.form.Form.{Form};
 ghost use Rattle.rh_cli.specs.declared.form.Form.TheVariants.{Help, Version, Replay};
 ghost use Rattle.rh_cli.specs.Forms.{IsForm, Tells};
-ghost use Rattle.rh_cli.specs.Replay.{Answers, IsReadWhole};
+ghost use Rattle.rh_cli.specs.Replay.{Answers, IsReadWhole, IsRecording};
+ghost use Rattle.rh_cli.specs.Completing.{Completes};
 
 use crate::form::{Form, form_of};
 use crate::replay::replay;
@@ -54,6 +55,8 @@ pub fn run<R: Source, W: Sink>(
         × Answers result came written }
     ensures whole { IsForm Replay words.now → IsReadWhole result
         → Rose (R.ends input.old) (R.ends input.new) × IsAtEnd (R.left input.new) }
+    ensures complete { IsForm Replay words.now → Completes IsRecording (R.left input.old)
+        (Rose (R.faults input.old) (R.faults input.new)) (Rose (W.faults output.old) (W.faults output.new)) result }
     ensures read_fault { result ≡ Status.ReadFault → Rose (R.faults input.old) (R.faults input.new) }
     ensures write_fault { result ≡ Status.WriteFault → Rose (W.faults output.old) (W.faults output.new) }
 {

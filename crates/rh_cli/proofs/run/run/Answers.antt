@@ -10,3 +10,6 @@ returns-in-None-clause-version g c = λ is. absurd (c.in-None.ensures Version is
 
 pub returns-in-None-clause-replay : goal.returns-in-None-clause-replay
 returns-in-None-clause-replay g c = λ is. absurd (c.in-None.ensures Replay is)
+
+pub returns-in-None-clause-complete : goal.returns-in-None-clause-complete
+returns-in-None-clause-complete g c = λ is. absurd (c.in-None.ensures Replay is)
