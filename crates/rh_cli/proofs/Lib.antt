@@ -1,4 +1,4 @@
 pub mod Results
 pub mod Reading
 pub mod Playing
-pub mod Completing
+pub mod Gathering

@@ -1,4 +1,4 @@
 pub mod Statuses
 pub mod Forms
 pub mod Replay
-pub mod Completing
+pub mod Words

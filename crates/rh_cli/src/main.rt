@@ -3,11 +3,13 @@
 
 mod form;
 mod lines;
+mod output;
 mod replay;
 mod run;
 mod status;
 #[cfg(test)]
 mod tests;
+mod word;
 
 use rh_io::{ReaderSource, WriterSink};
 use std::env;

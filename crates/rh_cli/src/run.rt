@@ -5,14 +5,15 @@ ghost use Rattle.std.specs.Io.KnownBytes.{Appends, IsAtEnd};
 ghost use Rattle.rh_io.specs.Bytes.{Moves};
 ghost use Rattle.rh_io.specs.Counts.{Rose};
 ghost use Rattle.rh_cli.specs.declared.form.Form.{Form};
-ghost use Rattle.rh_cli.specs.declared.form.Form.TheVariants.{Help, Version, Replay};
 ghost use Rattle.rh_cli.specs.Forms.{IsForm, Tells};
-ghost use Rattle.rh_cli.specs.Replay.{Answers, IsReadWhole, IsRecording};
-ghost use Rattle.rh_cli.specs.Completing.{Completes};
+ghost use Rattle.rh_world.specs.Recording.{FirstBad};
+ghost use Rattle.rh_cli.specs.Replay.{IsRecording, IsReplayed, IsBegun};
+ghost use Rattle.rh_cli.specs.Words.{Answers, IsReadWhole, Completes};
 
 use crate::form::{Form, form_of};
-use crate::replay::replay;
+use crate::replay::Replay;
 use crate::status::Status;
+use crate::word::answer;
 use rh_io::{Sink, SinkFailed, Source, write_whole};
 use std::alloc::Global;
 
@@ -44,24 +45,24 @@ pub fn run<R: Source, W: Sink>(
     ensures usage { (result ≡ Status.Usage → (form : Form) → ¬ IsForm form words.now)
         × (((form : Form) → ¬ IsForm form words.now) → result ≡ Status.Usage) }
     ensures unused { result ≡ Status.Usage → (input.new ≡ input.old) × (output.new ≡ output.old) }
-    ensures unread { (IsForm Help words.now → input.new ≡ input.old) × (IsForm Version words.now → input.new ≡ input.old) }
-    ensures help { IsForm Help words.now → (written : List ℕ)
+    ensures unread { (IsForm Form.Help words.now → input.new ≡ input.old) × (IsForm Form.Version words.now → input.new ≡ input.old) }
+    ensures help { IsForm Form.Help words.now → (written : List ℕ)
         × Appends (W.written output.old) (W.written output.new) written × Tells HELP.now result written }
-    ensures version { IsForm Version words.now → (written : List ℕ)
+    ensures version { IsForm Form.Version words.now → (written : List ℕ)
         × Appends (W.written output.old) (W.written output.new) written × Tells VERSION.now result written }
-    ensures replay { IsForm Replay words.now → (came : List ℕ) × (written : List ℕ)
+    ensures replay { IsForm Form.Replay words.now → (came : List ℕ) × (written : List ℕ)
         × Moves (R.left input.old) (R.left input.new) (R.taken input.old) (R.taken input.new) came
         × Appends (W.written output.old) (W.written output.new) written
-        × Answers result came written }
-    ensures whole { IsForm Replay words.now → IsReadWhole result
+        × Answers IsReplayed IsBegun FirstBad result came written }
+    ensures whole { IsForm Form.Replay words.now → IsReadWhole result
         → Rose (R.ends input.old) (R.ends input.new) × IsAtEnd (R.left input.new) }
-    ensures complete { IsForm Replay words.now → Completes IsRecording (R.left input.old)
+    ensures complete { IsForm Form.Replay words.now → Completes IsRecording (R.left input.old)
         (Rose (R.faults input.old) (R.faults input.new)) (Rose (W.faults output.old) (W.faults output.new)) result }
     ensures read_fault { result ≡ Status.ReadFault → Rose (R.faults input.old) (R.faults input.new) }
     ensures write_fault { result ≡ Status.WriteFault → Rose (W.faults output.old) (W.faults output.new) }
 {
     match form_of(words) {
-        Some(Form::Replay) => replay(alloc, input, output),
+        Some(Form::Replay) => answer::<Replay, R, W>(alloc, input, output),
         Some(Form::Help) => tell(HELP, output),
         Some(Form::Version) => tell(VERSION, output),
         None => Status::Usage,
