@@ -1,1 +1,3 @@
 mod Hexes
+mod Ascii
+mod FirstBytes

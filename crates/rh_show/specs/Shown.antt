@@ -25,35 +25,66 @@ use Rattle.rh_world.specs.Report.{pdu_fault_text}
 abbrev pub flags_text : ℕ → List ℕ
 flags_text flags = encode_lower (flags / 256 ∷ flags % 256 ∷ [])
 
+-- the name of a command (MS-RPCH 2.2.3.5)
+abbrev pub command_name : Command → List ℕ
+command_name (commands.ReceiveWindowSize _) = codes "ReceiveWindowSize"
+command_name (commands.FlowControlAck _ _ _) = codes "FlowControlAck"
+command_name (commands.ConnectionTimeout _) = codes "ConnectionTimeout"
+command_name (commands.Cookie _) = codes "Cookie"
+command_name (commands.ChannelLifetime _) = codes "ChannelLifetime"
+command_name (commands.ClientKeepalive _) = codes "ClientKeepalive"
+command_name (commands.Version _) = codes "Version"
+command_name commands.Empty = codes "Empty"
+command_name (commands.Padding _) = codes "Padding"
+command_name commands.NegativeAnce = codes "NegativeANCE"
+command_name commands.Ance = codes "ANCE"
+command_name (commands.ClientAddress _ _) = codes "ClientAddress"
+command_name (commands.AssociationGroupId _) = codes "AssociationGroupId"
+command_name (commands.Destination _) = codes "Destination"
+command_name (commands.PingTrafficSentNotify _) = codes "PingTrafficSentNotify"
+
+-- a value: a space before it
+abbrev pub number_text : ℕ → List ℕ
+number_text n = codes " " ++ decimal n
+
+abbrev pub cookie_value : List ℕ → List ℕ
+cookie_value bytes = codes " " ++ text_of_cookie bytes
+
+abbrev pub bytes_text : List ℕ → List ℕ
+bytes_text bytes = codes " " ++ encode_lower bytes
+
 -- bytes of which there may be none
 abbrev pub padding_text : List ℕ → List ℕ
-padding_text [] = codes "-"
-padding_text (b ∷ bytes) = encode_lower (b ∷ bytes)
+padding_text [] = codes " -"
+padding_text (b ∷ bytes) = bytes_text (b ∷ bytes)
 
 -- an address: its type and its bytes (MS-RPCH 2.2.3.2)
 abbrev pub address_text : Address4or16 → List ℕ
-address_text (V4 bytes) = codes "0 " ++ encode_lower bytes
-address_text (V6 bytes) = codes "1 " ++ encode_lower bytes
+address_text (V4 bytes) = codes " 0" ++ bytes_text bytes
+address_text (V6 bytes) = codes " 1" ++ bytes_text bytes
 
--- a command: its name, and its values with a space before each (MS-RPCH 2.2.3.5)
+-- the values of a command, in the order of its fields
+abbrev pub values_text : Command → List ℕ
+values_text (commands.ReceiveWindowSize n) = number_text n
+values_text (commands.FlowControlAck received window cookie) =
+    number_text received ++ number_text window ++ cookie_value cookie.0
+values_text (commands.ConnectionTimeout n) = number_text n
+values_text (commands.Cookie cookie) = cookie_value cookie.0
+values_text (commands.ChannelLifetime n) = number_text n
+values_text (commands.ClientKeepalive n) = number_text n
+values_text (commands.Version n) = number_text n
+values_text commands.Empty = []
+values_text (commands.Padding bytes) = padding_text bytes
+values_text commands.NegativeAnce = []
+values_text commands.Ance = []
+values_text (commands.ClientAddress address padding) = address_text address ++ bytes_text padding
+values_text (commands.AssociationGroupId cookie) = cookie_value cookie.0
+values_text (commands.Destination n) = number_text n
+values_text (commands.PingTrafficSentNotify n) = number_text n
+
+-- a command: its name and its values
 abbrev pub command_text : Command → List ℕ
-command_text (commands.ReceiveWindowSize n) = codes "ReceiveWindowSize " ++ decimal n
-command_text (commands.FlowControlAck received window cookie) =
-    codes "FlowControlAck " ++ decimal received ++ codes " " ++ decimal window ++ codes " " ++ text_of_cookie cookie.0
-command_text (commands.ConnectionTimeout n) = codes "ConnectionTimeout " ++ decimal n
-command_text (commands.Cookie cookie) = codes "Cookie " ++ text_of_cookie cookie.0
-command_text (commands.ChannelLifetime n) = codes "ChannelLifetime " ++ decimal n
-command_text (commands.ClientKeepalive n) = codes "ClientKeepalive " ++ decimal n
-command_text (commands.Version n) = codes "Version " ++ decimal n
-command_text commands.Empty = codes "Empty"
-command_text (commands.Padding bytes) = codes "Padding " ++ padding_text bytes
-command_text commands.NegativeAnce = codes "NegativeANCE"
-command_text commands.Ance = codes "ANCE"
-command_text (commands.ClientAddress address padding) =
-    codes "ClientAddress " ++ address_text address ++ codes " " ++ encode_lower padding
-command_text (commands.AssociationGroupId cookie) = codes "AssociationGroupId " ++ text_of_cookie cookie.0
-command_text (commands.Destination n) = codes "Destination " ++ decimal n
-command_text (commands.PingTrafficSentNotify n) = codes "PingTrafficSentNotify " ++ decimal n
+command_text c = command_name c ++ values_text c
 
 -- the commands in their order, each with a space before it
 abbrev pub commands_text : List Command → List ℕ

@@ -1,6 +1,10 @@
 //! Packets as text: lines of hex are read, and each packet is told in one line.
 #![tactic(auto)]
 
+mod commands;
+mod digits;
 pub mod reader;
+pub mod showing;
 
 pub use reader::LineReader;
+pub use showing::show_packet;
