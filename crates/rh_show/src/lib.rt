@@ -3,8 +3,10 @@
 
 mod commands;
 mod digits;
+pub mod laws;
 pub mod reader;
 pub mod showing;
 
+pub use laws::one_text;
 pub use reader::LineReader;
 pub use showing::show_packet;
