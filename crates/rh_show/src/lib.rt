@@ -6,6 +6,8 @@ mod digits;
 pub mod laws;
 pub mod reader;
 pub mod showing;
+#[cfg(test)]
+mod tests;
 
 pub use laws::one_text;
 pub use reader::LineReader;
