@@ -17,7 +17,8 @@ use Rattle.rh_world.specs.Direct.{Way, World, empty, step, answers, after, told,
 use Rattle.rh_world.proofs.Recordings.{Leads-push, Leads-append, lines_behind, none_left, no_first, first_shorter, begins_same}
 use Rattle.rh_world.proofs.Reports.{report_text-append, told-push, after-push, told_front}
 use Rattle.rh_world.proofs.Runs.{run_in_order}
-use Rattle.rh_cli.specs.Replay.{IsRecording, IsReplayed, IsBegun, Does}
+use Rattle.rh_cli.specs.Replay.{IsRecording, IsReplayed, Does}
+use Rattle.rh_cli.specs.Words.{IsBegun}
 use Rattle.rh_cli.proofs.Gathering.{Gathers, gathers_none, gathers_more, gathers_passed, gathers_all}
 
 -- ---- how many PDUs are given
@@ -165,35 +166,47 @@ ends_with text kind rest world gathered before now start shown more none cleared
 -- ---- what is answered
 
 pub plays_begun : (text : List ℕ) (kind : RecordKind) (rest : List ℕ) (world : World) (gathered : List ℕ) (before now : Option (List ℕ))
-    → Plays text kind rest world gathered before now → (written : List ℕ) × Appends before now written × IsBegun text written
+    → Plays text kind rest world gathered before now → (written : List ℕ) × Appends before now written × IsBegun IsReplayed text written
 plays_begun text kind rest world gathered before now h =
     let whole = told_front h.done h.ahead in
     let more = gathers_more (report_text (told empty h.done)) gathered (report_text whole.0) before now h.gathers in (
       more.written,
       more.wrote,
-      record {
-        lines = h.done ++ h.ahead;
-        recording = record {
-          begun = some_lines h.done h.ahead text kind rest h.read h.left h.some;
-          spelled = Leads-append Header h.done h.ahead text kind Direct rest [] h.read h.left;
-        };
-        behind = gathered ++ report_text whole.0;
-        front = ap report_text whole.1 ∙ report_text-append (told empty h.done) whole.0 ∙ more.said_is;
-      },
+      (
+        gathered ++ report_text whole.0,
+        record {
+          lines = h.done ++ h.ahead;
+          recording = record {
+            begun = some_lines h.done h.ahead text kind rest h.read h.left h.some;
+            spelled = Leads-append Header h.done h.ahead text kind Direct rest [] h.read h.left;
+          };
+          report = sym (ap report_text whole.1 ∙ report_text-append (told empty h.done) whole.0 ∙ more.said_is);
+          in_order = run_in_order (h.done ++ h.ahead);
+        },
+      ),
     )
+
+-- before the first line
+pub nothing_yet : (text : List ℕ) (known : Option (List ℕ)) → IsRecording text → (written : List ℕ) × Appends known known written × IsBegun IsReplayed text written
+nothing_yet text known h = plays_begun text Header text empty [] known known (plays_first text known h)
 
 -- where a front of what was gathered was written too
 pub begun_further : (text : List ℕ) (kind : RecordKind) (rest : List ℕ) (world : World) (gathered piece left : List ℕ) (before now later : Option (List ℕ))
     → Appends now later piece → gathered ≡ piece ++ left → Plays text kind rest world gathered before now
-    → (written : List ℕ) × Appends before later written × IsBegun text written
+    → (written : List ℕ) × Appends before later written × IsBegun IsReplayed text written
 begun_further text kind rest world gathered piece left before now later wrote is h =
     plays_begun text kind rest world left before later (plays_passed text kind rest world gathered piece left before now later wrote (sym is) h)
 
 pub ends_begun : (text gathered piece left : List ℕ) (before now later : Option (List ℕ)) → Appends now later piece → gathered ≡ piece ++ left
-    → Ends text gathered before now → (written : List ℕ) × Appends before later written × IsBegun text written
+    → Ends text gathered before now → (written : List ℕ) × Appends before later written × IsBegun IsReplayed text written
 ends_begun text gathered piece left before now later wrote is h =
     let passed = gathers_passed (report_text (run h.lines)) gathered piece left before now later wrote (sym is) h.gathers in
-    (passed.written, passed.wrote, record { lines = h.lines; recording = h.recording; behind = left; front = passed.said_is })
+    let whole : IsReplayed text (passed.written ++ left) = record {
+      lines = h.lines;
+      recording = h.recording;
+      report = sym passed.said_is;
+      in_order = run_in_order h.lines;
+    } in (passed.written, passed.wrote, (left, whole))
 
 pub ends_replayed : (text gathered piece left : List ℕ) (before now later : Option (List ℕ)) → Appends now later piece → piece ++ left ≡ gathered → left ≡ []
     → Ends text gathered before now → (written : List ℕ) × Appends before later written × IsReplayed text written

@@ -2,3 +2,4 @@ pub mod Statuses
 pub mod Forms
 pub mod Replay
 pub mod Words
+pub mod Show

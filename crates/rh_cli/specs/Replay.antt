@@ -23,10 +23,3 @@ pub record IsReplayed (came written : List ℕ) : Type 0 where
   pub recording : RecordingText came lines
   pub report : written ≡ report_text (run lines)
   pub in_order : InOrder lines (run lines)
-
--- what came is a recording, and what was written is a front of its report
-pub record IsBegun (came written : List ℕ) : Type 0 where
-  pub lines : List Line
-  pub recording : RecordingText came lines
-  pub behind : List ℕ
-  pub front : report_text (run lines) ≡ written ++ behind

@@ -1,5 +1,5 @@
 -- what a word that reads a text answers, status by status: of what came, and of what was written
-use Rattle.std.specs.Prelude.{◌≡◌, ℕ, ◌<◌, ◌≤◌, ◌⊎◌, List, [], length, Some}
+use Rattle.std.specs.Prelude.{◌≡◌, ℕ, ◌<◌, ◌≤◌, ◌⊎◌, List, [], ◌++◌, length, Some}
 use Rattle.std.specs.declared.option.Option.{Option}
 use Rattle.rh_cli.specs.declared.status.Status.{Status}
 use Rattle.rh_cli.specs.declared.status.Status.TheVariants.{Done, Usage, BadInput, ReadFault, WriteFault, NoMemory, TooLong}
@@ -8,16 +8,20 @@ use Rattle.rh_cli.specs.declared.status.Status.TheVariants.{Done, Usage, BadInpu
 abbrev pub most_input : ℕ
 most_input = 67108864
 
--- by status, what came and what was written. `Says` has the whole output of a text, `Begins` a front of it, and
--- `Refuses` the first line that is outside the grammar.
-abbrev pub Answers : (Says Begins : List ℕ → List ℕ → Type 0) (Refuses : List ℕ → ℕ → Type 0) → Status → List ℕ → List ℕ → Type 0
-Answers Says Begins Refuses Done came written = (length came ≤ most_input) × Says came written
-Answers Says Begins Refuses Usage came written = ⊥
-Answers Says Begins Refuses (BadInput line) came written = (length came ≤ most_input) × Refuses came line × (written ≡ [])
-Answers Says Begins Refuses ReadFault came written = (length came ≤ most_input) × (written ≡ [])
-Answers Says Begins Refuses WriteFault came written = (length came ≤ most_input) × Begins came written
-Answers Says Begins Refuses NoMemory came written = (written ≡ []) ⊎ Begins came written
-Answers Says Begins Refuses TooLong came written = (most_input < length came) × (written ≡ [])
+-- what was written is a front of the output of what came
+abbrev pub IsBegun : (Says : List ℕ → List ℕ → Type 0) → List ℕ → List ℕ → Type 0
+IsBegun Says came written = (behind : List ℕ) × Says came (written ++ behind)
+
+-- by status, what came and what was written. `Says` has the output of a text, and `Refuses` the first line that is
+-- outside the grammar.
+abbrev pub Answers : (Says : List ℕ → List ℕ → Type 0) (Refuses : List ℕ → ℕ → Type 0) → Status → List ℕ → List ℕ → Type 0
+Answers Says Refuses Done came written = (length came ≤ most_input) × Says came written
+Answers Says Refuses Usage came written = ⊥
+Answers Says Refuses (BadInput line) came written = (length came ≤ most_input) × Refuses came line × (written ≡ [])
+Answers Says Refuses ReadFault came written = (length came ≤ most_input) × (written ≡ [])
+Answers Says Refuses WriteFault came written = (length came ≤ most_input) × IsBegun Says came written
+Answers Says Refuses NoMemory came written = (written ≡ []) ⊎ IsBegun Says came written
+Answers Says Refuses TooLong came written = (most_input < length came) × (written ≡ [])
 
 -- the statuses at which the input was read to its end
 abbrev pub IsReadWhole : Status → Type 0

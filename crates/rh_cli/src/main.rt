@@ -1,4 +1,4 @@
-//! The program: replays a recording and writes its report.
+//! The program: replays a recording and writes its report, or shows packets.
 #![tactic(auto)]
 
 mod form;
@@ -6,6 +6,7 @@ mod lines;
 mod output;
 mod replay;
 mod run;
+mod show;
 mod status;
 #[cfg(test)]
 mod tests;

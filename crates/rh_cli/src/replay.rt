@@ -5,7 +5,8 @@ ghost use Rattle.std.specs.Io.KnownBytes.{Appends};
 ghost use Rattle.rh_io.specs.Counts.{Rose};
 ghost use Rattle.rh_world.specs.declared.line.Line.{Line};
 ghost use Rattle.rh_world.specs.Recording.{IsLine};
-ghost use Rattle.rh_cli.specs.Replay.{IsRecording, IsReplayed, IsBegun, Does};
+ghost use Rattle.rh_cli.specs.Replay.{IsRecording, IsReplayed, Does};
+ghost use Rattle.rh_cli.specs.Words.{IsBegun};
 
 use crate::lines::first_bad_line;
 use crate::output::{PIECE, Unfinished, pass_on};
@@ -21,15 +22,13 @@ pub struct Replay;
 
 impl Word for Replay {
     ghost use Rattle.rh_world.specs.Recording.{FirstBad};
-    ghost use Rattle.rh_cli.specs.Replay.{IsRecording, IsReplayed, IsBegun};
+    ghost use Rattle.rh_cli.specs.Replay.{IsRecording, IsReplayed};
 
     ghost takes = { IsRecording };
 
     ghost refuses = { FirstBad };
 
     ghost says = { IsReplayed };
-
-    ghost begins = { IsBegun };
 
     fn new(_: Global) -> Result<Replay, AllocError> {
         Ok(Replay)
@@ -56,7 +55,7 @@ fn play<W: Sink>(alloc: Global, text: &[u8], output: &mut W) -> Result<(), Unfin
     ensures ok { OnOk result ((written : List ℕ)
         × Appends (W.written output.old) (W.written output.new) written × IsReplayed text.now written) }
     ensures err { OnErr result ((written : List ℕ)
-        × Appends (W.written output.old) (W.written output.new) written × IsBegun text.now written) }
+        × Appends (W.written output.old) (W.written output.new) written × IsBegun IsReplayed text.now written) }
     ensures write_fault { result ≡ Err Unfinished.WriteFault → Rose (W.faults output.old) (W.faults output.new) }
 {
     let mut world = World::new(alloc)?;

@@ -4,7 +4,7 @@ ghost use Rattle.std.specs.Prelude.{◌≡◌, ◌≤◌, ℕ, List, IfOk, OnOk,
 ghost use Rattle.std.specs.Io.KnownBytes.{Appends, IsAtEnd};
 ghost use Rattle.rh_io.specs.Bytes.{Moves};
 ghost use Rattle.rh_io.specs.Counts.{Rose};
-ghost use Rattle.rh_cli.specs.Words.{Answers, IsReadWhole, Completes};
+ghost use Rattle.rh_cli.specs.Words.{Answers, IsBegun, IsReadWhole, Completes};
 
 use crate::output::Unfinished;
 use crate::status::Status;
@@ -22,11 +22,8 @@ pub trait Word: Drop {
     /// The line of the bytes with this number, from 1, is the first that is outside the grammar.
     ghost refuses: { List ℕ → ℕ → Type 0 };
 
-    /// The whole output of a text.
+    /// The output of a text.
     ghost says: { List ℕ → List ℕ → Type 0 };
-
-    /// A front of the output of a text.
-    ghost begins: { List ℕ → List ℕ → Type 0 };
 
     /// The word before its text. Fails where there is no memory.
     fn new(alloc: Global) -> Result<Self, AllocError>;
@@ -48,7 +45,7 @@ pub trait Word: Drop {
         ensures ok { OnOk result ((written : List ℕ)
             × Appends (W.written output.old) (W.written output.new) written × says text.now written) }
         ensures err { OnErr result ((written : List ℕ)
-            × Appends (W.written output.old) (W.written output.new) written × begins text.now written) }
+            × Appends (W.written output.old) (W.written output.new) written × IsBegun says text.now written) }
         ensures write_fault { result ≡ Err Unfinished.WriteFault → Rose (W.faults output.old) (W.faults output.new) };
 }
 
@@ -57,7 +54,7 @@ pub fn answer<X: Word, R: Source, W: Sink>(alloc: Global, input: &mut R, output:
     ensures answers { (came : List ℕ) × (written : List ℕ)
         × Moves (R.left input.old) (R.left input.new) (R.taken input.old) (R.taken input.new) came
         × Appends (W.written output.old) (W.written output.new) written
-        × Answers X.says X.begins X.refuses result came written }
+        × Answers X.says X.refuses result came written }
     ensures whole { IsReadWhole result → Rose (R.ends input.old) (R.ends input.new) × IsAtEnd (R.left input.new) }
     ensures read_fault { result ≡ Status.ReadFault → Rose (R.faults input.old) (R.faults input.new) }
     ensures write_fault { result ≡ Status.WriteFault → Rose (W.faults output.old) (W.faults output.new) }
