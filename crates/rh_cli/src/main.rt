@@ -7,6 +7,8 @@ mod output;
 mod replay;
 mod run;
 mod show;
+#[cfg(test)]
+mod show_tests;
 mod status;
 #[cfg(test)]
 mod tests;
