@@ -19,3 +19,17 @@ returns-in-None-clause-show g c = λ is. absurd (c.in-None.ensures Show is)
 
 pub returns-in-None-clause-show_complete : goal.returns-in-None-clause-show_complete
 returns-in-None-clause-show_complete g c = λ is. absurd (c.in-None.ensures Show is)
+
+-- ---- a word that reads a text
+
+pub returns-in-Some-Replay-clause-replay : goal.returns-in-Some-Replay-clause-replay
+returns-in-Some-Replay-clause-replay g c = λ is. c.answer.ensures.answers
+
+pub returns-in-Some-Show-clause-show : goal.returns-in-Some-Show-clause-show
+returns-in-Some-Show-clause-show g c = λ is. c.answer-in-Some-Show.ensures.answers
+
+pub returns-in-Some-Show-clause-show_complete : goal.returns-in-Some-Show-clause-show_complete
+returns-in-Some-Show-clause-show_complete g c = λ is. c.answer-in-Some-Show.ensures.complete
+
+pub returns-in-Some-Replay-clause-complete : goal.returns-in-Some-Replay-clause-complete
+returns-in-Some-Replay-clause-complete g c = λ is. c.answer.ensures.complete
