@@ -1,3 +1,7 @@
 pub mod Results
 pub mod Reading
 pub mod Playing
+pub mod Gathering
+pub mod Telling
+pub mod Packets
+pub mod Showing

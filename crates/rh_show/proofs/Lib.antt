@@ -1,0 +1,5 @@
+mod Hexes
+mod Ascii
+mod FirstBytes
+pub mod Splits
+pub mod Shows
