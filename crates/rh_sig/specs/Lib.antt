@@ -1,1 +1,4 @@
 pub mod Cookies
+pub mod Names
+pub mod Values
+pub mod Reading

@@ -2,5 +2,28 @@
 #![tactic(auto)]
 
 mod cookie;
+mod fault;
+mod fields;
+mod kept;
+mod kinds;
+pub mod laws;
+mod name;
+mod named;
+mod naming;
+pub mod ranges;
+mod reading;
+mod rows;
+mod sig;
+mod sizes;
+#[cfg(test)]
+mod tests;
+mod values;
+mod writing;
 
 pub use cookie::{COOKIE_TEXT_LEN, cookie_text};
+pub use fault::SigFault;
+pub use laws::one_name;
+pub use name::{Name, Pipe};
+pub use named::Named;
+pub use reading::{name_of, read_named};
+pub use writing::write_named;

@@ -1,0 +1,29 @@
+//! Which name a packet has.
+
+ghost use Rattle.std.specs.Prelude.{◌≡◌};
+ghost use Rattle.rh_sig.specs.Names.{found, table};
+
+use crate::kinds::kind;
+use crate::name::{Name, Pipe};
+use crate::rows::{NONE, named_packets};
+use crate::sig::Sig;
+use rh_rts::packet::{EOF, IN_CHANNEL, OTHER_CMD, OUT_CHANNEL, PING, RECYCLE_CHANNEL};
+
+/// The name that a packet has on this pipe with these flags and types of commands.
+#[tactic(auto, unfolding(crate::specs::Names::table))]
+pub fn name_by(pipe: Pipe, flags: u16, types: &[u32]) -> Option<Name>
+    ensures { result ≡ found table pipe flags types.now }
+{
+    macro_rules! rows {
+        ($($name:ident $(($($field:ident),+))? on $($pipe:ident)|+ is $($flag:ident)|+
+            [$($command:ident $(($of:ident))? $({ $($with:ident),+ })?),*];)*) => {
+            match pipe {
+                $($(Pipe::$pipe)|+
+                    if (Sig { flags: $($flag)|+, types: [$(kind!($command)),*] })
+                        .fits(flags, types) => Some(Name::$name),)*
+                _ => None,
+            }
+        };
+    }
+    named_packets!(rows)
+}
