@@ -29,7 +29,11 @@ pub const HELP: &str =
   rh_cli --help       writes this page
   rh_cli --version    writes the name and the version
 
-A line for show has 1 to 65,535 bytes in hex digits of either case, and nothing else.
+A line for show has 1 to 65,535 bytes in hex digits of either case, and nothing else. From a capture
+in pcap format and from a file that holds one packet, by the repository's tools and by xxd:
+
+  tools/pcap_packets.py FILE | rh_cli show
+  xxd -p FILE | tr -d '\\n' | rh_cli show
 
 A status other than 0 has its text on standard error: 1 usage, 2 bad input <line>, 3 read fault,
 4 write fault, 8 no memory, 9 input too long (above 67,108,864 bytes).
