@@ -1,8 +1,7 @@
 -- playing line by line
-use Rattle.std.proofs.Common.{◌≡◌, ◌≢◌, ℕ, ◌+◌, ◌≤◌, List, [], ◌∷◌, ◌++◌, length, Some, None, refl, sym, ◌∙◌, ap, subst, append_assoc, arith}
-use Rattle.std.proofs.lemmas.List.{append-nil, nil_from_length}
+use Rattle.std.proofs.Common.{◌≡◌, ◌≢◌, ℕ, ◌+◌, ◌≤◌, List, [], ◌∷◌, ◌++◌, length, Some, None, refl, sym, ◌∙◌, ap, subst, arith}
+use Rattle.std.proofs.lemmas.List.{nil_from_length}
 use Rattle.std.specs.Io.KnownBytes.{Appends}
-use Rattle.std.proofs.KnownBytes.{Appends-nil, Appends-trans}
 use Rattle.std.specs.declared.option.Option.{Option}
 use Rattle.rh_world.specs.declared.line.Line.{Line}
 use Rattle.rh_world.specs.declared.line.Line.TheVariants as line
@@ -18,7 +17,9 @@ use Rattle.rh_world.specs.Direct.{Way, World, empty, step, answers, after, told,
 use Rattle.rh_world.proofs.Recordings.{Leads-push, Leads-append, lines_behind, none_left, no_first, first_shorter, begins_same}
 use Rattle.rh_world.proofs.Reports.{report_text-append, told-push, after-push, told_front}
 use Rattle.rh_world.proofs.Runs.{run_in_order}
-use Rattle.rh_cli.specs.Replay.{IsReplayed, IsBegun, Does}
+use Rattle.rh_cli.specs.Replay.{IsRecording, IsReplayed, Does}
+use Rattle.rh_cli.specs.Words.{IsBegun}
+use Rattle.rh_cli.proofs.Gathering.{Gathers, gathers_none, gathers_more, gathers_passed, gathers_all}
 
 -- ---- how many PDUs are given
 
@@ -46,8 +47,7 @@ given_by_line world (line.Move D n) = omega arith
 
 -- ---- the state of a replay
 
--- the lines done and those left; the world that the lines done make, and the text of what they told, of which a
--- front is written and the rest is gathered
+-- the lines done and those left; the world that the lines done make, and the text of what they told
 pub record Plays (text : List ℕ) (kind : RecordKind) (rest : List ℕ) (world : World) (gathered : List ℕ) (before now : Option (List ℕ)) : Type 0 where
   pub done : List Line
   pub read : Leads Header done text kind rest
@@ -55,12 +55,10 @@ pub record Plays (text : List ℕ) (kind : RecordKind) (rest : List ℕ) (world 
   pub left : Leads kind ahead rest Direct []
   pub some : text ≢ []
   pub here : world ≡ after empty done
-  pub written : List ℕ
-  pub wrote : Appends before now written
-  pub told_is : report_text (told empty done) ≡ written ++ gathered
+  pub gathers : Gathers (report_text (told empty done)) gathered before now
   pub counted : world.up.given + world.down.given + length rest ≤ length text
 
-pub plays_first : (text : List ℕ) (known : Option (List ℕ)) → (lines : List Line) × RecordingText text lines → Plays text Header text empty [] known known
+pub plays_first : (text : List ℕ) (known : Option (List ℕ)) → IsRecording text → Plays text Header text empty [] known known
 plays_first text known h = record {
   done = [];
   read = (refl, refl);
@@ -68,9 +66,7 @@ plays_first text known h = record {
   left = h.1.spelled;
   some = λ none. h.1.begun (none_left Header h.0 (subst (λ t. Leads Header h.0 t Direct []) none h.1.spelled)).0;
   here = refl;
-  written = [];
-  wrote = Appends-nil known;
-  told_is = refl;
+  gathers = gathers_none known;
   counted = omega arith;
 }
 
@@ -110,12 +106,10 @@ plays_line text kind rest world gathered before now l line behind next more begi
       left = ahead.1;
       some = h.some;
       here = ap (λ w. step w l) h.here ∙ sym (after-push h.done l empty);
-      written = h.written;
-      wrote = h.wrote;
-      told_is = ap report_text (told-push h.done l empty) ∙ report_text-append (told empty h.done) (answers (after empty h.done) l)
-          ∙ ap (λ x. x ++ report_text (answers (after empty h.done) l)) h.told_is
-          ∙ append_assoc h.written gathered (report_text (answers (after empty h.done) l))
-          ∙ ap (λ w. h.written ++ (gathered ++ report_text (answers w l))) (sym h.here);
+      gathers = subst (λ said. Gathers said (gathered ++ report_text (answers world l)) before now)
+          (ap (λ w. report_text (told empty h.done) ++ report_text (answers w l)) h.here
+          ∙ sym (ap report_text (told-push h.done l empty) ∙ report_text-append (told empty h.done) (answers (after empty h.done) l)))
+          (gathers_more (report_text (told empty h.done)) gathered (report_text (answers world l)) before now h.gathers);
       counted = omega (arith, h.counted, given_by_line world l);
     })
 
@@ -128,9 +122,7 @@ plays_passed text kind rest world gathered piece left before now later wrote is 
   left = h.left;
   some = h.some;
   here = h.here;
-  written = h.written ++ piece;
-  wrote = Appends-trans before now later h.written piece h.wrote wrote;
-  told_is = h.told_is ∙ ap (λ x. h.written ++ x) (sym is) ∙ sym (append_assoc h.written piece left);
+  gathers = gathers_passed (report_text (told empty h.done)) gathered piece left before now later wrote is h.gathers;
   counted = h.counted;
 }
 
@@ -141,13 +133,11 @@ some_line text kind rest world gathered before now line behind some begins h = l
 
 -- ---- the end
 
--- the lines are all done, and a front of their report is written and the rest is gathered
+-- the lines are all done
 pub record Ends (text gathered : List ℕ) (before now : Option (List ℕ)) : Type 0 where
   pub lines : List Line
   pub recording : RecordingText text lines
-  pub written : List ℕ
-  pub wrote : Appends before now written
-  pub report_is : report_text (run lines) ≡ written ++ gathered
+  pub gathers : Gathers (report_text (run lines)) gathered before now
 
 pub plays_end : (text : List ℕ) (kind : RecordKind) (rest : List ℕ) (world : World) (gathered : List ℕ) (before now : Option (List ℕ)) → rest ≡ []
     → Plays text kind rest world gathered before now → Ends text (gathered ++ report_text (last world)) before now
@@ -160,11 +150,9 @@ plays_end text kind rest world gathered before now empty_rest h =
         begun = λ e. some_lines h.done h.ahead text kind rest h.read h.left h.some (ap (λ x. x ++ h.ahead) e ∙ none.0);
         spelled = read;
       };
-      written = h.written;
-      wrote = h.wrote;
-      report_is = report_text-append (told empty h.done) (last (after empty h.done)) ∙ ap (λ x. x ++ report_text (last (after empty h.done))) h.told_is
-          ∙ append_assoc h.written gathered (report_text (last (after empty h.done)))
-          ∙ ap (λ w. h.written ++ (gathered ++ report_text (last w))) (sym h.here);
+      gathers = subst (λ said. Gathers said (gathered ++ report_text (last world)) before now)
+          (ap (λ w. report_text (told empty h.done) ++ report_text (last w)) h.here ∙ sym (report_text-append (told empty h.done) (last (after empty h.done))))
+          (gathers_more (report_text (told empty h.done)) gathered (report_text (last world)) before now h.gathers);
     }
 
 -- with what the last lines tell
@@ -178,52 +166,58 @@ ends_with text kind rest world gathered before now start shown more none cleared
 -- ---- what is answered
 
 pub plays_begun : (text : List ℕ) (kind : RecordKind) (rest : List ℕ) (world : World) (gathered : List ℕ) (before now : Option (List ℕ))
-    → Plays text kind rest world gathered before now → (written : List ℕ) × Appends before now written × IsBegun text written
+    → Plays text kind rest world gathered before now → (written : List ℕ) × Appends before now written × IsBegun IsReplayed text written
 plays_begun text kind rest world gathered before now h =
-    let whole = told_front h.done h.ahead in (
-      h.written,
-      h.wrote,
-      record {
-        lines = h.done ++ h.ahead;
-        recording = record {
-          begun = some_lines h.done h.ahead text kind rest h.read h.left h.some;
-          spelled = Leads-append Header h.done h.ahead text kind Direct rest [] h.read h.left;
-        };
-        behind = gathered ++ report_text whole.0;
-        front = ap report_text whole.1 ∙ report_text-append (told empty h.done) whole.0 ∙ ap (λ x. x ++ report_text whole.0) h.told_is
-            ∙ append_assoc h.written gathered (report_text whole.0);
-      },
+    let whole = told_front h.done h.ahead in
+    let more = gathers_more (report_text (told empty h.done)) gathered (report_text whole.0) before now h.gathers in (
+      more.written,
+      more.wrote,
+      (
+        gathered ++ report_text whole.0,
+        record {
+          lines = h.done ++ h.ahead;
+          recording = record {
+            begun = some_lines h.done h.ahead text kind rest h.read h.left h.some;
+            spelled = Leads-append Header h.done h.ahead text kind Direct rest [] h.read h.left;
+          };
+          report = sym (ap report_text whole.1 ∙ report_text-append (told empty h.done) whole.0 ∙ more.said_is);
+          in_order = run_in_order (h.done ++ h.ahead);
+        },
+      ),
     )
+
+-- before the first line
+pub nothing_yet : (text : List ℕ) (known : Option (List ℕ)) → IsRecording text → (written : List ℕ) × Appends known known written × IsBegun IsReplayed text written
+nothing_yet text known h = plays_begun text Header text empty [] known known (plays_first text known h)
 
 -- where a front of what was gathered was written too
 pub begun_further : (text : List ℕ) (kind : RecordKind) (rest : List ℕ) (world : World) (gathered piece left : List ℕ) (before now later : Option (List ℕ))
     → Appends now later piece → gathered ≡ piece ++ left → Plays text kind rest world gathered before now
-    → (written : List ℕ) × Appends before later written × IsBegun text written
+    → (written : List ℕ) × Appends before later written × IsBegun IsReplayed text written
 begun_further text kind rest world gathered piece left before now later wrote is h =
     plays_begun text kind rest world left before later (plays_passed text kind rest world gathered piece left before now later wrote (sym is) h)
 
 pub ends_begun : (text gathered piece left : List ℕ) (before now later : Option (List ℕ)) → Appends now later piece → gathered ≡ piece ++ left
-    → Ends text gathered before now → (written : List ℕ) × Appends before later written × IsBegun text written
-ends_begun text gathered piece left before now later wrote is h = (
-  h.written ++ piece,
-  Appends-trans before now later h.written piece h.wrote wrote,
-  record {
-    lines = h.lines;
-    recording = h.recording;
-    behind = left;
-    front = h.report_is ∙ ap (λ x. h.written ++ x) is ∙ sym (append_assoc h.written piece left);
-  },
-)
+    → Ends text gathered before now → (written : List ℕ) × Appends before later written × IsBegun IsReplayed text written
+ends_begun text gathered piece left before now later wrote is h =
+    let passed = gathers_passed (report_text (run h.lines)) gathered piece left before now later wrote (sym is) h.gathers in
+    let whole : IsReplayed text (passed.written ++ left) = record {
+      lines = h.lines;
+      recording = h.recording;
+      report = sym passed.said_is;
+      in_order = run_in_order h.lines;
+    } in (passed.written, passed.wrote, (left, whole))
 
 pub ends_replayed : (text gathered piece left : List ℕ) (before now later : Option (List ℕ)) → Appends now later piece → piece ++ left ≡ gathered → left ≡ []
     → Ends text gathered before now → (written : List ℕ) × Appends before later written × IsReplayed text written
-ends_replayed text gathered piece left before now later wrote is none h = (
-  h.written ++ piece,
-  Appends-trans before now later h.written piece h.wrote wrote,
-  record {
-    lines = h.lines;
-    recording = h.recording;
-    report = sym (h.report_is ∙ ap (λ x. h.written ++ x) (sym is ∙ ap (λ x. piece ++ x) none ∙ append-nil piece));
-    in_order = run_in_order h.lines;
-  },
-)
+ends_replayed text gathered piece left before now later wrote is none h =
+    let passed = gathers_passed (report_text (run h.lines)) gathered piece left before now later wrote is h.gathers in (
+      passed.written,
+      passed.wrote,
+      record {
+        lines = h.lines;
+        recording = h.recording;
+        report = sym (gathers_all (report_text (run h.lines)) left before later none passed);
+        in_order = run_in_order h.lines;
+      },
+    )

@@ -4,8 +4,9 @@ use Rattle.std.proofs.lemmas.List.{length_push}
 use Rattle.rh_world.specs.declared.line.Line.{Line}
 use Rattle.rh_world.specs.declared.line.RecordKind.{RecordKind}
 use Rattle.rh_world.specs.declared.line.RecordKind.TheVariants.{Header, Direct}
-use Rattle.rh_world.specs.Recording.{IsLine, BeginsWith, FirstLine, Leads, RecordingText, FirstBad}
-use Rattle.rh_world.proofs.Recordings.{Leads-push, begins_same, first_shorter}
+use Rattle.rh_world.specs.Recording.{IsLine, BeginsWith, FirstLine, Leads, FirstBad}
+use Rattle.rh_world.proofs.Recordings.{Leads-push, begins_same, first_shorter, never_both}
+use Rattle.rh_cli.specs.Replay.{IsRecording}
 
 -- the lines before a place of the text, which is its beginning or has something behind it
 pub record Reads (text : List ℕ) (kind : RecordKind) (rest : List ℕ) (number : ℕ) : Type 0 where
@@ -35,7 +36,7 @@ reads_next text kind rest line behind number l some begins is h =
     }
 
 pub reads_all : (text : List ℕ) (kind : RecordKind) (rest line : List ℕ) (number : ℕ) (l : Line)
-    → BeginsWith rest line [] → IsLine kind line l → Reads text kind rest number → (lines : List Line) × RecordingText text lines
+    → BeginsWith rest line [] → IsLine kind line l → Reads text kind rest number → IsRecording text
 reads_all text kind rest line number l begins is h =
     let lines = h.before ++ l ∷ [] in (
       lines,
@@ -46,13 +47,14 @@ reads_all text kind rest line number l begins is h =
     )
 
 pub reads_bad : (text : List ℕ) (kind : RecordKind) (rest line behind : List ℕ) (number : ℕ) → BeginsWith rest line behind
-    → ((l : Line) → IsLine kind line l → ⊥) → Reads text kind rest number → FirstBad text number
-reads_bad text kind rest line behind number begins none h = record {
-  before = h.before;
-  kind = kind;
-  rest = rest;
-  read = h.read;
-  counted = h.counted;
-  here = h.here;
-  none = λ l more first. none l (subst (λ x. IsLine kind x l) (begins_same rest first.spelling line more behind first.begins begins).0 first.is_line);
-}
+    → ((l : Line) → IsLine kind line l → ⊥) → Reads text kind rest number → FirstBad text number × ¬ IsRecording text
+reads_bad text kind rest line behind number begins none h =
+    let bad : FirstBad text number = record {
+      before = h.before;
+      kind = kind;
+      rest = rest;
+      read = h.read;
+      counted = h.counted;
+      here = h.here;
+      none = λ l more first. none l (subst (λ x. IsLine kind x l) (begins_same rest first.spelling line more behind first.begins begins).0 first.is_line);
+    } in (bad, λ recording. never_both text recording.0 number recording.1 bad)

@@ -3,13 +3,14 @@ use Rattle.std.specs.Prelude.{◌≡◌, ℕ, List, [], ◌∷◌, ◌++◌, cod
 use Rattle.std.specs.declared.string.String.{String}
 use Rattle.std.specs.Global.{Global}
 use Rattle.rh_cli.specs.declared.form.Form.{Form}
-use Rattle.rh_cli.specs.declared.form.Form.TheVariants.{Replay, Help, Version}
+use Rattle.rh_cli.specs.declared.form.Form.TheVariants.{Replay, Show, Help, Version}
 use Rattle.rh_cli.specs.declared.status.Status.{Status}
 use Rattle.rh_cli.specs.declared.status.Status.TheVariants.{Done, Usage, BadInput, ReadFault, WriteFault, NoMemory, TooLong}
 
 -- the word that asks for it
 abbrev pub form_word : Form → List ℕ
 form_word Replay = codes "replay"
+form_word Show = codes "show"
 form_word Help = codes "--help"
 form_word Version = codes "--version"
 

@@ -9,6 +9,8 @@ ghost use Rattle.rh_cli.specs.Forms.{IsForm, form_word};
 pub enum Form {
     /// `replay`: a recording's report.
     Replay,
+    /// `show`: what the packets of lines of hex are.
+    Show,
     /// `--help`: what each word does.
     Help,
     /// `--version`: the program's version.
@@ -31,6 +33,7 @@ fn form_of_word(word: &str) -> Option<Form>
 {
     match word {
         "replay" => Some(Form::Replay),
+        "show" => Some(Form::Show),
         "--help" => Some(Form::Help),
         "--version" => Some(Form::Version),
         _ => None,

@@ -1,13 +1,18 @@
-//! The program: replays a recording and writes its report.
+//! The program: replays a recording and writes its report, or shows packets.
 #![tactic(auto)]
 
 mod form;
 mod lines;
+mod output;
 mod replay;
 mod run;
+mod show;
+#[cfg(test)]
+mod show_tests;
 mod status;
 #[cfg(test)]
 mod tests;
+mod word;
 
 use rh_io::{ReaderSource, WriterSink};
 use std::env;

@@ -9,23 +9,25 @@ const ROOM: usize = 1_000_000;
 // 24 bytes.
 const PDU: &str = "05000003100000001800000001000000aabbccddeeff0011";
 
-// What `replay` answers and writes of a text, where the calls with these numbers fail.
-fn replayed(
+// What the word answers and writes of a text, where the calls with these numbers fail.
+pub fn answered(
     rt: &HostRuntime,
+    word: &str,
     text: &[u8],
     reads: Vec<u64>,
     writes: Vec<u64>,
 ) -> Result<(Status, MemSink), Fail> {
-    let words = vec![in rt.alloc(); String::from_str(rt.alloc(), "replay")?]?;
+    let words = vec![in rt.alloc(); String::from_str(rt.alloc(), word)?]?;
     let mut input = MemSource::new(text.to_vec(rt.alloc())?, reads);
     let mut output = MemSink::new(rt.alloc(), ROOM, writes)?;
     let status = run(rt.alloc(), &words, &mut input, &mut output);
     Ok((status, output))
 }
 
-// What it answers and writes where nothing fails.
+// What `replay` answers and writes where nothing fails.
 fn replay(rt: &HostRuntime, text: &[u8]) -> Result<(Status, MemSink), Fail> {
-    replayed(rt, text, Vec::new(rt.alloc()), Vec::new(rt.alloc()))
+    let (reads, writes) = (Vec::new(rt.alloc()), Vec::new(rt.alloc()));
+    answered(rt, "replay", text, reads, writes)
 }
 
 // The PDU of this many bytes with call 1 whose body has the bytes 1, as hex digits.
@@ -195,7 +197,9 @@ fn words_in_no_form_are_usage(rt: HostRuntime) -> Result<(), Fail> {
     for words in [
         [].as_slice(),
         &["replays"],
+        &["Show"],
         &["replay", "replay"],
+        &["show", "-"],
         &["--help", "x"],
     ] {
         let mut given = Vec::new(rt.alloc());
@@ -272,35 +276,52 @@ fn a_sink_that_takes_one_byte_a_write_gets_the_whole_report(rt: HostRuntime) -> 
     Ok(())
 }
 
+// Whether the word tells each failing call, up to the first number that no call has: a failing read
+// with nothing written, and a failing write with a front of the output.
+pub fn tells_failures(
+    rt: &HostRuntime,
+    word: &str,
+    text: &[u8],
+    whole: &[u8],
+) -> Result<bool, Fail> {
+    let mut told = [0u64; 2];
+    for call in 1..100 {
+        let fails = vec![in rt.alloc(); call]?;
+        let (status, output) = answered(rt, word, text, fails, Vec::new(rt.alloc()))?;
+        if status == Status::Done && output.written() == whole {
+            break;
+        }
+        if status != Status::ReadFault || !output.written().is_empty() {
+            return Ok(false);
+        }
+        told[0] = call;
+    }
+    for call in 1..100 {
+        let fails = vec![in rt.alloc(); call]?;
+        let (status, output) = answered(rt, word, text, Vec::new(rt.alloc()), fails)?;
+        if status == Status::Done && output.written() == whole {
+            break;
+        }
+        if status != Status::WriteFault || !whole.starts_with(output.written()) {
+            return Ok(false);
+        }
+        told[1] = call;
+    }
+    Ok(told.iter().all(|&call| 0 < call && call < 99))
+}
+
 #[test]
 fn a_failing_input_or_output_is_told(rt: HostRuntime) -> Result<(), Fail> {
-    for call in 1..100 {
-        let fails = vec![in rt.alloc(); call]?;
-        let (status, output) = replayed(&rt, RECORDING.as_bytes(), fails, Vec::new(rt.alloc()))?;
-        if status == Status::Done {
-            assert!(rt; call > 1);
-            assert!(rt; output.written() == REPORT.as_bytes());
-            break;
-        }
-        assert_eq!(rt; status, Status::ReadFault);
-        assert!(rt; output.written().is_empty());
-    }
-    for call in 1..100 {
-        let fails = vec![in rt.alloc(); call]?;
-        let (status, output) = replayed(&rt, RECORDING.as_bytes(), Vec::new(rt.alloc()), fails)?;
-        if status == Status::Done {
-            assert!(rt; call > 1);
-            assert!(rt; output.written() == REPORT.as_bytes());
-            break;
-        }
-        assert_eq!(rt; status, Status::WriteFault);
-        assert!(rt; REPORT.as_bytes().starts_with(output.written()));
-    }
+    assert!(rt; tells_failures(&rt, "replay", RECORDING.as_bytes(), REPORT.as_bytes())?);
     Ok(())
 }
 
 #[test]
 fn the_program_tells_of_itself(rt: HostRuntime) -> Result<(), Fail> {
+    for word in ["replay", "show", "--help", "--version"] {
+        let line = format!(in rt.alloc(); "\n  rh_cli {word} ")?;
+        assert!(rt; HELP.contains(line.as_str()), "{word}");
+    }
     for (word, text) in [("--help", HELP), ("--version", "rh_cli 0.1.0\n")] {
         for (fails, status) in [(2, Status::Done), (1, Status::WriteFault)] {
             let words = vec![in rt.alloc(); String::from_str(rt.alloc(), word)?]?;

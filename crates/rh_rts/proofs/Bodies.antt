@@ -7,11 +7,11 @@ use Rattle.std.proofs.lemmas.List.{nil_from_length}
 use Rattle.rh_rts.specs.declared.command.Command.{Command}
 use Rattle.rh_rts.specs.declared.fault.RtsFault.{RtsFault}
 use Rattle.rh_rts.specs.declared.fault.RtsKind.TheVariants.{Left}
-use Rattle.rh_rts.specs.Commands.{spelling, spellings, AreCommands}
+use Rattle.rh_rts.specs.Commands.{spelling, spellings, AreCommands, IsBytes}
 use Rattle.rh_rts.specs.Refusals.{fault, length_of, command_fault, RestFault, BodyFault}
 use Rattle.rh_rts.specs.Showing.{command_of, listed, AreAll}
 use Rattle.rh_rts.proofs.InTurn.{or_else, body_fault}
-use Rattle.rh_rts.proofs.Fields.{IsBytes, IsBytes-drop}
+use Rattle.rh_rts.proofs.Fields.{IsBytes-drop}
 use Rattle.rh_rts.proofs.Standing.{stands}
 use Rattle.rh_rts.proofs.Reread.{again}
 

@@ -5,10 +5,10 @@ use Rattle.std.specs.declared.option.Option.{Option}
 use Rattle.std.proofs.lemmas.Bool.{eqb-true, eq-eqb, ltb-false, le-ltb}
 use Rattle.std.proofs.lemmas.List.{drop_more}
 use Rattle.std.proofs.lemmas.Nat.{le_bytes_2, from_le_bytes-to_le_bytes_2}
+use Rattle.rh_rts.specs.Commands.{IsBytes}
 use Rattle.rh_rts.specs.declared.fault.RtsFault.{RtsFault}
 use Rattle.rh_rts.specs.Packets.{le2, header_bytes, all_flags}
 use Rattle.rh_rts.specs.Refusals.{first_difference, header_like, short_at, frag_of, flags_of, count_of, length_fault, head_fault}
-use Rattle.rh_rts.proofs.Fields.{IsBytes}
 
 -- where no byte differs, the bytes begin so
 same_step : (at w x : ℕ) (want b : List ℕ) (t : Bool) → (x == w) ≡ t

@@ -11,3 +11,4 @@ pub mod Making
 pub mod Overs
 pub mod Encoded
 pub mod Exact
+pub mod Verdicts

@@ -3,11 +3,10 @@ use Rattle.std.proofs.Common.{◌≡◌, ℕ, ◌+◌, ◌≤◌, List, ◌++◌
 use Rattle.std.specs.Prelude.{None}
 use Rattle.std.proofs.lemmas.List.{length-drop}
 use Rattle.rh_rts.specs.declared.fault.RtsFault.{RtsFault}
-use Rattle.rh_rts.specs.Commands.{spellings}
+use Rattle.rh_rts.specs.Commands.{spellings, IsBytes}
 use Rattle.rh_rts.specs.Packets.{Parts, IsPacket, packet_bytes, header_bytes}
 use Rattle.rh_rts.specs.Refusals.{FirstFault, BodyFault, head_fault, frag_of, flags_of, count_of}
 use Rattle.rh_rts.specs.Showing.{listed, AreAll}
-use Rattle.rh_rts.proofs.Fields.{IsBytes}
 use Rattle.rh_rts.proofs.Heads.{is_head, head_bytes}
 
 -- the bytes are of this packet

@@ -6,10 +6,10 @@ use Rattle.std.proofs.lemmas.Bool.{ltb-false}
 use Rattle.std.proofs.lemmas.List.{drop-drop, length-drop, length-take-le}
 use Rattle.rh_rts.specs.declared.command.Command.{Command}
 use Rattle.rh_rts.specs.declared.fault.RtsFault.{RtsFault}
-use Rattle.rh_rts.specs.Commands.{le4, spelling, IsCommand, greatest_count}
+use Rattle.rh_rts.specs.Commands.{le4, spelling, IsCommand, greatest_count, IsBytes}
 use Rattle.rh_rts.specs.Refusals.{number_of, type_of, field_of, fixed_length, length_by, length_of, field_fault, command_fault, end_fault}
 use Rattle.rh_rts.specs.Showing.{command_of, command_by}
-use Rattle.rh_rts.proofs.Fields.{IsBytes, IsBytes-drop, front, number_front, number_below, two_front}
+use Rattle.rh_rts.proofs.Fields.{IsBytes-drop, front, number_front, number_below, two_front}
 
 -- what is known where nothing is wrong
 pub record Fine (at k : ℕ) (b : List ℕ) : Type 0 where

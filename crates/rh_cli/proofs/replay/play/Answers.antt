@@ -3,7 +3,7 @@ use Rattle.std.proofs.Common.{◌≢◌, [], length, string_bytes, ap, arith, re
 use Rattle.std.proofs.lemmas.Bool.Decides.{nat_tests}
 use Rattle.rh_world.specs.declared.line.RecordKind.TheVariants.{Direct}
 use Rattle.rh_cli.proofs.Results.{at_error}
-use Rattle.rh_cli.proofs.Playing.{plays_first, plays_line, plays_passed, plays_begun, begun_further, some_line, ends_with, ends_replayed, ends_begun}
+use Rattle.rh_cli.proofs.Playing.{nothing_yet, plays_first, plays_line, plays_passed, plays_begun, begun_further, some_line, ends_with, ends_replayed, ends_begun}
 use Rattle.rh_cli.proofs.replay.play.Goals as goal
 
 pub lines-init : goal.lines-init
@@ -12,6 +12,9 @@ lines-init g c = record {
   cleared = c.new-report.ensures;
   faults = omega arith;
 }
+
+pub returns-in_err-world-clause-err : goal.returns-in_err-world-clause-err
+returns-in_err-world-clause-err g c = at_error c.from_residual.result _ (nothing_yet c.args.text.now (g.W.Sink.written c.args.output.now) c.requires.recording)
 
 pub play_line-requires-clause-line : goal.play_line-requires-clause-line
 play_line-requires-clause-line g c =

@@ -1,5 +1,9 @@
 use Rattle.rh_rts.proofs.OneReading.{one_packet, no_longer, one_fault, never_both}
+use Rattle.rh_rts.proofs.Verdicts.{some_verdict}
 use Rattle.rh_rts.proofs.laws.one_packet.Goals as goal
+
+pub returns-clause-verdict : goal.returns-clause-verdict
+returns-clause-verdict c = λ bytes fits. some_verdict bytes fits
 
 pub returns-clause-packet : goal.returns-clause-packet
 returns-clause-packet c = λ a b p q same. one_packet a b p q same

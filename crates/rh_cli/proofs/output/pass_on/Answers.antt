@@ -2,7 +2,7 @@
 use Rattle.std.proofs.Common.{sym, ◌∙◌, take, drop}
 use Rattle.std.proofs.lemmas.List.{take-append-drop}
 use Rattle.rh_cli.proofs.Results.{at_error}
-use Rattle.rh_cli.proofs.replay.pass_on.Goals as goal
+use Rattle.rh_cli.proofs.output.pass_on.Goals as goal
 
 pub returns-in_err-write_whole-clause-err : goal.returns-in_err-write_whole-clause-err
 returns-in_err-write_whole-clause-err g c =

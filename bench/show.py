@@ -1,0 +1,41 @@
+#!/usr/bin/env python3
+"""Measures how fast 64 MB of packets in hex are shown: RTS packets, long paddings, other PDUs.
+
+The program is crates/rh_cli/out/rh_cli, as `./rh_cli --version` leaves it.
+"""
+import itertools
+import sys
+
+from measuring import measure, write_pieces
+from packets_of import mixed_packets, number, packet
+
+# The program reads at most 67,108,864.
+TEXT_BYTES = 64_000_000
+GREATEST_PADDING = 65_507
+
+
+def padded_packets():
+    """RTS packets of the greatest length, each with one padding."""
+    for place in itertools.count():
+        yield packet(0, [number(8) + number(GREATEST_PADDING) + bytes([place % 256]) * GREATEST_PADDING])
+
+
+def small_pdus():
+    """Request PDUs that are a header alone."""
+    for call in itertools.count():
+        yield bytes([5, 0, 0, 3, 16, 0, 0, 0, 16, 0, 0, 0]) + number(call)
+
+
+def writer(packets):
+    """What writes the packets to a file as lines of hex."""
+    lines = lambda: (bytes(packet.hex() + "\n", "ascii") for packet in packets())
+    return lambda path: write_pieces(path, lines(), TEXT_BYTES)
+
+
+if __name__ == "__main__":
+    cases = [
+        ("mixed_packets", "show", writer(mixed_packets)),
+        ("padded_packets", "show", writer(padded_packets)),
+        ("small_pdus", "show", writer(small_pdus)),
+    ]
+    sys.exit(measure(__doc__, "crates/rh_cli/out/rh_cli", cases))

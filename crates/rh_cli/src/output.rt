@@ -1,0 +1,63 @@
+//! Writes what was gathered in pieces.
+
+ghost use Rattle.std.specs.Prelude.{◌≡◌, ◌≤◌, ◌++◌, ℕ, List, OnOk, OnErr, [], string_bytes};
+ghost use Rattle.std.specs.Io.KnownBytes.{Appends};
+ghost use Rattle.rh_io.specs.Counts.{Rose};
+
+use rh_io::{Sink, SinkFailed, write_whole};
+use std::alloc::AllocError;
+
+/// How many bytes are gathered before they are written.
+pub const PIECE: usize = 65_536;
+
+/// Why an output is not whole.
+#[derive(Clone, Copy, Debug, PartialEq, Eq)]
+pub enum Unfinished {
+    /// The output failed.
+    WriteFault,
+    /// There was no memory.
+    NoMemory,
+}
+
+impl From<AllocError> for Unfinished {
+    ghost use Rattle.std.specs.Prelude.{◌≡◌};
+    ghost use Rattle.rh_cli.specs.declared.output.Unfinished.TheVariants.{NoMemory};
+
+    ghost from_gives = { λ _ fault. fault ≡ NoMemory };
+
+    fn from(_: AllocError) -> Unfinished {
+        Unfinished::NoMemory
+    }
+}
+
+impl From<SinkFailed> for Unfinished {
+    ghost use Rattle.std.specs.Prelude.{◌≡◌};
+    ghost use Rattle.rh_cli.specs.declared.output.Unfinished.TheVariants.{WriteFault};
+
+    ghost from_gives = { λ _ fault. fault ≡ WriteFault };
+
+    fn from(_: SinkFailed) -> Unfinished {
+        Unfinished::WriteFault
+    }
+}
+
+/// Writes what was gathered where that is at least so many bytes, and keeps its room for more.
+pub fn pass_on<W: Sink>(
+    gathered: &mut String,
+    least: usize,
+    output: &mut W,
+) -> Result<(), SinkFailed>
+    ensures ok { OnOk result ((piece : List ℕ) × Appends (W.written output.old) (W.written output.new) piece
+        × (piece ++ string_bytes gathered.new ≡ string_bytes gathered.old)) }
+    ensures all { OnOk result (least ≡ 0 → string_bytes gathered.new ≡ []) }
+    ensures err { OnErr result ((piece : List ℕ) × (behind : List ℕ) × Appends (W.written output.old) (W.written output.new) piece
+        × (string_bytes gathered.old ≡ piece ++ behind)) }
+    ensures failed { OnErr result (Rose (W.faults output.old) (W.faults output.new)) }
+    ensures faults { W.faults output.old ≤ W.faults output.new }
+{
+    if gathered.len() >= least {
+        write_whole(output, gathered.as_bytes())?;
+        gathered.clear();
+    }
+    Ok(())
+}

@@ -1,0 +1,14 @@
+//! Packets as text: lines of hex are read, and each packet is told in one line.
+#![tactic(auto)]
+
+mod commands;
+mod digits;
+pub mod laws;
+pub mod reader;
+pub mod showing;
+#[cfg(test)]
+mod tests;
+
+pub use laws::one_text;
+pub use reader::LineReader;
+pub use showing::show_packet;
