@@ -1,5 +1,6 @@
 -- hex digits: they are ASCII, and the digits of bytes stand end to end
-use Rattle.std.proofs.Common.{◌≡◌, ℕ, ◌<◌, ◌+◌, ◌-◌, ◌/◌, ◌%◌, List, [], ◌∷◌, ◌++◌, take, drop, slice_index, length, refl, sym, ap, ◌∙◌, append_assoc, arith, Bool, true, nat_lt}
+use Rattle.std.proofs.Common.{◌≡◌, ℕ, ◌<◌, ◌+◌, ◌-◌, ◌/◌, ◌%◌, Bool, true, nat_lt, List, [], ◌∷◌, ◌++◌}
+use Rattle.std.proofs.Common.{take, drop, slice_index, length, refl, sym, ap, ◌∙◌, append_assoc, arith}
 use Rattle.std.specs.Prelude.{IsAscii, codes, if◌then◌else◌, ◌&&◌}
 use Rattle.std.proofs.lemmas.Bool.{and_parts}
 use Rattle.std.proofs.lemmas.Bool.Decides.{nat_tests}
@@ -36,7 +37,8 @@ digits_ascii (b ∷ bytes) =
     (digit_ascii (b / 16 % 16) (omega arith)) low
 
 -- a group of digits, a hyphen and a text behind it
-behind_group : (at count : ℕ) (bytes more : List ℕ) → IsAscii more → IsAscii (group at count bytes ++ (codes "-" ++ more))
+behind_group : (at count : ℕ) (bytes more : List ℕ) → IsAscii more
+    → IsAscii (group at count bytes ++ (codes "-" ++ more))
 behind_group at count bytes more h =
     IsAscii-append (group at count bytes) (codes "-" ++ more) (digits_ascii (take count (drop at bytes)))
     (IsAscii-cons 45 more (omega arith) h)
@@ -49,20 +51,24 @@ cookie_ascii b =
     (behind_group 8 2 b _ (digits_ascii (take 6 (drop 10 b))))))
 
 -- the digits of two pieces
-pub hex_append : (front behind : List ℕ) → encode_lower (front ++ behind) ≡ encode_lower front ++ encode_lower behind
+pub hex_append : (front behind : List ℕ)
+    → encode_lower (front ++ behind) ≡ encode_lower front ++ encode_lower behind
 unfolding encode_with
 hex_append [] behind = refl
 hex_append (b ∷ front) behind =
-    ap (λ (x : List ℕ). slice_index lower_digits (b / 16) ∷ slice_index lower_digits (b % 16) ∷ x) (hex_append front behind)
+    ap (λ (x : List ℕ). slice_index lower_digits (b / 16) ∷ slice_index lower_digits (b % 16) ∷ x)
+    (hex_append front behind)
 
 hex_nil : encode_lower [] ≡ []
 unfolding encode_with
 hex_nil = refl
 
 -- where nothing is left, all is written
-pub no_piece_left : (whole before rest : List ℕ) → before ++ encode_lower rest ≡ whole → length rest ≡ 0 → before ≡ whole
+pub no_piece_left : (whole before rest : List ℕ) → before ++ encode_lower rest ≡ whole → length rest ≡ 0
+    → before ≡ whole
 no_piece_left whole before rest left none =
-    sym (append-nil before) ∙ sym (ap (λ (x : List ℕ). before ++ x) (ap encode_lower (nil_from_length rest none) ∙ hex_nil)) ∙ left
+    let nothing : encode_lower rest ≡ [] = ap encode_lower (nil_from_length rest none) ∙ hex_nil in
+    sym (append-nil before) ∙ sym (ap (λ (x : List ℕ). before ++ x) nothing) ∙ left
 
 -- one piece more is written
 pub one_piece_more : (whole before after rest piece behind : List ℕ) → before ++ encode_lower rest ≡ whole

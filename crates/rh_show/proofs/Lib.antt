@@ -3,3 +3,4 @@ mod Ascii
 mod FirstBytes
 pub mod Splits
 pub mod Shows
+pub mod Telling

@@ -45,8 +45,8 @@ ShowText-push (first ∷ packets) text b line (line0, more, is0, text0, rest) is
 )
 
 -- packets behind packets
-pub ShowText-append : (packets others : List (List ℕ)) (text more : List ℕ) → ShowText packets text → ShowText others more
-    → ShowText (packets ++ others) (text ++ more)
+pub ShowText-append : (packets others : List (List ℕ)) (text more : List ℕ)
+    → ShowText packets text → ShowText others more → ShowText (packets ++ others) (text ++ more)
 ShowText-append [] others text more h k = subst (λ t. ShowText others (t ++ more)) (sym h) k
 ShowText-append (first ∷ packets) others text more (line, behind, is, same, rest) k = (
   line,

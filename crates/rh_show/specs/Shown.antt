@@ -1,5 +1,6 @@
 -- packets as text: one line each
-use Rattle.std.specs.Prelude.{◌≡◌, ℕ, ◌≤◌, ◌⊎◌, ◌/◌, ◌%◌, List, [], ◌∷◌, ◌++◌, length, slice_index, codes, Some, None, Ok, Err}
+use Rattle.std.specs.Prelude.{◌≡◌, ℕ, ◌≤◌, ◌⊎◌, ◌/◌, ◌%◌, List, [], ◌∷◌, ◌++◌, length, slice_index, codes}
+use Rattle.std.specs.Prelude.{Some, None, Ok, Err}
 use Rattle.std.specs.declared.option.Option.{Option}
 use Rattle.std.specs.declared.result.Result.{Result}
 use Rattle.std.specs.Fmt.{decimal}
@@ -21,7 +22,7 @@ use Rattle.rh_world.specs.Report.{pdu_fault_text}
 
 -- ---- an RTS packet (MS-RPCH 2.2.3.6)
 
--- the flags as four hex digits
+-- the flags as four hex digits in lower case
 abbrev pub flags_text : ℕ → List ℕ
 flags_text flags = encode_lower (flags / 256 ∷ flags % 256 ∷ [])
 
@@ -43,17 +44,19 @@ command_name (commands.AssociationGroupId _) = codes "AssociationGroupId"
 command_name (commands.Destination _) = codes "Destination"
 command_name (commands.PingTrafficSentNotify _) = codes "PingTrafficSentNotify"
 
--- a value: a space before it
+-- a number in decimal, with a space before it
 abbrev pub number_text : ℕ → List ℕ
 number_text n = codes " " ++ decimal n
 
+-- a cookie or a group's id, with a space before it
 abbrev pub cookie_value : List ℕ → List ℕ
 cookie_value bytes = codes " " ++ text_of_cookie bytes
 
+-- bytes as hex digits, with a space before them
 abbrev pub bytes_text : List ℕ → List ℕ
 bytes_text bytes = codes " " ++ encode_lower bytes
 
--- bytes of which there may be none
+-- the bytes of a padding, or a hyphen where there are none
 abbrev pub padding_text : List ℕ → List ℕ
 padding_text [] = codes " -"
 padding_text (b ∷ bytes) = bytes_text (b ∷ bytes)
@@ -146,4 +149,5 @@ ShownAs b text = (IsRts b × RtsText b text) ⊎ ((¬ IsRts b) × (text ≡ pdu_
 abbrev pub ShowText : List (List ℕ) → List ℕ → Type 0
 ShowText [] text = text ≡ []
 ShowText (b ∷ packets) text =
-    (line : List ℕ) × (more : List ℕ) × ShownAs b line × (text ≡ line ++ 10 ∷ more) × ShowText packets more
+    (line : List ℕ) × (more : List ℕ)
+    × ShownAs b line × (text ≡ line ++ 10 ∷ more) × ShowText packets more

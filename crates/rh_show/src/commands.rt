@@ -2,9 +2,9 @@
 
 ghost use Rattle.std.specs.Prelude.{◌≡◌, ◌++◌, OnOk, codes, string_bytes};
 ghost use Rattle.rh_rts.specs.Showing.{shown};
-ghost use Rattle.rh_show.specs.Shown.{address_text, bytes_text, command_name, command_text, cookie_value};
-ghost use Rattle.rh_show.specs.Shown.{kind_text, number_text, packet_text, padding_text, rts_fault_text};
-ghost use Rattle.rh_show.specs.Shown.{values_text};
+ghost use Rattle.rh_show.specs.Shown.{address_text, bytes_text, command_name, command_text};
+ghost use Rattle.rh_show.specs.Shown.{cookie_value, kind_text, number_text, packet_text};
+ghost use Rattle.rh_show.specs.Shown.{padding_text, rts_fault_text, values_text};
 
 use crate::digits::{write_cookie, write_hex};
 use rh_rts::{Address4or16, CommandRef, Cookie, RtsFault, RtsKind, View};
@@ -43,7 +43,8 @@ fn write_number(number: u32, out: &mut String) -> Result<(), AllocError>
 
 /// Appends the text of a cookie, with a space before it.
 fn write_id(cookie: &Cookie, out: &mut String) -> Result<(), AllocError>
-    ensures { OnOk result (string_bytes out.new ≡ string_bytes out.old ++ cookie_value cookie.now.0) }
+    ensures { OnOk result (string_bytes out.new
+        ≡ string_bytes out.old ++ cookie_value cookie.now.0) }
 {
     out.push_str(" ")?;
     write_cookie(cookie, out)
@@ -69,7 +70,8 @@ fn write_padding(bytes: &[u8], out: &mut String) -> Result<(), AllocError>
 
 /// Appends the type of an address and its bytes.
 fn write_address(address: &Address4or16, out: &mut String) -> Result<(), AllocError>
-    ensures { OnOk result (string_bytes out.new ≡ string_bytes out.old ++ address_text address.now) }
+    ensures { OnOk result (string_bytes out.new
+        ≡ string_bytes out.old ++ address_text address.now) }
 {
     match address {
         Address4or16::V4(bytes) => {
@@ -85,7 +87,8 @@ fn write_address(address: &Address4or16, out: &mut String) -> Result<(), AllocEr
 
 /// Appends the values of a command.
 fn write_values(command: CommandRef<'_>, out: &mut String) -> Result<(), AllocError>
-    ensures { OnOk result (string_bytes out.new ≡ string_bytes out.old ++ values_text (shown command.entry)) }
+    ensures { OnOk result (string_bytes out.new
+        ≡ string_bytes out.old ++ values_text (shown command.entry)) }
 {
     match command {
         CommandRef::ReceiveWindowSize(number)

@@ -51,7 +51,8 @@ pub fn write_hex(bytes: &[u8], out: &mut String) -> Result<(), AllocError>
 
 /// Appends the text of a cookie.
 pub fn write_cookie(cookie: &Cookie, out: &mut String) -> Result<(), AllocError>
-    ensures { OnOk result (string_bytes out.new ≡ string_bytes out.old ++ text_of_cookie cookie.now.0) }
+    ensures { OnOk result (string_bytes out.new
+        ≡ string_bytes out.old ++ text_of_cookie cookie.now.0) }
 {
     let mut room = [0; COOKIE_TEXT_LEN];
     cookie_text(cookie, &mut room);

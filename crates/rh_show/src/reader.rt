@@ -29,7 +29,8 @@ impl LineReader {
 
     /// The 1 to 65,535 bytes that the line spells, in hex digits of either case.
     ///
-    /// The line is without the LF that ends it. `None` is answered exactly where it spells no such bytes.
+    /// The line is without the LF that ends it. `None` is answered exactly where it spells no such
+    /// bytes. No memory is taken.
     pub fn read(&mut self, line: &[u8]) -> Option<&[u8]>
         ensures { MatchOption result ((bytes : List ℕ) → ¬ IsPacketHex line.now bytes)
             (λ bytes. IsPacketHex line.now bytes.now) }

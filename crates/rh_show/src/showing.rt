@@ -15,7 +15,8 @@ use std::fmt::Write;
 
 /// Appends an RTS packet, or the first part that is wrong.
 fn write_rts(bytes: &[u8], out: &mut String) -> Result<(), AllocError>
-    ensures { OnOk result ((text : List ℕ) × RtsText bytes.now text × (string_bytes out.new ≡ string_bytes out.old ++ text)) }
+    ensures { OnOk result ((text : List ℕ) × RtsText bytes.now text
+        × (string_bytes out.new ≡ string_bytes out.old ++ text)) }
 {
     match view(bytes) {
         Ok(packet) => write_packet(&packet, out),
@@ -51,7 +52,8 @@ fn write_pdu(bytes: &[u8], out: &mut String) -> Result<(), AllocError>
 
 /// Appends the text that tells the bytes.
 fn write_shown(bytes: &[u8], out: &mut String) -> Result<(), AllocError>
-    ensures { OnOk result ((text : List ℕ) × ShownAs bytes.now text × (string_bytes out.new ≡ string_bytes out.old ++ text)) }
+    ensures { OnOk result ((text : List ℕ) × ShownAs bytes.now text
+        × (string_bytes out.new ≡ string_bytes out.old ++ text)) }
 {
     if bytes.len() >= HEADER_LEN && bytes[2] == RTS {
         write_rts(bytes, out)
@@ -62,9 +64,11 @@ fn write_shown(bytes: &[u8], out: &mut String) -> Result<(), AllocError>
 
 /// Appends the one line that tells the bytes, with LF at its end.
 ///
-/// An RTS packet is told with its flags and each command with its values, or its first fault with the
-/// place; any other PDU with its PTYPE, frag_length and call_id, or its fault (MS-RPCH 2.2.3.6,
-/// C706 12.6.3.1). Fails where there is no memory, and a part of the line may then stand in `out`.
+/// An RTS packet, which has a whole header of PTYPE 20, is told with its flags and each command with
+/// its values, or by its first fault and the fault's place (MS-RPCH 2.2.3.6). Any other PDU is told
+/// with its PTYPE, frag_length and call_id, or by its fault (C706 12.6.3.1).
+///
+/// Fails where there is no memory, and a part of the line may then stand in `out`.
 pub fn show_packet(bytes: &[u8], out: &mut String) -> Result<(), AllocError>
     ensures { OnOk result ((line : List ℕ) × ShownAs bytes.now line
         × (string_bytes out.new ≡ string_bytes out.old ++ (line ++ 10 ∷ []))) }

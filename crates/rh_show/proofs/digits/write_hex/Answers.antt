@@ -11,5 +11,6 @@ pieces-preserved c =
 
 pub returns : goal.returns
 returns c =
-    let none : length c.pieces.rest.now ≡ 0 = grind (arith, nat_tests, c.is_empty.ensures, c.pieces-test.false) in
+    let none : length c.pieces.rest.now ≡ 0 =
+    grind (arith, nat_tests, c.is_empty.ensures, c.pieces-test.false) in
     no_piece_left _ (string_bytes c.pieces.out) c.pieces.rest.now c.pieces.invariant none

@@ -15,4 +15,6 @@ unreachable-requires-in_default-read c =
     ∙ c.in_default-read.ensures)
 
 pub returns : goal.returns
-returns c = c.in-Ok.ensures.1 ∙ front_header c.in-Some.head.now c.args.bytes.now c.in-Some.ensures.cases.same
+returns c =
+    c.in-Ok.ensures.1
+    ∙ front_header c.in-Some.head.now c.args.bytes.now c.in-Some.ensures.cases.same
