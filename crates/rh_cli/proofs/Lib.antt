@@ -2,6 +2,5 @@ pub mod Results
 pub mod Reading
 pub mod Playing
 pub mod Gathering
-pub mod Telling
 pub mod Packets
 pub mod Showing

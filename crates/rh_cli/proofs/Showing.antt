@@ -12,7 +12,7 @@ use Rattle.rh_cli.specs.Show.{ArePackets, IsShown}
 use Rattle.rh_cli.specs.Words.{IsBegun}
 use Rattle.rh_cli.proofs.Gathering.{Gathers, gathers_none, gathers_more, gathers_passed, gathers_all}
 use Rattle.rh_cli.proofs.Packets.{first_packet}
-use Rattle.rh_cli.proofs.Telling.{show_text}
+use Rattle.rh_show.proofs.Telling.{show_text}
 
 -- the packets done and those left, and the text that shows those done
 pub record Shows (text rest gathered : List ℕ) (before now : Option (List ℕ)) : Type 0 where
