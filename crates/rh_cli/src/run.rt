@@ -25,7 +25,7 @@ pub const HELP: &str =
     "rh_cli replays recordings of RPC over HTTP version 2 (MS-RPCH), and shows its packets.
 
   rh_cli replay       reads a recording from standard input, writes its report to standard output
-  rh_cli show         reads lines of hex, one packet each, writes one line that tells each packet
+  rh_cli show         reads lines of hex, one packet each, and writes one line for each packet
   rh_cli --help       writes this page
   rh_cli --version    writes the name and the version
 
