@@ -19,23 +19,94 @@ abbrev pub address_bytes : Address4or16 → List ℕ
 address_bytes (V4 bytes) = le4 0 ++ bytes
 address_bytes (V6 bytes) = le4 1 ++ bytes
 
+-- ---- the types of commands
+
+abbrev pub receive_window_size : ℕ
+receive_window_size = 0
+
+abbrev pub flow_control_ack : ℕ
+flow_control_ack = 1
+
+abbrev pub connection_timeout : ℕ
+connection_timeout = 2
+
+abbrev pub cookie : ℕ
+cookie = 3
+
+abbrev pub channel_lifetime : ℕ
+channel_lifetime = 4
+
+abbrev pub client_keepalive : ℕ
+client_keepalive = 5
+
+abbrev pub version : ℕ
+version = 6
+
+abbrev pub empty : ℕ
+empty = 7
+
+abbrev pub padding : ℕ
+padding = 8
+
+abbrev pub negative_ance : ℕ
+negative_ance = 9
+
+abbrev pub ance : ℕ
+ance = 10
+
+abbrev pub client_address : ℕ
+client_address = 11
+
+abbrev pub association_group_id : ℕ
+association_group_id = 12
+
+abbrev pub destination : ℕ
+destination = 13
+
+abbrev pub ping_traffic_sent_notify : ℕ
+ping_traffic_sent_notify = 14
+
+-- the type of a command
+abbrev pub kind_of : Command → ℕ
+kind_of (commands.ReceiveWindowSize n) = receive_window_size
+kind_of (commands.FlowControlAck received window of) = flow_control_ack
+kind_of (commands.ConnectionTimeout n) = connection_timeout
+kind_of (commands.Cookie c) = cookie
+kind_of (commands.ChannelLifetime n) = channel_lifetime
+kind_of (commands.ClientKeepalive n) = client_keepalive
+kind_of (commands.Version n) = version
+kind_of commands.Empty = empty
+kind_of (commands.Padding bytes) = padding
+kind_of commands.NegativeAnce = negative_ance
+kind_of commands.Ance = ance
+kind_of (commands.ClientAddress address behind) = client_address
+kind_of (commands.AssociationGroupId c) = association_group_id
+kind_of (commands.Destination n) = destination
+kind_of (commands.PingTrafficSentNotify n) = ping_traffic_sent_notify
+
+-- ---- the bytes of commands
+
+-- the bytes of the fields of a command
+abbrev pub fields : Command → List ℕ
+fields (commands.ReceiveWindowSize n) = le4 n
+fields (commands.FlowControlAck received window cookie) = le4 received ++ (le4 window ++ cookie.0)
+fields (commands.ConnectionTimeout n) = le4 n
+fields (commands.Cookie cookie) = cookie.0
+fields (commands.ChannelLifetime n) = le4 n
+fields (commands.ClientKeepalive n) = le4 n
+fields (commands.Version n) = le4 n
+fields commands.Empty = []
+fields (commands.Padding bytes) = le4 (length bytes) ++ bytes
+fields commands.NegativeAnce = []
+fields commands.Ance = []
+fields (commands.ClientAddress address padding) = address_bytes address ++ padding
+fields (commands.AssociationGroupId cookie) = cookie.0
+fields (commands.Destination n) = le4 n
+fields (commands.PingTrafficSentNotify n) = le4 n
+
 -- the bytes of a command: its type and its fields
 unfoldable pub spelling : Command → List ℕ
-spelling (commands.ReceiveWindowSize n) = le4 0 ++ le4 n
-spelling (commands.FlowControlAck received window cookie) = le4 1 ++ (le4 received ++ (le4 window ++ cookie.0))
-spelling (commands.ConnectionTimeout n) = le4 2 ++ le4 n
-spelling (commands.Cookie cookie) = le4 3 ++ cookie.0
-spelling (commands.ChannelLifetime n) = le4 4 ++ le4 n
-spelling (commands.ClientKeepalive n) = le4 5 ++ le4 n
-spelling (commands.Version n) = le4 6 ++ le4 n
-spelling commands.Empty = le4 7
-spelling (commands.Padding bytes) = le4 8 ++ (le4 (length bytes) ++ bytes)
-spelling commands.NegativeAnce = le4 9
-spelling commands.Ance = le4 10
-spelling (commands.ClientAddress address padding) = le4 11 ++ (address_bytes address ++ padding)
-spelling (commands.AssociationGroupId cookie) = le4 12 ++ cookie.0
-spelling (commands.Destination n) = le4 13 ++ le4 n
-spelling (commands.PingTrafficSentNotify n) = le4 14 ++ le4 n
+spelling c = le4 (kind_of c) ++ fields c
 
 -- the bytes of commands, one after the other
 abbrev pub spellings : List Command → List ℕ

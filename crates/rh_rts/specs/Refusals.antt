@@ -8,6 +8,7 @@ use Rattle.rh_rts.specs.declared.fault.RtsFault.{RtsFault}
 use Rattle.rh_rts.specs.declared.fault.RtsKind.{RtsKind}
 use Rattle.rh_rts.specs.declared.fault.RtsKind.TheVariants.{BadHeader, BadLength, BadFlags, CutShort, BadType, BadAddressType, BadCount, Left}
 use Rattle.rh_rts.specs.Commands.{spellings, AreCommands, greatest_count, greatest_destination}
+use Rattle.rh_rts.specs.Commands.{padding, client_address, destination, ping_traffic_sent_notify}
 use Rattle.rh_rts.specs.Packets.{header_length, all_flags}
 
 -- this is wrong, behind so many bytes
@@ -68,7 +69,7 @@ field_of b = number_of (drop 4 b)
 
 -- the types are 0 to 14
 abbrev pub greatest_type : ℕ
-greatest_type = 14
+greatest_type = ping_traffic_sent_notify
 
 -- how many bytes each type has, as far as no field tells it
 abbrev pub fixed_lengths : List ℕ
@@ -81,8 +82,8 @@ fixed_length type = slice_index fixed_lengths type
 -- the bytes that a ConformanceCount or an AddressType asks for
 abbrev pub asked_length : ℕ → ℕ → ℕ
 asked_length type field =
-    if type == 8 then field
-    else (if type == 11 then (if field == 0 then 16 else 28) else 0)
+    if type == padding then field
+    else (if type == client_address then (if field == 0 then 16 else 28) else 0)
 
 -- the bytes of a command of this type, with this number behind it
 abbrev pub length_by : ℕ → ℕ → ℕ
@@ -95,9 +96,9 @@ length_of b = length_by (type_of b) (field_of b)
 -- the greatest number behind a type that has a range, and how a greater one is told
 abbrev pub greatest_field : ℕ → Option (ℕ × RtsKind)
 greatest_field type =
-    if type == 11 then Some (1, BadAddressType)
-    else (if type == 8 then Some (greatest_count, BadCount)
-    else (if type == 13 then Some (greatest_destination, BadType) else None))
+    if type == client_address then Some (1, BadAddressType)
+    else (if type == padding then Some (greatest_count, BadCount)
+    else (if type == destination then Some (greatest_destination, BadType) else None))
 
 -- a number above this greatest one is wrong
 abbrev pub above : ℕ → ℕ → Option (ℕ × RtsKind) → Option RtsFault

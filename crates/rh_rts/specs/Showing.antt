@@ -8,7 +8,10 @@ use Rattle.rh_rts.specs.declared.command.Command.TheVariants as commands
 use Rattle.rh_rts.specs.declared.command.CommandRef.{CommandRef}
 use Rattle.rh_rts.specs.declared.command.CommandRef.TheVariants as refs
 use Rattle.rh_rts.specs.declared.fault.RtsFault.{RtsFault}
-use Rattle.rh_rts.specs.Commands.{spellings, AreCommands}
+use Rattle.rh_rts.specs.Commands.{spellings, AreCommands, receive_window_size, flow_control_ack}
+use Rattle.rh_rts.specs.Commands.{connection_timeout, cookie, channel_lifetime, client_keepalive, version}
+use Rattle.rh_rts.specs.Commands.{empty, padding, negative_ance, ance, client_address}
+use Rattle.rh_rts.specs.Commands.{association_group_id, destination}
 use Rattle.rh_rts.specs.Refusals.{command_fault, type_of, field_of, number_of, length_of}
 
 -- a command whose padding stands elsewhere
@@ -43,15 +46,15 @@ address_of b =
 -- the command in front, of a type that has a number alone or nothing
 abbrev pub plain_of : ℕ → ℕ → Command
 plain_of type field =
-    if type == 0 then commands.ReceiveWindowSize field
-    else (if type == 2 then commands.ConnectionTimeout field
-    else (if type == 4 then commands.ChannelLifetime field
-    else (if type == 5 then commands.ClientKeepalive field
-    else (if type == 6 then commands.Version field
-    else (if type == 7 then commands.Empty
-    else (if type == 9 then commands.NegativeAnce
-    else (if type == 10 then commands.Ance
-    else (if type == 13 then commands.Destination field
+    if type == receive_window_size then commands.ReceiveWindowSize field
+    else (if type == connection_timeout then commands.ConnectionTimeout field
+    else (if type == channel_lifetime then commands.ChannelLifetime field
+    else (if type == client_keepalive then commands.ClientKeepalive field
+    else (if type == version then commands.Version field
+    else (if type == empty then commands.Empty
+    else (if type == negative_ance then commands.NegativeAnce
+    else (if type == ance then commands.Ance
+    else (if type == destination then commands.Destination field
     else commands.PingTrafficSentNotify field))))))))
 
 -- the two numbers and the cookie of an acknowledgement
@@ -61,11 +64,11 @@ ack_of b = commands.FlowControlAck (field_of b) (number_of (drop 8 b)) (cookie_a
 -- the command in front, if it is of this type
 abbrev pub command_by : ℕ → List ℕ → Command
 command_by type b =
-    if type == 1 then ack_of b
-    else (if type == 3 then commands.Cookie (cookie_at 4 b)
-    else (if type == 8 then commands.Padding (take (field_of b) (drop 8 b))
-    else (if type == 11 then address_of b
-    else (if type == 12 then commands.AssociationGroupId (cookie_at 4 b)
+    if type == flow_control_ack then ack_of b
+    else (if type == cookie then commands.Cookie (cookie_at 4 b)
+    else (if type == padding then commands.Padding (take (field_of b) (drop 8 b))
+    else (if type == client_address then address_of b
+    else (if type == association_group_id then commands.AssociationGroupId (cookie_at 4 b)
     else plain_of type (field_of b)))))
 
 -- the command in front

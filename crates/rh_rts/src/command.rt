@@ -118,7 +118,22 @@ impl Command {
 
 impl CommandRef<'_> {
     ghost use Rattle.std.specs.Prelude.{◌≡◌, IfOk};
+    ghost use Rattle.rh_rts.specs.Commands.{kind_of};
     ghost use Rattle.rh_rts.specs.Showing.{shown};
+
+    /// The type of the command (MS-RPCH 2.2.3.5): 0 to 14.
+    pub fn kind(&self) -> u32
+        ensures { result ≡ kind_of (shown self.now) }
+    {
+        macro_rules! rows {
+            ($($kind:literal $name:ident $layout:ident;)*) => {
+                match self {
+                    $(CommandRef::$name { .. } => $kind,)*
+                }
+            };
+        }
+        layouts!(rows)
+    }
 
     /// The command, with memory of its own for a padding.
     pub fn owned(self, alloc: Global) -> Result<Command, AllocError>

@@ -140,7 +140,7 @@ fn bad_destination(commands: &[Command]) -> Option<u32>
 }
 
 /// The length of a packet of these commands, in bytes: 2^64 - 1 where it is above that.
-pub(crate) fn length_of(commands: &[Command]) -> u64
+pub fn length_of(commands: &[Command]) -> u64
     ensures length { result ≡ capped (20 + length (spellings commands.now)) }
     ensures size { HaveSizes commands.now }
 {

@@ -14,7 +14,8 @@ use Rattle.rh_sig.specs.declared.name.Name.TheVariants.{OutR1A10, EndA1, EndA2, 
 use Rattle.rh_sig.specs.declared.name.Name.TheVariants.{AckTo, KeepAlive, PingTraffic, Ping}
 use Rattle.rh_sig.specs.declared.named.Named.{Named}
 use Rattle.rh_sig.specs.declared.named.Named.TheVariants as named
-use Rattle.rh_sig.specs.Names.{kind_of, kinds, unpadded}
+use Rattle.rh_sig.specs.Names.{kinds, unpadded}
+use Rattle.rh_rts.specs.Commands.{kind_of}
 use Rattle.rh_sig.specs.Values.{name_of_named, parts_of, commands_of, value_of}
 use Rattle.rh_sig.specs.Reading.{value, first, rest, cookie_of, received_of, window_of}
 use Rattle.rh_sig.specs.Reading.{ack_cookie_of, address_of, padding_of}

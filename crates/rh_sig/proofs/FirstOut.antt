@@ -9,7 +9,8 @@ use Rattle.rh_sig.specs.declared.name.Name.{Name}
 use Rattle.rh_sig.specs.declared.name.Pipe.{Pipe}
 use Rattle.rh_sig.specs.declared.fault.SigFault.{SigFault}
 use Rattle.rh_sig.specs.declared.fault.SigFault.TheVariants.{Unknown, OutOfRange}
-use Rattle.rh_sig.specs.Names.{unpadded, kind_of, IsNamed}
+use Rattle.rh_sig.specs.Names.{unpadded, IsNamed}
+use Rattle.rh_rts.specs.Commands.{kind_of}
 use Rattle.rh_sig.specs.Values.{in_range, value_of, first_out_of_range, IsRefused}
 
 -- it stays so for one command more in front

@@ -4,7 +4,8 @@ use Rattle.std.proofs.Common.{sym, ◌∙◌, length-take-le}
 use Rattle.std.proofs.lemmas.List.{take_more_set, map-append, length-map}
 use Rattle.rh_rts.specs.declared.command.CommandRef.{CommandRef}
 use Rattle.rh_rts.specs.Showing.{shown}
-use Rattle.rh_sig.specs.Names.{kinds, kind_of}
+use Rattle.rh_sig.specs.Names.{kinds}
+use Rattle.rh_rts.specs.Commands.{kind_of}
 use Rattle.rh_sig.specs.Reading.{all_shown}
 
 -- the commands with one more

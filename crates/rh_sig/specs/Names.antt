@@ -18,72 +18,10 @@ use Rattle.rh_sig.specs.declared.name.Pipe.{Pipe}
 use Rattle.rh_sig.specs.declared.name.Pipe.TheVariants.{CiU, IsU, IsD, CoU, CoD, OsU, OsD}
 use Rattle.rh_rts.specs.declared.command.Command.{Command}
 use Rattle.rh_rts.specs.declared.command.Command.TheVariants as commands
+use Rattle.rh_rts.specs.Commands.{kind_of, version, cookie, receive_window_size, connection_timeout}
+use Rattle.rh_rts.specs.Commands.{channel_lifetime, client_keepalive, association_group_id, client_address}
+use Rattle.rh_rts.specs.Commands.{destination, flow_control_ack, ping_traffic_sent_notify, empty, ance}
 use Rattle.rh_rts.specs.Packets.{Parts}
-
--- ---- the types of commands (MS-RPCH 2.2.3.5)
-
-abbrev pub receive_window_size : ℕ
-receive_window_size = 0
-
-abbrev pub flow_control_ack : ℕ
-flow_control_ack = 1
-
-abbrev pub connection_timeout : ℕ
-connection_timeout = 2
-
-abbrev pub cookie : ℕ
-cookie = 3
-
-abbrev pub channel_lifetime : ℕ
-channel_lifetime = 4
-
-abbrev pub client_keepalive : ℕ
-client_keepalive = 5
-
-abbrev pub version : ℕ
-version = 6
-
-abbrev pub empty : ℕ
-empty = 7
-
-abbrev pub padding : ℕ
-padding = 8
-
-abbrev pub negative_ance : ℕ
-negative_ance = 9
-
-abbrev pub ance : ℕ
-ance = 10
-
-abbrev pub client_address : ℕ
-client_address = 11
-
-abbrev pub association_group_id : ℕ
-association_group_id = 12
-
-abbrev pub destination : ℕ
-destination = 13
-
-abbrev pub ping_traffic_sent_notify : ℕ
-ping_traffic_sent_notify = 14
-
--- the type of a command
-abbrev pub kind_of : Command → ℕ
-kind_of (commands.ReceiveWindowSize n) = receive_window_size
-kind_of (commands.FlowControlAck received window of) = flow_control_ack
-kind_of (commands.ConnectionTimeout n) = connection_timeout
-kind_of (commands.Cookie c) = cookie
-kind_of (commands.ChannelLifetime n) = channel_lifetime
-kind_of (commands.ClientKeepalive n) = client_keepalive
-kind_of (commands.Version n) = version
-kind_of commands.Empty = empty
-kind_of (commands.Padding bytes) = padding
-kind_of commands.NegativeAnce = negative_ance
-kind_of commands.Ance = ance
-kind_of (commands.ClientAddress address behind) = client_address
-kind_of (commands.AssociationGroupId c) = association_group_id
-kind_of (commands.Destination n) = destination
-kind_of (commands.PingTrafficSentNotify n) = ping_traffic_sent_notify
 
 -- the types of commands, in their order
 abbrev pub kinds : List Command → List ℕ

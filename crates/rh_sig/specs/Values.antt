@@ -21,7 +21,8 @@ use Rattle.rh_rts.specs.Commands.{greatest_destination}
 use Rattle.rh_rts.specs.Packets.{Parts}
 use Rattle.rh_sig.specs.declared.name.Pipe.{Pipe}
 use Rattle.rh_sig.specs.Names.{IsNamed, IsNameless, unpadded, none, ping, other_cmd}
-use Rattle.rh_sig.specs.Names.{recycle_channel, in_channel, out_channel, eof, kind_of}
+use Rattle.rh_sig.specs.Names.{recycle_channel, in_channel, out_channel, eof}
+use Rattle.rh_rts.specs.Commands.{kind_of}
 
 -- the name of a named packet
 abbrev pub name_of_named : Named → Name

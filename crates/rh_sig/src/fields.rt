@@ -2,10 +2,8 @@
 
 ghost use Rattle.std.specs.Prelude.{◌≡◌};
 ghost use Rattle.rh_rts.specs.Showing.{shown};
-ghost use Rattle.rh_sig.specs.Names.{kind_of};
 ghost use Rattle.rh_sig.specs.Values.{value_of};
 
-use crate::kinds::kind;
 use rh_rts::{Address4or16, CommandRef, Cookie};
 use std::marker::Model;
 
@@ -126,28 +124,5 @@ pub fn number_of(command: CommandRef<'_>) -> u32
         | CommandRef::Destination(number)
         | CommandRef::PingTrafficSentNotify(number) => number,
         _ => 0,
-    }
-}
-
-/// The type of a command (MS-RPCH 2.2.3.5).
-pub fn kind_of(command: CommandRef<'_>) -> u32
-    ensures { result ≡ kind_of (shown command.entry) }
-{
-    match command {
-        CommandRef::ReceiveWindowSize(_) => kind!(ReceiveWindowSize),
-        CommandRef::FlowControlAck { .. } => kind!(FlowControlAck),
-        CommandRef::ConnectionTimeout(_) => kind!(ConnectionTimeout),
-        CommandRef::Cookie(_) => kind!(Cookie),
-        CommandRef::ChannelLifetime(_) => kind!(ChannelLifetime),
-        CommandRef::ClientKeepalive(_) => kind!(ClientKeepalive),
-        CommandRef::Version(_) => kind!(Version),
-        CommandRef::Empty => kind!(Empty),
-        CommandRef::Padding(_) => kind!(Padding),
-        CommandRef::NegativeAnce => kind!(NegativeAnce),
-        CommandRef::Ance => kind!(Ance),
-        CommandRef::ClientAddress { .. } => kind!(ClientAddress),
-        CommandRef::AssociationGroupId(_) => kind!(AssociationGroupId),
-        CommandRef::Destination(_) => kind!(Destination),
-        CommandRef::PingTrafficSentNotify(_) => kind!(PingTrafficSentNotify),
     }
 }

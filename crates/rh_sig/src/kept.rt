@@ -3,7 +3,6 @@
 ghost use Rattle.std.specs.Prelude.{◌≡◌, ◌<◌, length, MatchOption};
 ghost use Rattle.rh_sig.specs.Names.{unpadded};
 
-use crate::fields::kind_of;
 use rh_rts::{CommandRef, View};
 use std::marker::Model;
 
@@ -62,7 +61,7 @@ impl<'a> Kept<'a> {
         ensures { self.new ≡ self.old ++ shown command.entry ∷ [] }
     {
         self.commands[self.len] = command;
-        self.types[self.len] = kind_of(command);
+        self.types[self.len] = command.kind();
         self.len += 1;
     }
 

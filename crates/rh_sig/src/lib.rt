@@ -14,7 +14,6 @@ pub mod ranges;
 mod reading;
 mod rows;
 mod sig;
-mod sizes;
 #[cfg(test)]
 mod tests;
 mod values;

@@ -6,7 +6,7 @@ ghost use Rattle.rh_sig.specs.Reading.{all_shown};
 ghost use Rattle.rh_sig.specs.Values.{in_range, first_out_of_range, is_within};
 
 use crate::fault::SigFault;
-use crate::fields::{kind_of, number_of};
+use crate::fields::number_of;
 use rh_rts::CommandRef;
 
 /// The least receive window, in bytes.
@@ -58,7 +58,7 @@ pub fn first_out_of_range(commands: &[CommandRef<'_>]) -> Option<SigFault>
     for command in commands {
         if !in_range(*command) {
             return Some(SigFault::OutOfRange {
-                command: kind_of(*command),
+                command: command.kind(),
                 value: number_of(*command),
             });
         }

@@ -11,8 +11,7 @@ ghost use Rattle.rh_sig.specs.Values.{name_of_named, parts_of, ReadsAs, MayBeWri
 
 use crate::named::Named;
 use crate::rows::{NONE, named_packets};
-use crate::sizes::have_sizes;
-use rh_rts::packet::{EOF, IN_CHANNEL, OTHER_CMD, OUT_CHANNEL, PING, RECYCLE_CHANNEL};
+use rh_rts::packet::{EOF, IN_CHANNEL, OTHER_CMD, OUT_CHANNEL, PING, RECYCLE_CHANNEL, length_of};
 use rh_rts::{Command, NoRoom, encode_parts};
 
 /// Writes the packet at the front of the room, and answers its length in bytes.
@@ -62,6 +61,6 @@ fn write_commands(flags: u16, commands: &[Command], room: &mut [u8]) -> Result<u
         room.old room.new result }
     ensures packet { IsPacket (record { flags = flags; commands = commands.now }) }
 {
-    prove!(have_sizes(commands));
+    prove!(length_of(commands) > 0);
     encode_parts(flags, commands, room)
 }

@@ -9,8 +9,8 @@ invariant_of-self c =
     let below : c.self.inside.len < 7 = omega (arith, held, ap length c.self.view_is, c.requires) in (
       omega (arith, below),
       omega (arith, length-set c.self.inside.commands c.self.inside.len c.args.command),
-      types_more c.self.inside.types c.self.inside.commands c.self.inside.len c.kind_of.result c.args.command
-          (omega (arith, below)) (omega (arith, below)) c.kind_of.ensures c.self.invariant.2,
+      types_more c.self.inside.types c.self.inside.commands c.self.inside.len c.kind.result c.args.command
+          (omega (arith, below)) (omega (arith, below)) c.kind.ensures c.self.invariant.2,
     )
 
 pub returns : goal.returns
