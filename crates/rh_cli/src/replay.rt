@@ -78,7 +78,7 @@ fn play<W: Sink>(alloc: Global, text: &[u8], output: &mut W) -> Result<(), Unfin
         kind = RecordKind::Direct;
     }
     world.last(&mut report)?;
-    write_report(alloc, &report, &mut gathered)?;
+    write_report(&report, &mut gathered)?;
     pass_on(&mut gathered, 0, output)?;
     Ok(())
 }
@@ -104,7 +104,7 @@ fn play_line(
         Err(LineRefused::NoMemory) => return Err(AllocError),
     };
     world.step(alloc, &line, report)?;
-    write_report(alloc, report, gathered)?;
+    write_report(report, gathered)?;
     report.clear();
     Ok(())
 }

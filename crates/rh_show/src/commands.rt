@@ -6,8 +6,9 @@ ghost use Rattle.rh_show.specs.Shown.{address_text, bytes_text, command_name, co
 ghost use Rattle.rh_show.specs.Shown.{cookie_value, kind_text, number_text, packet_text};
 ghost use Rattle.rh_show.specs.Shown.{padding_text, rts_fault_text, values_text};
 
-use crate::digits::{write_cookie, write_hex};
+use crate::cookies::write_cookie;
 use rh_rts::{Address4or16, CommandRef, Cookie, RtsFault, RtsKind, View};
+use rh_world::write_hex;
 use std::alloc::AllocError;
 use std::fmt::Write;
 

@@ -2,7 +2,7 @@
 #![tactic(auto)]
 
 mod commands;
-mod digits;
+mod cookies;
 pub mod laws;
 pub mod reader;
 pub mod showing;

@@ -9,5 +9,6 @@ pub mod Recordings
 pub mod Reports
 mod Counts
 mod Hexes
+mod DigitTexts
 mod Cuts
 mod Readings

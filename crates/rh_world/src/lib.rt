@@ -4,6 +4,7 @@
 pub mod answer;
 mod begun;
 pub mod bytes;
+pub mod digits;
 pub mod line;
 pub mod reading;
 mod received;
@@ -16,6 +17,7 @@ pub mod writing;
 
 pub use answer::{Answer, GiveFault, Report, TakeAnswer};
 pub use bytes::Bytes;
+pub use digits::{push_ascii, write_hex};
 pub use line::{Dir, Line, RecordKind, Side};
 pub use reading::{LineRefused, one_reading, one_recording, read_line, split_line};
 pub use world::World;

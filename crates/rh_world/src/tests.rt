@@ -114,7 +114,7 @@ fn a_text_is_cut_at_its_first_lf(rt: HostRuntime) {
 // Whether an answer is written so, behind what was there.
 fn is_written(rt: &HostRuntime, answer: &Answer, text: &str) -> Result<bool, Fail> {
     let mut out = String::from_str(rt.alloc(), "before\n")?;
-    write_answer(rt.alloc(), answer, &mut out)?;
+    write_answer(answer, &mut out)?;
     Ok(out.as_str().strip_prefix("before\n") == Some(text))
 }
 
@@ -213,7 +213,7 @@ fn a_pdu_given_at_one_end_is_taken_at_the_other(rt: HostRuntime) -> Result<(), F
     }
     world.last(&mut report)?;
     let mut text = String::new(rt.alloc());
-    write_report(rt.alloc(), &report, &mut text)?;
+    write_report(&report, &mut text)?;
     let wanted =
         "give c ok 24\nsend cs u 24\nmove cs u 20 05000003100000001800000001000000aabbccdd\n\
         take s empty\nmove cs u 4 eeff0011\n\

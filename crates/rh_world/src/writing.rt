@@ -8,9 +8,10 @@ ghost use Rattle.rh_world.specs.Report.{head_fault_text, pdu_fault_text};
 
 use crate::answer::{Answer, GiveFault, Report, TakeAnswer};
 use crate::bytes::Bytes;
+use crate::digits::write_hex;
 use crate::line::{Dir, Side};
 use rh_pdu::{HeadFault, PduFault};
-use std::alloc::{AllocError, Global};
+use std::alloc::AllocError;
 use std::fmt::{self, Display, Formatter, Write};
 
 impl Display for Side {
@@ -82,40 +83,32 @@ fn write_given(answer: &Result<u16, GiveFault>, out: &mut String) -> Result<(), 
     }
 }
 
-/// Appends the bytes as hex digits in lower case.
-fn write_hex(alloc: Global, bytes: &Bytes, out: &mut String) -> Result<(), AllocError>
-    ensures { OnOk result (string_bytes out.new ≡ string_bytes out.old ++ encode_lower bytes.now) }
-{
-    let digits = hex::encode(alloc, bytes.as_slice())?;
-    out.push_str(digits.as_str())
-}
-
 /// Appends what a take gave, with a space before it.
-fn write_taken(alloc: Global, answer: &TakeAnswer, out: &mut String) -> Result<(), AllocError>
+fn write_taken(answer: &TakeAnswer, out: &mut String) -> Result<(), AllocError>
     ensures { OnOk result (string_bytes out.new ≡ string_bytes out.old ++ take_text answer.now) }
 {
     match answer {
         TakeAnswer::Pdu(bytes) => {
             out.push_str(" pdu ")?;
-            write_hex(alloc, bytes, out)
+            write_hex(bytes.as_slice(), out)
         }
         TakeAnswer::Empty => out.push_str(" empty"),
     }
 }
 
 /// Appends the bytes of a move with a space before them, or nothing where there are none.
-fn write_moved(alloc: Global, bytes: &Bytes, out: &mut String) -> Result<(), AllocError>
+fn write_moved(bytes: &Bytes, out: &mut String) -> Result<(), AllocError>
     ensures { OnOk result (string_bytes out.new ≡ string_bytes out.old ++ moved_text bytes.now) }
 {
     if bytes.len() == 0 {
         return Ok(());
     }
     out.push_str(" ")?;
-    write_hex(alloc, bytes, out)
+    write_hex(bytes.as_slice(), out)
 }
 
 /// Appends the text of an answer.
-fn write_words(alloc: Global, answer: &Answer, out: &mut String) -> Result<(), AllocError>
+fn write_words(answer: &Answer, out: &mut String) -> Result<(), AllocError>
     ensures { OnOk result (string_bytes out.new ≡ string_bytes out.old ++ answer_text answer.now) }
 {
     match answer {
@@ -125,12 +118,12 @@ fn write_words(alloc: Global, answer: &Answer, out: &mut String) -> Result<(), A
         }
         Answer::Take { side, answer } => {
             write!(out, "take {side}")?;
-            write_taken(alloc, answer, out)
+            write_taken(answer, out)
         }
         Answer::Send { dir, count } => write!(out, "send cs {dir} {count}"),
         Answer::Move { dir, bytes } => {
             write!(out, "move cs {dir} {}", bytes.len())?;
-            write_moved(alloc, bytes, out)
+            write_moved(bytes, out)
         }
         Answer::Up { given, taken } => write!(out, "up given {given} taken {taken}"),
         Answer::Down { given, taken } => write!(out, "down given {given} taken {taken}"),
@@ -140,22 +133,22 @@ fn write_words(alloc: Global, answer: &Answer, out: &mut String) -> Result<(), A
 /// Appends the text of an answer, with LF at its end.
 ///
 /// Fails where there is no memory, and a part of the text may then stand in `out`.
-pub fn write_answer(alloc: Global, answer: &Answer, out: &mut String) -> Result<(), AllocError>
+pub fn write_answer(answer: &Answer, out: &mut String) -> Result<(), AllocError>
     ensures { OnOk result (string_bytes out.new ≡ string_bytes out.old ++ report_text (answer.now ∷ [])) }
 {
-    write_words(alloc, answer, out)?;
+    write_words(answer, out)?;
     out.push_str("\n")
 }
 
 /// Appends the text of a report: one answer a line.
 ///
 /// Fails where there is no memory, and a part of the text may then stand in `out`.
-pub fn write_report(alloc: Global, report: &Report, out: &mut String) -> Result<(), AllocError>
+pub fn write_report(report: &Report, out: &mut String) -> Result<(), AllocError>
     ensures { OnOk result (string_bytes out.new ≡ string_bytes out.old ++ report_text report.now) }
 {
     let answers = report.answers();
     for answer in answers {
-        write_answer(alloc, answer, out)?;
+        write_answer(answer, out)?;
     }
     Ok(())
 }

@@ -1,11 +1,8 @@
-//! Appends bytes and cookies as hex digits, with no memory but that of the text.
+//! Appends bytes as hex digits, with no memory but that of the text.
 
 ghost use Rattle.std.specs.Prelude.{◌≡◌, ◌≤◌, ◌++◌, length, IsAscii, OnOk, string_bytes};
 ghost use Rattle.hex.specs.Hex.{encode_lower};
-ghost use Rattle.rh_sig.specs.Cookies.{text_of_cookie};
 
-use rh_rts::Cookie;
-use rh_sig::{COOKIE_TEXT_LEN, cookie_text};
 use std::alloc::AllocError;
 use std::str;
 
@@ -13,7 +10,7 @@ use std::str;
 const PIECE: usize = 32;
 
 /// Appends a text of ASCII alone.
-fn push_ascii(text: &[u8], out: &mut String) -> Result<(), AllocError>
+pub fn push_ascii(text: &[u8], out: &mut String) -> Result<(), AllocError>
     requires { IsAscii text.now }
     ensures { OnOk result (string_bytes out.new ≡ string_bytes out.old ++ text.now) }
 {
@@ -47,14 +44,4 @@ pub fn write_hex(bytes: &[u8], out: &mut String) -> Result<(), AllocError>
         rest = behind;
     }
     Ok(())
-}
-
-/// Appends the text of a cookie.
-pub fn write_cookie(cookie: &Cookie, out: &mut String) -> Result<(), AllocError>
-    ensures { OnOk result (string_bytes out.new
-        ≡ string_bytes out.old ++ text_of_cookie cookie.now.0) }
-{
-    let mut room = [0; COOKIE_TEXT_LEN];
-    cookie_text(cookie, &mut room);
-    push_ascii(&room, out)
 }

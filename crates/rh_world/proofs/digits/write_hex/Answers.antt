@@ -1,7 +1,7 @@
 use Rattle.std.proofs.Common.{length, ◌≡◌, arith, string_bytes}
 use Rattle.std.proofs.lemmas.Bool.Decides.{nat_tests}
-use Rattle.rh_show.proofs.Ascii.{one_piece_more, no_piece_left}
-use Rattle.rh_show.proofs.digits.write_hex.Goals as goal
+use Rattle.rh_world.proofs.DigitTexts.{one_piece_more, no_piece_left}
+use Rattle.rh_world.proofs.digits.write_hex.Goals as goal
 
 pub pieces-preserved : goal.pieces-preserved
 pieces-preserved c =

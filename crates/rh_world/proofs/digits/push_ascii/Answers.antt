@@ -1,6 +1,6 @@
 -- ASCII is UTF-8
 use Rattle.std.proofs.lemmas.Str.{IsUtf8-from_ascii}
-use Rattle.rh_show.proofs.digits.push_ascii.Goals as goal
+use Rattle.rh_world.proofs.digits.push_ascii.Goals as goal
 
 pub unreachable-requires : goal.unreachable-requires
 unreachable-requires c =
