@@ -136,7 +136,7 @@ impl CommandRef<'_> {
     }
 
     /// The command, with memory of its own for a padding.
-    pub fn owned(self, alloc: Global) -> Result<Command, AllocError>
+    pub(crate) fn owned(self, alloc: Global) -> Result<Command, AllocError>
         ensures { IfOk result (λ command. command ≡ shown self.entry) }
     {
         macro_rules! owned {

@@ -6,7 +6,8 @@ use Rattle.rh_rts.specs.Packets.{Parts}
 use Rattle.rh_sig.specs.declared.name.Name.{Name}
 use Rattle.rh_sig.specs.declared.name.Pipe.{Pipe}
 use Rattle.rh_sig.specs.declared.named.Named.{Named}
-use Rattle.rh_sig.specs.Names.{Row, table, IsNamed, IsCarried, fits, carries}
+use Rattle.rh_sig.specs.Names.{Row, table, IsNamed, IsCarried}
+use Rattle.rh_sig.specs.Looking.{fits, carries}
 use Rattle.rh_sig.specs.Values.{name_of_named, commands_of, parts_of, ReadsAs}
 use Rattle.rh_sig.specs.Reading.{value}
 use Rattle.rh_sig.proofs.Again.{types_of, flags_of, same_value, same_types, same_flags, plain}

@@ -11,7 +11,8 @@ use Rattle.std.proofs.lemmas.Slice.Eq.{bytes_eq-Decides}
 use Rattle.rh_rts.specs.Packets.{Parts}
 use Rattle.rh_sig.specs.declared.name.Name.{Name}
 use Rattle.rh_sig.specs.declared.name.Pipe.{Pipe}
-use Rattle.rh_sig.specs.Names.{Row, table, IsNamed, IsNameless, found, fits, carries}
+use Rattle.rh_sig.specs.Names.{Row, table, IsNamed, IsNameless}
+use Rattle.rh_sig.specs.Looking.{found, fits, carries}
 use Rattle.rh_rts.specs.Commands.{kind_of}
 use Rattle.rh_sig.specs.Names.{kinds, unpadded}
 use Rattle.rh_sig.proofs.Again.{types_of, flags_of, seven_types}

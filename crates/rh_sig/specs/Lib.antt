@@ -2,3 +2,4 @@ pub mod Cookies
 pub mod Names
 pub mod Values
 pub mod Reading
+pub mod Looking

@@ -1,10 +1,8 @@
 -- the names of packets: those of opening, flow control and pings (MS-RPCH 2.2.4), and the profile's own of
 -- replacement and of a clean end, after the same pattern
-use Rattle.std.specs.Prelude.{◌≡◌, ◌==◌, ◌&&◌, ◌||◌, ◌+◌, ℕ, List, [], ◌∷◌, Bool, false}
-use Rattle.std.specs.Prelude.{if◌then◌else◌, Some, None, map}
+use Rattle.std.specs.Prelude.{◌≡◌, ◌+◌, ℕ, List, [], ◌∷◌}
+use Rattle.std.specs.Prelude.{map}
 use Rattle.std.specs.List.{Contains}
-use Rattle.std.specs.Str.{bytes_eq}
-use Rattle.std.specs.declared.option.Option.{Option}
 use Rattle.rh_sig.specs.declared.name.Name.{Name}
 use Rattle.rh_sig.specs.declared.name.Name.TheVariants.{ConnA1, ConnA2, ConnA3, ConnB1, ConnB2}
 use Rattle.rh_sig.specs.declared.name.Name.TheVariants.{ConnB3, ConnC1, ConnC2, InR1A1, InR1A2}
@@ -135,28 +133,3 @@ pub record IsCarried (name : Name) (pipe : Pipe) : Type 0 where
 -- on that pipe the packet has no name
 abbrev pub IsNameless : Parts → Pipe → Type 0
 IsNameless p pipe = (name : Name) → IsNamed p pipe name → ⊥
-
--- ---- looking the name up
-
-abbrev pub place : Pipe → ℕ
-place CiU = 0
-place IsU = 1
-place IsD = 2
-place CoU = 3
-place CoD = 4
-place OsU = 5
-place OsD = 6
-
-abbrev pub carries : List Pipe → Pipe → Bool
-carries [] pipe = false
-carries (q ∷ qs) pipe = (place q == place pipe) || carries qs pipe
-
--- whether flags and types are those of a row
-unfoldable pub fits : ℕ → List ℕ → ℕ → List ℕ → Bool
-fits flags types told kinds = (flags == told) && bytes_eq types kinds
-
--- the name of the first of the rows that lists the pipe and has these flags and types
-abbrev pub found : List Row → Pipe → ℕ → List ℕ → Option Name
-found [] pipe flags types = None
-found (r ∷ rs) pipe flags types =
-    if carries r.pipes pipe && fits r.flags r.types flags types then Some r.name else found rs pipe flags types

@@ -1,4 +1,4 @@
--- the fields of commands, and the named packet that has them
+-- the fields of commands, and the named packet that has them: for private contracts alone
 use Rattle.std.specs.Prelude.{ℕ, List, [], ◌∷◌, map, replicate}
 use Rattle.rh_rts.specs.declared.command.Address4or16.{Address4or16}
 use Rattle.rh_rts.specs.declared.command.Address4or16.TheVariants.{V4}

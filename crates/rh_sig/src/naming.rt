@@ -1,7 +1,8 @@
 //! Which name a packet has.
 
 ghost use Rattle.std.specs.Prelude.{◌≡◌};
-ghost use Rattle.rh_sig.specs.Names.{found, table};
+ghost use Rattle.rh_sig.specs.Names.{table};
+ghost use Rattle.rh_sig.specs.Looking.{found};
 
 use crate::kinds::kind;
 use crate::name::{Name, Pipe};

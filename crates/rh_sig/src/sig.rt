@@ -1,7 +1,7 @@
 //! Signatures: the flags of a packet, and the types of its commands.
 
 ghost use Rattle.std.specs.Prelude.{◌≡◌};
-ghost use Rattle.rh_sig.specs.Names.{fits};
+ghost use Rattle.rh_sig.specs.Looking.{fits};
 
 /// The flags of a named packet, and the types of its commands in their order.
 #[derive(Clone, Copy)]
@@ -12,7 +12,7 @@ pub struct Sig<const N: usize> {
 
 impl<const N: usize> Sig<N> {
     /// Whether the flags and the types are these.
-    #[tactic(auto, unfolding(crate::specs::Names::fits))]
+    #[tactic(auto, unfolding(crate::specs::Looking::fits))]
     pub fn fits(&self, flags: u16, types: &[u32]) -> bool
         ensures { result ≡ fits self.now.flags self.now.types flags types.now }
     {
