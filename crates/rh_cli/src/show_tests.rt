@@ -206,7 +206,7 @@ fn no_bytes_are_shown_as_none(rt: HostRuntime) -> Result<(), Fail> {
 #[test]
 fn the_first_line_that_is_no_hex_is_told(rt: HostRuntime) -> Result<(), Fail> {
     for line in [
-        "", " ", "0", "050", "0g", "05 ", " 05", "05\r", "0x05", "05 00", "05:00", "\t05", "05,",
+        "", " ", "0", "050", "0g", "05 ", " 05", "05\r", "0x05", "05 00", "05:00", "\t0a", "05,",
     ] {
         for (front, number) in [("", 1), ("05\n", 2), ("05\nAb\naB\n", 4)] {
             let text = format!(in rt.alloc(); "{front}{line}\nxx\n")?;
