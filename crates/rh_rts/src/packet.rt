@@ -105,6 +105,13 @@ impl Packet {
         &self.commands
     }
 
+    /// The commands, in their order, with the memory that the packet had for them.
+    pub fn into_commands(self) -> Vec<Command>
+        ensures { result.items ≡ self.commands }
+    {
+        self.commands
+    }
+
     /// The length of the packet, in bytes: 20 to 65,535.
     pub fn length(&self) -> usize
         ensures sound { IsPacket self.now }

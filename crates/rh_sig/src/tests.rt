@@ -3,8 +3,8 @@
 use crate::{
     COOKIE_TEXT_LEN, Name, Named, Pipe, SigFault, cookie_text, name_of, read_named, write_named,
 };
-use rh_rts::{Address4or16, Bytes, Command, Cookie, NoRoom, Packet, View, encode, view};
-use std::alloc::{AllocError, Global};
+use rh_rts::{Address4or16, Bytes, Command, Cookie, NoRoom, Packet, View, decode, encode, view};
+use std::alloc::Global;
 use std::test::Fail;
 
 const PIPES: [Pipe; 7] = [
@@ -273,35 +273,28 @@ fn a_room_one_byte_too_short_stays_as_it_was(rt: HostRuntime) {
     }
 }
 
-// The commands of the packet with padding at this place, or at each place; the last place is behind
-// the commands.
-fn with_padding(
-    alloc: Global,
-    seen: &View<'_>,
-    place: Option<usize>,
-) -> Result<Vec<Command>, AllocError> {
+// The packet with padding at this place, or at each place; the last place is behind the commands.
+fn with_padding(alloc: Global, packet: Packet, place: Option<usize>) -> Result<Packet, Fail> {
+    let flags = packet.flags();
     let mut commands = Vec::new(alloc);
     let mut at = 0usize;
-    for command in seen.commands() {
+    for command in packet.into_commands() {
         if place.is_none_or(|place| place == at) {
             commands.push(Command::Padding(Bytes::new(vec![in alloc; 9; at]?)))?;
         }
-        commands.push(command.owned(alloc)?)?;
+        commands.push(command)?;
         at = at.saturating_add(1);
     }
     if place.is_none_or(|place| place >= at) {
         commands.push(Command::Padding(Bytes::new(vec![in alloc; 7, 8]?)))?;
     }
-    Ok(commands)
+    Ok(Packet::new(alloc, flags, &commands)?)
 }
 
-// Whether the packet of these commands is of the case.
-fn is_packet_of(alloc: Global, flags: u16, commands: &[Command], (named, _, names): Case) -> bool {
+// Whether the packet is of the case.
+fn is_packet_of(packet: &Packet, (named, _, names): Case) -> bool {
     let mut room = [0; 400];
-    let Ok(packet) = Packet::new(alloc, flags, commands) else {
-        return false;
-    };
-    let Ok(len) = encode(&packet, &mut room) else {
+    let Ok(len) = encode(packet, &mut room) else {
         return false;
     };
     match view(&room[..len]) {
@@ -310,35 +303,30 @@ fn is_packet_of(alloc: Global, flags: u16, commands: &[Command], (named, _, name
     }
 }
 
-// Whether the packet has the same names with padding anywhere.
-fn is_named_with_padding(alloc: Global, case: Case) -> bool {
+// Whether the packet has the same names with padding at this place, or at each place.
+fn is_named_with_padding(alloc: Global, case: Case, place: Option<usize>) -> Result<bool, Fail> {
     let mut room = [0; 160];
     let Some(len) = written(&case.0, &mut room) else {
-        return false;
+        return Ok(false);
     };
-    if len > room.len() {
-        return false;
-    }
-    let Ok(seen) = view(&room[..len]) else {
-        return false;
+    let Some(bytes) = room.get(..len) else {
+        return Ok(false);
     };
-    for place in 0..8 {
-        match with_padding(alloc, &seen, Some(place)) {
-            Ok(commands) if is_packet_of(alloc, seen.flags(), &commands, case) => {}
-            _ => return false,
-        }
-    }
-    match with_padding(alloc, &seen, None) {
-        Ok(commands) => is_packet_of(alloc, seen.flags(), &commands, case),
-        Err(_) => false,
-    }
+    let packet = with_padding(alloc, decode(alloc, bytes)?, place)?;
+    Ok(is_packet_of(&packet, case))
 }
 
 #[test]
-fn padding_changes_no_name(rt: HostRuntime) {
+fn padding_changes_no_name(rt: HostRuntime) -> Result<(), Fail> {
     for case in CASES {
-        assert!(rt; is_named_with_padding(rt.alloc(), case), "{:?}", case.0);
+        for place in 0..8 {
+            let named = is_named_with_padding(rt.alloc(), case, Some(place))?;
+            assert!(rt; named, "{:?} at {place}", case.0);
+        }
+        let named = is_named_with_padding(rt.alloc(), case, None)?;
+        assert!(rt; named, "{:?}", case.0);
     }
+    Ok(())
 }
 
 // A packet, a pipe that carries it, and the type and value of its first command out of range.
@@ -424,7 +412,10 @@ fn each_range_has_its_two_ends_and_the_first_value_out_of_it_is_told(rt: HostRun
 
 // Whether the packet of these commands has no name on any pipe.
 fn is_unknown(alloc: Global, flags: u16, commands: &[Command]) -> bool {
-    is_packet_of(alloc, flags, commands, (Named::Ping, 0, &[]))
+    match Packet::new(alloc, flags, commands) {
+        Ok(packet) => is_packet_of(&packet, (Named::Ping, 0, &[])),
+        Err(_) => false,
+    }
 }
 
 #[test]
