@@ -1,169 +1,326 @@
 #!/usr/bin/env python3
 """Writes the packets of RPC over HTTP in a capture as lines of hex, for `rh_cli show`.
 
-    tools/pcap_packets.py CAPTURE [--ends]
+    tools/pcap_packets.py CAPTURE [--context] [--port N].. [--keys FILE]
 
-CAPTURE is a file in the classic pcap format (`editcap -F pcap` makes one of a pcapng file), of Ethernet,
-raw IP, Linux 'any' or loopback, in which the connections are not encrypted. The bytes of each direction
-of each TCP connection are put in order; an HTTP head and the greeting ncacn_http/1.0 in front of them
-are left out; and what follows is cut by frag_length. A packet is written when its last byte was
-captured. With --ends, who sent it goes to standard error, one line for each line of hex.
+CAPTURE is any file that tshark reads (Debian's package tshark): pcap or pcapng, compressed too.
+Each direction of each TCP connection is read from its first byte. HTTP heads are left out, and so
+are the greeting ncacn_http/1.0 and the bodies of other messages, such as a 401 answer's. What
+follows is cut by frag_length. Packets come in the order in which they were whole.
 
-What can't be cut is written as one line, so that nothing is lost; what was captured of a packet that
-isn't whole is not written. Ends with status 1 where the file is no such capture.
+    --context     puts in front of each packet when it was whole, in UTC, the number of its
+                  connection (tshark's tcp.stream), and who sent it to whom
+    --port N      takes only connections with this port at an end; may stand more than once. A
+                  connection of RPC PDUs with no head, greeting or RTS packet is taken only then
+    --keys FILE   the secrets of TLS sessions, as SSLKEYLOGFILE has them; those that a pcapng file
+                  holds need no option
+
+Connections of other protocols are left out, and counted on standard error. Places are told as
+bytes from the first that this end sent, of what was decrypted where it was. Status 0: all was
+read. 1: something is missing or can't be read; standard error says what and where, and all else
+was written. 2: nothing could be read.
 """
 import argparse
-import ipaddress
+import datetime
+import os
+import re
 import struct
 import sys
 
+from captured import Capture, NEVER, NotRead
+
 HEADER_LEN = 16
+# A packet's kind stands in the third byte. C706 and MS-RPCE have kinds 0 to 19.
+RTS, MOST_KIND = 20, 20
+# All bytes of the header of an RTS packet but frag_length.
+RTS_FRONT, RTS_BACK = bytes.fromhex("0500140310000000"), bytes(6)
 GREETING = b"ncacn_http/1.0"
-HEADS = (b"RPC_IN_DATA ", b"RPC_OUT_DATA ", b"HTTP/")
-# By link type: how many bytes stand before the EtherType or the IP header.
-ETHERNET, RAW_IP, LINUX_ANY, LINUX_ANY_2, LOOPBACK = 1, 101, 113, 276, 0
+METHODS = (b"RPC_IN_DATA", b"RPC_OUT_DATA")
+REQUEST = re.compile(rb"([A-Z_]{3,20}) \S{1,8192} HTTP/1\.[01]\r\n")
+ANSWER = re.compile(rb"HTTP/1\.[01] ([0-9]{3})[ \r]")
+# What the front of a head, of which no line is whole, begins with.
+HEAD_FRONTS = tuple(method + b" " for method in METHODS) + (b"HTTP/1.", GREETING)
+HEAD_END = b"\r\n\r\n"
+MOST_HEAD = 65_536
+# A request with a body of at most 16 bytes is an echo request, and has no packet.
+MOST_ECHO = 16
 
 
-class NoCapture(Exception):
-    """The file is not a capture that this program reads."""
+class Broken(Exception):
+    """Neither a packet nor a head begins here."""
 
 
-def frames_of(data):
-    """The link type and the bytes of each frame."""
-    orders = {b"\xd4\xc3\xb2\xa1": "<", b"\x4d\x3c\xb2\xa1": "<", b"\xa1\xb2\xc3\xd4": ">", b"\xa1\xb2\x3c\x4d": ">"}
-    if len(data) < 24 or data[:4] not in orders:
-        raise NoCapture("no file in the classic pcap format")
-    order = orders[data[:4]]
-    link = struct.unpack_from(order + "I", data, 20)[0] & 0xFFFF
-    at = 24
-    while at + 16 <= len(data):
-        (length,) = struct.unpack_from(order + "I", data, at + 8)
-        yield link, data[at + 16 : at + 16 + length]
-        at += 16 + length
+def frag_length(header):
+    (length,) = struct.unpack_from("<H" if header[4] & 0x10 else ">H", header, 8)
+    return length
 
 
-def ip_packet(link, frame):
-    """The IP packet in a frame, or no bytes."""
-    if link == RAW_IP:
-        return frame
-    if link == LOOPBACK:
-        return frame[4:]
-    at = {ETHERNET: 12, LINUX_ANY: 14, LINUX_ANY_2: 0}.get(link)
-    if at is None:
-        raise NoCapture(f"link type {link} is not read")
-    behind = 20 if link == LINUX_ANY_2 else at + 2
-    while frame[at : at + 2] == b"\x81\x00":
-        at, behind = at + 4, behind + 4
-    return frame[behind:] if frame[at : at + 2] in (b"\x08\x00", b"\x86\xdd") else b""
+def is_rts(header):
+    return header[:8] == RTS_FRONT and header[10:16] == RTS_BACK
 
 
-def tcp_segment(packet):
-    """Who sends to whom, the sequence number, whether it is the first, and the payload; else `None`."""
-    if not packet:
-        return None
-    version = packet[0] >> 4
-    if version == 4 and len(packet) >= 20 and packet[9] == 6:
-        start, end = (packet[0] & 15) * 4, struct.unpack_from(">H", packet, 2)[0]
-        hosts = packet[12:16], packet[16:20]
-    elif version == 6 and len(packet) >= 40 and packet[6] == 6:
-        start, end = 40, 40 + struct.unpack_from(">H", packet, 4)[0]
-        hosts = packet[8:24], packet[24:40]
-    else:
-        return None
-    segment = packet[start : end or len(packet)]
-    if len(segment) < 20:
-        return None
-    source, target, number = struct.unpack_from(">HHI", segment)
-    ends = (hosts[0], source), (hosts[1], target)
-    return ends, number, bool(segment[13] & 2), segment[(segment[12] >> 4) * 4 :]
+def is_packet_start(header):
+    """Whether a packet surely begins with these bytes: each field is one that a packet has."""
+    if len(header) < HEADER_LEN or header[0] != 5 or header[1] > 1 or header[2] > MOST_KIND:
+        return False
+    if header[4] not in (0x00, 0x01, 0x10, 0x11) or header[5] > 3 or header[6:8] != bytes(2):
+        return False
+    return frag_length(header) >= HEADER_LEN and (header[2] != RTS or is_rts(header))
 
 
-class Stream:
-    """The bytes of one direction of a connection, as they come."""
+class Head:
+    """The first line of an HTTP message, and the fields that tell its body."""
+
+    def __init__(self, text):
+        lines = text.split(b"\r\n")
+        request, answer = REQUEST.match(text), ANSWER.match(text)
+        self.method = request[1] if request else None
+        self.status = int(answer[1]) if answer else None
+        fields = {}
+        for line in lines[1:]:
+            name, _, value = line.partition(b":")
+            fields[name.strip().lower()] = value.strip().lower()
+        length = fields.get(b"content-length", b"")
+        self.length = int(length) if re.fullmatch(rb"[0-9]{1,18}", length) else None
+        self.is_chunked = b"chunked" in fields.get(b"transfer-encoding", b"")
+        is_rpc_body = fields.get(b"content-type", b"").startswith(b"application/rpc")
+        self.is_rpc = self.method in METHODS or is_rpc_body
+
+
+class Reader:
+    """Finds the packets of one direction of a connection."""
+
+    def __init__(self, direction):
+        self.direction = direction
+        # Each with the frame in which it was whole.
+        self.packets = []
+        self.troubles = []
+        # Whether something was found that only RPC over HTTP has.
+        self.is_ours = False
+        # What the last run ended in, where that is a packet or a head: as text.
+        self.unfinished = None
+        self.whole_in = 0
+
+    def trouble(self, place, text):
+        self.troubles.append(f"{self.direction.ends}, byte {place}: {text}")
+
+    def read(self):
+        place = end = self.direction.runs[0].start if self.direction.runs else 0
+        for run in self.direction.runs:
+            if run.lost:
+                place = self.cross(run, place, end)
+            place = self.read_run(run, place)
+            end = run.end
+        if self.unfinished:
+            self.trouble(end, f"the capture ends inside {self.unfinished}")
+
+    def cross(self, run, place, end):
+        """Goes on behind a gap, of which it tells. Where the next thing begins."""
+        text = f"{run.lost} bytes are missing"
+        if run.cut:
+            text += f", as frame {run.cut} was cut"
+        if self.unfinished:
+            text += f", inside {self.unfinished}"
+        is_known = place is not None and place >= run.start and run.is_placed
+        self.unfinished = None
+        self.whole_in = 0
+        if not is_known or place < run.end and not self.begins(run, place):
+            place = self.sought(run, run.start)
+        self.trouble(end, text + self.onward(run, place))
+        return place
+
+    def onward(self, run, place):
+        """How reading goes on, as text."""
+        if place is None:
+            return f"; {run.end - run.start} bytes behind it are left out" if run.bytes else ""
+        if place >= run.end:
+            return ""
+        return f"; read on from byte {place}, frame {run.frame_at(place)}"
+
+    def begins(self, run, place):
+        """Whether a packet or a head surely begins here."""
+        at = place - run.start
+        if is_packet_start(run.bytes[at : at + HEADER_LEN]) or run.bytes.startswith(GREETING, at):
+            return True
+        return bool(REQUEST.match(run.bytes, at) or ANSWER.match(run.bytes, at))
+
+    def sought(self, run, place):
+        """Where the first piece from this place on begins that surely begins a packet or a head."""
+        return next((start for start in run.starts_from(place) if self.begins(run, start)), None)
+
+    def read_run(self, run, place):
+        """Reads a run from where something begins. Answers where the next thing does, if known."""
+        while place is not None and place < run.end:
+            try:
+                place = self.step(run, place)
+            except Broken:
+                at, frame = place - run.start, run.frame_at(place)
+                text = f"neither a packet nor a head begins here, frame {frame}: "
+                text += run.bytes[at : at + HEADER_LEN].hex()
+                behind = self.sought(run, place + 1)
+                self.trouble(place, text + self.onward(run, behind))
+                place = behind
+        return place
+
+    def step(self, run, place):
+        """Reads what begins here. Answers where the next thing does, if the run tells that."""
+        at = place - run.start
+        if run.bytes[at] == 5:
+            return self.packet(run, place)
+        if run.bytes.startswith(GREETING, at):
+            self.is_ours = True
+            return place + len(GREETING)
+        if REQUEST.match(run.bytes, at) or ANSWER.match(run.bytes, at):
+            end = run.bytes.find(HEAD_END, at, at + MOST_HEAD)
+            if end >= 0:
+                behind = end + len(HEAD_END)
+                return self.body(run, run.start + behind, Head(bytes(run.bytes[at:behind])))
+            if len(run.bytes) - at < MOST_HEAD:
+                self.unfinished = f"a head that begins at byte {place}"
+                return None
+        is_front = any(front.startswith(run.bytes[at : at + len(front)]) for front in HEAD_FRONTS)
+        if is_front and run.bytes.find(b"\n", at, at + MOST_HEAD) < 0:
+            self.unfinished = f"a head that begins at byte {place}"
+            return None
+        raise Broken
+
+    def packet(self, run, place):
+        """Takes the packet that begins here, if it is whole. Answers where it ends, if known."""
+        at = place - run.start
+        header = run.bytes[at : at + HEADER_LEN]
+        if len(header) < HEADER_LEN:
+            self.unfinished = f"the header of a packet that begins at byte {place}"
+            return None
+        length = frag_length(header)
+        if length < HEADER_LEN:
+            raise Broken
+        if place + length > run.end:
+            self.unfinished = f"a packet of {length} bytes that begins at byte {place}"
+            return place + length
+        self.is_ours = self.is_ours or is_rts(header)
+        self.whole_in = max([self.whole_in] + run.frames_of(place, place + length))
+        self.packets.append((self.whole_in, bytes(run.bytes[at : at + length])))
+        return place + length
+
+    def body(self, run, place, head):
+        """Where reading goes on behind a head: at the packets in its body, or behind the body."""
+        self.is_ours = self.is_ours or head.is_rpc
+        if head.method in METHODS:
+            is_echo = head.length is not None and head.length <= MOST_ECHO
+            return place + head.length if is_echo else place
+        if head.method:
+            return self.chunks(run, place) if head.is_chunked else place + (head.length or 0)
+        if head.status < 200 or head.status in (204, 304):
+            return place
+        if head.is_chunked:
+            if head.is_rpc and head.status < 300:
+                self.trouble(place, "the chunked body of an answer is left out")
+            return self.chunks(run, place)
+        if head.status < 300 and (head.is_rpc or self.begins(run, place)):
+            return place
+        if head.length is not None:
+            return place + head.length
+        behind = self.sought(run, place)
+        return NEVER if behind is None else behind
+
+    def chunks(self, run, place):
+        """Where a chunked body ends (RFC 9112 section 7.1)."""
+        while place < run.end:
+            at = place - run.start
+            end = run.bytes.find(b"\r\n", at, at + MOST_HEAD)
+            try:
+                size = int(run.bytes[at:end].split(b";")[0], 16) if end >= 0 else -1
+            except ValueError:
+                raise Broken from None
+            if size < 0:
+                raise Broken
+            if size == 0:
+                last = run.bytes.find(HEAD_END, end, end + MOST_HEAD)
+                return run.start + last + len(HEAD_END) if last >= 0 else NEVER
+            place = run.start + end + 2 + size + 2
+        return place
+
+
+def time_text(seconds):
+    whole, _, part = seconds.partition(".")
+    moment = datetime.datetime.fromtimestamp(int(whole), datetime.timezone.utc)
+    return f"{moment:%Y-%m-%dT%H:%M:%S}.{part or 0}Z"
+
+
+class Telling:
+    """Standard error, and the status that follows from what was told there."""
 
     def __init__(self):
-        self.next = None
-        self.early = {}
-        self.bytes = bytearray()
-        self.headless = False
-        self.broken = False
+        self.status = 0
 
-    def segment(self, number, first, payload):
-        """Takes a segment, and puts what is now in order behind the bytes."""
-        if first:
-            self.next = (number + 1) % 2**32
-        elif self.next is None:
-            self.next = number
-        if payload:
-            self.early[number] = max(self.early.get(number, b""), payload, key=len)
-        while True:
-            ready = [n for n, p in self.early.items() if (self.next - n) % 2**32 < 2**31]
-            if not ready:
-                return
-            for n in ready:
-                payload = self.early.pop(n)
-                new = payload[(self.next - n) % 2**32 :]
-                self.bytes += new
-                self.next = (self.next + len(new)) % 2**32
+    def tell(self, text):
+        print(f"pcap_packets.py: {text}", file=sys.stderr)
 
-    def skip_front(self):
-        """Leaves out the head and the greeting; whether they are past."""
-        if not self.headless and any(self.bytes.startswith(head[: len(self.bytes)]) for head in HEADS):
-            end = self.bytes.find(b"\r\n\r\n")
-            if end < 0:
-                return False
-            del self.bytes[: end + 4]
-        if not self.headless and self.bytes and GREETING.startswith(self.bytes[: len(GREETING)]):
-            if len(self.bytes) < len(GREETING):
-                return False
-            del self.bytes[: len(GREETING)]
-        self.headless = self.headless or bool(self.bytes)
-        return True
-
-    def packets(self):
-        """The packets that are whole now."""
-        while self.skip_front() and len(self.bytes) >= HEADER_LEN and not self.broken:
-            order = "<" if self.bytes[4] & 0x10 else ">"
-            (length,) = struct.unpack_from(order + "H", self.bytes, 8)
-            if self.bytes[0] != 5 or length < HEADER_LEN:
-                self.broken = True
-                break
-            if len(self.bytes) < length:
-                return
-            yield bytes(self.bytes[:length])
-            del self.bytes[:length]
-        if self.broken and self.bytes:
-            yield bytes(self.bytes)
-            self.bytes.clear()
+    def trouble(self, text):
+        self.status = 1
+        self.tell(text)
 
 
-def name(end):
-    return f"{ipaddress.ip_address(bytes(end[0]))}:{end[1]}"
+def why_left_out(connection, readers):
+    if connection.is_hidden:
+        return "under TLS, not decrypted"
+    return "of RPC PDUs alone" if any(r.packets for r in readers) else "without RPC over HTTP"
+
+
+def lines_of(capture, options, telling):
+    """The line of each packet, and how many connections were left out, by the reason."""
+    lines, left_out = [], {}
+    for number, connection in sorted(capture.connections.items()):
+        readers = [Reader(direction) for direction in connection.directions.values()]
+        for reader in readers:
+            reader.read()
+        if not any(reader.is_ours or options.port and reader.packets for reader in readers):
+            why = why_left_out(connection, readers)
+            left_out[why] = left_out.get(why, 0) + 1
+            continue
+        for reader in readers:
+            for text in reader.troubles:
+                telling.trouble(f"connection {number}, {text}")
+            for frame, packet in reader.packets:
+                context = ""
+                if options.context:
+                    time = time_text(capture.seconds[frame])
+                    context = f"{time} {number} {reader.direction.ends} "
+                lines.append((frame, context + packet.hex()))
+    lines.sort(key=lambda line: line[0])
+    return [line for _, line in lines], left_out
 
 
 def main():
-    parser = argparse.ArgumentParser(description=__doc__, formatter_class=argparse.RawDescriptionHelpFormatter)
+    form = argparse.RawDescriptionHelpFormatter
+    parser = argparse.ArgumentParser(description=__doc__, formatter_class=form)
     parser.add_argument("capture")
-    parser.add_argument("--ends", action="store_true")
+    parser.add_argument("--context", action="store_true")
+    parser.add_argument("--port", type=int, action="append", default=[])
+    parser.add_argument("--keys")
     options = parser.parse_args()
-    streams = {}
+    if options.keys and not os.access(options.keys, os.R_OK):
+        parser.error(f"no file to read: {options.keys}")
+    telling = Telling()
     try:
-        with open(options.capture, "rb") as file:
-            data = file.read()
-        for link, frame in frames_of(data):
-            segment = tcp_segment(ip_packet(link, frame))
-            if segment is None:
-                continue
-            ends, number, first, payload = segment
-            stream = streams.setdefault(ends, Stream())
-            stream.segment(number, first, payload)
-            for packet in stream.packets():
-                print(packet.hex())
-                if options.ends:
-                    print(name(ends[0]), ">", name(ends[1]), file=sys.stderr)
-    except (OSError, NoCapture) as error:
-        sys.exit(f"pcap_packets.py: {options.capture}: {error}")
+        capture = Capture(options.capture, options.port, options.keys, telling.trouble)
+    except NotRead as error:
+        telling.tell(error)
+        return 2
+    lines, left_out = lines_of(capture, options, telling)
+    for line in lines:
+        print(line)
+    if left_out:
+        counts = ", ".join(f"{count} {why}" for why, count in left_out.items())
+        telling.tell(f"connections left out: {counts}, of {len(capture.connections)}")
+    sys.stdout.flush()
+    return telling.status
 
 
 if __name__ == "__main__":
-    main()
+    try:
+        sys.exit(main())
+    except BrokenPipeError:
+        # Whoever read the lines has gone.
+        os.dup2(os.open(os.devnull, os.O_WRONLY), sys.stdout.fileno())
+        sys.exit(1)

@@ -1,0 +1,273 @@
+"""What tshark reads of a capture: its TCP connections, with the bytes of each direction in order.
+
+tshark reads the file, joins IP fragments, leaves link layers and tunnels out, tells connections
+apart (a reused port begins another) and decrypts TLS. Here segments are only put behind each
+other by their numbers. tshark's own streams (`-z follow`) are not taken: they drop all that stands
+behind a gap which no acknowledgement covers, and join what stands round a cut, without a word.
+"""
+import bisect
+import re
+import subprocess
+import tempfile
+from typing import NamedTuple
+
+FIELDS = """frame.number frame.time_epoch frame.len frame.cap_len frame.protocols ip.src ip.dst
+    ipv6.src ipv6.dst tcp.srcport tcp.dstport tcp.stream tcp.seq_raw tcp.ack_raw tcp.flags tcp.len
+    tcp.payload""".split()
+SETTINGS = """ip.defragment:TRUE ipv6.defragment:TRUE tcp.desegment_tcp_streams:TRUE
+    tcp.reassemble_out_of_order:TRUE tls.desegment_ssl_records:TRUE
+    tls.desegment_ssl_application_data:TRUE""".split()
+FIN, SYN, RESET, ACK = 1, 2, 4, 16
+# A window is smaller than this (RFC 7323 section 2.3), so no true acknowledgement is so far ahead.
+FARTHEST = 2**30
+# A number above those of all frames.
+NEVER = float("inf")
+# The type of a record and the version, with which each TLS connection begins.
+TLS_START = re.compile(rb"[\x14-\x17]\x03[\x00-\x04]")
+
+
+class NotRead(Exception):
+    """Nothing of the capture can be read."""
+
+
+def tshark_rows(capture, wanted, fields, keys, trouble):
+    """The wanted frames, each as the values of these fields, each of which is a list of words."""
+    # Without its HTTP, tshark tells what it decrypted as plain data.
+    command = ["tshark", "-n", "-r", capture, "-Y", wanted, "-T", "fields"]
+    command += ["--disable-protocol", "http", "--disable-protocol", "http2"]
+    settings = SETTINGS + ([f"tls.keylog_file:{keys}"] if keys else [])
+    for option, values in (("-o", settings), ("-e", fields)):
+        command += [word for value in values for word in (option, value)]
+    is_read = False
+    with tempfile.TemporaryFile("w+", errors="replace") as told:
+        try:
+            streams = {"stdin": subprocess.DEVNULL, "stdout": subprocess.PIPE, "stderr": told}
+            process = subprocess.Popen(command, text=True, errors="replace", **streams)
+        except OSError as error:
+            why = f"tshark can't be run: {error.strerror} (Debian has it in the package tshark)"
+            raise NotRead(why) from None
+        with process:
+            for line in process.stdout:
+                is_read = True
+                yield [word.split(",") if word else [] for word in line.rstrip("\n").split("\t")]
+        told.seek(0)
+        texts = [line.strip() for line in told if not line.startswith("Running as user")]
+    if process.returncode:
+        text = "; ".join(filter(None, texts)) or f"tshark ended with status {process.returncode}"
+        if not is_read:
+            raise NotRead(text)
+        trouble(text)
+
+
+class Segment(NamedTuple):
+    """A segment with data: its number, counted on past 2^32, its length, and what was captured."""
+
+    number: int
+    frame: int
+    length: int
+    payload: bytes
+
+
+class Run:
+    """Bytes of one direction with no gap between them, and the frames that they came in."""
+
+    def __init__(self, start, lost=0, cut=None, is_placed=True):
+        # A count of bytes from the first of the direction.
+        self.start = start
+        # How many bytes are missing in front of it, and the frame that was cut there.
+        self.lost = lost
+        self.cut = cut
+        # Whether `start` is known, or only that bytes are missing.
+        self.is_placed = is_placed
+        self.bytes = bytearray()
+        self.ends = []
+        self.frames = []
+
+    @property
+    def end(self):
+        return self.start + len(self.bytes)
+
+    def add(self, payload, frame):
+        if payload:
+            self.bytes += payload
+            self.ends.append(self.end)
+            self.frames.append(frame)
+
+    def frame_at(self, place):
+        """The frame that the byte at this place came in."""
+        return self.frames[bisect.bisect_right(self.ends, place)]
+
+    def frames_of(self, place, end):
+        """The frames that these bytes came in."""
+        first, last = (bisect.bisect_right(self.ends, at) for at in (place, end - 1))
+        return self.frames[first : last + 1]
+
+    def starts_from(self, place):
+        """Where each piece at or behind this place begins."""
+        if place <= self.start:
+            yield self.start
+        for number in range(bisect.bisect_left(self.ends, place), len(self.ends) - 1):
+            yield self.ends[number]
+
+
+class Direction:
+    """What one end of a connection sent."""
+
+    def __init__(self, source, target):
+        self.ends = f"{source} > {target}"
+        self.segments = []
+        self.first = None
+        self.last = None
+        self.finished = 0
+        self.acknowledged = 0
+        self.runs = []
+
+    def counted(self, number):
+        """A sequence number counted on past 2^32, as the one nearest to the last."""
+        if self.last is None:
+            return number
+        return self.last + (number - self.last + 2**31) % 2**32 - 2**31
+
+    def take(self, number, flags, frame, length, payload):
+        if flags & RESET:
+            return
+        self.last = number = self.counted(number)
+        if flags & SYN:
+            number += 1
+            self.first = number
+        if length:
+            self.segments.append(Segment(number, frame, length, payload))
+        if flags & FIN:
+            self.finished = max(self.finished, number + length)
+
+    def acknowledge(self, number):
+        """Takes what the other end says that it received; 0 is what a made-up capture has."""
+        if self.last is not None and number:
+            number = self.counted(number)
+            if number < self.last + FARTHEST:
+                self.acknowledged = max(self.acknowledged, number)
+
+    def order(self):
+        """Puts what was captured in order, as runs; the last is empty where the end is missing."""
+        segments = sorted(self.segments)
+        if self.first is None:
+            if not segments:
+                return
+            self.first = segments[0].number
+        # A keepalive in front of the first byte makes a byte up.
+        segments = [s for s in segments if s.number >= self.first or s.length > 1]
+        cuts = {s.number + len(s.payload): s.frame for s in segments if len(s.payload) < s.length}
+        # Numbers below the first are those of another connection, whose beginning is missing.
+        end = min([self.first] + [segment.number for segment in segments[:1]])
+        self.runs = [Run(end - self.first)]
+        for segment in segments:
+            self.lay(segment.number, end, cuts)
+            self.runs[-1].add(segment.payload[max(0, end - segment.number) :], segment.frame)
+            end = max(end, segment.number + len(segment.payload))
+        whole = max([self.finished] + [segment.number + segment.length for segment in segments])
+        # An acknowledgement counts a FIN as a byte.
+        if self.acknowledged > whole + 1:
+            whole = self.acknowledged
+        self.lay(whole, end, cuts)
+
+    def lay(self, number, end, cuts):
+        """Begins a run where bytes are missing between the end so far and this number."""
+        if number > end:
+            self.runs.append(Run(number - self.first, number - end, cuts.get(end)))
+
+    def decrypt(self, clear):
+        """Puts what tshark decrypted, by frame, in the place of what was captured."""
+        gaps = [(run.frames[0] if run.frames else NEVER, run) for run in self.runs if run.lost]
+        gaps.sort(key=lambda gap: gap[0], reverse=True)
+        self.runs = [Run(0)]
+        frames = sorted(segment.frame for segment in self.segments if segment.frame in clear)
+        for frame in frames + [NEVER]:
+            while gaps and gaps[-1][0] <= frame:
+                _, gap = gaps.pop()
+                self.runs.append(Run(self.runs[-1].end, gap.lost, gap.cut, is_placed=False))
+            self.runs[-1].add(clear.get(frame, b""), frame)
+
+
+class Connection:
+    """A TCP connection, by the number that tshark gives it."""
+
+    def __init__(self, number):
+        self.number = number
+        self.directions = {}
+        # Whether it is under TLS, and nothing of it was decrypted.
+        self.is_hidden = False
+
+    def direction(self, source, target):
+        if (source, target) not in self.directions:
+            self.directions[source, target] = Direction(source, target)
+        return self.directions[source, target]
+
+    def take(self, values, source, target):
+        """Takes a segment, as the values of its fields."""
+        flags, length = int(values["tcp.flags"][0], 16), int(values["tcp.len"][0])
+        payload = bytes.fromhex("".join(values["tcp.payload"]).replace(":", ""))
+        direction = self.direction(source, target)
+        frame = int(values["frame.number"][0])
+        direction.take(int(values["tcp.seq_raw"][0]), flags, frame, length, payload)
+        if flags & ACK:
+            self.direction(target, source).acknowledge(int(values["tcp.ack_raw"][0]))
+
+    def order(self):
+        for direction in self.directions.values():
+            direction.order()
+            front = direction.runs[0].bytes[:3] if direction.runs else b""
+            self.is_hidden = self.is_hidden or bool(TLS_START.match(front))
+
+    def decrypt(self, clear):
+        for direction in self.directions.values():
+            direction.decrypt(clear)
+        self.is_hidden = not any(run.bytes for it in self.directions.values() for run in it.runs)
+
+
+class Capture:
+    """The connections in a file, by their numbers, and when each of their frames came."""
+
+    def __init__(self, file, ports, keys, trouble):
+        """Reads the connections that have one of these ports at an end, or all if none is given."""
+        self.connections = {}
+        self.seconds = {}
+        wanted = " || ".join(f"tcp.port=={port}" for port in ports)
+        # The header of a segment also stands in ICMP errors.
+        wanted = f"({wanted or 'tcp || ip.proto==6 || ipv6.nxt==6'}) && !icmp && !icmpv6"
+        cut = []
+        for row in tshark_rows(file, wanted, FIELDS, keys, trouble):
+            values = dict(zip(FIELDS, row))
+            if values["tcp.len"]:
+                self.take(values)
+            elif values["frame.len"] != values["frame.cap_len"]:
+                cut.append(values["frame.number"][0])
+        if cut:
+            trouble(f"cut inside the headers in front of TCP data: frame {', '.join(cut)}")
+        for connection in self.connections.values():
+            connection.order()
+        hidden = [connection for connection in self.connections.values() if connection.is_hidden]
+        if hidden:
+            clear = clear_of(file, wanted, keys, trouble)
+            for connection in hidden:
+                connection.decrypt(clear)
+
+    def take(self, values):
+        self.seconds[int(values["frame.number"][0])] = values["frame.time_epoch"][0]
+        number = int(values["tcp.stream"][0])
+        connection = self.connections.setdefault(number, Connection(number))
+        connection.take(values, *(end_of(values, side) for side in ("src", "dst")))
+
+
+def end_of(values, side):
+    """The address and the port of an end, as text. In a tunnel the innermost address counts."""
+    layers = [layer for layer in values["frame.protocols"][0].split(":") if layer in ("ip", "ipv6")]
+    address = values[f"{layers[-1]}.{side}"][-1] if layers else "?"
+    port = values[f"tcp.{side}port"][0]
+    return f"[{address}]:{port}" if ":" in address else f"{address}:{port}"
+
+
+def clear_of(file, wanted, keys, trouble):
+    """What tshark decrypts, by frame."""
+    wanted = f"tls && data && {wanted}"
+    rows = tshark_rows(file, wanted, ["frame.number", "data.data"], keys, trouble)
+    return {int(number): bytes.fromhex("".join(data)) for (number,), data in rows}

@@ -1,0 +1,458 @@
+#!/usr/bin/env python3
+"""Tests of pcap_packets.py: the example, and captures made here, one for each trouble."""
+import pathlib
+import re
+import shutil
+import struct
+import subprocess
+import sys
+import tempfile
+import time
+import unittest
+
+TOOLS = pathlib.Path(__file__).resolve().parent
+EXAMPLE = TOOLS.parent / "examples" / "opening.pcap"
+CLIENT, PROXY, SERVER = ("10.0.0.1", 40000), ("10.0.0.2", 80), ("10.0.0.3", 593)
+FIN, SYN, ACK = 1, 2, 16
+REQUEST = b"RPC_IN_DATA /rpc/rpcproxy.dll?server:593 HTTP/1.1\r\nContent-Length: 1073741824\r\n\r\n"
+OUT_REQUEST = b"RPC_OUT_DATA /rpc/rpcproxy.dll?server:593 HTTP/1.1\r\nContent-Length: 20\r\n\r\n"
+ANSWER = (
+    b"HTTP/1.1 200 Success\r\nContent-Type: application/rpc\r\n"
+    b"Content-Length: 1073741824\r\n\r\n"
+)
+GREETING = b"ncacn_http/1.0"
+ETHERNET = 1
+HEADER_LEN = 16
+
+
+def pdu(number, length=72):
+    """A request PDU (C706 12.6.4.9) with this call id."""
+    header = struct.pack("<4B4BHHI", 5, 0, 0, 3, 0x10, 0, 0, 0, length, 0, number)
+    return header + bytes([number]) * (length - HEADER_LEN)
+
+
+# An RTS packet with no command.
+RTS = struct.pack("<4B4BHHIHH", 5, 0, 20, 3, 0x10, 0, 0, 0, 20, 0, 0, 0, 0)
+PDUS = [pdu(number) for number in range(1, 10)]
+
+
+# A client's OUT channel under TLS 1.2: OUT_REQUEST and RTS, then ANSWER with PDUS[0], then PDUS[1].
+# It was made once with Python's ssl, by AECDH-AES128-SHA, which needs no certificate.
+TLS_KEYS = """CLIENT_RANDOM
+393da39775a26f4257662e34c1af1cb56c4417e787ca8a8d174d019c1c244e61
+e341e9eefbc33d2b02c13ec0a2200e2e555130774e8a19937365e1e1eddf9176820ff163002a4f7d8b87efdada54525b"""
+TLS_TALK = """
+up
+1603010085010000810303393da39775a26f4257662e34c1af1cb56c4417e787ca8a8d174d019c1c244e61000004c01800ff
+01000054000b000403000102000a000c000a001d0017001e001900180016000000170000000d0030002e0403050306030807
+08080809080a080b080408050806040105010601030302030301020103020202040205020602
+down
+16030300610200005d0303c751c6e325275efc5ee9a357d382ad8b1bf2fe4512642bc2db36011d97f51df82032e0b88ce6f9
+da994a14b86f4d0a0b175187cb9d27372011b9358e2594bb346bc018000015ff01000100000b000403000102001600000017
+000016030300280c00002403001d204fc52b7a74b349afd9094def68248e2aa599036f66eab8dd27d3a813201e014a160303
+00040e000000
+up
+16030300251000002120b61bcc8a7d56c1c4e41c67deaf6f8bdc63a099c5dcbc96102faae3f4a8bdd3491403030001011603
+03004451e06a05675e953fe0d5c76f1ff092245b13516dd0b2f89cfdd21c84661c98ece199f655b64822ef18e572b49fa362
+f7a53cd80a17969190432cddbbb886a71970109784
+down
+140303000101160303004452b88a429c5372c6bd1cff0220a2184002005510c0132e684fd1f0ef395f5e096faf482afd83d5
+0fd08b2f1bb21ac3eeb8a9ee7d1d45fe6c4780a68042eb75dd992bd0f9
+up
+170303008458c02a2137d006dfe95f53176c5f0ecaa4abbbed0a308596598c0193db69430d09805bdc9dddd0039196a1a1c2
+06007585ed2a677a28b721f6842a29521bc8649b3c8d266fb14a7e327b2a46c87e34a8fd90e3e06b05bad4678fd5b5d10d0f
+2083557fb7178454267a04d8624ec3582f2715b8201857c5bc436247c67a412f4bf08336f3
+down
+17030300c4281c472df1cc3c87c66821bc320a08dd5093b1654df92d36ae8d33e1532b53e54602e1d581382d0e02787cc7b3
+424f6d51227ddb9b09b5c941d8e163130afc98d59368fab1517461b75794045acc35c27973171052db8d213d0714cf2deb1d
+c979ada545aa260b3e9718545d5e787e98d9a56a2e105a6113c88fbb6b41403dcb4a21ddd8f7531241505e84490de292b1d2
+55bc796e695c0c02880452ca622d0dcfc52239660f1874c96be69596fbf2b55dc3939434093998c721bbddd5783590dad390
+a11703030074650068087a889c4de5b96eb842d8763da6d76ce17b0ddb99cd01be209abf166733e011dc12b0794cdaac7aa8
+5675c5c0c1d4fe53d9376e54ca104dc31950d43ffb65db69d712bfdc4cf3df016bc3d1ccbfe351715788a910e3ad15f685b5
+c5c431a08a5e5bc946618c58641a22690e4eb555af8c
+"""
+
+
+class Made:
+    """A capture that is being made; a frame each millisecond."""
+
+    def __init__(self):
+        self.frames = []
+
+    def frame(self, data, cut=None):
+        self.frames.append((data[:cut], len(data)))
+
+    def ip(self, source, target, payload, tag=b"", fragment=None, cut=None):
+        """A TCP segment in one IPv4 packet, or in fragments of so many bytes."""
+        step, number = fragment or len(payload), len(self.frames)
+        for at in range(0, len(payload), step):
+            piece = payload[at : at + step]
+            place = at // 8 | (0x2000 if at + step < len(payload) else 0)
+            hosts = b"".join(bytes(map(int, end[0].split("."))) for end in (source, target))
+            head = struct.pack(">BBHHHBBH", 0x45, 0, 20 + len(piece), number, place, 64, 6, 0)
+            self.frame(bytes(12) + tag + b"\x08\x00" + head + hosts + piece, cut)
+
+    def segment(self, source, target, number, payload=b"", flags=ACK, other=0, **how):
+        ports, numbers = (source[1], target[1]), (number % 2**32, other % 2**32)
+        tcp = struct.pack(">HHIIBBHHH", *ports, *numbers, 0x50, flags, 65535, 0, 0)
+        self.ip(source, target, tcp + payload, **how)
+
+    def pcap(self):
+        text = struct.pack("<IHHiIII", 0xA1B2C3D4, 2, 4, 0, 0, 65535, ETHERNET)
+        for number, (data, length) in enumerate(self.frames):
+            text += struct.pack("<IIII", 1700000000, number * 1000, len(data), length) + data
+        return text
+
+    def pcapng(self):
+        def block(kind, body):
+            size = 12 + len(body)
+            return struct.pack("<II", kind, size) + body + struct.pack("<I", size)
+
+        text = block(0x0A0D0D0A, struct.pack("<IHHq", 0x1A2B3C4D, 1, 0, -1))
+        text += block(1, struct.pack("<HHI", ETHERNET, 0, 65535))
+        for number, (data, length) in enumerate(self.frames):
+            body = struct.pack("<IIIII", 0, 0, number * 1000, len(data), length) + data
+            text += block(6, body + bytes(-len(data) % 4))
+        return text
+
+
+class Talk:
+    """A connection in a capture: what its ends send, each segment behind the last."""
+
+    def __init__(self, made, client=CLIENT, server=SERVER, first=1000, opened=True, greeted=True):
+        self.made, self.client, self.server = made, client, server
+        self.next = {client: first + 1, server: first + 50_001}
+        if opened:
+            made.segment(client, server, first, flags=SYN)
+            made.segment(server, client, first + 50_000, flags=SYN | ACK, other=first + 1)
+        if greeted:
+            self.up(b"")
+            self.down(GREETING)
+
+    def send(self, source, target, payload, is_kept=True, flags=ACK, **how):
+        if is_kept:
+            number, other = self.next[source], self.next[target]
+            self.made.segment(source, target, number, payload, flags, other, **how)
+        self.next[source] += len(payload)
+
+    def up(self, payload, **how):
+        self.send(self.client, self.server, payload, **how)
+
+    def down(self, payload, **how):
+        self.send(self.server, self.client, payload, **how)
+
+
+def talk_under_tls():
+    made = Made()
+    talk = Talk(made, server=("10.0.0.2", 443), greeted=False)
+    for side, text in re.findall(r"(up|down)\n((?:[0-9a-f]+\n)+)", TLS_TALK):
+        sent = bytes.fromhex(text)
+        for at in range(0, len(sent), 90):
+            getattr(talk, side)(sent[at : at + 90])
+    return made
+
+
+def lost_of(*lost, pdus=PDUS, **how):
+    """A connection of proxy and server of which these segments, each a PDU, were not captured."""
+    made = Made()
+    talk = Talk(made)
+    for number, packet in enumerate(pdus):
+        talk.up(packet, is_kept=number not in lost, **how)
+    return made
+
+
+class Case(unittest.TestCase):
+    def run_tool(self, capture, *words):
+        """What the tool writes of a capture, its lines of standard error, and its status."""
+        with tempfile.TemporaryDirectory() as folder:
+            file = pathlib.Path(folder) / "capture"
+            file.write_bytes(capture if isinstance(capture, bytes) else capture.pcap())
+            command = [sys.executable, TOOLS / "pcap_packets.py", file, *words]
+            done = subprocess.run(command, capture_output=True, text=True, check=False)
+        return done.stdout.split("\n")[:-1], done.stderr, done.returncode
+
+    def check(self, capture, packets, told=(), status=0, words=()):
+        """Checks the packets, the status and standard error, which is empty if no text is given."""
+        lines, error, ended = self.run_tool(capture, *words)
+        self.assertEqual(lines, [packet.hex() for packet in packets], error)
+        self.assertEqual(ended, status, error)
+        for text in told:
+            self.assertIn(text, error)
+        if not told:
+            self.assertEqual(error, "")
+
+
+@unittest.skipUnless(shutil.which("tshark"), "no tshark")
+class Captures(Case):
+    def test_the_example(self):
+        lines, error, status = self.run_tool(EXAMPLE.read_bytes())
+        self.assertEqual((error, status), ("", 0))
+        # The kind and frag_length of each, as the README's page of the example has them.
+        self.assertEqual([(line[4:6], len(line) // 2) for line in lines], [
+            ("14", 76), ("14", 104), ("14", 28), ("14", 44), ("0b", 72), ("0c", 60), ("14", 56)])
+
+    def test_context_tells_time_connection_and_direction(self):
+        lines, _, _ = self.run_tool(EXAMPLE.read_bytes(), "--context")
+        for number, context in (
+            (0, "2023-11-14T22:13:20.005000000Z 0 10.0.0.2:49152 > 10.0.0.9:80 0500140310"),
+            (1, "2023-11-14T22:13:20.008000000Z 1 10.0.0.2:49153 > 10.0.0.8:80 0500140310"),
+            (2, "2023-11-14T22:13:20.010000000Z 0 10.0.0.9:80 > 10.0.0.2:49152 0500140310"),
+        ):
+            self.assertTrue(lines[number].startswith(context), lines[number])
+
+    def test_heads_and_packets_of_a_client(self):
+        made = Made()
+        talk = Talk(made, server=PROXY, greeted=False)
+        talk.up(REQUEST[:30])
+        talk.up(REQUEST[30:] + RTS + PDUS[0][:5])
+        talk.up(PDUS[0][5:])
+        talk.down(ANSWER + RTS + PDUS[1])
+        self.check(made, [RTS, PDUS[0], RTS, PDUS[1]])
+
+    def test_a_greeting_and_packets_of_a_server(self):
+        made = Made()
+        talk = Talk(made)
+        talk.up(PDUS[0])
+        talk.down(PDUS[1] + PDUS[2])
+        self.check(made, PDUS[:3])
+
+    def test_the_body_of_a_401_is_passed_over(self):
+        made = Made()
+        talk = Talk(made, server=PROXY, greeted=False)
+        body = b"<html>05000b03 HTTP/1.1 200 </html>"
+        talk.up(OUT_REQUEST + RTS)
+        talk.down(b"HTTP/1.1 401 Unauthorized\r\nContent-Length: %d\r\n\r\n" % len(body) + body[:9])
+        talk.down(body[9:])
+        talk.up(OUT_REQUEST + RTS)
+        talk.down(ANSWER + PDUS[0])
+        self.check(made, [RTS, RTS, PDUS[0]])
+
+    def test_a_request_is_sent_again_inside_its_body(self):
+        made = Made()
+        talk = Talk(made, server=PROXY, greeted=False)
+        talk.up(REQUEST + RTS)
+        talk.down(b"HTTP/1.1 401 Unauthorized\r\nContent-Length: 3\r\n\r\nabc")
+        talk.up(REQUEST + RTS + PDUS[0])
+        self.check(made, [RTS, RTS, PDUS[0]])
+
+    def test_the_chunks_of_a_401_are_passed_over(self):
+        made = Made()
+        talk = Talk(made, server=PROXY, greeted=False)
+        talk.up(OUT_REQUEST + RTS)
+        talk.down(b"HTTP/1.1 401 No\r\nTransfer-Encoding: chunked\r\n\r\n")
+        talk.down(b"5\r\nhello\r\nA;x=y\r\n0123456789\r\n0\r\n\r\n")
+        talk.down(ANSWER + PDUS[0])
+        self.check(made, [RTS, PDUS[0]])
+
+    def test_an_echo_request_has_no_packet(self):
+        made = Made()
+        talk = Talk(made, server=PROXY, greeted=False)
+        talk.up(REQUEST.replace(b"1073741824", b"4") + b"\x05\x05\x05\x05")
+        talk.down(ANSWER.replace(b"1073741824", b"20") + RTS)
+        self.check(made, [RTS])
+
+    def test_behind_other_requests_on_the_connection(self):
+        made = Made()
+        talk = Talk(made, server=PROXY, greeted=False)
+        talk.up(b"POST /page HTTP/1.1\r\nContent-Length: 5\r\n\r\nhello")
+        talk.down(b"HTTP/1.1 200 OK\r\nContent-Type: text/html\r\nContent-Length: 2\r\n\r\nok")
+        talk.up(REQUEST + RTS)
+        talk.down(b"HTTP/1.1 100 Continue\r\n\r\n" + ANSWER + PDUS[0])
+        self.check(made, [RTS, PDUS[0]])
+
+    def test_a_gap_is_told_and_the_rest_read(self):
+        place = "connection 0, 10.0.0.1:40000 > 10.0.0.3:593, byte 216: "
+        told = "72 bytes are missing; read on from byte 288, frame 8"
+        self.check(lost_of(3), PDUS[:3] + PDUS[4:], [place + told], 1)
+
+    def test_a_gap_that_is_acknowledged(self):
+        made = lost_of(3)
+        made.segment(SERVER, CLIENT, 51_015, other=1001 + 9 * 72)
+        self.check(made, PDUS[:3] + PDUS[4:], ["byte 216: 72 bytes are missing"], 1)
+
+    def test_a_gap_inside_a_packet(self):
+        made = Made()
+        talk = Talk(made)
+        for number, packet in enumerate(PDUS[:3]):
+            talk.up(packet[:30])
+            talk.up(packet[30:40], is_kept=number != 1)
+            talk.up(packet[40:])
+        told = "byte 102: 10 bytes are missing, inside a packet of 72 bytes that begins at byte 72"
+        self.check(made, [PDUS[0], PDUS[2]], [told, "; read on from byte 144, frame 10"], 1)
+
+    def test_a_gap_at_the_end(self):
+        made = lost_of(8)
+        self.check(made, PDUS[:8])
+        made.segment(SERVER, CLIENT, 51_015, other=1001 + 9 * 72)
+        self.check(made, PDUS[:8], ["byte 576: 72 bytes are missing"], 1)
+        made = Made()
+        talk = Talk(made)
+        talk.up(PDUS[0])
+        talk.up(PDUS[1], is_kept=False)
+        talk.up(b"", flags=FIN | ACK)
+        self.check(made, PDUS[:1], ["byte 72: 72 bytes are missing"], 1)
+
+    def test_a_gap_at_the_beginning(self):
+        self.check(lost_of(0), PDUS[1:], ["byte 0: 72 bytes are missing; read on from byte 72"], 1)
+
+    def test_a_gap_in_a_body_that_is_passed_over(self):
+        made = Made()
+        talk = Talk(made, server=PROXY, greeted=False)
+        talk.down(b"HTTP/1.1 401 Unauthorized\r\nContent-Length: 300\r\n\r\n" + bytes(100))
+        talk.down(bytes(100), is_kept=False)
+        talk.down(bytes(100) + ANSWER + PDUS[0])
+        self.check(made, PDUS[:1], ["100 bytes are missing; read on from byte"], 1)
+
+    def test_a_packet_that_was_cut(self):
+        told = "byte 242: 46 bytes are missing, as frame 8 was cut, inside a packet of 72 bytes"
+        made = lost_of()
+        data, length = made.frames[7]
+        made.frames[7] = data[:80], length
+        self.check(made, PDUS[:3] + PDUS[4:], [told, "read on from byte 288, frame 9"], 1)
+
+    def test_a_packet_that_was_cut_and_sent_again(self):
+        made = lost_of()
+        data, length = made.frames[7]
+        made.frames[7] = data[:80], length
+        made.frames.append((data, length))
+        self.check(made, PDUS)
+
+    def test_packets_cut_inside_their_headers(self):
+        for cut in (30, 40, 54):
+            with self.subTest(cut=cut):
+                made = lost_of()
+                data, length = made.frames[7]
+                made.frames[7] = data[:cut], length
+                self.check(made, PDUS[:3] + PDUS[4:], ["byte 216: 72 bytes are missing"], 1)
+
+    def test_a_file_that_was_cut(self):
+        self.check(lost_of().pcap()[:-10], PDUS[:8], ["cut short"], 1)
+
+    def test_a_capture_that_ends_inside_a_packet(self):
+        made = Made()
+        Talk(made).up(PDUS[0] + PDUS[1][:40])
+        told = "byte 112: the capture ends inside a packet of 72 bytes that begins at byte 72"
+        self.check(made, PDUS[:1], [told], 1)
+
+    def test_a_reused_port_is_another_connection(self):
+        made = Made()
+        for first, packet in ((1000, PDUS[0]), (700_000, PDUS[1]), (90, PDUS[2])):
+            Talk(made, first=first).up(packet)
+        self.check(made, PDUS[:3])
+
+    def test_a_reused_port_whose_opening_was_lost(self):
+        for first in (10_000_000, 2**32 - 90_000):
+            with self.subTest(first=first):
+                made = Made()
+                Talk(made).up(PDUS[0])
+                Talk(made, first=first, opened=False, greeted=False).up(PDUS[1])
+                self.check(made, PDUS[:2], ["bytes are missing; read on from byte"], 1)
+
+    def test_ip_fragments(self):
+        self.check(lost_of(fragment=32), PDUS)
+
+    def test_a_fragment_that_is_missing(self):
+        made = lost_of(fragment=32)
+        del made.frames[12]
+        self.check(made, PDUS[:2] + PDUS[3:], ["byte 144: 72 bytes are missing"], 1)
+
+    def test_tags_of_vlans(self):
+        self.check(lost_of(tag=bytes.fromhex("81000007")), PDUS)
+        self.check(lost_of(tag=bytes.fromhex("88a8000581000007")), PDUS)
+
+    def test_pcapng(self):
+        self.check(lost_of().pcapng(), PDUS)
+
+    def test_segments_out_of_order_repeated_and_past_the_greatest_number(self):
+        made = Made()
+        talk = Talk(made, first=2**32 - 200)
+        for packet in PDUS:
+            talk.up(packet)
+        made.frames[5:] = [frame for frame in reversed(made.frames[5:]) for _ in range(2)]
+        self.check(made, PDUS)
+
+    def test_a_foreign_connection_is_left_out_and_counted(self):
+        made = Made()
+        talk = Talk(made, client=("10.0.0.9", 50_000), server=("10.0.0.8", 22), greeted=False)
+        talk.down(b"SSH-2.0-OpenSSH_9.2\r\n")
+        talk.up(bytes(range(256)) * 4)
+        Talk(made, client=("10.0.0.9", 50_001), server=("10.0.0.8", 25), greeted=False)
+        Talk(made).up(PDUS[0])
+        self.check(made, PDUS[:1], ["connections left out: 2 without RPC over HTTP, of 3"])
+
+    def test_pdus_alone_are_taken_where_their_port_is_named(self):
+        made = Made()
+        Talk(made, greeted=False).up(PDUS[0])
+        self.check(made, [], ["connections left out: 1 of RPC PDUs alone, of 1"])
+        self.check(made, PDUS[:1], words=["--port", "593"])
+
+    def test_ports_filter(self):
+        made = Made()
+        Talk(made).up(PDUS[0])
+        Talk(made, server=("10.0.0.3", 594)).up(PDUS[1])
+        Talk(made, server=("10.0.0.3", 595)).up(PDUS[2])
+        self.check(made, PDUS[1:2], words=["--port", "594"])
+        self.check(made, PDUS[1:3], words=["--port", "594", "--port", "595"])
+
+    def test_bytes_that_are_no_packet(self):
+        made = Made()
+        talk = Talk(made)
+        for payload in (PDUS[0], b"\xff" * 50, PDUS[1]):
+            talk.up(payload)
+        told = "byte 72: neither a packet nor a head begins here, frame 6: " + "ff" * HEADER_LEN
+        self.check(made, PDUS[:2], [told + "; read on from byte 122, frame 7"], 1)
+
+    def test_a_length_below_that_of_a_header(self):
+        made = Made()
+        talk = Talk(made)
+        for payload in (PDUS[0], pdu(1, HEADER_LEN - 1), PDUS[1]):
+            talk.up(payload)
+        self.check(made, PDUS[:2], ["byte 72: neither a packet nor a head begins here"], 1)
+
+    def test_what_is_no_capture(self):
+        self.check(b"no capture at all\n" * 9, [], ["isn't a capture file"], 2)
+
+    def test_tls_that_is_decrypted(self):
+        made = talk_under_tls()
+        with tempfile.TemporaryDirectory() as folder:
+            keys = pathlib.Path(folder) / "keys"
+            keys.write_text(" ".join(TLS_KEYS.split()) + "\n")
+            self.check(made, [RTS, *PDUS[:2]], words=["--keys", str(keys)])
+            # The server's last segment but one, inside the record of its first PDU.
+            del made.frames[-2]
+            told = ["10.0.0.2:443 > 10.0.0.1:40000, byte 0: 90 bytes are missing"]
+            self.check(made, [RTS], told, 1, ["--keys", str(keys)])
+
+    def test_tls_without_keys_is_left_out(self):
+        self.check(talk_under_tls(), [], ["connections left out: 1 under TLS, not decrypted, of 1"])
+
+
+class WithoutTshark(Case):
+    def test_time_is_linear_in_the_segments_behind_a_gap(self):
+        sys.path.insert(0, str(TOOLS))
+        from captured import Direction
+        from pcap_packets import Reader
+
+        count = 30_000
+        direction = Direction("a", "b")
+        start = time.process_time()
+        for number in range(count):
+            if number != 1:
+                direction.take(number * 72, ACK, number, 72, PDUS[0])
+        direction.order()
+        reader = Reader(direction)
+        reader.read()
+        self.assertEqual((len(reader.packets), len(reader.troubles)), (count - 1, 1))
+        # It takes less than a second; quadratic time took minutes.
+        self.assertLess(time.process_time() - start, 30)
+
+    def test_no_tshark_is_told(self):
+        command = [sys.executable, TOOLS / "pcap_packets.py", EXAMPLE]
+        how = {"capture_output": True, "text": True, "check": False}
+        done = subprocess.run(command, **how, env={"PATH": "/nowhere"})
+        self.assertEqual((done.stdout, done.returncode), ("", 2))
+        self.assertIn("tshark can't be run", done.stderr)
+
+
+if __name__ == "__main__":
+    unittest.main()
