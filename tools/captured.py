@@ -14,8 +14,10 @@ from typing import NamedTuple
 FIELDS = """frame.number frame.time_epoch frame.len frame.cap_len frame.protocols ip.src ip.dst
     ipv6.src ipv6.dst tcp.srcport tcp.dstport tcp.stream tcp.seq_raw tcp.ack_raw tcp.flags tcp.len
     tcp.payload""".split()
-SETTINGS = """ip.defragment:TRUE ipv6.defragment:TRUE tcp.desegment_tcp_streams:TRUE
-    tcp.reassemble_out_of_order:TRUE tls.desegment_ssl_records:TRUE
+SETTINGS = ["ip.defragment:TRUE", "ipv6.defragment:TRUE"]
+# tshark takes quadratic time to put segments in order behind a gap, and gives none of them.
+PLAIN = ["tcp.desegment_tcp_streams:FALSE", "tcp.reassemble_out_of_order:FALSE"]
+TLS = """tcp.desegment_tcp_streams:TRUE tls.desegment_ssl_records:TRUE
     tls.desegment_ssl_application_data:TRUE""".split()
 FIN, SYN, RESET, ACK = 1, 2, 4, 16
 # A window is smaller than this (RFC 7323 section 2.3), so no true acknowledgement is so far ahead.
@@ -30,13 +32,12 @@ class NotRead(Exception):
     """Nothing of the capture can be read."""
 
 
-def tshark_rows(capture, wanted, fields, keys, trouble):
+def tshark_rows(capture, wanted, fields, settings, trouble):
     """The wanted frames, each as the values of these fields, each of which is a list of words."""
     # Without its HTTP, tshark tells what it decrypted as plain data.
     command = ["tshark", "-n", "-r", capture, "-Y", wanted, "-T", "fields"]
     command += ["--disable-protocol", "http", "--disable-protocol", "http2"]
-    settings = SETTINGS + ([f"tls.keylog_file:{keys}"] if keys else [])
-    for option, values in (("-o", settings), ("-e", fields)):
+    for option, values in (("-o", SETTINGS + settings), ("-e", fields)):
         command += [word for value in values for word in (option, value)]
     is_read = False
     with tempfile.TemporaryFile("w+", errors="replace") as told:
@@ -121,6 +122,10 @@ class Direction:
         self.finished = 0
         self.acknowledged = 0
         self.runs = []
+        self.has_gap = False
+        # Where the captured segments end so far, and whether one was missing at some time.
+        self.reached = None
+        self.is_disordered = False
 
     def counted(self, number):
         """A sequence number counted on past 2^32, as the one nearest to the last."""
@@ -137,6 +142,9 @@ class Direction:
             self.first = number
         if length:
             self.segments.append(Segment(number, frame, length, payload))
+        if self.reached is not None and number > self.reached:
+            self.is_disordered = True
+        self.reached = max(self.reached or number, number + length)
         if flags & FIN:
             self.finished = max(self.finished, number + length)
 
@@ -146,6 +154,7 @@ class Direction:
             number = self.counted(number)
             if number < self.last + FARTHEST:
                 self.acknowledged = max(self.acknowledged, number)
+                self.is_disordered = self.is_disordered or number > self.reached + 1
 
     def order(self):
         """Puts what was captured in order, as runs; the last is empty where the end is missing."""
@@ -169,6 +178,7 @@ class Direction:
         if self.acknowledged > whole + 1:
             whole = self.acknowledged
         self.lay(whole, end, cuts)
+        self.has_gap = any(run.lost for run in self.runs)
 
     def lay(self, number, end, cuts):
         """Begins a run where bytes are missing between the end so far and this number."""
@@ -231,11 +241,13 @@ class Capture:
         """Reads the connections that have one of these ports at an end, or all if none is given."""
         self.connections = {}
         self.seconds = {}
+        self.file = file
+        self.trouble = trouble
         wanted = " || ".join(f"tcp.port=={port}" for port in ports)
         # The header of a segment also stands in ICMP errors.
         wanted = f"({wanted or 'tcp || ip.proto==6 || ipv6.nxt==6'}) && !icmp && !icmpv6"
         cut = []
-        for row in tshark_rows(file, wanted, FIELDS, keys, trouble):
+        for row in tshark_rows(file, wanted, FIELDS, PLAIN, trouble):
             values = dict(zip(FIELDS, row))
             if values["tcp.len"]:
                 self.take(values)
@@ -247,9 +259,24 @@ class Capture:
             connection.order()
         hidden = [connection for connection in self.connections.values() if connection.is_hidden]
         if hidden:
-            clear = clear_of(file, wanted, keys, trouble)
-            for connection in hidden:
-                connection.decrypt(clear)
+            self.decrypt(hidden, wanted, keys)
+
+    def decrypt(self, hidden, wanted, keys):
+        """Has tshark decrypt, and put segments in order for that if none is missing anywhere."""
+        directions = [it for connection in hidden for it in connection.directions.values()]
+        is_ordering = not any(direction.has_gap for direction in directions)
+        settings = TLS + [f"tcp.reassemble_out_of_order:{str(is_ordering).upper()}"]
+        settings += [f"tls.keylog_file:{keys}"] if keys else []
+        wanted, fields = f"tls && data && {wanted}", ["frame.number", "data.data"]
+        clear = {}
+        for (number,), data in tshark_rows(self.file, wanted, fields, settings, self.trouble):
+            clear[int(number)] = bytes.fromhex("".join(data))
+        for connection in hidden:
+            connection.decrypt(clear)
+            is_disordered = any(it.is_disordered for it in connection.directions.values())
+            if is_disordered and not is_ordering and not connection.is_hidden:
+                text = "segments out of order were not decrypted, as some are missing under TLS"
+                self.trouble(f"connection {connection.number}: {text}")
 
     def take(self, values):
         self.seconds[int(values["frame.number"][0])] = values["frame.time_epoch"][0]
@@ -264,10 +291,3 @@ def end_of(values, side):
     address = values[f"{layers[-1]}.{side}"][-1] if layers else "?"
     port = values[f"tcp.{side}port"][0]
     return f"[{address}]:{port}" if ":" in address else f"{address}:{port}"
-
-
-def clear_of(file, wanted, keys, trouble):
-    """What tshark decrypts, by frame."""
-    wanted = f"tls && data && {wanted}"
-    rows = tshark_rows(file, wanted, ["frame.number", "data.data"], keys, trouble)
-    return {int(number): bytes.fromhex("".join(data)) for (number,), data in rows}

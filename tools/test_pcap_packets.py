@@ -2,12 +2,12 @@
 """Tests of pcap_packets.py: the example, and captures made here, one for each trouble."""
 import pathlib
 import re
+import resource
 import shutil
 import struct
 import subprocess
 import sys
 import tempfile
-import time
 import unittest
 
 TOOLS = pathlib.Path(__file__).resolve().parent
@@ -89,7 +89,7 @@ class Made:
             piece = payload[at : at + step]
             place = at // 8 | (0x2000 if at + step < len(payload) else 0)
             hosts = b"".join(bytes(map(int, end[0].split("."))) for end in (source, target))
-            head = struct.pack(">BBHHHBBH", 0x45, 0, 20 + len(piece), number, place, 64, 6, 0)
+            head = struct.pack(">BBHHHBBH", 0x45, 0, 20 + len(piece), number % 2**16, place, 64, 6, 0)
             self.frame(bytes(12) + tag + b"\x08\x00" + head + hosts + piece, cut)
 
     def segment(self, source, target, number, payload=b"", flags=ACK, other=0, **how):
@@ -98,10 +98,11 @@ class Made:
         self.ip(source, target, tcp + payload, **how)
 
     def pcap(self):
-        text = struct.pack("<IHHiIII", 0xA1B2C3D4, 2, 4, 0, 0, 65535, ETHERNET)
+        pieces = [struct.pack("<IHHiIII", 0xA1B2C3D4, 2, 4, 0, 0, 65535, ETHERNET)]
         for number, (data, length) in enumerate(self.frames):
-            text += struct.pack("<IIII", 1700000000, number * 1000, len(data), length) + data
-        return text
+            seconds, part = divmod(number, 1000)
+            pieces.append(struct.pack("<IIII", seconds, part * 1000, len(data), length) + data)
+        return b"".join(pieces)
 
     def pcapng(self):
         def block(kind, body):
@@ -243,6 +244,15 @@ class Captures(Case):
         talk.down(b"5\r\nhello\r\nA;x=y\r\n0123456789\r\n0\r\n\r\n")
         talk.down(ANSWER + PDUS[0])
         self.check(made, [RTS, PDUS[0]])
+
+    def test_packets_in_chunks_are_told(self):
+        made = Made()
+        talk = Talk(made, server=PROXY, greeted=False)
+        talk.up(OUT_REQUEST + RTS)
+        head = ANSWER.replace(b"Content-Length: 1073741824", b"Transfer-Encoding: chunked")
+        talk.down(head + b"14\r\n" + RTS + b"\r\n")
+        told = f"byte {len(head)}: the chunked body of an answer is left out"
+        self.check(made, [RTS], [told], 1)
 
     def test_an_echo_request_has_no_packet(self):
         made = Made()
@@ -412,15 +422,27 @@ class Captures(Case):
     def test_what_is_no_capture(self):
         self.check(b"no capture at all\n" * 9, [], ["isn't a capture file"], 2)
 
+    def test_time_is_linear_in_the_segments_behind_a_gap(self):
+        count = 40_000
+        packets = PDUS[:1] * count
+        before = resource.getrusage(resource.RUSAGE_CHILDREN).ru_utime
+        lines, error, status = self.run_tool(lost_of(1, pdus=packets))
+        seconds = resource.getrusage(resource.RUSAGE_CHILDREN).ru_utime - before
+        self.assertEqual((len(lines), error.count("missing"), status), (count - 1, 1, 1))
+        # It takes some 3 seconds; tshark's own ordering, or a search for each segment, takes 30.
+        self.assertLess(seconds, 15)
+
     def test_tls_that_is_decrypted(self):
         made = talk_under_tls()
         with tempfile.TemporaryDirectory() as folder:
             keys = pathlib.Path(folder) / "keys"
             keys.write_text(" ".join(TLS_KEYS.split()) + "\n")
             self.check(made, [RTS, *PDUS[:2]], words=["--keys", str(keys)])
-            # The server's last segment but one, inside the record of its first PDU.
-            del made.frames[-2]
-            told = ["10.0.0.2:443 > 10.0.0.1:40000, byte 0: 90 bytes are missing"]
+            # Each part of a record in the last four frames, which are the server's.
+            made.frames[-4:-2] = reversed(made.frames[-4:-2])
+            self.check(made, [RTS, *PDUS[:2]], words=["--keys", str(keys)])
+            del made.frames[-4]
+            told = ["10.0.0.2:443 > 10.0.0.1:40000, byte 0: 90 bytes are missing", "out of order"]
             self.check(made, [RTS], told, 1, ["--keys", str(keys)])
 
     def test_tls_without_keys_is_left_out(self):
@@ -428,24 +450,6 @@ class Captures(Case):
 
 
 class WithoutTshark(Case):
-    def test_time_is_linear_in_the_segments_behind_a_gap(self):
-        sys.path.insert(0, str(TOOLS))
-        from captured import Direction
-        from pcap_packets import Reader
-
-        count = 30_000
-        direction = Direction("a", "b")
-        start = time.process_time()
-        for number in range(count):
-            if number != 1:
-                direction.take(number * 72, ACK, number, 72, PDUS[0])
-        direction.order()
-        reader = Reader(direction)
-        reader.read()
-        self.assertEqual((len(reader.packets), len(reader.troubles)), (count - 1, 1))
-        # It takes less than a second; quadratic time took minutes.
-        self.assertLess(time.process_time() - start, 30)
-
     def test_no_tshark_is_told(self):
         command = [sys.executable, TOOLS / "pcap_packets.py", EXAMPLE]
         how = {"capture_output": True, "text": True, "check": False}
