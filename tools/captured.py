@@ -14,6 +14,8 @@ from typing import NamedTuple
 FIELDS = """frame.number frame.time_epoch frame.len frame.cap_len frame.protocols ip.src ip.dst
     ipv6.src ipv6.dst tcp.srcport tcp.dstport tcp.stream tcp.seq_raw tcp.ack_raw tcp.flags tcp.len
     tcp.payload""".split()
+# What each whole header of a segment has.
+HEADER = ("tcp.stream", "tcp.seq_raw", "tcp.flags", "tcp.len")
 SETTINGS = ["ip.defragment:TRUE", "ipv6.defragment:TRUE"]
 # tshark takes quadratic time to put segments in order behind a gap, and gives none of them.
 PLAIN = ["tcp.desegment_tcp_streams:FALSE", "tcp.reassemble_out_of_order:FALSE"]
@@ -246,15 +248,15 @@ class Capture:
         wanted = " || ".join(f"tcp.port=={port}" for port in ports)
         # The header of a segment also stands in ICMP errors.
         wanted = f"({wanted or 'tcp || ip.proto==6 || ipv6.nxt==6'}) && !icmp && !icmpv6"
-        cut = []
+        broken = []
         for row in tshark_rows(file, wanted, FIELDS, PLAIN, trouble):
             values = dict(zip(FIELDS, row))
-            if values["tcp.len"]:
+            if all(values[name] for name in HEADER):
                 self.take(values)
-            elif values["frame.len"] != values["frame.cap_len"]:
-                cut.append(values["frame.number"][0])
-        if cut:
-            trouble(f"cut inside the headers in front of TCP data: frame {', '.join(cut)}")
+            elif values["tcp.srcport"] or values["frame.len"] != values["frame.cap_len"]:
+                broken.append(values["frame.number"][0])
+        if broken:
+            trouble(f"no whole header of a TCP segment in frame {', '.join(broken)}")
         for connection in self.connections.values():
             connection.order()
         hidden = [connection for connection in self.connections.values() if connection.is_hidden]

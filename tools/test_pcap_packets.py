@@ -328,7 +328,8 @@ class Captures(Case):
         self.check(made, PDUS)
 
     def test_packets_cut_inside_their_headers(self):
-        for cut in (30, 40, 54):
+        # Behind 14 bytes of Ethernet, 20 of IP, and of TCP the byte with the length of its header.
+        for cut in (30, 40, 47, 54):
             with self.subTest(cut=cut):
                 made = lost_of()
                 data, length = made.frames[7]
