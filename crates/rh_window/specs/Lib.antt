@@ -1,0 +1,4 @@
+pub mod Sides
+pub mod Sending
+pub mod Receiving
+pub mod Hops

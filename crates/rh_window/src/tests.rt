@@ -1,0 +1,5 @@
+//! Worked rows of both sides, and each comparison at its edge.
+
+mod hop;
+mod receiving;
+mod sending;
