@@ -1,0 +1,3 @@
+mod sum;
+mod threads;
+mod turns;
