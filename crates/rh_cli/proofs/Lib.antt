@@ -1,6 +1,4 @@
 pub mod Results
-pub mod Reading
-pub mod Playing
+pub mod Coming
 pub mod Gathering
-pub mod Packets
-pub mod Showing
+pub mod Writing

@@ -1,5 +1,7 @@
-pub mod Statuses
-pub mod Forms
-pub mod Replay
 pub mod Words
+pub mod Statuses
+pub mod Replay
+pub mod Replays
 pub mod Show
+pub mod Shows
+pub mod Forms

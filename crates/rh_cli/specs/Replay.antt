@@ -1,25 +1,24 @@
--- what the word `replay` writes of the recording that came
-use Rattle.std.specs.Prelude.{◌≡◌, ℕ, List, ◌++◌}
+-- what the word `replay` does, and what it writes of the recording that came
+use Rattle.std.specs.Prelude.{◌≡◌, ℕ, List}
+use Rattle.rh_text.specs.Lines.{TextOf}
 use Rattle.rh_world.specs.declared.line.Line.{Line}
-use Rattle.rh_world.specs.declared.line.RecordKind.{RecordKind}
-use Rattle.rh_world.specs.Recording.{RecordingText, IsLine}
+use Rattle.rh_world.specs.Recording.{recording}
 use Rattle.rh_world.specs.Report.{report_text}
-use Rattle.rh_world.specs.Direct.{World, run, step, answers}
+use Rattle.rh_world.specs.Direct.{World, empty, run, step, last}
 use Rattle.rh_world.specs.Order.{InOrder}
+use Rattle.rh_cli.specs.Words.{Deeds}
 
--- the bytes are a recording
-abbrev pub IsRecording : List ℕ → Type 0
-IsRecording bytes = (lines : List Line) × RecordingText bytes lines
-
--- a line is done: the world takes its step, and the text of what it answers is gathered
-pub record Does (line : Line) (kind : RecordKind) (spelling : List ℕ) (world next : World) (gathered after : List ℕ) : Type 0 where
-  pub is_line : IsLine kind spelling line
-  pub world_is : next ≡ step world line
-  pub gathered_is : after ≡ gathered ++ report_text (answers world line)
+-- it starts with an empty world, does a line to it, and writes the text of what is answered
+abbrev pub replaying : Deeds World Line
+replaying = record {
+  Starts = λ world. world ≡ empty;
+  Does = λ world line told next. (told ≡ report_text (step world line).1) × (next ≡ (step world line).0);
+  Ends = λ world told. told ≡ report_text (last world);
+}
 
 -- what came is a recording, and what was written is its report, which is in order
 pub record IsReplayed (came written : List ℕ) : Type 0 where
   pub lines : List Line
-  pub recording : RecordingText came lines
+  pub is_text : TextOf recording came lines
   pub report : written ≡ report_text (run lines)
   pub in_order : InOrder lines (run lines)

@@ -1,14 +1,20 @@
--- what the word `show` writes of the packets that came
-use Rattle.std.specs.Prelude.{ℕ, List}
-use Rattle.rh_show.specs.Lines.{PacketsText}
-use Rattle.rh_show.specs.Shown.{ShowText}
+-- what the word `show` does, and what it writes of the packets that came
+use Rattle.std.specs.Prelude.{◌≡◌, ℕ, List, [], ◌∷◌, ◌++◌}
+use Rattle.rh_text.specs.Lines.{TextOf}
+use Rattle.rh_show.specs.Lines.{packets}
+use Rattle.rh_show.specs.Shown.{ShownAs, ShowText}
+use Rattle.rh_cli.specs.Words.{Deeds}
 
--- the bytes are lines of hex, one packet each
-abbrev pub ArePackets : List ℕ → Type 0
-ArePackets bytes = (packets : List (List ℕ)) × PacketsText bytes packets
+-- it writes one line for each packet, and keeps nothing
+abbrev pub showing : Deeds (Unit {0}) (List ℕ)
+showing = record {
+  Starts = λ _. Unit {0};
+  Does = λ _ bytes told _. (line : List ℕ) × ShownAs bytes line × (told ≡ line ++ 10 ∷ []);
+  Ends = λ _ told. told ≡ [];
+}
 
--- what came is lines of hex, one packet each, and what was written is the text that shows these packets
+-- what came are lines of hex, and what was written is one line for each packet
 pub record IsShown (came written : List ℕ) : Type 0 where
-  pub packets : List (List ℕ)
-  pub spelled : PacketsText came packets
-  pub shown : ShowText packets written
+  pub lines : List (List ℕ)
+  pub is_text : TextOf packets came lines
+  pub shown : ShowText lines written

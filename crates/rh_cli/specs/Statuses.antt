@@ -3,6 +3,8 @@ use Rattle.std.specs.Prelude.{ℕ, List, ◌++◌, codes}
 use Rattle.std.specs.Fmt.{decimal}
 use Rattle.rh_cli.specs.declared.status.Status.{Status}
 use Rattle.rh_cli.specs.declared.status.Status.TheVariants.{Done, Usage, BadInput, ReadFault, WriteFault, NoMemory, TooLong}
+use Rattle.rh_cli.specs.declared.word.Ended.{Ended}
+use Rattle.rh_cli.specs.declared.word.Ended.TheVariants as ends
 
 abbrev pub status_number : Status → ℕ
 status_number Done = 0
@@ -13,11 +15,30 @@ status_number WriteFault = 4
 status_number NoMemory = 8
 status_number TooLong = 9
 
+abbrev pub status_name : Status → List ℕ
+status_name Done = codes "done"
+status_name Usage = codes "usage"
+status_name (BadInput line) = codes "bad input"
+status_name ReadFault = codes "read fault"
+status_name WriteFault = codes "write fault"
+status_name NoMemory = codes "no memory"
+status_name TooLong = codes "input too long"
+
+-- its name, and the number of the bad line
 abbrev pub status_text : Status → List ℕ
-status_text Done = codes "done"
-status_text Usage = codes "usage"
-status_text (BadInput line) = codes "bad input " ++ decimal line
-status_text ReadFault = codes "read fault"
-status_text WriteFault = codes "write fault"
-status_text NoMemory = codes "no memory"
-status_text TooLong = codes "input too long"
+status_text Done = status_name Done
+status_text Usage = status_name Usage
+status_text (BadInput line) = status_name (BadInput line) ++ codes " " ++ decimal line
+status_text ReadFault = status_name ReadFault
+status_text WriteFault = status_name WriteFault
+status_text NoMemory = status_name NoMemory
+status_text TooLong = status_name TooLong
+
+-- the status of how a word ended
+abbrev pub status_of : Ended → Status
+status_of ends.Done = Done
+status_of (ends.BadInput line) = BadInput line
+status_of ends.ReadFault = ReadFault
+status_of ends.WriteFault = WriteFault
+status_of ends.NoMemory = NoMemory
+status_of ends.TooLong = TooLong

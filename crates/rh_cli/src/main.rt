@@ -2,25 +2,23 @@
 #![tactic(auto)]
 
 mod form;
-mod lines;
 mod output;
 mod replay;
 mod run;
 mod show;
-#[cfg(test)]
-mod show_tests;
 mod status;
 #[cfg(test)]
 mod tests;
 mod word;
 
 use rh_io::{ReaderSource, WriterSink};
+use status::Status;
 use std::env;
 use std::io::ErrorKind;
 use std::process::ExitCode;
 
 /// The words behind the program's own name.
-fn words(rt: &HostRuntime) -> Result<Vec<String>, status::Status> {
+fn words(rt: &HostRuntime) -> Result<Vec<String>, Status> {
     let mut words = Vec::new(rt.alloc());
     match env::args(rt) {
         Ok(args) => {
@@ -29,8 +27,8 @@ fn words(rt: &HostRuntime) -> Result<Vec<String>, status::Status> {
             }
             Ok(words)
         }
-        Err(error) if error.kind() == ErrorKind::InvalidData => Err(status::Status::Usage),
-        Err(_) => Err(status::Status::NoMemory),
+        Err(error) if error.kind() == ErrorKind::InvalidData => Err(Status::Usage),
+        Err(_) => Err(Status::NoMemory),
     }
 }
 

@@ -1,6 +1,6 @@
 //! Writes what was gathered in pieces.
 
-ghost use Rattle.std.specs.Prelude.{◌≡◌, ◌≤◌, ◌++◌, ℕ, List, OnOk, OnErr, [], string_bytes};
+ghost use Rattle.std.specs.Prelude.{◌≡◌, ◌+◌, ◌≤◌, ◌++◌, ℕ, List, IsOk, OnOk, OnErr, [], string_bytes, length};
 ghost use Rattle.std.specs.Io.KnownBytes.{Appends};
 ghost use Rattle.rh_io.specs.Counts.{Rose};
 
@@ -47,13 +47,20 @@ pub fn pass_on<W: Sink>(
     least: usize,
     output: &mut W,
 ) -> Result<(), SinkFailed>
-    ensures ok { OnOk result ((piece : List ℕ) × Appends (W.written output.old) (W.written output.new) piece
+    ensures ok { OnOk result ((piece : List ℕ)
+        × Appends (W.written output.old) (W.written output.new) piece
         × (piece ++ string_bytes gathered.new ≡ string_bytes gathered.old)) }
     ensures all { OnOk result (least ≡ 0 → string_bytes gathered.new ≡ []) }
-    ensures err { OnErr result ((piece : List ℕ) × (behind : List ℕ) × Appends (W.written output.old) (W.written output.new) piece
+    ensures err { OnErr result ((piece : List ℕ) × (behind : List ℕ)
+        × Appends (W.written output.old) (W.written output.new) piece
         × (string_bytes gathered.old ≡ piece ++ behind)) }
     ensures failed { OnErr result (Rose (W.faults output.old) (W.faults output.new)) }
-    ensures faults { W.faults output.old ≤ W.faults output.new }
+    ensures no_failure { OnOk result (W.faults output.new ≡ W.faults output.old) }
+    ensures takes { length (string_bytes gathered.old) ≤ W.takes output.old → IsOk result }
+    ensures takes_on { length (string_bytes gathered.old)
+        ≤ W.takes output.old + length (string_bytes gathered.new)
+        → OnOk result (W.takes output.old + length (string_bytes gathered.new)
+        ≤ W.takes output.new + length (string_bytes gathered.old)) }
 {
     if gathered.len() >= least {
         write_whole(output, gathered.as_bytes())?;

@@ -1,28 +1,21 @@
 //! The top call.
 
-ghost use Rattle.std.specs.Prelude.{◌≡◌, ◌⊎◌, ℕ, List, MatchOption};
-ghost use Rattle.std.specs.Io.KnownBytes.{Appends, IsAtEnd};
-ghost use Rattle.rh_io.specs.Bytes.{Moves};
-ghost use Rattle.rh_io.specs.Counts.{Rose};
+ghost use Rattle.std.specs.Prelude.{◌≡◌};
 ghost use Rattle.rh_cli.specs.declared.form.Form.{Form};
-ghost use Rattle.rh_cli.specs.Forms.{IsForm, Tells};
-ghost use Rattle.rh_world.specs.Recording.{FirstBad};
-ghost use Rattle.rh_show.specs.Lines.{FirstBad as FirstBadPacket};
-ghost use Rattle.rh_cli.specs.Replay.{IsRecording, IsReplayed};
-ghost use Rattle.rh_cli.specs.Show.{ArePackets, IsShown};
-ghost use Rattle.rh_cli.specs.Words.{Answers, IsReadWhole, Completes};
+ghost use Rattle.rh_cli.specs.Forms.{IsForm, Tells, Ran};
 
 use crate::form::{Form, form_of};
 use crate::replay::Replay;
 use crate::show::Show;
-use crate::status::Status;
+use crate::status::{Status, statuses};
 use crate::word::answer;
 use rh_io::{Sink, SinkFailed, Source, write_whole};
 use std::alloc::Global;
 
-/// What `--help` tells.
-pub const HELP: &str =
-    "rh_cli replays recordings of RPC over HTTP version 2 (MS-RPCH), and shows its packets.
+macro_rules! help {
+    ($($status:ident $number:literal $name:literal $more:literal;)*) => {
+        concat!(
+            "rh_cli replays recordings of RPC over HTTP version 2 (MS-RPCH), and shows its packets.
 
   rh_cli replay       reads a recording from standard input, writes its report to standard output
   rh_cli show         reads lines of hex, one packet each, and writes one line for each packet
@@ -35,9 +28,16 @@ in pcap format and from a file that holds one packet, by the repository's tools 
   tools/pcap_packets.py FILE | rh_cli show
   xxd -p FILE | tr -d '\\n' | rh_cli show
 
-A status other than 0 has its text on standard error: 1 usage, 2 bad input <line>, 3 read fault,
-4 write fault, 8 no memory, 9 input too long (above 67,108,864 bytes).
-";
+A status other than 0 has its text on standard error:
+
+",
+            $("  ", $number, "  ", $name, $more, "\n",)*
+        )
+    };
+}
+
+/// What `--help` tells.
+pub const HELP: &str = statuses!(help);
 
 /// What `--version` tells.
 pub const VERSION: &str = "rh_cli 0.1.0\n";
@@ -56,31 +56,36 @@ pub fn run<R: Source, W: Sink>(
     ensures usage { (result ≡ Status.Usage → (form : Form) → ¬ IsForm form words.now)
         × (((form : Form) → ¬ IsForm form words.now) → result ≡ Status.Usage) }
     ensures unused { result ≡ Status.Usage → (input.new ≡ input.old) × (output.new ≡ output.old) }
-    ensures unread { (IsForm Form.Help words.now → input.new ≡ input.old) × (IsForm Form.Version words.now → input.new ≡ input.old) }
-    ensures help { IsForm Form.Help words.now → (written : List ℕ)
-        × Appends (W.written output.old) (W.written output.new) written × Tells HELP.now result written }
-    ensures version { IsForm Form.Version words.now → (written : List ℕ)
-        × Appends (W.written output.old) (W.written output.new) written × Tells VERSION.now result written }
-    ensures replay { IsForm Form.Replay words.now → (came : List ℕ) × (written : List ℕ)
-        × Moves (R.left input.old) (R.left input.new) (R.taken input.old) (R.taken input.new) came
-        × Appends (W.written output.old) (W.written output.new) written
-        × Answers IsReplayed FirstBad result came written }
-    ensures show { IsForm Form.Show words.now → (came : List ℕ) × (written : List ℕ)
-        × Moves (R.left input.old) (R.left input.new) (R.taken input.old) (R.taken input.new) came
-        × Appends (W.written output.old) (W.written output.new) written
-        × Answers IsShown FirstBadPacket result came written }
-    ensures whole { IsForm Form.Replay words.now ⊎ IsForm Form.Show words.now → IsReadWhole result
-        → Rose (R.ends input.old) (R.ends input.new) × IsAtEnd (R.left input.new) }
-    ensures complete { IsForm Form.Replay words.now → Completes IsRecording (R.left input.old)
-        (Rose (R.faults input.old) (R.faults input.new)) (Rose (W.faults output.old) (W.faults output.new)) result }
-    ensures show_complete { IsForm Form.Show words.now → Completes ArePackets (R.left input.old)
-        (Rose (R.faults input.old) (R.faults input.new)) (Rose (W.faults output.old) (W.faults output.new)) result }
-    ensures read_fault { result ≡ Status.ReadFault → Rose (R.faults input.old) (R.faults input.new) }
-    ensures write_fault { result ≡ Status.WriteFault → Rose (W.faults output.old) (W.faults output.new) }
+    ensures unread { (IsForm Form.Help words.now → input.new ≡ input.old)
+        × (IsForm Form.Version words.now → input.new ≡ input.old) }
+    ensures ran { (form : Form) → IsForm form words.now
+        → Ran HELP.now VERSION.now (R.unfailing input.old) form result
+        (record {
+          left = R.left input.old;
+          read = R.taken input.old;
+          written = W.written output.old;
+          counts = record {
+            read_faults = R.faults input.old;
+            ends = R.ends input.old;
+            write_faults = W.faults output.old;
+          };
+          takes = W.takes output.old;
+        })
+        (record {
+          left = R.left input.new;
+          read = R.taken input.new;
+          written = W.written output.new;
+          counts = record {
+            read_faults = R.faults input.new;
+            ends = R.ends input.new;
+            write_faults = W.faults output.new;
+          };
+          takes = W.takes output.new;
+        }) }
 {
     match form_of(words) {
-        Some(Form::Replay) => answer::<Replay, R, W>(alloc, input, output),
-        Some(Form::Show) => answer::<Show, R, W>(alloc, input, output),
+        Some(Form::Replay) => Status::from(answer::<Replay, R, W>(alloc, input, output)),
+        Some(Form::Show) => Status::from(answer::<Show, R, W>(alloc, input, output)),
         Some(Form::Help) => tell(HELP, output),
         Some(Form::Version) => tell(VERSION, output),
         None => Status::Usage,
@@ -89,9 +94,8 @@ pub fn run<R: Source, W: Sink>(
 
 /// Writes a text whole.
 fn tell<W: Sink>(text: &str, output: &mut W) -> Status
-    ensures told { (written : List ℕ) × Appends (W.written output.old) (W.written output.new) written
-        × Tells text.now result written }
-    ensures write_fault { result ≡ Status.WriteFault → Rose (W.faults output.old) (W.faults output.new) }
+    ensures { Tells text.now result (W.written output.old) (W.written output.new)
+        (W.faults output.old) (W.faults output.new) (W.takes output.old) }
 {
     match write_whole(output, text.as_bytes()) {
         Ok(()) => Status::Done,

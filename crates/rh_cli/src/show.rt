@@ -1,96 +1,86 @@
 //! Shows packets.
 
-ghost use Rattle.std.specs.Prelude.{◌≡◌, ℕ, List, OnOk, OnErr, Err, MatchOption};
-ghost use Rattle.std.specs.Io.KnownBytes.{Appends};
-ghost use Rattle.rh_io.specs.Counts.{Rose};
-ghost use Rattle.rh_show.specs.Lines.{FirstBad};
-ghost use Rattle.rh_cli.specs.Show.{ArePackets, IsShown};
-ghost use Rattle.rh_cli.specs.Words.{IsBegun};
-
-use crate::output::{PIECE, Unfinished, pass_on};
 use crate::word::Word;
-use rh_io::Sink;
-use rh_show::{LineReader, show_packet};
-use rh_world::split_line;
+use rh_show::{LineReader, Packets, show_packet};
+use rh_text::{Bytes, Grammar};
 use std::alloc::{AllocError, Global};
+use std::marker::Model;
 
 /// The word `show`: reads lines of hex, one packet each, and writes one line for each.
-#[derive(Debug, Drop)]
+#[derive(Drop)]
 pub struct Show {
     reader: LineReader,
 }
 
+impl Model for Show {
+    ghost Value = { Unit {0} };
+
+    ghost view = { λ _. tt };
+}
+
+impl Grammar for Show {
+    ghost use Rattle.rh_show.specs.Lines.{packets};
+    ghost use Rattle.rh_show.specs.Readings.{one_packet_at, no_empty};
+
+    type Place = ();
+
+    type Line = Bytes;
+
+    ghost rules = { packets };
+
+    fn first_place() {
+        Packets::first_place()
+    }
+
+    fn may_end(place: ()) -> bool {
+        Packets::may_end(place)
+    }
+
+    fn judge_line(text: &[u8], place: ()) -> Option<()> {
+        Packets::judge_line(text, place)
+    }
+
+    ghost one = { one_packet_at };
+
+    ghost some = { no_empty };
+}
+
 impl Word for Show {
-    ghost use Rattle.rh_show.specs.Lines.{FirstBad};
-    ghost use Rattle.rh_cli.specs.Show.{ArePackets, IsShown};
+    ghost use Rattle.rh_cli.specs.Show.{IsShown, showing};
+    ghost use Rattle.rh_cli.specs.Shows.{goes_on, comes_to_end, means};
 
-    ghost takes = { ArePackets };
-
-    ghost refuses = { FirstBad };
+    ghost deeds = { showing };
 
     ghost says = { IsShown };
 
-    fn new(alloc: Global) -> Result<Show, AllocError> {
-        let reader = LineReader::new(alloc)?;
-        Ok(Show { reader })
+    ghost done = { λ _. 0 };
+
+    fn start(alloc: Global) -> Result<Show, AllocError> {
+        Ok(Show {
+            reader: LineReader::new(alloc)?,
+        })
     }
 
-    fn first_bad_line(&mut self, _: Global, text: &[u8]) -> Result<Option<u64>, AllocError> {
-        Ok(first_bad_packet(&mut self.reader, text))
-    }
-
-    fn write_all<W: Sink>(
+    fn write_line(
         &mut self,
-        alloc: Global,
-        text: &[u8],
-        output: &mut W,
-    ) -> Result<(), Unfinished> {
-        show_all(alloc, &mut self.reader, text, output)
-    }
-}
-
-/// The number of the first line that spells no packet's bytes, from 1; `None` where all lines do.
-fn first_bad_packet(reader: &mut LineReader, text: &[u8]) -> Option<u64>
-    ensures { MatchOption result (ArePackets text.now) (λ line. FirstBad text.now line × ¬ ArePackets text.now) }
-{
-    let mut rest = text;
-    let mut number: u64 = 1;
-    'lines: while !rest.is_empty() {
-        let (line, behind) = split_line(rest);
-        let Some(_) = reader.read(line) else {
-            return Some(number);
-        };
-        rest = behind;
-        number += 1;
-    }
-    None
-}
-
-/// Shows the packet of each line in turn.
-fn show_all<W: Sink>(
-    alloc: Global,
-    reader: &mut LineReader,
-    text: &[u8],
-    output: &mut W,
-) -> Result<(), Unfinished>
-    requires packets { ArePackets text.now }
-    ensures ok { OnOk result ((written : List ℕ)
-        × Appends (W.written output.old) (W.written output.new) written × IsShown text.now written) }
-    ensures err { OnErr result ((written : List ℕ)
-        × Appends (W.written output.old) (W.written output.new) written × IsBegun IsShown text.now written) }
-    ensures write_fault { result ≡ Err Unfinished.WriteFault → Rose (W.faults output.old) (W.faults output.new) }
-{
-    let mut gathered = String::new(alloc);
-    let mut rest = text;
-    'lines: while !rest.is_empty() {
-        let (line, behind) = split_line(rest);
-        let Some(bytes) = reader.read(line) else {
+        _: Global,
+        line: &[u8],
+        _: (),
+        out: &mut String,
+    ) -> Result<(), AllocError> {
+        let Some(bytes) = self.reader.read(line) else {
             unreachable!()
         };
-        show_packet(bytes, &mut gathered)?;
-        pass_on(&mut gathered, PIECE, output)?;
-        rest = behind;
+        show_packet(bytes, out)
     }
-    pass_on(&mut gathered, 0, output)?;
-    Ok(())
+
+    fn finish(&mut self, _: Global, _: &mut String) -> Result<(), AllocError> {
+        Ok(())
+    }
+
+    ghost goes_on = { goes_on };
+
+    ghost comes_to_end = { comes_to_end };
+
+    ghost means = { means };
 }

@@ -1,5 +1,6 @@
 //! How the program ends.
 
+use crate::word::Ended;
 use std::alloc::{AllocError, AllocFailed};
 use std::fmt::{self, Display, Formatter, Write};
 
@@ -22,23 +23,53 @@ pub enum Status {
     TooLong,
 }
 
+/// Calls a macro with a row for each status but `Done`: its number, its text, and what stands behind
+/// the text.
+macro_rules! statuses {
+    ($rows:ident) => {
+        $rows! {
+            Usage 1 "usage" "";
+            BadInput 2 "bad input" " <line>";
+            ReadFault 3 "read fault" "";
+            WriteFault 4 "write fault" "";
+            NoMemory 8 "no memory" "";
+            TooLong 9 "input too long" " (above 67,108,864 bytes)";
+        }
+    };
+}
+
 impl Status {
     ghost use Rattle.std.specs.Prelude.{◌≡◌};
-    ghost use Rattle.rh_cli.specs.Statuses.{status_number};
+    ghost use Rattle.rh_cli.specs.Statuses.{status_number, status_name};
 
     /// The exit status: 0 to 9, and 0 for `Done` alone.
     pub fn number(&self) -> u8
         ensures { result ≡ status_number self.now }
     {
-        match self {
-            Status::Done => 0,
-            Status::Usage => 1,
-            Status::BadInput(_) => 2,
-            Status::ReadFault => 3,
-            Status::WriteFault => 4,
-            Status::NoMemory => 8,
-            Status::TooLong => 9,
+        macro_rules! numbers {
+            ($($status:ident $number:literal $name:literal $more:literal;)*) => {
+                match self {
+                    Status::Done => 0,
+                    $(Status::$status { .. } => $number,)*
+                }
+            };
         }
+        statuses!(numbers)
+    }
+
+    /// What it is called.
+    fn name(&self) -> &'static str
+        ensures { result.now ≡ status_name self.now }
+    {
+        macro_rules! names {
+            ($($status:ident $number:literal $name:literal $more:literal;)*) => {
+                match self {
+                    Status::Done => "done",
+                    $(Status::$status { .. } => $name,)*
+                }
+            };
+        }
+        statuses!(names)
     }
 }
 
@@ -50,13 +81,26 @@ impl Display for Status {
 
     fn fmt<W: Write>(&self, f: &mut Formatter<W>) -> fmt::Result {
         match self {
-            Status::Done => f.write_str("done"),
-            Status::Usage => f.write_str("usage"),
             Status::BadInput(line) => write!(f, "bad input {line}"),
-            Status::ReadFault => f.write_str("read fault"),
-            Status::WriteFault => f.write_str("write fault"),
-            Status::NoMemory => f.write_str("no memory"),
-            Status::TooLong => f.write_str("input too long"),
+            status => f.write_str(status.name()),
+        }
+    }
+}
+
+impl From<Ended> for Status {
+    ghost use Rattle.std.specs.Prelude.{◌≡◌};
+    ghost use Rattle.rh_cli.specs.Statuses.{status_of};
+
+    ghost from_gives = { λ ended status. status ≡ status_of ended };
+
+    fn from(ended: Ended) -> Status {
+        match ended {
+            Ended::Done => Status::Done,
+            Ended::BadInput(line) => Status::BadInput(line),
+            Ended::ReadFault => Status::ReadFault,
+            Ended::WriteFault => Status::WriteFault,
+            Ended::NoMemory => Status::NoMemory,
+            Ended::TooLong => Status::TooLong,
         }
     }
 }
@@ -82,3 +126,5 @@ impl From<AllocError> for Status {
         Status::NoMemory
     }
 }
+
+pub(crate) use statuses;

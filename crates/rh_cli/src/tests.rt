@@ -1,16 +1,19 @@
-use crate::run::{HELP, run};
+//! Runs of the top call, with inputs and outputs worked out by hand.
+
+mod program;
+mod replay;
+mod show;
+
+use crate::run::run;
 use crate::status::Status;
-use rh_io::{MemSink, MemSource, Sink, SinkFailed};
+use rh_io::{MemSink, MemSource};
 use std::test::Fail;
 
 // Room for the longest report of a test.
 const ROOM: usize = 1_000_000;
 
-// 24 bytes.
-const PDU: &str = "05000003100000001800000001000000aabbccddeeff0011";
-
 // What the word answers and writes of a text, where the calls with these numbers fail.
-pub fn answered(
+fn answered(
     rt: &HostRuntime,
     word: &str,
     text: &[u8],
@@ -24,266 +27,9 @@ pub fn answered(
     Ok((status, output))
 }
 
-// What `replay` answers and writes where nothing fails.
-fn replay(rt: &HostRuntime, text: &[u8]) -> Result<(Status, MemSink), Fail> {
-    let (reads, writes) = (Vec::new(rt.alloc()), Vec::new(rt.alloc()));
-    answered(rt, "replay", text, reads, writes)
-}
-
-// The PDU of this many bytes with call 1 whose body has the bytes 1, as hex digits.
-fn pdu_hex(rt: &HostRuntime, len: u16) -> Result<String, Fail> {
-    let [low, high] = len.to_le_bytes();
-    let mut bytes = vec![in rt.alloc(); 5, 0, 0, 3, 16, 0, 0, 0, low, high, 0, 0, 1, 0, 0, 0]?;
-    bytes.resize(usize::from(len), 1)?;
-    Ok(hex::encode(rt.alloc(), bytes.as_slice())?)
-}
-
-#[test]
-fn a_pdu_moved_byte_by_byte_is_taken_whole(rt: HostRuntime) -> Result<(), Fail> {
-    let mut text = format!(in rt.alloc(); "rh 1 direct\ngive c {PDU}\nsend cs u 100\n")?;
-    let mut wanted = String::from_str(rt.alloc(), "give c ok 24\nsend cs u 24\n")?;
-    for byte in hex::decode(rt.alloc(), PDU)? {
-        text.push_str("move cs u 1\n")?;
-        let moved = format!(in rt.alloc(); "move cs u 1 {byte:02x}\n")?;
-        wanted.push_str(moved.as_str())?;
-    }
-    text.push_str("take s\ntake s\n")?;
-    let taken = format!(in rt.alloc(); "take s pdu {PDU}\ntake s empty\n")?;
-    wanted.push_str(taken.as_str())?;
-    wanted.push_str("up given 1 taken 1\ndown given 0 taken 0\n")?;
-    let (status, output) = replay(&rt, text.as_bytes())?;
-    assert_eq!(rt; status, Status::Done);
-    assert!(rt; output.written() == wanted.as_bytes());
-    Ok(())
-}
-
-#[test]
-fn a_give_tells_the_length_or_the_first_fault(rt: HostRuntime) -> Result<(), Fail> {
-    let (least, greatest) = (pdu_hex(&rt, 16)?, pdu_hex(&rt, 8192)?);
-    let above = pdu_hex(&rt, 8193)?;
-    for (digits, answer) in [
-        (least.as_str(), "ok 16"),
-        (greatest.as_str(), "ok 8192"),
-        (above.as_str(), "bad TooLong 8193"),
-        ("05", "bad Cut 1"),
-        ("050000031000000018000000010000", "bad Cut 15"),
-        ("04000003100000001000000001000000", "bad Version 4"),
-        ("05020003100000001000000001000000", "bad Minor 2"),
-        ("05000003200000001000000001000000", "bad ByteOrder 32"),
-        ("05000003100000000f00000001000000", "bad TooShort 15"),
-        ("05000003100000000120000001000000", "bad TooLong 8193"),
-        ("05001403100000001000000001000000", "bad Rts"),
-        ("05000003100000001800000001000000", "bad Length 24 16"),
-        ("0501000300000000001000000000000A", "ok 16"),
-    ] {
-        let text = format!(in rt.alloc(); "rh 1 direct\ngive s {digits}")?;
-        let (status, output) = replay(&rt, text.as_bytes())?;
-        assert_eq!(rt; status, Status::Done);
-        let given = u8::from(answer.starts_with("ok"));
-        let wanted = format!(in rt.alloc();
-            "give s {answer}\nup given 0 taken 0\ndown given {given} taken 0\n"
-        )?;
-        assert!(rt; output.written() == wanted.as_bytes(), "{answer}");
-    }
-    Ok(())
-}
-
-#[test]
-fn a_full_queue_tells_both_numbers(rt: HostRuntime) -> Result<(), Fail> {
-    let (least, greatest) = (pdu_hex(&rt, 16)?, pdu_hex(&rt, 8192)?);
-    let mut text = String::from_str(rt.alloc(), "rh 1 direct\n")?;
-    let mut wanted = String::new(rt.alloc());
-    for _ in 0..32 {
-        let line = format!(in rt.alloc(); "give c {}\n", greatest.as_str())?;
-        text.push_str(line.as_str())?;
-        wanted.push_str("give c ok 8192\n")?;
-    }
-    let more = format!(in rt.alloc(); "give c {}\ngive c {}\n", greatest.as_str(), least.as_str())?;
-    text.push_str(more.as_str())?;
-    wanted.push_str("give c full 262144 8192\ngive c full 262144 16\n")?;
-    wanted.push_str("up given 32 taken 0\ndown given 0 taken 0\n")?;
-    let (status, output) = replay(&rt, text.as_bytes())?;
-    assert_eq!(rt; status, Status::Done);
-    assert!(rt; output.written() == wanted.as_bytes());
-    Ok(())
-}
-
-// Whether the answer is `BadInput` with this number, with nothing written.
-fn is_bad_input(rt: &HostRuntime, text: &str, number: u64) -> Result<bool, Fail> {
-    let (status, output) = replay(rt, text.as_bytes())?;
-    Ok(status == Status::BadInput(number) && output.written().is_empty())
-}
-
-#[test]
-fn a_header_outside_the_grammar_is_line_1(rt: HostRuntime) -> Result<(), Fail> {
-    for text in [
-        "",
-        "\n",
-        "rh 1 roles",
-        "rh 2 1",
-        "rh 1",
-        "rh 1 direct ",
-        " rh 1 direct",
-        "rh  1 direct",
-        "rh 01 direct",
-        "RH 1 direct",
-        "rh 1 direct\r",
-        "take c\nrh 1 direct\n",
-    ] {
-        assert!(rt; is_bad_input(&rt, text, 1)?, "{text}");
-    }
-    Ok(())
-}
-
-// Texts just outside the grammar of the lines behind the header.
-const OUTSIDE: [&str; 40] = [
-    "",
-    " ",
-    "rh 1 direct",
-    "take",
-    "take ",
-    "take x",
-    "take C",
-    "take  c",
-    "take c ",
-    " take c",
-    "take\tc",
-    "take c\r",
-    "take c s",
-    "taken c",
-    "give",
-    "give c",
-    "give c ",
-    "give x 05",
-    "give c 5",
-    "give c 050",
-    "give c 0g",
-    "give c 05 00",
-    "give c  05",
-    "give c 05 ",
-    "give 05",
-    "send cs u",
-    "send cs u ",
-    "send cs u 0",
-    "send cs u 01",
-    "send cs u +1",
-    "send cs u -1",
-    "send cs u 65537",
-    "send cs u 1 ",
-    "send cs x 1",
-    "send co1 u 1",
-    "send cs u 1a",
-    "move cs d 0",
-    "move cs d 100000",
-    "move  cs d 1",
-    "settle 1",
-];
-
-#[test]
-fn the_first_line_outside_the_grammar_is_told(rt: HostRuntime) -> Result<(), Fail> {
-    let mut number: u64 = 2;
-    let mut front = String::from_str(rt.alloc(), "rh 1 direct\n")?;
-    for line in OUTSIDE {
-        let text = format!(in rt.alloc(); "{front}{line}\ntake x\n")?;
-        assert!(rt; is_bad_input(&rt, text.as_str(), number)?, "{line}");
-        front.push_str("take s\n")?;
-        number = number.saturating_add(1);
-    }
-    Ok(())
-}
-
-#[test]
-fn words_in_no_form_are_usage(rt: HostRuntime) -> Result<(), Fail> {
-    for words in [
-        [].as_slice(),
-        &["replays"],
-        &["Show"],
-        &["replay", "replay"],
-        &["show", "-"],
-        &["--help", "x"],
-    ] {
-        let mut given = Vec::new(rt.alloc());
-        for word in words {
-            given.push(String::from_str(rt.alloc(), word)?)?;
-        }
-        let mut input = MemSource::new(Vec::new(rt.alloc()), Vec::new(rt.alloc()));
-        let mut output = MemSink::new(rt.alloc(), ROOM, Vec::new(rt.alloc()))?;
-        let status = run(rt.alloc(), &given, &mut input, &mut output);
-        assert_eq!(rt; status, Status::Usage);
-        assert_eq!(rt; status.number(), 1);
-    }
-    Ok(())
-}
-
-#[test]
-fn an_input_above_the_limit_is_too_long(rt: HostRuntime) -> Result<(), Fail> {
-    let text = vec![in rt.alloc(); b'r'; 67_108_865]?;
-    let (status, output) = replay(&rt, &text)?;
-    assert_eq!(rt; status, Status::TooLong);
-    assert!(rt; output.written().is_empty());
-    Ok(())
-}
-
-// The recording of a PDU that is moved in two pieces, and its report.
-const RECORDING: &str = "rh 1 direct\ngive c 05000003100000001800000001000000aabbccddeeff0011\n\
-    send cs u 100\nmove cs u 20\ntake s\nmove cs u 100\ntake s\ntake s\n";
-
-const REPORT: &str = "give c ok 24\nsend cs u 24\n\
-    move cs u 20 05000003100000001800000001000000aabbccdd\ntake s empty\nmove cs u 4 eeff0011\n\
-    take s pdu 05000003100000001800000001000000aabbccddeeff0011\ntake s empty\n\
-    up given 1 taken 1\ndown given 0 taken 0\n";
-
-// A sink that takes one byte a write.
-#[derive(Drop)]
-struct OneByteSink {
-    bytes: Vec<u8>,
-    faults: u64,
-}
-
-impl Sink for OneByteSink {
-    ghost use Rattle.std.specs.Prelude.{Some};
-
-    ghost written = { λ s. Some s.bytes.items };
-
-    ghost faults = { λ s. s.faults };
-
-    fn write(&mut self, piece: &[u8]) -> Result<usize, SinkFailed> {
-        if piece.is_empty() {
-            return Ok(0);
-        }
-        if self.bytes.extend_from_slice(&piece[..1]).is_err() {
-            self.faults = self.faults.saturating_add(1);
-            return Err(SinkFailed);
-        }
-        Ok(1)
-    }
-}
-
-#[test]
-fn a_sink_that_takes_one_byte_a_write_gets_the_whole_report(rt: HostRuntime) -> Result<(), Fail> {
-    let words = vec![in rt.alloc(); String::from_str(rt.alloc(), "replay")?]?;
-    let text = RECORDING.as_bytes().to_vec(rt.alloc())?;
-    let mut input = MemSource::new(text, Vec::new(rt.alloc()));
-    let mut output = OneByteSink {
-        bytes: Vec::new(rt.alloc()),
-        faults: 0,
-    };
-    assert_eq!(rt;
-        run(rt.alloc(), &words, &mut input, &mut output),
-        Status::Done
-    );
-    assert!(rt; output.bytes.as_slice() == REPORT.as_bytes());
-    Ok(())
-}
-
 // Whether the word tells each failing call, up to the first number that no call has: a failing read
 // with nothing written, and a failing write with a front of the output.
-pub fn tells_failures(
-    rt: &HostRuntime,
-    word: &str,
-    text: &[u8],
-    whole: &[u8],
-) -> Result<bool, Fail> {
+fn tells_failures(rt: &HostRuntime, word: &str, text: &[u8], whole: &[u8]) -> Result<bool, Fail> {
     let mut told = [0u64; 2];
     for call in 1..100 {
         let fails = vec![in rt.alloc(); call]?;
@@ -308,29 +54,4 @@ pub fn tells_failures(
         told[1] = call;
     }
     Ok(told.iter().all(|&call| 0 < call && call < 99))
-}
-
-#[test]
-fn a_failing_input_or_output_is_told(rt: HostRuntime) -> Result<(), Fail> {
-    assert!(rt; tells_failures(&rt, "replay", RECORDING.as_bytes(), REPORT.as_bytes())?);
-    Ok(())
-}
-
-#[test]
-fn the_program_tells_of_itself(rt: HostRuntime) -> Result<(), Fail> {
-    for word in ["replay", "show", "--help", "--version"] {
-        let line = format!(in rt.alloc(); "\n  rh_cli {word} ")?;
-        assert!(rt; HELP.contains(line.as_str()), "{word}");
-    }
-    for (word, text) in [("--help", HELP), ("--version", "rh_cli 0.1.0\n")] {
-        for (fails, status) in [(2, Status::Done), (1, Status::WriteFault)] {
-            let words = vec![in rt.alloc(); String::from_str(rt.alloc(), word)?]?;
-            let mut input = MemSource::new(Vec::new(rt.alloc()), Vec::new(rt.alloc()));
-            let mut output = MemSink::new(rt.alloc(), ROOM, vec![in rt.alloc(); fails]?)?;
-            assert_eq!(rt; run(rt.alloc(), &words, &mut input, &mut output), status);
-            let whole = output.written() == text.as_bytes();
-            assert_eq!(rt; whole, status == Status::Done, "{word}");
-        }
-    }
-    Ok(())
 }

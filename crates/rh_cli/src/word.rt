@@ -1,84 +1,163 @@
 //! The words that read a text to its end and write what it says.
 
-ghost use Rattle.std.specs.Prelude.{◌≡◌, ◌≤◌, ℕ, List, IfOk, OnOk, OnErr, Err, MatchOption, length};
-ghost use Rattle.std.specs.Io.KnownBytes.{Appends, IsAtEnd};
+ghost use Rattle.std.specs.Prelude.{◌≡◌, ◌≢◌, ◌+◌, ◌<◌, ◌≤◌, ◌++◌, ℕ, List, IfOk, OnOk, OnErr, Err, Some, length, string_bytes};
+ghost use Rattle.std.specs.Io.KnownBytes.{Appends};
 ghost use Rattle.rh_io.specs.Bytes.{Moves};
 ghost use Rattle.rh_io.specs.Counts.{Rose};
-ghost use Rattle.rh_cli.specs.Words.{Answers, IsBegun, IsReadWhole, Completes};
+ghost use Rattle.rh_text.specs.Lines.{IsText, FirstBad};
+ghost use Rattle.rh_cli.specs.Words.{Deeds, SaysOf, Answers, Counted, IsBegun, IsTaken};
 
-use crate::output::Unfinished;
-use crate::status::Status;
+use crate::output::{PIECE, Unfinished, pass_on};
 use rh_io::{ReadWholeError, Sink, Source, read_whole};
+use rh_text::{Grammar, first_bad_line, split_line};
 use std::alloc::{AllocError, Global};
 
 /// The most bytes of input that are read.
 pub const MOST_INPUT: usize = 67_108_864;
 
 /// A word that reads a text of lines and writes what it says.
-pub trait Word: Drop {
-    /// The bytes are a text of the word's grammar.
-    ghost takes: { List ℕ → Type 0 };
+pub trait Word: Grammar + Drop {
+    /// As what it starts, what it writes of each line and what it is then, and what at the end.
+    ghost deeds: { Deeds Self Self.Line };
 
-    /// The line of the bytes with this number, from 1, is the first that is outside the grammar.
-    ghost refuses: { List ℕ → ℕ → Type 0 };
-
-    /// The output of a text.
+    /// The output of a text, in the word's own terms.
     ghost says: { List ℕ → List ℕ → Type 0 };
 
+    /// How many lines counted so far.
+    ghost done: { Self → ℕ };
+
     /// The word before its text. Fails where there is no memory.
-    fn new(alloc: Global) -> Result<Self, AllocError>;
+    fn start(alloc: Global) -> Result<Self, AllocError>
+        ensures { IfOk result (λ word. deeds.Starts word × (done word ≡ 0)) };
 
-    /// The number of the first line outside the grammar, from 1; `None` where all lines are in it.
-    fn first_bad_line(&mut self, alloc: Global, text: &[u8]) -> Result<Option<u64>, AllocError>
-        ensures { IfOk result (λ found. MatchOption found (takes text.now)
-            (λ line. refuses text.now line × ¬ takes text.now)) };
-
-    /// Writes what the text says.
-    fn write_all<W: Sink>(
+    /// Does a line that stands at this place, appends what it says, and answers the place behind it.
+    /// Fails where there is no memory.
+    fn write_line(
         &mut self,
         alloc: Global,
-        text: &[u8],
-        output: &mut W,
-    ) -> Result<(), Unfinished>
-        requires text { takes text.now }
-        requires short { length text.now ≤ MOST_INPUT }
-        ensures ok { OnOk result ((written : List ℕ)
-            × Appends (W.written output.old) (W.written output.new) written × says text.now written) }
-        ensures err { OnErr result ((written : List ℕ)
-            × Appends (W.written output.old) (W.written output.new) written × IsBegun says text.now written) }
-        ensures write_fault { result ≡ Err Unfinished.WriteFault → Rose (W.faults output.old) (W.faults output.new) };
+        line: &[u8],
+        place: Self::Place,
+        out: &mut String,
+    ) -> Result<Self::Place, AllocError>
+        requires line { (l : Self.Line) × Self.rules.Spells place line.now l }
+        requires few { done self.old < MOST_INPUT }
+        ensures told { IfOk result (λ next. (l : Self.Line) × (told : List ℕ)
+            × Self.rules.Spells place line.now l × (next ≡ Self.rules.next place l)
+            × deeds.Does self.old l told self.new
+            × (string_bytes out.new ≡ string_bytes out.old ++ told)) }
+        ensures done { OnOk result (done self.new ≤ done self.old + 1) };
+
+    /// Appends what stands behind the last line. Fails where there is no memory.
+    fn finish(&mut self, alloc: Global, out: &mut String) -> Result<(), AllocError>
+        ensures { OnOk result ((told : List ℕ) × deeds.Ends self.old told
+            × (string_bytes out.new ≡ string_bytes out.old ++ told)) };
+
+    /// A line can be done at any time.
+    ghost goes_on: { (word : Self) (place : Self.Place) (text : List ℕ) (line : Self.Line)
+        → Self.rules.Spells place text line
+        → (told : List ℕ) × (next : Self) × deeds.Does word line told next };
+
+    /// There can be an end at any time.
+    ghost comes_to_end: { (word : Self) → (told : List ℕ) × deeds.Ends word told };
+
+    /// What is written line by line is the output of the text.
+    ghost means: { (text written : List ℕ)
+        → SaysOf Self.rules deeds text written → says text written };
+}
+
+/// How a word that reads a text ended.
+#[derive(Clone, Copy, Debug, PartialEq, Eq)]
+pub enum Ended {
+    /// The input was read to its end, and the output is whole.
+    Done,
+    /// The line with this number, from 1, is the first that is outside the grammar.
+    BadInput(u64),
+    /// The input failed.
+    ReadFault,
+    /// The output failed.
+    WriteFault,
+    /// There was no memory.
+    NoMemory,
+    /// The input is longer than the program reads.
+    TooLong,
+}
+
+/// Does each line in turn, and writes what it says in pieces.
+fn write_all<X: Word, W: Sink>(
+    alloc: Global,
+    mut word: X,
+    text: &[u8],
+    output: &mut W,
+) -> Result<(), Unfinished>
+    requires word { X.deeds.Starts word × (X.done word ≡ 0) }
+    requires text { IsText X.rules text.now }
+    requires short { length text.now ≤ MOST_INPUT }
+    ensures ok { OnOk result ((written : List ℕ)
+        × Appends (W.written output.old) (W.written output.new) written
+        × SaysOf X.rules X.deeds text.now written) }
+    ensures err { OnErr result ((written : List ℕ)
+        × Appends (W.written output.old) (W.written output.new) written
+        × IsBegun (SaysOf X.rules X.deeds) text.now written) }
+    ensures failed { result ≡ Err Unfinished.WriteFault
+        → Rose (W.faults output.old) (W.faults output.new) }
+    ensures no_failure { result ≢ Err Unfinished.WriteFault
+        → W.faults output.new ≡ W.faults output.old }
+    ensures takes { ((whole : List ℕ) → SaysOf X.rules X.deeds text.now whole
+        → length whole ≤ W.takes output.old) → result ≢ Err Unfinished.WriteFault }
+{
+    let mut gathered = String::new(alloc);
+    let mut rest = text;
+    let mut place = X::first_place();
+    'lines: while !rest.is_empty() {
+        let (line, behind) = split_line(rest);
+        place = word.write_line(alloc, line, place, &mut gathered)?;
+        rest = behind;
+        pass_on(&mut gathered, PIECE, output)?;
+    }
+    word.finish(alloc, &mut gathered)?;
+    pass_on(&mut gathered, 0, output)?;
+    Ok(())
 }
 
 /// Reads a text to its end and writes what it says. Nothing is written before every line was read.
-pub fn answer<X: Word, R: Source, W: Sink>(alloc: Global, input: &mut R, output: &mut W) -> Status
+pub fn answer<X: Word, R: Source, W: Sink>(alloc: Global, input: &mut R, output: &mut W) -> Ended
     ensures answers { (came : List ℕ) × (written : List ℕ)
         × Moves (R.left input.old) (R.left input.new) (R.taken input.old) (R.taken input.new) came
         × Appends (W.written output.old) (W.written output.new) written
-        × Answers X.says X.refuses result came written }
-    ensures whole { IsReadWhole result → Rose (R.ends input.old) (R.ends input.new) × IsAtEnd (R.left input.new) }
-    ensures read_fault { result ≡ Status.ReadFault → Rose (R.faults input.old) (R.faults input.new) }
-    ensures write_fault { result ≡ Status.WriteFault → Rose (W.faults output.old) (W.faults output.new) }
-    ensures complete { Completes X.takes (R.left input.old)
-        (Rose (R.faults input.old) (R.faults input.new)) (Rose (W.faults output.old) (W.faults output.new)) result }
+        × Answers (FirstBad X.rules) X.says result (R.left input.new) came written }
+    ensures counted { Counted result
+        (record {
+          read_faults = R.faults input.old;
+          ends = R.ends input.old;
+          write_faults = W.faults output.old;
+        })
+        (record {
+          read_faults = R.faults input.new;
+          ends = R.ends input.new;
+          write_faults = W.faults output.new;
+        }) }
+    ensures taken { (text : List ℕ) → R.left input.old ≡ Some text → IsText X.rules text
+        → length text ≤ MOST_INPUT → IsTaken result }
+    ensures unfailing { R.unfailing input.old → result ≢ Ended.ReadFault }
+    ensures takes { (text : List ℕ) → R.left input.old ≡ Some text
+        → ((whole : List ℕ) → X.says text whole → length whole ≤ W.takes output.old)
+        → result ≢ Ended.WriteFault }
 {
     let text = match read_whole(alloc, input, MOST_INPUT) {
         Ok(text) => text,
-        Err(ReadWholeError::ReadFault) => return Status::ReadFault,
-        Err(ReadWholeError::TooLong) => return Status::TooLong,
-        Err(ReadWholeError::NoMemory) => return Status::NoMemory,
+        Err(ReadWholeError::ReadFault) => return Ended::ReadFault,
+        Err(ReadWholeError::TooLong) => return Ended::TooLong,
+        Err(ReadWholeError::NoMemory) => return Ended::NoMemory,
     };
-    let mut word = match X::new(alloc) {
-        Ok(word) => word,
-        Err(AllocError) => return Status::NoMemory,
-    };
-    match word.first_bad_line(alloc, &text) {
-        Ok(None) => {}
-        Ok(Some(line)) => return Status::BadInput(line),
-        Err(AllocError) => return Status::NoMemory,
+    if let Some(line) = first_bad_line::<X>(&text) {
+        return Ended::BadInput(line);
     }
-    match word.write_all(alloc, &text, output) {
-        Ok(()) => Status::Done,
-        Err(Unfinished::WriteFault) => Status::WriteFault,
-        Err(Unfinished::NoMemory) => Status::NoMemory,
+    let Ok(word) = X::start(alloc) else {
+        return Ended::NoMemory;
+    };
+    match write_all::<X, W>(alloc, word, &text, output) {
+        Ok(()) => Ended::Done,
+        Err(Unfinished::WriteFault) => Ended::WriteFault,
+        Err(Unfinished::NoMemory) => Ended::NoMemory,
     }
 }

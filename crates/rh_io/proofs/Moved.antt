@@ -14,9 +14,11 @@ pub moved_next : (xs room moved : List ℕ) (p n : ℕ) → p + n ≤ length xs 
 moved_next xs room moved p n fits e =
     let long : n ≤ length (drop p xs) = omega (arith, length-drop p xs) in
     let size : length moved ≡ n = ap length e ∙ length-take-le n (drop p xs) long in
-    let same : take n (moved ++ drop n room) ≡ take n (drop p xs) = take_at moved (drop n room) n size ∙ e in
+    let same : take n (moved ++ drop n room) ≡ take n (drop p xs) =
+    take_at moved (drop n room) n size ∙ e in
     record {
-      from = sym (take-append-drop n (drop p xs)) ∙ ap (λ ys. take n (drop p xs) ++ ys) (drop-drop n p xs)
+      from = sym (take-append-drop n (drop p xs))
+          ∙ ap (λ ys. take n (drop p xs) ++ ys) (drop-drop n p xs)
           ∙ ap (λ ys. ys ++ drop (p + n) xs) (sym same);
       to = take-further p n xs ∙ ap (λ ys. take p xs ++ ys) (sym same);
     }
@@ -27,7 +29,10 @@ moved_next xs room moved p n fits e =
 pub Moves-more : (a b c x y z : Option (List ℕ)) (bs cs : List ℕ)
     → Moves a b x y bs → Moves b c y z cs → Moves a c x z (bs ++ cs)
 Moves-more a b c x y z bs cs h k =
-    record { from = Consumes-trans a b c bs cs h.from k.from; to = Appends-trans x y z bs cs h.to k.to }
+    record {
+      from = Consumes-trans a b c bs cs h.from k.from;
+      to = Appends-trans x y z bs cs h.to k.to;
+    }
 
 -- a failed read after another
 pub Stays-more : (a b c x y z : Option (List ℕ)) → Stays a b x y → Stays b c y z → Stays a c x z
@@ -41,10 +46,14 @@ Stays-more a b c x y z h k =
 pub Moves-kept : (a b c x y z : Option (List ℕ)) (bs : List ℕ)
     → Moves a b x y bs → Stays b c y z → Moves a c x z bs
 Moves-kept a b c x y z bs h k =
-    record { from = Consumes-kept a b c bs h.from k.same_left; to = Appends-kept x y z bs h.to k.same_read }
+    record {
+      from = Consumes-kept a b c bs h.from k.same_left;
+      to = Appends-kept x y z bs h.to k.same_read;
+    }
 
 -- what came until the source was at its end is all that it had
 pub Moves-whole : (all bs : List ℕ) (next x y : Option (List ℕ))
     → Moves (Some all) next x y bs → IsAtEnd next → bs ≡ all
 Moves-whole all bs None x y h end = absurd h.from
-Moves-whole all bs (Some rest) x y h end = sym (append-nil bs) ∙ ap (λ ys. bs ++ ys) (sym end) ∙ sym h.from
+Moves-whole all bs (Some rest) x y h end =
+    sym (append-nil bs) ∙ ap (λ ys. bs ++ ys) (sym end) ∙ sym h.from

@@ -13,7 +13,8 @@ take-further p n xs =
     ∙ ap (λ ys. ys ++ drop p (take (p + n) xs)) (take-take p (p + n) xs below)
     ∙ ap (λ ys. take p xs ++ ys) (drop-take p n xs)
 
--- after a front of the piece, a front of its rest: together a longer front, and what is behind is the rest
+-- after a front of the piece, a front of its rest: together a longer front, and what is behind is
+-- the rest
 pub front-grows : (a b c : Option (List ℕ)) (piece rest behind : List ℕ) (n : ℕ)
     → n ≤ length rest → length rest ≤ length piece
     → rest ≡ drop (length piece - length rest) piece → behind ≡ drop n rest
@@ -28,5 +29,7 @@ front-grows a b c piece rest behind n fits shorter is_rest is_behind first secon
     ap (λ ys. take gone piece ++ take n ys) is_rest ∙ sym (take-further gone n piece)
     ∙ ap (λ k. take k piece) (sym sum) in
     let further : behind ≡ drop (gone + n) piece =
-    is_behind ∙ ap (drop n) is_rest ∙ drop-drop n gone piece in
-    (further ∙ ap (λ k. drop k piece) (sym sum), subst (Appends a c) joined (Appends-trans a b c _ _ first second))
+    is_behind ∙ ap (drop n) is_rest ∙ drop-drop n gone piece in (
+      further ∙ ap (λ k. drop k piece) (sym sum),
+      subst (Appends a c) joined (Appends-trans a b c _ _ first second),
+    )

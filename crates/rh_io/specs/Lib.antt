@@ -2,3 +2,4 @@ pub mod Counts
 pub mod Bytes
 pub mod Memory
 pub mod Whole
+pub mod Laws

@@ -3,6 +3,7 @@
 #![tactic(auto)]
 
 pub mod fault;
+pub mod laws;
 pub mod memory;
 pub mod reader;
 pub mod sink;
@@ -11,6 +12,7 @@ pub mod whole;
 pub mod writer;
 
 pub use fault::ReadWholeError;
+pub use laws::{read_from_memory, write_to_memory};
 pub use memory::{MemSink, MemSource};
 pub use reader::ReaderSource;
 pub use sink::{Sink, SinkFailed};

@@ -5,7 +5,7 @@ ghost use Rattle.std.specs.Prelude.{◌≡◌, None};
 use crate::source::{Source, SourceFailed};
 use std::io::Read;
 
-/// A source over a reader. It tells no bytes.
+/// A source over a reader. It tells what is left where the reader does, and not what was read.
 ///
 /// Each error of the reader is a fault, an interrupted read too.
 #[derive(Drop)]
@@ -18,6 +18,7 @@ pub struct ReaderSource<R: Read> {
 impl<R: Read> ReaderSource<R> {
     /// A source over `inner`, with both counts at 0.
     pub fn new(inner: R) -> ReaderSource<R>
+        ensures left { ⟦<ReaderSource<R> as Source>⟧.left result ≡ R.remaining inner }
         ensures faults { ⟦<ReaderSource<R> as Source>⟧.faults result ≡ 0 }
         ensures ends { ⟦<ReaderSource<R> as Source>⟧.ends result ≡ 0 }
     {
@@ -30,7 +31,7 @@ impl<R: Read> ReaderSource<R> {
 }
 
 impl<R: Read> Source for ReaderSource<R> {
-    ghost left = { λ _. None };
+    ghost left = { λ s. R.remaining s.inner };
 
     ghost taken = { λ _. None };
 

@@ -1,45 +1,26 @@
-use crate::{QUEUE_BYTES, SendLine};
+//! Queues and rooms by hand.
+
+mod begun;
+mod send_line;
+
+use crate::SendLine;
+use std::alloc::Global;
+use std::process::Abort;
 use std::test::Fail;
 
-// The PDU of this many bytes, 16 or more, whose body is zeros.
-fn pdu(rt: &HostRuntime, len: u16) -> Result<Vec<u8>, Fail> {
-    let [low, high] = len.to_le_bytes();
-    let mut bytes = vec![in rt.alloc(); 5, 0, 0, 3, 16, 0, 0, 0, low, high, 0, 0, 1, 0, 0, 0]?;
-    bytes.resize(usize::from(len), 0)?;
-    Ok(bytes)
-}
+/// A request without a body: 16 bytes.
+const FIRST: [u8; 16] = [5, 0, 0, 3, 0x10, 0, 0, 0, 16, 0, 0, 0, 1, 0, 0, 0];
+/// A request of 20 bytes.
+const SECOND: [u8; 20] = [
+    5, 0, 0, 3, 0x10, 0, 0, 0, 20, 0, 0, 0, 2, 0, 0, 0, 0xaa, 0xbb, 0xcc, 0xdd,
+];
 
-#[test]
-fn pdus_leave_a_queue_in_the_order_in_which_they_came(rt: HostRuntime) -> Result<(), Fail> {
-    let (short, long) = (pdu(&rt, 16)?, pdu(&rt, 24)?);
-    assert!(rt; rh_pdu::check(&short).is_ok());
-    assert!(rt; rh_pdu::check(&long).is_ok());
-    let mut line = SendLine::new(rt.alloc())?;
-    assert_eq!(rt; line.front(), None);
-    assert!(rt; line.push(rt.alloc(), &short)?);
-    assert!(rt; line.push(rt.alloc(), &long)?);
-    assert_eq!(rt; line.held(), 40);
-    assert_eq!(rt; line.front(), Some(16));
-    let mut room = [0; 8192];
-    assert_eq!(rt; line.pop(&mut room), Some(16));
-    assert_eq!(rt; line.pop(&mut room), Some(24));
-    assert!(rt; &room[..24] == long.as_slice());
-    assert_eq!(rt; line.pop(&mut room), None);
-    assert_eq!(rt; line.held(), 0);
-    Ok(())
-}
-
-#[test]
-fn a_queue_takes_262144_bytes_and_no_more(rt: HostRuntime) -> Result<(), Fail> {
-    let (short, long) = (pdu(&rt, 16)?, pdu(&rt, 8192)?);
-    assert!(rt; rh_pdu::check(&short).is_ok());
-    assert!(rt; rh_pdu::check(&long).is_ok());
-    let mut line = SendLine::new(rt.alloc())?;
-    for _ in 0..32 {
-        assert!(rt; line.push(rt.alloc(), &long)?);
-    }
-    assert_eq!(rt; line.held(), QUEUE_BYTES);
-    assert!(rt; !line.push(rt.alloc(), &short)?);
-    assert_eq!(rt; line.held(), QUEUE_BYTES);
-    Ok(())
+/// A queue of the two, 36 bytes.
+fn queue_of_two(rt: &impl Abort, alloc: Global) -> Result<SendLine, Fail> {
+    assert!(rt; rh_pdu::check(&FIRST).is_ok());
+    assert!(rt; rh_pdu::check(&SECOND).is_ok());
+    let mut queue = SendLine::new(alloc)?;
+    assert!(rt; queue.push(alloc, &FIRST)?);
+    assert!(rt; queue.push(alloc, &SECOND)?);
+    Ok(queue)
 }

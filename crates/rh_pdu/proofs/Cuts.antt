@@ -1,19 +1,29 @@
--- laws of frames at the front
-use Rattle.std.proofs.Common.{◌≡◌, ℕ, zero, suc, ◌≤◌, List, [], ◌∷◌, take, drop, length, Bool, true}
-use Rattle.std.proofs.Common.{false, cond, nat_le, ◌&&◌, Some, None, arith, ap, refl}
-use Rattle.std.proofs.lemmas.List.{length-drop}
+-- the test for a whole frame at the front, and frames at the front
+use Rattle.std.proofs.Common.{◌≡◌, ℕ, ◌≤◌, List, ◌++◌, take, drop, length, Bool, true, false, nat_le, ◌&&◌}
+use Rattle.std.proofs.Common.{Some, None, arith, sym, ◌∙◌, ap, subst, refl}
+use Rattle.std.proofs.lemmas.List.{length-append, length-take-le, take-take, take_at, drop_at}
 use Rattle.std.proofs.lemmas.Bool.Decides.{nat_tests}
 use Rattle.std.specs.declared.option.Option.{Option}
 use Rattle.rh_pdu.specs.declared.fault.HeadFault.{HeadFault}
 use Rattle.rh_pdu.specs.Header.{frag_of, head_fault}
-use Rattle.rh_pdu.proofs.Headers.{frag_bounds}
-use Rattle.rh_pdu.specs.Cut.{is_sound, begins_whole, cut, left, frames_of, rest_of}
+use Rattle.rh_pdu.specs.Frames.{IsFrame}
+use Rattle.rh_pdu.specs.Cut.{is_sound, begins_whole}
+use Rattle.rh_pdu.proofs.Headers.{frag_bounds, head_same, frag_same}
 
--- a header that breaks no rule, and as many bytes as it says
-pub whole_from : (b : List ℕ) → 16 ≤ length b → head_fault b ≡ None → frag_of b ≤ length b
-    → begins_whole b ≡ true
+-- the header at the front breaks no rule, and all bytes that it says are there
+pub record BeginsWhole (b : List ℕ) : Type 0 where
+  pub long : 16 ≤ length b
+  pub head : head_fault b ≡ None
+  pub whole : frag_of b ≤ length b
+
+-- so the test finds it
+pub whole_found : (b : List ℕ) → BeginsWhole b → begins_whole b ≡ true
 unfolding begins_whole
-whole_from b long head whole = rw head (grind (arith, nat_tests))
+whole_found b h =
+    let long = h.long in
+    let head = h.head in
+    let whole = h.whole in
+    rw head (grind (arith, nat_tests))
 
 sound_none : (o : Option HeadFault) → is_sound o ≡ true → o ≡ None
 sound_none None h = refl
@@ -25,95 +35,61 @@ and_true true true false h = absurd (cc)
 and_true true false c h = absurd (cc)
 and_true false b c h = absurd (cc)
 
--- a whole frame has a header at least, and no more bytes than are there
-pub frag_positive : (b : List ℕ) → begins_whole b ≡ true → (16 ≤ frag_of b) × (frag_of b ≤ length b)
+-- and finds nothing else
+pub found_whole : (b : List ℕ) → begins_whole b ≡ true → BeginsWhole b
 unfolding begins_whole
-frag_positive b h =
-    let l = and_true (nat_le 16 (length b)) (is_sound (head_fault b)) (nat_le (frag_of b) (length b)) h in
-    let bounds = frag_bounds b (sound_none (head_fault b) l.1) in
-    (bounds.0, grind (arith, nat_tests, l.2))
+found_whole b h =
+    let is =
+    and_true (nat_le 16 (length b)) (is_sound (head_fault b)) (nat_le (frag_of b) (length b)) h in
+    record {
+      long = grind (arith, nat_tests, is.0);
+      head = sound_none (head_fault b) is.1;
+      whole = grind (arith, nat_tests, is.2);
+    }
 
--- nothing begins with no frame
-pub not_whole_short : (b : List ℕ) → length b ≤ 0 → begins_whole b ≡ false
-unfolding begins_whole
-not_whole_short b short = grind (arith, nat_tests)
+-- ---- frames
 
--- a step of cut, by its test
-cut_by : ℕ → List ℕ → Bool → List (List ℕ)
-cut_by n b true = take (frag_of b) b ∷ cut n (drop (frag_of b) b)
-cut_by n b false = []
+-- what a header says is a frame, where it breaks no rule and all is there
+pub front_is_frame : (b : List ℕ) → BeginsWhole b → IsFrame (take (frag_of b) b)
+front_is_frame b h =
+    let bounds = frag_bounds b h.head in
+    let size = length-take-le (frag_of b) b h.whole in
+    let front = take-take 16 (frag_of b) b bounds.0 in
+    record {
+      long = omega arith;
+      head = head_same (take (frag_of b) b) b front ∙ h.head;
+      whole = size ∙ sym (frag_same (take (frag_of b) b) b front);
+    }
 
--- enough fuel is as good as any
-pub cut_enough : (n m : ℕ) (b : List ℕ) → length b ≤ n → length b ≤ m → cut n b ≡ cut m b
-unfolding cut
-cut_enough zero zero b h k = refl
-cut_enough zero (suc m) b h k = rw (not_whole_short b h) refl
-cut_enough (suc n) zero b h k = rw (not_whole_short b k) refl
-cut_enough (suc n) (suc m) b h k =
-    let first = take (frag_of b) b in
-    let behind = drop (frag_of b) b in
-    elim (begins_whole b) as (λ t. begins_whole b ≡ t
-    → cond t (first ∷ cut n behind) [] ≡ cond t (first ∷ cut m behind) []) [
-      | true ↦ λ e.
-          let p = frag_positive b e in
-          let size = length-drop (frag_of b) b in
-          ap (λ fs. first ∷ fs) (cut_enough n m behind (omega (arith, size)) (omega (arith, size)))
-      | false ↦ λ _. refl
-    ] refl
+-- and a front that is a frame is what the header says
+pub frame_at : (k : ℕ) (b : List ℕ) → k ≤ length b → IsFrame (take k b)
+    → BeginsWhole b × (frag_of b ≡ k)
+frame_at k b fits frame =
+    let size = length-take-le k b fits in
+    let long : 16 ≤ k = omega (arith, frame.long) in
+    let front = take-take 16 k b long in
+    let frag : frag_of b ≡ k = sym (frag_same (take k b) b front) ∙ sym frame.whole ∙ size in (
+      record {
+        long = omega arith;
+        head = sym (head_same (take k b) b front) ∙ frame.head;
+        whole = omega arith;
+      },
+      frag,
+    )
 
--- the first frame, and the frames behind it
-pub frames_step : (b : List ℕ) → begins_whole b ≡ true
-    → frames_of b ≡ take (frag_of b) b ∷ frames_of (drop (frag_of b) b)
-unfolding cut
-frames_step [] h = absurd (cc (not_whole_short [] (omega arith)))
-frames_step (x ∷ xs) h =
-    let p = frag_positive (x ∷ xs) h in
-    let rest = drop (frag_of (x ∷ xs)) (x ∷ xs) in
-    rw h (ap (λ fs. take (frag_of (x ∷ xs)) (x ∷ xs) ∷ fs)
-    (cut_enough (length xs) (length rest) rest
-    (omega (arith, length-drop (frag_of (x ∷ xs)) (x ∷ xs))) (omega arith)))
+-- a frame, and what is behind it
+pub record StandsFirst (b f x : List ℕ) : Type 0 where
+  pub begins : BeginsWhole b
+  pub first : take (frag_of b) b ≡ f
+  pub behind : drop (frag_of b) b ≡ x
 
--- no frame stands at the front
-pub frames_none : (b : List ℕ) → begins_whole b ≡ false → frames_of b ≡ []
-unfolding cut
-frames_none [] h = refl
-frames_none (x ∷ xs) h = rw h refl
-
--- and of what is left, enough fuel is as good as any
-pub left_enough : (n m : ℕ) (b : List ℕ) → length b ≤ n → length b ≤ m → left n b ≡ left m b
-unfolding left
-left_enough zero zero b h k = refl
-left_enough zero (suc m) b h k = rw (not_whole_short b h) refl
-left_enough (suc n) zero b h k = rw (not_whole_short b k) refl
-left_enough (suc n) (suc m) b h k =
-    let behind = drop (frag_of b) b in
-    elim (begins_whole b) as (λ t. begins_whole b ≡ t → cond t (left n behind) b ≡ cond t (left m behind) b) [
-      | true ↦ λ e.
-          let p = frag_positive b e in
-          let size = length-drop (frag_of b) b in
-          left_enough n m behind (omega (arith, size)) (omega (arith, size))
-      | false ↦ λ _. refl
-    ] refl
-
--- what is left is behind the first frame
-pub rest_step : (b : List ℕ) → begins_whole b ≡ true → rest_of b ≡ rest_of (drop (frag_of b) b)
-unfolding left
-rest_step [] h = absurd (cc (not_whole_short [] (omega arith)))
-rest_step (x ∷ xs) h =
-    let p = frag_positive (x ∷ xs) h in
-    let rest = drop (frag_of (x ∷ xs)) (x ∷ xs) in
-    rw h (left_enough (length xs) (length rest) rest
-    (omega (arith, length-drop (frag_of (x ∷ xs)) (x ∷ xs))) (omega arith))
-
--- or all of it, where there is none
-pub rest_none : (b : List ℕ) → begins_whole b ≡ false → rest_of b ≡ b
-unfolding left
-rest_none [] h = refl
-rest_none (x ∷ xs) h = rw h refl
-
--- the header of a whole frame breaks no rule
-pub sound_head : (b : List ℕ) → begins_whole b ≡ true → head_fault b ≡ None
-unfolding begins_whole
-sound_head b h =
-    let l = and_true (nat_le 16 (length b)) (is_sound (head_fault b)) (nat_le (frag_of b) (length b)) h in
-    sound_none (head_fault b) l.1
+pub stands_first : (b f x : List ℕ) → IsFrame f → b ≡ f ++ x → StandsFirst b f x
+stands_first b f x h joined =
+    let fits : length f ≤ length b = omega (arith, ap length joined, length-append f x) in
+    let first : take (length f) b ≡ f = ap (take (length f)) joined ∙ take_at f x (length f) refl in
+    let is = frame_at (length f) b fits (subst IsFrame (sym first) h) in
+    record {
+      begins = is.0;
+      first = ap (λ n. take n b) is.1 ∙ first;
+      behind = ap (λ n. drop n b) is.1 ∙ ap (drop (length f)) joined ∙ drop_at f x (length f) refl;
+    }

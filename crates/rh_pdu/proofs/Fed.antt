@@ -1,100 +1,13 @@
--- what the answers of a framer say of the frames of all bytes
-use Rattle.std.proofs.Common.{◌≡◌, ℕ, ◌+◌, ◌≤◌, ◌<◌, List, [], ◌∷◌, ◌++◌, take, drop, length}
-use Rattle.std.proofs.Common.{Some, None, arith, sym, ◌∙◌, ap, refl, subst}
-use Rattle.std.proofs.Math.Logic.{◌↔◌}
-use Rattle.std.proofs.lemmas.List.{append-nil, length-append, length-take-le, take-take, take_all}
-use Rattle.std.proofs.lemmas.List.Folds.{concat-append}
-use Rattle.std.specs.List.{concat}
+-- for a loop that feeds a piece to its end: what each answer leaves of the frames of all bytes
+use Rattle.std.proofs.Common.{◌≡◌, ℕ, ◌≤◌, ◌<◌, List, [], ◌∷◌, ◌++◌, take, drop, length, Some, None, sym, ◌∙◌, ap}
+use Rattle.std.proofs.lemmas.List.{append_assoc, take-append-drop}
+use Rattle.std.specs.declared.option.Option.{Option}
 use Rattle.rh_pdu.specs.declared.fault.HeadFault.{HeadFault}
-use Rattle.rh_pdu.specs.declared.feed.Feed.{Feed}
-use Rattle.rh_pdu.specs.declared.feed.Feed.TheVariants.{Need, Frame, Fault}
-use Rattle.rh_pdu.specs.Header.{frag_of, head_fault}
-use Rattle.rh_pdu.specs.Frames.{IsFrame, Framed, IsBad}
+use Rattle.rh_pdu.specs.Header.{head_fault}
+use Rattle.rh_pdu.specs.Frames.{IsFrame, IsBad}
 use Rattle.rh_pdu.specs.Cut.{frames_of, rest_of}
-use Rattle.rh_pdu.specs.Feeding.{FramerState, capped, fed, answer}
-use Rattle.rh_pdu.specs.Feeding.{given, used, used_at_fault, IsFault, NamesFault, IsSound}
-use Rattle.rh_pdu.proofs.Headers.{head_same}
-use Rattle.rh_pdu.proofs.Cuts.{sound_head, frag_positive, frames_step, rest_step, frames_none, rest_none}
-use Rattle.rh_pdu.proofs.Framing.{whole_is_frame, framed_none, framed_join, single_framed, bad_begins_none}
-use Rattle.rh_pdu.proofs.Framing.{none_from_frames}
-use Rattle.rh_pdu.proofs.Told.{Told, told}
-
--- the bytes used and the frame given go on with any framing of the bytes before
-pub used_framed : (a : Feed) (s t : FramerState) (piece : List ℕ) → Told a s t piece
-    → (before : List ℕ) (frames : List (List ℕ)) → Framed before frames s.rest
-    → Framed (before ++ take (used a s piece) piece) (frames ++ given a t.frame) t.rest
-used_framed Need s t piece h before frames was =
-    let all = s.rest ++ piece in
-    framed_join before (take (length piece) piece) frames [] s.rest t.rest was
-    (subst (λ x. Framed (s.rest ++ x) [] t.rest) (sym (take_all (length piece) piece (omega arith)))
-    (subst (λ x. Framed all [] x) (sym h.rest) (framed_none all h.none)))
-used_framed (Frame n len) s t piece h before frames was =
-    let all = s.rest ++ piece in
-    let is = h.frame ∙ h.front in
-    let frame : IsFrame t.frame = subst IsFrame (sym h.frame) (whole_is_frame all h.whole) in
-    framed_join before (take n piece) frames (t.frame ∷ []) s.rest t.rest was
-    (subst (λ x. Framed x (t.frame ∷ []) t.rest) is
-    (subst (λ x. Framed t.frame (t.frame ∷ []) x) (sym h.rest) (single_framed t.frame frame)))
-used_framed (Fault at f) s t piece h before frames was =
-    let all = s.rest ++ piece in
-    let front = take 16 all in
-    let long = h.bad.long in
-    let head = head_same front all (take-take 16 16 all (omega arith)) in
-    let bad : IsBad front = record {
-      long = omega (arith, length-take-le 16 all long);
-      head = λ none. h.bad.head (sym head ∙ none);
-    } in
-    framed_join before (take (used_at_fault s s.fault) piece) frames [] s.rest t.rest was
-    (subst (λ x. Framed x [] t.rest) h.front
-    (subst (λ x. Framed front [] x) (sym h.rest) (framed_none front (bad_begins_none front bad))))
-
-capped_more : (a b c : ℕ) → a ≡ capped b → capped (a + c) ≡ capped (b + c)
-capped_more a b c h = omega arith
-
--- the place counts the bytes of the frames given
-pub place_counts : (a : Feed) (s t : FramerState) (piece : List ℕ) → Told a s t piece
-    → (frames : List (List ℕ)) → s.place ≡ capped (length (concat frames))
-    → t.place ≡ capped (length (concat (frames ++ given a t.frame)))
-place_counts Need s t piece h frames was =
-    h.place ∙ was ∙ ap (λ x. capped (length (concat x))) (sym (append-nil frames))
-place_counts (Fault at f) s t piece h frames was =
-    h.place ∙ was ∙ ap (λ x. capped (length (concat x))) (sym (append-nil frames))
-place_counts (Frame n len) s t piece h frames was =
-    let all = s.rest ++ piece in
-    let p = frag_positive all h.whole in
-    let size : length t.frame ≡ frag_of all = ap length h.frame ∙ length-take-le (frag_of all) all p.1 in
-    let joined : concat (frames ++ (t.frame ∷ [])) ≡ concat frames ++ t.frame =
-    concat-append frames (t.frame ∷ []) ∙ ap (λ x. concat frames ++ x) (append-nil t.frame) in
-    let sum : length (concat frames) + frag_of all ≡ length (concat (frames ++ (t.frame ∷ []))) =
-    ap (λ x. length (concat frames) + x) (sym size) ∙ sym (length-append (concat frames) t.frame)
-    ∙ ap length (sym joined) in
-    h.place ∙ capped_more s.place (length (concat frames)) (frag_of all) was ∙ ap capped sum
-
--- need is told exactly where no frame is whole and the header at the front breaks no rule
-pub need_told : (a : Feed) (s t : FramerState) (piece : List ℕ) → Told a s t piece
-    → (a ≡ Need ↔ ((s.fault ≡ None) × (frames_of (s.rest ++ piece) ≡ []) × (¬ IsBad (s.rest ++ piece))))
-need_told Need s t piece h = (λ _. (h.was, frames_none (s.rest ++ piece) h.none, h.not_bad), λ _. refl)
-need_told (Frame n len) s t piece h = (
-  λ e. absurd (cc),
-  λ k. absurd (let none = none_from_frames (s.rest ++ piece) k.1 in let whole = h.whole in cc),
-)
-need_told (Fault at f) s t piece h = (λ e. absurd (cc), λ k. absurd (k.2 h.bad))
-
--- a fault is told exactly where the header at the front breaks a rule
-pub fault_told : (a : Feed) (s t : FramerState) (piece : List ℕ) → Told a s t piece
-    → (IsFault a ↔ IsBad (s.rest ++ piece))
-fault_told Need s t piece h = (λ no. absurd no, λ bad. absurd (h.not_bad bad))
-fault_told (Frame n len) s t piece h =
-    (λ no. absurd no, λ bad. absurd (bad.head (sound_head (s.rest ++ piece) h.whole)))
-fault_told (Fault at f) s t piece h = (λ _. h.bad, λ _. tt)
-
-pub fault_named : (a : Feed) (s t : FramerState) (piece : List ℕ) → Told a s t piece
-    → NamesFault a s.place (s.rest ++ piece)
-fault_named Need s t piece h = tt
-fault_named (Frame n len) s t piece h = tt
-fault_named (Fault at f) s t piece h = (h.at_place, h.names)
-
--- ---- for a loop that feeds a piece to its end
+use Rattle.rh_pdu.specs.Feeding.{FramerState, FedNeed, FedFrame, FedFault}
+use Rattle.rh_pdu.proofs.Framing.{cut_is, frames_behind, unfinished_framed, bad_framed}
 
 -- a frame that was answered is the first of all bytes
 pub record TookFrame (s t : FramerState) (piece : List ℕ) (n : ℕ) : Type 0 where
@@ -108,72 +21,72 @@ pub record TookFrame (s t : FramerState) (piece : List ℕ) (n : ℕ) : Type 0 w
   pub some : 0 < n
   pub within : n ≤ length piece
 
-pub took_frame : (s t : FramerState) (piece : List ℕ) (n len : ℕ) → IsSound s → t ≡ fed s piece
-    → Frame n len ≡ answer s piece → TookFrame s t piece n
-took_frame s t piece n len sound next is =
-    let all = s.rest ++ piece in
-    let h = told s t piece (Frame n len) sound next is in
-    let behind : drop (frag_of all) all ≡ t.rest ++ drop n piece =
-    h.behind ∙ ap (λ r. r ++ drop n piece) (sym h.rest) in
-    let frame : IsFrame t.frame = subst IsFrame (sym h.frame) (whole_is_frame all h.whole) in
+pub took_frame : (s t : FramerState) (piece : List ℕ) (n len : ℕ) → FedFrame s t piece n len
+    → TookFrame s t piece n
+took_frame s t piece n len h =
+    let behind = drop n piece in
+    let empty : t.rest ≡ [] = ap (λ t. t.rest) h.after in
+    let joined : s.rest ++ piece ≡ t.frame ++ behind =
+    ap (λ x. s.rest ++ x) (sym (take-append-drop n piece))
+    ∙ sym (append_assoc s.rest (take n piece) behind)
+    ∙ ap (λ x. x ++ behind) (sym h.bytes) in
+    let is = frames_behind t.frame behind h.frame in
     record {
-      frames = frames_step all h.whole ∙ ap (λ f. f ∷ frames_of (drop (frag_of all) all)) (sym h.frame)
-          ∙ ap (λ b. t.frame ∷ frames_of b) behind;
-      rest = rest_step all h.whole ∙ ap rest_of behind;
+      frames = ap frames_of joined ∙ is.0 ∙ ap (λ r. t.frame ∷ frames_of (r ++ behind)) (sym empty);
+      rest = ap rest_of joined ∙ is.1 ∙ ap (λ r. rest_of (r ++ behind)) (sym empty);
       was = h.was;
-      going = h.going;
-      empty = h.rest;
-      frame = frame;
-      long = frame.long;
+      going = ap (λ t. t.fault) h.after;
+      empty = empty;
+      frame = h.frame;
+      long = h.frame.long;
       some = h.some;
       within = h.within;
     }
 
 -- where more bytes are needed, all bytes are an unfinished frame
-pub record TookNone (s t : FramerState) (piece : List ℕ) : Type 0 where
-  pub frames : frames_of (s.rest ++ piece) ≡ []
-  pub rest : t.rest ≡ rest_of (s.rest ++ piece)
-  pub whole : t.rest ≡ s.rest ++ piece
+pub record TookNone (s t : FramerState) (all : List ℕ) : Type 0 where
+  pub frames : frames_of all ≡ []
+  pub rest : t.rest ≡ rest_of all
+  pub whole : t.rest ≡ all
   pub was : s.fault ≡ None
   pub going : t.fault ≡ None
-  pub not_bad : ¬ IsBad (s.rest ++ piece)
+  pub not_bad : ¬ IsBad all
 
-pub none_taken : (s t : FramerState) (piece : List ℕ) → IsSound s → t ≡ fed s piece → Need ≡ answer s piece
-    → TookNone s t piece
-none_taken s t piece sound next is =
-    let all = s.rest ++ piece in
-    let h = told s t piece Need sound next is in
+pub none_taken : (s t : FramerState) (all : List ℕ) → FedNeed s t all → TookNone s t all
+none_taken s t all h =
+    let is = cut_is [] all all (unfinished_framed all h.unfinished) in
+    let whole : t.rest ≡ all = ap (λ t. t.rest) h.after in
     record {
-      frames = frames_none all h.none;
-      rest = h.rest ∙ sym (rest_none all h.none);
-      whole = h.rest;
+      frames = is.0;
+      rest = whole ∙ sym is.1;
+      whole = whole;
       was = h.was;
-      going = h.going;
-      not_bad = h.not_bad;
+      going = ap (λ t. t.fault) h.after;
+      not_bad = λ bad. bad.head (h.unfinished bad.long).0;
     }
 
+pub some_is_not_none : (o : Option HeadFault) (f : HeadFault) → o ≡ Some f → o ≡ None → ⊥
+some_is_not_none o f h k = cc
+
 -- where a fault is told, all bytes begin with a bad header, and the framer holds that header
-pub record TookFault (s t : FramerState) (piece : List ℕ) (at : ℕ) (f : HeadFault) : Type 0 where
-  pub bad : IsBad (s.rest ++ piece)
-  pub frames : frames_of (s.rest ++ piece) ≡ []
-  pub rest : rest_of (s.rest ++ piece) ≡ s.rest ++ piece
-  pub names : head_fault (s.rest ++ piece) ≡ Some f
-  pub at_place : at ≡ s.place
-  pub header : t.rest ≡ take 16 (s.rest ++ piece)
+pub record TookFault (t : FramerState) (all : List ℕ) (f : HeadFault) : Type 0 where
+  pub bad : IsBad all
+  pub frames : frames_of all ≡ []
+  pub rest : rest_of all ≡ all
+  pub header : t.rest ≡ take 16 all
   pub stays : t.fault ≡ Some f
 
-pub fault_taken : (s t : FramerState) (piece : List ℕ) (at : ℕ) (f : HeadFault) → IsSound s → t ≡ fed s piece
-    → Fault at f ≡ answer s piece → TookFault s t piece at f
-fault_taken s t piece at f sound next is =
-    let all = s.rest ++ piece in
-    let h = told s t piece (Fault at f) sound next is in
-    let none = bad_begins_none all h.bad in
+pub fault_taken : (s t : FramerState) (all : List ℕ) (at : ℕ) (f : HeadFault)
+    → FedFault s t all at f
+    → TookFault t all f
+fault_taken s t all at f h =
+    let bad : IsBad all =
+    record { long = h.long; head = some_is_not_none (head_fault all) f h.head } in
+    let is = cut_is [] all all (bad_framed all bad) in
     record {
-      bad = h.bad;
-      frames = frames_none all none;
-      rest = rest_none all none;
-      names = h.names;
-      at_place = h.at_place;
-      header = h.rest;
-      stays = h.stays;
+      bad = bad;
+      frames = is.0;
+      rest = is.1;
+      header = ap (λ t. t.rest) h.after;
+      stays = ap (λ t. t.fault) h.after;
     }

@@ -1,108 +1,60 @@
 -- the frames of bytes are their one framing
-use Rattle.std.proofs.Common.{◌≡◌, ℕ, zero, suc, ◌≤◌, List, [], ◌∷◌, ◌++◌, take, drop, length, true}
-use Rattle.std.proofs.Common.{false, cond, arith, sym, ◌∙◌, ap, refl, subst}
+use Rattle.std.proofs.Common.{◌≡◌, ℕ, zero, suc, ◌≤◌, List, [], ◌∷◌, ◌++◌, take, drop, length, true, false, cond}
+use Rattle.std.proofs.Common.{arith, sym, ◌∙◌, ap, refl, subst}
 use Rattle.std.specs.List.{concat, AllByRecursion}
 use Rattle.std.proofs.lemmas.List.Folds.{concat-append}
-use Rattle.std.proofs.lemmas.List.{append-nil, length-take, length-take-le, take-take, take-append-le}
-use Rattle.std.proofs.lemmas.List.{length-append, append_assoc, take-append-drop, length-drop, drop_at}
-use Rattle.std.proofs.lemmas.List.{take_at}
+use Rattle.std.proofs.lemmas.List.{append-nil, length-append, append_assoc, take-append-drop, length-drop}
+use Rattle.std.proofs.lemmas.List.{take-append-le}
 use Rattle.rh_pdu.specs.Header.{frag_of}
-use Rattle.rh_pdu.specs.Frames.{IsFrame, Framed, IsBad}
-use Rattle.rh_pdu.proofs.Headers.{head_same, frag_same}
+use Rattle.rh_pdu.specs.Frames.{IsFrame, Framed, IsBad, IsUnfinished}
 use Rattle.rh_pdu.specs.Cut.{begins_whole, cut, left, frames_of, rest_of}
-use Rattle.rh_pdu.proofs.Cuts.{whole_from, frag_positive, sound_head, frames_step, rest_step, frames_none}
-use Rattle.rh_pdu.proofs.Cuts.{rest_none, not_whole_short}
+use Rattle.rh_pdu.proofs.Headers.{frag_bounds, head_same}
+use Rattle.rh_pdu.proofs.Cuts.{BeginsWhole, whole_found, found_whole, front_is_frame, frame_at, stands_first}
 
--- what is cut off is a frame
-pub whole_is_frame : (b : List ℕ) → begins_whole b ≡ true → IsFrame (take (frag_of b) b)
-whole_is_frame b h =
-    let p = frag_positive b h in
-    let size = length-take-le (frag_of b) b p.1 in
-    let front = take-take 16 (frag_of b) b p.0 in
-    record {
-      long = omega arith;
-      head = head_same (take (frag_of b) b) b front ∙ sound_head b h;
-      whole = size ∙ sym (frag_same (take (frag_of b) b) b front);
-    }
+-- ---- a framing
 
--- a frame stands at the front of what begins with it
-pub frame_begins : (f x : List ℕ) → IsFrame f → (begins_whole (f ++ x) ≡ true) × (frag_of (f ++ x) ≡ length f)
-frame_begins f x h =
-    let front : take 16 (f ++ x) ≡ take 16 f = take-append-le 16 f x h.long in
-    let frag : frag_of (f ++ x) ≡ length f = frag_same (f ++ x) f front ∙ sym h.whole in
-    let size = length-append f x in
-    let known = h.long in
-    (whole_from (f ++ x) (omega arith) (head_same (f ++ x) f front ∙ h.head) (omega arith), frag)
+-- where no frame stands at the front, all is the rest
+pub framed_none : (b : List ℕ) → ¬ BeginsWhole b → Framed b [] b
+framed_none b none = record {
+  joined = refl;
+  each = tt;
+  unfinished = λ k fits frame. none (frame_at k b fits frame).0;
+}
 
--- no frame at the front, no whole one in the test
-none_begins : (r : List ℕ) → ((k : ℕ) → k ≤ length r → IsFrame (take k r) → ⊥) → begins_whole r ≡ false
-none_begins r none =
-    elim (begins_whole r) as (λ t. begins_whole r ≡ t → begins_whole r ≡ false) [
-      | true ↦ λ e. absurd (none (frag_of r) (frag_positive r e).1 (whole_is_frame r e))
-      | false ↦ λ e. e
-    ] refl
-
--- each framing of the bytes is this one
-pub framing_is : (fs : List (List ℕ)) (b r : List ℕ) → Framed b fs r → (fs ≡ frames_of b) × (r ≡ rest_of b)
-framing_is [] b r h =
-    let none = none_begins r h.unfinished in
-    let here : b ≡ r = h.joined in
-    (sym (ap frames_of here ∙ frames_none r none), sym (ap rest_of here ∙ rest_none r none))
-framing_is (f ∷ fs) b r h =
-    let more = concat fs ++ r in
-    let joined : b ≡ f ++ more = h.joined ∙ append_assoc f (concat fs) r in
-    let begins = frame_begins f more h.each.0 in
-    let n = frag_of (f ++ more) in
-    let behind : drop n (f ++ more) ≡ more = drop_at f more n (sym begins.1) in
-    let first : take n (f ++ more) ≡ f = take_at f more n (sym begins.1) in
-    let going_on : Framed more fs r = record { joined = refl; each = h.each.1; unfinished = h.unfinished } in
-    let rest = framing_is fs more r going_on in (
-      sym (ap frames_of joined ∙ frames_step (f ++ more) begins.0
-          ∙ ap (λ x. x ∷ frames_of (drop n (f ++ more))) first
-          ∙ ap (λ x. f ∷ frames_of x) behind ∙ ap (λ xs. f ∷ xs) (sym rest.0)),
-      sym (ap rest_of joined ∙ rest_step (f ++ more) begins.0 ∙ ap rest_of behind ∙ sym rest.1),
-    )
-
--- where no frame stands at the front, no front is a frame
-pub no_front : (b : List ℕ) → begins_whole b ≡ false → (k : ℕ) → k ≤ length b → IsFrame (take k b) → ⊥
-no_front b none k fits frame =
-    let begins : begins_whole b ≡ true =
-    subst (λ x. begins_whole x ≡ true) (take-append-drop k b) (frame_begins (take k b) (drop k b) frame).0 in
-    cc
-
--- no frame stands at the front, so all is the rest
-pub framed_none : (b : List ℕ) → begins_whole b ≡ false → Framed b [] b
-framed_none b none = record { joined = refl; each = tt; unfinished = no_front b none }
-
--- a whole frame at the front, and the framing behind it
-framed_more : (b : List ℕ) (fs : List (List ℕ)) (r : List ℕ) → begins_whole b ≡ true
-    → Framed (drop (frag_of b) b) fs r → Framed b (take (frag_of b) b ∷ fs) r
-framed_more b fs r whole h = record {
-  joined =
-      sym (take-append-drop (frag_of b) b) ∙ ap (λ xs. take (frag_of b) b ++ xs) h.joined
-      ∙ sym (append_assoc (take (frag_of b) b) (concat fs) r);
-  each = (whole_is_frame b whole, h.each);
+-- a frame stands in front of a framing
+pub framed_more : (f b : List ℕ) (fs : List (List ℕ)) (r : List ℕ) → IsFrame f → Framed b fs r
+    → Framed (f ++ b) (f ∷ fs) r
+framed_more f b fs r frame h = record {
+  joined = ap (λ x. f ++ x) h.joined ∙ sym (append_assoc f (concat fs) r);
+  each = (frame, h.each);
   unfinished = h.unfinished;
 }
 
--- what is cut off with enough fuel is a framing
-cut_framed : (n : ℕ) (b : List ℕ) → length b ≤ n → Framed b (cut n b) (left n b)
-unfolding cut left
-cut_framed zero b h = framed_none b (not_whole_short b h)
-cut_framed (suc n) b h =
-    let behind = drop (frag_of b) b in
-    elim (begins_whole b) as (λ t. begins_whole b ≡ t
-    → Framed b (cond t (take (frag_of b) b ∷ cut n behind) []) (cond t (left n behind) b)) [
-      | true ↦ λ e.
-          let p = frag_positive b e in
-          framed_more b (cut n behind) (left n behind) e
-          (cut_framed n behind (omega (arith, length-drop (frag_of b) b)))
-      | false ↦ λ e. framed_none b e
-    ] refl
+-- the frames behind the first one are a framing of what is behind it
+framed_behind : (b f : List ℕ) (fs : List (List ℕ)) (r : List ℕ) → Framed b (f ∷ fs) r
+    → BeginsWhole b × (take (frag_of b) b ≡ f) × Framed (drop (frag_of b) b) fs r
+framed_behind b f fs r h =
+    let is = stands_first b f (concat fs ++ r) h.each.0 (h.joined ∙ append_assoc f (concat fs) r) in
+    (is.begins, is.first, record { joined = is.behind; each = h.each.1; unfinished = h.unfinished })
 
--- the frames cut off the front are a framing
-pub framed : (b : List ℕ) → Framed b (frames_of b) (rest_of b)
-framed b = cut_framed (length b) b (omega arith)
+-- where no frame is in a framing, none stands at the front
+none_framed : (b r : List ℕ) → Framed b [] r → ¬ BeginsWhole b
+none_framed b r h = λ begins.
+    subst (λ x. (k : ℕ) → k ≤ length x → IsFrame (take k x) → ⊥) (sym h.joined) h.unfinished
+    (frag_of b) begins.whole (front_is_frame b begins)
+
+-- two framings of the same bytes are one
+framed_once : (fs gs : List (List ℕ)) (b r q : List ℕ) → Framed b fs r → Framed b gs q
+    → (fs ≡ gs) × (r ≡ q)
+framed_once [] [] b r q h k = (refl, sym h.joined ∙ k.joined)
+framed_once [] (g ∷ gs) b r q h k = absurd (none_framed b r h (framed_behind b g gs q k).0)
+framed_once (f ∷ fs) [] b r q h k = absurd (none_framed b q k (framed_behind b f fs r h).0)
+framed_once (f ∷ fs) (g ∷ gs) b r q h k =
+    let x = framed_behind b f fs r h in
+    let y = framed_behind b g gs q k in
+    let more = framed_once fs gs (drop (frag_of b) b) r q x.2 y.2 in
+    let first : f ≡ g = sym x.1 ∙ y.1 in
+    (ap (λ f. f ∷ fs) first ∙ ap (λ fs. g ∷ fs) more.0, more.1)
 
 -- frames and then frames are frames
 pub each_append : (fs gs : List (List ℕ)) → AllByRecursion IsFrame fs → AllByRecursion IsFrame gs
@@ -111,7 +63,8 @@ each_append [] gs h k = k
 each_append (f ∷ fs) gs h k = (h.0, each_append fs gs h.1 k)
 
 -- a framing goes on from the rest that it left
-pub framed_join : (a b : List ℕ) (fs gs : List (List ℕ)) (r q : List ℕ) → Framed a fs r → Framed (r ++ b) gs q
+framed_join : (a b : List ℕ) (fs gs : List (List ℕ)) (r q : List ℕ) → Framed a fs r
+    → Framed (r ++ b) gs q
     → Framed (a ++ b) (fs ++ gs) q
 framed_join a b fs gs r q h k = record {
   joined =
@@ -121,45 +74,92 @@ framed_join a b fs gs r q h k = record {
   unfinished = k.unfinished;
 }
 
+-- ---- the frames that are cut off
+
+-- what is cut off with enough fuel is a framing
+cut_framed : (n : ℕ) (b : List ℕ) → length b ≤ n → Framed b (cut n b) (left n b)
+unfolding cut left
+cut_framed zero b h = framed_none b (λ begins. let long = begins.long in absurd (omega arith))
+cut_framed (suc n) b h =
+    let frag = frag_of b in
+    elim (begins_whole b) as (λ t. begins_whole b ≡ t
+    → Framed b (cond t (take frag b ∷ cut n (drop frag b)) []) (cond t (left n (drop frag b)) b)) [
+      | true ↦ λ e.
+          let begins = found_whole b e in
+          let bounds = frag_bounds b begins.head in
+          let behind = cut_framed n (drop frag b) (omega (arith, length-drop frag b)) in
+          subst (λ x. Framed x (take frag b ∷ cut n (drop frag b)) (left n (drop frag b)))
+          (take-append-drop frag b)
+          (framed_more (take frag b) (drop frag b) (cut n (drop frag b)) (left n (drop frag b))
+          (front_is_frame b begins) behind)
+      | false ↦ λ e. framed_none b (λ begins. absurd (let found = whole_found b begins in cc))
+    ] refl
+
+-- the frames cut off the front are a framing
+pub framed : (b : List ℕ) → Framed b (frames_of b) (rest_of b)
+framed b = cut_framed (length b) b (omega arith)
+
+-- each framing of the bytes is this one
+pub framing_is : (fs : List (List ℕ)) (b r : List ℕ) → Framed b fs r
+    → (fs ≡ frames_of b) × (r ≡ rest_of b)
+framing_is fs b r h = framed_once fs (frames_of b) b r (rest_of b) h (framed b)
+
+-- so these are cut off
+pub cut_is : (fs : List (List ℕ)) (b r : List ℕ) → Framed b fs r
+    → (frames_of b ≡ fs) × (rest_of b ≡ r)
+cut_is fs b r h = let is = framing_is fs b r h in (sym is.0, sym is.1)
+
 -- more bytes are framed with the rest
-pub framing_appends : (a b : List ℕ) → (frames_of (a ++ b) ≡ frames_of a ++ frames_of (rest_of a ++ b))
+pub framing_appends : (a b : List ℕ)
+    → (frames_of (a ++ b) ≡ frames_of a ++ frames_of (rest_of a ++ b))
     × (rest_of (a ++ b) ≡ rest_of (rest_of a ++ b))
 framing_appends a b =
     let more = rest_of a ++ b in
-    let is = framing_is (frames_of a ++ frames_of more) (a ++ b) (rest_of more)
-    (framed_join a b (frames_of a) (frames_of more) (rest_of a) (rest_of more) (framed a) (framed more)) in
-    (sym is.0, sym is.1)
+    cut_is (frames_of a ++ frames_of more) (a ++ b) (rest_of more)
+    (framed_join a b (frames_of a) (frames_of more) (rest_of a) (rest_of more) (framed a)
+    (framed more))
 
--- nothing begins with a frame where nothing is
-pub no_frame_in_nothing : (k : ℕ) → k ≤ length {A = ℕ} [] → IsFrame (take k []) → ⊥
-no_frame_in_nothing k fits frame =
-    let long = frame.long in
-    let none : 16 ≤ 0 = omega (arith, length-take {A = ℕ} k []) in
-    omega arith
+-- a frame at the front, and the frames behind it
+pub frames_behind : (f b : List ℕ) → IsFrame f
+    → (frames_of (f ++ b) ≡ f ∷ frames_of b) × (rest_of (f ++ b) ≡ rest_of b)
+frames_behind f b frame =
+    cut_is (f ∷ frames_of b) (f ++ b) (rest_of b)
+    (framed_more f b (frames_of b) (rest_of b) frame (framed b))
 
 -- nothing is framed by nothing
 pub nothing_framed : Framed [] [] []
-nothing_framed = record { joined = refl; each = tt; unfinished = no_frame_in_nothing }
+nothing_framed = framed_none [] (λ begins. let long = begins.long in absurd (omega arith))
 
 -- frames one after the other are framed by themselves
 pub frames_joined : (fs : List (List ℕ)) → AllByRecursion IsFrame fs
     → (frames_of (concat fs) ≡ fs) × (rest_of (concat fs) ≡ [])
 frames_joined fs each =
-    let is = framing_is fs (concat fs) []
-    (record { joined = sym (append-nil (concat fs)); each = each; unfinished = no_frame_in_nothing }) in
-    (sym is.0, sym is.1)
+    cut_is fs (concat fs) []
+    (record {
+      joined = sym (append-nil (concat fs));
+      each = each;
+      unfinished = nothing_framed.unfinished;
+    })
 
 -- a frame is framed by itself
-pub single_framed : (f : List ℕ) → IsFrame f → Framed f (f ∷ []) []
-single_framed f h = record {
-  joined = sym (append-nil f) ∙ ap (λ x. x ++ []) (sym (append-nil f));
-  each = (h, tt);
-  unfinished = no_frame_in_nothing;
-}
-
--- so that it is the one frame that is cut off
 pub single_frame : (f : List ℕ) → IsFrame f → (frames_of f ≡ f ∷ []) × (rest_of f ≡ [])
-single_frame f h = let is = framing_is (f ∷ []) f [] (single_framed f h) in (sym is.0, sym is.1)
+single_frame f h =
+    subst (λ b. (frames_of b ≡ f ∷ []) × (rest_of b ≡ [])) (append-nil f)
+    (frames_joined (f ∷ []) (h, tt))
+
+-- ---- bytes of which no frame is whole
+
+-- a bad header is no frame's
+pub bad_framed : (b : List ℕ) → IsBad b → Framed b [] b
+bad_framed b bad = framed_none b (λ begins. bad.head begins.head)
+
+-- an unfinished frame is no whole one
+pub unfinished_framed : (b : List ℕ) → IsUnfinished b → Framed b [] b
+unfinished_framed b unfinished =
+    framed_none b (λ begins.
+    let less = (unfinished begins.long).1 in
+    let whole = begins.whole in
+    absurd (omega arith))
 
 -- what begins with a bad header stays bad
 pub bad_stays : (a b : List ℕ) → IsBad a → IsBad (a ++ b)
@@ -168,29 +168,13 @@ bad_stays a b h =
     let same = head_same (a ++ b) a (take-append-le 16 a b long) in
     record { long = omega (arith, length-append a b); head = λ none. h.head (sym same ∙ none) }
 
--- no frame stands in front of a bad header
-pub bad_begins_none : (b : List ℕ) → IsBad b → begins_whole b ≡ false
-bad_begins_none b h =
-    elim (begins_whole b) as (λ t. begins_whole b ≡ t → begins_whole b ≡ false) [
-      | true ↦ λ e. absurd (h.head (sound_head b e))
-      | false ↦ λ e. e
-    ] refl
-
 -- where all bytes are framed with no rest, no front of them left a bad header
 pub no_bad_front : (a b : List ℕ) → rest_of (a ++ b) ≡ [] → ¬ IsBad (rest_of a)
 no_bad_front a b none = λ bad.
     let more = rest_of a ++ b in
     let stays = bad_stays (rest_of a) b bad in
     let is : more ≡ [] =
-    sym (rest_none more (bad_begins_none more stays)) ∙ sym (framing_appends a b).1 ∙ none in
+    sym (cut_is [] more more (bad_framed more stays)).1 ∙ sym (framing_appends a b).1 ∙ none in
     let long = stays.long in
     let size = ap length is in
     absurd (omega arith)
-
--- where no frame is cut off, none stands at the front
-pub none_from_frames : (b : List ℕ) → frames_of b ≡ [] → begins_whole b ≡ false
-none_from_frames b h =
-    elim (begins_whole b) as (λ t. begins_whole b ≡ t → begins_whole b ≡ false) [
-      | true ↦ λ e. absurd (let step = frames_step b e in cc)
-      | false ↦ λ e. e
-    ] refl

@@ -10,7 +10,8 @@ unfolding head_fault
 frag_bounds b h = (grind (arith, nat_tests), grind (arith, nat_tests))
 
 -- one byte of two lists with the same front
-byte_same : (xs ys : List ℕ) (i : ℕ) → i < 16 → take 16 xs ≡ take 16 ys → get_or xs i 0 ≡ get_or ys i 0
+byte_same : (xs ys : List ℕ) (i : ℕ) → i < 16 → take 16 xs ≡ take 16 ys
+    → get_or xs i 0 ≡ get_or ys i 0
 byte_same xs ys i below same =
     sym (get_or-take 16 xs i 0 below) ∙ ap (λ l. get_or l i 0) same ∙ get_or-take 16 ys i 0 below
 

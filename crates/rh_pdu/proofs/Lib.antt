@@ -1,8 +1,9 @@
 pub mod Headers
 mod Puts
-mod Sound
 pub mod Cuts
 pub mod Framing
-pub mod Told
+mod Feeds
 pub mod Fed
+mod Pieces
+mod OneAnswer
 pub mod Pdus

@@ -1,14 +1,14 @@
--- laws of what is put behind the bytes held
-use Rattle.std.proofs.Common.{◌≡◌, ℕ, ◌+◌, ◌≤◌, ◌<◌, List, ◌++◌, take, drop, length, Some, None, arith}
+-- what a buffer holds once a piece was put behind the bytes held
+use Rattle.std.proofs.Common.{◌≡◌, ℕ, ◌+◌, ◌-◌, ◌≤◌, ◌<◌, min, List, ◌++◌, take, drop, length, None, arith}
 use Rattle.std.proofs.Common.{sym, ◌∙◌, ap, subst}
-use Rattle.std.proofs.lemmas.List.{length-take-le, take-append-drop, append_assoc, drop-take, take-take}
-use Rattle.std.proofs.lemmas.List.{take-append-le}
-use Rattle.std.proofs.lemmas.Bool.Decides.{nat_tests}
-use Rattle.std.proofs.Math.Seq.{take-append-add}
-use Rattle.rh_pdu.specs.declared.fault.HeadFault.{HeadFault}
-use Rattle.rh_pdu.specs.declared.feed.Put.TheVariants.{Short, Bad, Part, Whole}
+use Rattle.std.proofs.lemmas.List.{length-append, length-take, length-take-le, take-append-drop, take-append-le}
+use Rattle.std.proofs.lemmas.List.{take-take, take_all}
+use Rattle.std.proofs.Math.Seq.{take-append-add, drop-append-add}
+use Rattle.rh_pdu.specs.declared.feed.Put.TheVariants.{Part, Whole}
 use Rattle.rh_pdu.specs.Header.{frag_of, head_fault}
-use Rattle.rh_pdu.specs.Filling.{put_of}
+use Rattle.rh_pdu.specs.Frames.{IsUnfinished}
+use Rattle.rh_pdu.specs.Filling.{Holds}
+use Rattle.rh_pdu.proofs.Headers.{frag_bounds, head_same, frag_same}
 
 -- what is put stands behind what was held
 pub take_put : (h r : ℕ) (old piece : List ℕ) → h ≤ length old
@@ -18,62 +18,94 @@ take_put h r old piece fits =
     subst (λ n. take (n + r) (take h old ++ piece) ≡ take h old ++ take r piece) e
     (take-append-add (take h old) piece r)
 
--- two parts, one after the other
-pub take_two : (u m : ℕ) (xs : List ℕ) → take (u + m) xs ≡ take u xs ++ take m (drop u xs)
-take_two u m xs =
-    let below : u ≤ u + m = omega arith in
-    sym (take-append-drop u (take (u + m) xs))
-    ∙ ap (λ ys. ys ++ drop u (take (u + m) xs)) (take-take u (u + m) xs below)
-    ∙ ap (λ ys. take u xs ++ ys) (drop-take u m xs)
+-- behind n bytes are those of the piece behind what was held
+pub behind_of : (n : ℕ) (rest piece : List ℕ) → length rest ≤ n
+    → drop n (rest ++ piece) ≡ drop (n - length rest) piece
+behind_of n rest piece fits =
+    ap (λ k. drop k (rest ++ piece)) {x = n} {y = length rest + (n - length rest)} (omega arith)
+    ∙ drop-append-add rest piece (n - length rest)
 
--- the header is not whole
-pub put_short : (h n : ℕ) (all : List ℕ) → length all ≡ h + n → length all < 16 → Short n ≡ put_of h all
-put_short h n all size few = grind (arith, nat_tests)
+-- and n bytes in front are what was held and those of the piece
+pub front_of : (n : ℕ) (rest piece : List ℕ) → length rest ≤ n
+    → take n (rest ++ piece) ≡ rest ++ take (n - length rest) piece
+front_of n rest piece fits =
+    ap (λ k. take k (rest ++ piece)) {x = n} {y = length rest + (n - length rest)} (omega arith)
+    ∙ take-append-add rest piece (n - length rest)
 
--- the header breaks a rule
-pub put_bad : (h n : ℕ) (all : List ℕ) (f : HeadFault) → h + n ≡ 16 → 16 ≤ length all → head_fault all ≡ Some f
-    → Bad n f ≡ put_of h all
-put_bad h n all f size long head = rw head (grind (arith, nat_tests))
+-- the header of the bytes held is that of the buffer
+pub header_held : (held : ℕ) (buf : List ℕ) → length buf ≡ 8192 → held ≤ 8192 → 16 ≤ held
+    → IsUnfinished (take held buf) → (head_fault buf ≡ None) × (held < frag_of buf)
+header_held held buf size fits long unfinished =
+    let same = take-take 16 held buf long in
+    let count : length (take held buf) ≡ held = length-take-le held buf (omega arith) in
+    let is = unfinished (omega arith) in (
+      sym (head_same (take held buf) buf same) ∙ is.0,
+      omega (arith, is.1, frag_same (take held buf) buf same),
+    )
 
--- the header is whole, and the frame is not
-pub put_part : (h n : ℕ) (all : List ℕ) → length all ≡ h + n → 16 ≤ length all → head_fault all ≡ None
-    → length all < frag_of all → Part n ≡ put_of h all
-put_part h n all size long head less = rw head (grind (arith, nat_tests))
+-- ---- behind a whole header
+
+-- the header of all bytes is that of the buffer
+behind_header : (held : ℕ) (old piece : List ℕ) → length old ≡ 8192 → held ≤ 8192 → 16 ≤ held
+    → take 16 (take held old ++ piece) ≡ take 16 old
+behind_header held old piece size fits long =
+    let count : length (take held old) ≡ held = length-take-le held old (omega arith) in
+    take-append-le 16 (take held old) piece (omega arith) ∙ take-take 16 held old long
+
+-- the frame is not whole
+pub part_behind : (held now : ℕ) (old piece new : List ℕ) → length old ≡ 8192 → 16 ≤ held
+    → head_fault old ≡ None → held ≤ frag_of old → now ≡ min (frag_of old) (held + length piece)
+    → take now new ≡ take now (take held old ++ piece) → now < frag_of old
+    → Holds (Part now) (take held old ++ piece) new
+part_behind held now old piece new size long sound below is put less =
+    let all = take held old ++ piece in
+    let bounds = frag_bounds old sound in
+    let same = behind_header held old piece size (omega arith) long in
+    let count : now ≡ length all =
+    omega (arith, length-append (take held old) piece, length-take held old) in (
+      count,
+      omega arith,
+      put ∙ take_all now all (omega arith),
+      λ _. (head_same all old same ∙ sound, omega (arith, frag_same all old same)),
+    )
 
 -- the frame is whole
-pub put_whole : (h n frag : ℕ) (all : List ℕ) → 16 ≤ length all → head_fault all ≡ None → frag ≡ frag_of all
-    → frag ≤ length all → h + n ≡ frag → Whole n frag ≡ put_of h all
-put_whole h n frag all long head is enough size = rw head (grind (arith, nat_tests))
+pub whole_behind : (held now : ℕ) (old piece new : List ℕ) → length old ≡ 8192 → 16 ≤ held
+    → head_fault old ≡ None → held ≤ frag_of old → now ≡ min (frag_of old) (held + length piece)
+    → take now new ≡ take now (take held old ++ piece) → frag_of old ≤ now
+    → Holds (Whole (frag_of old)) (take held old ++ piece) new
+whole_behind held now old piece new size long sound below is put enough =
+    let all = take held old ++ piece in
+    let bounds = frag_bounds old sound in
+    let same = behind_header held old piece size (omega arith) long in
+    let count : now ≡ frag_of old = omega arith in (
+      bounds.0,
+      omega (arith, length-append (take held old) piece, length-take held old),
+      bounds.1,
+      subst (λ n. take n new ≡ take n all) count put,
+      head_same all old same ∙ sound,
+      sym (frag_same all old same),
+    )
 
--- the header of what was held is that of all
-pub front_held : (h : ℕ) (old piece : List ℕ) → 16 ≤ h → h ≤ length old
-    → take 16 (take h old ++ piece) ≡ take 16 old
-front_held h old piece long fits =
-    let e : length (take h old) ≡ h = length-take-le h old fits in
-    let fit : 16 ≤ length (take h old) = omega arith in
-    take-append-le 16 (take h old) piece fit ∙ take-take 16 h old long
+-- ---- a header that was filled up
 
--- a header that was filled up is that of all
-pub front_new : (h u : ℕ) (old piece new : List ℕ) → h + u ≡ 16 → h ≤ length old
-    → take (h + u) new ≡ take h old ++ take u piece → take 16 new ≡ take 16 (take h old ++ piece)
-front_new h u old piece new size fits put =
-    subst (λ n. take n new ≡ take n (take h old ++ piece)) size (put ∙ sym (take_put h u old piece fits))
+-- the buffer begins with all bytes
+pub header_filled : (held now : ℕ) (old piece new : List ℕ) → now ≡ min 16 (held + length piece)
+    → 16 ≤ now
+    → take now new ≡ take now (take held old ++ piece)
+    → take 16 new ≡ take 16 (take held old ++ piece)
+header_filled held now old piece new is enough put =
+    let count : now ≡ 16 = omega arith in
+    subst (λ n. take n new ≡ take n (take held old ++ piece)) count put
 
--- two puts, one after the other
-pub two_puts : (h u m : ℕ) (old piece new last : List ℕ) → h + u ≡ 16 → h ≤ length old
-    → take (h + u) new ≡ take h old ++ take u piece → take (16 + m) last ≡ take 16 new ++ take m (drop u piece)
-    → take (h + (u + m)) last ≡ take (h + (u + m)) (take h old ++ piece)
-two_puts h u m old piece new last size fits first second =
-    let front : take 16 new ≡ take h old ++ take u piece =
-    subst (λ n. take n new ≡ take h old ++ take u piece) size first in
-    let sum : h + (u + m) ≡ 16 + m = omega arith in
-    ap (λ n. take n last) sum ∙ second ∙ ap (λ ys. ys ++ take m (drop u piece)) front
-    ∙ append_assoc (take h old) (take u piece) (take m (drop u piece))
-    ∙ ap (λ ys. take h old ++ ys) (sym (take_two u m piece)) ∙ sym (take_put h (u + m) old piece fits)
-
--- what is put behind a header leaves it
-pub front_kept : (h r : ℕ) (old piece new : List ℕ) → 16 ≤ h → h ≤ length old
-    → take (h + r) new ≡ take h old ++ take r piece → take 16 new ≡ take 16 old
-front_kept h r old piece new long fits put =
-    let below : 16 ≤ h + r = omega arith in
-    sym (take-take 16 (h + r) new below) ∙ ap (take 16) put ∙ front_held h old (take r piece) long fits
+-- and with what is behind it, all of them are there
+pub all_behind : (held : ℕ) (old piece new behind : List ℕ) → length old ≡ 8192 → held < 16
+    → take 16 new ≡ take 16 (take held old ++ piece) → behind ≡ drop (16 - held) piece
+    → take 16 new ++ behind ≡ take held old ++ piece
+all_behind held old piece new behind size short front is =
+    let all = take held old ++ piece in
+    let count : length (take held old) ≡ held = length-take-le held old (omega arith) in
+    let rest : drop 16 all ≡ behind =
+    behind_of 16 (take held old) piece (omega arith) ∙ ap (λ n. drop (16 - n) piece) count
+    ∙ sym is in
+    ap (λ x. x ++ behind) front ∙ ap (λ x. take 16 all ++ x) (sym rest) ∙ take-append-drop 16 all

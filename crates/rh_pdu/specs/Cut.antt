@@ -12,7 +12,8 @@ is_sound (Some fault) = false
 
 -- a whole frame stands at the front
 unfoldable pub begins_whole : List ℕ → Bool
-begins_whole b = nat_le header_length (length b) && (is_sound (head_fault b) && nat_le (frag_of b) (length b))
+begins_whole b =
+    nat_le header_length (length b) && (is_sound (head_fault b) && nat_le (frag_of b) (length b))
 
 -- at most n frames from the front
 unfoldable pub cut : ℕ → List ℕ → List (List ℕ)

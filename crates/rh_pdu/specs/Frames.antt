@@ -1,5 +1,5 @@
 -- frames of a stream, and PDUs
-use Rattle.std.specs.Prelude.{ℕ, ◌≡◌, ◌≢◌, ◌≤◌, ◌++◌, List, length, take, slice_index, None}
+use Rattle.std.specs.Prelude.{ℕ, ◌≡◌, ◌≢◌, ◌<◌, ◌≤◌, ◌++◌, List, length, take, slice_index, None}
 use Rattle.std.specs.List.{concat, AllByRecursion}
 use Rattle.rh_pdu.specs.Header.{header_length, rts, frag_of, head_fault}
 
@@ -24,3 +24,8 @@ pub record Framed (bytes : List ℕ) (frames : List (List ℕ)) (rest : List ℕ
 pub record IsBad (rest : List ℕ) : Type 0 where
   pub long : header_length ≤ length rest
   pub head : head_fault rest ≢ None
+
+-- the header of the rest, once it is whole, breaks no rule, and its frame is not whole
+abbrev pub IsUnfinished : List ℕ → Type 0
+IsUnfinished rest =
+    header_length ≤ length rest → (head_fault rest ≡ None) × (length rest < frag_of rest)

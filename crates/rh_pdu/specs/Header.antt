@@ -13,7 +13,8 @@ version = 5
 abbrev pub greatest_minor : ℕ
 greatest_minor = 1
 
--- the first four bits of the data representation where integers have their least byte first; else they are 0
+-- the first four bits of the data representation where integers have their least byte first; else
+-- they are 0
 abbrev pub little_endian : ℕ
 little_endian = 1
 

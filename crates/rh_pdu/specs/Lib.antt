@@ -3,5 +3,6 @@ pub mod Frames
 pub mod Checking
 pub mod Cut
 pub mod Feeding
-pub mod Kept
+pub mod Pieces
 pub mod Filling
+pub mod Texts

@@ -14,15 +14,13 @@ pub enum Feed {
     Fault { place: u64, fault: HeadFault },
 }
 
-/// What putting a piece behind the bytes held led to. Each begins with the number of bytes put.
+/// What a buffer holds once a piece was put behind the bytes held.
 #[derive(Clone, Copy, Debug, PartialEq, Eq)]
 pub(crate) enum Put {
-    /// The header is not whole.
-    Short(usize),
-    /// The header breaks a rule.
-    Bad(usize, HeadFault),
-    /// The header is whole, and the frame is not.
+    /// This many bytes, of an unfinished frame.
     Part(usize),
-    /// The frame is whole, and this long.
-    Whole(usize, usize),
+    /// A whole header, which breaks a rule.
+    Bad(HeadFault),
+    /// A whole frame, and this long.
+    Whole(usize),
 }

@@ -1,9 +1,12 @@
 //! A framer: finds the frames of a stream.
 
+ghost use Rattle.std.specs.Prelude.{◌≡◌, ◌+◌};
+ghost use Rattle.rh_pdu.specs.Feeding.{capped};
+
 use crate::fault::HeadFault;
 use crate::feed::{Feed, Put};
 use crate::filling::put_frame;
-use crate::header::GREATEST_FRAG;
+use crate::header::{GREATEST_FRAG, HEADER_LEN};
 use std::marker::Model;
 
 /// Finds the frames of a stream that comes in pieces of any length.
@@ -21,12 +24,11 @@ pub struct Framer {
 }
 
 impl Model for Framer {
-    ghost use Rattle.std.specs.Prelude.{take};
+    ghost use Rattle.std.specs.Prelude.{◌≤◌, take};
+    ghost use Rattle.rh_pdu.specs.Header.{greatest_length};
     ghost use Rattle.rh_pdu.specs.Feeding as feeding;
 
     ghost Value = { feeding.FramerState };
-
-    ghost use Rattle.rh_pdu.specs.Kept.{Kept};
 
     ghost view = { λ a. record {
       rest = take a.held a.buf;
@@ -35,24 +37,18 @@ impl Model for Framer {
       fault = a.fault;
     } };
 
-    ghost invariant = { λ a. Kept a.buf a.held a.whole a.fault };
+    ghost invariant = { λ a. (a.held ≤ greatest_length) × (a.whole ≤ greatest_length)
+        × feeding.IsSoundBy (take a.held a.buf) a.fault };
 }
 
 impl Framer {
-    ghost use Rattle.std.specs.Prelude.{◌≡◌, ◌≤◌, ◌↔◌, ◌++◌, ℕ, List, [], length, take, None};
-    ghost use Rattle.std.specs.List.{concat};
+    ghost use Rattle.std.specs.Prelude.{◌≤◌, length};
     ghost use Rattle.rh_pdu.specs.Header.{greatest_length};
-    ghost use Rattle.rh_pdu.specs.Frames.{Framed, IsBad};
-    ghost use Rattle.rh_pdu.specs.Cut.{frames_of};
-    ghost use Rattle.rh_pdu.specs.Feeding.{fed, answer, capped, used, given, IsSound, IsFault, NamesFault};
-    ghost use Rattle.rh_pdu.specs.declared.feed.Feed.TheVariants.{Need};
+    ghost use Rattle.rh_pdu.specs.Feeding.{new_framer, Fed, IsSound};
 
     /// A framer before the first byte of the stream.
     pub fn new() -> Framer
-        ensures rest { result.rest ≡ [] }
-        ensures frame { result.frame ≡ [] }
-        ensures place { result.place ≡ 0 }
-        ensures fault { result.fault ≡ None }
+        ensures { result ≡ new_framer }
     {
         Framer {
             buf: [0; GREATEST_FRAG],
@@ -63,14 +59,16 @@ impl Framer {
         }
     }
 
-    /// The frame that the last `feed` made whole; empty after any other answer, and before the first.
+    /// The frame that the last `feed` made whole; empty after any other answer, and before the
+    /// first.
     pub fn frame(&self) -> &[u8]
         ensures { result.now ≡ self.now.frame }
     {
         &self.buf[..self.whole]
     }
 
-    /// How many bytes of an unfinished frame are held: 0 after a frame, 16 after a fault, 8,192 at most.
+    /// How many bytes of an unfinished frame are held: 0 after a frame, 16 after a fault, 8,192 at
+    /// most.
     pub fn held(&self) -> usize
         ensures rest { result ≡ length self.now.rest }
         ensures fits { result ≤ greatest_length }
@@ -85,27 +83,7 @@ impl Framer {
     /// above 2^64 - 1 bytes is told as that number.
     pub fn feed(&mut self, piece: &[u8]) -> Feed
         ensures sound { IsSound self.old }
-        ensures state { self.new ≡ fed self.old piece.now }
-        ensures answer { result ≡ answer self.old piece.now }
-        ensures frames { (before : List ℕ) (frames : List (List ℕ)) → Framed before frames self.old.rest →
-            Framed (before ++ take (used result self.old piece.now) piece.now)
-            (frames ++ given result self.new.frame) self.new.rest }
-        ensures place { (frames : List (List ℕ)) → self.old.place ≡ capped (length (concat frames)) →
-            self.new.place ≡ capped (length (concat (frames ++ given result self.new.frame))) }
-        ensures need { result ≡ Need ↔
-            ((self.old.fault ≡ None) × (frames_of (self.old.rest ++ piece.now) ≡ [])
-            × (¬ IsBad (self.old.rest ++ piece.now))) }
-        ensures fault { IsFault result ↔ IsBad (self.old.rest ++ piece.now) }
-        ensures names { NamesFault result self.old.place (self.old.rest ++ piece.now) }
-    {
-        self.fill(piece)
-    }
-
-    /// The states and answers of `feed`, from which its laws follow.
-    fn fill(&mut self, piece: &[u8]) -> Feed
-        ensures sound { IsSound self.old }
-        ensures state { self.new ≡ fed self.old piece.now }
-        ensures answer { result ≡ answer self.old piece.now }
+        ensures fed { Fed result self.old self.new piece.now }
     {
         self.whole = 0;
         if let Some(fault) = self.fault {
@@ -114,25 +92,36 @@ impl Framer {
                 fault,
             };
         }
-        match put_frame(&mut self.buf, self.held, piece) {
-            Put::Short(count) | Put::Part(count) => {
-                self.held += count;
+        let held = self.held;
+        match put_frame(&mut self.buf, held, piece) {
+            Put::Part(now) => {
+                self.held = now;
                 Feed::Need
             }
-            Put::Bad(count, fault) => {
-                self.held += count;
+            Put::Bad(fault) => {
+                self.held = HEADER_LEN;
                 self.fault = Some(fault);
                 Feed::Fault {
                     place: self.place,
                     fault,
                 }
             }
-            Put::Whole(used, len) => {
+            Put::Whole(len) => {
                 self.held = 0;
                 self.whole = len;
-                self.place = self.place.saturating_add(len as u64);
-                Feed::Frame { used, len }
+                self.place = place_behind(self.place, len);
+                Feed::Frame {
+                    used: len - held,
+                    len,
+                }
             }
         }
     }
+}
+
+/// The place behind a frame, which stands still at the end of its type.
+fn place_behind(place: u64, len: usize) -> u64
+    ensures { result ≡ capped (place + len) }
+{
+    place.saturating_add(len as u64)
 }

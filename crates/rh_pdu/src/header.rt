@@ -38,8 +38,9 @@ impl Header {
 
     /// Reads a header, in its own byte order.
     ///
-    /// Fails with the first of these that isn't so: version 5, minor version 0 or 1, a byte order of
-    /// 0 or 1, and a frag_length of 16 to 8,192 bytes. No other field is checked (C706 12.6.3.1).
+    /// Fails with the first of these that is not so: version 5, minor version 0 or 1, a byte order
+    /// of 0 or 1, and a frag_length of 16 to 8,192 bytes. No other field is checked
+    /// (C706 12.6.3.1).
     pub fn read(bytes: &[u8; HEADER_LEN]) -> Result<Header, HeadFault>
         ensures { MatchResult result
             (λ header. (head_fault bytes.now ≡ None) × (header ≡ header_of bytes.now))

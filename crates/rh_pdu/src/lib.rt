@@ -12,10 +12,12 @@ pub mod pdu;
 mod reading;
 #[cfg(test)]
 mod tests;
+pub mod texts;
 
 pub use fault::{HeadFault, PduFault};
 pub use feed::Feed;
 pub use framer::Framer;
 pub use header::Header;
-pub use laws::one_framing;
+pub use laws::{any_pieces, one_answer, one_framing};
 pub use pdu::check;
+pub use texts::{write_head_fault, write_pdu_fault};

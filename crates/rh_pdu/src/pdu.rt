@@ -10,8 +10,8 @@ use crate::reading::{frag_of, head_fault};
 
 /// Whether the bytes are one whole PDU that is no RTS PDU.
 ///
-/// Fails with the first of these: fewer than 16 bytes (`Cut`), a header that breaks a rule (`Head`),
-/// an RTS PDU (`Rts`), and a frag_length that isn't the number of bytes (`Length`).
+/// Fails with the first of these: fewer than 16 bytes (`Cut`), a header that breaks a rule
+/// (`Head`), an RTS PDU (`Rts`), and a frag_length that isn't the number of bytes (`Length`).
 pub fn check(bytes: &[u8]) -> Result<(), PduFault>
     ensures fault { result ≡ checked (pdu_fault bytes.now) }
     ensures pdu { IsOk result ↔ IsPdu bytes.now }

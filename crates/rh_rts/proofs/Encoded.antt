@@ -13,19 +13,29 @@ abbrev pub Comes : List ℕ → ℕ → List Command → List ℕ → ℕ → Ty
 Comes room at cs whole end =
     (over room at (spellings cs) ≡ whole) × (at + length (spellings cs) ≡ end) × AreCommands cs
 
-pub comes_on : (room new whole : List ℕ) (at next end : ℕ) (c : Command) (cs rest : List Command) → cs ≡ c ∷ rest
+pub comes_on : (room new whole : List ℕ) (at next end : ℕ) (c : Command) (cs rest : List Command)
+    → cs ≡ c ∷ rest
     → new ≡ over room at (spelling c) → next ≡ at + length (spelling c) → at ≤ length room
     → Comes room at cs whole end → Comes new next rest whole end
 comes_on room new whole at next end c cs rest parts put place fits h = (
   rw put (over_over room at (spelling c) (spellings rest) next place fits)
       ∙ ap (λ (x : List Command). over room at (spellings x)) (sym parts) ∙ h.0,
-  omega (arith, place, h.1, ap (λ (x : List Command). length (spellings x)) parts, length-append (spelling c) (spellings rest)),
+  omega (
+    arith,
+    place,
+    h.1,
+    ap (λ (x : List Command). length (spellings x)) parts,
+    length-append
+        (spelling c) (spellings rest),
+  ),
   (subst AreCommands parts h.2).1,
 )
 
-pub all_came : (room whole : List ℕ) (at end : ℕ) (cs : List Command) → cs ≡ [] → Comes room at cs whole end → room ≡ whole
+pub all_came : (room whole : List ℕ) (at end : ℕ) (cs : List Command) → cs ≡ []
+    → Comes room at cs whole end → room ≡ whole
 all_came room whole at end cs none h =
-    sym (over_nothing room at) ∙ ap (λ (x : List Command). over room at (spellings x)) (sym none) ∙ h.0
+    sym (over_nothing room at) ∙ ap (λ (x : List Command). over room at (spellings x)) (sym none)
+    ∙ h.0
 
 -- a packet has so few commands that their number fits
 pub count_fits : (p : Parts) → IsPacket p → length p.commands ≤ 65535
@@ -33,8 +43,10 @@ count_fits p is = omega (arith, is.length, no_more_than_bytes p.commands)
 
 pub whole_packet : (p : Parts) (room one two : List ℕ) (need at len : ℕ) → need ≡ packet_length p
     → one ≡ over room 0 (header_bytes need p.flags (length p.commands)) → at ≡ 20
-    → two ≡ over one at (spellings p.commands) → len ≡ at + length (spellings p.commands) → need ≤ length room
-    → (len ≡ length (packet_bytes p)) × (len ≤ length room) × (two ≡ packet_bytes p ++ drop len room)
+    → two ≡ over one at (spellings p.commands) → len ≡ at + length (spellings p.commands)
+    → need ≤ length room
+    → (len ≡ length (packet_bytes p)) × (len ≤ length room)
+    × (two ≡ packet_bytes p ++ drop len room)
 unfolding packet_bytes
 whole_packet p room one two need at len size head place body end fits =
     let header = header_bytes (packet_length p) p.flags (length p.commands) in
@@ -46,5 +58,6 @@ whole_packet p room one two need at len size head place body end fits =
     ∙ over_over room 0 header (spellings p.commands) at (omega (arith, place)) (omega arith) in (
       bytes,
       omega (arith, end, place, size, fits),
-      both ∙ over_front room (packet_bytes p) ∙ ap (λ (n : ℕ). packet_bytes p ++ drop n room) (sym bytes),
+      both ∙ over_front room (packet_bytes p)
+          ∙ ap (λ (n : ℕ). packet_bytes p ++ drop n room) (sym bytes),
     )

@@ -14,7 +14,8 @@ pub IsBytes-take : (n : ℕ) (bytes : List ℕ) → IsBytes bytes → IsBytes (t
 IsBytes-take n bytes h i =
     elim (cases_lt i n) [
       | inl lt ↦ rw (get_or-take n bytes i 0 lt) (h i)
-      | inr le ↦ rw (get_or_past (take n bytes) i 0 (omega (arith, length-take n bytes))) (omega arith)
+      | inr le ↦ rw (get_or_past (take n bytes) i 0 (omega (arith, length-take n bytes)))
+          (omega arith)
     ]
 
 -- a list is its front and its rest
@@ -25,7 +26,8 @@ front n b = sym (take-append-drop n b)
 pub number_front : (b : List ℕ) → IsBytes b → 4 ≤ length b → b ≡ le4 (number_of b) ++ drop 4 b
 number_front b fits long =
     front 4 b ∙ ap (λ (x : List ℕ). x ++ drop 4 b)
-    (sym (le_bytes_4 (take 4 b) (number_of b) (length-take-le 4 b long) (IsBytes-take 4 b fits) refl))
+    (sym (le_bytes_4 (take 4 b) (number_of b) (length-take-le 4 b long)
+    (IsBytes-take 4 b fits) refl))
 
 pub number_below : (b : List ℕ) → IsBytes b → number_of b < 2 ^ 32
 number_below b fits =

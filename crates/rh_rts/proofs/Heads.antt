@@ -1,31 +1,155 @@
 -- the header: its bytes, and what they are read as
-use Rattle.std.proofs.Common.{◌≡◌, ℕ, zero, suc, ◌+◌, ◌^◌, ◌<◌, ◌≤◌, List, [], ◌∷◌, ◌++◌, length, drop, refl, sym, ap, ◌∙◌, arith, true, false, Bool, nat_lt, not}
+use Rattle.std.proofs.Common.{◌≡◌, ℕ, zero, suc, ◌+◌, ◌^◌, ◌<◌, ◌≤◌, List, [], ◌∷◌, ◌++◌, length, take, drop, refl, sym, ap, subst, ◌∙◌, arith, true, false, Bool, nat_lt, not}
 use Rattle.std.specs.Prelude.{Some, None, ◌==◌, if◌then◌else◌, slice_index}
 use Rattle.std.specs.declared.option.Option.{Option}
-use Rattle.std.proofs.lemmas.Bool.{eqb-true, eq-eqb, ltb-false, le-ltb}
+use Rattle.std.proofs.lemmas.Bool.{eqb-true, eqb-false, eq-eqb, ne_eqb, ltb-true, ltb-false, lt-ltb, le-ltb}
 use Rattle.std.proofs.lemmas.List.{drop_more}
 use Rattle.std.proofs.lemmas.Nat.{le_bytes_2, from_le_bytes-to_le_bytes_2}
-use Rattle.rh_rts.specs.Commands.{IsBytes}
 use Rattle.rh_rts.specs.declared.fault.RtsFault.{RtsFault}
-use Rattle.rh_rts.specs.Packets.{le2, header_bytes, all_flags}
-use Rattle.rh_rts.specs.Refusals.{first_difference, header_like, short_at, frag_of, flags_of, count_of, length_fault, head_fault}
+use Rattle.rh_rts.specs.declared.fault.RtsKind.{RtsKind}
+use Rattle.rh_rts.specs.declared.fault.RtsKind.TheVariants.{BadHeader, BadLength, BadFlags, CutShort}
+use Rattle.rh_rts.specs.declared.packet.TheConstants.{ALL_FLAGS}
+use Rattle.rh_rts.specs.Commands.{IsBytes}
+use Rattle.rh_rts.specs.Packets.{le2, header_front, header_bytes}
+use Rattle.rh_rts.specs.Refusals.{fault, header_like, short_at, frag_of, flags_of, count_of, DiffersAt, IsLike, IsHead, HeadFault}
+use Rattle.rh_rts.proofs.Fields.{front}
 
--- where no byte differs, the bytes begin so
-same_step : (at w x : ℕ) (want b : List ℕ) (t : Bool) → (x == w) ≡ t
-    → (first_difference (at + 1) want b ≡ None → b ≡ want ++ drop (length want) b)
-    → (if t then first_difference (at + 1) want b else Some at) ≡ None → x ∷ b ≡ w ∷ (want ++ drop (length want) b)
-same_step at w x want b true is more e =
-    ap (λ (y : ℕ). y ∷ b) (eqb-true _ _ is) ∙ ap (λ (y : List ℕ). w ∷ y) (more e)
-same_step at w x want b false is more e = absurd cc
+-- ---- the first byte that differs, byte by byte
 
-same_front : (at : ℕ) (want b : List ℕ) → first_difference at want b ≡ None → b ≡ want ++ drop (length want) b
-same_front at [] b e = refl
-same_front at (w ∷ want) [] e = absurd cc
-same_front at (w ∷ want) (x ∷ b) e = same_step at w x want b (x == w) refl (same_front (at + 1) want b) e
+-- the place of the first byte that isn't the one that is wanted
+abbrev first_difference : ℕ → List ℕ → List ℕ → Option ℕ
+first_difference at [] bytes = None
+first_difference at (w ∷ ws) [] = Some at
+first_difference at (w ∷ ws) (b ∷ bytes) =
+    if b == w then first_difference (at + 1) ws bytes else Some at
 
-front_same : (at : ℕ) (want rest : List ℕ) → first_difference at want (want ++ rest) ≡ None
-front_same at [] rest = refl
-front_same at (w ∷ want) rest = rw (eq-eqb w w refl) (front_same (at + 1) want rest)
+-- what is found, if anything, is the first that differs
+abbrev Differs : ℕ → List ℕ → List ℕ → Option ℕ → Type 0
+Differs at want b None = take (length want) b ≡ want
+Differs at want b (Some place) = (n : ℕ) × (place ≡ at + n) × DiffersAt n want b
+
+one_more : (at w x : ℕ) (want b : List ℕ) (o : Option ℕ) → x ≡ w → Differs (at + 1) want b o
+    → Differs at (w ∷ want) (x ∷ b) o
+one_more at w x want b None same h =
+    ap (λ (n : ℕ). n ∷ take (length want) b) same ∙ ap (λ (xs : List ℕ). w ∷ xs) h
+one_more at w x want b (Some place) same h = (
+  suc h.0,
+  omega (arith, h.1),
+  record {
+    same = ap (λ (n : ℕ). n ∷ take h.0 b) same ∙ ap (λ (xs : List ℕ). w ∷ xs) h.2.same;
+    within = omega (arith, h.2.within);
+    other = h.2.other;
+  },
+)
+
+found_by : (at w x : ℕ) (want b : List ℕ) (t : Bool) → (x == w) ≡ t
+    → Differs (at + 1) want b (first_difference (at + 1) want b)
+    → Differs at (w ∷ want) (x ∷ b) (if t then first_difference (at + 1) want b else Some at)
+found_by at w x want b true is h = one_more at w x want b _ (eqb-true _ _ is) h
+found_by at w x want b false is h =
+    (0, omega arith, record { same = refl; within = omega arith; other = eqb-false _ _ is })
+
+found : (at : ℕ) (want b : List ℕ) → length want ≤ length b
+    → Differs at want b (first_difference at want b)
+found at [] b long = refl
+found at (w ∷ want) [] long = absurd (omega (arith, long))
+found at (w ∷ want) (x ∷ b) long =
+    found_by at w x want b (x == w) refl (found (at + 1) want b (omega (arith, long)))
+
+-- the first that differs is found
+differs_found : (at : ℕ) (want b : List ℕ) (n : ℕ) → length want ≤ length b → DiffersAt n want b
+    → first_difference at want b ≡ Some (at + n)
+differs_found at [] b n long h = absurd (omega (arith, h.within))
+differs_found at (w ∷ want) [] n long h = absurd (omega (arith, long))
+differs_found at (w ∷ want) (x ∷ b) zero long h =
+    rw (ne_eqb x w h.other) (ap (λ (n : ℕ). Some n) (omega arith))
+differs_found at (w ∷ want) (x ∷ b) (suc n) long h =
+    let same : x ∷ take n b ≡ w ∷ take n want = h.same in
+    let first : x ≡ w = cc in
+    let later : take n b ≡ take n want = cc in
+    let more = differs_found (at + 1) want b n (omega (arith, long))
+    (record { same = later; within = omega (arith, h.within); other = h.other }) in
+    rw (eq-eqb x w first) (more ∙ ap (λ (n : ℕ). Some n) (omega arith))
+
+-- where none differs, none is found
+same_found : (at : ℕ) (want b : List ℕ) → take (length want) b ≡ want
+    → first_difference at want b ≡ None
+same_found at [] b e = refl
+same_found at (w ∷ want) [] e = absurd cc
+same_found at (w ∷ want) (x ∷ b) e =
+    let first : x ≡ w = cc in
+    let later : take (length want) b ≡ want = cc in
+    rw (eq-eqb x w first) (same_found (at + 1) want b later)
+
+-- ---- what is wrong with a header, test by test
+
+-- where the fixed bytes differ there, or don't
+abbrev length_fault : List ℕ → Option ℕ → Option RtsFault
+length_fault b (Some place) = fault place BadHeader
+length_fault b None =
+    if not (frag_of b == length b) then fault 8 BadLength
+    else (if nat_lt ALL_FLAGS (flags_of b) then fault 16 BadFlags else None)
+
+abbrev pub head_fault : List ℕ → Option RtsFault
+head_fault b =
+    if nat_lt (length b) 20 then fault (length b) CutShort
+    else length_fault b (first_difference 0 (header_like b) b)
+
+-- that is the first to be wrong, if anything is
+abbrev pub HeadIs : List ℕ → Option RtsFault → Type 0
+HeadIs b None = IsHead b
+HeadIs b (Some wrong) = HeadFault b wrong.place wrong.kind
+
+by_flags : (b : List ℕ) (t : Bool) → IsLike b → frag_of b ≡ length b
+    → nat_lt ALL_FLAGS (flags_of b) ≡ t
+    → HeadIs b (if t then fault 16 BadFlags else None)
+by_flags b true like frag e = (refl, like, frag, ltb-true _ _ e)
+by_flags b false like frag e = record { like = like; frag = frag; flags = ltb-false _ _ e }
+
+by_frag : (b : List ℕ) (t : Bool) → IsLike b → (frag_of b == length b) ≡ t
+    → HeadIs b (if not t then fault 8 BadLength else
+    (if nat_lt ALL_FLAGS (flags_of b) then fault 16 BadFlags else None))
+by_frag b true like e = by_flags b _ like (eqb-true _ _ e) refl
+by_frag b false like e = (refl, like, eqb-false _ _ e)
+
+by_like : (b : List ℕ) (o : Option ℕ) → 20 ≤ length b → Differs 0 (header_like b) b o
+    → HeadIs b (length_fault b o)
+by_like b None long h = by_frag b _ (record { long = long; front = h }) refl
+by_like b (Some place) long h =
+    (long, subst (λ (n : ℕ). DiffersAt n (header_like b) b) (omega (arith, h.1)) h.2)
+
+by_length : (b : List ℕ) (t : Bool) → nat_lt (length b) 20 ≡ t
+    → HeadIs b (if t then fault (length b) CutShort else length_fault b
+    (first_difference 0 (header_like b) b))
+by_length b true e = (refl, ltb-true _ _ e)
+by_length b false e =
+    let long : 20 ≤ length b = ltb-false _ _ e in
+    by_like b _ long (found 0 (header_like b) b (omega (arith, long)))
+
+pub head_is : (b : List ℕ) → HeadIs b (head_fault b)
+head_is b = by_length b _ refl
+
+-- nothing is wrong with a header, as far as it is of the right length and like what it is to be
+liked : (b : List ℕ) → IsLike b
+    → head_fault b ≡ (if not (frag_of b == length b) then fault 8 BadLength
+    else (if nat_lt ALL_FLAGS (flags_of b) then fault 16 BadFlags else None))
+liked b h = rw (le-ltb _ _ h.long, same_found 0 (header_like b) b h.front) refl
+
+pub no_fault : (b : List ℕ) → IsHead b → head_fault b ≡ None
+no_fault b h = liked b h.like ∙ rw (eq-eqb _ _ h.frag, le-ltb _ _ h.flags) refl
+
+-- what is the first to be wrong is found
+pub fault_found : (b : List ℕ) (place : ℕ) (kind : RtsKind) → HeadFault b place kind
+    → head_fault b ≡ fault place kind
+fault_found b place CutShort h = rw (lt-ltb _ _ h.1, h.0) refl
+fault_found b place BadHeader h =
+    rw (le-ltb _ _ h.0, differs_found 0 (header_like b) b place (omega (arith, h.0)) h.1)
+    (ap (λ (n : ℕ). fault n BadHeader) (omega arith))
+fault_found b place BadLength h = rw h.0 (liked b h.1 ∙ rw (ne_eqb _ _ h.2) refl)
+fault_found b place BadFlags h = rw h.0 (liked b h.1 ∙ rw (eq-eqb _ _ h.2, lt-ltb _ _ h.3) refl)
+fault_found b place kind h = absurd h
+
+-- ---- the bytes of a header
 
 -- two bytes are bytes
 two_bytes : (x y : ℕ) → x < 256 → y < 256 → IsBytes (x ∷ y ∷ [])
@@ -40,44 +164,9 @@ short_front b at fits =
     sym (le_bytes_2 (slice_index b at ∷ slice_index b (at + 1) ∷ []) (short_at b at) refl
     (two_bytes (slice_index b at) (slice_index b (at + 1)) (fits at) (fits (at + 1))) refl)
 
-passed : (t : Bool) (wrong : RtsFault) (later : Option RtsFault) → (if t then Some wrong else later) ≡ None
-    → (t ≡ false) × (later ≡ None)
-passed true wrong later e = absurd cc
-passed false wrong later e = (refl, e)
-
-passed_not : (t : Bool) → not t ≡ false → t ≡ true
-passed_not true e = refl
-passed_not false e = absurd cc
-
--- a header with nothing wrong
-pub record IsHead (b : List ℕ) : Type 0 where
-  pub long : 20 ≤ length b
-  pub frag : frag_of b ≡ length b
-  pub flags : flags_of b ≤ all_flags
-  pub like : b ≡ header_like b ++ drop 16 b
-
-passed_length : (b : List ℕ) (o : Option ℕ) → length_fault b o ≡ None
-    → (o ≡ None) × (frag_of b ≡ length b) × (flags_of b ≤ all_flags)
-passed_length b (Some place) e = absurd cc
-passed_length b None e =
-    let p0 = passed _ _ _ e in
-    let p1 = passed _ _ _ p0.1 in
-    (refl, eqb-true _ _ (passed_not _ p0.0), ltb-false _ _ p1.0)
-
-pub is_head : (b : List ℕ) → head_fault b ≡ None → IsHead b
-unfolding head_fault
-is_head b e =
-    let p0 = passed _ _ _ e in
-    let p1 = passed_length b _ p0.1 in
-    record {
-      long = ltb-false _ _ p0.0;
-      frag = p1.1;
-      flags = p1.2;
-      like = same_front 0 (header_like b) b p1.0;
-    }
-
 last_four : (b : List ℕ) → 20 ≤ length b
-    → drop 16 b ≡ slice_index b 16 ∷ slice_index b 17 ∷ slice_index b 18 ∷ slice_index b 19 ∷ drop 20 b
+    → drop 16 b ≡ slice_index b 16 ∷ slice_index b 17 ∷ slice_index b 18 ∷ slice_index b 19
+    ∷ drop 20 b
 last_four b long =
     drop_more b 16 0 (omega (arith, long))
     ∙ ap (λ (x : List ℕ). slice_index b 16 ∷ x) (drop_more b 17 0 (omega (arith, long))
@@ -86,27 +175,28 @@ last_four b long =
 
 -- a header of these parts, each as it is spelled
 abbrev spelled : List ℕ → List ℕ → List ℕ → List ℕ → List ℕ
-spelled frag flags count rest =
-    ((5 ∷ 0 ∷ 20 ∷ 3 ∷ 16 ∷ 0 ∷ 0 ∷ 0 ∷ []) ++ (frag ++ ((0 ∷ 0 ∷ 0 ∷ 0 ∷ 0 ∷ 0 ∷ []) ++ (flags ++ count)))) ++ rest
+spelled frag flags count rest = (header_front frag ++ (flags ++ count)) ++ rest
 
 -- the bytes of a header with nothing wrong
-pub head_bytes : (b : List ℕ) → IsBytes b → head_fault b ≡ None
+pub head_bytes : (b : List ℕ) → IsBytes b → IsHead b
     → b ≡ header_bytes (length b) (flags_of b) (count_of b) ++ drop 20 b
-head_bytes b fits e =
-    let h = is_head b e in
+head_bytes b fits h =
     let rest = drop 20 b in
-    let cells : b ≡ spelled (slice_index b 8 ∷ slice_index b 9 ∷ []) (slice_index b 16 ∷ slice_index b 17 ∷ [])
-    (slice_index b 18 ∷ slice_index b 19 ∷ []) rest =
-    h.like ∙ ap (λ (x : List ℕ). header_like b ++ x) (last_four b h.long) in
+    let frag = slice_index b 8 ∷ slice_index b 9 ∷ [] in
+    let flags = slice_index b 16 ∷ slice_index b 17 ∷ [] in
+    let count = slice_index b 18 ∷ slice_index b 19 ∷ [] in
+    let cells : b ≡ spelled frag flags count rest =
+    front 16 b ∙ ap (λ (x : List ℕ). x ++ drop 16 b) h.like.front
+    ∙ ap (λ (x : List ℕ). header_like b ++ x) (last_four b h.like.long) in
     cells
-    ∙ ap (λ (x : List ℕ). spelled x (slice_index b 16 ∷ slice_index b 17 ∷ []) (slice_index b 18 ∷ slice_index b 19 ∷ []) rest)
-    (short_front b 8 fits ∙ ap le2 h.frag)
-    ∙ ap (λ (x : List ℕ). spelled (le2 (length b)) x (slice_index b 18 ∷ slice_index b 19 ∷ []) rest) (short_front b 16 fits)
-    ∙ ap (λ (x : List ℕ). spelled (le2 (length b)) (le2 (flags_of b)) x rest) (short_front b 18 fits)
+    ∙ ap (λ (x : List ℕ). spelled x flags count rest) (short_front b 8 fits ∙ ap le2 h.frag)
+    ∙ ap (λ (x : List ℕ). spelled (le2 (length b)) x count rest) (short_front b 16 fits)
+    ∙ ap (λ (x : List ℕ). spelled (le2 (length b)) (le2 (flags_of b)) x rest)
+    (short_front b 18 fits)
 
 -- a header is read as it was spelled
 pub record HeadAgain (told many : ℕ) (rest b : List ℕ) : Type 0 where
-  pub fault : head_fault b ≡ None
+  pub head : IsHead b
   pub flags : flags_of b ≡ told
   pub count : count_of b ≡ many
   pub body : drop 20 b ≡ rest
@@ -116,21 +206,19 @@ pub frag_again : (frag flags count : ℕ) (body : List ℕ) → frag < 2 ^ 16
     → frag_of (header_bytes frag flags count ++ body) ≡ frag
 frag_again frag flags count body fits = from_le_bytes-to_le_bytes_2 frag fits
 
-pub head_again : (flags count : ℕ) (body : List ℕ) → flags ≤ all_flags → 20 + length body ≤ 65535 → count ≤ 65535
+pub head_again : (flags count : ℕ) (body : List ℕ) → flags ≤ ALL_FLAGS → 20 + length body ≤ 65535
+    → count ≤ 65535
     → HeadAgain flags count body (header_bytes (20 + length body) flags count ++ body)
-unfolding head_fault
 head_again flags count body few fits small =
     let b = header_bytes (20 + length body) flags count ++ body in
     let size : length b ≡ 20 + length body = omega arith in
-    let long : nat_lt (length b) 20 ≡ false = le-ltb _ _ (omega (arith, size)) in
-    let like : first_difference 0 (header_like b) b ≡ None = front_same 0 (header_like b) (drop 16 b) in
-    let frag : frag_of b ≡ length b =
-    frag_again (20 + length body) flags count body (omega (arith, fits)) ∙ sym size in
     let told : flags_of b ≡ flags = from_le_bytes-to_le_bytes_2 flags (omega (arith, few)) in
-    let same : (frag_of b == length b) ≡ true = rw frag (eq-eqb (length b) (length b) refl) in
-    let none : nat_lt all_flags (flags_of b) ≡ false = rw told (le-ltb _ _ few) in
     record {
-      fault = rw (long, like, same, none) refl;
+      head = record {
+        like = record { long = omega (arith, size); front = refl };
+        frag = frag_again (20 + length body) flags count body (omega (arith, fits)) ∙ sym size;
+        flags = omega (arith, told, few);
+      };
       flags = told;
       count = from_le_bytes-to_le_bytes_2 count (omega (arith, small));
       body = refl;

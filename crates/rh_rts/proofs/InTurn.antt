@@ -3,7 +3,8 @@ use Rattle.std.specs.Prelude.{◌==◌, ◌-◌, ℕ, zero, suc, List, length, d
 use Rattle.std.specs.declared.option.Option.{Option}
 use Rattle.rh_rts.specs.declared.fault.RtsFault.{RtsFault}
 use Rattle.rh_rts.specs.declared.fault.RtsKind.TheVariants.{Left}
-use Rattle.rh_rts.specs.Refusals.{fault, command_fault, length_of}
+use Rattle.rh_rts.specs.Refusals.{fault, command_fault}
+use Rattle.rh_rts.specs.Listing.{length_of}
 
 -- the first of the two that is there
 abbrev pub or_else : Option RtsFault → Option RtsFault → Option RtsFault

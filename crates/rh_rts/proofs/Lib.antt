@@ -1,5 +1,7 @@
 pub mod InTurn
+pub mod Passing
 pub mod Fields
+pub mod Rows
 pub mod Reread
 pub mod Standing
 pub mod Bodies

@@ -1,41 +1,28 @@
 -- what is made of fields of their size, with no destination out of range, is a packet
-use Rattle.std.proofs.Common.{◌≡◌, ℕ, ◌+◌, ◌≤◌, List, [], ◌∷◌, length, refl, arith, true, false, Bool}
-use Rattle.std.specs.Prelude.{Some, None, if◌then◌else◌}
+use Rattle.std.proofs.Common.{◌≡◌, ℕ, ◌≤◌, List, [], ◌∷◌, length, refl, arith, true, false, Bool}
+use Rattle.std.specs.Prelude.{Some, None, Ok, Err, if◌then◌else◌}
 use Rattle.std.specs.declared.option.Option.{Option}
+use Rattle.std.specs.declared.result.Result.{Result}
+use Rattle.rh_rts.specs.declared.fault.PacketFault.{PacketFault}
 use Rattle.std.proofs.lemmas.Bool.{ltb-false}
 use Rattle.std.proofs.lemmas.List.{length-append}
 use Rattle.rh_rts.specs.declared.command.Command.{Command}
 use Rattle.rh_rts.specs.declared.command.Command.TheVariants as commands
-use Rattle.rh_rts.specs.Commands.{spelling, spellings, IsCommand, AreCommands}
-use Rattle.rh_rts.specs.Packets.{IsPacket, bad_destination, capped, all_flags}
-use Rattle.rh_rts.specs.Sizes.{HasSize, HaveSizes}
-
-in_range : (t : Bool) (n : ℕ) (later : Option ℕ) → (if t then Some n else later) ≡ None → (t ≡ false) × (later ≡ None)
-in_range true n later e = absurd cc
-in_range false n later e = (refl, e)
+use Rattle.rh_rts.specs.Commands.{spelling, spellings, IsCommand, AreCommands, HasSize, HaveSizes}
+use Rattle.rh_rts.specs.Packets.{Parts, IsPacket, packet_length, bad_destination, made, made_of}
+use Rattle.rh_rts.proofs.Passing.{passed}
 
 -- the first command is one, and the others hold no destination out of range
 is_command : (c : Command) (cs : List Command) → HasSize c → length (spelling c) ≤ 65535
     → bad_destination (c ∷ cs) ≡ None → IsCommand c × (bad_destination cs ≡ None)
 unfolding spelling
-is_command (commands.ReceiveWindowSize n) cs h small e = (h, e)
-is_command (commands.FlowControlAck received window cookie) cs h small e = (h, e)
-is_command (commands.ConnectionTimeout n) cs h small e = (h, e)
-is_command (commands.Cookie cookie) cs h small e = (h, e)
-is_command (commands.ChannelLifetime n) cs h small e = (h, e)
-is_command (commands.ClientKeepalive n) cs h small e = (h, e)
-is_command (commands.Version n) cs h small e = (h, e)
-is_command commands.Empty cs h small e = (tt, e)
-is_command (commands.Padding bytes) cs h small e = (omega (arith, small), e)
-is_command commands.NegativeAnce cs h small e = (tt, e)
-is_command commands.Ance cs h small e = (tt, e)
-is_command (commands.ClientAddress address padding) cs h small e = (h, e)
-is_command (commands.AssociationGroupId cookie) cs h small e = (h, e)
-is_command (commands.Destination n) cs h small e =
-    let p = in_range _ n _ e in (ltb-false _ _ p.0, p.1)
-is_command (commands.PingTrafficSentNotify n) cs h small e = (h, e)
+is_command (commands.Padding bytes) cs h small e = ((h, omega (arith, small)), e)
+is_command (commands.Destination n) cs h small e = let p = passed _ n _ e in
+    ((h, ltb-false _ _ p.0), p.1)
+is_command c cs h small e = ((h, tt), e)
 
-are_commands : (cs : List Command) → HaveSizes cs → length (spellings cs) ≤ 65535 → bad_destination cs ≡ None
+are_commands : (cs : List Command) → HaveSizes cs → length (spellings cs) ≤ 65535
+    → bad_destination cs ≡ None
     → AreCommands cs
 are_commands [] h small e = tt
 are_commands (c ∷ cs) h small e =
@@ -43,13 +30,22 @@ are_commands (c ∷ cs) h small e =
     let one = is_command c cs h.0 (omega (arith, parts, small)) e in
     (one.0, are_commands cs h.1 (omega (arith, parts, small)) one.1)
 
-pub is_sound : (flags size : ℕ) (cs : List Command) → flags ≤ all_flags → HaveSizes cs
-    → size ≡ capped (20 + length (spellings cs)) → size ≤ 65535 → bad_destination cs ≡ None
-    → IsPacket (record { flags = flags; commands = cs })
-is_sound flags size cs few h is small e =
-    let below : 20 + length (spellings cs) ≤ 65535 = omega (arith, is, small) in
+made_ok : {A : Type 0} (t : Bool) (wrong : PacketFault) (later : Result A PacketFault) (p : A)
+    → (if t then Err wrong else later) ≡ Ok p → (t ≡ false) × (later ≡ Ok p)
+made_ok true wrong later p e = absurd cc
+made_ok false wrong later p e = (refl, e)
+
+in_range : (o : Option ℕ) (p : Parts) → made_of o p ≡ Ok p → (o ≡ None) × (packet_length p ≤ 65535)
+in_range (Some n) p e = absurd cc
+in_range None p e = (refl, ltb-false _ _ (made_ok _ _ _ p e).0)
+
+-- parts whose fields have their size, and of which no first fault is told
+pub is_sound : (p : Parts) → HaveSizes p.commands → made p ≡ Ok p → IsPacket p
+is_sound p h e =
+    let few = made_ok _ _ _ p e in
+    let fits = in_range _ p few.1 in
     record {
-      flags = few;
-      commands = are_commands cs h (omega (arith, below)) e;
-      length = below;
+      flags = ltb-false _ _ few.0;
+      commands = are_commands p.commands h (omega (arith, fits.1)) fits.0;
+      length = fits.1;
     }

@@ -4,7 +4,8 @@ use Rattle.std.proofs.lemmas.List.{take_at, drop_at, drop-drop, length-append, l
 use Rattle.rh_rts.specs.Writing.{over}
 
 -- two pieces are one
-pub over_over : (room : List ℕ) (at : ℕ) (a b : List ℕ) (k : ℕ) → k ≡ at + length a → at ≤ length room
+pub over_over : (room : List ℕ) (at : ℕ) (a b : List ℕ) (k : ℕ) → k ≡ at + length a
+    → at ≤ length room
     → over (over room at a) k b ≡ over room at (a ++ b)
 unfolding over
 over_over room at a b k e fits =
@@ -12,10 +13,13 @@ over_over room at a b k e fits =
     let behind = drop (at + length a) room in
     let all = take at room ++ (a ++ behind) in
     let last = drop (at + length (a ++ b)) room in
-    let size : length front ≡ k = omega (arith, length-append (take at room) a, length-take-le at room fits, e) in
+    let size : length front ≡ k =
+    omega (arith, length-append (take at room) a, length-take-le at room fits, e) in
     let whole : all ≡ front ++ behind = sym (append_assoc (take at room) a behind) in
-    let taken : take k all ≡ front = ap (λ (x : List ℕ). take k x) whole ∙ take_at front behind k size in
-    let sum : (at + length a) + length b ≡ at + length (a ++ b) = omega (arith, length-append a b) in
+    let taken : take k all ≡ front =
+    ap (λ (x : List ℕ). take k x) whole ∙ take_at front behind k size in
+    let sum : (at + length a) + length b ≡ at + length (a ++ b) =
+    omega (arith, length-append a b) in
     let dropped : drop (k + length b) all ≡ last =
     sym (drop-drop (length b) k all)
     ∙ ap (λ (x : List ℕ). drop (length b) (drop k x)) whole

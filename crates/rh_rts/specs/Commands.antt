@@ -3,8 +3,15 @@ use Rattle.std.specs.Prelude.{◌≡◌, ◌≤◌, ◌<◌, ◌^◌, ℕ, List,
 use Rattle.std.specs.Int.{w32, to_le_bytes}
 use Rattle.rh_rts.specs.declared.command.Address4or16.{Address4or16}
 use Rattle.rh_rts.specs.declared.command.Address4or16.TheVariants.{V4, V6}
+use Rattle.rh_rts.specs.declared.command.TheConstants.{COOKIE_LEN, V4_LEN, V6_LEN, ADDRESS_PADDING_LEN}
+use Rattle.rh_rts.specs.declared.command.TheConstants.{GREATEST_DESTINATION}
 use Rattle.rh_rts.specs.declared.command.Command.{Command}
 use Rattle.rh_rts.specs.declared.command.Command.TheVariants as commands
+use Rattle.rh_rts.specs.declared.layout.Layout.{Layout}
+use Rattle.rh_rts.specs.declared.layout.Layout.TheVariants as layouts
+use Rattle.rh_rts.specs.declared.layout.TheConstants.{TYPE_OF_V4, TYPE_OF_V6, GREATEST_COUNT}
+use Rattle.rh_rts.specs.declared.kinds.TheConstants as kinds
+use Rattle.rh_rts.specs.Layouts.{Values}
 
 -- each is a byte
 abbrev pub IsBytes : List ℕ → Type 0
@@ -16,133 +23,104 @@ le4 n = to_le_bytes w32 n
 
 -- an address type and the address (MS-RPCH 2.2.3.2)
 abbrev pub address_bytes : Address4or16 → List ℕ
-address_bytes (V4 bytes) = le4 0 ++ bytes
-address_bytes (V6 bytes) = le4 1 ++ bytes
+address_bytes (V4 bytes) = le4 TYPE_OF_V4 ++ bytes
+address_bytes (V6 bytes) = le4 TYPE_OF_V6 ++ bytes
 
 -- ---- the types of commands
 
-abbrev pub receive_window_size : ℕ
-receive_window_size = 0
-
-abbrev pub flow_control_ack : ℕ
-flow_control_ack = 1
-
-abbrev pub connection_timeout : ℕ
-connection_timeout = 2
-
-abbrev pub cookie : ℕ
-cookie = 3
-
-abbrev pub channel_lifetime : ℕ
-channel_lifetime = 4
-
-abbrev pub client_keepalive : ℕ
-client_keepalive = 5
-
-abbrev pub version : ℕ
-version = 6
-
-abbrev pub empty : ℕ
-empty = 7
-
-abbrev pub padding : ℕ
-padding = 8
-
-abbrev pub negative_ance : ℕ
-negative_ance = 9
-
-abbrev pub ance : ℕ
-ance = 10
-
-abbrev pub client_address : ℕ
-client_address = 11
-
-abbrev pub association_group_id : ℕ
-association_group_id = 12
-
-abbrev pub destination : ℕ
-destination = 13
-
-abbrev pub ping_traffic_sent_notify : ℕ
-ping_traffic_sent_notify = 14
-
 -- the type of a command
 abbrev pub kind_of : Command → ℕ
-kind_of (commands.ReceiveWindowSize n) = receive_window_size
-kind_of (commands.FlowControlAck received window of) = flow_control_ack
-kind_of (commands.ConnectionTimeout n) = connection_timeout
-kind_of (commands.Cookie c) = cookie
-kind_of (commands.ChannelLifetime n) = channel_lifetime
-kind_of (commands.ClientKeepalive n) = client_keepalive
-kind_of (commands.Version n) = version
-kind_of commands.Empty = empty
-kind_of (commands.Padding bytes) = padding
-kind_of commands.NegativeAnce = negative_ance
-kind_of commands.Ance = ance
-kind_of (commands.ClientAddress address behind) = client_address
-kind_of (commands.AssociationGroupId c) = association_group_id
-kind_of (commands.Destination n) = destination
-kind_of (commands.PingTrafficSentNotify n) = ping_traffic_sent_notify
+kind_of (commands.ReceiveWindowSize n) = kinds.RECEIVE_WINDOW_SIZE
+kind_of (commands.FlowControlAck received window of) = kinds.FLOW_CONTROL_ACK
+kind_of (commands.ConnectionTimeout n) = kinds.CONNECTION_TIMEOUT
+kind_of (commands.Cookie c) = kinds.COOKIE
+kind_of (commands.ChannelLifetime n) = kinds.CHANNEL_LIFETIME
+kind_of (commands.ClientKeepalive n) = kinds.CLIENT_KEEPALIVE
+kind_of (commands.Version n) = kinds.VERSION
+kind_of commands.Empty = kinds.EMPTY
+kind_of (commands.Padding bytes) = kinds.PADDING
+kind_of commands.NegativeAnce = kinds.NEGATIVE_ANCE
+kind_of commands.Ance = kinds.ANCE
+kind_of (commands.ClientAddress address behind) = kinds.CLIENT_ADDRESS
+kind_of (commands.AssociationGroupId c) = kinds.ASSOCIATION_GROUP_ID
+kind_of (commands.Destination n) = kinds.DESTINATION
+kind_of (commands.PingTrafficSentNotify n) = kinds.PING_TRAFFIC_SENT_NOTIFY
 
--- ---- the bytes of commands
+-- ---- the fields of commands
 
--- the bytes of the fields of a command
-abbrev pub fields : Command → List ℕ
-fields (commands.ReceiveWindowSize n) = le4 n
-fields (commands.FlowControlAck received window cookie) = le4 received ++ (le4 window ++ cookie.0)
-fields (commands.ConnectionTimeout n) = le4 n
-fields (commands.Cookie cookie) = cookie.0
-fields (commands.ChannelLifetime n) = le4 n
-fields (commands.ClientKeepalive n) = le4 n
-fields (commands.Version n) = le4 n
-fields commands.Empty = []
-fields (commands.Padding bytes) = le4 (length bytes) ++ bytes
-fields commands.NegativeAnce = []
-fields commands.Ance = []
-fields (commands.ClientAddress address padding) = address_bytes address ++ padding
-fields (commands.AssociationGroupId cookie) = cookie.0
-fields (commands.Destination n) = le4 n
-fields (commands.PingTrafficSentNotify n) = le4 n
+-- what holds of a layout and of values, said of the fields of a command
+abbrev pub by_fields {ℓ} : {A : Type ℓ} → ((layout : Layout) → Values layout → A) → Command → A
+by_fields f (commands.ReceiveWindowSize n) = f layouts.Number n
+by_fields f (commands.FlowControlAck received window of) = f layouts.Ack (received, window, of)
+by_fields f (commands.ConnectionTimeout n) = f layouts.Number n
+by_fields f (commands.Cookie c) = f layouts.Cookie c
+by_fields f (commands.ChannelLifetime n) = f layouts.Number n
+by_fields f (commands.ClientKeepalive n) = f layouts.Number n
+by_fields f (commands.Version n) = f layouts.Number n
+by_fields f commands.Empty = f layouts.Nothing tt
+by_fields f (commands.Padding bytes) = f layouts.Counted bytes
+by_fields f commands.NegativeAnce = f layouts.Nothing tt
+by_fields f commands.Ance = f layouts.Nothing tt
+by_fields f (commands.ClientAddress address behind) = f layouts.Address (address, behind)
+by_fields f (commands.AssociationGroupId c) = f layouts.Cookie c
+by_fields f (commands.Destination n) = f layouts.Destination n
+by_fields f (commands.PingTrafficSentNotify n) = f layouts.Number n
+
+-- the bytes of fields
+abbrev pub field_bytes : (layout : Layout) → Values layout → List ℕ
+field_bytes layouts.Nothing v = []
+field_bytes layouts.Number n = le4 n
+field_bytes layouts.Destination n = le4 n
+field_bytes layouts.Cookie c = c.0
+field_bytes layouts.Ack v = le4 v.0 ++ (le4 v.1 ++ v.2.0)
+field_bytes layouts.Counted bytes = le4 (length bytes) ++ bytes
+field_bytes layouts.Address v = address_bytes v.0 ++ v.1
 
 -- the bytes of a command: its type and its fields
 unfoldable pub spelling : Command → List ℕ
-spelling c = le4 (kind_of c) ++ fields c
+spelling c = le4 (kind_of c) ++ by_fields field_bytes c
 
 -- the bytes of commands, one after the other
 abbrev pub spellings : List Command → List ℕ
 spellings [] = []
 spellings (c ∷ cs) = spelling c ++ spellings cs
 
--- the greatest ConformanceCount, and the greatest destination
-abbrev pub greatest_count : ℕ
-greatest_count = 65535
-
-abbrev pub greatest_destination : ℕ
-greatest_destination = 3
+-- ---- which are commands
 
 -- an address has 4 or 16 bytes
 abbrev pub IsAddress : Address4or16 → Type 0
-IsAddress (V4 bytes) = length bytes ≡ 4
-IsAddress (V6 bytes) = length bytes ≡ 16
+IsAddress (V4 bytes) = length bytes ≡ V4_LEN
+IsAddress (V6 bytes) = length bytes ≡ V6_LEN
 
--- the fields are of their size, and in their range
+-- fields have their size: numbers four bytes, cookies 16, the padding of an address 12
+abbrev pub AreSized : (layout : Layout) → Values layout → Type 0
+AreSized layouts.Nothing v = Unit {0}
+AreSized layouts.Number n = n < 2 ^ 32
+AreSized layouts.Destination n = n < 2 ^ 32
+AreSized layouts.Cookie c = length c.0 ≡ COOKIE_LEN
+AreSized layouts.Ack v = (v.0 < 2 ^ 32) × (v.1 < 2 ^ 32) × (length v.2.0 ≡ COOKIE_LEN)
+AreSized layouts.Counted bytes = Unit {0}
+AreSized layouts.Address v = IsAddress v.0 × (length v.1 ≡ ADDRESS_PADDING_LEN)
+
+abbrev pub HasSize : Command → Type 0
+HasSize c = by_fields AreSized c
+
+abbrev pub HaveSizes : List Command → Type 0
+HaveSizes [] = Unit {0}
+HaveSizes (c ∷ cs) = HasSize c × HaveSizes cs
+
+-- a destination and the count of a padding are in their range
+abbrev pub AreInRange : (layout : Layout) → Values layout → Type 0
+AreInRange layouts.Destination n = n ≤ GREATEST_DESTINATION
+AreInRange layouts.Counted bytes = length bytes ≤ GREATEST_COUNT
+AreInRange _ v = Unit {0}
+
+-- fields of a command
+abbrev pub AreFields : (layout : Layout) → Values layout → Type 0
+AreFields layout v = AreSized layout v × AreInRange layout v
+
 abbrev pub IsCommand : Command → Type 0
-IsCommand (commands.ReceiveWindowSize n) = n < 2 ^ 32
-IsCommand (commands.FlowControlAck received window cookie) =
-    (received < 2 ^ 32) × (window < 2 ^ 32) × (length cookie.0 ≡ 16)
-IsCommand (commands.ConnectionTimeout n) = n < 2 ^ 32
-IsCommand (commands.Cookie cookie) = length cookie.0 ≡ 16
-IsCommand (commands.ChannelLifetime n) = n < 2 ^ 32
-IsCommand (commands.ClientKeepalive n) = n < 2 ^ 32
-IsCommand (commands.Version n) = n < 2 ^ 32
-IsCommand commands.Empty = Unit {0}
-IsCommand (commands.Padding bytes) = length bytes ≤ greatest_count
-IsCommand commands.NegativeAnce = Unit {0}
-IsCommand commands.Ance = Unit {0}
-IsCommand (commands.ClientAddress address padding) = IsAddress address × (length padding ≡ 12)
-IsCommand (commands.AssociationGroupId cookie) = length cookie.0 ≡ 16
-IsCommand (commands.Destination n) = n ≤ greatest_destination
-IsCommand (commands.PingTrafficSentNotify n) = n < 2 ^ 32
+IsCommand c = by_fields AreFields c
 
 -- each is a command
 abbrev pub AreCommands : List Command → Type 0

@@ -1,7 +1,9 @@
+pub mod Layouts
 pub mod Commands
 pub mod Packets
 pub mod Refusals
+pub mod Listing
 pub mod Showing
-pub mod Sizes
+pub mod Texts
 pub mod Writing
 pub mod Judging

@@ -8,36 +8,36 @@ use Rattle.rh_rts.specs.declared.command.Command.{Command}
 use Rattle.rh_rts.specs.declared.command.Command.TheVariants as commands
 use Rattle.rh_rts.specs.declared.fault.PacketFault.{PacketFault}
 use Rattle.rh_rts.specs.declared.fault.PacketFault.TheVariants.{BadFlags, BadDestination, TooLong, NoMemory}
-use Rattle.rh_rts.specs.Commands.{spellings, AreCommands, greatest_destination}
+use Rattle.rh_rts.specs.declared.packet.TheConstants.{ALL_FLAGS, GREATEST_PACKET_LENGTH}
+use Rattle.rh_rts.specs.declared.header.TheConstants.{PACKET_HEADER_LEN}
+use Rattle.rh_rts.specs.declared.command.TheConstants.{GREATEST_DESTINATION}
+use Rattle.rh_rts.specs.Commands.{spellings, AreCommands}
 
 -- what a packet says
 pub record Parts : Type 0 where
   pub flags : ℕ
   pub commands : List Command
 
+abbrev pub parts : ℕ → List Command → Parts
+parts flags commands = record { flags = flags; commands = commands }
+
 -- a number of two bytes, the least first
 abbrev pub le2 : ℕ → List ℕ
 le2 n = to_le_bytes w16 n
 
--- the bytes in front of the commands
-abbrev pub header_length : ℕ
-header_length = 20
-
--- all flags, and the greatest frag_length
-abbrev pub all_flags : ℕ
-all_flags = 0x7F
-
-abbrev pub greatest_length : ℕ
-greatest_length = 65535
-
 -- frag_length: the sum of the parts
 abbrev pub packet_length : Parts → ℕ
-packet_length p = header_length + length (spellings p.commands)
+packet_length p = PACKET_HEADER_LEN + length (spellings p.commands)
 
--- the header, up to the commands: version, PTYPE, frag_length, no authentication, no call
+-- the header up to the flags, with these two bytes of frag_length (C706 12.6.3.1): version 5.0,
+-- PTYPE 20,
+-- first and last fragment, least significant byte first, no authentication, call 0
+abbrev pub header_front : List ℕ → List ℕ
+header_front frag = (5 ∷ 0 ∷ 20 ∷ 3 ∷ 16 ∷ 0 ∷ 0 ∷ 0 ∷ []) ++ (frag ++ (0 ∷ 0 ∷ 0 ∷ 0 ∷ 0 ∷ 0 ∷ []))
+
+-- the header, up to the commands
 abbrev pub header_bytes : ℕ → ℕ → ℕ → List ℕ
-header_bytes frag flags count =
-    (5 ∷ 0 ∷ 20 ∷ 3 ∷ 16 ∷ 0 ∷ 0 ∷ 0 ∷ []) ++ (le2 frag ++ ((0 ∷ 0 ∷ 0 ∷ 0 ∷ 0 ∷ 0 ∷ []) ++ (le2 flags ++ le2 count)))
+header_bytes frag flags count = header_front (le2 frag) ++ (le2 flags ++ le2 count)
 
 -- the one spelling of a packet
 unfoldable pub packet_bytes : Parts → List ℕ
@@ -45,9 +45,9 @@ packet_bytes p = header_bytes (packet_length p) p.flags (length p.commands) ++ s
 
 -- what can be sent
 pub record IsPacket (p : Parts) : Type 0 where
-  pub flags : p.flags ≤ all_flags
+  pub flags : p.flags ≤ ALL_FLAGS
   pub commands : AreCommands p.commands
-  pub length : packet_length p ≤ greatest_length
+  pub length : packet_length p ≤ GREATEST_PACKET_LENGTH
 
 -- ---- making a packet
 
@@ -55,21 +55,23 @@ pub record IsPacket (p : Parts) : Type 0 where
 abbrev pub bad_destination : List Command → Option ℕ
 bad_destination [] = None
 bad_destination (commands.Destination n ∷ cs) =
-    if nat_lt greatest_destination n then Some n else bad_destination cs
+    if nat_lt GREATEST_DESTINATION n then Some n else bad_destination cs
 bad_destination (c ∷ cs) = bad_destination cs
 
 -- a sum as it is told: the greatest u64 at most
-abbrev pub capped : ℕ → ℕ
-capped n = min n (2 ^ 64 - 1)
+abbrev pub as_told : ℕ → ℕ
+as_told n = min n (2 ^ 64 - 1)
 
 -- where the destinations are in range
 abbrev pub made_of : Option ℕ → Parts → Result Parts PacketFault
 made_of (Some n) p = Err (BadDestination n)
-made_of None p = if nat_lt greatest_length (packet_length p) then Err (TooLong (capped (packet_length p))) else Ok p
+made_of None p = if nat_lt GREATEST_PACKET_LENGTH (packet_length p) then Err
+    (TooLong (as_told (packet_length p))) else Ok p
 
 -- the packet of these parts, or the first of the reasons why there is none
 abbrev pub made : Parts → Result Parts PacketFault
-made p = if nat_lt all_flags p.flags then Err (BadFlags p.flags) else made_of (bad_destination p.commands) p
+made p = if nat_lt ALL_FLAGS p.flags then Err (BadFlags p.flags) else made_of
+    (bad_destination p.commands) p
 
 -- it is that, or there was no memory for the packet
 abbrev pub IsMade : Parts → Result Parts PacketFault → Type 0

@@ -1,17 +1,20 @@
 //! The commands of RTS packets (MS-RPCH 2.2.3.5).
 
-use crate::bytes::Bytes;
+use crate::kinds;
 use crate::layout::{fields, layouts};
+use rh_text::Bytes;
 use std::alloc::{AllocError, Global};
 
 /// The length of a cookie, in bytes.
 pub const COOKIE_LEN: usize = 16;
-/// The length of an address of IPv4 and of one of IPv6, in bytes.
+/// The length of an address of IPv4, in bytes.
 pub const V4_LEN: usize = 4;
-
+/// The length of an address of IPv6, in bytes.
 pub const V6_LEN: usize = 16;
 /// The length of the padding behind a client's address, in bytes.
 pub const ADDRESS_PADDING_LEN: usize = 12;
+/// The greatest destination: the out proxy.
+pub const GREATEST_DESTINATION: u32 = 3;
 
 /// A cookie, as its bytes stand in the packet (MS-RPCH 2.2.3.1).
 #[derive(Clone, Copy, Debug, PartialEq, Eq)]
@@ -95,18 +98,20 @@ impl Command {
         ensures { shown result ≡ self.now }
     {
         macro_rules! borrowed {
-            ($name:ident nothing $a:ident $b:ident $c:ident) => { CommandRef::$name };
-            ($name:ident counted $a:ident $b:ident $c:ident) => { CommandRef::$name($a.as_slice()) };
-            ($name:ident ack $a:ident $b:ident $c:ident) => {
+            ($name:ident Nothing $a:ident $b:ident $c:ident) => { CommandRef::$name };
+            ($name:ident Counted $a:ident $b:ident $c:ident) => {
+                CommandRef::$name($a.as_slice())
+            };
+            ($name:ident Ack $a:ident $b:ident $c:ident) => {
                 CommandRef::$name { received: *$a, window: *$b, cookie: *$c }
             };
-            ($name:ident address $a:ident $b:ident $c:ident) => {
+            ($name:ident Address $a:ident $b:ident $c:ident) => {
                 CommandRef::$name { address: *$a, padding: *$b }
             };
             ($name:ident $one:ident $a:ident $b:ident $c:ident) => { CommandRef::$name(*$a) };
         }
         macro_rules! rows {
-            ($($kind:literal $name:ident $layout:ident;)*) => {
+            ($($kind:ident $name:ident $layout:ident $text:literal;)*) => {
                 match self {
                     $(fields!(Command $name $layout a b c) => borrowed!($name $layout a b c),)*
                 }
@@ -119,6 +124,7 @@ impl Command {
 impl CommandRef<'_> {
     ghost use Rattle.std.specs.Prelude.{◌≡◌, IfOk};
     ghost use Rattle.rh_rts.specs.Commands.{kind_of};
+    ghost use Rattle.rh_rts.specs.Texts.{command_name};
     ghost use Rattle.rh_rts.specs.Showing.{shown};
 
     /// The type of the command (MS-RPCH 2.2.3.5): 0 to 14.
@@ -126,9 +132,23 @@ impl CommandRef<'_> {
         ensures { result ≡ kind_of (shown self.now) }
     {
         macro_rules! rows {
-            ($($kind:literal $name:ident $layout:ident;)*) => {
+            ($($kind:ident $name:ident $layout:ident $text:literal;)*) => {
                 match self {
-                    $(CommandRef::$name { .. } => $kind,)*
+                    $(CommandRef::$name { .. } => kinds::$kind,)*
+                }
+            };
+        }
+        layouts!(rows)
+    }
+
+    /// The name of the command (MS-RPCH 2.2.3.5).
+    pub fn name(&self) -> &'static str
+        ensures { result.now ≡ command_name (shown self.now) }
+    {
+        macro_rules! rows {
+            ($($kind:ident $name:ident $layout:ident $text:literal;)*) => {
+                match self {
+                    $(CommandRef::$name { .. } => $text,)*
                 }
             };
         }
@@ -140,7 +160,7 @@ impl CommandRef<'_> {
         ensures { IfOk result (λ command. command ≡ shown self.entry) }
     {
         macro_rules! owned {
-            ($name:ident counted $a:ident $b:ident $c:ident) => {
+            ($name:ident Counted $a:ident $b:ident $c:ident) => {
                 Command::$name(Bytes::new(Vec::from_slice(alloc, $a)?))
             };
             ($name:ident $layout:ident $a:ident $b:ident $c:ident) => {
@@ -148,7 +168,7 @@ impl CommandRef<'_> {
             };
         }
         macro_rules! rows {
-            ($($kind:literal $name:ident $layout:ident;)*) => {
+            ($($kind:ident $name:ident $layout:ident $text:literal;)*) => {
                 match self {
                     $(fields!(CommandRef $name $layout a b c) => owned!($name $layout a b c),)*
                 }

@@ -11,7 +11,7 @@ use crate::command::Command;
 use crate::fault::DecodeFault;
 use crate::judging::view;
 use crate::packet::Packet;
-use crate::viewed::Commands;
+use crate::views::Commands;
 use std::alloc::Global;
 
 /// The commands, each with memory of its own.

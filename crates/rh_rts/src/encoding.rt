@@ -2,14 +2,15 @@
 
 ghost use Rattle.std.specs.Prelude.{◌≡◌, ◌+◌, ◌++◌, ◌≤◌, ◌<◌, length};
 ghost use Rattle.rh_rts.specs.Commands.{le4, spelling, spellings, address_bytes, IsCommand, AreCommands};
-ghost use Rattle.rh_rts.specs.Packets.{IsPacket, packet_length, header_bytes};
+ghost use Rattle.rh_rts.specs.Packets.{parts, IsPacket, packet_length, header_bytes};
 ghost use Rattle.rh_rts.specs.Writing.{over, Writes};
 
 use crate::command::{Address4or16, Command, Cookie};
 use crate::fault::NoRoom;
-use crate::layout::{V4, V6, fields, layouts};
+use crate::header::header_front;
+use crate::kinds;
+use crate::layout::{TYPE_OF_V4, TYPE_OF_V6, fields, layouts};
 use crate::packet::{Packet, length_of};
-use crate::reading::HEADER_LEN;
 
 /// Writes the piece from this place on, and answers the place behind it.
 #[tactic(auto, unfolding(crate::specs::Writing::over))]
@@ -41,11 +42,11 @@ fn put_address(room: &mut [u8], at: usize, address: Address4or16) -> usize
 {
     match address {
         Address4or16::V4(bytes) => {
-            let at = put_number(room, at, V4);
+            let at = put_number(room, at, TYPE_OF_V4);
             put(room, at, &bytes)
         }
         Address4or16::V6(bytes) => {
-            let at = put_number(room, at, V6);
+            let at = put_number(room, at, TYPE_OF_V6);
             put(room, at, &bytes)
         }
     }
@@ -82,28 +83,32 @@ fn put_command(room: &mut [u8], at: usize, command: &Command) -> usize
     ensures bytes { room.new ≡ over room.old at (spelling command.now) }
 {
     macro_rules! put_fields {
-        ($kind:literal nothing $a:ident $b:ident $c:ident) => { put_number(room, at, $kind) };
-        ($kind:literal number $a:ident $b:ident $c:ident) => { put_pair(room, at, $kind, *$a) };
-        ($kind:literal destination $a:ident $b:ident $c:ident) => {
-            put_pair(room, at, $kind, *$a)
+        ($kind:ident Nothing $a:ident $b:ident $c:ident) => { put_number(room, at, kinds::$kind) };
+        ($kind:ident Number $a:ident $b:ident $c:ident) => {
+            put_pair(room, at, kinds::$kind, *$a)
         };
-        ($kind:literal cookie $a:ident $b:ident $c:ident) => { put_cookie(room, at, $kind, *$a) };
-        ($kind:literal ack $a:ident $b:ident $c:ident) => {{
-            let at = put_pair(room, at, $kind, *$a);
+        ($kind:ident Destination $a:ident $b:ident $c:ident) => {
+            put_pair(room, at, kinds::$kind, *$a)
+        };
+        ($kind:ident Cookie $a:ident $b:ident $c:ident) => {
+            put_cookie(room, at, kinds::$kind, *$a)
+        };
+        ($kind:ident Ack $a:ident $b:ident $c:ident) => {{
+            let at = put_pair(room, at, kinds::$kind, *$a);
             put_cookie(room, at, *$b, *$c)
         }};
-        ($kind:literal counted $a:ident $b:ident $c:ident) => {{
-            let at = put_pair(room, at, $kind, $a.len() as u32);
+        ($kind:ident Counted $a:ident $b:ident $c:ident) => {{
+            let at = put_pair(room, at, kinds::$kind, $a.len() as u32);
             put(room, at, $a.as_slice())
         }};
-        ($kind:literal address $a:ident $b:ident $c:ident) => {{
-            let at = put_number(room, at, $kind);
+        ($kind:ident Address $a:ident $b:ident $c:ident) => {{
+            let at = put_number(room, at, kinds::$kind);
             let at = put_address(room, at, *$a);
             put(room, at, $b)
         }};
     }
     macro_rules! rows {
-        ($($kind:literal $name:ident $layout:ident;)*) => {
+        ($($kind:ident $name:ident $layout:ident $text:literal;)*) => {
             match command {
                 $(fields!(Command $name $layout a b c) => put_fields!($kind $layout a b c),)*
             }
@@ -127,27 +132,23 @@ fn put_commands(room: &mut [u8], at: usize, commands: &[Command]) -> usize
 }
 
 /// Writes the header in front.
+#[tactic(auto, using(crate::proofs::Overs::over_over))]
 fn put_header(room: &mut [u8], frag: u16, flags: u16, count: u16) -> usize
     requires { 20 ≤ length room.old }
     ensures place { result ≡ 20 }
     ensures bytes { room.new ≡ over room.old 0 (header_bytes frag flags count) }
 {
-    let frag = frag.to_le_bytes();
-    let flags = flags.to_le_bytes();
-    let count = count.to_le_bytes();
-    let header: [u8; HEADER_LEN] = [
-        5, 0, 20, 3, 16, 0, 0, 0, frag[0], frag[1], 0, 0, 0, 0, 0, 0, flags[0], flags[1], count[0],
-        count[1],
-    ];
-    put(room, 0, &header)
+    let at = put(room, 0, &header_front(frag.to_le_bytes()));
+    let at = put(room, at, &flags.to_le_bytes());
+    put(room, at, &count.to_le_bytes())
 }
 
 /// Writes a packet of so many bytes at the front of the room, and answers its length in bytes.
-#[tactic(auto, using(crate::proofs::Overs::over_over), unfolding(crate::specs::Packets::packet_bytes))]
+#[tactic(auto, unfolding(crate::specs::Packets::packet_bytes))]
 fn write(need: usize, flags: u16, commands: &[Command], room: &mut [u8]) -> Result<usize, NoRoom>
-    requires sound { IsPacket (record { flags = flags; commands = commands.now }) }
-    requires length { need ≡ packet_length (record { flags = flags; commands = commands.now }) }
-    ensures { Writes (record { flags = flags; commands = commands.now }) room.old room.new result }
+    requires sound { IsPacket (parts flags commands.now) }
+    requires length { need ≡ packet_length (parts flags commands.now) }
+    ensures { Writes (parts flags commands.now) room.old room.new result }
 {
     if need > room.len() {
         return Err(NoRoom { need });
@@ -170,8 +171,8 @@ pub fn encode(packet: &Packet, room: &mut [u8]) -> Result<usize, NoRoom>
 /// They are to be those of a packet: no bit outside 0x007F, no destination above 3, and at most
 /// 65,535 bytes in all.
 pub fn encode_parts(flags: u16, commands: &[Command], room: &mut [u8]) -> Result<usize, NoRoom>
-    requires { IsPacket (record { flags = flags; commands = commands.now }) }
-    ensures { Writes (record { flags = flags; commands = commands.now }) room.old room.new result }
+    requires { IsPacket (parts flags commands.now) }
+    ensures { Writes (parts flags commands.now) room.old room.new result }
 {
     write(length_of(commands) as usize, flags, commands, room)
 }

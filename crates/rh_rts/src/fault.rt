@@ -4,6 +4,7 @@ ghost use Rattle.std.specs.Prelude.{◌≡◌};
 ghost use Rattle.rh_rts.specs.declared.fault.DecodeFault.TheVariants as decode;
 ghost use Rattle.rh_rts.specs.declared.fault.PacketFault.TheVariants as packet;
 
+use rh_text::{Part, write_parts};
 use std::alloc::{AllocError, AllocFailed};
 
 /// What is wrong with bytes that are to be a packet.
@@ -32,6 +33,51 @@ pub enum RtsKind {
 pub struct RtsFault {
     pub place: usize,
     pub kind: RtsKind,
+}
+
+impl RtsKind {
+    ghost use Rattle.rh_rts.specs.Texts.{kind_name};
+
+    /// The name of what is wrong.
+    pub fn name(&self) -> &'static str
+        ensures { result.now ≡ kind_name self.now }
+    {
+        match self {
+            RtsKind::BadHeader => "BadHeader",
+            RtsKind::BadLength => "BadLength",
+            RtsKind::BadFlags => "BadFlags",
+            RtsKind::CutShort => "CutShort",
+            RtsKind::BadType => "BadType",
+            RtsKind::BadAddressType => "BadAddressType",
+            RtsKind::BadCount => "BadCount",
+            RtsKind::Left => "Left",
+        }
+    }
+}
+
+impl RtsFault {
+    ghost use Rattle.std.specs.Prelude.{string_bytes};
+    ghost use Rattle.rh_rts.specs.Texts.{fault_text};
+    ghost use Rattle.rh_text.specs.Writing.{Writes};
+
+    /// Appends `fault KIND PLACE`.
+    ///
+    /// Fails where there is no memory for the text; a front of what was to come may stand there
+    /// then.
+    pub fn write(&self, out: &mut String) -> Result<(), AllocError>
+        ensures { Writes (fault_text self.now) result (string_bytes out.old)
+            (string_bytes out.new) }
+    {
+        write_parts(
+            &[
+                Part::Text("fault "),
+                Part::Text(self.kind.name()),
+                Part::Text(" "),
+                Part::Number(self.place as u64),
+            ],
+            out,
+        )
+    }
 }
 
 /// Why bytes gave no packet.

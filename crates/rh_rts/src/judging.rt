@@ -1,16 +1,32 @@
 //! Judges the bytes of a packet, and reads it (MS-RPCH 2.2.3.6).
 
 ghost use Rattle.std.specs.Prelude.{◌≡◌, ◌+◌, ◌≤◌, ◌<◌, ◌-◌, ◌^◌, length, drop, MatchResult, Some, None};
-ghost use Rattle.std.specs.Prelude.{Ok, Err};
+ghost use Rattle.std.specs.Prelude.{◌≢◌, [], Ok, Err};
 ghost use Rattle.rh_rts.specs.declared.fault.RtsFault.{RtsFault};
 ghost use Rattle.rh_rts.specs.Packets.{Parts, IsPacket, packet_bytes};
-ghost use Rattle.rh_rts.specs.Refusals.{FirstFault, BodyFault};
+ghost use Rattle.rh_rts.specs.Refusals.{fault, FirstFault, BodyFault};
+ghost use Rattle.rh_rts.specs.declared.fault.RtsKind.TheVariants.{Left};
 ghost use Rattle.rh_rts.specs.Judging.{Judged};
-ghost use Rattle.rh_rts.specs.Showing.{listed, AreAll};
+ghost use Rattle.rh_rts.specs.Listing.{listed, AreAll};
 
 use crate::fault::{RtsFault, RtsKind};
-use crate::reading::{read_command, read_head};
-use crate::viewed::View;
+use crate::header::read_head;
+use crate::reading::skip_command;
+use crate::views::View;
+
+/// Whether nothing stands behind the last command.
+fn check_end(place: usize, rest: &[u8]) -> Result<(), RtsFault>
+    ensures { MatchResult result (λ _. rest.now ≡ [])
+        (λ wrong. (rest.now ≢ []) × (fault place Left ≡ Some wrong)) }
+{
+    if rest.is_empty() {
+        return Ok(());
+    }
+    Err(RtsFault {
+        place,
+        kind: RtsKind::Left,
+    })
+}
 
 /// Whether so many commands are all of the bytes.
 fn check_body(total: usize, count: u16, body: &[u8]) -> Result<(), RtsFault>
@@ -20,16 +36,10 @@ fn check_body(total: usize, count: u16, body: &[u8]) -> Result<(), RtsFault>
 {
     let mut rest = body;
     for _ in 0..count {
-        let (_, after) = read_command(total - rest.len(), rest)?;
+        let after = skip_command(total - rest.len(), rest)?;
         rest = after;
     }
-    if rest.is_empty() {
-        return Ok(());
-    }
-    Err(RtsFault {
-        place: total - rest.len(),
-        kind: RtsKind::Left,
-    })
+    check_end(total - rest.len(), rest)
 }
 
 /// The packet that the bytes are; else the first part that is wrong.

@@ -1,24 +1,27 @@
 //! RTS packets: their commands, the packet, its bytes (MS-RPCH 2.2.3).
 #![tactic(auto)]
 
-mod bytes;
 mod command;
 mod decoding;
 mod encoding;
 mod fault;
+mod header;
 mod judging;
+pub mod kinds;
 pub mod laws;
 mod layout;
 pub mod packet;
 mod reading;
-mod viewed;
+#[cfg(test)]
+mod tests;
+mod views;
 
-pub use bytes::Bytes;
-pub use command::{Address4or16, Command, CommandRef, Cookie};
+pub use command::{Address4or16, Command, CommandRef, Cookie, GREATEST_DESTINATION};
 pub use decoding::decode;
 pub use encoding::{encode, encode_parts};
 pub use fault::{DecodeFault, NoRoom, PacketFault, RtsFault, RtsKind};
 pub use judging::view;
 pub use laws::one_packet;
 pub use packet::Packet;
-pub use viewed::{Commands, View};
+pub use rh_text::Bytes;
+pub use views::{Commands, View};

@@ -1,15 +1,14 @@
 //! A packet (MS-RPCH 2.2.3.6).
 
-ghost use Rattle.std.specs.Prelude.{◌≡◌, ◌+◌, ◌<◌, ◌^◌, length, MatchResult};
-ghost use Rattle.rh_rts.specs.Commands.{spelling, spellings, address_bytes, IsAddress};
-ghost use Rattle.rh_rts.specs.Packets.{bad_destination, capped};
-ghost use Rattle.rh_rts.specs.Sizes.{HasSize, HaveSizes};
+ghost use Rattle.std.specs.Prelude.{◌≡◌, ◌+◌, ◌<◌, ◌^◌, length, MatchResult, IfOk, Ok, Err};
+ghost use Rattle.rh_rts.specs.Commands.{spelling, spellings, address_bytes, IsAddress, HasSize, HaveSizes};
+ghost use Rattle.rh_rts.specs.Packets.{parts, packet_length, made, bad_destination, as_told};
 ghost use Rattle.rh_rts.specs.declared.fault.PacketFault.TheVariants.{NoMemory};
 
-use crate::command::{ADDRESS_PADDING_LEN, Address4or16, Command, Cookie};
+use crate::command::{ADDRESS_PADDING_LEN, Address4or16, Command, Cookie, GREATEST_DESTINATION};
 use crate::fault::PacketFault;
-use crate::layout::{GREATEST_DESTINATION, TYPE_LEN, fields, layouts};
-use crate::reading::{ALL_FLAGS, HEADER_LEN};
+use crate::header::PACKET_HEADER_LEN;
+use crate::layout::{NUMBER_LEN, fields, layouts};
 use std::alloc::Global;
 use std::marker::Model;
 
@@ -23,13 +22,16 @@ pub const RECYCLE_CHANNEL: u16 = 0x0004;
 pub const IN_CHANNEL: u16 = 0x0008;
 /// The packet is of an OUT channel.
 pub const OUT_CHANNEL: u16 = 0x0010;
-/// The last packet of the channel.
+/// The last packet of a channel in MS-RPCH. Here the packet is of a clean end, behind which RTS
+/// packets may follow (profile).
 pub const EOF: u16 = 0x0020;
 /// The packet answers an echo request.
 pub const ECHO: u16 = 0x0040;
+/// All the flags of a packet, one bit each: any number above has a bit that is no flag.
+pub const ALL_FLAGS: u16 = 0x007F;
 
 /// The greatest length of a packet, in bytes.
-pub const GREATEST_LENGTH: u64 = 65_535;
+pub const GREATEST_PACKET_LENGTH: u64 = 65_535;
 
 /// Flags and commands that can be sent.
 #[derive(Debug, Drop)]
@@ -52,36 +54,26 @@ impl Model for Packet {
 }
 
 impl Packet {
-    ghost use Rattle.std.specs.Prelude.{◌≡◌, IfOk};
-    ghost use Rattle.rh_rts.specs.Packets.{Parts, IsPacket, packet_length, IsMade};
+    ghost use Rattle.rh_rts.specs.Packets.{Parts, IsPacket, IsMade};
 
     /// The packet of these flags and commands, which are copied.
     ///
-    /// Fails with the first of these that is so: a bit outside 0x007F is set; a destination is above
-    /// 3; the sum of the parts is above 65,535 bytes; there is no memory for the copy.
+    /// Fails with the first of these that is so: a bit outside 0x007F is set; a destination is
+    /// above 3; the sum of the parts is above 65,535 bytes; there is no memory for the copy.
     pub fn new(alloc: Global, flags: u16, commands: &[Command]) -> Result<Packet, PacketFault>
-        ensures made { IsMade (record { flags = flags; commands = commands.now }) result }
+        ensures made { IsMade (parts flags commands.now) result }
         ensures sound { IfOk result IsPacket }
     {
-        if flags > ALL_FLAGS {
-            return Err(PacketFault::BadFlags(flags));
-        }
-        if let Some(destination) = bad_destination(commands) {
-            return Err(PacketFault::BadDestination(destination));
-        }
-        let length = length_of(commands);
-        if length > GREATEST_LENGTH {
-            return Err(PacketFault::TooLong(length));
-        }
+        let length = checked_length(flags, commands)?;
         let commands = copy_of(alloc, commands)?;
-        Ok(Packet::of(flags, length as u16, commands))
+        Ok(Packet::of(flags, length, commands))
     }
 
     /// The packet of these parts.
     pub(crate) fn of(flags: u16, length: u16, commands: Vec<Command>) -> Packet
-        requires sound { IsPacket (record { flags = flags; commands = commands.items }) }
-        requires length { length ≡ packet_length (record { flags = flags; commands = commands.items }) }
-        ensures { result ≡ record { flags = flags; commands = commands.items } }
+        requires sound { IsPacket (parts flags commands.items) }
+        requires length { length ≡ packet_length (parts flags commands.items) }
+        ensures { result ≡ parts flags commands.items }
     {
         Packet {
             flags,
@@ -121,6 +113,27 @@ impl Packet {
     }
 }
 
+/// The length of the packet of these flags and commands, or the first reason why there is none.
+fn checked_length(flags: u16, commands: &[Command]) -> Result<u16, PacketFault>
+    ensures length { IfOk result (λ length. length ≡ packet_length (parts flags commands.now)) }
+    ensures size { IfOk result (λ _. HaveSizes commands.now) }
+    ensures verdict { MatchResult result
+        (λ _. made (parts flags commands.now) ≡ Ok (parts flags commands.now))
+        (λ fault. made (parts flags commands.now) ≡ Err fault) }
+{
+    if flags > ALL_FLAGS {
+        return Err(PacketFault::BadFlags(flags));
+    }
+    let length = length_of(commands);
+    if let Some(destination) = bad_destination(commands) {
+        return Err(PacketFault::BadDestination(destination));
+    }
+    if length > GREATEST_PACKET_LENGTH {
+        return Err(PacketFault::TooLong(length));
+    }
+    Ok(length as u16)
+}
+
 /// The commands, each with memory of its own.
 fn copy_of(alloc: Global, commands: &[Command]) -> Result<Vec<Command>, PacketFault>
     ensures { MatchResult result (λ all. all.items ≡ commands.now) (λ fault. fault ≡ NoMemory) }
@@ -148,10 +161,10 @@ fn bad_destination(commands: &[Command]) -> Option<u32>
 
 /// The length of a packet of these commands, in bytes: 2^64 - 1 where it is above that.
 pub fn length_of(commands: &[Command]) -> u64
-    ensures length { result ≡ capped (20 + length (spellings commands.now)) }
+    ensures length { result ≡ as_told (20 + length (spellings commands.now)) }
     ensures size { HaveSizes commands.now }
 {
-    let mut sum = HEADER_LEN as u64;
+    let mut sum = PACKET_HEADER_LEN as u64;
     for command in commands {
         sum = sum.saturating_add(command_length(command));
     }
@@ -185,33 +198,33 @@ fn address_length(address: Address4or16, padding: [u8; ADDRESS_PADDING_LEN]) -> 
         Address4or16::V4(bytes) => bytes.len(),
         Address4or16::V6(bytes) => bytes.len(),
     };
-    (TYPE_LEN + address + padding.len()) as u64
+    (NUMBER_LEN + address + padding.len()) as u64
 }
 
 /// The length of a command, in bytes: 2^64 - 1 where it is above that.
 #[tactic(auto, unfolding(crate::specs::Commands::spelling))]
 fn command_length(command: &Command) -> u64
-    ensures length { result ≡ capped (length (spelling command.now)) }
+    ensures length { result ≡ as_told (length (spelling command.now)) }
     ensures size { HasSize command.now }
 {
     macro_rules! fields_length {
-        (nothing $a:ident $b:ident $c:ident) => { 0 };
-        (number $a:ident $b:ident $c:ident) => { number_length(*$a) };
-        (destination $a:ident $b:ident $c:ident) => { number_length(*$a) };
-        (cookie $a:ident $b:ident $c:ident) => { cookie_length(*$a) };
-        (ack $a:ident $b:ident $c:ident) => {
+        (Nothing $a:ident $b:ident $c:ident) => { 0 };
+        (Number $a:ident $b:ident $c:ident) => { number_length(*$a) };
+        (Destination $a:ident $b:ident $c:ident) => { number_length(*$a) };
+        (Cookie $a:ident $b:ident $c:ident) => { cookie_length(*$a) };
+        (Ack $a:ident $b:ident $c:ident) => {
             number_length(*$a) + number_length(*$b) + cookie_length(*$c)
         };
-        (counted $a:ident $b:ident $c:ident) => { ($a.len() as u64).saturating_add(4) };
-        (address $a:ident $b:ident $c:ident) => { address_length(*$a, *$b) };
+        (Counted $a:ident $b:ident $c:ident) => { ($a.len() as u64).saturating_add(4) };
+        (Address $a:ident $b:ident $c:ident) => { address_length(*$a, *$b) };
     }
     macro_rules! rows {
-        ($($kind:literal $name:ident $layout:ident;)*) => {
+        ($($kind:ident $name:ident $layout:ident $text:literal;)*) => {
             match command {
                 $(fields!(Command $name $layout a b c) => fields_length!($layout a b c),)*
             }
         };
     }
     let fields = layouts!(rows);
-    fields.saturating_add(TYPE_LEN as u64)
+    fields.saturating_add(NUMBER_LEN as u64)
 }

@@ -1,12 +1,13 @@
 -- bytes are told by some text
-use Rattle.std.proofs.Common.{◌≡◌, ◌==◌, ℕ, ◌≤◌, Bool, true, false, inl, inr, List, [], ◌∷◌, ◌++◌, length}
-use Rattle.std.proofs.Common.{refl, arith, slice_index}
-use Rattle.std.proofs.lemmas.Bool.{cases_lt, eqb-true, eq-eqb}
-use Rattle.hex.specs.Hex.{IsBytes}
+use Rattle.std.proofs.Common.{ℕ, inl, inr, List, [], ◌∷◌, ◌++◌, length, refl, arith, slice_index}
+use Rattle.std.proofs.lemmas.Bool.{cases_lt}
+use Rattle.std.proofs.lemmas.Bool.Decides.{eqb_tells}
 use Rattle.hex.proofs.HexLemmas.{decode_of-ok}
 use Rattle.rh_pdu.specs.Header.{header_length, rts}
+use Rattle.rh_rts.specs.Commands.{IsBytes}
 use Rattle.rh_rts.proofs.Verdicts.{some_verdict}
-use Rattle.rh_show.specs.Lines.{PacketsText}
+use Rattle.rh_text.specs.Lines.{Leads, TextOf}
+use Rattle.rh_show.specs.Lines.{packets}
 use Rattle.rh_show.specs.Shown.{IsRts, ShownAs, ShowText, judged_text, pdu_text}
 
 -- some text tells the bytes
@@ -19,22 +20,25 @@ told_rts b fits is = let j = some_verdict b fits in (judged_text j.0, inl (is, (
 told_pdu : (b : List ℕ) → ¬ IsRts b → IsTold b
 told_pdu b other = (pdu_text b, inr (other, refl))
 
-told_whole : (b : List ℕ) → IsBytes b → header_length ≤ length b → (t : Bool) → (slice_index b 2 == rts) ≡ t → IsTold b
-told_whole b fits long true e = told_rts b fits (long, eqb-true _ _ e)
-told_whole b fits long false e = told_pdu b (λ is. let same = eq-eqb _ _ is.1 in absurd cc)
-
-pub told : (b : List ℕ) → IsBytes b → (text : List ℕ) × ShownAs b text
+pub told : (b : List ℕ) → IsBytes b → IsTold b
 told b fits =
     elim (cases_lt (length b) header_length) as (λ _. IsTold b) [
       | inl short ↦ told_pdu b (λ is. omega (arith, short, is.0))
-      | inr long ↦ told_whole b fits long (slice_index b 2 == rts) refl
+      | inr long ↦ elim (eqb_tells (slice_index b 2) rts) as (λ _. IsTold b) [
+        | inl same ↦ told_rts b fits (long, same.1)
+        | inr other ↦ told_pdu b (λ is. other.1 is.1)
+      ]
     ]
 
--- packets that a text spells are told by some lines
-pub show_text : (packets : List (List ℕ)) (text : List ℕ) → PacketsText text packets
-    → (shown : List ℕ) × ShowText packets shown
-show_text [] text h = ([], refl)
-show_text (b ∷ packets) text h =
-    let line = told b (decode_of-ok h.1.spelling b h.1.hex.digits).3 in
-    let more = show_text packets h.0 h.2 in
+-- the packets of lines are told by some lines
+told_lines : (lines : List (List ℕ)) (text rest : List ℕ) → Leads packets tt lines text tt rest
+    → (shown : List ℕ) × ShowText lines shown
+told_lines [] text rest h = ([], refl)
+told_lines (b ∷ lines) text rest h =
+    let line = told b (decode_of-ok h.1.spelling b h.1.spelled.digits).3 in
+    let more = told_lines lines h.0 rest h.2 in
     (line.0 ++ 10 ∷ more.0, (line.0, more.0, line.1, refl, more.1))
+
+pub show_text : (text : List ℕ) (lines : List (List ℕ)) → TextOf packets text lines
+    → (shown : List ℕ) × ShowText lines shown
+show_text text lines h = told_lines lines text [] h.read

@@ -8,17 +8,16 @@ use Rattle.hex.specs.Hex.{encode_lower}
 use Rattle.rh_pdu.specs.declared.fault.PduFault.{PduFault}
 use Rattle.rh_pdu.specs.Header.{header_length, rts, header_of}
 use Rattle.rh_pdu.specs.Checking.{pdu_fault}
+use Rattle.rh_pdu.specs.Texts.{pdu_fault_text}
 use Rattle.rh_rts.specs.declared.command.Address4or16.{Address4or16}
 use Rattle.rh_rts.specs.declared.command.Address4or16.TheVariants.{V4, V6}
 use Rattle.rh_rts.specs.declared.command.Command.{Command}
 use Rattle.rh_rts.specs.declared.command.Command.TheVariants as commands
 use Rattle.rh_rts.specs.declared.fault.RtsFault.{RtsFault}
-use Rattle.rh_rts.specs.declared.fault.RtsKind.{RtsKind}
-use Rattle.rh_rts.specs.declared.fault.RtsKind.TheVariants as kinds
 use Rattle.rh_rts.specs.Packets.{Parts}
 use Rattle.rh_rts.specs.Judging.{Judged}
+use Rattle.rh_rts.specs.Texts.{command_name, fault_text}
 use Rattle.rh_sig.specs.Cookies.{text_of_cookie}
-use Rattle.rh_world.specs.Report.{pdu_fault_text}
 
 -- ---- an RTS packet (MS-RPCH 2.2.3.6)
 
@@ -26,31 +25,13 @@ use Rattle.rh_world.specs.Report.{pdu_fault_text}
 abbrev pub flags_text : ℕ → List ℕ
 flags_text flags = encode_lower (flags / 256 ∷ flags % 256 ∷ [])
 
--- the name of a command (MS-RPCH 2.2.3.5)
-abbrev pub command_name : Command → List ℕ
-command_name (commands.ReceiveWindowSize _) = codes "ReceiveWindowSize"
-command_name (commands.FlowControlAck _ _ _) = codes "FlowControlAck"
-command_name (commands.ConnectionTimeout _) = codes "ConnectionTimeout"
-command_name (commands.Cookie _) = codes "Cookie"
-command_name (commands.ChannelLifetime _) = codes "ChannelLifetime"
-command_name (commands.ClientKeepalive _) = codes "ClientKeepalive"
-command_name (commands.Version _) = codes "Version"
-command_name commands.Empty = codes "Empty"
-command_name (commands.Padding _) = codes "Padding"
-command_name commands.NegativeAnce = codes "NegativeANCE"
-command_name commands.Ance = codes "ANCE"
-command_name (commands.ClientAddress _ _) = codes "ClientAddress"
-command_name (commands.AssociationGroupId _) = codes "AssociationGroupId"
-command_name (commands.Destination _) = codes "Destination"
-command_name (commands.PingTrafficSentNotify _) = codes "PingTrafficSentNotify"
-
 -- a number in decimal, with a space before it
 abbrev pub number_text : ℕ → List ℕ
 number_text n = codes " " ++ decimal n
 
 -- a cookie or a group's id, with a space before it
-abbrev pub cookie_value : List ℕ → List ℕ
-cookie_value bytes = codes " " ++ text_of_cookie bytes
+abbrev pub id_text : List ℕ → List ℕ
+id_text bytes = codes " " ++ text_of_cookie bytes
 
 -- bytes as hex digits, with a space before them
 abbrev pub bytes_text : List ℕ → List ℕ
@@ -70,9 +51,9 @@ address_text (V6 bytes) = codes " 1" ++ bytes_text bytes
 abbrev pub values_text : Command → List ℕ
 values_text (commands.ReceiveWindowSize n) = number_text n
 values_text (commands.FlowControlAck received window cookie) =
-    number_text received ++ number_text window ++ cookie_value cookie.0
+    number_text received ++ number_text window ++ id_text cookie.0
 values_text (commands.ConnectionTimeout n) = number_text n
-values_text (commands.Cookie cookie) = cookie_value cookie.0
+values_text (commands.Cookie cookie) = id_text cookie.0
 values_text (commands.ChannelLifetime n) = number_text n
 values_text (commands.ClientKeepalive n) = number_text n
 values_text (commands.Version n) = number_text n
@@ -81,7 +62,7 @@ values_text (commands.Padding bytes) = padding_text bytes
 values_text commands.NegativeAnce = []
 values_text commands.Ance = []
 values_text (commands.ClientAddress address padding) = address_text address ++ bytes_text padding
-values_text (commands.AssociationGroupId cookie) = cookie_value cookie.0
+values_text (commands.AssociationGroupId cookie) = id_text cookie.0
 values_text (commands.Destination n) = number_text n
 values_text (commands.PingTrafficSentNotify n) = number_text n
 
@@ -98,25 +79,10 @@ commands_text (c ∷ cs) = codes " " ++ command_text c ++ commands_text cs
 abbrev pub packet_text : Parts → List ℕ
 packet_text p = codes "rts " ++ flags_text p.flags ++ commands_text p.commands
 
--- what is wrong with the bytes of an RTS packet
-abbrev pub kind_text : RtsKind → List ℕ
-kind_text kinds.BadHeader = codes "BadHeader"
-kind_text kinds.BadLength = codes "BadLength"
-kind_text kinds.BadFlags = codes "BadFlags"
-kind_text kinds.CutShort = codes "CutShort"
-kind_text kinds.BadType = codes "BadType"
-kind_text kinds.BadAddressType = codes "BadAddressType"
-kind_text kinds.BadCount = codes "BadCount"
-kind_text kinds.Left = codes "Left"
-
--- a fault: its kind, and how many bytes stand before it
-abbrev pub rts_fault_text : RtsFault → List ℕ
-rts_fault_text wrong = codes "fault " ++ kind_text wrong.kind ++ codes " " ++ decimal wrong.place
-
 -- the packet, or the first part that is wrong
 abbrev pub judged_text : Result Parts RtsFault → List ℕ
 judged_text (Ok p) = packet_text p
-judged_text (Err wrong) = rts_fault_text wrong
+judged_text (Err wrong) = fault_text wrong
 
 -- ---- another PDU (C706 12.6.3.1)
 

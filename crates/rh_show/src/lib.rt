@@ -2,7 +2,6 @@
 #![tactic(auto)]
 
 mod commands;
-mod cookies;
 pub mod laws;
 pub mod reader;
 pub mod showing;
@@ -10,5 +9,5 @@ pub mod showing;
 mod tests;
 
 pub use laws::one_text;
-pub use reader::LineReader;
+pub use reader::{LineReader, Packets};
 pub use showing::show_packet;

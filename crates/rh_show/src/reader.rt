@@ -1,18 +1,54 @@
 //! Reads the lines of a text of packets: hex digits, two for each byte.
 
-ghost use Rattle.std.specs.Prelude.{◌≡◌, ◌≤◌, ℕ, List, length, take, vec_len, IfSome, None};
-ghost use Rattle.rh_show.specs.Lines.{IsPacketHex, most_bytes};
+ghost use Rattle.std.specs.Prelude.{◌≡◌, vec_len};
+ghost use Rattle.rh_show.specs.declared.reader.TheConstants.{MOST_BYTES};
 
+use rh_text::digits::decode_hex;
+use rh_text::{Bytes, Grammar, is_hex};
 use std::alloc::{AllocError, Global};
 
-/// The most bytes that a line spells.
+/// The most bytes that a line spells (profile).
 pub const MOST_BYTES: usize = 65_535;
+
+/// The grammar of texts of packets: lines of hex that spell 1 to 65,535 bytes each.
+#[derive(Clone, Copy, Debug)]
+pub struct Packets;
+
+impl Grammar for Packets {
+    ghost use Rattle.rh_show.specs.Lines.{packets};
+    ghost use Rattle.rh_show.specs.Readings.{one_packet_at, no_empty};
+
+    type Place = ();
+
+    type Line = Bytes;
+
+    ghost rules = { packets };
+
+    fn first_place() {}
+
+    fn may_end(_: ()) -> bool {
+        true
+    }
+
+    /// Decodes nothing, and takes no memory.
+    fn judge_line(text: &[u8], _: ()) -> Option<()> {
+        if is_hex(text, MOST_BYTES) {
+            Some(())
+        } else {
+            None
+        }
+    }
+
+    ghost one = { one_packet_at };
+
+    ghost some = { no_empty };
+}
 
 /// Reads lines of hex, one after the other, with one room for the bytes of a line.
 #[derive(Debug, Drop)]
 pub struct LineReader {
     room: Vec<u8>,
-    ghost size: { vec_len room ≡ 65535 },
+    ghost size: { vec_len room ≡ MOST_BYTES },
 }
 
 impl LineReader {
@@ -35,24 +71,7 @@ impl LineReader {
         ensures { MatchOption result ((bytes : List ℕ) → ¬ IsPacketHex line.now bytes)
             (λ bytes. IsPacketHex line.now bytes.now) }
     {
-        let count = decode_line(line, self.room.as_mut_slice())?;
+        let count = decode_hex(line, self.room.as_mut_slice())?;
         Some(&self.room[..count])
-    }
-}
-
-/// Writes the 1 to 65,535 bytes that the line spells to the front of the room, and tells how many.
-fn decode_line(line: &[u8], room: &mut [u8]) -> Option<usize>
-    requires { length room.old ≡ most_bytes }
-    ensures some { IfSome result (λ count. IsPacketHex line.now (take count room.new)) }
-    ensures within { IfSome result (λ count. count ≤ most_bytes) }
-    ensures none { result ≡ None → (bytes : List ℕ) → ¬ IsPacketHex line.now bytes }
-{
-    let count = line.len() / 2;
-    if count == 0 || count > MOST_BYTES {
-        return None;
-    }
-    match hex::decode_to_slice(line, &mut room[..count]) {
-        Ok(()) => Some(count),
-        Err(_) => None,
     }
 }

@@ -1,26 +1,26 @@
 //! Shows a packet in one line.
 
-ghost use Rattle.std.specs.Prelude.{◌≡◌, ◌++◌, ◌∷◌, [], List, ℕ, OnOk, string_bytes};
+ghost use Rattle.std.specs.Prelude.{◌≡◌, ◌++◌, ◌∷◌, [], List, ℕ, string_bytes};
 ghost use Rattle.rh_pdu.specs.Header.{header_of};
 ghost use Rattle.rh_pdu.specs.Frames.{IsPdu};
-ghost use Rattle.rh_show.specs.Shown.{IsRts, RtsText, ShownAs, pdu_text};
+ghost use Rattle.rh_text.specs.Writing.{Writes};
+ghost use Rattle.rh_show.specs.Shown.{RtsText, ShownAs, pdu_text};
 
-use crate::commands::{write_packet, write_rts_fault};
+use crate::commands::write_packet;
 use rh_pdu::header::{HEADER_LEN, RTS};
-use rh_pdu::{Header, check};
+use rh_pdu::{Header, check, write_pdu_fault};
 use rh_rts::view;
-use rh_world::write_pdu_fault;
+use rh_text::{Part, write_parts};
 use std::alloc::AllocError;
-use std::fmt::Write;
 
 /// Appends an RTS packet, or the first part that is wrong.
 fn write_rts(bytes: &[u8], out: &mut String) -> Result<(), AllocError>
-    ensures { OnOk result ((text : List ℕ) × RtsText bytes.now text
-        × (string_bytes out.new ≡ string_bytes out.old ++ text)) }
+    ensures { (text : List ℕ) × RtsText bytes.now text
+        × Writes text result (string_bytes out.old) (string_bytes out.new) }
 {
     match view(bytes) {
         Ok(packet) => write_packet(&packet, out),
-        Err(fault) => write_rts_fault(fault, out),
+        Err(fault) => fault.write(out),
     }
 }
 
@@ -40,20 +40,24 @@ fn read_header(bytes: &[u8]) -> Header
 
 /// Appends the fields of a PDU's header, or what is wrong with the PDU first.
 fn write_pdu(bytes: &[u8], out: &mut String) -> Result<(), AllocError>
-    ensures { OnOk result (string_bytes out.new ≡ string_bytes out.old ++ pdu_text bytes.now) }
+    ensures { Writes (pdu_text bytes.now) result (string_bytes out.old) (string_bytes out.new) }
 {
     if let Err(fault) = check(bytes) {
         out.push_str("fault ")?;
         return write_pdu_fault(fault, out);
     }
     let header = read_header(bytes);
-    write!(out, "rpc {} {} {}", header.ptype, header.frag, header.call)
+    let ptype = Part::Number(u64::from(header.ptype));
+    let frag = Part::Number(u64::from(header.frag));
+    let call = Part::Number(u64::from(header.call));
+    let space = Part::Text(" ");
+    write_parts(&[Part::Text("rpc "), ptype, space, frag, space, call], out)
 }
 
 /// Appends the text that tells the bytes.
 fn write_shown(bytes: &[u8], out: &mut String) -> Result<(), AllocError>
-    ensures { OnOk result ((text : List ℕ) × ShownAs bytes.now text
-        × (string_bytes out.new ≡ string_bytes out.old ++ text)) }
+    ensures { (text : List ℕ) × ShownAs bytes.now text
+        × Writes text result (string_bytes out.old) (string_bytes out.new) }
 {
     if bytes.len() >= HEADER_LEN && bytes[2] == RTS {
         write_rts(bytes, out)
@@ -64,14 +68,14 @@ fn write_shown(bytes: &[u8], out: &mut String) -> Result<(), AllocError>
 
 /// Appends the one line that tells the bytes, with LF at its end.
 ///
-/// An RTS packet, which has a whole header of PTYPE 20, is told with its flags and each command with
-/// its values, or by its first fault and the fault's place (MS-RPCH 2.2.3.6). Any other PDU is told
-/// with its PTYPE, frag_length and call_id, or by its fault (C706 12.6.3.1).
+/// An RTS packet, which has a whole header of PTYPE 20, is told with its flags and each command
+/// with its values, or by its first fault and the fault's place (MS-RPCH 2.2.3.6). Any other PDU is
+/// told with its PTYPE, frag_length and call_id, or by its fault (C706 12.6.3.1).
 ///
-/// Fails where there is no memory, and a part of the line may then stand in `out`.
+/// Fails where there is no memory; a front of the line may stand in `out` then, and nothing else.
 pub fn show_packet(bytes: &[u8], out: &mut String) -> Result<(), AllocError>
-    ensures { OnOk result ((line : List ℕ) × ShownAs bytes.now line
-        × (string_bytes out.new ≡ string_bytes out.old ++ (line ++ 10 ∷ []))) }
+    ensures { (line : List ℕ) × ShownAs bytes.now line
+        × Writes (line ++ 10 ∷ []) result (string_bytes out.old) (string_bytes out.new) }
 {
     write_shown(bytes, out)?;
     out.push_str("\n")

@@ -31,12 +31,7 @@ pipe_at n =
 placed : (p : Pipe) → pipe_at (place p) ≡ p
 unfolding pipe_at
 placed CiU = refl
-placed IsU = refl
-placed IsD = refl
-placed CoU = refl
-placed CoD = refl
-placed OsU = refl
-placed OsD = refl
+placed p = refl
 
 pub same_place : (p q : Pipe) → place p ≡ place q → p ≡ q
 same_place p q e = sym (placed p) ∙ ap pipe_at e ∙ placed q

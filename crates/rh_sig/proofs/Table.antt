@@ -1,6 +1,6 @@
 -- the table, and looking a name up in it
 use Rattle.std.proofs.Common.{◌≡◌, ℕ, ◌<◌, List, [], ◌∷◌, length, Bool, true, false, refl, sym, ap}
-use Rattle.std.proofs.Common.{◌∙◌, inl, inr, arith, subst, if◌then◌else◌}
+use Rattle.std.proofs.Common.{◌∙◌, arith, subst, if◌then◌else◌}
 use Rattle.std.specs.Prelude.{◌==◌, ◌&&◌, Some, None, MatchOption}
 use Rattle.std.specs.declared.option.Option.{Option}
 use Rattle.std.specs.List.{Contains}
@@ -11,12 +11,14 @@ use Rattle.std.proofs.lemmas.Slice.Eq.{bytes_eq-Decides}
 use Rattle.rh_rts.specs.Packets.{Parts}
 use Rattle.rh_sig.specs.declared.name.Name.{Name}
 use Rattle.rh_sig.specs.declared.name.Pipe.{Pipe}
-use Rattle.rh_sig.specs.Names.{Row, table, IsNamed, IsNameless}
-use Rattle.rh_sig.specs.Looking.{found, fits, carries}
+use Rattle.rh_sig.specs.declared.name.Name.TheVariants.{ConnA1}
+use Rattle.rh_sig.specs.declared.name.Pipe.TheVariants.{CiU, IsU, IsD, CoU, CoD, OsU, OsD}
+use Rattle.rh_sig.specs.Names.{row_of, IsNamed, IsNameless}
+use Rattle.rh_sig.specs.Looking.{names, found, fits, carries}
 use Rattle.rh_rts.specs.Commands.{kind_of}
-use Rattle.rh_sig.specs.Names.{kinds, unpadded}
-use Rattle.rh_sig.proofs.Again.{types_of, flags_of, seven_types}
-use Rattle.rh_sig.proofs.Members.{in_front, behind, which, in_none, carried, carrying}
+use Rattle.rh_sig.specs.Names.{types_of, unpadded}
+use Rattle.rh_sig.proofs.Again.{seven_types}
+use Rattle.rh_sig.proofs.Members.{carried, carrying}
 
 -- ---- the test of a row
 
@@ -31,117 +33,106 @@ fitting flags told types ks e =
     let h = both (flags == told) (bytes_eq types ks) e in
     (eqb-true _ _ h.0, (bytes_eq-Decides types ks).0 h.1)
 
-pub fits_so : (flags told : ℕ) (types ks : List ℕ) → flags ≡ told → types ≡ ks → fits flags types told ks ≡ true
+pub fits_so : (flags told : ℕ) (types ks : List ℕ) → flags ≡ told → types ≡ ks
+    → fits flags types told ks ≡ true
 unfolding fits
 fits_so flags told types ks same alike =
     rw (eq-eqb flags told same) ((bytes_eq-Decides types ks).1 alike)
 
--- a row of these rows, which lists the pipe and has these flags and types
-pub record IsRow (rs : List Row) (pipe : Pipe) (told : ℕ) (ks : List ℕ) (r : Row) : Type 0 where
-  pub listed : Contains rs r
-  pub carried : Contains r.pipes pipe
-  pub flags : r.flags ≡ told
-  pub types : r.types ≡ ks
+-- ---- what is found
 
--- and with the name
-abbrev pub Finds : List Row → Pipe → ℕ → List ℕ → Option Name → Type 0
-Finds rs pipe told ks (Some name) = (r : Row) × IsRow rs pipe told ks r × (r.name ≡ name)
-Finds rs pipe told ks None = (r : Row) → IsRow rs pipe told ks r → ⊥
+-- the row of the name lists the pipe and has these flags and types
+pub record IsRow (name : Name) (pipe : Pipe) (told : ℕ) (ks : List ℕ) : Type 0 where
+  pub carried : Contains (row_of name).pipes pipe
+  pub flags : (row_of name).flags ≡ told
+  pub types : (row_of name).types ≡ ks
 
-further : (r s : Row) (rs : List Row) (pipe : Pipe) (told : ℕ) (ks : List ℕ) → IsRow rs pipe told ks s
-    → IsRow (r ∷ rs) pipe told ks s
-further r s rs pipe told ks h =
-    record { listed = behind r s rs h.listed; carried = h.carried; flags = h.flags; types = h.types }
+some_same : {X : Type 0} (x y : X) → Some x ≡ Some y → x ≡ y
+some_same x y e = cc
 
-front_row : (r s : Row) (rs : List Row) (pipe : Pipe) (told : ℕ) (ks : List ℕ) → r ≡ s
-    → IsRow (r ∷ rs) pipe told ks s → IsRow (r ∷ rs) pipe told ks r
-front_row r s rs pipe told ks same is = subst (λ (x : Row). IsRow (r ∷ rs) pipe told ks x) (sym same) is
+found_by : (n : Name) (ns : List Name) (pipe : Pipe) (told : ℕ) (ks : List ℕ) (name : Name)
+    (t : Bool)
+    → (carries (row_of n).pipes pipe && fits (row_of n).flags (row_of n).types told ks) ≡ t
+    → (found ns pipe told ks ≡ Some name → IsRow name pipe told ks)
+    → (if t then Some n else found ns pipe told ks) ≡ Some name → IsRow name pipe told ks
+found_by n ns pipe told ks name true is more e =
+    let h = both (carries (row_of n).pipes pipe)
+    (fits (row_of n).flags (row_of n).types told ks) is in
+    let f = fitting (row_of n).flags told (row_of n).types ks h.1 in
+    subst (λ (x : Name). IsRow x pipe told ks) (some_same n name e)
+    (record { carried = carried (row_of n).pipes pipe h.0; flags = f.0; types = f.1 })
+found_by n ns pipe told ks name false is more e = more e
 
-misfit : (r : Row) (rs : List Row) (pipe : Pipe) (told : ℕ) (ks : List ℕ)
-    → (carries r.pipes pipe && fits r.flags r.types told ks) ≡ false
-    → IsRow (r ∷ rs) pipe told ks r → ⊥
-misfit r rs pipe told ks unfit is =
-    let carried = carrying r.pipes pipe is.carried in
-    let fit = fits_so r.flags told r.types ks is.flags is.types in
-    let yes : (carries r.pipes pipe && fits r.flags r.types told ks) ≡ true = rw carried fit in
-    absurd cc
+found_fits : (ns : List Name) (pipe : Pipe) (told : ℕ) (ks : List ℕ) (name : Name)
+    → found ns pipe told ks ≡ Some name → IsRow name pipe told ks
+found_fits [] pipe told ks name e = absurd cc
+found_fits (n ∷ ns) pipe told ks name e =
+    found_by n ns pipe told ks name _ refl (found_fits ns pipe told ks name) e
 
-further_found : (r : Row) (rs : List Row) (pipe : Pipe) (told : ℕ) (ks : List ℕ) (o : Option Name)
-    → (carries r.pipes pipe && fits r.flags r.types told ks) ≡ false → Finds rs pipe told ks o
-    → Finds (r ∷ rs) pipe told ks o
-further_found r rs pipe told ks (Some name) unfit (s, is, named) = (s, further r s rs pipe told ks is, named)
-further_found r rs pipe told ks None unfit h = λ s is.
-    elim (which r s rs is.listed) [
-      | inl same ↦ absurd (misfit r rs pipe told ks unfit (front_row r s rs pipe told ks same is))
-      | inr more ↦ h s (record { listed = more; carried = is.carried; flags = is.flags; types = is.types })
-    ]
+-- the search for the flags and types of a name, on a pipe that carries it
+abbrev IsFound : Pipe → Name → Type 0
+IsFound pipe name =
+    (if carries (row_of name).pipes pipe
+    then found names pipe (row_of name).flags (row_of name).types else Some name) ≡ Some name
 
-finds_step : (r : Row) (rs : List Row) (pipe : Pipe) (told : ℕ) (ks : List ℕ) (t : Bool)
-    → (carries r.pipes pipe && fits r.flags r.types told ks) ≡ t → Finds rs pipe told ks (found rs pipe told ks)
-    → Finds (r ∷ rs) pipe told ks (if t then Some r.name else found rs pipe told ks)
-finds_step r rs pipe told ks true is more =
-    let h = both (carries r.pipes pipe) (fits r.flags r.types told ks) is in
-    let f = fitting r.flags told r.types ks h.1 in
-    (r, record { listed = in_front r rs; carried = carried r.pipes pipe h.0; flags = f.0; types = f.1 }, refl)
-finds_step r rs pipe told ks false is more = further_found r rs pipe told ks (found rs pipe told ks) is more
+-- it finds that name: the law over the table, computed once for each pipe and name
+is_found : (pipe : Pipe) (name : Name) → IsFound pipe name
+unfolding names fits
+is_found CiU ConnA1 = refl
+is_found CiU name = refl
+is_found IsU ConnA1 = refl
+is_found IsU name = refl
+is_found IsD ConnA1 = refl
+is_found IsD name = refl
+is_found CoU ConnA1 = refl
+is_found CoU name = refl
+is_found CoD ConnA1 = refl
+is_found CoD name = refl
+is_found OsU ConnA1 = refl
+is_found OsU name = refl
+is_found OsD ConnA1 = refl
+is_found OsD name = refl
 
--- the search finds a row of that name, or there is none
-pub finds : (rs : List Row) (pipe : Pipe) (told : ℕ) (ks : List ℕ) → Finds rs pipe told ks (found rs pipe told ks)
-finds [] pipe told ks = λ r is. in_none r is.listed
-finds (r ∷ rs) pipe told ks =
-    finds_step r rs pipe told ks (carries r.pipes pipe && fits r.flags r.types told ks) refl (finds rs pipe told ks)
+on_pipe : {X : Type 0} (t : Bool) (x y z : X) → t ≡ true → (if t then x else y) ≡ z → x ≡ z
+on_pipe true x y z carried e = e
+on_pipe false x y z carried e = absurd cc
 
--- so the packet has that name, or none
-pub named_so : (p : Parts) (pipe : Pipe) (o : Option Name) → Finds table pipe p.flags (kinds (unpadded p.commands)) o
+-- so it finds the one name of the flags and types
+pub row_found : (name : Name) (pipe : Pipe) (told : ℕ) (ks : List ℕ) → IsRow name pipe told ks
+    → found names pipe told ks ≡ Some name
+row_found name pipe told ks is =
+    ap (λ (flags : ℕ). found names pipe flags ks) (sym is.flags)
+    ∙ ap (λ (types : List ℕ). found names pipe (row_of name).flags types) (sym is.types)
+    ∙ on_pipe _ _ _ _ (carrying (row_of name).pipes pipe is.carried) (is_found pipe name)
+
+pub one_row : (pipe : Pipe) (told : ℕ) (ks : List ℕ) (a b : Name) → IsRow a pipe told ks
+    → IsRow b pipe told ks
+    → a ≡ b
+one_row pipe told ks a b x y =
+    some_same a b (sym (row_found a pipe told ks x) ∙ row_found b pipe told ks y)
+
+-- ---- the name of a packet
+
+pub row_in : (p : Parts) (pipe : Pipe) (name : Name) → IsNamed p pipe name
+    → IsRow name pipe p.flags (types_of (unpadded p.commands))
+row_in p pipe name is = record { carried = is.carried; flags = is.flags; types = is.types }
+
+none_some : (name : Name) → None ≡ Some name → ⊥
+none_some name e = absurd cc
+
+-- the packet has the name that is found, or none
+pub named_by : (p : Parts) (pipe : Pipe) (o : Option Name)
+    → o ≡ found names pipe p.flags (types_of (unpadded p.commands))
     → MatchOption o (IsNameless p pipe) (λ name. IsNamed p pipe name)
-named_so p pipe (Some name) (r, is, named) =
-    record { row = r; listed = is.listed; named = named; carried = is.carried; flags = is.flags; types = is.types }
-named_so p pipe None h = λ name is.
-    h is.row (record { listed = is.listed; carried = is.carried; flags = is.flags; types = is.types })
-
-pub named_by : (p : Parts) (pipe : Pipe) (o : Option Name) → o ≡ found table pipe p.flags (kinds (unpadded p.commands))
-    → MatchOption o (IsNameless p pipe) (λ name. IsNamed p pipe name)
-named_by p pipe o is =
-    let ks = kinds (unpadded p.commands) in
-    named_so p pipe o
-    (subst (λ (x : Option Name). Finds table pipe p.flags ks x) (sym is) (finds table pipe p.flags ks))
-
--- ---- what each row has
-
--- whether a row has the flags and types that its name has
-is_typed : Row → Bool
-is_typed r = fits r.flags r.types (flags_of r.name) (types_of r.name)
-
-are_typed : List Row → Bool
-are_typed [] = true
-are_typed (r ∷ rs) = is_typed r && are_typed rs
-
--- computed once
-table_typed : are_typed table ≡ true
-unfolding are_typed is_typed table fits
-table_typed = refl
-
-typed_in : (rs : List Row) (r : Row) → are_typed rs ≡ true → Contains rs r → is_typed r ≡ true
-unfolding are_typed
-typed_in [] r e in_it = absurd (in_none r in_it)
-typed_in (q ∷ rs) r e in_it =
-    let h = both (is_typed q) (are_typed rs) e in
-    elim (which q r rs in_it) [
-      | inl same ↦ subst (λ (x : Row). is_typed x ≡ true) same h.0
-      | inr more ↦ typed_in rs r h.1 more
-    ]
-
-pub row_typed : (r : Row) → Contains table r → (r.flags ≡ flags_of r.name) × (r.types ≡ types_of r.name)
-unfolding is_typed
-row_typed r in_it = fitting r.flags (flags_of r.name) r.types (types_of r.name) (typed_in table r table_typed in_it)
-
--- a named packet has the types of its name
-pub named_types : (p : Parts) (pipe : Pipe) (name : Name) → IsNamed p pipe name
-    → kinds (unpadded p.commands) ≡ types_of name
-named_types p pipe name is = sym is.types ∙ (row_typed is.row is.listed).1 ∙ ap types_of is.named
+named_by p pipe (Some name) is =
+    let row = found_fits names pipe p.flags (types_of (unpadded p.commands)) name (sym is) in
+    record { carried = row.carried; flags = row.flags; types = row.types }
+named_by p pipe None is = λ name named.
+    none_some name (is ∙ row_found name pipe p.flags (types_of (unpadded p.commands))
+    (row_in p pipe name named))
 
 -- a packet of more than seven commands has no name
 pub too_many : (p : Parts) (pipe : Pipe) → 7 < length (unpadded p.commands) → IsNameless p pipe
 too_many p pipe more = λ name is.
-    let same = ap length (named_types p pipe name is) in
+    let same = ap length is.types in
     absurd (omega (arith, more, seven_types name, same, length-map (unpadded p.commands) kind_of))

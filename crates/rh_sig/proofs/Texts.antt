@@ -13,7 +13,8 @@ unfolding text_of_cookie by_index
 at_places a b c d e f g h i j k l m n o p = refl
 
 -- the list from a place on, where it is known from the next one on
-from : (b rest : List ℕ) (i : ℕ) → i < length b → drop (i + 1) b ≡ rest → drop i b ≡ slice_index b i ∷ rest
+from : (b rest : List ℕ) (i : ℕ) → i < length b → drop (i + 1) b ≡ rest
+    → drop i b ≡ slice_index b i ∷ rest
 from b rest i inside is = drop_more b i 0 inside ∙ ap (λ (x : List ℕ). slice_index b i ∷ x) is
 
 -- a list of sixteen is its elements
@@ -42,7 +43,8 @@ sixteen b is =
     let e0 = from b _ 0 (omega (arith, is)) e1 in
     e0
 
-pub by_places : (bytes : List ℕ) → length bytes ≡ 16 → hyphenated_text lower bytes ≡ text_of_cookie bytes
+pub by_places : (bytes : List ℕ) → length bytes ≡ 16
+    → hyphenated_text lower bytes ≡ text_of_cookie bytes
 by_places b is =
     let e = sixteen b is in
     ap (λ (x : List ℕ). hyphenated_text lower x) e

@@ -14,5 +14,6 @@ group at count bytes = digits (take count (drop at bytes))
 -- the bytes in their order, in groups of 4, 2, 2, 2 and 6
 unfoldable pub text_of_cookie : List ℕ → List ℕ
 text_of_cookie bytes =
-    group 0 4 bytes ++ (codes "-" ++ (group 4 2 bytes ++ (codes "-" ++ (group 6 2 bytes ++ (codes "-"
+    group 0 4 bytes ++ (codes "-" ++
+    (group 4 2 bytes ++ (codes "-" ++ (group 6 2 bytes ++ (codes "-"
     ++ (group 8 2 bytes ++ (codes "-" ++ group 10 6 bytes)))))))

@@ -1,4 +1,5 @@
--- the names of packets: those of opening, flow control and pings (MS-RPCH 2.2.4), and the profile's own of
+-- the names of packets: those of opening, flow control and pings (MS-RPCH 2.2.4), and the profile's
+-- own of
 -- replacement and of a clean end, after the same pattern
 use Rattle.std.specs.Prelude.{◌≡◌, ◌+◌, ℕ, List, [], ◌∷◌}
 use Rattle.std.specs.Prelude.{map}
@@ -16,14 +17,19 @@ use Rattle.rh_sig.specs.declared.name.Pipe.{Pipe}
 use Rattle.rh_sig.specs.declared.name.Pipe.TheVariants.{CiU, IsU, IsD, CoU, CoD, OsU, OsD}
 use Rattle.rh_rts.specs.declared.command.Command.{Command}
 use Rattle.rh_rts.specs.declared.command.Command.TheVariants as commands
-use Rattle.rh_rts.specs.Commands.{kind_of, version, cookie, receive_window_size, connection_timeout}
-use Rattle.rh_rts.specs.Commands.{channel_lifetime, client_keepalive, association_group_id, client_address}
-use Rattle.rh_rts.specs.Commands.{destination, flow_control_ack, ping_traffic_sent_notify, empty, ance}
+use Rattle.rh_rts.specs.Commands.{kind_of}
 use Rattle.rh_rts.specs.Packets.{Parts}
+use Rattle.rh_rts.specs.declared.kinds.TheConstants.{VERSION, COOKIE, RECEIVE_WINDOW_SIZE, EMPTY, ANCE}
+use Rattle.rh_rts.specs.declared.kinds.TheConstants.{CONNECTION_TIMEOUT, CHANNEL_LIFETIME, DESTINATION}
+use Rattle.rh_rts.specs.declared.kinds.TheConstants.{CLIENT_KEEPALIVE, ASSOCIATION_GROUP_ID, CLIENT_ADDRESS}
+use Rattle.rh_rts.specs.declared.kinds.TheConstants.{FLOW_CONTROL_ACK, PING_TRAFFIC_SENT_NOTIFY}
+use Rattle.rh_rts.specs.declared.packet.TheConstants.{PING, OTHER_CMD, RECYCLE_CHANNEL}
+use Rattle.rh_rts.specs.declared.packet.TheConstants.{IN_CHANNEL, OUT_CHANNEL, EOF}
+use Rattle.rh_sig.specs.declared.rows.TheConstants.{NONE}
 
 -- the types of commands, in their order
-abbrev pub kinds : List Command → List ℕ
-kinds cs = map kind_of cs
+abbrev pub types_of : List Command → List ℕ
+types_of cs = map kind_of cs
 
 -- the commands without those of type Padding
 abbrev pub unpadded : List Command → List Command
@@ -31,104 +37,82 @@ unpadded [] = []
 unpadded (commands.Padding bytes ∷ cs) = unpadded cs
 unpadded (c ∷ cs) = c ∷ unpadded cs
 
--- ---- the flags (MS-RPCH 2.2.3.6)
-
-abbrev pub none : ℕ
-none = 0x00
-
-abbrev pub ping : ℕ
-ping = 0x01
-
-abbrev pub other_cmd : ℕ
-other_cmd = 0x02
-
-abbrev pub recycle_channel : ℕ
-recycle_channel = 0x04
-
-abbrev pub in_channel : ℕ
-in_channel = 0x08
-
-abbrev pub out_channel : ℕ
-out_channel = 0x10
-
-abbrev pub eof : ℕ
-eof = 0x20
-
 -- ---- the table
 
--- a packet's name, the pipes that carry it, its flags and the types of its commands
+-- the pipes that carry a packet, its flags and the types of its commands
 pub record Row : Type 0 where
-  pub name : Name
   pub pipes : List Pipe
   pub flags : ℕ
   pub types : List ℕ
 
-abbrev pub row : Name → List Pipe → ℕ → List ℕ → Row
-row name pipes flags types = record { name = name; pipes = pipes; flags = flags; types = types }
+abbrev pub row : List Pipe → ℕ → List ℕ → Row
+row pipes flags types = record { pipes = pipes; flags = flags; types = types }
 
--- the named packets: opening, replacement of an IN and of an OUT channel, clean end, and what may come again
-unfoldable pub table : List Row
-table =
-    row ConnA1 (CoU ∷ []) none (version ∷ cookie ∷ cookie ∷ receive_window_size ∷ [])
-    ∷ row ConnA2 (OsU ∷ []) out_channel
-    (version ∷ cookie ∷ cookie ∷ channel_lifetime ∷ receive_window_size ∷ [])
-    ∷ row ConnA3 (CoD ∷ []) none (connection_timeout ∷ [])
-    ∷ row ConnB1 (CiU ∷ []) none
-    (version ∷ cookie ∷ cookie ∷ channel_lifetime ∷ client_keepalive ∷ association_group_id ∷ [])
-    ∷ row ConnB2 (IsU ∷ []) in_channel
-    (version ∷ cookie ∷ cookie ∷ receive_window_size ∷ connection_timeout ∷ association_group_id
-    ∷ client_address ∷ [])
-    ∷ row ConnB3 (IsD ∷ []) none (receive_window_size ∷ version ∷ [])
-    ∷ row ConnC1 (OsD ∷ []) none (version ∷ receive_window_size ∷ connection_timeout ∷ [])
-    ∷ row ConnC2 (CoD ∷ []) none (version ∷ receive_window_size ∷ connection_timeout ∷ [])
-    ∷ row InR1A1 (CiU ∷ []) recycle_channel (version ∷ cookie ∷ cookie ∷ cookie ∷ [])
-    ∷ row InR1A2 (IsU ∷ []) (in_channel + recycle_channel)
-    (version ∷ cookie ∷ cookie ∷ cookie ∷ receive_window_size ∷ connection_timeout ∷ [])
-    ∷ row InR1A3 (OsD ∷ []) none (destination ∷ version ∷ receive_window_size ∷ connection_timeout ∷ [])
-    ∷ row InR1A4 (CoD ∷ []) none (destination ∷ version ∷ receive_window_size ∷ connection_timeout ∷ [])
-    ∷ row InR1A5 (CiU ∷ []) none (cookie ∷ [])
-    ∷ row InR1A6 (IsU ∷ []) none (cookie ∷ [])
-    ∷ row InR1B1 (IsD ∷ []) none (empty ∷ [])
-    ∷ row InR1B2 (IsD ∷ []) none (receive_window_size ∷ [])
-    ∷ row OutR1A1 (OsD ∷ []) recycle_channel (destination ∷ [])
-    ∷ row OutR1A2 (CoD ∷ []) recycle_channel (destination ∷ [])
-    ∷ row OutR1A3 (CoU ∷ []) recycle_channel (version ∷ cookie ∷ cookie ∷ cookie ∷ receive_window_size ∷ [])
-    ∷ row OutR2C1 (CoU ∷ []) ping (empty ∷ [])
-    ∷ row OutR1A4 (OsU ∷ []) (out_channel + recycle_channel)
-    (version ∷ cookie ∷ cookie ∷ cookie ∷ channel_lifetime ∷ receive_window_size
-    ∷ connection_timeout ∷ [])
-    ∷ row OutR1A5 (OsD ∷ []) out_channel (destination ∷ version ∷ connection_timeout ∷ [])
-    ∷ row OutR1A6 (CoD ∷ []) out_channel (destination ∷ version ∷ connection_timeout ∷ [])
-    ∷ row OutR1A7 (CiU ∷ []) out_channel (destination ∷ cookie ∷ [])
-    ∷ row OutR1A8 (IsU ∷ []) out_channel (destination ∷ cookie ∷ [])
-    ∷ row OutR1A9 (OsD ∷ []) none (ance ∷ [])
-    ∷ row OutR1A10 (CoD ∷ []) none (ance ∷ [])
-    ∷ row EndA1 (CiU ∷ []) eof (empty ∷ [])
-    ∷ row EndA2 (IsU ∷ []) eof (empty ∷ [])
-    ∷ row EndB1 (OsD ∷ []) eof (empty ∷ [])
-    ∷ row EndB2 (CoD ∷ []) eof (empty ∷ [])
-    ∷ row Ack (IsD ∷ OsU ∷ []) other_cmd (flow_control_ack ∷ [])
-    ∷ row AckTo (CiU ∷ IsU ∷ OsD ∷ CoD ∷ []) other_cmd (destination ∷ flow_control_ack ∷ [])
-    ∷ row KeepAlive (CiU ∷ []) other_cmd (client_keepalive ∷ [])
-    ∷ row PingTraffic (OsU ∷ []) other_cmd (ping_traffic_sent_notify ∷ [])
-    ∷ row Ping (CiU ∷ IsU ∷ IsD ∷ CoD ∷ OsU ∷ OsD ∷ []) ping []
-    ∷ []
+-- the row of each name: opening (MS-RPCH 2.2.4), replacement of an IN and of an OUT channel and a
+-- clean end
+-- (profile), and what may come again (MS-RPCH 2.2.4)
+abbrev pub row_of : Name → Row
+row_of ConnA1 = row (CoU ∷ []) NONE (VERSION ∷ COOKIE ∷ COOKIE ∷ RECEIVE_WINDOW_SIZE ∷ [])
+row_of ConnA2 =
+    row (OsU ∷ []) OUT_CHANNEL
+    (VERSION ∷ COOKIE ∷ COOKIE ∷ CHANNEL_LIFETIME ∷ RECEIVE_WINDOW_SIZE ∷ [])
+row_of ConnA3 = row (CoD ∷ []) NONE (CONNECTION_TIMEOUT ∷ [])
+row_of ConnB1 =
+    row (CiU ∷ []) NONE
+    (VERSION ∷ COOKIE ∷ COOKIE ∷ CHANNEL_LIFETIME ∷ CLIENT_KEEPALIVE ∷ ASSOCIATION_GROUP_ID ∷ [])
+row_of ConnB2 =
+    row (IsU ∷ []) IN_CHANNEL
+    (VERSION ∷ COOKIE ∷ COOKIE ∷ RECEIVE_WINDOW_SIZE ∷ CONNECTION_TIMEOUT ∷ ASSOCIATION_GROUP_ID
+    ∷ CLIENT_ADDRESS ∷ [])
+row_of ConnB3 = row (IsD ∷ []) NONE (RECEIVE_WINDOW_SIZE ∷ VERSION ∷ [])
+row_of ConnC1 = row (OsD ∷ []) NONE (VERSION ∷ RECEIVE_WINDOW_SIZE ∷ CONNECTION_TIMEOUT ∷ [])
+row_of ConnC2 = row (CoD ∷ []) NONE (VERSION ∷ RECEIVE_WINDOW_SIZE ∷ CONNECTION_TIMEOUT ∷ [])
+row_of InR1A1 = row (CiU ∷ []) RECYCLE_CHANNEL (VERSION ∷ COOKIE ∷ COOKIE ∷ COOKIE ∷ [])
+row_of InR1A2 =
+    row (IsU ∷ []) (IN_CHANNEL + RECYCLE_CHANNEL)
+    (VERSION ∷ COOKIE ∷ COOKIE ∷ COOKIE ∷ RECEIVE_WINDOW_SIZE ∷ CONNECTION_TIMEOUT ∷ [])
+row_of InR1A3 =
+    row (OsD ∷ []) NONE (DESTINATION ∷ VERSION ∷ RECEIVE_WINDOW_SIZE ∷ CONNECTION_TIMEOUT ∷ [])
+row_of InR1A4 =
+    row (CoD ∷ []) NONE (DESTINATION ∷ VERSION ∷ RECEIVE_WINDOW_SIZE ∷ CONNECTION_TIMEOUT ∷ [])
+row_of InR1A5 = row (CiU ∷ []) NONE (COOKIE ∷ [])
+row_of InR1A6 = row (IsU ∷ []) NONE (COOKIE ∷ [])
+row_of InR1B1 = row (IsD ∷ []) NONE (EMPTY ∷ [])
+row_of InR1B2 = row (IsD ∷ []) NONE (RECEIVE_WINDOW_SIZE ∷ [])
+row_of OutR1A1 = row (OsD ∷ []) RECYCLE_CHANNEL (DESTINATION ∷ [])
+row_of OutR1A2 = row (CoD ∷ []) RECYCLE_CHANNEL (DESTINATION ∷ [])
+row_of OutR1A3 =
+    row (CoU ∷ []) RECYCLE_CHANNEL (VERSION ∷ COOKIE ∷ COOKIE ∷ COOKIE ∷ RECEIVE_WINDOW_SIZE ∷ [])
+row_of OutR2C1 = row (CoU ∷ []) PING (EMPTY ∷ [])
+row_of OutR1A4 =
+    row (OsU ∷ []) (OUT_CHANNEL + RECYCLE_CHANNEL)
+    (VERSION ∷ COOKIE ∷ COOKIE ∷ COOKIE ∷ CHANNEL_LIFETIME ∷ RECEIVE_WINDOW_SIZE
+    ∷ CONNECTION_TIMEOUT ∷ [])
+row_of OutR1A5 = row (OsD ∷ []) OUT_CHANNEL (DESTINATION ∷ VERSION ∷ CONNECTION_TIMEOUT ∷ [])
+row_of OutR1A6 = row (CoD ∷ []) OUT_CHANNEL (DESTINATION ∷ VERSION ∷ CONNECTION_TIMEOUT ∷ [])
+row_of OutR1A7 = row (CiU ∷ []) OUT_CHANNEL (DESTINATION ∷ COOKIE ∷ [])
+row_of OutR1A8 = row (IsU ∷ []) OUT_CHANNEL (DESTINATION ∷ COOKIE ∷ [])
+row_of OutR1A9 = row (OsD ∷ []) NONE (ANCE ∷ [])
+row_of OutR1A10 = row (CoD ∷ []) NONE (ANCE ∷ [])
+row_of EndA1 = row (CiU ∷ []) EOF (EMPTY ∷ [])
+row_of EndA2 = row (IsU ∷ []) EOF (EMPTY ∷ [])
+row_of EndB1 = row (OsD ∷ []) EOF (EMPTY ∷ [])
+row_of EndB2 = row (CoD ∷ []) EOF (EMPTY ∷ [])
+row_of Ack = row (IsD ∷ OsU ∷ []) OTHER_CMD (FLOW_CONTROL_ACK ∷ [])
+row_of AckTo = row (CiU ∷ IsU ∷ OsD ∷ CoD ∷ []) OTHER_CMD (DESTINATION ∷ FLOW_CONTROL_ACK ∷ [])
+row_of KeepAlive = row (CiU ∷ []) OTHER_CMD (CLIENT_KEEPALIVE ∷ [])
+row_of PingTraffic = row (OsU ∷ []) OTHER_CMD (PING_TRAFFIC_SENT_NOTIFY ∷ [])
+row_of Ping = row (CiU ∷ IsU ∷ IsD ∷ CoD ∷ OsU ∷ OsD ∷ []) PING []
 
--- on that pipe the packet has that name: of a row of the table, without the Padding
+-- on that pipe the packet has that name: that of a row, without the Padding
 pub record IsNamed (p : Parts) (pipe : Pipe) (name : Name) : Type 0 where
-  pub row : Row
-  pub listed : Contains table row
-  pub named : row.name ≡ name
-  pub carried : Contains row.pipes pipe
-  pub flags : row.flags ≡ p.flags
-  pub types : row.types ≡ kinds (unpadded p.commands)
+  pub carried : Contains (row_of name).pipes pipe
+  pub flags : (row_of name).flags ≡ p.flags
+  pub types : (row_of name).types ≡ types_of (unpadded p.commands)
 
--- a row of that name lists the pipe
-pub record IsCarried (name : Name) (pipe : Pipe) : Type 0 where
-  pub row : Row
-  pub listed : Contains table row
-  pub named : row.name ≡ name
-  pub carried : Contains row.pipes pipe
+-- the row of that name lists the pipe
+abbrev pub IsCarried : Name → Pipe → Type 0
+IsCarried name pipe = Contains (row_of name).pipes pipe
 
 -- on that pipe the packet has no name
 abbrev pub IsNameless : Parts → Pipe → Type 0

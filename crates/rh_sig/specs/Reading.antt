@@ -85,16 +85,20 @@ seventh cs = sixth (rest cs)
 -- the named packet of that name, with the fields of these commands
 abbrev pub value : Name → List Command → Named
 value ConnA1 cs =
-    named.ConnA1 (value_of (first cs)) (cookie_of (second cs)) (cookie_of (third cs)) (value_of (fourth cs))
+    named.ConnA1 (value_of (first cs)) (cookie_of (second cs)) (cookie_of (third cs))
+    (value_of (fourth cs))
 value ConnA2 cs =
-    named.ConnA2 (value_of (first cs)) (cookie_of (second cs)) (cookie_of (third cs)) (value_of (fourth cs))
+    named.ConnA2 (value_of (first cs)) (cookie_of (second cs)) (cookie_of (third cs))
+    (value_of (fourth cs))
     (value_of (fifth cs))
 value ConnA3 cs = named.ConnA3 (value_of (first cs))
 value ConnB1 cs =
-    named.ConnB1 (value_of (first cs)) (cookie_of (second cs)) (cookie_of (third cs)) (value_of (fourth cs))
+    named.ConnB1 (value_of (first cs)) (cookie_of (second cs)) (cookie_of (third cs))
+    (value_of (fourth cs))
     (value_of (fifth cs)) (cookie_of (sixth cs))
 value ConnB2 cs =
-    named.ConnB2 (value_of (first cs)) (cookie_of (second cs)) (cookie_of (third cs)) (value_of (fourth cs))
+    named.ConnB2 (value_of (first cs)) (cookie_of (second cs)) (cookie_of (third cs))
+    (value_of (fourth cs))
     (value_of (fifth cs)) (cookie_of (sixth cs)) (address_of (seventh cs)) (padding_of (seventh cs))
 value ConnB3 cs = named.ConnB3 (value_of (first cs)) (value_of (second cs))
 value ConnC1 cs = named.ConnC1 (value_of (first cs)) (value_of (second cs)) (value_of (third cs))
@@ -106,9 +110,11 @@ value InR1A2 cs =
     named.InR1A2 (value_of (first cs)) (cookie_of (second cs)) (cookie_of (third cs))
     (cookie_of (fourth cs)) (value_of (fifth cs)) (value_of (sixth cs))
 value InR1A3 cs =
-    named.InR1A3 (value_of (first cs)) (value_of (second cs)) (value_of (third cs)) (value_of (fourth cs))
+    named.InR1A3 (value_of (first cs)) (value_of (second cs)) (value_of (third cs))
+    (value_of (fourth cs))
 value InR1A4 cs =
-    named.InR1A4 (value_of (first cs)) (value_of (second cs)) (value_of (third cs)) (value_of (fourth cs))
+    named.InR1A4 (value_of (first cs)) (value_of (second cs)) (value_of (third cs))
+    (value_of (fourth cs))
 value InR1A5 cs = named.InR1A5 (cookie_of (first cs))
 value InR1A6 cs = named.InR1A6 (cookie_of (first cs))
 value InR1B1 cs = named.InR1B1

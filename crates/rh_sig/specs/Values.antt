@@ -1,6 +1,5 @@
 -- what named packets say, and which values are in range
-use Rattle.std.specs.Prelude.{◌≡◌, ◌≤◌, ◌+◌, ◌==◌, ◌&&◌, ◌||◌, ℕ, List, [], ◌∷◌, Bool, true}
-use Rattle.std.specs.Prelude.{if◌then◌else◌, nat_le, Some, None, IfSome}
+use Rattle.std.specs.Prelude.{◌≡◌, ◌≤◌, ◌⊎◌, ◌++◌, ℕ, List, [], ◌∷◌, Some, None, IfSome}
 use Rattle.std.specs.declared.option.Option.{Option}
 use Rattle.rh_sig.specs.declared.name.Name.{Name}
 use Rattle.rh_sig.specs.declared.name.Name.TheVariants.{ConnA1, ConnA2, ConnA3, ConnB1, ConnB2}
@@ -17,12 +16,15 @@ use Rattle.rh_sig.specs.declared.fault.SigFault.{SigFault}
 use Rattle.rh_sig.specs.declared.fault.SigFault.TheVariants.{Unknown, OutOfRange}
 use Rattle.rh_rts.specs.declared.command.Command.{Command}
 use Rattle.rh_rts.specs.declared.command.Command.TheVariants as commands
-use Rattle.rh_rts.specs.Commands.{greatest_destination}
+use Rattle.rh_rts.specs.declared.command.TheConstants.{GREATEST_DESTINATION}
 use Rattle.rh_rts.specs.Packets.{Parts}
 use Rattle.rh_sig.specs.declared.name.Pipe.{Pipe}
-use Rattle.rh_sig.specs.Names.{IsNamed, IsNameless, unpadded, none, ping, other_cmd}
-use Rattle.rh_sig.specs.Names.{recycle_channel, in_channel, out_channel, eof}
+use Rattle.rh_sig.specs.Names.{row_of, IsNamed, IsNameless, unpadded}
 use Rattle.rh_rts.specs.Commands.{kind_of}
+use Rattle.rh_sig.specs.declared.ranges.TheConstants.{LEAST_WINDOW, GREATEST_WINDOW, LEAST_TIMEOUT}
+use Rattle.rh_sig.specs.declared.ranges.TheConstants.{GREATEST_TIMEOUT, LEAST_LIFETIME, GREATEST_LIFETIME}
+use Rattle.rh_sig.specs.declared.ranges.TheConstants.{DEFAULT_KEEPALIVE, LEAST_KEEPALIVE, GREATEST_KEEPALIVE}
+use Rattle.rh_sig.specs.declared.ranges.TheConstants.{PROTOCOL_VERSION}
 
 -- the name of a named packet
 abbrev pub name_of_named : Named → Name
@@ -30,7 +32,8 @@ name_of_named (named.ConnA1 version connection channel window) = ConnA1
 name_of_named (named.ConnA2 version connection channel lifetime window) = ConnA2
 name_of_named (named.ConnA3 timeout) = ConnA3
 name_of_named (named.ConnB1 version connection channel lifetime keepalive group) = ConnB1
-name_of_named (named.ConnB2 version connection channel window timeout group address padding) = ConnB2
+name_of_named (named.ConnB2 version connection channel window timeout group address padding) =
+    ConnB2
 name_of_named (named.ConnB3 window version) = ConnB3
 name_of_named (named.ConnC1 version window timeout) = ConnC1
 name_of_named (named.ConnC2 version window timeout) = ConnC2
@@ -46,7 +49,8 @@ name_of_named (named.OutR1A1 destination) = OutR1A1
 name_of_named (named.OutR1A2 destination) = OutR1A2
 name_of_named (named.OutR1A3 version connection predecessor successor window) = OutR1A3
 name_of_named named.OutR2C1 = OutR2C1
-name_of_named (named.OutR1A4 version connection predecessor successor lifetime window timeout) = OutR1A4
+name_of_named (named.OutR1A4 version connection predecessor successor lifetime window timeout) =
+    OutR1A4
 name_of_named (named.OutR1A5 destination version timeout) = OutR1A5
 name_of_named (named.OutR1A6 destination version timeout) = OutR1A6
 name_of_named (named.OutR1A7 destination successor) = OutR1A7
@@ -63,87 +67,84 @@ name_of_named (named.KeepAlive keepalive) = KeepAlive
 name_of_named (named.PingTraffic bytes) = PingTraffic
 name_of_named named.Ping = Ping
 
-abbrev pub parts : ℕ → List Command → Parts
-parts flags commands = record { flags = flags; commands = commands }
-
--- its flags and commands, in the order of its row
-abbrev pub parts_of : Named → Parts
-parts_of (named.ConnA1 version connection channel window) =
-    parts none (commands.Version version ∷ commands.Cookie connection ∷ commands.Cookie channel
-    ∷ commands.ReceiveWindowSize window ∷ [])
-parts_of (named.ConnA2 version connection channel lifetime window) =
-    parts out_channel (commands.Version version ∷ commands.Cookie connection ∷ commands.Cookie channel
-    ∷ commands.ChannelLifetime lifetime ∷ commands.ReceiveWindowSize window ∷ [])
-parts_of (named.ConnA3 timeout) = parts none (commands.ConnectionTimeout timeout ∷ [])
-parts_of (named.ConnB1 version connection channel lifetime keepalive group) =
-    parts none (commands.Version version ∷ commands.Cookie connection ∷ commands.Cookie channel
-    ∷ commands.ChannelLifetime lifetime ∷ commands.ClientKeepalive keepalive
-    ∷ commands.AssociationGroupId group ∷ [])
-parts_of (named.ConnB2 version connection channel window timeout group address padding) =
-    parts in_channel (commands.Version version ∷ commands.Cookie connection ∷ commands.Cookie channel
-    ∷ commands.ReceiveWindowSize window ∷ commands.ConnectionTimeout timeout
-    ∷ commands.AssociationGroupId group ∷ commands.ClientAddress address padding ∷ [])
-parts_of (named.ConnB3 window version) =
-    parts none (commands.ReceiveWindowSize window ∷ commands.Version version ∷ [])
-parts_of (named.ConnC1 version window timeout) =
-    parts none (commands.Version version ∷ commands.ReceiveWindowSize window
-    ∷ commands.ConnectionTimeout timeout ∷ [])
-parts_of (named.ConnC2 version window timeout) =
-    parts none (commands.Version version ∷ commands.ReceiveWindowSize window
-    ∷ commands.ConnectionTimeout timeout ∷ [])
-parts_of (named.InR1A1 version connection predecessor successor) =
-    parts recycle_channel (commands.Version version ∷ commands.Cookie connection
-    ∷ commands.Cookie predecessor ∷ commands.Cookie successor ∷ [])
-parts_of (named.InR1A2 version connection predecessor successor window timeout) =
-    parts (in_channel + recycle_channel) (commands.Version version ∷ commands.Cookie connection
-    ∷ commands.Cookie predecessor ∷ commands.Cookie successor ∷ commands.ReceiveWindowSize window
-    ∷ commands.ConnectionTimeout timeout ∷ [])
-parts_of (named.InR1A3 destination version window timeout) =
-    parts none (commands.Destination destination ∷ commands.Version version
-    ∷ commands.ReceiveWindowSize window ∷ commands.ConnectionTimeout timeout ∷ [])
-parts_of (named.InR1A4 destination version window timeout) =
-    parts none (commands.Destination destination ∷ commands.Version version
-    ∷ commands.ReceiveWindowSize window ∷ commands.ConnectionTimeout timeout ∷ [])
-parts_of (named.InR1A5 successor) = parts none (commands.Cookie successor ∷ [])
-parts_of (named.InR1A6 successor) = parts none (commands.Cookie successor ∷ [])
-parts_of named.InR1B1 = parts none (commands.Empty ∷ [])
-parts_of (named.InR1B2 window) = parts none (commands.ReceiveWindowSize window ∷ [])
-parts_of (named.OutR1A1 destination) = parts recycle_channel (commands.Destination destination ∷ [])
-parts_of (named.OutR1A2 destination) = parts recycle_channel (commands.Destination destination ∷ [])
-parts_of (named.OutR1A3 version connection predecessor successor window) =
-    parts recycle_channel (commands.Version version ∷ commands.Cookie connection
-    ∷ commands.Cookie predecessor ∷ commands.Cookie successor ∷ commands.ReceiveWindowSize window ∷ [])
-parts_of named.OutR2C1 = parts ping (commands.Empty ∷ [])
-parts_of (named.OutR1A4 version connection predecessor successor lifetime window timeout) =
-    parts (out_channel + recycle_channel) (commands.Version version ∷ commands.Cookie connection
-    ∷ commands.Cookie predecessor ∷ commands.Cookie successor ∷ commands.ChannelLifetime lifetime
-    ∷ commands.ReceiveWindowSize window ∷ commands.ConnectionTimeout timeout ∷ [])
-parts_of (named.OutR1A5 destination version timeout) =
-    parts out_channel (commands.Destination destination ∷ commands.Version version
-    ∷ commands.ConnectionTimeout timeout ∷ [])
-parts_of (named.OutR1A6 destination version timeout) =
-    parts out_channel (commands.Destination destination ∷ commands.Version version
-    ∷ commands.ConnectionTimeout timeout ∷ [])
-parts_of (named.OutR1A7 destination successor) =
-    parts out_channel (commands.Destination destination ∷ commands.Cookie successor ∷ [])
-parts_of (named.OutR1A8 destination successor) =
-    parts out_channel (commands.Destination destination ∷ commands.Cookie successor ∷ [])
-parts_of named.OutR1A9 = parts none (commands.Ance ∷ [])
-parts_of named.OutR1A10 = parts none (commands.Ance ∷ [])
-parts_of named.EndA1 = parts eof (commands.Empty ∷ [])
-parts_of named.EndA2 = parts eof (commands.Empty ∷ [])
-parts_of named.EndB1 = parts eof (commands.Empty ∷ [])
-parts_of named.EndB2 = parts eof (commands.Empty ∷ [])
-parts_of (named.Ack received window cookie) =
-    parts other_cmd (commands.FlowControlAck received window cookie ∷ [])
-parts_of (named.AckTo destination received window cookie) =
-    parts other_cmd (commands.Destination destination ∷ commands.FlowControlAck received window cookie ∷ [])
-parts_of (named.KeepAlive keepalive) = parts other_cmd (commands.ClientKeepalive keepalive ∷ [])
-parts_of (named.PingTraffic bytes) = parts other_cmd (commands.PingTrafficSentNotify bytes ∷ [])
-parts_of named.Ping = parts ping []
-
+-- its commands, in the order of its row
 abbrev pub commands_of : Named → List Command
-commands_of n = (parts_of n).commands
+commands_of (named.ConnA1 version connection channel window) =
+    commands.Version version ∷ commands.Cookie connection ∷ commands.Cookie channel
+    ∷ commands.ReceiveWindowSize window ∷ []
+commands_of (named.ConnA2 version connection channel lifetime window) =
+    commands.Version version ∷ commands.Cookie connection ∷ commands.Cookie channel
+    ∷ commands.ChannelLifetime lifetime ∷ commands.ReceiveWindowSize window ∷ []
+commands_of (named.ConnA3 timeout) = commands.ConnectionTimeout timeout ∷ []
+commands_of (named.ConnB1 version connection channel lifetime keepalive group) =
+    commands.Version version ∷ commands.Cookie connection ∷ commands.Cookie channel
+    ∷ commands.ChannelLifetime lifetime ∷ commands.ClientKeepalive keepalive
+    ∷ commands.AssociationGroupId group ∷ []
+commands_of (named.ConnB2 version connection channel window timeout group address padding) =
+    commands.Version version ∷ commands.Cookie connection ∷ commands.Cookie channel
+    ∷ commands.ReceiveWindowSize window ∷ commands.ConnectionTimeout timeout
+    ∷ commands.AssociationGroupId group ∷ commands.ClientAddress address padding ∷ []
+commands_of (named.ConnB3 window version) =
+    commands.ReceiveWindowSize window ∷ commands.Version version ∷ []
+commands_of (named.ConnC1 version window timeout) =
+    commands.Version version ∷ commands.ReceiveWindowSize window
+    ∷ commands.ConnectionTimeout timeout ∷ []
+commands_of (named.ConnC2 version window timeout) =
+    commands.Version version ∷ commands.ReceiveWindowSize window
+    ∷ commands.ConnectionTimeout timeout ∷ []
+commands_of (named.InR1A1 version connection predecessor successor) =
+    commands.Version version ∷ commands.Cookie connection ∷ commands.Cookie predecessor
+    ∷ commands.Cookie successor ∷ []
+commands_of (named.InR1A2 version connection predecessor successor window timeout) =
+    commands.Version version ∷ commands.Cookie connection ∷ commands.Cookie predecessor
+    ∷ commands.Cookie successor ∷ commands.ReceiveWindowSize window
+    ∷ commands.ConnectionTimeout timeout ∷ []
+commands_of (named.InR1A3 destination version window timeout) =
+    commands.Destination destination ∷ commands.Version version
+    ∷ commands.ReceiveWindowSize window ∷ commands.ConnectionTimeout timeout ∷ []
+commands_of (named.InR1A4 destination version window timeout) =
+    commands.Destination destination ∷ commands.Version version
+    ∷ commands.ReceiveWindowSize window ∷ commands.ConnectionTimeout timeout ∷ []
+commands_of (named.InR1A5 successor) = commands.Cookie successor ∷ []
+commands_of (named.InR1A6 successor) = commands.Cookie successor ∷ []
+commands_of named.InR1B1 = commands.Empty ∷ []
+commands_of (named.InR1B2 window) = commands.ReceiveWindowSize window ∷ []
+commands_of (named.OutR1A1 destination) = commands.Destination destination ∷ []
+commands_of (named.OutR1A2 destination) = commands.Destination destination ∷ []
+commands_of (named.OutR1A3 version connection predecessor successor window) =
+    commands.Version version ∷ commands.Cookie connection ∷ commands.Cookie predecessor
+    ∷ commands.Cookie successor ∷ commands.ReceiveWindowSize window ∷ []
+commands_of named.OutR2C1 = commands.Empty ∷ []
+commands_of (named.OutR1A4 version connection predecessor successor lifetime window timeout) =
+    commands.Version version ∷ commands.Cookie connection ∷ commands.Cookie predecessor
+    ∷ commands.Cookie successor ∷ commands.ChannelLifetime lifetime
+    ∷ commands.ReceiveWindowSize window ∷ commands.ConnectionTimeout timeout ∷ []
+commands_of (named.OutR1A5 destination version timeout) =
+    commands.Destination destination ∷ commands.Version version
+    ∷ commands.ConnectionTimeout timeout ∷ []
+commands_of (named.OutR1A6 destination version timeout) =
+    commands.Destination destination ∷ commands.Version version
+    ∷ commands.ConnectionTimeout timeout ∷ []
+commands_of (named.OutR1A7 destination successor) =
+    commands.Destination destination ∷ commands.Cookie successor ∷ []
+commands_of (named.OutR1A8 destination successor) =
+    commands.Destination destination ∷ commands.Cookie successor ∷ []
+commands_of named.OutR1A9 = commands.Ance ∷ []
+commands_of named.OutR1A10 = commands.Ance ∷ []
+commands_of named.EndA1 = commands.Empty ∷ []
+commands_of named.EndA2 = commands.Empty ∷ []
+commands_of named.EndB1 = commands.Empty ∷ []
+commands_of named.EndB2 = commands.Empty ∷ []
+commands_of (named.Ack received window cookie) = commands.FlowControlAck received window cookie ∷ []
+commands_of (named.AckTo destination received window cookie) =
+    commands.Destination destination ∷ commands.FlowControlAck received window cookie ∷ []
+commands_of (named.KeepAlive keepalive) = commands.ClientKeepalive keepalive ∷ []
+commands_of (named.PingTraffic bytes) = commands.PingTrafficSentNotify bytes ∷ []
+commands_of named.Ping = []
+
+-- its flags, of the row of its name, and its commands
+abbrev pub parts_of : Named → Parts
+parts_of n = record { flags = (row_of (name_of_named n)).flags; commands = commands_of n }
 
 -- on that pipe the packet has this name, and these are its fields
 abbrev pub ReadsAs : Parts → Pipe → Named → Type 0
@@ -164,12 +165,12 @@ destination_of _ = None
 
 -- it has no destination, or that of a role
 abbrev pub MayBeWritten : Named → Type 0
-MayBeWritten n = IfSome (destination_of n) (λ destination. destination ≤ greatest_destination)
+MayBeWritten n = IfSome (destination_of n) (λ destination. destination ≤ GREATEST_DESTINATION)
 
 -- a command that named packets have, with a destination that is one
 abbrev pub IsPlain : Command → Type 0
 IsPlain (commands.Padding bytes) = ⊥
-IsPlain (commands.Destination n) = n ≤ greatest_destination
+IsPlain (commands.Destination n) = n ≤ GREATEST_DESTINATION
 IsPlain _ = Unit {0}
 
 abbrev pub ArePlain : List Command → Type 0
@@ -179,18 +180,38 @@ ArePlain (c ∷ cs) = IsPlain c × ArePlain cs
 -- ---- ranges
 
 -- from the least to the greatest, both of them in range
-abbrev pub is_within : ℕ → ℕ → ℕ → Bool
-is_within least greatest n = nat_le least n && nat_le n greatest
+abbrev pub IsWithin : ℕ → ℕ → ℕ → Type 0
+IsWithin least greatest n = (least ≤ n) × (n ≤ greatest)
 
--- whether a value is in range: windows and lifetimes in bytes, times in milliseconds. A keepalive of
--- 0 stands for the default; the window of an acknowledgement has no range
-abbrev pub in_range : Command → Bool
-in_range (commands.ReceiveWindowSize n) = is_within 8192 262144 n
-in_range (commands.ConnectionTimeout n) = is_within 120000 14400000 n
-in_range (commands.ChannelLifetime n) = is_within 131072 2147483648 n
-in_range (commands.ClientKeepalive n) = (n == 0) || is_within 60000 4294967295 n
-in_range (commands.Version n) = n == 1
-in_range _ = true
+-- a receive window, in bytes
+abbrev pub IsWindow : ℕ → Type 0
+IsWindow n = IsWithin LEAST_WINDOW GREATEST_WINDOW n
+
+-- a connection timeout, in milliseconds
+abbrev pub IsTimeout : ℕ → Type 0
+IsTimeout n = IsWithin LEAST_TIMEOUT GREATEST_TIMEOUT n
+
+-- a channel lifetime, in bytes
+abbrev pub IsLifetime : ℕ → Type 0
+IsLifetime n = IsWithin LEAST_LIFETIME GREATEST_LIFETIME n
+
+-- a keepalive interval, in milliseconds, or what stands for the one by default
+abbrev pub IsKeepalive : ℕ → Type 0
+IsKeepalive n = (n ≡ DEFAULT_KEEPALIVE) ⊎ IsWithin LEAST_KEEPALIVE GREATEST_KEEPALIVE n
+
+-- the value of the command is in range; the window of an acknowledgement has none
+abbrev pub IsInRange : Command → Type 0
+IsInRange (commands.ReceiveWindowSize n) = IsWindow n
+IsInRange (commands.ConnectionTimeout n) = IsTimeout n
+IsInRange (commands.ChannelLifetime n) = IsLifetime n
+IsInRange (commands.ClientKeepalive n) = IsKeepalive n
+IsInRange (commands.Version n) = n ≡ PROTOCOL_VERSION
+IsInRange _ = Unit {0}
+
+-- each value is in range
+abbrev pub AreInRange : List Command → Type 0
+AreInRange [] = Unit {0}
+AreInRange (c ∷ cs) = IsInRange c × AreInRange cs
 
 -- the value of a command that has a number alone
 abbrev pub value_of : Command → ℕ
@@ -203,14 +224,22 @@ value_of (commands.Destination n) = n
 value_of (commands.PingTrafficSentNotify n) = n
 value_of _ = 0
 
--- the first command whose value is out of range, by its type
-abbrev pub first_out_of_range : List Command → Option SigFault
-first_out_of_range [] = None
-first_out_of_range (c ∷ cs) =
-    if in_range c then first_out_of_range cs else Some (OutOfRange (kind_of c) (value_of c))
+-- this is the first command whose value is out of range
+pub record FirstOut (cs : List Command) (c : Command) : Type 0 where
+  pub before : List Command
+  pub after : List Command
+  pub split : cs ≡ before ++ (c ∷ after)
+  pub fine : AreInRange before
+  pub wrong : ¬ IsInRange c
+
+-- it is told by its type and its value
+abbrev pub IsOut : List Command → SigFault → Type 0
+IsOut cs Unknown = ⊥
+IsOut cs (OutOfRange command value) =
+    (c : Command) × FirstOut cs c × (kind_of c ≡ command) × (value_of c ≡ value)
 
 -- no name fits; or one does, and this is the first value that is out of range
 abbrev pub IsRefused : Parts → Pipe → SigFault → Type 0
 IsRefused p pipe Unknown = IsNameless p pipe
 IsRefused p pipe (OutOfRange command value) =
-    ((name : Name) × IsNamed p pipe name) × (first_out_of_range p.commands ≡ Some (OutOfRange command value))
+    ((name : Name) × IsNamed p pipe name) × IsOut p.commands (OutOfRange command value)

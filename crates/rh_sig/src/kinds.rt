@@ -1,22 +1,20 @@
-//! The types of the commands (MS-RPCH 2.2.3.5).
+//! The types of the commands that named packets have, by the commands' names.
 
 /// The type of a command of this name.
 macro_rules! kind {
-    (ReceiveWindowSize) => { 0 };
-    (FlowControlAck) => { 1 };
-    (ConnectionTimeout) => { 2 };
-    (Cookie) => { 3 };
-    (ChannelLifetime) => { 4 };
-    (ClientKeepalive) => { 5 };
-    (Version) => { 6 };
-    (Empty) => { 7 };
-    (Padding) => { 8 };
-    (NegativeAnce) => { 9 };
-    (Ance) => { 10 };
-    (ClientAddress) => { 11 };
-    (AssociationGroupId) => { 12 };
-    (Destination) => { 13 };
-    (PingTrafficSentNotify) => { 14 };
+    (ReceiveWindowSize) => { kinds::RECEIVE_WINDOW_SIZE };
+    (FlowControlAck) => { kinds::FLOW_CONTROL_ACK };
+    (ConnectionTimeout) => { kinds::CONNECTION_TIMEOUT };
+    (Cookie) => { kinds::COOKIE };
+    (ChannelLifetime) => { kinds::CHANNEL_LIFETIME };
+    (ClientKeepalive) => { kinds::CLIENT_KEEPALIVE };
+    (Version) => { kinds::VERSION };
+    (Empty) => { kinds::EMPTY };
+    (Ance) => { kinds::ANCE };
+    (ClientAddress) => { kinds::CLIENT_ADDRESS };
+    (AssociationGroupId) => { kinds::ASSOCIATION_GROUP_ID };
+    (Destination) => { kinds::DESTINATION };
+    (PingTrafficSentNotify) => { kinds::PING_TRAFFIC_SENT_NOTIFY };
 }
 
 pub(crate) use kind;

@@ -3,8 +3,8 @@
 
 mod cookie;
 mod fault;
+mod few_commands;
 mod fields;
-mod kept;
 mod kinds;
 pub mod laws;
 mod name;
@@ -13,7 +13,7 @@ mod naming;
 pub mod ranges;
 mod reading;
 mod rows;
-mod sig;
+mod signature;
 #[cfg(test)]
 mod tests;
 mod values;
@@ -25,4 +25,5 @@ pub use laws::one_name;
 pub use name::{Name, Pipe};
 pub use named::Named;
 pub use reading::{name_of, read_named};
+pub use signature::Sig;
 pub use writing::write_named;

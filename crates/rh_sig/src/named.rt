@@ -5,10 +5,7 @@ ghost use Rattle.rh_sig.specs.Values.{name_of_named, destination_of, MayBeWritte
 
 use crate::name::Name;
 use crate::rows::named_packets;
-use rh_rts::{Address4or16, Cookie};
-
-/// The greatest destination: the out proxy.
-const GREATEST_DESTINATION: u32 = 3;
+use rh_rts::{Address4or16, Cookie, GREATEST_DESTINATION};
 
 /// A named packet, with the fields of its commands in their order, each as it is in `Command`.
 ///

@@ -1,19 +1,19 @@
 //! Which name a packet has.
 
 ghost use Rattle.std.specs.Prelude.{◌≡◌};
-ghost use Rattle.rh_sig.specs.Names.{table};
-ghost use Rattle.rh_sig.specs.Looking.{found};
+ghost use Rattle.rh_sig.specs.Looking.{names, found};
 
 use crate::kinds::kind;
 use crate::name::{Name, Pipe};
 use crate::rows::{NONE, named_packets};
-use crate::sig::Sig;
+use crate::signature::Sig;
+use rh_rts::kinds;
 use rh_rts::packet::{EOF, IN_CHANNEL, OTHER_CMD, OUT_CHANNEL, PING, RECYCLE_CHANNEL};
 
 /// The name that a packet has on this pipe with these flags and types of commands.
-#[tactic(auto, unfolding(crate::specs::Names::table))]
+#[tactic(auto, unfolding(crate::specs::Looking::names))]
 pub fn name_by(pipe: Pipe, flags: u16, types: &[u32]) -> Option<Name>
-    ensures { result ≡ found table pipe flags types.now }
+    ensures { result ≡ found names pipe flags types.now }
 {
     macro_rules! rows {
         ($($name:ident $(($($field:ident),+))? on $($pipe:ident)|+ is $($flag:ident)|+

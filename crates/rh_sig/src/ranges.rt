@@ -1,9 +1,9 @@
 //! The values that commands may have here (profile).
 
-ghost use Rattle.std.specs.Prelude.{◌≡◌};
+ghost use Rattle.std.specs.Prelude.{◌≡◌, ◌↔◌, IsTrue, MatchOption};
 ghost use Rattle.rh_rts.specs.Showing.{shown};
 ghost use Rattle.rh_sig.specs.Reading.{all_shown};
-ghost use Rattle.rh_sig.specs.Values.{in_range, first_out_of_range, is_within};
+ghost use Rattle.rh_sig.specs.Values.{IsWithin, IsInRange, AreInRange, IsOut};
 
 use crate::fault::SigFault;
 use crate::fields::number_of;
@@ -23,37 +23,40 @@ pub const LEAST_LIFETIME: u32 = 131_072;
 pub const GREATEST_LIFETIME: u32 = 2_147_483_648;
 /// The keepalive interval that stands for the one agreed by default.
 pub const DEFAULT_KEEPALIVE: u32 = 0;
-/// The least other keepalive interval, in milliseconds; there is no greatest.
+/// The least other keepalive interval, in milliseconds.
 pub const LEAST_KEEPALIVE: u32 = 60_000;
+/// The greatest keepalive interval, in milliseconds.
+pub const GREATEST_KEEPALIVE: u32 = 4_294_967_295;
 /// The one version.
-pub const VERSION: u32 = 1;
+pub const PROTOCOL_VERSION: u32 = 1;
 
 /// Whether the number is one of those from the least to the greatest.
 fn is_within(least: u32, greatest: u32, number: u32) -> bool
-    ensures { result ≡ is_within least greatest number }
+    ensures { IsTrue result ↔ IsWithin least greatest number }
 {
     least <= number && number <= greatest
 }
 
 /// Whether the value of the command is in range.
 fn in_range(command: CommandRef<'_>) -> bool
-    ensures { result ≡ in_range (shown command.entry) }
+    ensures { IsTrue result ↔ IsInRange (shown command.entry) }
 {
     match command {
         CommandRef::ReceiveWindowSize(bytes) => is_within(LEAST_WINDOW, GREATEST_WINDOW, bytes),
         CommandRef::ConnectionTimeout(ms) => is_within(LEAST_TIMEOUT, GREATEST_TIMEOUT, ms),
         CommandRef::ChannelLifetime(bytes) => is_within(LEAST_LIFETIME, GREATEST_LIFETIME, bytes),
         CommandRef::ClientKeepalive(ms) => {
-            ms == DEFAULT_KEEPALIVE || is_within(LEAST_KEEPALIVE, u32::MAX, ms)
+            ms == DEFAULT_KEEPALIVE || is_within(LEAST_KEEPALIVE, GREATEST_KEEPALIVE, ms)
         }
-        CommandRef::Version(version) => version == VERSION,
+        CommandRef::Version(version) => version == PROTOCOL_VERSION,
         _ => true,
     }
 }
 
 /// The first command whose value is out of range.
 pub fn first_out_of_range(commands: &[CommandRef<'_>]) -> Option<SigFault>
-    ensures { result ≡ first_out_of_range (all_shown commands.now) }
+    ensures { MatchOption result (AreInRange (all_shown commands.now))
+        (λ fault. IsOut (all_shown commands.now) fault) }
 {
     for command in commands {
         if !in_range(*command) {

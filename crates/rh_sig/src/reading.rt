@@ -1,11 +1,11 @@
 //! Which named packet a packet is.
 
-ghost use Rattle.std.specs.Prelude.{◌≡◌, MatchOption, MatchResult, None};
+ghost use Rattle.std.specs.Prelude.{◌≡◌, MatchOption, MatchResult};
 ghost use Rattle.rh_sig.specs.Names.{IsNamed, IsNameless};
-ghost use Rattle.rh_sig.specs.Values.{ReadsAs, first_out_of_range, IsRefused};
+ghost use Rattle.rh_sig.specs.Values.{commands_of, ReadsAs, AreInRange, IsRefused};
 
 use crate::fault::SigFault;
-use crate::kept::without_padding;
+use crate::few_commands::without_padding;
 use crate::name::{Name, Pipe};
 use crate::named::Named;
 use crate::naming::name_by;
@@ -27,7 +27,7 @@ pub fn name_of(view: &View<'_>, pipe: Pipe) -> Option<Name>
 /// value is out of range. The ranges are those of `ranges`; an acknowledgement has none.
 pub fn read_named(view: &View<'_>, pipe: Pipe) -> Result<Named, SigFault>
     ensures { MatchResult result
-        (λ named. ReadsAs view.now pipe named × (first_out_of_range view.now.commands ≡ None))
+        (λ named. ReadsAs view.now pipe named × AreInRange (commands_of named))
         (λ fault. IsRefused view.now pipe fault) }
 {
     let Some(kept) = without_padding(view) else {

@@ -1,7 +1,8 @@
 //! Writes named packets.
 
 ghost use Rattle.std.specs.Prelude.{◌≡◌, ◌≤◌, length};
-ghost use Rattle.rh_rts.specs.Packets.{IsPacket, all_flags};
+ghost use Rattle.rh_rts.specs.Packets.{parts, IsPacket};
+ghost use Rattle.rh_rts.specs.declared.packet.TheConstants.{ALL_FLAGS};
 ghost use Rattle.rh_rts.specs.Writing.{Writes};
 ghost use Rattle.rh_sig.specs.declared.name.Name.{Name};
 ghost use Rattle.rh_sig.specs.declared.name.Pipe.{Pipe};
@@ -54,12 +55,11 @@ fn write_row(named: &Named, room: &mut [u8]) -> Result<usize, NoRoom>
 
 /// Writes a packet of these flags and of at most seven commands.
 fn write_commands(flags: u16, commands: &[Command], room: &mut [u8]) -> Result<usize, NoRoom>
-    requires flags { flags ≤ all_flags }
+    requires flags { flags ≤ ALL_FLAGS }
     requires few { length commands.now ≤ 7 }
     requires plain { ArePlain commands.now }
-    ensures writes { Writes (record { flags = flags; commands = commands.now })
-        room.old room.new result }
-    ensures packet { IsPacket (record { flags = flags; commands = commands.now }) }
+    ensures writes { Writes (parts flags commands.now) room.old room.new result }
+    ensures packet { IsPacket (parts flags commands.now) }
 {
     prove!(length_of(commands) > 0);
     encode_parts(flags, commands, room)

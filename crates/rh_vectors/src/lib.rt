@@ -1,5 +1,4 @@
-//! Tables of cases by hand, which the tests of this crate try on the other crates.
+//! Worked rows for the tests of every crate.
 #![tactic(auto)]
 
-#[cfg(test)]
-mod packets;
+pub mod packets;

@@ -1,14 +1,7 @@
-pub mod Ways
 pub mod Rings
 pub mod PieceLaws
-pub mod Deliveries
-pub mod Draws
-pub mod Carryings
+mod Words
+mod Frames
+pub mod Ways
 pub mod Runs
-pub mod Recordings
 pub mod Reports
-mod Counts
-mod Hexes
-mod DigitTexts
-mod Cuts
-mod Readings

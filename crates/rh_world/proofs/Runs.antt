@@ -1,268 +1,419 @@
--- what whole recordings carry
-use Rattle.std.proofs.Common.{◌≡◌, ℕ, zero, suc, List, [], ◌∷◌, ◌++◌, take, length, Some, None, sym, ◌∙◌, ap, refl, append_assoc, subst}
-use Rattle.std.proofs.lemmas.List.{append-nil}
+-- what whole recordings carry, direction by direction
+use Rattle.std.proofs.Common.{◌≡◌, ℕ, zero, suc, List, [], ◌∷◌, ◌++◌, take, length, map, Some, None, Ok, Err, inl, inr}
+use Rattle.std.proofs.Common.{sym, ◌∙◌, ap, refl, append_assoc, subst}
+use Rattle.std.proofs.lemmas.List.{append-nil, map-append}
 use Rattle.std.specs.declared.option.Option.{Option}
+use Rattle.rh_text.specs.declared.ends.Side.{Side}
+use Rattle.rh_text.specs.declared.ends.Side.TheVariants.{Client, Server}
+use Rattle.rh_text.specs.declared.ends.Dir.{Dir}
+use Rattle.rh_text.specs.declared.ends.Dir.TheVariants.{U, D}
 use Rattle.rh_pdu.specs.declared.fault.PduFault.{PduFault}
 use Rattle.rh_pdu.specs.Checking.{pdu_fault}
-use Rattle.rh_line.specs.Queue.{total}
+use Rattle.rh_pdu.specs.Cut.{frames_of}
 use Rattle.rh_pdu.proofs.Pdus.{pdu_from_none}
-use Rattle.rh_world.specs.declared.line.Side.{Side}
-use Rattle.rh_world.specs.declared.line.Side.TheVariants.{Client, Server}
-use Rattle.rh_world.specs.declared.line.Dir.TheVariants.{U, D}
+use Rattle.rh_line.specs.Queue.{total}
+use Rattle.rh_line.specs.declared.give_fault.GiveFault.{GiveFault}
 use Rattle.rh_world.specs.declared.line.Line.{Line}
 use Rattle.rh_world.specs.declared.line.Line.TheVariants as line
-use Rattle.rh_world.specs.declared.answer.GiveFault.{GiveFault}
 use Rattle.rh_world.specs.declared.answer.Answer.{Answer}
 use Rattle.rh_world.specs.declared.answer.Answer.TheVariants as answer
-use Rattle.rh_world.specs.Direct.{Way, World, empty, step, answers, last, after, told, run, refusal, refusal_by, take_pdu, taken_from}
-use Rattle.rh_world.specs.Order.{other, offer, offered, accepted, given, taken, StopsTaking, StopsGiving, IsCleanEnd, IsPrefix, Counts, InOrder}
+use Rattle.rh_world.specs.declared.answer.TakeAnswer.TheVariants.{Pdu, Empty}
+use Rattle.rh_world.specs.Direct.{Way, World, empty, step, last, after, told, run}
+use Rattle.rh_world.specs.Direct.{refusal, refusal_by, give_by, take_pdu, take_from, giving, taking, way_of}
+use Rattle.rh_world.specs.Order.{Event, Gives, Refuses, Takes, Ends, Closes, Stops, Silent, event, events}
+use Rattle.rh_world.specs.Order.{other, of_end, offer, offered, given, taken, StopsTaking, StopsGiving}
+use Rattle.rh_world.specs.Order.{IsPrefix, Counts, InOrder}
 use Rattle.rh_world.proofs.Ways.{Carries, give_carries, send_carries, move_carries, take_carries, empty_carries}
 
--- what each end gave and took so far
-pub record Ends : Type 0 where
-  pub given_up : List (List ℕ)
-  pub taken_up : List (List ℕ)
-  pub given_down : List (List ℕ)
-  pub taken_down : List (List ℕ)
+-- the end that gives in a direction, and the one that takes
+abbrev pub giver : Dir → Side
+giver U = Client
+giver D = Server
 
-pub record Sound (world : World) (ends : Ends) : Type 0 where
-  pub up : Carries world.up ends.given_up ends.taken_up
-  pub down : Carries world.down ends.given_down ends.taken_down
-
--- with what a report tells of them
-abbrev pub with_report : Ends → List (List ℕ) → List Answer → Ends
-with_report ends pdus report = record {
-  given_up = ends.given_up ++ accepted Client pdus report;
-  taken_up = ends.taken_up ++ taken Server report;
-  given_down = ends.given_down ++ accepted Server pdus report;
-  taken_down = ends.taken_down ++ taken Client report;
-}
-
--- what is taken is a front of what is given
-pub record IsOrdered (ends : Ends) : Type 0 where
-  pub up : IsPrefix ends.taken_up ends.given_up
-  pub down : IsPrefix ends.taken_down ends.given_down
-
-sound_ordered : (world : World) (ends : Ends) → Sound world ends → IsOrdered ends
-sound_ordered world ends h = record { up = (_, h.up.in_order); down = (_, h.down.in_order) }
-
--- ends that gave and took nothing more
-same_ends : (ends : Ends)
-    → record { given_up = ends.given_up ++ []; taken_up = ends.taken_up ++ []; given_down = ends.given_down ++ []; taken_down = ends.taken_down ++ [] } ≡ ends
-same_ends ends = rw (append-nil ends.given_up, append-nil ends.taken_up, append-nil ends.given_down, append-nil ends.taken_down) refl
+abbrev pub taker : Dir → Side
+taker U = Server
+taker D = Client
 
 -- ---- one line
 
--- a line keeps the world sound with what its answer tells
-pub record Tells (world : World) (line : Line) (ends : Ends) : Type 0 where
-  pub next : Ends
-  pub sound : Sound (step world line) next
-  pub tells : (pdus : List (List ℕ)) (report : List Answer)
-      → with_report ends (offer line ++ pdus) (answers world line ++ report) ≡ with_report next pdus report
+-- the answer of a line keeps a direction sound with what it tells of that direction
+pub record Tells (d : Dir) (world : World) (line : Line) (gave took : List (List ℕ)) : Type 0 where
+  pub gave_now : List (List ℕ)
+  pub took_now : List (List ℕ)
+  pub carries : Carries (way_of (step world line).0 d) gave_now took_now
+  pub gives : (pdus : List (List ℕ)) (more : List Event)
+      → gave ++ given (giver d) (offer line ++ pdus) (events (step world line).1 ++ more)
+      ≡ gave_now ++ given (giver d) pdus more
+  pub takes : (more : List Event)
+      → took ++ taken (taker d) (events (step world line).1 ++ more) ≡ took_now ++ taken (taker d) more
+
+-- what tells nothing of a give passes over whatever is offered
+abbrev IsPassed : Event → Type 0
+IsPassed (Gives side) = ⊥
+IsPassed (Refuses side) = ⊥
+IsPassed (Takes side pdu) = Unit {0}
+IsPassed (Ends side) = Unit {0}
+IsPassed (Closes side) = Unit {0}
+IsPassed (Stops side) = Unit {0}
+IsPassed Silent = Unit {0}
+
+none_given : (end : Side) (events : List Event) → given end [] events ≡ []
+none_given end [] = refl
+none_given end (e ∷ events) = refl
+
+passed : (end : Side) (pdus : List (List ℕ)) (e : Event) (more : List Event) → IsPassed e
+    → given end pdus (e ∷ more) ≡ given end pdus more
+passed end [] e more h = sym (none_given end more)
+passed end (pdu ∷ pdus) (Gives side) more h = absurd h
+passed end (pdu ∷ pdus) (Refuses side) more h = absurd h
+passed end (pdu ∷ pdus) (Takes side p) more h = refl
+passed end (pdu ∷ pdus) (Ends side) more h = refl
+passed end (pdu ∷ pdus) (Closes side) more h = refl
+passed end (pdu ∷ pdus) (Stops side) more h = refl
+passed end (pdu ∷ pdus) Silent more h = refl
 
 -- what was refused is no give; what was not refused is a PDU
-is_pdu_by : (o : Option PduFault) (held len : ℕ) → refusal_by o held len ≡ None → o ≡ None
-is_pdu_by None held len h = refl
-is_pdu_by (Some f) held len h = absurd (cc)
+sound_by : (o : Option PduFault) (held len : ℕ) → refusal_by o held len ≡ None → o ≡ None
+sound_by None held len h = refl
+sound_by (Some f) held len h = absurd (cc)
 
-give_up_tells : (world : World) (pdu : List ℕ) (ends : Ends) (o : Option GiveFault) → Sound world ends → refusal world.up pdu ≡ o → Tells world (line.Give Client pdu) ends
-give_up_tells world pdu ends (Some f) h is = record {
-  next = ends;
-  sound = rw is h;
-  tells = λ pdus report. rw is refl;
+-- a give, where the direction is the one in which the end gives, or the other
+give_tells : (d : Dir) (side : Side) (world : World) (pdu : List ℕ) (gave took : List (List ℕ)) (o : Option GiveFault)
+    → Carries (way_of world d) gave took → refusal (way_of world (giving side)) pdu ≡ o
+    → Tells d world (line.Give side pdu) gave took
+give_tells U Client world pdu gave took (Some f) h is = record {
+  gave_now = gave;
+  took_now = took;
+  carries = rw is h;
+  gives = λ pdus more. rw is refl;
+  takes = λ more. rw is refl;
 }
-give_up_tells world pdu ends None h is =
-    let sound = give_carries world.up pdu ends.given_up ends.taken_up h.up (pdu_from_none pdu (is_pdu_by (pdu_fault pdu) (total world.up.queue) (length pdu) is)) in
+give_tells U Client world pdu gave took None h is =
+    let sound = pdu_from_none pdu (sound_by (pdu_fault pdu) (total world.up.queue) (length pdu) is) in
     record {
-      next = record ends { given_up = ends.given_up ++ pdu ∷ [] };
-      sound = rw is (record { up = sound; down = h.down });
-      tells = λ pdus report. rw (is, append_assoc ends.given_up (pdu ∷ []) (accepted Client pdus report)) refl;
+      gave_now = gave ++ pdu ∷ [];
+      took_now = took;
+      carries = rw is (give_carries world.up pdu gave took sound.frame h);
+      gives = λ pdus more. rw is (sym (append_assoc gave (pdu ∷ []) (given Client pdus more)));
+      takes = λ more. rw is refl;
     }
-
-give_down_tells : (world : World) (pdu : List ℕ) (ends : Ends) (o : Option GiveFault) → Sound world ends → refusal world.down pdu ≡ o → Tells world (line.Give Server pdu) ends
-give_down_tells world pdu ends (Some f) h is = record {
-  next = ends;
-  sound = rw is h;
-  tells = λ pdus report. rw is refl;
+give_tells D Server world pdu gave took (Some f) h is = record {
+  gave_now = gave;
+  took_now = took;
+  carries = rw is h;
+  gives = λ pdus more. rw is refl;
+  takes = λ more. rw is refl;
 }
-give_down_tells world pdu ends None h is =
-    let sound = give_carries world.down pdu ends.given_down ends.taken_down h.down (pdu_from_none pdu (is_pdu_by (pdu_fault pdu) (total world.down.queue) (length pdu) is)) in
+give_tells D Server world pdu gave took None h is =
+    let sound = pdu_from_none pdu (sound_by (pdu_fault pdu) (total world.down.queue) (length pdu) is) in
     record {
-      next = record ends { given_down = ends.given_down ++ pdu ∷ [] };
-      sound = rw is (record { up = h.up; down = sound });
-      tells = λ pdus report. rw (is, append_assoc ends.given_down (pdu ∷ []) (accepted Server pdus report)) refl;
+      gave_now = gave ++ pdu ∷ [];
+      took_now = took;
+      carries = rw is (give_carries world.down pdu gave took sound.frame h);
+      gives = λ pdus more. rw is (sym (append_assoc gave (pdu ∷ []) (given Server pdus more)));
+      takes = λ more. rw is refl;
     }
+give_tells D Client world pdu gave took (Some f) h is = record {
+  gave_now = gave;
+  took_now = took;
+  carries = h;
+  gives = λ pdus more. rw is refl;
+  takes = λ more. rw is refl;
+}
+give_tells D Client world pdu gave took None h is = record {
+  gave_now = gave;
+  took_now = took;
+  carries = h;
+  gives = λ pdus more. rw is refl;
+  takes = λ more. rw is refl;
+}
+give_tells U Server world pdu gave took (Some f) h is = record {
+  gave_now = gave;
+  took_now = took;
+  carries = h;
+  gives = λ pdus more. rw is refl;
+  takes = λ more. rw is refl;
+}
+give_tells U Server world pdu gave took None h is = record {
+  gave_now = gave;
+  took_now = took;
+  carries = h;
+  gives = λ pdus more. rw is refl;
+  takes = λ more. rw is refl;
+}
 
 -- where there is no PDU, taking changes nothing
-none_taken : (way : Way) → way.untaken ≡ [] → way ≡ take_pdu way
-none_taken way is = sym (ap (λ untaken. taken_from untaken way) is)
+none_taken : (way : Way) → way.untaken ≡ [] → way ≡ (take_pdu way).0
+none_taken way is = sym (ap (λ (untaken : List (List ℕ)). (take_from untaken way).0) is)
 
-take_up_tells : (world : World) (ends : Ends) (untaken : List (List ℕ)) → Sound world ends → world.up.untaken ≡ untaken → Tells world (line.Take Server) ends
-take_up_tells world ends [] h is = record {
-  next = ends;
-  sound = record { up = subst (λ way. Carries way ends.given_up ends.taken_up) (none_taken world.up is) h.up; down = h.down };
-  tells = λ pdus report. rw is refl;
+-- what a take is answered, by the PDUs that are there
+take_event : (side : Side) (way : Way) (untaken : List (List ℕ)) → way.untaken ≡ untaken
+    → event (answer.Take side (take_pdu way).1) ≡ event (answer.Take side (take_from untaken way).1)
+take_event side way untaken is =
+    ap (λ (pdus : List (List ℕ)). event (answer.Take side (take_from pdus way).1)) is
+
+-- a take tells nothing of gives
+take_gives : (end side : Side) (gave pdus untaken : List (List ℕ)) (way : Way) (more : List Event) → way.untaken ≡ untaken
+    → gave ++ given end pdus (event (answer.Take side (take_pdu way).1) ∷ more) ≡ gave ++ given end pdus more
+take_gives end side gave pdus [] way more is =
+    ap (λ e. gave ++ given end pdus (e ∷ more)) (take_event side way [] is)
+    ∙ ap (λ x. gave ++ x) (passed end pdus Silent more tt)
+take_gives end side gave pdus (pdu ∷ untaken) way more is =
+    ap (λ e. gave ++ given end pdus (e ∷ more)) (take_event side way (pdu ∷ untaken) is)
+    ∙ ap (λ x. gave ++ x) (passed end pdus (Takes side pdu) more tt)
+
+-- a take of one end tells nothing of what the other takes
+other_takes : (side : Side) (took untaken : List (List ℕ)) (way : Way) (more : List Event) → way.untaken ≡ untaken
+    → took ++ taken (other side) (event (answer.Take side (take_pdu way).1) ∷ more) ≡ took ++ taken (other side) more
+other_takes Client took [] way more is =
+    ap (λ e. took ++ taken Server (e ∷ more)) (take_event Client way [] is)
+other_takes Client took (pdu ∷ untaken) way more is =
+    ap (λ e. took ++ taken Server (e ∷ more)) (take_event Client way (pdu ∷ untaken) is)
+other_takes Server took [] way more is =
+    ap (λ e. took ++ taken Client (e ∷ more)) (take_event Server way [] is)
+other_takes Server took (pdu ∷ untaken) way more is =
+    ap (λ e. took ++ taken Client (e ∷ more)) (take_event Server way (pdu ∷ untaken) is)
+
+-- the first PDU is taken
+one_taken : (side : Side) (took : List (List ℕ)) (pdu : List ℕ) (untaken : List (List ℕ)) (way : Way) (more : List Event)
+    → way.untaken ≡ pdu ∷ untaken
+    → took ++ taken side (event (answer.Take side (take_pdu way).1) ∷ more) ≡ (took ++ pdu ∷ []) ++ taken side more
+one_taken Client took pdu untaken way more is =
+    ap (λ e. took ++ taken Client (e ∷ more)) (take_event Client way (pdu ∷ untaken) is)
+    ∙ sym (append_assoc took (pdu ∷ []) (taken Client more))
+one_taken Server took pdu untaken way more is =
+    ap (λ e. took ++ taken Server (e ∷ more)) (take_event Server way (pdu ∷ untaken) is)
+    ∙ sym (append_assoc took (pdu ∷ []) (taken Server more))
+
+none_took : (side : Side) (took : List (List ℕ)) (way : Way) (more : List Event) → way.untaken ≡ []
+    → took ++ taken side (event (answer.Take side (take_pdu way).1) ∷ more) ≡ took ++ taken side more
+none_took side took way more is = ap (λ e. took ++ taken side (e ∷ more)) (take_event side way [] is)
+
+-- a take, where the direction is the one from which the end takes, or the other
+take_tells : (d : Dir) (side : Side) (world : World) (gave took untaken : List (List ℕ))
+    → Carries (way_of world d) gave took → (way_of world (taking side)).untaken ≡ untaken
+    → Tells d world (line.Take side) gave took
+take_tells U Server world gave took [] h is = record {
+  gave_now = gave;
+  took_now = took;
+  carries = subst (λ way. Carries way gave took) (none_taken world.up is) h;
+  gives = λ pdus more. take_gives Client Server gave pdus [] world.up more is;
+  takes = λ more. none_took Server took world.up more is;
 }
-take_up_tells world ends (pdu ∷ untaken) h is = record {
-  next = record ends { taken_up = ends.taken_up ++ pdu ∷ [] };
-  sound = rw is (record { up = take_carries world.up pdu untaken ends.given_up ends.taken_up is h.up; down = h.down });
-  tells = λ pdus report. rw (is, append_assoc ends.taken_up (pdu ∷ []) (taken Server report)) refl;
+take_tells U Server world gave took (pdu ∷ untaken) h is = record {
+  gave_now = gave;
+  took_now = took ++ pdu ∷ [];
+  carries = rw is (take_carries world.up pdu untaken gave took is h);
+  gives = λ pdus more. take_gives Client Server gave pdus (pdu ∷ untaken) world.up more is;
+  takes = λ more. one_taken Server took pdu untaken world.up more is;
+}
+take_tells D Client world gave took [] h is = record {
+  gave_now = gave;
+  took_now = took;
+  carries = subst (λ way. Carries way gave took) (none_taken world.down is) h;
+  gives = λ pdus more. take_gives Server Client gave pdus [] world.down more is;
+  takes = λ more. none_took Client took world.down more is;
+}
+take_tells D Client world gave took (pdu ∷ untaken) h is = record {
+  gave_now = gave;
+  took_now = took ++ pdu ∷ [];
+  carries = rw is (take_carries world.down pdu untaken gave took is h);
+  gives = λ pdus more. take_gives Server Client gave pdus (pdu ∷ untaken) world.down more is;
+  takes = λ more. one_taken Client took pdu untaken world.down more is;
+}
+take_tells D Server world gave took untaken h is = record {
+  gave_now = gave;
+  took_now = took;
+  carries = h;
+  gives = λ pdus more. take_gives Server Server gave pdus untaken world.up more is;
+  takes = λ more. other_takes Server took untaken world.up more is;
+}
+take_tells U Client world gave took untaken h is = record {
+  gave_now = gave;
+  took_now = took;
+  carries = h;
+  gives = λ pdus more. take_gives Client Client gave pdus untaken world.down more is;
+  takes = λ more. other_takes Client took untaken world.down more is;
 }
 
-take_down_tells : (world : World) (ends : Ends) (untaken : List (List ℕ)) → Sound world ends → world.down.untaken ≡ untaken → Tells world (line.Take Client) ends
-take_down_tells world ends [] h is = record {
-  next = ends;
-  sound = record { up = h.up; down = subst (λ way. Carries way ends.given_down ends.taken_down) (none_taken world.down is) h.down };
-  tells = λ pdus report. rw is refl;
-}
-take_down_tells world ends (pdu ∷ untaken) h is = record {
-  next = record ends { taken_down = ends.taken_down ++ pdu ∷ [] };
-  sound = rw is (record { up = h.up; down = take_carries world.down pdu untaken ends.given_down ends.taken_down is h.down });
-  tells = λ pdus report. rw (is, append_assoc ends.taken_down (pdu ∷ []) (taken Client report)) refl;
+-- a line that is answered by a silent event keeps what was given and taken
+silent_tells : (d : Dir) (world : World) (line : Line) (gave took : List (List ℕ)) → offer line ≡ []
+    → events (step world line).1 ≡ Silent ∷ [] → Carries (way_of (step world line).0 d) gave took
+    → Tells d world line gave took
+silent_tells d world line gave took none is h = record {
+  gave_now = gave;
+  took_now = took;
+  carries = h;
+  gives = λ pdus more. ap (λ x. gave ++ x) (ap (λ os. given (giver d) (os ++ pdus) (events (step world line).1 ++ more)) none
+      ∙ ap (λ es. given (giver d) pdus (es ++ more)) is ∙ passed (giver d) pdus Silent more tt);
+  takes = λ more. ap (λ es. took ++ taken (taker d) (es ++ more)) is;
 }
 
-line_tells : (world : World) (line : Line) (ends : Ends) → Sound world ends → Tells world line ends
-line_tells world line.First ends h = record { next = ends; sound = h; tells = λ pdus report. refl }
-line_tells world (line.Give Client pdu) ends h = give_up_tells world pdu ends (refusal world.up pdu) h refl
-line_tells world (line.Give Server pdu) ends h = give_down_tells world pdu ends (refusal world.down pdu) h refl
-line_tells world (line.Take Client) ends h = take_down_tells world ends world.down.untaken h refl
-line_tells world (line.Take Server) ends h = take_up_tells world ends world.up.untaken h refl
-line_tells world (line.Send U n) ends h = record {
-  next = ends;
-  sound = record { up = send_carries world.up n ends.given_up ends.taken_up h.up; down = h.down };
-  tells = λ pdus report. refl;
-}
-line_tells world (line.Send D n) ends h = record {
-  next = ends;
-  sound = record { up = h.up; down = send_carries world.down n ends.given_down ends.taken_down h.down };
-  tells = λ pdus report. refl;
-}
-line_tells world (line.Move U n) ends h = record {
-  next = ends;
-  sound = record { up = move_carries world.up n ends.given_up ends.taken_up h.up; down = h.down };
-  tells = λ pdus report. refl;
-}
-line_tells world (line.Move D n) ends h = record {
-  next = ends;
-  sound = record { up = h.up; down = move_carries world.down n ends.given_down ends.taken_down h.down };
-  tells = λ pdus report. refl;
-}
+line_tells : (d : Dir) (world : World) (line : Line) (gave took : List (List ℕ)) → Carries (way_of world d) gave took
+    → Tells d world line gave took
+line_tells d world line.First gave took h =
+    record { gave_now = gave; took_now = took; carries = h; gives = λ pdus more. refl; takes = λ more. refl }
+line_tells d world (line.Give side pdu) gave took h =
+    give_tells d side world pdu gave took (refusal (way_of world (giving side)) pdu) h refl
+line_tells d world (line.Take side) gave took h =
+    take_tells d side world gave took (way_of world (taking side)).untaken h refl
+line_tells U world (line.Send U n) gave took h =
+    silent_tells U world (line.Send U n) gave took refl refl (send_carries world.up n gave took h)
+line_tells U world (line.Send D n) gave took h = silent_tells U world (line.Send D n) gave took refl refl h
+line_tells D world (line.Send U n) gave took h = silent_tells D world (line.Send U n) gave took refl refl h
+line_tells D world (line.Send D n) gave took h =
+    silent_tells D world (line.Send D n) gave took refl refl (send_carries world.down n gave took h)
+line_tells U world (line.Move U n) gave took h =
+    silent_tells U world (line.Move U n) gave took refl refl (move_carries world.up n gave took h)
+line_tells U world (line.Move D n) gave took h = silent_tells U world (line.Move D n) gave took refl refl h
+line_tells D world (line.Move U n) gave took h = silent_tells D world (line.Move U n) gave took refl refl h
+line_tells D world (line.Move D n) gave took h =
+    silent_tells D world (line.Move D n) gave took refl refl (move_carries world.down n gave took h)
 
 -- ---- all lines
 
--- last lines tell of no give and no take
-abbrev pub IsSilent : List Answer → Type 0
-IsSilent tail = (pdus : List (List ℕ)) (ends : Ends) → with_report ends pdus tail ≡ ends
+-- after lines, a direction is sound with what their report tells
+pub after_carries : (d : Dir) (lines : List Line) (world : World) (gave took : List (List ℕ)) → Carries (way_of world d) gave took
+    → Carries (way_of (after world lines) d) (gave ++ given (giver d) (offered lines) (events (told world lines)))
+    (took ++ taken (taker d) (events (told world lines)))
+after_carries d [] world gave took h =
+    subst (λ g. Carries (way_of world d) g (took ++ [])) (sym (append-nil gave))
+    (subst (λ t. Carries (way_of world d) gave t) (sym (append-nil took)) h)
+after_carries d (line ∷ lines) world gave took h =
+    let t = line_tells d world line gave took h in
+    let next = (step world line).0 in
+    let later = after_carries d lines next t.gave_now t.took_now t.carries in
+    let all : events (told world (line ∷ lines)) ≡ events (step world line).1 ++ events (told next lines) =
+    map-append event (step world line).1 (told next lines) in
+    let g = ap (λ es. gave ++ given (giver d) (offer line ++ offered lines) es) all ∙ t.gives (offered lines) (events (told next lines)) in
+    let k = ap (λ es. took ++ taken (taker d) es) all ∙ t.takes (events (told next lines)) in
+    subst (λ x. Carries (way_of (after next lines) d) x (took ++ taken (taker d) (events (told world (line ∷ lines))))) (sym g)
+    (subst (λ x. Carries (way_of (after next lines) d) (t.gave_now ++ given (giver d) (offered lines) (events (told next lines))) x) (sym k) later)
 
-last_silent : (world : World) (ends : Ends) (pdus : List (List ℕ)) → with_report ends pdus (last world) ≡ ends
-last_silent world ends [] = same_ends ends
-last_silent world ends (pdu ∷ pdus) = same_ends ends
+-- what is taken is a front of what is given, at so many events
+abbrev Ordered : Dir → List (List ℕ) → List (List ℕ) → List (List ℕ) → List Event → Type 0
+Ordered d gave took pdus es = IsPrefix (took ++ taken (taker d) es) (gave ++ given (giver d) pdus es)
 
--- after lines, the world is sound with what their report tells
-pub after_sound : (lines : List Line) (world shown : World) (ends : Ends) → Sound world ends
-    → Sound (after world lines) (with_report ends (offered lines) (told world lines ++ last shown))
-after_sound [] world shown ends h = subst (Sound world) (sym (last_silent shown ends [])) h
-after_sound (line ∷ lines) world shown ends h =
-    let t = line_tells world line ends h in
-    let later = after_sound lines (step world line) shown t.next t.sound in
-    subst (Sound (after (step world line) lines)) (sym (ap (with_report ends (offer line ++ offered lines)) (append_assoc (answers world line) (told (step world line) lines) (last shown))
-    ∙ t.tells (offered lines) (told (step world line) lines ++ last shown))) later
+nothing_given : (end : Side) (pdus : List (List ℕ)) → given end pdus [] ≡ []
+nothing_given end [] = refl
+nothing_given end (pdu ∷ pdus) = refl
 
--- any front of the last lines tells nothing
-last_front : (k : ℕ) (shown : World) (ends : Ends) → with_report ends [] (take k (last shown)) ≡ ends
-last_front zero shown ends = same_ends ends
-last_front (suc zero) shown ends = same_ends ends
-last_front (suc (suc zero)) shown ends = same_ends ends
-last_front (suc (suc (suc k))) shown ends = same_ends ends
+-- before the next event
+carries_ordered : (d : Dir) (way : Way) (gave took pdus : List (List ℕ)) → Carries way gave took
+    → Ordered d gave took pdus []
+carries_ordered d way gave took pdus h = (
+  way.untaken ++ frames_of (way.fed ++ (way.flight ++ way.undrawn)),
+  ap (λ x. gave ++ x) (nothing_given (giver d) pdus) ∙ append-nil gave ∙ h.in_order
+      ∙ ap (λ x. x ++ (way.untaken ++ frames_of (way.fed ++ (way.flight ++ way.undrawn)))) (sym (append-nil took)),
+)
 
-no_report : (pdus : List (List ℕ)) (ends : Ends) → with_report ends pdus [] ≡ ends
-no_report [] ends = same_ends ends
-no_report (pdu ∷ pdus) ends = same_ends ends
+-- one line's events, and then others
+answered : (d : Dir) (world : World) (line : Line) (lines : List Line) (gave took : List (List ℕ)) (more : List Event)
+    → (t : Tells d world line gave took) → Ordered d t.gave_now t.took_now (offered lines) more
+    → Ordered d gave took (offered (line ∷ lines)) (events (step world line).1 ++ more)
+answered d world line lines gave took more t later =
+    subst (λ x. IsPrefix x (gave ++ given (giver d) (offer line ++ offered lines) (events (step world line).1 ++ more)))
+    (sym (t.takes more))
+    (subst (λ x. IsPrefix (t.took_now ++ taken (taker d) more) x) (sym (t.gives (offered lines) more)) later)
 
--- at every line of the report, what is taken is a front of what is given
-abbrev pub Ordered : List Line → World → World → Ends → ℕ → Type 0
-Ordered lines world shown ends k = IsOrdered (with_report ends (offered lines) (take k (told world lines ++ last shown)))
-
--- one line with one answer
-answered : (world shown : World) (line : Line) (answer : Answer) (lines : List Line) (ends : Ends) (k : ℕ) → Sound world ends → answers world line ≡ answer ∷ []
-    → ((next : Ends) (j : ℕ) → Sound (step world line) next → Ordered lines (step world line) shown next j) → Ordered (line ∷ lines) world shown ends k
-answered world shown line answer lines ends zero h is later =
-    subst IsOrdered (sym (no_report (offer line ++ offered lines) ends)) (sound_ordered world ends h)
-answered world shown line answer lines ends (suc k) h is later =
-    let t = line_tells world line ends h in
-    let report = told (step world line) lines ++ last shown in
-    let first : take (suc k) ((answers world line ++ told (step world line) lines) ++ last shown) ≡ answers world line ++ take k report =
-    ap (λ a. take (suc k) ((a ++ told (step world line) lines) ++ last shown)) is ∙ sym (ap (λ a. a ++ take k report) is) in
-    subst IsOrdered (sym (ap (with_report ends (offer line ++ offered lines)) first ∙ t.tells (offered lines) (take k report))) (later t.next k t.sound)
-
-pub run_ordered : (lines : List Line) (world shown : World) (ends : Ends) (k : ℕ) → Sound world ends → Ordered lines world shown ends k
-run_ordered [] world shown ends k h = subst IsOrdered (sym (last_front k shown ends)) (sound_ordered world ends h)
-run_ordered (line.First ∷ lines) world shown ends k h = run_ordered lines world shown ends k h
-run_ordered (line.Give side pdu ∷ lines) world shown ends k h =
-    answered world shown (line.Give side pdu) _ lines ends k h refl (λ next j s. run_ordered lines (step world (line.Give side pdu)) shown next j s)
-run_ordered (line.Take side ∷ lines) world shown ends k h =
-    answered world shown (line.Take side) _ lines ends k h refl (λ next j s. run_ordered lines (step world (line.Take side)) shown next j s)
-run_ordered (line.Send dir n ∷ lines) world shown ends k h =
-    answered world shown (line.Send dir n) _ lines ends k h refl (λ next j s. run_ordered lines (step world (line.Send dir n)) shown next j s)
-run_ordered (line.Move dir n ∷ lines) world shown ends k h =
-    answered world shown (line.Move dir n) _ lines ends k h refl (λ next j s. run_ordered lines (step world (line.Move dir n)) shown next j s)
+run_ordered : (d : Dir) (lines : List Line) (world : World) (gave took : List (List ℕ)) (k : ℕ)
+    → Carries (way_of world d) gave took → Ordered d gave took (offered lines) (take k (events (told world lines)))
+run_ordered d [] world gave took zero h = carries_ordered d (way_of world d) gave took [] h
+run_ordered d [] world gave took (suc zero) h = carries_ordered d (way_of world d) gave took [] h
+run_ordered d [] world gave took (suc (suc zero)) h = carries_ordered d (way_of world d) gave took [] h
+run_ordered d [] world gave took (suc (suc (suc k))) h = carries_ordered d (way_of world d) gave took [] h
+run_ordered d (line ∷ lines) world gave took zero h =
+    carries_ordered d (way_of world d) gave took (offered (line ∷ lines)) h
+run_ordered d (line.First ∷ lines) world gave took (suc k) h = run_ordered d lines world gave took (suc k) h
+run_ordered d (line.Give side pdu ∷ lines) world gave took (suc k) h =
+    let t = line_tells d world (line.Give side pdu) gave took h in
+    answered d world (line.Give side pdu) lines gave took _ t
+    (run_ordered d lines (step world (line.Give side pdu)).0 t.gave_now t.took_now k t.carries)
+run_ordered d (line.Take side ∷ lines) world gave took (suc k) h =
+    let t = line_tells d world (line.Take side) gave took h in
+    answered d world (line.Take side) lines gave took _ t
+    (run_ordered d lines (step world (line.Take side)).0 t.gave_now t.took_now k t.carries)
+run_ordered d (line.Send dir n ∷ lines) world gave took (suc k) h =
+    let t = line_tells d world (line.Send dir n) gave took h in
+    answered d world (line.Send dir n) lines gave took _ t
+    (run_ordered d lines (step world (line.Send dir n)).0 t.gave_now t.took_now k t.carries)
+run_ordered d (line.Move dir n ∷ lines) world gave took (suc k) h =
+    let t = line_tells d world (line.Move dir n) gave took h in
+    answered d world (line.Move dir n) lines gave took _ t
+    (run_ordered d lines (step world (line.Move dir n)).0 t.gave_now t.took_now k t.carries)
 
 -- ---- the order law
 
-none : Ends
-none = record { given_up = []; taken_up = []; given_down = []; taken_down = [] }
+-- no answer of a direct world closes, stops or ends
+abbrev IsPlain : Event → Type 0
+IsPlain (Gives side) = Unit {0}
+IsPlain (Refuses side) = Unit {0}
+IsPlain (Takes side pdu) = Unit {0}
+IsPlain (Ends side) = ⊥
+IsPlain (Closes side) = ⊥
+IsPlain (Stops side) = ⊥
+IsPlain Silent = Unit {0}
 
-empty_sound : Sound empty none
-unfolding none
-empty_sound = record { up = empty_carries; down = empty_carries }
+is_plain : (a : Answer) → IsPlain (event a)
+is_plain (answer.Give side (Ok len)) = tt
+is_plain (answer.Give side (Err fault)) = tt
+is_plain (answer.Take side (Pdu pdu)) = tt
+is_plain (answer.Take side Empty) = tt
+is_plain (answer.Send dir count) = tt
+is_plain (answer.Move dir bytes) = tt
+is_plain (answer.Up g t) = tt
+is_plain (answer.Down g t) = tt
 
--- no answer of a direct world stops an end
-never_stops_taking : (end : Side) (a : Answer) → StopsTaking end a → ⊥
-never_stops_taking end (answer.Give side r) h = h
-never_stops_taking end (answer.Take side r) h = h
-never_stops_taking end (answer.Send dir n) h = h
-never_stops_taking end (answer.Move dir bytes) h = h
-never_stops_taking end (answer.Up g t) h = h
-never_stops_taking end (answer.Down g t) h = h
+-- so no event of a report does
+all_plain : (report : List Answer) (front behind : List Event) (stop : Event) → events report ≡ front ++ stop ∷ behind → IsPlain stop
+all_plain [] [] behind stop h = absurd (cc)
+all_plain [] (e ∷ front) behind stop h = absurd (cc)
+all_plain (a ∷ report) [] behind stop h = subst IsPlain (let e = h in cc) (is_plain a)
+all_plain (a ∷ report) (e ∷ front) behind stop h = all_plain report front behind stop (let e = h in cc)
 
-never_stops_giving : (end : Side) (a : Answer) → StopsGiving end a → ⊥
-never_stops_giving end (answer.Give side r) h = h
-never_stops_giving end (answer.Take side r) h = h
-never_stops_giving end (answer.Send dir n) h = h
-never_stops_giving end (answer.Move dir bytes) h = h
-never_stops_giving end (answer.Up g t) h = h
-never_stops_giving end (answer.Down g t) h = h
+-- the report ends by its last lines
+told_last : (lines : List Line) (world : World) → (front : List Answer) × (told world lines ≡ front ++ last (after world lines))
+told_last [] world = ([], refl)
+told_last (line ∷ lines) world =
+    let next = (step world line).0 in
+    let later = told_last lines next in (
+      (step world line).1 ++ later.0,
+      ap (λ (x : List Answer). (step world line).1 ++ x) later.1
+          ∙ sym (append_assoc (step world line).1 later.0 (last (after next lines))),
+    )
 
-never_ends : (end : Side) (a : Answer) → IsCleanEnd end a → ⊥
-never_ends end (answer.Give side r) h = h
-never_ends end (answer.Take side r) h = h
-never_ends end (answer.Send dir n) h = h
-never_ends end (answer.Move dir bytes) h = h
-never_ends end (answer.Up g t) h = h
-never_ends end (answer.Down g t) h = h
-
-ordered_end : (lines : List Line) (end : Side) (k : ℕ) → IsPrefix (taken end (take k (run lines))) (given (other end) lines (take k (run lines)))
-unfolding none
-ordered_end lines Client k = (run_ordered lines empty (after empty lines) none k empty_sound).down
-ordered_end lines Server k = (run_ordered lines empty (after empty lines) none k empty_sound).up
-
-last_shows : (world : World) (a b c d : ℕ) → world.up.given ≡ a → world.up.taken ≡ b → world.down.given ≡ c → world.down.taken ≡ d
-    → last world ≡ answer.Up a b ∷ answer.Down c d ∷ []
+last_shows : (world : World) (a b c d : ℕ) → world.up.given ≡ a → world.up.taken ≡ b → world.down.given ≡ c
+    → world.down.taken ≡ d → last world ≡ answer.Up a b ∷ answer.Down c d ∷ []
 last_shows world a b c d e f g h = rw (e, f, g, h) refl
 
 run_counts : (lines : List Line) → Counts lines (run lines)
-unfolding none
 run_counts lines =
-    let end = after empty lines in
-    let s = after_sound lines empty end none empty_sound in
-    (told empty lines, ap (λ tail. told empty lines ++ tail) (last_shows end _ _ _ _ s.up.given_count s.up.taken_count s.down.given_count s.down.taken_count))
+    let up = after_carries U lines empty [] [] empty_carries in
+    let down = after_carries D lines empty [] [] empty_carries in
+    let front = told_last lines empty in
+    let shows = last_shows (after empty lines) _ _ _ _ up.given_count up.taken_count down.given_count down.taken_count in
+    (front.0, front.1 ∙ ap (λ (x : List Answer). front.0 ++ x) shows)
+
+ordered_end : (lines : List Line) (end : Side) (k : ℕ)
+    → IsPrefix (taken end (take k (events (run lines)))) (given (other end) (offered lines) (take k (events (run lines))))
+ordered_end lines Client k = run_ordered D lines empty [] [] k empty_carries
+ordered_end lines Server k = run_ordered U lines empty [] [] k empty_carries
 
 -- the report of every recording is in order
 pub run_in_order : (lines : List Line) → InOrder lines (run lines)
-run_in_order lines = record {
-  in_order = ordered_end lines;
-  none_taken_after = λ end front behind stop is stops. absurd (never_stops_taking end stop stops);
-  none_given_after = λ end front behind stop is stops. absurd (never_stops_giving end stop stops);
-  all_at_clean_end = λ end front behind stop is ends. absurd (never_ends end stop ends);
-  counted = run_counts lines;
-}
+run_in_order lines =
+    let never : (stop : Event) (front behind : List Event) → events (run lines) ≡ front ++ stop ∷ behind → IsPlain stop =
+    λ stop front behind is. all_plain (run lines) front behind stop is in
+    record {
+      in_order = ordered_end lines;
+      none_taken_after = λ end front behind stop is stops. elim stops [
+        | inl e ↦ absurd (subst IsPlain e (never stop front behind is))
+        | inr e ↦ absurd (subst IsPlain e (never stop front behind is))
+      ];
+      none_given_after = λ end front behind stop is stops. elim stops [
+        | inl e ↦ absurd (subst IsPlain e (never stop front behind is))
+        | inr e ↦ absurd (subst IsPlain e (never stop front behind is))
+      ];
+      all_at_clean_end = λ end front behind is. absurd (never (Ends end) front behind is);
+      counted = run_counts lines;
+    }

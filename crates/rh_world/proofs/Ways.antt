@@ -1,160 +1,236 @@
 -- what one direction of the leg carries
-use Rattle.std.proofs.Common.{◌≡◌, ℕ, ◌+◌, ◌-◌, ◌≤◌, List, [], ◌∷◌, ◌++◌, take, drop, length, true, false, cond, nat_le, None, arith, sym, ◌∙◌, ap, refl, append_assoc, subst}
-use Rattle.std.proofs.lemmas.List.{append-nil, take-append-drop, length_push, take-append-le}
+use Rattle.std.proofs.Common.{◌≡◌, ℕ, ◌+◌, ◌-◌, ◌≤◌, List, [], ◌∷◌, ◌++◌, take, drop, length, min, Ok, None, false, nat_lt}
+use Rattle.std.proofs.Common.{arith, sym, ◌∙◌, ap, refl, append_assoc}
 use Rattle.std.proofs.lemmas.Bool.Decides.{nat_tests}
-use Rattle.std.proofs.Math.Seq.{take-append-add}
-use Rattle.std.specs.List.{concat, AllByRecursion}
-use Rattle.rh_pdu.specs.Frames.{IsFrame, IsPdu}
+use Rattle.std.proofs.lemmas.List.{append-nil, take-append-drop, length-append, length-take-le, drop_all, length_push}
+use Rattle.std.specs.List.{concat}
+use Rattle.rh_pdu.specs.Checking.{pdu_fault}
+use Rattle.rh_pdu.specs.Frames.{IsFrame, IsBad}
 use Rattle.rh_pdu.specs.Cut.{frames_of, rest_of}
-use Rattle.rh_line.proofs.Queues.{each_push}
-use Rattle.rh_world.specs.Direct.{Way, empty_way, undrawn, begun_after, queue_after, send, move, given_by, taken_from}
-use Rattle.rh_pdu.proofs.Framing.{framing_appends, single_frame, frames_joined}
+use Rattle.rh_pdu.specs.Feeding.{FramerState}
+use Rattle.rh_pdu.proofs.Framing.{framing_appends, single_frame, frames_joined, no_bad_front}
+use Rattle.rh_line.specs.Queue.{queue_bytes, total, untouched}
+use Rattle.rh_world.specs.Carrying.{IsCarrying}
+use Rattle.rh_world.specs.Direct.{Way, empty_way, give_by, give, send, move, take_from}
 
--- the bytes on the way, from the receiver back to the giver
-abbrev pub path : Way → List ℕ
-path way = way.fed ++ (way.flight ++ way.begun)
+-- ---- queues
+
+-- PDUs end to end have the bytes of all
+pub length-concat : (pdus : List (List ℕ)) → length (concat pdus) ≡ total pdus
+length-concat [] = refl
+length-concat (pdu ∷ pdus) =
+    length-append pdu (concat pdus) ∙ ap (λ (n : ℕ). length pdu + n) (length-concat pdus)
+
+concat-push : (pdus : List (List ℕ)) (pdu : List ℕ) → concat (pdus ++ pdu ∷ []) ≡ concat pdus ++ pdu
+concat-push [] pdu = append-nil pdu
+concat-push (first ∷ pdus) pdu =
+    ap (λ (x : List ℕ). first ++ x) (concat-push pdus pdu) ∙ sym (append_assoc first (concat pdus) pdu)
+
+-- a PDU that is queued is undrawn
+pub undrawn-push : (begun : List ℕ) (queue : List (List ℕ)) (pdu : List ℕ)
+    → begun ++ concat (queue ++ pdu ∷ []) ≡ (begun ++ concat queue) ++ pdu
+undrawn-push begun queue pdu =
+    ap (λ (x : List ℕ). begun ++ x) (concat-push queue pdu) ∙ sym (append_assoc begun (concat queue) pdu)
+
+-- what is undrawn, in bytes
+pub length-undrawn : (begun : List ℕ) (queue : List (List ℕ))
+    → length (begun ++ concat queue) ≡ length begun + total queue
+length-undrawn begun queue =
+    length-append begun (concat queue) ∙ ap (λ (n : ℕ). length begun + n) (length-concat queue)
+
+-- ---- the bytes on the way, from the receiver back to the giver
+
+-- a frame that is given stands behind whole frames
+pub give_path : (fed flight undrawn pdu : List ℕ) → rest_of (fed ++ (flight ++ undrawn)) ≡ [] → IsFrame pdu
+    → (frames_of (fed ++ (flight ++ (undrawn ++ pdu))) ≡ frames_of (fed ++ (flight ++ undrawn)) ++ pdu ∷ [])
+    × (rest_of (fed ++ (flight ++ (undrawn ++ pdu))) ≡ [])
+give_path fed flight undrawn pdu whole frame =
+    let path = fed ++ (flight ++ undrawn) in
+    let behind : fed ++ (flight ++ (undrawn ++ pdu)) ≡ path ++ pdu =
+    ap (λ (x : List ℕ). fed ++ x) (sym (append_assoc flight undrawn pdu)) ∙ sym (append_assoc fed (flight ++ undrawn) pdu) in
+    let more = framing_appends path pdu in
+    let one = single_frame pdu frame in (
+      ap (λ (x : List ℕ). frames_of x) behind ∙ more.0
+          ∙ ap (λ (r : List ℕ). frames_of path ++ frames_of (r ++ pdu)) whole
+          ∙ ap (λ (fs : List (List ℕ)). frames_of path ++ fs) one.0,
+      ap (λ (x : List ℕ). rest_of x) behind ∙ more.1 ∙ ap (λ (r : List ℕ). rest_of (r ++ pdu)) whole ∙ one.1,
+    )
+
+-- bytes that are drawn stay where they were
+pub send_path : (fed flight undrawn : List ℕ) (n : ℕ)
+    → fed ++ ((flight ++ take n undrawn) ++ drop n undrawn) ≡ fed ++ (flight ++ undrawn)
+send_path fed flight undrawn n =
+    ap (λ (x : List ℕ). fed ++ x) (append_assoc flight (take n undrawn) (drop n undrawn)
+    ∙ ap (λ (x : List ℕ). flight ++ x) (take-append-drop n undrawn))
+
+cut_path : (fed flight undrawn : List ℕ) (n : ℕ)
+    → fed ++ (flight ++ undrawn) ≡ (fed ++ take n flight) ++ (drop n flight ++ undrawn)
+cut_path fed flight undrawn n =
+    ap (λ (x : List ℕ). fed ++ (x ++ undrawn)) (sym (take-append-drop n flight))
+    ∙ ap (λ (x : List ℕ). fed ++ x) (append_assoc (take n flight) (drop n flight) undrawn)
+    ∙ sym (append_assoc fed (take n flight) (drop n flight ++ undrawn))
+
+-- bytes that are fed leave the frames that they make whole, and a rest
+pub move_path : (fed flight undrawn : List ℕ) (n : ℕ)
+    → (frames_of (fed ++ (flight ++ undrawn)) ≡ frames_of (fed ++ take n flight)
+    ++ frames_of (rest_of (fed ++ take n flight) ++ (drop n flight ++ undrawn)))
+    × (rest_of (fed ++ (flight ++ undrawn)) ≡ rest_of (rest_of (fed ++ take n flight) ++ (drop n flight ++ undrawn)))
+move_path fed flight undrawn n =
+    let cut = cut_path fed flight undrawn n in
+    let more = framing_appends (fed ++ take n flight) (drop n flight ++ undrawn) in
+    (ap (λ (x : List ℕ). frames_of x) cut ∙ more.0, ap (λ (x : List ℕ). rest_of x) cut ∙ more.1)
+
+-- ---- what a direction keeps true, call by call
+
+pub nothing_carried : (framer : FramerState) → framer.rest ≡ [] → framer.fault ≡ None → IsCarrying [] [] framer [] 0 0
+nothing_carried framer rest going = record {
+  going = going;
+  whole = ap (λ (r : List ℕ). rest_of (r ++ [])) rest ∙ (frames_joined [] tt).1;
+  counted = sym (ap (λ (r : List ℕ). 0 + (0 + length (frames_of (r ++ [])))) rest
+      ∙ ap (λ (fs : List (List ℕ)). 0 + (0 + length fs)) (frames_joined [] tt).0);
+}
+
+pub given_carried : (undrawn flight : List ℕ) (framer : FramerState) (untaken : List (List ℕ)) (given taken : ℕ)
+    (pdu : List ℕ) → IsFrame pdu → IsCarrying undrawn flight framer untaken given taken
+    → IsCarrying (undrawn ++ pdu) flight framer untaken (given + 1) taken
+given_carried undrawn flight framer untaken given taken pdu frame h =
+    let path = give_path framer.rest flight undrawn pdu h.whole frame in
+    let more = ap length path.0 in
+    record {
+      going = h.going;
+      whole = path.1;
+      counted = omega (arith, h.counted, more, length_push (frames_of (framer.rest ++ (flight ++ undrawn))) pdu);
+    }
+
+pub drawn_carried : (undrawn flight : List ℕ) (framer : FramerState) (untaken : List (List ℕ)) (given taken n : ℕ)
+    → IsCarrying undrawn flight framer untaken given taken
+    → IsCarrying (drop n undrawn) (flight ++ take n undrawn) framer untaken given taken
+drawn_carried undrawn flight framer untaken given taken n h =
+    let path = sym (send_path framer.rest flight undrawn n) in
+    record {
+      going = h.going;
+      whole = ap (λ (x : List ℕ). rest_of x) (sym path) ∙ h.whole;
+      counted = h.counted ∙ ap (λ (x : List ℕ). taken + (length untaken + length (frames_of x))) path;
+    }
+
+-- what is fed leaves no header at fault
+pub fed_sound : (undrawn flight : List ℕ) (framer : FramerState) (untaken : List (List ℕ)) (given taken n : ℕ)
+    → IsCarrying undrawn flight framer untaken given taken → IsBad (rest_of (framer.rest ++ take n flight)) → ⊥
+fed_sound undrawn flight framer untaken given taken n h =
+    no_bad_front (framer.rest ++ take n flight) (drop n flight ++ undrawn)
+    (ap (λ (x : List ℕ). rest_of x) (sym (cut_path framer.rest flight undrawn n)) ∙ h.whole)
+
+pub fed_carried : (undrawn flight : List ℕ) (framer next : FramerState) (untaken : List (List ℕ)) (given taken n : ℕ)
+    → next.fault ≡ None → next.rest ≡ rest_of (framer.rest ++ take n flight)
+    → IsCarrying undrawn flight framer untaken given taken
+    → IsCarrying undrawn (drop n flight) next (untaken ++ frames_of (framer.rest ++ take n flight)) given taken
+fed_carried undrawn flight framer next untaken given taken n going rest h =
+    let frames = frames_of (framer.rest ++ take n flight) in
+    let behind = drop n flight ++ undrawn in
+    let path = move_path framer.rest flight undrawn n in
+    let all = ap length path.0 in
+    let later = ap (λ (r : List ℕ). length (frames_of (r ++ behind))) rest in
+    record {
+      going = going;
+      whole = ap (λ (r : List ℕ). rest_of (r ++ behind)) rest ∙ sym path.1 ∙ h.whole;
+      counted = omega (
+        arith,
+        h.counted,
+        all,
+        later,
+        length-append untaken frames,
+        length-append frames (frames_of (rest_of (framer.rest ++ take n flight) ++ behind)),
+      );
+    }
+
+-- ---- what a call does
+
+-- a PDU that isn't refused is given
+pub give_done : (way : Way) (pdu : List ℕ) (queue : List (List ℕ)) (undrawn : List ℕ) → pdu_fault pdu ≡ None
+    → total way.queue + length pdu ≤ queue_bytes → queue ≡ way.queue ++ pdu ∷ [] → undrawn ≡ way.undrawn ++ pdu
+    → (record way { queue = queue; undrawn = undrawn; given = way.given + 1 }, Ok (length pdu)) ≡ give way pdu
+give_done way pdu queue undrawn sound room queue_is undrawn_is =
+    let fits : nat_lt queue_bytes (total way.queue + length pdu) ≡ false = grind (arith, nat_tests, room) in
+    rw (queue_is, undrawn_is, sound, fits) refl
+
+-- as many bytes are drawn as there is room for
+pub send_done : (way : Way) (n : ℕ) (begun : List ℕ) (queue : List (List ℕ)) (undrawn flight : List ℕ)
+    (count : ℕ) → way.undrawn ≡ begun ++ concat way.queue → count ≡ min n (length begun + total way.queue)
+    → queue ≡ untouched (count - length begun) way.queue → undrawn ≡ drop count way.undrawn
+    → flight ≡ way.flight ++ take count way.undrawn
+    → (record way { queue = queue; undrawn = undrawn; flight = flight }, count) ≡ send way n
+send_done way n begun queue undrawn flight count here least queue_is undrawn_is flight_is =
+    let size : length way.undrawn ≡ length begun + total way.queue =
+    ap length here ∙ length-undrawn begun way.queue in
+    let all : count ≡ min n (length way.undrawn) = omega (arith, least, size) in
+    let held : length begun ≡ length way.undrawn - total way.queue = omega (arith, size) in
+    rw (queue_is, undrawn_is, flight_is, held, all) refl
+
+-- ---- what was given and taken
 
 -- what was given is what was taken and then all that is on the way, in order
 pub record Carries (way : Way) (given taken : List (List ℕ)) : Type 0 where
-  pub in_order : given ≡ taken ++ (way.untaken ++ (frames_of (path way) ++ way.queue))
-  pub whole : rest_of (path way) ≡ []
-  pub each : AllByRecursion IsPdu way.queue
+  pub in_order : given ≡ taken ++ (way.untaken ++ frames_of (way.fed ++ (way.flight ++ way.undrawn)))
+  pub whole : rest_of (way.fed ++ (way.flight ++ way.undrawn)) ≡ []
   pub given_count : way.given ≡ length given
   pub taken_count : way.taken ≡ length taken
 
 pub empty_carries : Carries empty_way [] []
-empty_carries = record { in_order = rw (frames_joined [] tt).0 refl; whole = (frames_joined [] tt).1; each = tt; given_count = refl; taken_count = refl }
-
--- ---- giving
-
-pub give_carries : (way : Way) (pdu : List ℕ) (given taken : List (List ℕ)) → Carries way given taken → IsPdu pdu
-    → Carries (given_by None way pdu) (given ++ pdu ∷ []) taken
-give_carries way pdu given taken h is = record {
-  in_order = ap (λ x. x ++ pdu ∷ []) h.in_order ∙ append_assoc taken (way.untaken ++ (frames_of (path way) ++ way.queue)) (pdu ∷ [])
-      ∙ ap (λ x. taken ++ x) (append_assoc way.untaken (frames_of (path way) ++ way.queue) (pdu ∷ [])
-      ∙ ap (λ x. way.untaken ++ x) (append_assoc (frames_of (path way)) way.queue (pdu ∷ [])));
-  whole = h.whole;
-  each = each_push IsPdu way.queue pdu h.each is;
-  given_count = omega (arith, h.given_count, length_push given pdu);
-  taken_count = h.taken_count;
+empty_carries = record {
+  in_order = sym (frames_joined [] tt).0;
+  whole = (frames_joined [] tt).1;
+  given_count = refl;
+  taken_count = refl;
 }
 
--- ---- drawing
-
--- bytes behind whole frames, of which some are drawn, keep the frames and the queue
-pub record KeepsFrames (front drawn begun : List ℕ) (frames pdus queue : List (List ℕ)) : Type 0 where
-  pub same : frames ++ pdus ≡ frames_of (front ++ (drawn ++ begun)) ++ queue
-  pub whole : rest_of (front ++ (drawn ++ begun)) ≡ []
-  pub each : AllByRecursion IsPdu queue
-
--- a frame behind whole frames is the next one
-next_frame : (front pdu : List ℕ) → rest_of front ≡ [] → IsFrame pdu
-    → (frames_of (front ++ pdu) ≡ frames_of front ++ pdu ∷ []) × (rest_of (front ++ pdu) ≡ [])
-next_frame front pdu whole is = (
-  (framing_appends front pdu).0 ∙ ap (λ r. frames_of front ++ frames_of (r ++ pdu)) whole ∙ ap (λ x. frames_of front ++ x) (single_frame pdu is).0,
-  (framing_appends front pdu).1 ∙ ap (λ r. rest_of (r ++ pdu)) whole ∙ (single_frame pdu is).1,
-)
-
--- where what is drawn is of the PDU begun
-drawn_within : (front begun : List ℕ) (n : ℕ) (pdus : List (List ℕ)) (more : List ℕ) → rest_of (front ++ begun) ≡ [] → AllByRecursion IsPdu pdus
-    → n ≤ length begun → KeepsFrames front (take n (begun ++ more)) (drop n begun) (frames_of (front ++ begun)) pdus pdus
-drawn_within front begun n pdus more whole each fits =
-    let same : take n (begun ++ more) ++ drop n begun ≡ begun = ap (λ x. x ++ drop n begun) (take-append-le n begun more fits) ∙ take-append-drop n begun in
+pub give_carries : (way : Way) (pdu : List ℕ) (given taken : List (List ℕ)) → IsFrame pdu → Carries way given taken
+    → Carries (give_by None way pdu).0 (given ++ pdu ∷ []) taken
+give_carries way pdu given taken frame h =
+    let path = give_path way.fed way.flight way.undrawn pdu h.whole frame in
+    let frames = frames_of (way.fed ++ (way.flight ++ way.undrawn)) in
     record {
-      same = sym (ap (λ x. frames_of (front ++ x) ++ pdus) same);
-      whole = ap (λ x. rest_of (front ++ x)) same ∙ whole;
-      each = each;
+      in_order = ap (λ (x : List (List ℕ)). x ++ pdu ∷ []) h.in_order
+          ∙ append_assoc taken (way.untaken ++ frames) (pdu ∷ [])
+          ∙ ap (λ (x : List (List ℕ)). taken ++ x) (append_assoc way.untaken frames (pdu ∷ [])
+          ∙ ap (λ (x : List (List ℕ)). way.untaken ++ x) (sym path.0));
+      whole = path.1;
+      given_count = omega (arith, h.given_count, length_push given pdu);
+      taken_count = h.taken_count;
     }
 
--- where all is drawn
-drawn_all : (front begun : List ℕ) (n : ℕ) → rest_of (front ++ begun) ≡ []
-    → KeepsFrames front (take n (begun ++ [])) (drop n begun) (frames_of (front ++ begun)) [] []
-drawn_all front begun n whole =
-    let same : take n (begun ++ []) ++ drop n begun ≡ begun = ap (λ x. take n x ++ drop n begun) (append-nil begun) ∙ take-append-drop n begun in
-    record {
-      same = sym (ap (λ x. frames_of (front ++ x) ++ []) same);
-      whole = ap (λ x. rest_of (front ++ x)) same ∙ whole;
-      each = tt;
-    }
-
--- where the PDU begun is drawn to its end, and the next one is begun
-drawn_past : (front begun pdu : List ℕ) (n : ℕ) (pdus : List (List ℕ)) (left : List ℕ) (queue : List (List ℕ)) → rest_of (front ++ begun) ≡ [] → IsFrame pdu
-    → length begun ≤ n
-    → KeepsFrames (front ++ begun) (take (n - length begun) (pdu ++ concat pdus)) left (frames_of ((front ++ begun) ++ pdu)) pdus queue
-    → KeepsFrames front (take n (begun ++ (pdu ++ concat pdus))) left (frames_of (front ++ begun)) (pdu ∷ pdus) queue
-drawn_past front begun pdu n pdus left queue whole is fits h =
-    let more = take (n - length begun) (pdu ++ concat pdus) in
-    let count : length begun + (n - length begun) ≡ n = omega arith in
-    let drawn : take n (begun ++ (pdu ++ concat pdus)) ≡ begun ++ more =
-    subst (λ k. take k (begun ++ (pdu ++ concat pdus)) ≡ begun ++ more) count (take-append-add begun (pdu ++ concat pdus) (n - length begun)) in
-    let joined : (front ++ begun) ++ (more ++ left) ≡ front ++ (take n (begun ++ (pdu ++ concat pdus)) ++ left) =
-    append_assoc front begun (more ++ left) ∙ ap (λ x. front ++ x) (sym (append_assoc begun more left) ∙ ap (λ x. x ++ left) (sym drawn)) in
-    record {
-      same = sym (append_assoc (frames_of (front ++ begun)) (pdu ∷ []) pdus) ∙ ap (λ x. x ++ pdus) (sym (next_frame (front ++ begun) pdu whole is).0)
-          ∙ h.same ∙ ap (λ x. frames_of x ++ queue) joined;
-      whole = ap rest_of (sym joined) ∙ h.whole;
-      each = h.each;
-    }
-
-pub drawn_keeps : (pdus : List (List ℕ)) (front begun : List ℕ) (n : ℕ) → rest_of (front ++ begun) ≡ [] → AllByRecursion IsPdu pdus
-    → KeepsFrames front (take n (begun ++ concat pdus)) (begun_after n begun pdus) (frames_of (front ++ begun)) pdus (queue_after n begun pdus)
-drawn_keeps [] front begun n whole each = drawn_all front begun n whole
-drawn_keeps (pdu ∷ pdus) front begun n whole each =
-    elim (nat_le n (length begun)) as (λ t. nat_le n (length begun) ≡ t
-    → KeepsFrames front (take n (begun ++ (pdu ++ concat pdus))) (cond t (drop n begun) (begun_after (n - length begun) pdu pdus))
-    (frames_of (front ++ begun)) (pdu ∷ pdus) (cond t (pdu ∷ pdus) (queue_after (n - length begun) pdu pdus))) [
-      | true ↦ λ e. drawn_within front begun n (pdu ∷ pdus) (pdu ++ concat pdus) whole each (grind (arith, nat_tests))
-      | false ↦ λ e. drawn_past front begun pdu n pdus (begun_after (n - length begun) pdu pdus) (queue_after (n - length begun) pdu pdus) whole each.0.frame
-          (grind (arith, nat_tests)) (drawn_keeps pdus (front ++ begun) pdu (n - length begun) (next_frame (front ++ begun) pdu whole each.0.frame).1 each.1)
-    ] refl
-
-pub send_carries : (way : Way) (n : ℕ) (given taken : List (List ℕ)) → Carries way given taken → Carries (send way n) given taken
+pub send_carries : (way : Way) (n : ℕ) (given taken : List (List ℕ)) → Carries way given taken
+    → Carries (send way n).0 given taken
 send_carries way n given taken h =
-    let front = way.fed ++ way.flight in
-    let here : front ++ way.begun ≡ path way = append_assoc way.fed way.flight way.begun in
-    let kept = drawn_keeps way.queue front way.begun n (ap rest_of here ∙ h.whole) h.each in
-    let there : front ++ (take n (undrawn way) ++ begun_after n way.begun way.queue) ≡ path (send way n) =
-    append_assoc way.fed way.flight (take n (undrawn way) ++ begun_after n way.begun way.queue)
-    ∙ ap (λ x. way.fed ++ x) (sym (append_assoc way.flight (take n (undrawn way)) (begun_after n way.begun way.queue))) in
+    let path = sym (send_path way.fed way.flight way.undrawn (min n (length way.undrawn))) in
     record {
-      in_order = h.in_order ∙ ap (λ x. taken ++ (way.untaken ++ x)) (ap (λ x. frames_of x ++ way.queue) (sym here) ∙ kept.same
-          ∙ ap (λ x. frames_of x ++ queue_after n way.begun way.queue) there);
-      whole = ap rest_of (sym there) ∙ kept.whole;
-      each = kept.each;
+      in_order = h.in_order ∙ ap (λ (x : List ℕ). taken ++ (way.untaken ++ frames_of x)) path;
+      whole = ap (λ (x : List ℕ). rest_of x) (sym path) ∙ h.whole;
       given_count = h.given_count;
       taken_count = h.taken_count;
     }
 
--- ---- feeding
-
-pub move_carries : (way : Way) (n : ℕ) (given taken : List (List ℕ)) → Carries way given taken → Carries (move way n) given taken
+pub move_carries : (way : Way) (n : ℕ) (given taken : List (List ℕ)) → Carries way given taken
+    → Carries (move way n).0 given taken
 move_carries way n given taken h =
-    let piece = take n way.flight in
-    let behind = drop n way.flight ++ way.begun in
-    let fed = way.fed ++ piece in
-    let cut : path way ≡ fed ++ behind =
-    ap (λ x. way.fed ++ (x ++ way.begun)) (sym (take-append-drop n way.flight)) ∙ ap (λ x. way.fed ++ x) (append_assoc piece (drop n way.flight) way.begun)
-    ∙ sym (append_assoc way.fed piece behind) in
-    let frames = frames_of fed in
-    let later = frames_of (rest_of fed ++ behind) in
+    let path = move_path way.fed way.flight way.undrawn n in
+    let frames = frames_of (way.fed ++ take n way.flight) in
+    let later = frames_of (rest_of (way.fed ++ take n way.flight) ++ (drop n way.flight ++ way.undrawn)) in
     record {
-      in_order = h.in_order ∙ ap (λ x. taken ++ x) (ap (λ x. way.untaken ++ (x ++ way.queue)) (ap frames_of cut ∙ (framing_appends fed behind).0)
-          ∙ ap (λ x. way.untaken ++ x) (append_assoc frames later way.queue) ∙ sym (append_assoc way.untaken frames (later ++ way.queue)));
-      whole = sym ((framing_appends fed behind).1) ∙ ap rest_of (sym cut) ∙ h.whole;
-      each = h.each;
+      in_order = h.in_order ∙ ap (λ (x : List (List ℕ)). taken ++ x)
+          (ap (λ (x : List (List ℕ)). way.untaken ++ x) path.0 ∙ sym (append_assoc way.untaken frames later));
+      whole = sym path.1 ∙ h.whole;
       given_count = h.given_count;
       taken_count = h.taken_count;
     }
 
--- ---- taking
-
-pub take_carries : (way : Way) (pdu : List ℕ) (pdus given taken : List (List ℕ)) → way.untaken ≡ pdu ∷ pdus → Carries way given taken
-    → Carries (taken_from (pdu ∷ pdus) way) given (taken ++ pdu ∷ [])
-take_carries way pdu pdus given taken e h = record {
-  in_order = h.in_order ∙ ap (λ x. taken ++ (x ++ (frames_of (path way) ++ way.queue))) e
-      ∙ sym (append_assoc taken (pdu ∷ []) (pdus ++ (frames_of (path way) ++ way.queue)));
-  whole = h.whole;
-  each = h.each;
-  given_count = h.given_count;
-  taken_count = omega (arith, h.taken_count, length_push taken pdu);
-}
+pub take_carries : (way : Way) (pdu : List ℕ) (pdus given taken : List (List ℕ)) → way.untaken ≡ pdu ∷ pdus
+    → Carries way given taken → Carries (take_from (pdu ∷ pdus) way).0 given (taken ++ pdu ∷ [])
+take_carries way pdu pdus given taken first h =
+    let frames = frames_of (way.fed ++ (way.flight ++ way.undrawn)) in
+    record {
+      in_order = h.in_order ∙ ap (λ (x : List (List ℕ)). taken ++ (x ++ frames)) first
+          ∙ sym (append_assoc taken (pdu ∷ []) (pdus ++ frames));
+      whole = h.whole;
+      given_count = h.given_count;
+      taken_count = omega (arith, h.taken_count, length_push taken pdu);
+    }

@@ -1,20 +1,20 @@
 -- the direct world: one leg between client and server, which carries each end's PDUs to the other
-use Rattle.std.specs.Prelude.{ℕ, ◌+◌, ◌-◌, List, [], ◌∷◌, ◌++◌, length, take, drop, if◌then◌else◌, nat_lt, nat_le, Some, None, Ok, Err}
-use Rattle.std.specs.List.{concat}
+use Rattle.std.specs.Prelude.{ℕ, ◌+◌, ◌-◌, List, [], ◌∷◌, ◌++◌, length, take, drop, min}
+use Rattle.std.specs.Prelude.{if◌then◌else◌, nat_lt, Some, None, Ok, Err}
 use Rattle.std.specs.declared.option.Option.{Option}
 use Rattle.std.specs.declared.result.Result.{Result}
+use Rattle.rh_text.specs.declared.ends.Side.{Side}
+use Rattle.rh_text.specs.declared.ends.Side.TheVariants.{Client, Server}
+use Rattle.rh_text.specs.declared.ends.Dir.{Dir}
+use Rattle.rh_text.specs.declared.ends.Dir.TheVariants.{U, D}
 use Rattle.rh_pdu.specs.declared.fault.PduFault.{PduFault}
 use Rattle.rh_pdu.specs.Checking.{pdu_fault}
 use Rattle.rh_pdu.specs.Cut.{frames_of, rest_of}
-use Rattle.rh_line.specs.Queue.{total}
-use Rattle.rh_world.specs.declared.line.Side.{Side}
-use Rattle.rh_world.specs.declared.line.Side.TheVariants.{Client, Server}
-use Rattle.rh_world.specs.declared.line.Dir.{Dir}
-use Rattle.rh_world.specs.declared.line.Dir.TheVariants.{U, D}
+use Rattle.rh_line.specs.declared.give_fault.GiveFault.{GiveFault}
+use Rattle.rh_line.specs.declared.give_fault.GiveFault.TheVariants.{Full, BadPdu}
+use Rattle.rh_line.specs.Queue.{queue_bytes, total, untouched}
 use Rattle.rh_world.specs.declared.line.Line.{Line}
 use Rattle.rh_world.specs.declared.line.Line.TheVariants as line
-use Rattle.rh_world.specs.declared.answer.GiveFault.{GiveFault}
-use Rattle.rh_world.specs.declared.answer.GiveFault.TheVariants.{Full, BadPdu}
 use Rattle.rh_world.specs.declared.answer.TakeAnswer.{TakeAnswer}
 use Rattle.rh_world.specs.declared.answer.TakeAnswer.TheVariants.{Pdu, Empty}
 use Rattle.rh_world.specs.declared.answer.Answer.{Answer}
@@ -24,8 +24,8 @@ use Rattle.rh_world.specs.declared.answer.Answer.TheVariants as answer
 pub record Way : Type 0 where
   -- the PDUs of which no byte was drawn, first given first
   pub queue : List (List ℕ)
-  -- the bytes still to be drawn of the PDU that was begun
-  pub begun : List ℕ
+  -- the bytes given and not drawn: of the PDU that was begun, and then of the queue
+  pub undrawn : List ℕ
   -- the bytes drawn and not fed
   pub flight : List ℕ
   -- the bytes fed that are no whole frame yet
@@ -41,79 +41,65 @@ pub record World : Type 0 where
   pub down : Way
 
 abbrev pub empty_way : Way
-empty_way = record { queue = []; begun = []; flight = []; fed = []; untaken = []; given = 0; taken = 0 }
+empty_way =
+    record { queue = []; undrawn = []; flight = []; fed = []; untaken = []; given = 0; taken = 0 }
 
 abbrev pub empty : World
 empty = record { up = empty_way; down = empty_way }
 
--- ---- giving
+-- ---- one direction: what it is afterwards, and what is answered
 
 -- why a PDU is refused where the queue holds so many bytes: it is none, or there is no room
 abbrev pub refusal_by : Option PduFault → ℕ → ℕ → Option GiveFault
 refusal_by (Some fault) held len = Some (BadPdu fault)
-refusal_by None held len = if nat_lt 262144 (held + len) then Some (Full held len) else None
+refusal_by None held len = if nat_lt queue_bytes (held + len) then Some (Full held len) else None
 
 abbrev pub refusal : Way → List ℕ → Option GiveFault
 refusal way pdu = refusal_by (pdu_fault pdu) (total way.queue) (length pdu)
 
-abbrev pub given_by : Option GiveFault → Way → List ℕ → Way
-given_by (Some refused) way pdu = way
-given_by None way pdu = record way { queue = way.queue ++ pdu ∷ []; given = way.given + 1 }
+-- a PDU that isn't refused stands behind those given before
+abbrev pub give_by : Option GiveFault → Way → List ℕ → Way × Result ℕ GiveFault
+give_by (Some refused) way pdu = (way, Err refused)
+give_by None way pdu = (
+  record way { queue = way.queue ++ pdu ∷ []; undrawn = way.undrawn ++ pdu; given = way.given + 1 },
+  Ok (length pdu),
+)
 
-abbrev pub give : Way → List ℕ → Way
-give way pdu = given_by (refusal way pdu) way pdu
+abbrev pub give : Way → List ℕ → Way × Result ℕ GiveFault
+give way pdu = give_by (refusal way pdu) way pdu
 
-abbrev pub give_answer : Option GiveFault → ℕ → Result ℕ GiveFault
-give_answer (Some refused) len = Err refused
-give_answer None len = Ok len
-
--- ---- drawing and feeding
-
--- the bytes that may be drawn
-abbrev pub undrawn : Way → List ℕ
-undrawn way = way.begun ++ concat way.queue
-
--- of a PDU begun and a queue, what is left to draw of the PDU begun when so many bytes more were drawn
-abbrev pub begun_after : ℕ → List ℕ → List (List ℕ) → List ℕ
-begun_after n begun [] = drop n begun
-begun_after n begun (pdu ∷ pdus) =
-    if nat_le n (length begun) then drop n begun else begun_after (n - length begun) pdu pdus
-
--- and what is left of the queue, which a PDU leaves when its first byte is drawn
-abbrev pub queue_after : ℕ → List ℕ → List (List ℕ) → List (List ℕ)
-queue_after n begun [] = []
-queue_after n begun (pdu ∷ pdus) =
-    if nat_le n (length begun) then pdu ∷ pdus else queue_after (n - length begun) pdu pdus
-
-abbrev pub send : Way → ℕ → Way
-send way n = record way {
-  queue = queue_after n way.begun way.queue;
-  begun = begun_after n way.begun way.queue;
-  flight = way.flight ++ take n (undrawn way);
+-- so many bytes are drawn; a PDU leaves the queue when its first byte is drawn
+abbrev pub drawn : Way → ℕ → Way
+drawn way n = record way {
+  queue = untouched (n - (length way.undrawn - total way.queue)) way.queue;
+  undrawn = drop n way.undrawn;
+  flight = way.flight ++ take n way.undrawn;
 }
+
+-- so many bytes are drawn, or all where there are fewer
+abbrev pub send : Way → ℕ → Way × ℕ
+send way n = (drawn way (min n (length way.undrawn)), min n (length way.undrawn))
 
 -- the first bytes in flight are fed, and the frames that they make whole can be taken
-abbrev pub move : Way → ℕ → Way
-move way n = record way {
-  flight = drop n way.flight;
-  fed = rest_of (way.fed ++ take n way.flight);
-  untaken = way.untaken ++ frames_of (way.fed ++ take n way.flight);
-}
+abbrev pub move : Way → ℕ → Way × List ℕ
+move way n = (
+  record way {
+    flight = drop n way.flight;
+    fed = rest_of (way.fed ++ take n way.flight);
+    untaken = way.untaken ++ frames_of (way.fed ++ take n way.flight);
+  },
+  take n way.flight,
+)
 
--- ---- taking
+-- the first of these PDUs is taken
+abbrev pub take_from : List (List ℕ) → Way → Way × TakeAnswer
+take_from [] way = (way, Empty)
+take_from (pdu ∷ pdus) way = (record way { untaken = pdus; taken = way.taken + 1 }, Pdu pdu)
 
-abbrev pub taken_from : List (List ℕ) → Way → Way
-taken_from [] way = way
-taken_from (pdu ∷ pdus) way = record way { untaken = pdus; taken = way.taken + 1 }
+abbrev pub take_pdu : Way → Way × TakeAnswer
+take_pdu way = take_from way.untaken way
 
-abbrev pub take_pdu : Way → Way
-take_pdu way = taken_from way.untaken way
-
-abbrev pub take_answer : List (List ℕ) → TakeAnswer
-take_answer [] = Empty
-take_answer (pdu ∷ pdus) = Pdu pdu
-
--- ---- lines
+-- ---- lines: the world afterwards, and what is answered
 
 -- the direction in which an end gives
 abbrev pub giving : Side → Dir
@@ -133,37 +119,36 @@ abbrev pub with_way : World → Dir → Way → World
 with_way world U way = record world { up = way }
 with_way world D way = record world { down = way }
 
--- the world after a line
-abbrev pub step : World → Line → World
-step world line.First = world
-step world (line.Give side pdu) = with_way world (giving side) (give (way_of world (giving side)) pdu)
-step world (line.Take side) = with_way world (taking side) (take_pdu (way_of world (taking side)))
-step world (line.Send dir count) = with_way world dir (send (way_of world dir) count)
-step world (line.Move dir count) = with_way world dir (move (way_of world dir) count)
+-- one direction is other than before, and one line is answered
+abbrev pub done_on : {A : Type 0} → World → Dir → (A → Answer) → Way × A → World × List Answer
+done_on world dir told did = (with_way world dir did.0, told did.1 ∷ [])
 
--- what a line answers
-abbrev pub answers : World → Line → List Answer
-answers world line.First = []
-answers world (line.Give side pdu) =
-    answer.Give side (give_answer (refusal (way_of world (giving side)) pdu) (length pdu)) ∷ []
-answers world (line.Take side) = answer.Take side (take_answer (way_of world (taking side)).untaken) ∷ []
-answers world (line.Send dir count) = answer.Send dir (length (take count (undrawn (way_of world dir)))) ∷ []
-answers world (line.Move dir count) = answer.Move dir (take count (way_of world dir).flight) ∷ []
+abbrev pub step : World → Line → World × List Answer
+step world line.First = (world, [])
+step world (line.Give side pdu) =
+    done_on world (giving side) (answer.Give side) (give (way_of world (giving side)) pdu)
+step world (line.Take side) =
+    done_on world (taking side) (answer.Take side) (take_pdu (way_of world (taking side)))
+step world (line.Send dir count) = done_on world dir (answer.Send dir) (send (way_of world dir) count)
+step world (line.Move dir count) = done_on world dir (answer.Move dir) (move (way_of world dir) count)
 
 -- the last lines of a report
 abbrev pub last : World → List Answer
-last world = answer.Up world.up.given world.up.taken ∷ answer.Down world.down.given world.down.taken ∷ []
+last world =
+    answer.Up world.up.given world.up.taken ∷ answer.Down world.down.given world.down.taken ∷ []
+
+-- ---- recordings
 
 -- the world after lines
 abbrev pub after : World → List Line → World
 after world [] = world
-after world (line ∷ lines) = after (step world line) lines
+after world (line ∷ lines) = after (step world line).0 lines
 
--- what lines answer, one after the other
+-- what lines are answered, one after the other, and the last lines of the report
 abbrev pub told : World → List Line → List Answer
-told world [] = []
-told world (line ∷ lines) = answers world line ++ told (step world line) lines
+told world [] = last world
+told world (line ∷ lines) = (step world line).1 ++ told (step world line).0 lines
 
 -- the report of a recording
 abbrev pub run : List Line → List Answer
-run lines = told empty lines ++ last (after empty lines)
+run lines = told empty lines

@@ -1,4 +1,6 @@
 pub mod Recording
+pub mod ParsedLines
+pub mod Readings
 pub mod Report
 pub mod Direct
 pub mod Pieces

@@ -1,19 +1,49 @@
 -- the order law: what each end takes is what the other gave, each PDU once and in order
-use Rattle.std.specs.Prelude.{◌≡◌, ℕ, List, [], ◌∷◌, ◌++◌, length, take, Ok, Err}
-use Rattle.rh_world.specs.declared.line.Side.{Side}
-use Rattle.rh_world.specs.declared.line.Side.TheVariants.{Client, Server}
+use Rattle.std.specs.Prelude.{◌≡◌, ◌⊎◌, ℕ, List, [], ◌∷◌, ◌++◌, length, map, take, Ok, Err}
+use Rattle.rh_text.specs.declared.ends.Side.{Side}
+use Rattle.rh_text.specs.declared.ends.Side.TheVariants.{Client, Server}
 use Rattle.rh_world.specs.declared.line.Line.{Line}
 use Rattle.rh_world.specs.declared.line.Line.TheVariants as line
 use Rattle.rh_world.specs.declared.answer.TakeAnswer.TheVariants.{Pdu, Empty}
 use Rattle.rh_world.specs.declared.answer.Answer.{Answer}
 use Rattle.rh_world.specs.declared.answer.Answer.TheVariants.{Give, Take, Send, Move, Up, Down}
 
+-- what an answer says of PDUs and ends
+pub data Event : Type 0 where
+  -- the end gave what was offered, or it was refused
+  Gives : Side → Event
+  Refuses : Side → Event
+  -- the end took this PDU
+  Takes : Side → List ℕ → Event
+  -- the end reports that all was taken and no more comes
+  Ends : Side → Event
+  -- the end closed
+  Closes : Side → Event
+  -- the end was told to give no more
+  Stops : Side → Event
+  -- none of these
+  Silent : Event
+
+-- an answer's event. No answer of a direct world closes, stops or ends.
+abbrev pub event : Answer → Event
+event (Give side (Ok len)) = Gives side
+event (Give side (Err fault)) = Refuses side
+event (Take side (Pdu pdu)) = Takes side pdu
+event (Take side Empty) = Silent
+event (Send dir count) = Silent
+event (Move dir bytes) = Silent
+event (Up given taken) = Silent
+event (Down given taken) = Silent
+
+abbrev pub events : List Answer → List Event
+events report = map event report
+
 -- the other end
 abbrev pub other : Side → Side
 other Client = Server
 other Server = Client
 
--- the PDU, where an answer's side is the end asked for
+-- the PDU, where it is of the end asked for
 abbrev pub of_end : Side → Side → List ℕ → List (List ℕ)
 of_end Client Client pdu = pdu ∷ []
 of_end Client Server pdu = []
@@ -33,59 +63,36 @@ abbrev pub offered : List Line → List (List ℕ)
 offered [] = []
 offered (line ∷ lines) = offer line ++ offered lines
 
--- of what was offered, what an end gave: the jth answer to a give is that to the jth offer
-abbrev pub accepted : Side → List (List ℕ) → List Answer → List (List ℕ)
-accepted end pdus [] = []
-accepted end [] (Give side answer ∷ report) = accepted end [] report
-accepted end (pdu ∷ pdus) (Give side (Ok len) ∷ report) = of_end end side pdu ++ accepted end pdus report
-accepted end (pdu ∷ pdus) (Give side (Err fault) ∷ report) = accepted end pdus report
-accepted end pdus (Take side answer ∷ report) = accepted end pdus report
-accepted end pdus (Send dir count ∷ report) = accepted end pdus report
-accepted end pdus (Move dir bytes ∷ report) = accepted end pdus report
-accepted end pdus (Up given taken ∷ report) = accepted end pdus report
-accepted end pdus (Down given taken ∷ report) = accepted end pdus report
+-- of what was offered, what an end gave: the jth answer to an offer is that to the jth
+abbrev pub given : Side → List (List ℕ) → List Event → List (List ℕ)
+given end pdus [] = []
+given end [] (event ∷ events) = []
+given end (pdu ∷ pdus) (Gives side ∷ events) = of_end end side pdu ++ given end pdus events
+given end (pdu ∷ pdus) (Refuses side ∷ events) = given end pdus events
+given end (pdu ∷ pdus) (Takes side taken ∷ events) = given end (pdu ∷ pdus) events
+given end (pdu ∷ pdus) (Ends side ∷ events) = given end (pdu ∷ pdus) events
+given end (pdu ∷ pdus) (Closes side ∷ events) = given end (pdu ∷ pdus) events
+given end (pdu ∷ pdus) (Stops side ∷ events) = given end (pdu ∷ pdus) events
+given end (pdu ∷ pdus) (Silent ∷ events) = given end (pdu ∷ pdus) events
 
--- the PDUs that an end gave by the lines of a report
-abbrev pub given : Side → List Line → List Answer → List (List ℕ)
-given end lines report = accepted end (offered lines) report
-
--- the PDUs that an end took by the lines of a report
-abbrev pub taken : Side → List Answer → List (List ℕ)
+-- the PDUs that an end took
+abbrev pub taken : Side → List Event → List (List ℕ)
 taken end [] = []
-taken end (Take side (Pdu pdu) ∷ report) = of_end end side pdu ++ taken end report
-taken end (Take side Empty ∷ report) = taken end report
-taken end (Give side answer ∷ report) = taken end report
-taken end (Send dir count ∷ report) = taken end report
-taken end (Move dir bytes ∷ report) = taken end report
-taken end (Up given taken' ∷ report) = taken end report
-taken end (Down given taken' ∷ report) = taken end report
+taken end (Takes side pdu ∷ events) = of_end end side pdu ++ taken end events
+taken end (Gives side ∷ events) = taken end events
+taken end (Refuses side ∷ events) = taken end events
+taken end (Ends side ∷ events) = taken end events
+taken end (Closes side ∷ events) = taken end events
+taken end (Stops side ∷ events) = taken end events
+taken end (Silent ∷ events) = taken end events
 
--- the end closed, or reports that all was taken and no more comes. No answer of a direct world says so.
-abbrev pub StopsTaking : Side → Answer → Type 0
-StopsTaking end (Give side answer) = ⊥
-StopsTaking end (Take side answer) = ⊥
-StopsTaking end (Send dir count) = ⊥
-StopsTaking end (Move dir bytes) = ⊥
-StopsTaking end (Up given taken) = ⊥
-StopsTaking end (Down given taken) = ⊥
+-- the end takes no more: it closed, or reported that no more comes
+abbrev pub StopsTaking : Side → Event → Type 0
+StopsTaking end stop = (stop ≡ Closes end) ⊎ (stop ≡ Ends end)
 
--- the end closed, or was told to give no more. No answer of a direct world says so.
-abbrev pub StopsGiving : Side → Answer → Type 0
-StopsGiving end (Give side answer) = ⊥
-StopsGiving end (Take side answer) = ⊥
-StopsGiving end (Send dir count) = ⊥
-StopsGiving end (Move dir bytes) = ⊥
-StopsGiving end (Up given taken) = ⊥
-StopsGiving end (Down given taken) = ⊥
-
--- a take of the end reports the clean end. No answer of a direct world says so.
-abbrev pub IsCleanEnd : Side → Answer → Type 0
-IsCleanEnd end (Give side answer) = ⊥
-IsCleanEnd end (Take side answer) = ⊥
-IsCleanEnd end (Send dir count) = ⊥
-IsCleanEnd end (Move dir bytes) = ⊥
-IsCleanEnd end (Up given taken) = ⊥
-IsCleanEnd end (Down given taken) = ⊥
+-- the end gives no more: it closed, or was told so
+abbrev pub StopsGiving : Side → Event → Type 0
+StopsGiving end stop = (stop ≡ Closes end) ⊎ (stop ≡ Stops end)
 
 -- the front of a list
 abbrev pub IsPrefix : List (List ℕ) → List (List ℕ) → Type 0
@@ -95,20 +102,24 @@ IsPrefix front all = (rest : List (List ℕ)) × (all ≡ front ++ rest)
 abbrev pub Counts : List Line → List Answer → Type 0
 Counts lines report =
     (front : List Answer) × (report ≡ front
-    ++ Up (length (given Client lines report)) (length (taken Server report))
-    ∷ Down (length (given Server lines report)) (length (taken Client report)) ∷ [])
+    ++ Up (length (given Client (offered lines) (events report))) (length (taken Server (events report)))
+    ∷ Down (length (given Server (offered lines) (events report))) (length (taken Client (events report)))
+    ∷ [])
 
 -- the order law of a recording and its report
 pub record InOrder (lines : List Line) (report : List Answer) : Type 0 where
   -- at every line, what an end took is a prefix of what the other end gave
-  pub in_order : (end : Side) (k : ℕ) → IsPrefix (taken end (take k report)) (given (other end) lines (take k report))
+  pub in_order : (end : Side) (k : ℕ)
+      → IsPrefix (taken end (take k (events report))) (given (other end) (offered lines) (take k (events report)))
   -- an end takes nothing after it closed or ended
-  pub none_taken_after : (end : Side) (front behind : List Answer) (stop : Answer) → report ≡ front ++ stop ∷ behind
-      → StopsTaking end stop → taken end behind ≡ []
-  -- an end gives nothing after it closed or was told to close
-  pub none_given_after : (end : Side) (front behind : List Answer) (stop : Answer) → report ≡ front ++ stop ∷ behind
-      → StopsGiving end stop → given end lines report ≡ given end lines front
+  pub none_taken_after : (end : Side) (front behind : List Event) (stop : Event)
+      → events report ≡ front ++ stop ∷ behind → StopsTaking end stop → taken end behind ≡ []
+  -- an end gives nothing after it closed or was told to give no more
+  pub none_given_after : (end : Side) (front behind : List Event) (stop : Event)
+      → events report ≡ front ++ stop ∷ behind → StopsGiving end stop
+      → given end (offered lines) (events report) ≡ given end (offered lines) front
   -- at a clean end, all that the other end gave was taken
-  pub all_at_clean_end : (end : Side) (front behind : List Answer) (stop : Answer) → report ≡ front ++ stop ∷ behind
-      → IsCleanEnd end stop → taken end front ≡ given (other end) lines front
+  pub all_at_clean_end : (end : Side) (front behind : List Event)
+      → events report ≡ front ++ Ends end ∷ behind
+      → taken end front ≡ given (other end) (offered lines) front
   pub counted : Counts lines report

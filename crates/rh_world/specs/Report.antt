@@ -3,32 +3,14 @@ use Rattle.std.specs.Prelude.{ℕ, List, [], ◌∷◌, ◌++◌, length, codes,
 use Rattle.std.specs.declared.result.Result.{Result}
 use Rattle.std.specs.Fmt.{decimal}
 use Rattle.hex.specs.Hex.{encode_lower}
-use Rattle.rh_pdu.specs.declared.fault.HeadFault.{HeadFault}
-use Rattle.rh_pdu.specs.declared.fault.HeadFault.TheVariants.{Version, Minor, ByteOrder, TooShort, TooLong}
-use Rattle.rh_pdu.specs.declared.fault.PduFault.{PduFault}
-use Rattle.rh_pdu.specs.declared.fault.PduFault.TheVariants.{Cut, Head, Rts, Length}
-use Rattle.rh_world.specs.declared.answer.GiveFault.{GiveFault}
-use Rattle.rh_world.specs.declared.answer.GiveFault.TheVariants.{Full, BadPdu}
+use Rattle.rh_text.specs.Ends.{side_word, dir_word}
+use Rattle.rh_pdu.specs.Texts.{pdu_fault_text}
+use Rattle.rh_line.specs.declared.give_fault.GiveFault.{GiveFault}
+use Rattle.rh_line.specs.declared.give_fault.GiveFault.TheVariants.{Full, BadPdu}
 use Rattle.rh_world.specs.declared.answer.TakeAnswer.{TakeAnswer}
 use Rattle.rh_world.specs.declared.answer.TakeAnswer.TheVariants.{Pdu, Empty}
 use Rattle.rh_world.specs.declared.answer.Answer.{Answer}
 use Rattle.rh_world.specs.declared.answer.Answer.TheVariants.{Give, Take, Send, Move, Up, Down}
-use Rattle.rh_world.specs.Recording.{side_word, dir_word}
-
--- the fault of a header: its name and the value at fault
-abbrev pub head_fault_text : HeadFault → List ℕ
-head_fault_text (Version value) = codes "Version " ++ decimal value
-head_fault_text (Minor value) = codes "Minor " ++ decimal value
-head_fault_text (ByteOrder value) = codes "ByteOrder " ++ decimal value
-head_fault_text (TooShort frag) = codes "TooShort " ++ decimal frag
-head_fault_text (TooLong frag) = codes "TooLong " ++ decimal frag
-
--- the fault of a PDU: its name and its numbers; a header's fault stands for itself
-abbrev pub pdu_fault_text : PduFault → List ℕ
-pdu_fault_text (Cut len) = codes "Cut " ++ decimal len
-pdu_fault_text (Head fault) = head_fault_text fault
-pdu_fault_text Rts = codes "Rts"
-pdu_fault_text (Length frag len) = codes "Length " ++ decimal frag ++ codes " " ++ decimal len
 
 -- what was answered to a give
 abbrev pub give_text : Result ℕ GiveFault → List ℕ
@@ -51,7 +33,8 @@ abbrev pub answer_text : Answer → List ℕ
 answer_text (Give side answer) = codes "give " ++ side_word side ++ give_text answer
 answer_text (Take side answer) = codes "take " ++ side_word side ++ take_text answer
 answer_text (Send dir count) = codes "send cs " ++ dir_word dir ++ codes " " ++ decimal count
-answer_text (Move dir bytes) = codes "move cs " ++ dir_word dir ++ codes " " ++ decimal (length bytes) ++ moved_text bytes
+answer_text (Move dir bytes) =
+    codes "move cs " ++ dir_word dir ++ codes " " ++ decimal (length bytes) ++ moved_text bytes
 answer_text (Up given taken) = codes "up given " ++ decimal given ++ codes " taken " ++ decimal taken
 answer_text (Down given taken) = codes "down given " ++ decimal given ++ codes " taken " ++ decimal taken
 

@@ -2,20 +2,10 @@
 
 ghost use Rattle.std.specs.Prelude.{◌≡◌, [], ◌∷◌, ◌++◌, OnOk, OnErr};
 
-use crate::bytes::Bytes;
-use crate::line::{Dir, Side};
-use rh_pdu::PduFault;
+use rh_line::{Dir, GiveFault, Side};
+use rh_text::Bytes;
 use std::alloc::{AllocError, Global};
 use std::marker::Model;
-
-/// Why a PDU was not accepted.
-#[derive(Clone, Copy, Debug, PartialEq, Eq)]
-pub enum GiveFault {
-    /// The queue has no room: `held` bytes wait there, and the PDU has `len`.
-    Full { held: usize, len: usize },
-    /// The bytes are no PDU.
-    BadPdu(PduFault),
-}
 
 /// What a take gave.
 #[derive(Debug, Drop)]

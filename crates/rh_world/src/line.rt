@@ -1,20 +1,7 @@
 //! The lines of a recording.
 
-use crate::bytes::Bytes;
-
-/// An end of the virtual connection.
-#[derive(Clone, Copy, Debug, PartialEq, Eq)]
-pub enum Side {
-    Client,
-    Server,
-}
-
-/// A direction of a leg: `U` is towards the server, `D` towards the client.
-#[derive(Clone, Copy, Debug, PartialEq, Eq)]
-pub enum Dir {
-    U,
-    D,
-}
+use rh_line::{Dir, Side};
+use rh_text::Bytes;
 
 /// One line of a recording. The one leg of a direct recording is `cs`, which has no name here.
 #[derive(Debug, Drop)]

@@ -1,32 +1,26 @@
 //! Reads the lines of a recording: words with one space between, each line ended by LF.
 
-ghost use Rattle.std.specs.Prelude.{◌≡◌, ◌≢◌, ◌++◌, ◌<◌, ℕ, List, length, codes};
+ghost use Rattle.std.specs.Prelude.{◌≡◌, ◌≢◌, ◌++◌, ℕ, List, codes};
 ghost use Rattle.std.specs.Prelude.{Err, IfOk, IfSome, MatchOption, None};
+ghost use Rattle.rh_text.specs.declared.ends.Side.{Side};
+ghost use Rattle.rh_text.specs.declared.ends.Dir.{Dir};
+ghost use Rattle.rh_text.specs.Ends.{side_word, dir_word};
+ghost use Rattle.rh_text.specs.Numbers.{IsNumber};
+ghost use Rattle.rh_text.specs.Lines.{TextOf, IsText, FirstBad};
 ghost use Rattle.rh_world.specs.declared.line.Line.{Line};
-ghost use Rattle.rh_world.specs.declared.line.Line.TheVariants.{Give, Take, Send, Move};
-ghost use Rattle.rh_world.specs.declared.line.Side.{Side};
-ghost use Rattle.rh_world.specs.declared.line.Dir.{Dir};
+ghost use Rattle.rh_world.specs.declared.line.Line.TheVariants.{Take, Send, Move};
 ghost use Rattle.rh_world.specs.declared.line.RecordKind.TheVariants.{Header, Direct};
 ghost use Rattle.rh_world.specs.declared.reading.LineRefused.TheVariants.{Grammar};
-ghost use Rattle.rh_world.specs.Recording.{BeginsWith, IsLine, LineText, IsHex, IsCount, side_word, dir_word};
-ghost use Rattle.rh_world.specs.Recording.{RecordingText, FirstBad};
+ghost use Rattle.rh_world.specs.Recording.{IsLine, LineText, recording, most_bytes};
+ghost use Rattle.rh_world.specs.ParsedLines.{IsParsed};
 
-use crate::bytes::Bytes;
-use crate::line::{Dir, Line, RecordKind, Side};
-use hex::FromHexError;
+use crate::line::{Line, RecordKind};
+use rh_line::{Dir, Side};
+use rh_text::{Grammar, is_hex, one_text, read_hex, read_number};
 use std::alloc::{AllocError, Global};
 
-/// The byte that ends a line.
-pub const LINE_FEED: u8 = b'\n';
-
-/// The most bytes that a line spells, in hex digits: two for each of 65,536.
-pub const MOST_HEX_DIGITS: usize = 131_072;
-
-/// The greatest count of a line, in bytes.
-pub const MOST_COUNT: u32 = 65_536;
-
-/// The most digits of a count.
-pub const MOST_COUNT_DIGITS: usize = 5;
+/// The most bytes of a give, and the greatest count of a send or a move.
+pub const MOST_BYTES: usize = 65_536;
 
 /// Why a text is no line.
 #[derive(Clone, Copy, Debug, PartialEq, Eq)]
@@ -48,23 +42,6 @@ impl From<AllocError> for LineRefused {
     }
 }
 
-/// The first line of a text without its LF, and what stands behind that.
-///
-/// Where the text has no LF it is one line, and nothing stands behind it.
-pub fn split_line(text: &[u8]) -> (&[u8], &[u8])
-    ensures begins { BeginsWith text.now result.0.now result.1.now }
-    ensures shorter { 0 < length text.now → length result.1.now < length text.now }
-{
-    for i in 0..text.len() {
-        if text[i] == LINE_FEED {
-            let (line, behind) = text.split_at(i);
-            let (_, rest) = behind.split_at(1);
-            return (line, rest);
-        }
-    }
-    text.split_at(text.len())
-}
-
 /// What stands behind the front, where the text begins with it.
 fn strip<'a>(text: &'a [u8], front: &[u8]) -> Option<&'a [u8]>
     ensures { MatchOption result ((rest : List ℕ) → text.now ≢ front.now ++ rest)
@@ -73,49 +50,20 @@ fn strip<'a>(text: &'a [u8], front: &[u8]) -> Option<&'a [u8]>
     text.strip_prefix(front)
 }
 
-/// The count that the text spells: 1 to 65,536, in decimal, with no sign and no leading zero.
+/// The count that the text spells: 1 to 65,536.
 fn read_count(text: &[u8]) -> Option<u32>
-    ensures some { IfSome result (λ count. IsCount text.now count) }
-    ensures none { result ≡ None → (count : ℕ) → ¬ IsCount text.now count }
+    ensures { MatchOption result ((count : ℕ) → ¬ IsNumber 1 most_bytes text.now count)
+        (λ count. IsNumber 1 most_bytes text.now count) }
 {
-    if text.is_empty() || text.len() > MOST_COUNT_DIGITS || text[0] == b'0' {
-        return None;
-    }
-    let mut count: u32 = 0;
-    for i in 0..text.len() {
-        let digit = text[i];
-        if !digit.is_ascii_digit() {
-            return None;
-        }
-        count = count * 10 + u32::from(digit - b'0');
-    }
-    if count <= MOST_COUNT {
-        Some(count)
-    } else {
-        None
-    }
-}
-
-/// The 1 to 65,536 bytes that the hex digits spell. A longer text is refused before it is decoded.
-fn read_hex(alloc: Global, text: &[u8]) -> Result<Bytes, LineRefused>
-    ensures bytes { IfOk result (λ bytes. IsHex text.now bytes) }
-    ensures grammar { result ≡ Err Grammar → (bytes : List ℕ) → ¬ IsHex text.now bytes }
-{
-    if text.is_empty() || text.len() > MOST_HEX_DIGITS {
-        return Err(LineRefused::Grammar);
-    }
-    match hex::decode(alloc, text) {
-        Ok(items) => Ok(Bytes::new(items)),
-        Err(FromHexError::OutOfMemory) => Err(LineRefused::NoMemory),
-        Err(_) => Err(LineRefused::Grammar),
-    }
+    let count = read_number(text, 1, MOST_BYTES as u64)?;
+    Some(count as u32)
 }
 
 /// The end that a give names, and the word behind it.
 fn split_give(text: &[u8]) -> Option<(Side, &[u8])>
-    ensures some { IfSome result (λ found. text.now ≡ codes "give " ++ side_word found.0 ++ codes " " ++ found.1.now) }
-    ensures none { result ≡ None → (side : Side) (last : List ℕ)
-        → text.now ≢ codes "give " ++ side_word side ++ codes " " ++ last }
+    ensures { MatchOption result ((side : Side) (last : List ℕ)
+        → text.now ≢ codes "give " ++ side_word side ++ codes " " ++ last)
+        (λ found. text.now ≡ codes "give " ++ side_word found.0 ++ codes " " ++ found.1.now) }
 {
     if let Some(last) = strip(text, b"give c ") {
         return Some((Side::Client, last));
@@ -138,98 +86,145 @@ fn split_dir<'a>(text: &'a [u8], verb: &[u8]) -> Option<(Dir, &'a [u8])>
     Some((Dir::D, last))
 }
 
-/// Reads the header.
-fn read_first(text: &[u8]) -> Result<Line, LineRefused>
-    ensures line { IfOk result (λ line. IsLine Header text.now line) }
-    ensures grammar { result ≡ Err Grammar → (line : Line) → ¬ IsLine Header text.now line }
-{
-    if text == b"rh 1 direct".as_slice() {
-        Ok(Line::First)
-    } else {
-        Err(LineRefused::Grammar)
-    }
+/// A line as far as it is read without memory: the bytes of a give are still spelled.
+#[derive(Drop)]
+enum Parsed<'a> {
+    Give { side: Side, hex: &'a [u8] },
+    Plain(Line),
 }
 
-/// Reads a give.
-fn read_give(alloc: Global, text: &[u8]) -> Result<Line, LineRefused>
-    ensures line { IfOk result (λ line. IsLine Direct text.now line) }
-    ensures grammar { result ≡ Err Grammar → (side : Side) (pdu : List ℕ) → ¬ LineText (Give side pdu) text.now }
+/// Reads the header.
+fn parse_header(text: &[u8]) -> Option<Parsed<'_>>
+    ensures { IsParsed Header text.now result }
 {
-    let Some((side, last)) = split_give(text) else {
-        return Err(LineRefused::Grammar);
-    };
-    let pdu = read_hex(alloc, last)?;
-    Ok(Line::Give { side, pdu })
+    if text == b"rh 1 direct".as_slice() {
+        Some(Parsed::Plain(Line::First))
+    } else {
+        None
+    }
 }
 
 /// Reads a take.
-fn read_take(text: &[u8]) -> Result<Line, LineRefused>
-    ensures line { IfOk result (λ line. IsLine Direct text.now line) }
-    ensures grammar { result ≡ Err Grammar → (side : Side) → ¬ LineText (Take side) text.now }
+fn parse_take(text: &[u8]) -> Option<Line>
+    ensures { MatchOption result ((side : Side) → ¬ LineText (Take side) text.now)
+        (λ line. IsLine Direct text.now line) }
 {
     if text == b"take c".as_slice() {
-        return Ok(Line::Take { side: Side::Client });
+        return Some(Line::Take { side: Side::Client });
     }
     if text == b"take s".as_slice() {
-        return Ok(Line::Take { side: Side::Server });
+        return Some(Line::Take { side: Side::Server });
     }
-    Err(LineRefused::Grammar)
+    None
 }
 
 /// Reads a send.
-fn read_send(text: &[u8]) -> Result<Line, LineRefused>
-    ensures line { IfOk result (λ line. IsLine Direct text.now line) }
-    ensures grammar { result ≡ Err Grammar → (dir : Dir) (count : ℕ) → ¬ LineText (Send dir count) text.now }
+fn parse_send(text: &[u8]) -> Option<Line>
+    ensures { MatchOption result ((dir : Dir) (count : ℕ) → ¬ LineText (Send dir count) text.now)
+        (λ line. IsLine Direct text.now line) }
 {
-    let Some((dir, last)) = split_dir(text, b"send cs ") else {
-        return Err(LineRefused::Grammar);
-    };
-    match read_count(last) {
-        Some(count) => Ok(Line::Send { dir, count }),
-        None => Err(LineRefused::Grammar),
-    }
+    let (dir, last) = split_dir(text, b"send cs ")?;
+    let count = read_count(last)?;
+    Some(Line::Send { dir, count })
 }
 
 /// Reads a move.
-fn read_move(text: &[u8]) -> Result<Line, LineRefused>
-    ensures line { IfOk result (λ line. IsLine Direct text.now line) }
-    ensures grammar { result ≡ Err Grammar → (dir : Dir) (count : ℕ) → ¬ LineText (Move dir count) text.now }
+fn parse_move(text: &[u8]) -> Option<Line>
+    ensures { MatchOption result ((dir : Dir) (count : ℕ) → ¬ LineText (Move dir count) text.now)
+        (λ line. IsLine Direct text.now line) }
 {
-    let Some((dir, last)) = split_dir(text, b"move cs ") else {
-        return Err(LineRefused::Grammar);
-    };
-    match read_count(last) {
-        Some(count) => Ok(Line::Move { dir, count }),
-        None => Err(LineRefused::Grammar),
+    let (dir, last) = split_dir(text, b"move cs ")?;
+    let count = read_count(last)?;
+    Some(Line::Move { dir, count })
+}
+
+/// Reads a line that stands behind the header, by each verb in turn.
+fn parse_direct(text: &[u8]) -> Option<Parsed<'_>>
+    ensures { IsParsed Direct text.now result }
+{
+    if let Some((side, hex)) = split_give(text) {
+        return Some(Parsed::Give { side, hex });
+    }
+    if let Some(line) = parse_take(text) {
+        return Some(Parsed::Plain(line));
+    }
+    if let Some(line) = parse_send(text) {
+        return Some(Parsed::Plain(line));
+    }
+    match parse_move(text) {
+        Some(line) => Some(Parsed::Plain(line)),
+        None => None,
     }
 }
 
-/// Reads a line that stands behind the header. The first letter tells the verb.
-fn read_direct(alloc: Global, text: &[u8]) -> Result<Line, LineRefused>
-    ensures line { IfOk result (λ line. IsLine Direct text.now line) }
-    ensures grammar { result ≡ Err Grammar → (line : Line) → ¬ IsLine Direct text.now line }
+/// Reads a line that stands at a place for lines of this kind, but for the bytes of a give.
+fn parse(text: &[u8], kind: RecordKind) -> Option<Parsed<'_>>
+    ensures { IsParsed kind text.now result }
 {
-    match text {
-        [b'g', ..] => read_give(alloc, text),
-        [b't', ..] => read_take(text),
-        [b's', ..] => read_send(text),
-        [b'm', ..] => read_move(text),
-        _ => Err(LineRefused::Grammar),
+    match kind {
+        RecordKind::Header => parse_header(text),
+        RecordKind::Direct => parse_direct(text),
     }
 }
 
 /// Reads a line that stands at a place for lines of this kind.
 ///
-/// The text is without the LF that ends the line. `Grammar` is answered exactly where it is no such line,
-/// and `NoMemory` where there is no memory for the bytes of a give.
+/// The text is without the LF that ends the line. `Grammar` is answered exactly where it is no such
+/// line, and `NoMemory` where there is no memory for the bytes of a give.
 pub fn read_line(alloc: Global, text: &[u8], kind: RecordKind) -> Result<Line, LineRefused>
     ensures line { IfOk result (λ line. IsLine kind text.now line) }
     ensures grammar { result ≡ Err Grammar → (line : Line) → ¬ IsLine kind text.now line }
 {
-    match kind {
-        RecordKind::Header => read_first(text),
-        RecordKind::Direct => read_direct(alloc, text),
+    match parse(text, kind) {
+        Some(Parsed::Plain(line)) => Ok(line),
+        Some(Parsed::Give { side, hex }) => match read_hex(alloc, hex, MOST_BYTES)? {
+            Some(pdu) => Ok(Line::Give { side, pdu }),
+            None => Err(LineRefused::Grammar),
+        },
+        None => Err(LineRefused::Grammar),
     }
+}
+
+/// The grammar of direct recordings.
+#[derive(Clone, Copy, Debug)]
+pub struct Recording;
+
+impl Grammar for Recording {
+    ghost use Rattle.rh_world.specs.Recording.{recording};
+    ghost use Rattle.rh_world.specs.Readings.{one_line_at, no_empty};
+
+    type Place = RecordKind;
+
+    type Line = Line;
+
+    ghost rules = { recording };
+
+    fn first_place() -> RecordKind {
+        RecordKind::Header
+    }
+
+    fn may_end(place: RecordKind) -> bool {
+        place == RecordKind::Direct
+    }
+
+    /// Reads no bytes of a give, and takes no memory.
+    fn judge_line(text: &[u8], place: RecordKind) -> Option<RecordKind> {
+        match parse(text, place) {
+            Some(Parsed::Plain(_)) => Some(RecordKind::Direct),
+            Some(Parsed::Give { side: _, hex }) => {
+                if is_hex(hex, MOST_BYTES) {
+                    Some(RecordKind::Direct)
+                } else {
+                    None
+                }
+            }
+            None => None,
+        }
+    }
+
+    ghost one = { one_line_at };
+
+    ghost some = { no_empty };
 }
 
 /// A text spells one line at most: this function does nothing, and its contract is that law.
@@ -238,9 +233,11 @@ pub fn one_reading()
 {}
 
 /// A text is the text of one recording, or has one first bad line, and never both: this function does
-/// nothing, and its contract is that law.
+/// nothing, and its contract is that law. `first_bad_line::<Recording>` tells which.
 pub fn one_recording()
-    ensures recording { (text : List ℕ) (a b : List Line) → RecordingText text a → RecordingText text b → a ≡ b }
-    ensures bad { (text : List ℕ) (n m : ℕ) → FirstBad text n → FirstBad text m → n ≡ m }
-    ensures never_both { (text : List ℕ) (lines : List Line) (n : ℕ) → RecordingText text lines → ¬ FirstBad text n }
-{}
+    ensures lines { (text : List ℕ) (a b : List Line) → TextOf recording text a → TextOf recording text b → a ≡ b }
+    ensures bad { (text : List ℕ) (n m : ℕ) → FirstBad recording text n → FirstBad recording text m → n ≡ m }
+    ensures never_both { (text : List ℕ) (n : ℕ) → IsText recording text → ¬ FirstBad recording text n }
+{
+    one_text::<Recording>();
+}

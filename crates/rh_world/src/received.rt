@@ -2,9 +2,9 @@
 
 ghost use Rattle.std.specs.Prelude.{◌≡◌, ◌+◌, ◌-◌, ◌≤◌, ◌<◌, ◌^◌, ◌++◌, [], ◌∷◌, IfOk, OnOk, OnErr, MatchOption, length};
 
-use crate::bytes::Bytes;
 use crate::ring::{make_room, take_front};
 use circular_buffer::HeapCircularBuffer;
+use rh_text::Bytes;
 use std::alloc::{AllocError, Global};
 use std::marker::Model;
 
@@ -41,13 +41,18 @@ impl Received {
     }
 
     /// Makes room for so many bytes of so many PDUs.
-    pub(crate) fn reserve(&mut self, bytes: usize, pdus: usize) -> Result<(), AllocError>
+    pub(crate) fn reserve(
+        &mut self,
+        alloc: Global,
+        bytes: usize,
+        pdus: usize,
+    ) -> Result<(), AllocError>
         ensures pdus { self.new.pdus ≡ self.old.pdus }
         ensures room { OnOk result (bytes ≤ self.new.room) }
         ensures places { OnOk result (pdus ≤ self.new.places) }
     {
-        make_room(&mut self.bytes, bytes)?;
-        make_room(&mut self.lengths, pdus)
+        make_room(alloc, &mut self.bytes, bytes)?;
+        make_room(alloc, &mut self.lengths, pdus)
     }
 
     /// Puts a PDU behind the others, in the room that was made.

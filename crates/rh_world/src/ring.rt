@@ -2,12 +2,13 @@
 
 ghost use Rattle.std.specs.Prelude.{◌≡◌, ◌+◌, ◌≤◌, IfOk, OnOk, OnErr, length, take, drop};
 
-use crate::bytes::Bytes;
 use circular_buffer::HeapCircularBuffer;
+use rh_text::Bytes;
 use std::alloc::{AllocError, Global};
 
 /// Makes room for `count` items more. The room at least doubles where it doesn't suffice.
 pub(crate) fn make_room<T: Copy>(
+    alloc: Global,
     ring: &mut HeapCircularBuffer<T>,
     count: usize,
 ) -> Result<(), AllocError>
@@ -18,7 +19,14 @@ pub(crate) fn make_room<T: Copy>(
     let room = ring.capacity();
     if count > room - ring.len() {
         let needed = ring.len().checked_add(count).ok_or(AllocError)?;
-        ring.resize(needed.max(room.saturating_mul(2)))?;
+        let mut wider = HeapCircularBuffer::with_capacity(
+            alloc,
+            needed.max(room.saturating_mul(2)),
+        )?;
+        let (front, behind) = ring.as_slices();
+        wider.fill_from_slice(front);
+        wider.fill_from_slice(behind);
+        *ring = wider;
     }
     Ok(())
 }

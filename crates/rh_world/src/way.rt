@@ -1,19 +1,20 @@
 //! One direction of the direct leg, from the end that gives to the end that takes.
 
-ghost use Rattle.std.specs.Prelude.{◌≡◌, ◌+◌, ◌/◌, ◌<◌, ◌≤◌, ◌^◌, ◌++◌, IfOk, OnOk, OnErr, length, take, None};
+ghost use Rattle.std.specs.Prelude.{◌≡◌, ◌+◌, ◌-◌, ◌/◌, ◌<◌, ◌≤◌, ◌^◌, ◌++◌, [], ◌∷◌, IfOk, OnOk, OnErr};
+ghost use Rattle.std.specs.Prelude.{length, vec_len, take, drop, None, MatchOption};
 ghost use Rattle.std.specs.List.{concat};
-ghost use Rattle.rh_pdu.specs.Frames.{IsBad};
+ghost use Rattle.rh_pdu.specs.Frames.{IsBad, IsFrame};
+ghost use Rattle.rh_line.specs.Queue.{untouched};
 ghost use Rattle.rh_pdu.specs.Cut.{frames_of, rest_of};
 ghost use Rattle.rh_world.specs.Direct as seen;
 
-use crate::answer::{GiveFault, TakeAnswer};
-use crate::begun::Begun;
-use crate::bytes::Bytes;
+use crate::answer::TakeAnswer;
 use crate::received::Received;
 use crate::ring::{make_room, take_front};
 use circular_buffer::HeapCircularBuffer;
-use rh_line::SendLine;
+use rh_line::{Begun, GiveFault, SendLine, draw};
 use rh_pdu::{Feed, Framer, check};
+use rh_text::Bytes;
 use std::alloc::{AllocError, Global};
 use std::marker::Model;
 
@@ -28,6 +29,7 @@ const LEAST_PDU: usize = 16;
 pub(crate) struct Way {
     queue: SendLine,
     begun: Begun,
+    drawn: Vec<u8>,
     flight: HeapCircularBuffer<u8>,
     framer: Framer,
     untaken: Received,
@@ -36,14 +38,25 @@ pub(crate) struct Way {
 }
 
 impl Model for Way {
+    ghost use Rattle.std.specs.Prelude.{◌++◌};
+    ghost use Rattle.std.specs.List.{concat};
     ghost use Rattle.rh_world.specs.Direct as seen;
     ghost use Rattle.rh_world.specs.Carrying.{IsCarrying};
 
     ghost Value = { seen.Way };
 
-    ghost view = { λ a. record { queue = a.queue; begun = a.begun; flight = a.flight.items; fed = a.framer.rest; untaken = a.untaken.pdus; given = a.given; taken = a.taken } };
+    ghost view = { λ a. record {
+      queue = a.queue;
+      undrawn = a.begun ++ concat a.queue;
+      flight = a.flight.items;
+      fed = a.framer.rest;
+      untaken = a.untaken.pdus;
+      given = a.given;
+      taken = a.taken;
+    } };
 
-    ghost invariant = { λ a. IsCarrying a.queue a.begun a.flight.items a.framer a.untaken.pdus a.given a.taken };
+    ghost invariant = { λ a. IsCarrying (a.begun ++ concat a.queue) a.flight.items a.framer
+        a.untaken.pdus a.given a.taken };
 }
 
 impl Way {
@@ -54,6 +67,7 @@ impl Way {
         Ok(Way {
             queue: SendLine::new(alloc)?,
             begun: Begun::new(),
+            drawn: Vec::new(alloc),
             flight: HeapCircularBuffer::with_capacity(alloc, FIRST_FLIGHT)?,
             framer: Framer::new(),
             untaken: Received::new(alloc)?,
@@ -83,8 +97,7 @@ impl Way {
         pdu: &[u8],
     ) -> Result<Result<u16, GiveFault>, AllocError>
         requires { self.old.given + 1 < 2 ^ 32 }
-        ensures way { OnOk result (self.new ≡ seen.give self.old pdu.now) }
-        ensures answer { IfOk result (λ answer. answer ≡ seen.give_answer (seen.refusal self.old pdu.now) (length pdu.now)) }
+        ensures done { IfOk result (λ answer. (self.new, answer) ≡ seen.give self.old pdu.now) }
         ensures err { OnErr result (self.new ≡ self.old) }
     {
         if let Err(fault) = check(pdu) {
@@ -101,24 +114,25 @@ impl Way {
     }
 
     /// Draws up to `count` bytes into flight, and answers how many.
-    pub(crate) fn send(&mut self, count: u32) -> Result<u32, AllocError>
-        ensures way { OnOk result (self.new ≡ seen.send self.old count) }
-        ensures count { IfOk result (λ drawn. drawn ≡ length (take count (seen.undrawn self.old))) }
+    pub(crate) fn send(&mut self, alloc: Global, count: u32) -> Result<u32, AllocError>
+        ensures done { IfOk result (λ drawn. (self.new, drawn) ≡ seen.send self.old count) }
         ensures err { OnErr result (self.new ≡ self.old) }
     {
-        let most = self.begun.len() + self.queue.held();
-        make_room(&mut self.flight, most.min(count as usize))?;
-        Ok(draw(&mut self.queue, &mut self.begun, &mut self.flight, count))
+        let count = (count as usize).min(self.begun.len() + self.queue.held());
+        make_room(alloc, &mut self.flight, count)?;
+        widen(&mut self.drawn, count)?;
+        let (room, _) = self.drawn.as_mut_slice().split_at_mut(count);
+        carry(&mut self.queue, &mut self.begun, room, &mut self.flight);
+        Ok(count as u32)
     }
 
     /// Feeds the first `count` bytes in flight, or all where there are fewer, and answers them.
     pub(crate) fn feed(&mut self, alloc: Global, count: u32) -> Result<Bytes, AllocError>
-        ensures way { OnOk result (self.new ≡ seen.move self.old count) }
-        ensures piece { IfOk result (λ piece. piece ≡ take count self.old.flight) }
+        ensures done { IfOk result (λ piece. (self.new, piece) ≡ seen.move self.old count) }
         ensures err { OnErr result (self.new ≡ self.old) }
     {
         let most = self.framer.held() + self.flight.len().min(count as usize);
-        self.untaken.reserve(most, most / LEAST_PDU)?;
+        self.untaken.reserve(alloc, most, most / LEAST_PDU)?;
         let piece = take_front(alloc, &mut self.flight, count as usize)?;
         deliver(&mut self.framer, piece.as_slice(), &mut self.untaken);
         Ok(piece)
@@ -126,8 +140,7 @@ impl Way {
 
     /// Takes the first PDU that came whole, if there is one.
     pub(crate) fn take(&mut self, alloc: Global) -> Result<TakeAnswer, AllocError>
-        ensures way { OnOk result (self.new ≡ seen.take_pdu self.old) }
-        ensures answer { IfOk result (λ answer. answer ≡ seen.take_answer self.old.untaken) }
+        ensures done { IfOk result (λ answer. (self.new, answer) ≡ seen.take_pdu self.old) }
         ensures err { OnErr result (self.new ≡ self.old) }
     {
         let Some(pdu) = self.untaken.pop(alloc)? else {
@@ -138,30 +151,53 @@ impl Way {
     }
 }
 
-/// Draws up to `count` bytes of the PDU begun and of those queued into flight, and answers how many.
-fn draw(
+/// Draws as many bytes as the room has into flight, by way of that room.
+fn carry(
     queue: &mut SendLine,
     begun: &mut Begun,
+    room: &mut [u8],
     flight: &mut HeapCircularBuffer<u8>,
-    count: u32,
-) -> u32
-    requires { length flight.old.items + length (take count (begun.old ++ concat queue.old)) ≤ flight.old.capacity }
-    ensures count { result ≡ length (take count (begun.old ++ concat queue.old)) }
-    ensures flight { flight.new.items ≡ flight.old.items ++ take count (begun.old ++ concat queue.old) }
-    ensures begun { begun.new ≡ seen.begun_after count begun.old queue.old }
-    ensures queue { queue.new ≡ seen.queue_after count begun.old queue.old }
+)
+    requires few { length room.old ≤ length (begun.old ++ concat queue.old) }
+    requires fits { length flight.old.items + length room.old ≤ flight.old.capacity }
+    ensures flight { flight.new.items
+        ≡ flight.old.items ++ take (length room.old) (begun.old ++ concat queue.old) }
+    ensures left { begun.new ++ concat queue.new
+        ≡ drop (length room.old) (begun.old ++ concat queue.old) }
+    ensures queue { queue.new ≡ untouched (length room.old - length begun.old) queue.old }
 {
-    let mut left = count;
-    while left > begun.len() as u32 {
-        flight.fill_from_slice(begun.as_slice());
-        left -= begun.len() as u32;
-        if !begun.begin_next(queue) {
-            return count - left;
-        }
+    draw(queue, begun, room);
+    flight.fill_from_slice(room);
+}
+
+/// Makes a room of `count` bytes at least.
+fn widen(room: &mut Vec<u8>, count: usize) -> Result<(), AllocError>
+    ensures { OnOk result (count ≤ vec_len room.new) }
+{
+    if room.len() < count {
+        room.resize(count, 0)?;
     }
-    flight.fill_from_slice(&begun.as_slice()[..left as usize]);
-    begun.advance(left as usize);
-    count
+    Ok(())
+}
+
+/// Feeds a piece up to the end of the first frame, which the framer then lends, and answers how many
+/// bytes of the piece that used; `None` where all of it was used and no frame is whole.
+fn next_frame(framer: &mut Framer, piece: &[u8]) -> Option<usize>
+    requires going { framer.old.fault ≡ None }
+    requires sound { IsBad (rest_of (framer.old.rest ++ piece.now)) → ⊥ }
+    ensures going { framer.new.fault ≡ None }
+    ensures frames { MatchOption result
+        ((frames_of (framer.old.rest ++ piece.now) ≡ [])
+        × (rest_of (framer.old.rest ++ piece.now) ≡ framer.new.rest))
+        (λ used. (framer.new.rest ≡ []) × IsFrame framer.new.frame
+        × (framer.old.rest ++ piece.now ≡ framer.new.frame ++ drop used piece.now)
+        × (0 < used) × (used ≤ length piece.now)) }
+{
+    match framer.feed(piece) {
+        Feed::Need => None,
+        Feed::Frame { used, .. } => Some(used),
+        Feed::Fault { place: _, fault: _ } => unreachable!(),
+    }
 }
 
 /// Feeds a piece to its end, and keeps the frames that it makes whole.
@@ -172,18 +208,13 @@ fn deliver(framer: &mut Framer, piece: &[u8], untaken: &mut Received)
     requires places { length (framer.old.rest ++ piece.now) / LEAST_PDU ≤ untaken.old.places }
     ensures going { framer.new.fault ≡ None }
     ensures rest { framer.new.rest ≡ rest_of (framer.old.rest ++ piece.now) }
-    ensures frames { untaken.new.pdus ≡ untaken.old.pdus ++ frames_of (framer.old.rest ++ piece.now) }
+    ensures frames { untaken.new.pdus
+        ≡ untaken.old.pdus ++ frames_of (framer.old.rest ++ piece.now) }
 {
     let mut left = piece;
-    'frames: loop {
-        match framer.feed(left) {
-            Feed::Need => return,
-            Feed::Frame { used, .. } => {
-                untaken.push(framer.frame());
-                let (_, behind) = left.split_at(used);
-                left = behind;
-            }
-            Feed::Fault { place: _, fault: _ } => unreachable!(),
-        }
+    'frames: while let Some(used) = next_frame(framer, left) {
+        untaken.push(framer.frame());
+        let (_, behind) = left.split_at(used);
+        left = behind;
     }
 }

@@ -1,10 +1,12 @@
 //! The direct world: one leg, `cs`, between a client and a server.
 
-ghost use Rattle.std.specs.Prelude.{◌≡◌, ◌↔◌, ◌+◌, ◌<◌, ◌≤◌, IsTrue, ◌++◌, [], ◌∷◌, IfOk, OnOk, OnErr};
+ghost use Rattle.std.specs.Prelude.{◌≡◌, ◌↔◌, ◌⊎◌, ◌+◌, ◌<◌, ◌≤◌, IsTrue, ◌++◌, [], ◌∷◌, IfOk, OnOk, OnErr};
+ghost use Rattle.rh_text.specs.Writing.{Writes};
 
 use crate::answer::{Answer, Report};
-use crate::line::{Dir, Line, Side};
+use crate::line::Line;
 use crate::way::Way;
+use rh_line::{Dir, Side};
 use std::alloc::{AllocError, Global};
 use std::marker::Model;
 
@@ -49,6 +51,9 @@ impl World {
     }
 
     /// Does what a line says, and adds its answer to the report. A first line does nothing.
+    ///
+    /// Fails where there is no memory. The report has then not changed; the line was done whole, or
+    /// nothing of it.
     pub fn step(
         &mut self,
         alloc: Global,
@@ -56,22 +61,29 @@ impl World {
         report: &mut Report,
     ) -> Result<(), AllocError>
         requires { self.old.up.given + self.old.down.given < MOST_PDUS }
-        ensures world { OnOk result (self.new ≡ seen.step self.old line.now) }
-        ensures report { OnOk result (report.new ≡ report.old ++ seen.answers self.old line.now) }
+        ensures world { OnOk result (self.new ≡ (seen.step self.old line.now).0) }
+        ensures report { OnOk result (report.new ≡ report.old ++ (seen.step self.old line.now).1) }
+        ensures err { OnErr result (report.new ≡ report.old) }
+        ensures half { OnErr result
+            ((self.new ≡ self.old) ⊎ (self.new ≡ (seen.step self.old line.now).0)) }
+        ensures given { self.new.up.given + self.new.down.given
+            ≤ self.old.up.given + self.old.down.given + 1 }
     {
         let answer = match line {
             Line::First => return Ok(()),
             Line::Give { side, pdu } => self.give(alloc, *side, pdu.as_slice())?,
             Line::Take { side } => self.take(alloc, *side)?,
-            Line::Send { dir, count } => self.send(*dir, *count)?,
+            Line::Send { dir, count } => self.send(alloc, *dir, *count)?,
             Line::Move { dir, count } => self.feed(alloc, *dir, *count)?,
         };
         report.push(answer)
     }
 
     /// Adds the last lines of a report: how many PDUs were given and taken in each direction.
+    ///
+    /// Fails where there is no memory; a front of these lines may be added then.
     pub fn last(&self, report: &mut Report) -> Result<(), AllocError>
-        ensures { OnOk result (report.new ≡ report.old ++ seen.last self.now) }
+        ensures { Writes (seen.last self.now) result report.old report.new }
     {
         report.push(Answer::Up {
             given: self.up.given(),
@@ -85,8 +97,7 @@ impl World {
 
     fn give(&mut self, alloc: Global, side: Side, pdu: &[u8]) -> Result<Answer, AllocError>
         requires { self.old.up.given + self.old.down.given < MOST_PDUS }
-        ensures world { OnOk result (self.new ≡ seen.step self.old (Line.Give side pdu.now)) }
-        ensures answer { IfOk result (λ answer. seen.answers self.old (Line.Give side pdu.now) ≡ answer ∷ []) }
+        ensures done { IfOk result (λ answer. (self.new, answer ∷ []) ≡ seen.step self.old (Line.Give side pdu.now)) }
         ensures err { OnErr result (self.new ≡ self.old) }
     {
         let answer = match side {
@@ -97,8 +108,7 @@ impl World {
     }
 
     fn take(&mut self, alloc: Global, side: Side) -> Result<Answer, AllocError>
-        ensures world { OnOk result (self.new ≡ seen.step self.old (Line.Take side)) }
-        ensures answer { IfOk result (λ answer. seen.answers self.old (Line.Take side) ≡ answer ∷ []) }
+        ensures done { IfOk result (λ answer. (self.new, answer ∷ []) ≡ seen.step self.old (Line.Take side)) }
         ensures err { OnErr result (self.new ≡ self.old) }
     {
         let answer = match side {
@@ -108,21 +118,19 @@ impl World {
         Ok(Answer::Take { side, answer })
     }
 
-    fn send(&mut self, dir: Dir, count: u32) -> Result<Answer, AllocError>
-        ensures world { OnOk result (self.new ≡ seen.step self.old (Line.Send dir count)) }
-        ensures answer { IfOk result (λ answer. seen.answers self.old (Line.Send dir count) ≡ answer ∷ []) }
+    fn send(&mut self, alloc: Global, dir: Dir, count: u32) -> Result<Answer, AllocError>
+        ensures done { IfOk result (λ answer. (self.new, answer ∷ []) ≡ seen.step self.old (Line.Send dir count)) }
         ensures err { OnErr result (self.new ≡ self.old) }
     {
         let count = match dir {
-            Dir::U => self.up.send(count)?,
-            Dir::D => self.down.send(count)?,
+            Dir::U => self.up.send(alloc, count)?,
+            Dir::D => self.down.send(alloc, count)?,
         };
         Ok(Answer::Send { dir, count })
     }
 
     fn feed(&mut self, alloc: Global, dir: Dir, count: u32) -> Result<Answer, AllocError>
-        ensures world { OnOk result (self.new ≡ seen.step self.old (Line.Move dir count)) }
-        ensures answer { IfOk result (λ answer. seen.answers self.old (Line.Move dir count) ≡ answer ∷ []) }
+        ensures done { IfOk result (λ answer. (self.new, answer ∷ []) ≡ seen.step self.old (Line.Move dir count)) }
         ensures err { OnErr result (self.new ≡ self.old) }
     {
         let bytes = match dir {

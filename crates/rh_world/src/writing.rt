@@ -1,150 +1,163 @@
 //! Writes the lines of a report: the answers as text.
 
-ghost use Rattle.std.specs.Prelude.{◌≡◌, ◌++◌, ◌∷◌, [], OnOk, codes, string_bytes};
-ghost use Rattle.hex.specs.Hex.{encode_lower};
-ghost use Rattle.rh_world.specs.Recording.{side_word, dir_word};
-ghost use Rattle.rh_world.specs.Report.{answer_text, give_text, take_text, moved_text, report_text};
-ghost use Rattle.rh_world.specs.Report.{head_fault_text, pdu_fault_text};
+ghost use Rattle.std.specs.Prelude.{◌++◌, ◌∷◌, [], codes, string_bytes};
+ghost use Rattle.rh_text.specs.Ends.{side_word, dir_word};
+ghost use Rattle.rh_text.specs.Writing.{Writes};
+ghost use Rattle.rh_world.specs.declared.answer.Answer.TheVariants as answers;
+ghost use Rattle.rh_world.specs.Report.{report_text};
 
-use crate::answer::{Answer, GiveFault, Report, TakeAnswer};
-use crate::bytes::Bytes;
-use crate::digits::write_hex;
-use crate::line::{Dir, Side};
-use rh_pdu::{HeadFault, PduFault};
+use crate::answer::{Answer, Report, TakeAnswer};
+use rh_line::{Dir, GiveFault, Side};
+use rh_pdu::{PduFault, write_pdu_fault};
+use rh_text::{Part, write_parts};
 use std::alloc::AllocError;
-use std::fmt::{self, Display, Formatter, Write};
 
-impl Display for Side {
-    ghost use Rattle.std.specs.Prelude.{Some};
-    ghost use Rattle.rh_world.specs.Recording.{side_word};
-
-    ghost output = { λ side. Some (side_word side) };
-
-    fn fmt<W: Write>(&self, f: &mut Formatter<W>) -> fmt::Result {
-        match self {
-            Side::Client => f.write_str("c"),
-            Side::Server => f.write_str("s"),
-        }
-    }
-}
-
-impl Display for Dir {
-    ghost use Rattle.std.specs.Prelude.{Some};
-    ghost use Rattle.rh_world.specs.Recording.{dir_word};
-
-    ghost output = { λ dir. Some (dir_word dir) };
-
-    fn fmt<W: Write>(&self, f: &mut Formatter<W>) -> fmt::Result {
-        match self {
-            Dir::U => f.write_str("u"),
-            Dir::D => f.write_str("d"),
-        }
-    }
-}
-
-/// Appends the text of a header's fault.
-fn write_head_fault(fault: HeadFault, out: &mut String) -> Result<(), AllocError>
-    ensures { OnOk result (string_bytes out.new ≡ string_bytes out.old ++ head_fault_text fault) }
+/// Appends the answer to a give of bytes that are no PDU.
+fn write_bad(side: Side, fault: PduFault, out: &mut String) -> Result<(), AllocError>
+    ensures { Writes (report_text (answers.Give side (Err (GiveFault.BadPdu fault)) ∷ [])) result
+        (string_bytes out.old) (string_bytes out.new) }
 {
-    match fault {
-        HeadFault::Version(value) => write!(out, "Version {value}"),
-        HeadFault::Minor(value) => write!(out, "Minor {value}"),
-        HeadFault::ByteOrder(value) => write!(out, "ByteOrder {value}"),
-        HeadFault::TooShort(frag) => write!(out, "TooShort {frag}"),
-        HeadFault::TooLong(frag) => write!(out, "TooLong {frag}"),
-    }
+    write_parts(
+        &[
+            Part::Text("give "),
+            Part::Text(side.word()),
+            Part::Text(" bad "),
+        ],
+        out,
+    )?;
+    write_pdu_fault(fault, out)?;
+    out.push_str("\n")
 }
 
-/// Appends the text of a PDU's fault: its name and its numbers.
-///
-/// Fails where there is no memory, and a part of the text may then stand in `out`.
-pub fn write_pdu_fault(fault: PduFault, out: &mut String) -> Result<(), AllocError>
-    ensures { OnOk result (string_bytes out.new ≡ string_bytes out.old ++ pdu_fault_text fault) }
+/// Appends the answer to a give.
+fn write_give(
+    side: Side,
+    answer: Result<u16, GiveFault>,
+    out: &mut String,
+) -> Result<(), AllocError>
+    ensures { Writes (report_text (answers.Give side answer ∷ [])) result
+        (string_bytes out.old) (string_bytes out.new) }
 {
-    match fault {
-        PduFault::Cut(len) => write!(out, "Cut {len}"),
-        PduFault::Head(fault) => write_head_fault(fault, out),
-        PduFault::Rts => out.push_str("Rts"),
-        PduFault::Length { frag, len } => write!(out, "Length {frag} {len}"),
+    let give = Part::Text("give ");
+    let side_word = Part::Text(side.word());
+    match answer {
+        Ok(len) => {
+            let len = Part::Number(u64::from(len));
+            write_parts(
+                &[give, side_word, Part::Text(" ok "), len, Part::Text("\n")],
+                out,
+            )
+        }
+        Err(GiveFault::Full { held, len }) => {
+            let held = Part::Number(held as u64);
+            let len = Part::Number(len as u64);
+            let full = Part::Text(" full ");
+            write_parts(
+                &[
+                    give,
+                    side_word,
+                    full,
+                    held,
+                    Part::Text(" "),
+                    len,
+                    Part::Text("\n"),
+                ],
+                out,
+            )
+        }
+        Err(GiveFault::BadPdu(fault)) => write_bad(side, fault, out),
     }
 }
 
-/// Appends what was answered to a give, with a space before it.
-fn write_given(answer: &Result<u16, GiveFault>, out: &mut String) -> Result<(), AllocError>
-    ensures { OnOk result (string_bytes out.new ≡ string_bytes out.old ++ give_text answer.now) }
+/// Appends the answer to a take that gave a PDU.
+fn write_pdu(side: Side, pdu: &[u8], out: &mut String) -> Result<(), AllocError>
+    ensures { Writes (report_text (answers.Take side (TakeAnswer.Pdu pdu.now) ∷ [])) result
+        (string_bytes out.old) (string_bytes out.new) }
+{
+    let (take, side_word) = (Part::Text("take "), Part::Text(side.word()));
+    let (gave, hex, end) = (Part::Text(" pdu "), Part::Hex(pdu), Part::Text("\n"));
+    write_parts(&[take, side_word, gave, hex, end], out)
+}
+
+/// Appends the answer to a take.
+fn write_take(side: Side, answer: &TakeAnswer, out: &mut String) -> Result<(), AllocError>
+    ensures { Writes (report_text (answers.Take side answer.now ∷ [])) result
+        (string_bytes out.old) (string_bytes out.new) }
 {
     match answer {
-        Ok(len) => write!(out, " ok {len}"),
-        Err(GiveFault::Full { held, len }) => write!(out, " full {held} {len}"),
-        Err(GiveFault::BadPdu(fault)) => {
-            out.push_str(" bad ")?;
-            write_pdu_fault(*fault, out)
+        TakeAnswer::Pdu(bytes) => write_pdu(side, bytes.as_slice(), out),
+        TakeAnswer::Empty => {
+            let (take, side_word) = (Part::Text("take "), Part::Text(side.word()));
+            write_parts(&[take, side_word, Part::Text(" empty\n")], out)
         }
     }
 }
 
-/// Appends what a take gave, with a space before it.
-fn write_taken(answer: &TakeAnswer, out: &mut String) -> Result<(), AllocError>
-    ensures { OnOk result (string_bytes out.new ≡ string_bytes out.old ++ take_text answer.now) }
+/// Appends the answer to a move: how many bytes were fed and, where there are any, which.
+fn write_move(dir: Dir, bytes: &[u8], out: &mut String) -> Result<(), AllocError>
+    ensures { Writes (report_text (answers.Move dir bytes.now ∷ [])) result
+        (string_bytes out.old) (string_bytes out.new) }
 {
-    match answer {
-        TakeAnswer::Pdu(bytes) => {
-            out.push_str(" pdu ")?;
-            write_hex(bytes.as_slice(), out)
-        }
-        TakeAnswer::Empty => out.push_str(" empty"),
+    let (leg, dir_word, space) = (
+        Part::Text("move cs "),
+        Part::Text(dir.word()),
+        Part::Text(" "),
+    );
+    if bytes.is_empty() {
+        let none = Part::Number(bytes.len() as u64);
+        return write_parts(&[leg, dir_word, space, none, Part::Text("\n")], out);
     }
-}
-
-/// Appends the bytes of a move with a space before them, or nothing where there are none.
-fn write_moved(bytes: &Bytes, out: &mut String) -> Result<(), AllocError>
-    ensures { OnOk result (string_bytes out.new ≡ string_bytes out.old ++ moved_text bytes.now) }
-{
-    if bytes.len() == 0 {
-        return Ok(());
-    }
-    out.push_str(" ")?;
-    write_hex(bytes.as_slice(), out)
-}
-
-/// Appends the text of an answer.
-fn write_words(answer: &Answer, out: &mut String) -> Result<(), AllocError>
-    ensures { OnOk result (string_bytes out.new ≡ string_bytes out.old ++ answer_text answer.now) }
-{
-    match answer {
-        Answer::Give { side, answer } => {
-            write!(out, "give {side}")?;
-            write_given(answer, out)
-        }
-        Answer::Take { side, answer } => {
-            write!(out, "take {side}")?;
-            write_taken(answer, out)
-        }
-        Answer::Send { dir, count } => write!(out, "send cs {dir} {count}"),
-        Answer::Move { dir, bytes } => {
-            write!(out, "move cs {dir} {}", bytes.len())?;
-            write_moved(bytes, out)
-        }
-        Answer::Up { given, taken } => write!(out, "up given {given} taken {taken}"),
-        Answer::Down { given, taken } => write!(out, "down given {given} taken {taken}"),
-    }
+    let (len, hex) = (Part::Number(bytes.len() as u64), Part::Hex(bytes));
+    write_parts(
+        &[leg, dir_word, space, len, space, hex, Part::Text("\n")],
+        out,
+    )
 }
 
 /// Appends the text of an answer, with LF at its end.
 ///
-/// Fails where there is no memory, and a part of the text may then stand in `out`.
+/// Fails where there is no memory; a front of the text may stand in `out` then, and nothing else.
 pub fn write_answer(answer: &Answer, out: &mut String) -> Result<(), AllocError>
-    ensures { OnOk result (string_bytes out.new ≡ string_bytes out.old ++ report_text (answer.now ∷ [])) }
+    ensures { Writes (report_text (answer.now ∷ [])) result (string_bytes out.old) (string_bytes out.new) }
 {
-    write_words(answer, out)?;
-    out.push_str("\n")
+    let (taken, end) = (Part::Text(" taken "), Part::Text("\n"));
+    match answer {
+        Answer::Give { side, answer } => write_give(*side, *answer, out),
+        Answer::Take { side, answer } => write_take(*side, answer, out),
+        Answer::Send { dir, count } => {
+            let (leg, dir_word) = (Part::Text("send cs "), Part::Text(dir.word()));
+            let count = Part::Number(u64::from(*count));
+            write_parts(&[leg, dir_word, Part::Text(" "), count, end], out)
+        }
+        Answer::Move { dir, bytes } => write_move(*dir, bytes.as_slice(), out),
+        Answer::Up {
+            given,
+            taken: count,
+        } => {
+            let (given, count) = (
+                Part::Number(u64::from(*given)),
+                Part::Number(u64::from(*count)),
+            );
+            write_parts(&[Part::Text("up given "), given, taken, count, end], out)
+        }
+        Answer::Down {
+            given,
+            taken: count,
+        } => {
+            let (given, count) = (
+                Part::Number(u64::from(*given)),
+                Part::Number(u64::from(*count)),
+            );
+            write_parts(&[Part::Text("down given "), given, taken, count, end], out)
+        }
+    }
 }
 
 /// Appends the text of a report: one answer a line.
 ///
-/// Fails where there is no memory, and a part of the text may then stand in `out`.
+/// Fails where there is no memory; a front of the text may stand in `out` then, and nothing else.
 pub fn write_report(report: &Report, out: &mut String) -> Result<(), AllocError>
-    ensures { OnOk result (string_bytes out.new ≡ string_bytes out.old ++ report_text report.now) }
+    ensures { Writes (report_text report.now) result (string_bytes out.old) (string_bytes out.new) }
 {
     let answers = report.answers();
     for answer in answers {

@@ -1,10 +1,17 @@
 -- what was written is a front of the text
-use Rattle.std.proofs.Common.{sym, ◌∙◌, take, drop}
+use Rattle.std.proofs.Common.{refl, sym, ◌∙◌, take, drop, inr}
 use Rattle.std.proofs.lemmas.List.{take-append-drop}
 use Rattle.rh_cli.proofs.run.tell.Goals as goal
 
-pub returns-in-Err-clause-told : goal.returns-in-Err-clause-told
-returns-in-Err-clause-told g c =
+pub returns-in-Err : goal.returns-in-Err
+returns-in-Err g c =
     let bytes = c.as_bytes.result.now in
-    let e = c.in-Err.ensures.err in
-    (take e.0 bytes, e.2, (drop e.0 bytes, sym c.as_bytes.ensures.value ∙ sym (take-append-drop e.0 bytes)))
+    let came = c.in-Err.ensures in
+    record {
+      written = take came.err.0 bytes;
+      behind = drop came.err.0 bytes;
+      wrote = came.err.2;
+      front = sym c.as_bytes.ensures.value ∙ sym (take-append-drop came.err.0 bytes);
+      ended = inr (refl, came.failed);
+      sure = λ fits. let ok = came.takes (rw c.as_bytes.ensures.value fits) in cc;
+    }

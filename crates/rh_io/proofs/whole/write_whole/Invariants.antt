@@ -1,5 +1,5 @@
 -- what isn't written is the rest of the piece
-use Rattle.std.proofs.Common.{◌≡◌, ◌≤◌, ◌-◌, length, take, drop}
+use Rattle.std.proofs.Common.{◌≡◌, ◌≤◌, ◌+◌, ◌-◌, length, take, drop}
 use Rattle.std.specs.Io.KnownBytes.{Appends}
 use Rattle.rh_io.proofs.whole.write_whole.Given as goal
 
@@ -14,6 +14,7 @@ invariant-writes g l =
       shorter : length l.rest ≤ length l.fn.piece;
       behind : l.rest ≡ drop gone l.fn.piece;
       done : Appends (w.written l.fn.sink) (w.written l.sink) (take gone l.fn.piece);
-      faults : w.faults l.fn.sink ≤ w.faults l.sink;
+      faults : w.faults l.sink ≡ w.faults l.fn.sink;
+      takes : w.takes l.fn.sink ≤ w.takes l.sink + (length l.fn.piece - length l.rest);
       still : length l.fn.piece ≡ 0 → l.sink ≡ l.fn.sink;
     }

@@ -12,4 +12,5 @@ overflow_cast-bytes c =
 pub of-requires-clause-length : goal.of-requires-clause-length
 of-requires-clause-length c =
     sized c.args.bytes.now c.in-Ok.seen c.in-Ok.ensures.reads.1
-    ∙ ap (λ (cs : List Command). 20 + length (spellings cs)) (sym (c.in_ok-commands.ensures ∙ c.commands.ensures))
+    ∙ ap (λ (cs : List Command). 20 + length (spellings cs))
+    (sym (c.in_ok-commands.ensures ∙ c.commands.ensures))

@@ -9,6 +9,7 @@ unfolding spelling
 returns-in-FlowControlAck-clause-bytes c =
     let a = c.in-FlowControlAck in
     rw a.is (c.put_cookie.ensures.bytes
-    ∙ ap (λ (x : List ℕ). over x c.put_pair-at.result (le4 a.b ++ a.c.0)) c.put_pair-at.ensures.bytes
+    ∙ ap (λ (x : List ℕ). over x c.put_pair-at.result
+    (le4 a.b ++ a.c.0)) c.put_pair-at.ensures.bytes
     ∙ over_over c.args.room.now c.args.at (le4 1 ++ le4 a.a) (le4 a.b ++ a.c.0) c.put_pair-at.result
     c.put_pair-at.ensures.place (omega (arith, c.requires.room)))

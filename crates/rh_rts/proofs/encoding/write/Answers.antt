@@ -14,6 +14,7 @@ overflow_cast-commands c =
 pub returns : goal.returns
 returns c =
     let p : Parts = record { flags = c.args.flags; commands = c.args.commands.now } in
-    whole_packet p c.args.room.now c.put_header-at.new.room c.put_commands.new.room c.args.need c.put_header-at.result
-    c.put_commands.result c.requires.length c.put_header-at.ensures.bytes c.put_header-at.ensures.place
+    let header = c.put_header-at in
+    whole_packet p c.args.room.now header.new.room c.put_commands.new.room c.args.need header.result
+    c.put_commands.result c.requires.length header.ensures.bytes header.ensures.place
     c.put_commands.ensures.bytes c.put_commands.ensures.place (omega (arith, c.if-need-room.false))

@@ -9,9 +9,11 @@ check_body-requires c = rw c.in_ok-flags.ensures.3 (omega (arith, length-drop 20
 
 pub returns-in_err-check_body : goal.returns-in_err-check_body
 returns-in_err-check_body c =
-    let p = err_from_is_err_and c.from_residual-in_err-check_body.result c.from_residual-in_err-check_body.ensures.1 in
+    let given = c.from_residual-in_err-check_body in
+    let p = err_from_is_err_and given.result given.ensures.1 in
     rw (p.1, p.2) (is_first c.args.bytes.now c.in_ok-flags.rest.now c.in_ok-flags.count _
-    c.in_ok-flags.ensures.0 c.in_ok-flags.ensures.2 c.in_ok-flags.ensures.3 c.in_err-check_body.ensures)
+    c.in_ok-flags.ensures.0 c.in_ok-flags.ensures.2 c.in_ok-flags.ensures.3
+    c.in_err-check_body.ensures)
 
 pub returns : goal.returns
 returns c =

@@ -1,16 +1,15 @@
--- one outcome
 use Rattle.rh_show.proofs.Shows.{one_shown, one_show_text}
-use Rattle.rh_show.proofs.Splits.{one_packets_text, one_first_bad, never_both}
 use Rattle.rh_show.proofs.Telling.{told, show_text}
 use Rattle.rh_show.proofs.laws.one_text.Goals as goal
 
-pub returns : goal.returns
-returns c = record {
-  told = told;
-  shown = one_shown;
-  each = λ text packets h. show_text packets text h;
-  lines = one_show_text;
-  packets = one_packets_text;
-  bad = one_first_bad;
-  never_both = never_both;
-}
+pub returns-clause-told : goal.returns-clause-told
+returns-clause-told c = told
+
+pub returns-clause-shown : goal.returns-clause-shown
+returns-clause-shown c = one_shown
+
+pub returns-clause-each : goal.returns-clause-each
+returns-clause-each c = show_text
+
+pub returns-clause-lines : goal.returns-clause-lines
+returns-clause-lines c = one_show_text

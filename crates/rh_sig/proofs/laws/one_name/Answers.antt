@@ -1,11 +1,8 @@
-use Rattle.rh_sig.proofs.Clear.{one_row, one_meaning, one_name, one_value, one_reading}
+use Rattle.rh_sig.proofs.Clear.{one_carried, one_name, one_value, one_reading}
 use Rattle.rh_sig.proofs.laws.one_name.Goals as goal
 
 pub returns-clause-row : goal.returns-clause-row
-returns-clause-row c = λ pipe a b p q carried both flags types. one_row pipe a b p q carried both flags types
-
-pub returns-clause-meaning : goal.returns-clause-meaning
-returns-clause-meaning c = λ a b p q same. one_meaning a b p q same
+returns-clause-row c = λ pipe a b p q flags types. one_carried pipe a b p q flags types
 
 pub returns-clause-name : goal.returns-clause-name
 returns-clause-name c = λ p pipe a b x y. one_name p pipe a b x y

@@ -1,15 +1,15 @@
 use Rattle.std.proofs.Common.{◌≡◌, ap, ◌∙◌, sym, List, subst, Some, None}
 use Rattle.rh_rts.specs.declared.command.Command.{Command}
-use Rattle.rh_sig.specs.Names.{kinds, unpadded, IsNamed}
-use Rattle.rh_sig.specs.Values.{first_out_of_range, name_of_named, commands_of, ReadsAs}
+use Rattle.rh_sig.specs.Names.{types_of, unpadded, row_of, IsNamed}
+use Rattle.rh_sig.specs.Values.{AreInRange, IsOut, name_of_named, commands_of, ReadsAs}
 use Rattle.rh_sig.specs.Reading.{all_shown, value}
 use Rattle.rh_sig.specs.declared.name.Name.{Name}
 use Rattle.rh_sig.specs.declared.name.Pipe.{Pipe}
 use Rattle.rh_sig.specs.declared.named.Named.{Named}
 use Rattle.rh_rts.specs.Packets.{Parts}
-use Rattle.rh_sig.proofs.Table.{named_by, too_many, named_types}
-use Rattle.rh_sig.proofs.FirstOut.{first_unpadded, refused}
-use Rattle.rh_sig.proofs.Again.{types_of, same_commands, same_name}
+use Rattle.rh_sig.proofs.Table.{named_by, too_many}
+use Rattle.rh_sig.proofs.FirstOut.{refused}
+use Rattle.rh_sig.proofs.Again.{same_commands, same_name}
 use Rattle.rh_sig.proofs.reading.read_named.Goals as goal
 
 pub returns-in_default : goal.returns-in_default
@@ -22,22 +22,26 @@ pub returns-in-Some-first_out_of_range : goal.returns-in-Some-first_out_of_range
 returns-in-Some-first_out_of_range c =
     refused c.args.view.now c.args.pipe c.in-Some-name_by.name c.in-Some-first_out_of_range.fault
     (named_by c.args.view.now c.args.pipe (Some c.in-Some-name_by.name) (cc c.in-Some.ensures))
-    (let e = first_unpadded c.args.view.now.commands in cc c.in-Some.ensures)
+    (subst (λ (cs : List Command). IsOut cs c.in-Some-first_out_of_range.fault)
+    (c.commands.ensures ∙ c.in-Some.ensures) c.in-Some-first_out_of_range.ensures)
 
 -- the value of the name that was found
-is_value : (p : Parts) (pipe : Pipe) (name : Name) (cs : List Command) (n : Named) → IsNamed p pipe name
-    → cs ≡ unpadded p.commands → n ≡ value name cs → first_out_of_range cs ≡ None
-    → ReadsAs p pipe n × (first_out_of_range p.commands ≡ None)
+is_value : (p : Parts) (pipe : Pipe) (name : Name) (cs : List Command) (n : Named)
+    → IsNamed p pipe name → cs ≡ unpadded p.commands → n ≡ value name cs → AreInRange cs
+    → ReadsAs p pipe n × AreInRange (commands_of n)
 is_value p pipe name cs n is kept read fine =
-    let types : kinds cs ≡ types_of name = ap kinds kept ∙ named_types p pipe name is in
+    let types : types_of cs ≡ (row_of name).types = ap types_of kept ∙ sym is.types in
+    let same : commands_of n ≡ cs = ap commands_of read ∙ same_commands name cs types in
     let named : IsNamed p pipe (name_of_named n) =
-    subst (λ (x : Name). IsNamed p pipe x) (sym (same_name name cs) ∙ ap name_of_named (sym read)) is in (
-      (named, ap commands_of read ∙ same_commands name cs types ∙ kept),
-      sym (first_unpadded p.commands) ∙ ap first_out_of_range (sym kept) ∙ fine,
-    )
+    subst (λ (x : Name). IsNamed p pipe x) (sym (same_name name cs) ∙ ap name_of_named (sym read))
+    is in
+    ((named, same ∙ kept), subst AreInRange (sym same) fine)
 
 pub returns : goal.returns
 returns c =
-    is_value c.args.view.now c.args.pipe c.in-Some-name_by.name (all_shown c.commands-2.result.now) c.value_by.result
+    is_value c.args.view.now c.args.pipe c.in-Some-name_by.name (all_shown c.commands-2.result.now)
+    c.value_by.result
     (named_by c.args.view.now c.args.pipe (Some c.in-Some-name_by.name) (cc c.in-Some.ensures))
-    (cc c.in-Some.ensures) c.value_by.ensures (cc)
+    (c.commands-2.ensures ∙ c.in-Some.ensures) c.value_by.ensures
+    (subst AreInRange (c.commands.ensures ∙ sym c.commands-2.ensures)
+    c.in_default-first_out_of_range.ensures)

@@ -12,4 +12,5 @@ returns-clause-alone c = λ pipe other is named.
 
 pub returns-clause-back : goal.returns-clause-back
 returns-clause-back c = λ pipe other is reads.
-    one_reading (parts_of c.args.named.now) pipe other c.args.named.now reads (reads_as c.args.named.now pipe is)
+    one_reading (parts_of c.args.named.now) pipe other c.args.named.now reads
+    (reads_as c.args.named.now pipe is)

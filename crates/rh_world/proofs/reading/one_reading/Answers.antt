@@ -1,4 +1,4 @@
-use Rattle.rh_world.proofs.Readings.{one_line}
+use Rattle.rh_world.specs.Readings.{one_line}
 use Rattle.rh_world.proofs.reading.one_reading.Goals as goal
 
 pub returns : goal.returns

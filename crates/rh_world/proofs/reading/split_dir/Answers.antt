@@ -1,5 +1,5 @@
 use Rattle.std.proofs.Common.{sym, ◌∙◌}
-use Rattle.rh_world.proofs.Readings.{no_dir}
+use Rattle.rh_world.proofs.Words.{no_dir}
 use Rattle.rh_world.proofs.reading.split_dir.Goals as goal
 
 pub returns-in_err-last-clause-none : goal.returns-in_err-last-clause-none

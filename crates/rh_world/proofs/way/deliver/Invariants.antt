@@ -9,7 +9,8 @@ decreases-frames l = length l.left
 abbrev pub invariant-frames : goal.invariant-frames
 invariant-frames l = record {
   going : l.framer.fault ≡ None;
-  frames : l.untaken.pdus ++ frames_of (l.framer.rest ++ l.left) ≡ l.fn.untaken.pdus ++ frames_of (l.fn.framer.rest ++ l.fn.piece);
+  frames : l.untaken.pdus ++ frames_of (l.framer.rest ++ l.left)
+      ≡ l.fn.untaken.pdus ++ frames_of (l.fn.framer.rest ++ l.fn.piece);
   rest : rest_of (l.framer.rest ++ l.left) ≡ rest_of (l.fn.framer.rest ++ l.fn.piece);
   room : length (l.framer.rest ++ l.left) ≤ l.untaken.room;
   places : length (l.framer.rest ++ l.left) / 16 ≤ l.untaken.places;

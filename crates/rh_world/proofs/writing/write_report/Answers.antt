@@ -1,13 +1,25 @@
--- one answer more
-use Rattle.std.proofs.Common.{◌++◌, ◌∷◌, [], take, string_bytes, sym, ◌∙◌, ap, append_assoc}
+use Rattle.std.proofs.Common.{◌≡◌, ℕ, suc, List, [], ◌∷◌, ◌++◌, drop, string_bytes, Err, subst, sym, ap, ◌∙◌}
+use Rattle.std.proofs.lemmas.Result.{err_from_is_err_and}
+use Rattle.rh_text.specs.Writing.{Writes}
+use Rattle.rh_text.proofs.Appending.{written_part}
+use Rattle.rh_world.specs.declared.answer.Answer.{Answer}
 use Rattle.rh_world.specs.Report.{report_text}
-use Rattle.rh_world.proofs.Reports.{one_more_text}
+use Rattle.rh_world.proofs.Reports.{report_text-drop}
 use Rattle.rh_world.proofs.writing.write_report.Goals as goal
 
-pub loop-answer-preserved : goal.loop-answer-preserved
-loop-answer-preserved c =
-    let all = c.answers-answers.result.now in
-    let so_far = report_text (take c.loop-answer.answer-index all) in
-    c.in_ok-write_answer.ensures ∙ ap (λ x. x ++ report_text (c.answer-item.result ∷ [])) c.loop-answer.invariant
-    ∙ append_assoc (string_bytes c.args.out.now) so_far (report_text (c.answer-item.result ∷ []))
-    ∙ ap (λ x. string_bytes c.args.out.now ++ x) (sym (one_more_text all c.loop-answer.answer-index c.answer-item.result c.loop-answer-test.true c.answer-item.is))
+pub returns-in_err-write_answer : goal.returns-in_err-write_answer
+returns-in_err-write_answer c =
+    let p = err_from_is_err_and c.from_residual.result c.from_residual.ensures.1 in
+    let answers = c.answers-answers.result.now in
+    let i = c.loop-answer.answer-index in
+    let item = c.answer-item.result in
+    let rest = report_text (drop (suc i) answers) in
+    let before = string_bytes c.args.out.now in
+    let out = string_bytes c.write_answer.new.out in
+    let cut : report_text (drop i answers) ≡ report_text (item ∷ []) ++ rest =
+    report_text-drop answers i item c.loop-answer-test.true
+    ∙ ap (λ (a : Answer). report_text (a ∷ []) ++ rest) (sym c.answer-item.is) in
+    let written = written_part (report_text answers) before (string_bytes c.loop-answer.out) out
+    (report_text (drop i answers)) (report_text (item ∷ [])) rest p.0 cut c.in_err-write_answer.ensures
+    c.loop-answer.invariant in
+    rw p.1 (subst (λ (t : List ℕ). Writes t (Err p.0) before out) (ap report_text c.answers-answers.ensures) written)

@@ -6,6 +6,7 @@ use Rattle.rh_io.proofs.memory.MemSourceSource.read.Goals as goal
 
 pub returns-clause-bytes : goal.returns-clause-bytes
 returns-clause-bytes c =
-    moved_next c.args.self.now.bytes.items c.args.room.now c.copy_from_slice.new.self c.args.self.now.position c.min-count.result
+    moved_next c.args.self.now.bytes.items c.args.room.now c.copy_from_slice.new.self
+    c.args.self.now.position c.min-count.result
     (omega arith)
     (grind (arith, common_steps))

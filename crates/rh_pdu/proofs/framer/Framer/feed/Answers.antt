@@ -1,39 +1,33 @@
--- what was answered, in the words of the framing
-use Rattle.rh_pdu.proofs.Told.{told}
-use Rattle.rh_pdu.proofs.Fed.{used_framed, place_counts, need_told, fault_told, fault_named}
+-- what was put, in the words of the framing
+use Rattle.std.proofs.Common.{arith, subst, take}
+use Rattle.rh_pdu.specs.Feeding.{IsSoundBy}
+use Rattle.rh_pdu.proofs.Feeds.{fault_stays, header_kept, held_below, frame_lent}
 use Rattle.rh_pdu.proofs.framer.Framer.feed.Goals as goal
 
-pub returns-clause-frames : goal.returns-clause-frames
-returns-clause-frames c =
-    let s = c.args.self.now in let t = c.fill.new.self in let piece = c.args.piece.now in
-    let a = c.fill.result in
-    let is = c.fill.ensures in
-    used_framed a s t piece (told s t piece a is.sound is.state is.answer)
+pub returns-in-Some-clause-fed : goal.returns-in-Some-clause-fed
+returns-in-Some-clause-fed c =
+    let f = c.self.inside in
+    fault_stays c.args.self.now (take f.held f.buf) c.args.piece.now (take f.whole f.buf) f.place
+    f.fault c.in-Some.fault c.self.view_is c.in-Some.is c.self.invariant.2
 
-pub returns-clause-place : goal.returns-clause-place
-returns-clause-place c =
-    let s = c.args.self.now in let t = c.fill.new.self in let piece = c.args.piece.now in
-    let a = c.fill.result in
-    let is = c.fill.ensures in
-    place_counts a s t piece (told s t piece a is.sound is.state is.answer)
+pub invariant_of-self-in-Bad : goal.invariant_of-self-in-Bad
+invariant_of-self-in-Bad c =
+    let h = c.in-Bad.ensures in
+    (omega arith, omega arith, header_kept _ c.put_frame.new.buf c.in-Bad.fault h.0 h.1 h.2)
 
-pub returns-clause-need : goal.returns-clause-need
-returns-clause-need c =
-    let s = c.args.self.now in let t = c.fill.new.self in let piece = c.args.piece.now in
-    let a = c.fill.result in
-    let is = c.fill.ensures in
-    need_told a s t piece (told s t piece a is.sound is.state is.answer)
+pub overflow_sub-result : goal.overflow_sub-result
+overflow_sub-result c =
+    let f = c.self.inside in
+    let below =
+    held_below f.held c.in-Whole.len f.buf c.args.piece.now c.put_frame.new.buf c.self.told
+    c.self.invariant.0 (subst (IsSoundBy (take f.held f.buf)) c.in_default.is c.self.invariant.2)
+    c.in-Whole.ensures in
+    omega arith
 
-pub returns-clause-fault : goal.returns-clause-fault
-returns-clause-fault c =
-    let s = c.args.self.now in let t = c.fill.new.self in let piece = c.args.piece.now in
-    let a = c.fill.result in
-    let is = c.fill.ensures in
-    fault_told a s t piece (told s t piece a is.sound is.state is.answer)
-
-pub returns-clause-names : goal.returns-clause-names
-returns-clause-names c =
-    let s = c.args.self.now in let t = c.fill.new.self in let piece = c.args.piece.now in
-    let a = c.fill.result in
-    let is = c.fill.ensures in
-    fault_named a s t piece (told s t piece a is.sound is.state is.answer)
+pub returns-in-Whole-clause-fed : goal.returns-in-Whole-clause-fed
+returns-in-Whole-clause-fed c =
+    let f = c.self.inside in
+    frame_lent c.args.self.now f.held c.in-Whole.len f.place c.place_behind-self-inside.result
+    f.buf c.args.piece.now c.put_frame.new.buf (take f.whole f.buf) f.fault c.self.view_is
+    c.in_default.is c.self.told c.self.invariant.0 c.self.invariant.2 c.in-Whole.ensures
+    c.place_behind-self-inside.ensures

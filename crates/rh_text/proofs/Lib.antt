@@ -1,0 +1,6 @@
+mod Table
+mod HexDigits
+pub mod HexReading
+mod Decimals
+pub mod Appending
+pub mod Texts

@@ -1,0 +1,9 @@
+use Rattle.std.proofs.Common.{arith}
+use Rattle.std.proofs.lemmas.Bool.Decides.{nat_tests}
+use Rattle.rh_text.proofs.HexReading.{hex_size}
+use Rattle.rh_text.proofs.digits.read_hex.Goals as goal
+
+pub returns-then-count-eq0 : goal.returns-then-count-eq0
+returns-then-count-eq0 c = λ bytes h.
+    let size = hex_size c.args.most c.args.text.now bytes h in
+    grind (arith, nat_tests, c.then-count-eq0.either, size.0, size.1, size.2)

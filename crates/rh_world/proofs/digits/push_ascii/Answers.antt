@@ -1,7 +1,0 @@
--- ASCII is UTF-8
-use Rattle.std.proofs.lemmas.Str.{IsUtf8-from_ascii}
-use Rattle.rh_world.proofs.digits.push_ascii.Goals as goal
-
-pub unreachable-requires : goal.unreachable-requires
-unreachable-requires c =
-    c.in_default.ensures.cases.0 (IsUtf8-from_ascii c.args.text.now c.requires)

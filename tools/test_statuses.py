@@ -1,0 +1,96 @@
+#!/usr/bin/env python3
+"""Tests of the built program: the number and the text of each status that it can be made to give."""
+import os
+import pathlib
+import subprocess
+import tempfile
+import unittest
+
+TOP = pathlib.Path(__file__).resolve().parent.parent
+PROGRAM = TOP / "crates/rh_cli/out/rh_cli"
+MOST_INPUT = 67_108_864
+
+RECORDING = b"rh 1 direct\ntake s\n"
+REPORT = b"take s empty\nup given 0 taken 0\ndown given 0 taken 0\n"
+PAGE = """\
+  1  usage
+  2  bad input <line>
+  3  read fault
+  4  write fault
+  8  no memory
+  9  input too long (above 67,108,864 bytes)
+"""
+
+
+class Statuses(unittest.TestCase):
+    @classmethod
+    def setUpClass(cls):
+        # Builds the program where it isn't built.
+        subprocess.run([TOP / "rh_cli", "--version"], check=True, capture_output=True)
+
+    def setUp(self):
+        self.room = tempfile.TemporaryDirectory()
+        self.addCleanup(self.room.cleanup)
+
+    def file(self, text):
+        """A file with this text, opened."""
+        path = pathlib.Path(self.room.name) / "input"
+        path.write_bytes(text)
+        return self.opened(path, "rb")
+
+    def opened(self, path, mode):
+        file = open(path, mode)
+        self.addCleanup(file.close)
+        return file
+
+    def check(self, words, status, said, stdin=subprocess.DEVNULL, stdout=subprocess.PIPE, **more):
+        run = subprocess.run(
+            [PROGRAM, *words], stdin=stdin, stdout=stdout, stderr=subprocess.PIPE, **more
+        )
+        self.assertEqual((run.returncode, run.stderr), (status, said), words)
+        return run.stdout
+
+    def test_0(self):
+        self.assertEqual(self.check(["replay"], 0, b"", self.file(RECORDING)), REPORT)
+        self.assertEqual(self.check(["show"], 0, b"", self.file(b"ff\n")), b"fault Cut 1\n")
+        self.assertEqual(self.check(["show"], 0, b""), b"")
+        self.assertEqual(self.check(["--version"], 0, b""), b"rh_cli 0.1.0\n")
+        page = self.check(["--help"], 0, b"").decode()
+        self.assertTrue(page.endswith("\n\n" + PAGE), page)
+
+    def test_1_usage(self):
+        for words in [], ["Replay"], ["replay", "replay"], ["-h"]:
+            self.assertEqual(self.check(words, 1, b"usage\n", self.file(RECORDING)), b"")
+
+    def test_2_bad_input(self):
+        for word, text, line in [
+            ("replay", b"", 1),
+            ("replay", RECORDING + b"take x\n", 3),
+            ("show", b"05\n" * 11 + b"0\n", 12),
+        ]:
+            said = f"bad input {line}\n".encode()
+            self.assertEqual(self.check([word], 2, said, self.file(text)), b"")
+
+    def test_3_read_fault(self):
+        for word in "replay", "show":
+            closed = self.check([word], 3, b"read fault\n", None, preexec_fn=lambda: os.close(0))
+            self.assertEqual(closed, b"")
+
+    def test_4_write_fault(self):
+        for word, text in [
+            ("replay", RECORDING),
+            ("show", b"ff\n"),
+            ("--help", b""),
+            ("--version", b""),
+        ]:
+            full = self.opened("/dev/full", "wb")
+            self.check([word], 4, b"write fault\n", self.file(text), full)
+
+    def test_9_input_too_long(self):
+        text = self.file(b"0" * (MOST_INPUT + 2))
+        self.assertEqual(self.check(["show"], 9, b"input too long\n", text), b"")
+        self.assertEqual(os.lseek(text.fileno(), 0, os.SEEK_CUR), MOST_INPUT + 1)
+
+
+if __name__ == "__main__":
+    unittest.main()
