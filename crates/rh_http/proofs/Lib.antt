@@ -1,0 +1,16 @@
+pub mod EndLemmas
+pub mod NumberLemmas
+pub mod Splits
+pub mod Fronts
+pub mod Founds
+pub mod Servers
+pub mod HostLemmas
+pub mod Judged
+pub mod Answered
+pub mod OneAnswer
+pub mod Joined
+pub mod TextLemmas
+pub mod Lines
+pub mod Printable
+pub mod Written
+pub mod WrittenResponses

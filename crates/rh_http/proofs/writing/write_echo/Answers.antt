@@ -1,0 +1,6 @@
+use Rattle.std.proofs.Common.{lit≤}
+use Rattle.rh_http.proofs.WrittenResponses.{response_told}
+use Rattle.rh_http.proofs.writing.write_echo.Goals as goal
+
+pub returns-clause-read : goal.returns-clause-read
+returns-clause-read c = response_told 20 (lit≤ tt)

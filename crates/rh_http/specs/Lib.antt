@@ -1,0 +1,11 @@
+pub mod Hosts
+pub mod Ends
+pub mod Numbers
+pub mod Lengths
+pub mod Found
+pub mod Requests
+pub mod Responses
+pub mod Reading
+pub mod Extents
+pub mod Refusals
+pub mod Texts

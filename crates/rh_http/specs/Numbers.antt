@@ -1,0 +1,18 @@
+-- the numbers of a head
+use Rattle.std.specs.Prelude.{◌≡◌, ◌≤◌, ℕ, List, true, length}
+use Rattle.std.specs.Fmt.{decimal}
+use Rattle.std.specs.Str.{all_ascii_digits}
+use Rattle.std.specs.Str.Parse.{digits_value}
+
+-- 1 to 10 digits, and the number that they spell; zeros may lead it
+pub record IsLengthText (text : List ℕ) (n : ℕ) : Type 0 where
+  pub some : 1 ≤ length text
+  pub most : length text ≤ 10
+  pub digits : all_ascii_digits text ≡ true
+  pub value : n ≡ digits_value 10 text
+
+-- 1 to 65,535 in decimal, with no leading zero
+pub record IsPortText (text : List ℕ) (port : ℕ) : Type 0 where
+  pub digits : text ≡ decimal port
+  pub low : 1 ≤ port
+  pub high : port ≤ 65535

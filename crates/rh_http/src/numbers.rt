@@ -1,0 +1,43 @@
+//! The numbers of a head.
+
+ghost use Rattle.std.specs.Prelude.{ℕ, MatchOption};
+ghost use Rattle.rh_http.specs.Numbers.{IsLengthText, IsPortText};
+
+/// The most digits of a length.
+const MOST_DIGITS: usize = 10;
+/// The greatest port.
+const GREATEST_PORT: u64 = 65_535;
+
+/// The number that 1 to 10 digits spell; zeros may lead it.
+pub fn read_length(text: &[u8]) -> Option<u64>
+    ensures { MatchOption result ((n : ℕ) → ¬ IsLengthText text.now n)
+        (λ n. IsLengthText text.now n) }
+{
+    if text.is_empty() || text.len() > MOST_DIGITS {
+        return None;
+    }
+    let mut number: u64 = 0;
+    for place in 0..text.len() {
+        let digit = text[place];
+        if !digit.is_ascii_digit() {
+            return None;
+        }
+        number = number * 10 + u64::from(digit - b'0');
+    }
+    Some(number)
+}
+
+/// The port that the text spells: 1 to 65,535 in decimal, with no leading zero.
+pub fn read_port(text: &[u8]) -> Option<u16>
+    ensures { MatchOption result ((n : ℕ) → ¬ IsPortText text.now n) (λ n. IsPortText text.now n) }
+{
+    let number = read_length(text)?;
+    if text[0] == b'0' {
+        return None;
+    }
+    if number >= 1 && number <= GREATEST_PORT {
+        Some(number as u16)
+    } else {
+        None
+    }
+}

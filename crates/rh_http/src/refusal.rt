@@ -1,0 +1,32 @@
+//! How a proxy refuses a request.
+
+use crate::fault::HttpFault;
+
+/// Why a proxy refuses a request (the choice of statuses is the profile's).
+#[derive(Clone, Copy, Debug, PartialEq, Eq)]
+pub enum Refusal {
+    /// 400: the head is at fault elsewhere than in its path.
+    Bad,
+    /// 404: the path is not that of a proxy.
+    Missing,
+    /// 503: the server could not be connected.
+    Unavailable,
+}
+
+impl From<HttpFault> for Refusal {
+    ghost use Rattle.std.specs.Prelude.{◌≡◌};
+    ghost use Rattle.rh_http.specs.Refusals.{refusal_of};
+
+    ghost from_gives = { λ fault refusal. refusal ≡ refusal_of fault };
+
+    fn from(fault: HttpFault) -> Refusal {
+        match fault {
+            HttpFault::Path => Refusal::Missing,
+            HttpFault::TooLong
+            | HttpFault::Syntax
+            | HttpFault::Method
+            | HttpFault::Target
+            | HttpFault::Length => Refusal::Bad,
+        }
+    }
+}
