@@ -1,0 +1,8 @@
+-- calls that are to fail, by their numbers
+use Rattle.std.specs.Prelude.{ℕ, List, Bool, ◌==◌}
+use Rattle.std.specs.List.{list_any}
+use Rattle.rh_net.specs.Counts.{one_more}
+
+-- the call behind so many is one of those that are to fail
+abbrev pub fails_next : List ℕ → ℕ → Bool
+fails_next numbers calls = list_any (λ n. n == one_more calls) numbers

@@ -1,0 +1,5 @@
+pub mod Counts
+pub mod Failing
+pub mod Backs
+pub mod Answered
+pub mod Script

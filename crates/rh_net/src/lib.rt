@@ -1,0 +1,24 @@
+//! What a node sees of the outside beside plain streams: nets that give legs, clocks and sources of
+//! cookies, each counting its failures, and their forms in memory.
+#![tactic(auto)]
+
+pub mod address;
+pub mod clock;
+pub mod cookies;
+pub mod counts;
+pub mod failing;
+pub mod net;
+pub mod script;
+pub mod shut;
+
+pub use address::Address;
+pub use clock::{Clock, MemClock};
+pub use cookies::{CookieFailed, Cookies, CountCookies};
+pub use counts::NetCounts;
+pub use failing::FailingCalls;
+pub use net::{Net, NetFailed};
+pub use script::{ScriptNet, ScriptSink, ScriptSource, TakenBack};
+pub use shut::{ShutSink, ShutSource};
+
+#[cfg(test)]
+mod tests;
