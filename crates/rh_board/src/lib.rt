@@ -1,0 +1,16 @@
+//! A net in memory for several roles: a board of callers, whose legs are two pipes each.
+#![tactic(auto)]
+
+pub mod board;
+pub mod callers;
+mod lane;
+pub mod mem_net;
+pub mod pipe;
+
+pub use board::Board;
+pub use callers::{Caller, Callers, Calling};
+pub use mem_net::{LegFails, MemNet, PipeSink, PipeSource};
+pub use pipe::{Found, PIPE_ROOM, Pipe, Put, Side};
+
+#[cfg(test)]
+mod tests;

@@ -1,0 +1,4 @@
+//! Pipes, callers, and legs between threads, with the answers worked out by hand.
+
+mod legs;
+mod values;

@@ -1,0 +1,4 @@
+//! One run of each form, over loopback.
+
+mod legs;
+mod moments;
