@@ -1,10 +1,9 @@
 -- the table of digits has each byte's value
-use Rattle.std.proofs.Common.{◌≡◌, ℕ, ◌<◌, ◌≤◌, inl, inr, nat_lt, List, [], ◌∷◌, get_or, is_some, Option, Some, None, arith, refl, ap, ◌∙◌}
-use Rattle.std.proofs.lemmas.Bool.{cases_lt}
+use Rattle.std.proofs.Common.{◌≡◌, ℕ, ◌<◌, ◌≤◌, List, [], ◌∷◌, get_or, Option, Some, None, arith, refl, ap, ◌∙◌}
 use Rattle.std.proofs.lemmas.Bool.Decides.{nat_tests}
 use Rattle.uuid.specs.Text.{by_index}
 use Rattle.uuid.proofs.TextLemmas.{by_index_at}
-use Rattle.hex.specs.Hex.{hex_digit_value, is_hex_digit}
+use Rattle.hex.specs.Hex.{hex_digit_value}
 
 -- a value, or what the table has where there is none
 abbrev or_none : Option ℕ → ℕ
@@ -48,7 +47,8 @@ read_of : (o : Option ℕ) (v : ℕ) → v ≡ or_none o → v < 16 → Some v �
 read_of (Some x) v same small = ap Some same
 read_of None v same small = absurd (omega arith)
 
-none_of : (o : Option ℕ) (v : ℕ) → ((x : ℕ) → o ≡ Some x → x < 16) → v ≡ or_none o → 16 ≤ v → None ≡ o
+none_of : (o : Option ℕ) (v : ℕ) → ((x : ℕ) → o ≡ Some x → x < 16) → v ≡ or_none o → 16 ≤ v
+    → None ≡ o
 none_of (Some x) v small same big = absurd (omega (arith, small x refl))
 none_of None v small same big = refl
 
@@ -56,17 +56,11 @@ small_value : (c x : ℕ) → hex_digit_value c ≡ Some x → x < 16
 small_value c x is = grind (arith, nat_tests)
 
 -- below 16 the table has the value of a digit
-pub digit_read : (c : ℕ) → c < 256 → get_or table c 0 < 16 → Some (get_or table c 0) ≡ hex_digit_value c
+pub digit_read : (c : ℕ) → c < 256 → get_or table c 0 < 16
+    → Some (get_or table c 0) ≡ hex_digit_value c
 digit_read c within small = read_of (hex_digit_value c) _ (table_value c within) small
 
 -- from 16 on the byte is no digit
 pub digit_refused : (c : ℕ) → c < 256 → 16 ≤ get_or table c 0 → None ≡ hex_digit_value c
-digit_refused c within big = none_of (hex_digit_value c) _ (small_value c) (table_value c within) big
-
--- the test of the table is that of a digit
-pub is_digit_by_table : (c : ℕ) → c < 256 → nat_lt (get_or table c 0) 16 ≡ is_hex_digit c
-is_digit_by_table c within =
-    elim (cases_lt (get_or table c 0) 16) as (λ _. nat_lt (get_or table c 0) 16 ≡ is_hex_digit c) [
-      | inl small ↦ grind (arith, nat_tests, ap is_some (digit_read c within small))
-      | inr big ↦ grind (arith, nat_tests, ap is_some (digit_refused c within big))
-    ]
+digit_refused c within big =
+    none_of (hex_digit_value c) _ (small_value c) (table_value c within) big

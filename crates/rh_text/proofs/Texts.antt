@@ -52,7 +52,8 @@ begins_same text a b rest more h k =
 -- a text is one line at most at a place
 abbrev pub OneLine : {P L : Type 0} → Rules P L → Type 0
 OneLine {P} {L} rules =
-    (place : P) (text : List ℕ) (a b : L) → rules.Spells place text a → rules.Spells place text b → a ≡ b
+    (place : P) (text : List ℕ) (a b : L) → rules.Spells place text a → rules.Spells place text b
+    → a ≡ b
 
 -- no line is spelled by nothing
 abbrev pub NoEmpty : {P L : Type 0} → Rules P L → Type 0
@@ -60,8 +61,9 @@ NoEmpty {P} {L} rules = (place : P) (line : L) → rules.Spells place [] line �
 
 module _ {P L : Type 0} (rules : Rules P L) where
   -- one line more
-  pub Leads-push : (place : P) (lines : List L) (text : List ℕ) (next : P) (rest : List ℕ) (line : L)
-      (behind : List ℕ) → Leads rules place lines text next rest → FirstLine rules next rest line behind
+  pub Leads-push : (place : P) (lines : List L) (text : List ℕ) (next : P) (rest : List ℕ)
+      (line : L) (behind : List ℕ) → Leads rules place lines text next rest
+      → FirstLine rules next rest line behind
       → Leads rules place (lines ++ line ∷ []) text (rules.next next line) behind
   Leads-push place [] text next rest line behind h k = (
     behind,
@@ -73,7 +75,8 @@ module _ {P L : Type 0} (rules : Rules P L) where
       (h.0, h.1, Leads-push (rules.next place first) lines h.0 next rest line behind h.2 k)
 
   -- lines behind lines
-  pub Leads-append : (place : P) (lines more : List L) (text : List ℕ) (next last : P) (rest end : List ℕ)
+  pub Leads-append : (place : P) (lines more : List L) (text : List ℕ) (next last : P)
+      (rest end : List ℕ)
       → Leads rules place lines text next rest → Leads rules next more rest last end
       → Leads rules place (lines ++ more) text last end
   Leads-append place [] more text next last rest end h k =
@@ -83,7 +86,8 @@ module _ {P L : Type 0} (rules : Rules P L) where
       (h.0, h.1, Leads-append (rules.next place first) lines more h.0 next last rest end h.2 k)
 
   -- a line that the text begins with is its first line
-  pub first_line : (place : P) (text spelling rest : List ℕ) (line : L) → BeginsWith text spelling rest
+  pub first_line : (place : P) (text spelling rest : List ℕ) (line : L)
+      → BeginsWith text spelling rest
       → rules.Spells place spelling line → FirstLine rules place text line rest
   first_line place text spelling rest line begins is =
       record { spelling = spelling; spelled = is; begins = begins }
@@ -97,7 +101,8 @@ module _ {P L : Type 0} (rules : Rules P L) where
       none line (subst (λ x. rules.Spells place x line) same h.spelled)
 
 module _ {P L : Type 0} (rules : Rules P L) (some : NoEmpty rules) where
-  some_text : (place : P) (text : List ℕ) (line : L) → rules.Spells place text line → 0 < length text
+  some_text : (place : P) (text : List ℕ) (line : L) → rules.Spells place text line
+      → 0 < length text
   some_text place [] line h = absurd (some place line h)
   some_text place (x ∷ text) line h = omega arith
 
@@ -106,7 +111,9 @@ module _ {P L : Type 0} (rules : Rules P L) (some : NoEmpty rules) where
       → FirstLine rules place text line behind → length behind < length text
   first_shorter place text line behind h =
       elim h.begins.joined as (λ _. length behind < length text) [
-        | inl e ↦ let size = ap length e in omega (arith, size, length-append h.spelling (10 ∷ behind))
+        | inl e ↦
+            let size = ap length e in
+            omega (arith, size, length-append h.spelling (10 ∷ behind))
         | inr e ↦
             let here = ap length e.0 in
             let none = ap length e.1 in
@@ -121,7 +128,8 @@ module _ {P L : Type 0} (rules : Rules P L) (some : NoEmpty rules) where
 module _ {P L : Type 0} (rules : Rules P L) (one : OneLine rules) where
   -- two first lines of one text are the same, and so is what stands behind
   pub one_first : (place : P) (text : List ℕ) (a b : L) (rest more : List ℕ)
-      → FirstLine rules place text a rest → FirstLine rules place text b more → (a ≡ b) × (rest ≡ more)
+      → FirstLine rules place text a rest → FirstLine rules place text b more
+      → (a ≡ b) × (rest ≡ more)
   one_first place text a b rest more h k =
       let same = begins_same text h.spelling k.spelling rest more h.begins k.begins in
       let spelled = subst (λ x. rules.Spells place x a) same.0 h.spelled in
@@ -170,16 +178,18 @@ module _ {P L : Type 0} (rules : Rules P L) (one : OneLine rules) (some : NoEmpt
   none_left place (line ∷ lines) last h = absurd (no_first rules some place line h.0 h.1)
 
   -- a text is that of one list of lines at most
-  pub one_text_of : (text : List ℕ) (a b : List L) → TextOf rules text a → TextOf rules text b → a ≡ b
+  pub one_text_of : (text : List ℕ) (a b : List L) → TextOf rules text a → TextOf rules text b
+      → a ≡ b
   one_text_of text a b h k =
       (both_stop rules one rules.first a b text h.last k.last [] [] h.read k.read
       (no_first rules some h.last) (no_first rules some k.last)).0
 
   -- it has one first bad line at most
-  pub one_first_bad : (text : List ℕ) (n m : ℕ) → FirstBad rules text n → FirstBad rules text m → n ≡ m
+  pub one_first_bad : (text : List ℕ) (n m : ℕ) → FirstBad rules text n → FirstBad rules text m
+      → n ≡ m
   one_first_bad text n m h k =
-      let same = both_stop rules one rules.first h.before k.before text h.place k.place h.rest k.rest
-      h.read k.read h.none k.none in
+      let same = both_stop rules one rules.first h.before k.before text h.place k.place h.rest
+      k.rest h.read k.read h.none k.none in
       h.counted ∙ ap (λ (lines : List L). length lines + 1) same.0 ∙ sym k.counted
 
   -- and it is never both
@@ -195,8 +205,8 @@ module _ {P L : Type 0} (rules : Rules P L) (one : OneLine rules) (some : NoEmpt
 -- ---- looking for the first bad line
 
 -- the lines before a place of the text
-pub record Reads {P L : Type 0} (rules : Rules P L) (text : List ℕ) (place : P) (rest : List ℕ) (number : ℕ)
-    : Type 0 where
+pub record Reads {P L : Type 0} (rules : Rules P L) (text : List ℕ) (place : P) (rest : List ℕ)
+    (number : ℕ) : Type 0 where
   pub before : List L
   pub read : Leads rules rules.first before text place rest
   pub counted : number ≡ length before + 1
@@ -204,7 +214,12 @@ pub record Reads {P L : Type 0} (rules : Rules P L) (text : List ℕ) (place : P
 
 module _ {P L : Type 0} (rules : Rules P L) where
   pub reads_none : (text : List ℕ) → Reads rules text rules.first text 1
-  reads_none text = record { before = []; read = (refl, refl); counted = omega arith; fits = omega arith }
+  reads_none text = record {
+    before = [];
+    read = (refl, refl);
+    counted = omega arith;
+    fits = omega arith;
+  }
 
   pub reads_more : (some : NoEmpty rules) (text : List ℕ) (place : P) (rest : List ℕ) (number : ℕ)
       (spelling behind : List ℕ) (line : L) → BeginsWith rest spelling behind
@@ -220,7 +235,8 @@ module _ {P L : Type 0} (rules : Rules P L) where
         fits = omega (arith, h.fits, shorter);
       }
 
-  pub reads_all : (text : List ℕ) (place : P) (rest : List ℕ) (number : ℕ) → rest ≡ [] → rules.MayEnd place
+  pub reads_all : (text : List ℕ) (place : P) (rest : List ℕ) (number : ℕ) → rest ≡ []
+      → rules.MayEnd place
       → Reads rules text place rest number → IsText rules text
   reads_all text place rest number none over h = (
     h.before,
@@ -231,7 +247,8 @@ module _ {P L : Type 0} (rules : Rules P L) where
     },
   )
 
-  pub reads_bad : (text : List ℕ) (place : P) (rest : List ℕ) (number : ℕ) (spelling behind : List ℕ)
+  pub reads_bad : (text : List ℕ) (place : P) (rest : List ℕ) (number : ℕ)
+      (spelling behind : List ℕ)
       → BeginsWith rest spelling behind → ((line : L) → rules.Spells place spelling line → ⊥)
       → ((rest ≢ []) ⊎ (¬ rules.MayEnd place)) → Reads rules text place rest number
       → FirstBad rules text number

@@ -1,13 +1,14 @@
 -- texts of lines, each ended by LF, of which the last may lack it
 use Rattle.std.specs.Prelude.{◌≡◌, ◌≢◌, ℕ, ◌+◌, List, [], ◌∷◌, ◌++◌, length, Contains, ◌⊎◌}
 
--- the text begins with a line without LF, and the rest stands behind its LF; a last line may lack it
+-- the text begins with a line without LF, and the rest stands behind its LF, which a last line may
+-- lack
 pub record BeginsWith (text line rest : List ℕ) : Type 0 where
   pub one : ¬ Contains line 10
   pub joined : (text ≡ line ++ 10 ∷ rest) ⊎ ((text ≡ line) × (rest ≡ []))
 
--- what lines may be: at each place of a text, which texts are which line; the place behind a line; where a
--- text begins, and where it may end
+-- what lines may be: at each place of a text, which texts are which line; the place behind a line;
+-- where a text begins, and where it may end
 pub record Rules (Place Line : Type 0) : Type 1 where
   pub Spells : Place → List ℕ → Line → Type 0
   pub next : Place → Line → Place
@@ -15,14 +16,14 @@ pub record Rules (Place Line : Type 0) : Type 1 where
   pub MayEnd : Place → Type 0
 
 -- the first line of the text, which stands at this place, and what stands behind it
-pub record FirstLine {P L : Type 0} (rules : Rules P L) (place : P) (text : List ℕ) (line : L) (rest : List ℕ)
-    : Type 0 where
+pub record FirstLine {P L : Type 0} (rules : Rules P L) (place : P) (text : List ℕ) (line : L)
+    (rest : List ℕ) : Type 0 where
   pub spelling : List ℕ
   pub spelled : rules.Spells place spelling line
   pub begins : BeginsWith text spelling rest
 
--- the text begins with these lines, of which the first stands at this place; the rest stands behind them, at
--- the last place
+-- the text begins with these lines, of which the first stands at this place; the rest stands behind
+-- them, at the last place
 abbrev pub Leads : {P L : Type 0} → Rules P L → P → List L → List ℕ → P → List ℕ → Type 0
 Leads rules place [] text last rest = (text ≡ rest) × (place ≡ last)
 Leads rules place (line ∷ lines) text last rest =

@@ -2,6 +2,7 @@
 
 ghost use Rattle.std.specs.Prelude.{◌≡◌, ◌+◌, ◌*◌, ◌^◌, ◌<◌, ◌≤◌, ◌↔◌, ℕ, List, length, take, IsTrue};
 ghost use Rattle.std.specs.Prelude.{IfOk, MatchOption, MatchResult, string_bytes};
+ghost use Rattle.std.specs.List.{list_all};
 ghost use Rattle.hex.specs.Hex.{decode_sized, encode_lower, is_hex_digit, pair_value, value_at};
 ghost use Rattle.rh_text.specs.Digits.{IsHex};
 ghost use Rattle.rh_text.specs.Writing.{Writes};
@@ -59,15 +60,21 @@ fn byte_value(high: u8, low: u8, place: usize) -> Result<u8, FromHexError>
     Ok(digit_value(high, place)? * 16 + digit_value(low, place + 1)?)
 }
 
-/// Whether the byte is a hex digit of either case.
-#[inline]
-fn is_digit(byte: u8) -> bool
-    ensures { result ≡ is_hex_digit byte }
+/// Whether each byte is a hex digit of either case.
+///
+/// No byte ends the loop, so that it is compiled to judge many at a time.
+fn are_digits(text: &[u8]) -> bool
+    ensures { result ≡ list_all is_hex_digit text.now }
 {
-    DIGITS[byte as usize] < 16
+    let mut all = true;
+    for digit in text {
+        all &= digit.is_ascii_hexdigit();
+    }
+    all
 }
 
-/// Decodes a text into a room of the size that it asks for, by the meaning of `hex::decode_to_slice`.
+/// Decodes a text into a room of the size that it asks for, with the meaning of
+/// `hex::decode_to_slice`.
 fn decode_whole(text: &[u8], room: &mut [u8]) -> Result<(), FromHexError>
     ensures { MatchResult (decode_sized text.now (length room.old))
         (λ bytes. (result ≡ Ok tt) × (room.new ≡ bytes))
@@ -92,16 +99,12 @@ pub fn is_hex(text: &[u8], most: usize) -> bool
     if text.is_empty() || text.len() % 2 != 0 || text.len() / 2 > most {
         return false;
     }
-    for digit in text {
-        if !is_digit(*digit) {
-            return false;
-        }
-    }
-    true
+    are_digits(text)
 }
 
-/// Writes the bytes that the text spells to the front of a room, and tells how many: 1 to the length
-/// of the room. `None` exactly where it is hex of no such bytes; the room may have changed then.
+/// Writes the bytes that the text spells to the front of a room, and tells how many: 1 to the
+/// length of the room. `None` exactly where it is hex of no such bytes; the room may have changed
+/// then.
 pub fn decode_hex(text: &[u8], room: &mut [u8]) -> Option<usize>
     ensures bytes { MatchOption result ((bytes : List ℕ) → ¬ IsHex (length room.old) text.now bytes)
         (λ count. IsHex (length room.old) text.now (take count room.new)) }
@@ -118,11 +121,13 @@ pub fn decode_hex(text: &[u8], room: &mut [u8]) -> Option<usize>
     }
 }
 
-/// The 1 to `most` bytes that the text spells as hex; `None` exactly where it is hex of no such bytes.
+/// The 1 to `most` bytes that the text spells as hex; `None` exactly where it is hex of no such
+/// bytes.
 ///
 /// Fails where there is no memory for the bytes.
 pub fn read_hex(alloc: Global, text: &[u8], most: usize) -> Result<Option<Bytes>, AllocError>
-    ensures { IfOk result (λ found. MatchOption found ((bytes : List ℕ) → ¬ IsHex most text.now bytes)
+    ensures { IfOk result (λ found. MatchOption found
+        ((bytes : List ℕ) → ¬ IsHex most text.now bytes)
         (λ bytes. IsHex most text.now bytes)) }
 {
     let count = text.len() / 2;

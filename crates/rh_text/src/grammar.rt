@@ -13,8 +13,8 @@ pub trait Grammar {
     /// What a line says.
     type Line;
 
-    /// At each place, which texts are which line; the place behind it; where a text begins, and where
-    /// it may end.
+    /// At each place, which texts are which line; the place behind it; where a text begins, and
+    /// where it may end.
     ghost rules: { Rules Self.Place Self.Line };
 
     /// The place of the first line.
@@ -25,7 +25,8 @@ pub trait Grammar {
     fn may_end(place: Self::Place) -> bool
         ensures { IsTrue result ↔ rules.MayEnd place };
 
-    /// The place behind the text, where it is a line at this place; `None` exactly where it is none.
+    /// The place behind the text, where it is a line at this place; `None` exactly where it is
+    /// none.
     fn judge_line(text: &[u8], place: Self::Place) -> Option<Self::Place>
         ensures { MatchOption result ((line : Self.Line) → ¬ rules.Spells place text.now line)
             (λ next. (line : Self.Line) × rules.Spells place text.now line
@@ -60,8 +61,8 @@ pub fn first_bad_line<G: Grammar>(text: &[u8]) -> Option<u64>
     None
 }
 
-/// A text is that of one list of lines, or has one first bad line, and never both. This function does
-/// nothing, and its contract is these laws.
+/// A text is that of one list of lines, or has one first bad line, and never both. This function
+/// does nothing, and its contract is these laws.
 pub fn one_text<G: Grammar>()
     ensures lines { (text : List ℕ) (a b : List G.Line)
         → TextOf G.rules text a → TextOf G.rules text b → a ≡ b }

@@ -1,3 +1,5 @@
+//! Hex both ways.
+
 use crate::digits::decode_hex;
 use crate::{is_hex, read_hex, write_hex};
 use std::test::Fail;
@@ -55,15 +57,24 @@ fn bytes_are_written_in_lower_case(rt: HostRuntime) -> Result<(), Fail> {
     write_hex(&[], &mut out)?;
     write_hex(&[0x00, 0x9a, 0xbc, 0xdf], &mut out)?;
     assert_eq!(rt; out.as_str(), "x 009abcdf");
-    // More bytes than are written at a time.
-    let bytes = [0xa5; 300];
-    let mut long = String::new(rt.alloc());
-    write_hex(&bytes, &mut long)?;
-    assert_eq!(rt; long.len(), 600);
-    assert!(rt;
-        long.as_str()
-            .bytes()
-            .all(|digit| digit == b'a' || digit == b'5')
-    );
+    Ok(())
+}
+
+#[test]
+fn long_hex_has_each_byte_in_its_place(rt: HostRuntime) -> Result<(), Fail> {
+    let mut bytes = [0u8; 300];
+    for i in 0..bytes.len() {
+        bytes[i] = (i % 251) as u8;
+    }
+    // Around one and two times the bytes that are written at a time.
+    for len in [127, 128, 129, 255, 256, 257, 300] {
+        let mut out = String::new(rt.alloc());
+        write_hex(&bytes[..len], &mut out)?;
+        assert_eq!(rt; out.len(), 2 * len);
+        assert!(rt; out.starts_with("000102030405060708090a0b"), "{len}");
+        let mut room = [0; 300];
+        assert_eq!(rt; decode_hex(out.as_bytes(), &mut room), Some(len));
+        assert!(rt; room[..len] == bytes[..len], "{len}");
+    }
     Ok(())
 }

@@ -1,3 +1,5 @@
+//! Numbers as words.
+
 use crate::read_number;
 use std::test::Fail;
 
@@ -35,5 +37,23 @@ fn a_number_is_decimal_with_no_leading_zero(rt: HostRuntime) -> Result<(), Fail>
     let greatest = read_number(b"18446744073709551615", 0, u64::MAX);
     assert_eq!(rt; greatest, Some(u64::MAX));
     assert_eq!(rt; read_number(b"0", 0, 0), Some(0));
+    for (text, number) in [
+        ("9", None),
+        ("10", Some(10)),
+        ("11", Some(11)),
+        ("010", None),
+    ] {
+        assert_eq!(rt; read_number(text.as_bytes(), 10, 20), number, "{text}");
+    }
+    for text in [
+        "18446744073709551616",
+        "99999999999999999999",
+        "184467440737095516150",
+    ] {
+        assert!(rt;
+            read_number(text.as_bytes(), 0, u64::MAX).is_none(),
+            "{text}"
+        );
+    }
     Ok(())
 }

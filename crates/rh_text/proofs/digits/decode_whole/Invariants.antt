@@ -6,4 +6,5 @@ use Rattle.rh_text.proofs.digits.decode_whole.Given as goal
 
 abbrev pub invariant-bytes : goal.invariant-bytes
 invariant-bytes l =
-    decode_pairs 0 l.text ≡ prepend (take l.i l.room) (decode_pairs (2 * l.i) (drop (2 * l.i) l.text))
+    decode_pairs 0 l.text ≡ prepend (take l.i l.room)
+    (decode_pairs (2 * l.i) (drop (2 * l.i) l.text))

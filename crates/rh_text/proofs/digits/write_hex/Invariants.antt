@@ -6,7 +6,8 @@ use Rattle.rh_text.proofs.digits.write_hex.Given as goal
 
 abbrev pub invariant-pieces : goal.invariant-pieces
 invariant-pieces l =
-    IsWritten (encode_lower l.bytes) (string_bytes l.fn.out) (string_bytes l.out) (encode_lower l.rest)
+    IsWritten (encode_lower l.bytes) (string_bytes l.fn.out) (string_bytes l.out)
+    (encode_lower l.rest)
 
 abbrev pub decreases-pieces : goal.decreases-pieces
 decreases-pieces l = length l.rest

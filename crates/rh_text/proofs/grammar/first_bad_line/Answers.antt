@@ -1,7 +1,6 @@
 -- line by line
 use Rattle.std.proofs.Common.{◌≡◌, ◌≢◌, ◌⊎◌, inl, inr, [], true, false, length, ap, sym, ◌∙◌, arith}
 use Rattle.std.proofs.lemmas.Bool.Decides.{nat_tests}
-use Rattle.rh_text.specs.Lines.{FirstBad}
 use Rattle.rh_text.proofs.Texts.{reads_bad, reads_more, never_both}
 use Rattle.rh_text.proofs.grammar.first_bad_line.Goals as goal
 use Rattle.rh_text.proofs.grammar.first_bad_line.Goals.{then-not-is_empty, else-not-is_empty+then-not-may_end}
@@ -16,14 +15,14 @@ returns-in_default g c =
       | else-not-is_empty+then-not-may_end w ↦ inr (λ over.
           let both : false ≡ true = sym w.if-not-may_end.true ∙ w.may_end.ensures.1 over in cc)
     ] in
-    let bad = reads_bad rules c.args.text.now p.place p.rest.now p.number c.split_line.result.0.now
-    c.split_line.result.1.now c.split_line.ensures.begins c.in_default.ensures here p.invariant in
-    (bad, λ is. never_both rules g.met.G.Grammar.one g.met.G.Grammar.some c.args.text.now p.number is bad)
+    let bad = reads_bad rules _ p.place p.rest.now p.number _ _ c.split_line.ensures.begins
+    c.in_default.ensures here p.invariant in
+    (bad, λ is. never_both rules g.met.G.Grammar.one g.met.G.Grammar.some _ p.number is bad)
 
 pub lines-preserved : goal.lines-preserved
 lines-preserved g c =
     let p = c.lines in
     let read = c.in-Some.ensures in
-    let more = reads_more g.G.Grammar.rules g.met.G.Grammar.some c.args.text.now p.place p.rest.now p.number
-    c.split_line.result.0.now c.split_line.result.1.now read.0 c.split_line.ensures.begins read.1 p.invariant in
+    let more = reads_more g.G.Grammar.rules g.met.G.Grammar.some _ p.place p.rest.now p.number _ _
+    read.0 c.split_line.ensures.begins read.1 p.invariant in
     rw read.2 more

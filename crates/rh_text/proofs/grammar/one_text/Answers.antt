@@ -8,4 +8,5 @@ pub returns-clause-bad : goal.returns-clause-bad
 returns-clause-bad g c = one_first_bad g.G.Grammar.rules g.met.G.Grammar.one g.met.G.Grammar.some
 
 pub returns-clause-never_both : goal.returns-clause-never_both
-returns-clause-never_both g c = never_both g.G.Grammar.rules g.met.G.Grammar.one g.met.G.Grammar.some
+returns-clause-never_both g c = never_both g.G.Grammar.rules g.met.G.Grammar.one
+    g.met.G.Grammar.some
