@@ -46,7 +46,11 @@ pub fn read_whole<S: Source>(
         match source.read(&mut room[..most]) {
             Err(SourceFailed) => return Err(ReadWholeError::ReadFault),
             Ok(0) => return Ok(all),
-            Ok(count) => all.extend_from_slice(&room[..count])?,
+            Ok(count) => {
+                let Ok(()) = all.extend_from_slice(&room[..count]) else {
+                    return Err(ReadWholeError::NoMemory);
+                };
+            }
         }
     }
     Err(ReadWholeError::TooLong)
