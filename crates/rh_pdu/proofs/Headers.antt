@@ -10,26 +10,22 @@ unfolding head_fault
 frag_bounds b h = (grind (arith, nat_tests), grind (arith, nat_tests))
 
 -- one byte of two lists with the same front
-byte_same : (xs ys : List ℕ) (i : ℕ) → i < 16 → take 16 xs ≡ take 16 ys
+byte_same : (xs ys : List ℕ) → take 16 xs ≡ take 16 ys → (i : ℕ) → i < 16
     → get_or xs i 0 ≡ get_or ys i 0
-byte_same xs ys i below same =
+byte_same xs ys same i below =
     sym (get_or-take 16 xs i 0 below) ∙ ap (λ l. get_or l i 0) same ∙ get_or-take 16 ys i 0 below
 
 -- the length depends on the header alone
 pub frag_same : (xs ys : List ℕ) → take 16 xs ≡ take 16 ys → frag_of xs ≡ frag_of ys
 unfolding frag_of
 frag_same xs ys same =
-    let b4 = byte_same xs ys 4 (omega arith) same in
-    let b8 = byte_same xs ys 8 (omega arith) same in
-    let b9 = byte_same xs ys 9 (omega arith) same in
-    rw (b4, b8, b9)
+    let byte = byte_same xs ys same in
+    rw (byte 4 (omega arith), byte 8 (omega arith), byte 9 (omega arith))
 
 -- and so does the rule that is broken
 pub head_same : (xs ys : List ℕ) → take 16 xs ≡ take 16 ys → head_fault xs ≡ head_fault ys
 unfolding head_fault
 head_same xs ys same =
-    let b0 = byte_same xs ys 0 (omega arith) same in
-    let b1 = byte_same xs ys 1 (omega arith) same in
-    let b4 = byte_same xs ys 4 (omega arith) same in
+    let byte = byte_same xs ys same in
     let frag = frag_same xs ys same in
-    rw (b0, b1, b4, frag)
+    rw (byte 0 (omega arith), byte 1 (omega arith), byte 4 (omega arith), frag)
