@@ -1,5 +1,6 @@
 -- the commands of a packet: whole, or behind some whole ones the first that is wrong
-use Rattle.std.proofs.Common.{◌≡◌, ℕ, zero, suc, ◌-◌, List, [], ◌∷◌, ◌++◌, length, drop, refl, sym, ap, subst, ◌∙◌, arith, append_assoc, true, false, Bool, inl, inr}
+use Rattle.std.proofs.Common.{◌≡◌, ℕ, zero, suc, ◌-◌, List, [], ◌∷◌, ◌++◌, length, drop, refl, sym}
+use Rattle.std.proofs.Common.{ap, subst, ◌∙◌, arith, append_assoc, true, false, Bool, inl, inr}
 use Rattle.std.specs.Prelude.{Some, None, ◌==◌, if◌then◌else◌}
 use Rattle.std.specs.declared.option.Option.{Option}
 use Rattle.std.proofs.lemmas.Bool.{eqb-true, ne_eqb}
@@ -10,7 +11,7 @@ use Rattle.rh_rts.specs.declared.fault.RtsKind.TheVariants.{Left}
 use Rattle.rh_rts.specs.Commands.{spelling, spellings, AreCommands, IsBytes}
 use Rattle.rh_rts.specs.Refusals.{fault, command_fault, RestFault, BodyFault}
 use Rattle.rh_rts.specs.Listing.{command_of, length_of, listed, AreAll}
-use Rattle.rh_rts.proofs.InTurn.{or_else, body_fault}
+use Rattle.rh_rts.specs.Reading.{or_else, body_fault}
 use Rattle.rh_rts.proofs.Fields.{IsBytes-drop}
 use Rattle.rh_rts.proofs.Standing.{stands}
 use Rattle.rh_rts.proofs.Reread.{again}

@@ -1,8 +1,10 @@
 -- a number and a list that are read are what stands there
-use Rattle.std.proofs.Common.{◌≡◌, ℕ, ◌+◌, ◌^◌, ◌<◌, ◌≤◌, List, ◌++◌, length, take, drop, refl, sym, ap, ◌∙◌, arith, inl, inr}
+use Rattle.std.proofs.Common.{◌≡◌, ℕ, ◌+◌, ◌^◌, ◌<◌, ◌≤◌, List, ◌++◌, length, take, drop, refl, sym}
+use Rattle.std.proofs.Common.{ap, ◌∙◌, arith, inl, inr}
 use Rattle.std.specs.Int.{w32, from_le_bytes, to_le_bytes}
 use Rattle.std.proofs.lemmas.Bool.{cases_lt}
-use Rattle.std.proofs.lemmas.List.{take-append-drop, length-take, length-take-le, get_or-drop, get_or-take, get_or_past, drop-drop, length-drop}
+use Rattle.std.proofs.lemmas.List.{take-append-drop, length-take, length-take-le, get_or-drop}
+use Rattle.std.proofs.lemmas.List.{get_or-take, get_or_past, drop-drop, length-drop}
 use Rattle.std.proofs.lemmas.Nat.{le_bytes_4, from_le_bytes-to_le_bytes_4}
 use Rattle.rh_rts.specs.Commands.{le4, IsBytes}
 use Rattle.rh_rts.specs.Refusals.{number_of, type_of, field_of}

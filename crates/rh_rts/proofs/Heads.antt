@@ -1,99 +1,80 @@
 -- the header: its bytes, and what they are read as
-use Rattle.std.proofs.Common.{◌≡◌, ℕ, zero, suc, ◌+◌, ◌^◌, ◌<◌, ◌≤◌, List, [], ◌∷◌, ◌++◌, length, take, drop, refl, sym, ap, subst, ◌∙◌, arith, true, false, Bool, nat_lt, not}
-use Rattle.std.specs.Prelude.{Some, None, ◌==◌, if◌then◌else◌, slice_index}
+use Rattle.std.proofs.Common.{◌≡◌, ℕ, zero, suc, ◌+◌, ◌^◌, ◌<◌, ◌≤◌, List, [], ◌∷◌, ◌++◌, length}
+use Rattle.std.proofs.Common.{take, drop, refl, sym, ap, ◌∙◌, arith, true, false, Bool, nat_lt, inl}
+use Rattle.std.proofs.Common.{inr}
+use Rattle.std.specs.Prelude.{Some, None, ◌==◌, ◌⊎◌, if◌then◌else◌, slice_index}
 use Rattle.std.specs.declared.option.Option.{Option}
-use Rattle.std.proofs.lemmas.Bool.{eqb-true, eqb-false, eq-eqb, ne_eqb, ltb-true, ltb-false, lt-ltb, le-ltb}
+use Rattle.std.proofs.lemmas.Bool.{eqb-true, eqb-false, eq-eqb, ne_eqb, ltb-true, ltb-false, lt-ltb}
+use Rattle.std.proofs.lemmas.Bool.{le-ltb}
 use Rattle.std.proofs.lemmas.List.{drop_more}
 use Rattle.std.proofs.lemmas.Nat.{le_bytes_2, from_le_bytes-to_le_bytes_2}
 use Rattle.rh_rts.specs.declared.fault.RtsFault.{RtsFault}
 use Rattle.rh_rts.specs.declared.fault.RtsKind.{RtsKind}
-use Rattle.rh_rts.specs.declared.fault.RtsKind.TheVariants.{BadHeader, BadLength, BadFlags, CutShort}
+use Rattle.rh_rts.specs.declared.fault.RtsKind.TheVariants.{BadHeader, BadLength, BadFlags}
+use Rattle.rh_rts.specs.declared.fault.RtsKind.TheVariants.{CutShort}
 use Rattle.rh_rts.specs.declared.packet.TheConstants.{ALL_FLAGS}
 use Rattle.rh_rts.specs.Commands.{IsBytes}
 use Rattle.rh_rts.specs.Packets.{le2, header_front, header_bytes}
-use Rattle.rh_rts.specs.Refusals.{fault, header_like, short_at, frag_of, flags_of, count_of, DiffersAt, IsLike, IsHead, HeadFault}
+use Rattle.rh_rts.specs.Refusals.{fault, header_like, short_at, frag_of, flags_of, count_of}
+use Rattle.rh_rts.specs.Refusals.{DiffersAt, IsLike, IsHead, HeadFault}
+use Rattle.rh_rts.specs.Reading.{agreed, told_fault, like_fault, head_fault}
 use Rattle.rh_rts.proofs.Fields.{front}
 
--- ---- the first byte that differs, byte by byte
+-- ---- the first byte that differs
 
--- the place of the first byte that isn't the one that is wanted
-abbrev first_difference : ℕ → List ℕ → List ℕ → Option ℕ
-first_difference at [] bytes = None
-first_difference at (w ∷ ws) [] = Some at
-first_difference at (w ∷ ws) (b ∷ bytes) =
-    if b == w then first_difference (at + 1) ws bytes else Some at
+-- so many bytes are as they are to be, and then one that isn't; or all are
+abbrev Agrees : List ℕ → List ℕ → ℕ → Type 0
+Agrees want b same =
+    (DiffersAt same want b) ⊎ ((same ≡ length want) × (take (length want) b ≡ want))
 
--- what is found, if anything, is the first that differs
-abbrev Differs : ℕ → List ℕ → List ℕ → Option ℕ → Type 0
-Differs at want b None = take (length want) b ≡ want
-Differs at want b (Some place) = (n : ℕ) × (place ≡ at + n) × DiffersAt n want b
-
-one_more : (at w x : ℕ) (want b : List ℕ) (o : Option ℕ) → x ≡ w → Differs (at + 1) want b o
-    → Differs at (w ∷ want) (x ∷ b) o
-one_more at w x want b None same h =
-    ap (λ (n : ℕ). n ∷ take (length want) b) same ∙ ap (λ (xs : List ℕ). w ∷ xs) h
-one_more at w x want b (Some place) same h = (
-  suc h.0,
-  omega (arith, h.1),
-  record {
-    same = ap (λ (n : ℕ). n ∷ take h.0 b) same ∙ ap (λ (xs : List ℕ). w ∷ xs) h.2.same;
-    within = omega (arith, h.2.within);
-    other = h.2.other;
-  },
+one_more : (w x : ℕ) (want b : List ℕ) (same : ℕ) → x ≡ w → Agrees want b same
+    → Agrees (w ∷ want) (x ∷ b) (suc same)
+one_more w x want b same is (inl h) = inl (record {
+  same = ap (λ (n : ℕ). n ∷ take same b) is ∙ ap (λ (xs : List ℕ). w ∷ xs) h.same;
+  within = omega (arith, h.within);
+  other = h.other;
+})
+one_more w x want b same is (inr h) = inr (
+  ap suc h.0,
+  ap (λ (n : ℕ). n ∷ take (length want) b) is ∙ ap (λ (xs : List ℕ). w ∷ xs) h.1,
 )
 
-found_by : (at w x : ℕ) (want b : List ℕ) (t : Bool) → (x == w) ≡ t
-    → Differs (at + 1) want b (first_difference (at + 1) want b)
-    → Differs at (w ∷ want) (x ∷ b) (if t then first_difference (at + 1) want b else Some at)
-found_by at w x want b true is h = one_more at w x want b _ (eqb-true _ _ is) h
-found_by at w x want b false is h =
-    (0, omega arith, record { same = refl; within = omega arith; other = eqb-false _ _ is })
+agrees_by : (w x : ℕ) (want b : List ℕ) (t : Bool) → (x == w) ≡ t → Agrees want b (agreed want b)
+    → Agrees (w ∷ want) (x ∷ b) (if t then suc (agreed want b) else 0)
+agrees_by w x want b true is h = one_more w x want b _ (eqb-true _ _ is) h
+agrees_by w x want b false is h =
+    inl (record { same = refl; within = omega arith; other = eqb-false _ _ is })
 
-found : (at : ℕ) (want b : List ℕ) → length want ≤ length b
-    → Differs at want b (first_difference at want b)
-found at [] b long = refl
-found at (w ∷ want) [] long = absurd (omega (arith, long))
-found at (w ∷ want) (x ∷ b) long =
-    found_by at w x want b (x == w) refl (found (at + 1) want b (omega (arith, long)))
+agrees : (want b : List ℕ) → length want ≤ length b → Agrees want b (agreed want b)
+agrees [] b long = inr (refl, refl)
+agrees (w ∷ want) [] long = absurd (omega (arith, long))
+agrees (w ∷ want) (x ∷ b) long =
+    agrees_by w x want b (x == w) refl (agrees want b (omega (arith, long)))
 
 -- the first that differs is found
-differs_found : (at : ℕ) (want b : List ℕ) (n : ℕ) → length want ≤ length b → DiffersAt n want b
-    → first_difference at want b ≡ Some (at + n)
-differs_found at [] b n long h = absurd (omega (arith, h.within))
-differs_found at (w ∷ want) [] n long h = absurd (omega (arith, long))
-differs_found at (w ∷ want) (x ∷ b) zero long h =
-    rw (ne_eqb x w h.other) (ap (λ (n : ℕ). Some n) (omega arith))
-differs_found at (w ∷ want) (x ∷ b) (suc n) long h =
+differs_found : (want b : List ℕ) (n : ℕ) → length want ≤ length b → DiffersAt n want b
+    → agreed want b ≡ n
+differs_found [] b n long h = absurd (omega (arith, h.within))
+differs_found (w ∷ want) [] n long h = absurd (omega (arith, long))
+differs_found (w ∷ want) (x ∷ b) zero long h = rw (ne_eqb x w h.other) refl
+differs_found (w ∷ want) (x ∷ b) (suc n) long h =
     let same : x ∷ take n b ≡ w ∷ take n want = h.same in
     let first : x ≡ w = cc in
     let later : take n b ≡ take n want = cc in
-    let more = differs_found (at + 1) want b n (omega (arith, long))
+    let more = differs_found want b n (omega (arith, long))
     (record { same = later; within = omega (arith, h.within); other = h.other }) in
-    rw (eq-eqb x w first) (more ∙ ap (λ (n : ℕ). Some n) (omega arith))
+    rw (eq-eqb x w first) (ap suc more)
 
--- where none differs, none is found
-same_found : (at : ℕ) (want b : List ℕ) → take (length want) b ≡ want
-    → first_difference at want b ≡ None
-same_found at [] b e = refl
-same_found at (w ∷ want) [] e = absurd cc
-same_found at (w ∷ want) (x ∷ b) e =
+-- where none differs, all are as they are to be
+same_found : (want b : List ℕ) → take (length want) b ≡ want → agreed want b ≡ length want
+same_found [] b e = refl
+same_found (w ∷ want) [] e = absurd cc
+same_found (w ∷ want) (x ∷ b) e =
     let first : x ≡ w = cc in
     let later : take (length want) b ≡ want = cc in
-    rw (eq-eqb x w first) (same_found (at + 1) want b later)
+    rw (eq-eqb x w first) (ap suc (same_found want b later))
 
 -- ---- what is wrong with a header, test by test
-
--- where the fixed bytes differ there, or don't
-abbrev length_fault : List ℕ → Option ℕ → Option RtsFault
-length_fault b (Some place) = fault place BadHeader
-length_fault b None =
-    if not (frag_of b == length b) then fault 8 BadLength
-    else (if nat_lt ALL_FLAGS (flags_of b) then fault 16 BadFlags else None)
-
-abbrev pub head_fault : List ℕ → Option RtsFault
-head_fault b =
-    if nat_lt (length b) 20 then fault (length b) CutShort
-    else length_fault b (first_difference 0 (header_like b) b)
 
 -- that is the first to be wrong, if anything is
 abbrev pub HeadIs : List ℕ → Option RtsFault → Type 0
@@ -107,33 +88,33 @@ by_flags b true like frag e = (refl, like, frag, ltb-true _ _ e)
 by_flags b false like frag e = record { like = like; frag = frag; flags = ltb-false _ _ e }
 
 by_frag : (b : List ℕ) (t : Bool) → IsLike b → (frag_of b == length b) ≡ t
-    → HeadIs b (if not t then fault 8 BadLength else
-    (if nat_lt ALL_FLAGS (flags_of b) then fault 16 BadFlags else None))
+    → HeadIs b (if t then (if nat_lt ALL_FLAGS (flags_of b) then fault 16 BadFlags else None)
+    else fault 8 BadLength)
 by_frag b true like e = by_flags b _ like (eqb-true _ _ e) refl
 by_frag b false like e = (refl, like, eqb-false _ _ e)
 
-by_like : (b : List ℕ) (o : Option ℕ) → 20 ≤ length b → Differs 0 (header_like b) b o
-    → HeadIs b (length_fault b o)
-by_like b None long h = by_frag b _ (record { long = long; front = h }) refl
-by_like b (Some place) long h =
-    (long, subst (λ (n : ℕ). DiffersAt n (header_like b) b) (omega (arith, h.1)) h.2)
+by_like : (b : List ℕ) (same : ℕ) (t : Bool) → 20 ≤ length b → Agrees (header_like b) b same
+    → nat_lt same 16 ≡ t → HeadIs b (if t then fault same BadHeader else told_fault b)
+by_like b same true long (inl h) e = (long, h)
+by_like b same true long (inr h) e = absurd (omega (arith, h.0, ltb-true _ _ e))
+by_like b same false long (inl h) e = absurd (omega (arith, h.within, ltb-false _ _ e))
+by_like b same false long (inr h) e = by_frag b _ (record { long = long; front = h.1 }) refl
 
 by_length : (b : List ℕ) (t : Bool) → nat_lt (length b) 20 ≡ t
-    → HeadIs b (if t then fault (length b) CutShort else length_fault b
-    (first_difference 0 (header_like b) b))
+    → HeadIs b (if t then fault (length b) CutShort else like_fault (agreed (header_like b) b) b)
 by_length b true e = (refl, ltb-true _ _ e)
 by_length b false e =
     let long : 20 ≤ length b = ltb-false _ _ e in
-    by_like b _ long (found 0 (header_like b) b (omega (arith, long)))
+    by_like b _ _ long (agrees (header_like b) b (omega (arith, long))) refl
 
 pub head_is : (b : List ℕ) → HeadIs b (head_fault b)
+unfolding head_fault
 head_is b = by_length b _ refl
 
 -- nothing is wrong with a header, as far as it is of the right length and like what it is to be
-liked : (b : List ℕ) → IsLike b
-    → head_fault b ≡ (if not (frag_of b == length b) then fault 8 BadLength
-    else (if nat_lt ALL_FLAGS (flags_of b) then fault 16 BadFlags else None))
-liked b h = rw (le-ltb _ _ h.long, same_found 0 (header_like b) b h.front) refl
+liked : (b : List ℕ) → IsLike b → head_fault b ≡ told_fault b
+unfolding head_fault
+liked b h = rw (le-ltb _ _ h.long, same_found (header_like b) b h.front) refl
 
 pub no_fault : (b : List ℕ) → IsHead b → head_fault b ≡ None
 no_fault b h = liked b h.like ∙ rw (eq-eqb _ _ h.frag, le-ltb _ _ h.flags) refl
@@ -141,10 +122,14 @@ no_fault b h = liked b h.like ∙ rw (eq-eqb _ _ h.frag, le-ltb _ _ h.flags) ref
 -- what is the first to be wrong is found
 pub fault_found : (b : List ℕ) (place : ℕ) (kind : RtsKind) → HeadFault b place kind
     → head_fault b ≡ fault place kind
+unfolding head_fault
 fault_found b place CutShort h = rw (lt-ltb _ _ h.1, h.0) refl
 fault_found b place BadHeader h =
-    rw (le-ltb _ _ h.0, differs_found 0 (header_like b) b place (omega (arith, h.0)) h.1)
-    (ap (λ (n : ℕ). fault n BadHeader) (omega arith))
+    rw (
+      le-ltb _ _ h.0,
+      differs_found (header_like b) b place (omega (arith, h.0)) h.1,
+      lt-ltb _ _ h.1.within,
+    ) refl
 fault_found b place BadLength h = rw h.0 (liked b h.1 ∙ rw (ne_eqb _ _ h.2) refl)
 fault_found b place BadFlags h = rw h.0 (liked b h.1 ∙ rw (eq-eqb _ _ h.2, lt-ltb _ _ h.3) refl)
 fault_found b place kind h = absurd h

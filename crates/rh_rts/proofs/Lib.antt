@@ -1,4 +1,3 @@
-pub mod InTurn
 pub mod Passing
 pub mod Fields
 pub mod Rows

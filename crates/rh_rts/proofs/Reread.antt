@@ -1,5 +1,6 @@
 -- what is spelled so is read again
-use Rattle.std.proofs.Common.{rules, ◌≡◌, ℕ, ◌+◌, ◌<◌, ◌≤◌, ◌^◌, List, ◌++◌, length, take, drop, refl, sym, ap, subst, ◌∙◌, arith, append_assoc, nat_lt, false}
+use Rattle.std.proofs.Common.{rules, ◌≡◌, ℕ, ◌+◌, ◌<◌, ◌≤◌, ◌^◌, List, ◌++◌, length, take, drop}
+use Rattle.std.proofs.Common.{refl, sym, ap, subst, ◌∙◌, arith, append_assoc, nat_lt, false}
 use Rattle.std.specs.Prelude.{Some, None}
 use Rattle.std.proofs.lemmas.Bool.{le-ltb}
 use Rattle.std.proofs.lemmas.List.{take_at, drop_at, drop-drop, length-append}
@@ -8,9 +9,12 @@ use Rattle.rh_rts.specs.declared.command.Command.{Command}
 use Rattle.rh_rts.specs.declared.layout.Layout.{Layout}
 use Rattle.rh_rts.specs.declared.layout.Layout.TheVariants as layouts
 use Rattle.rh_rts.specs.Layouts.{Values, row, fixed_length}
-use Rattle.rh_rts.specs.Commands.{le4, kind_of, by_fields, field_bytes, spelling, AreFields, IsCommand}
-use Rattle.rh_rts.specs.Refusals.{number_of, type_of, field_of, length_by, field_fault, layout_fault, command_fault}
-use Rattle.rh_rts.specs.Listing.{cookie_at, address_by, address_len, address_at, values_at, command_of, length_of}
+use Rattle.rh_rts.specs.Commands.{le4, kind_of, by_fields, field_bytes, spelling, AreFields}
+use Rattle.rh_rts.specs.Commands.{IsCommand}
+use Rattle.rh_rts.specs.Refusals.{number_of, type_of, field_of, length_by, field_fault}
+use Rattle.rh_rts.specs.Refusals.{layout_fault, command_fault}
+use Rattle.rh_rts.specs.Listing.{cookie_at, address_by, address_len, address_at, values_at}
+use Rattle.rh_rts.specs.Listing.{command_of, length_of}
 use Rattle.rh_rts.proofs.Fields.{number_again}
 use Rattle.rh_rts.proofs.Rows.{Makes, row_fits, has_row}
 

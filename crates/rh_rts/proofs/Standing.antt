@@ -1,5 +1,6 @@
 -- the bytes of a command that is not at fault are its spelling, and what stands behind it
-use Rattle.std.proofs.Common.{◌≡◌, ℕ, zero, suc, ◌+◌, ◌≤◌, List, ◌++◌, length, take, drop, refl, sym, ap, ◌∙◌, arith, append_assoc, nat_lt, false}
+use Rattle.std.proofs.Common.{◌≡◌, ℕ, zero, suc, ◌+◌, ◌≤◌, List, ◌++◌, length, take, drop, refl}
+use Rattle.std.proofs.Common.{sym, ap, ◌∙◌, arith, append_assoc, nat_lt, false}
 use Rattle.std.specs.Prelude.{Some, None}
 use Rattle.std.specs.declared.option.Option.{Option}
 use Rattle.std.proofs.lemmas.Bool.{ltb-false}
@@ -9,9 +10,12 @@ use Rattle.rh_rts.specs.declared.fault.RtsFault.{RtsFault}
 use Rattle.rh_rts.specs.declared.layout.Layout.{Layout}
 use Rattle.rh_rts.specs.declared.layout.Layout.TheVariants as layouts
 use Rattle.rh_rts.specs.Layouts.{Values, Row, row_of, layout_in, fixed_length}
-use Rattle.rh_rts.specs.Commands.{le4, by_fields, field_bytes, spelling, address_bytes, IsAddress, AreFields, IsCommand, IsBytes}
-use Rattle.rh_rts.specs.Refusals.{number_of, type_of, field_of, length_by, field_fault, end_fault, layout_fault, command_fault}
-use Rattle.rh_rts.specs.Listing.{address_by, address_len, address_at, values_at, command_by, command_of, length_in, length_of}
+use Rattle.rh_rts.specs.Commands.{le4, by_fields, field_bytes, spelling, address_bytes, IsAddress}
+use Rattle.rh_rts.specs.Commands.{AreFields, IsCommand, IsBytes}
+use Rattle.rh_rts.specs.Refusals.{number_of, type_of, field_of, length_by, field_fault, end_fault}
+use Rattle.rh_rts.specs.Refusals.{layout_fault, command_fault}
+use Rattle.rh_rts.specs.Listing.{address_by, address_len, address_at, values_at, command_by}
+use Rattle.rh_rts.specs.Listing.{command_of, length_in, length_of}
 use Rattle.rh_rts.proofs.Passing.{passed}
 use Rattle.rh_rts.proofs.Fields.{IsBytes-drop, front, number_front, number_below, two_front}
 use Rattle.rh_rts.proofs.Rows.{Fits, row_fits}

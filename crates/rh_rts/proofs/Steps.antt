@@ -1,5 +1,6 @@
 -- one command further, and what is found behind the last
-use Rattle.std.proofs.Common.{◌≡◌, ℕ, zero, suc, ◌+◌, ◌-◌, ◌<◌, ◌≤◌, List, [], length, drop, refl, ap, ◌∙◌, arith, true, false}
+use Rattle.std.proofs.Common.{◌≡◌, ℕ, zero, suc, ◌+◌, ◌-◌, ◌<◌, ◌≤◌, List, [], length, drop, refl}
+use Rattle.std.proofs.Common.{ap, ◌∙◌, arith, true, false}
 use Rattle.std.specs.Prelude.{Some, None, Ok, Err, ◌==◌, ◌≢◌, if◌then◌else◌, MatchResult}
 use Rattle.std.specs.declared.result.Result.{Result}
 use Rattle.std.proofs.lemmas.Bool.{eq-eqb, ne_eqb}
@@ -9,7 +10,7 @@ use Rattle.rh_rts.specs.declared.fault.RtsKind.TheVariants.{Left}
 use Rattle.rh_rts.specs.Refusals.{fault, command_fault, BodyFault}
 use Rattle.rh_rts.specs.Listing.{length_of, listed, AreAll}
 use Rattle.rh_rts.specs.Commands.{IsBytes}
-use Rattle.rh_rts.proofs.InTurn.{body_fault}
+use Rattle.rh_rts.specs.Reading.{body_fault}
 use Rattle.rh_rts.proofs.Bodies.{all_listed, first_found}
 
 -- behind so many whole commands of the body, the rest stands

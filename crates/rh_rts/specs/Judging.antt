@@ -18,14 +18,8 @@ Decoded bytes (Ok p) = IsPacket p × (bytes ≡ packet_bytes p)
 Decoded bytes (Err (Rts place kind)) = FirstFault bytes (record { place = place; kind = kind })
 Decoded bytes (Err NoMemory) = Unit {0}
 
--- it is this packet, unless there was no memory
-abbrev pub IsPacketOf : Parts → Result Parts DecodeFault → Type 0
-IsPacketOf p (Ok q) = q ≡ p
-IsPacketOf p (Err (Rts place kind)) = ⊥
-IsPacketOf p (Err NoMemory) = Unit {0}
-
--- it is this fault, unless there was no memory
-abbrev pub IsFaultOf : RtsFault → Result Parts DecodeFault → Type 0
-IsFaultOf wrong (Ok q) = ⊥
-IsFaultOf wrong (Err (Rts place kind)) = record { place = place; kind = kind } ≡ wrong
-IsFaultOf wrong (Err NoMemory) = Unit {0}
+-- it is this packet or this fault, unless there was no memory
+abbrev pub IsReadBy : Result Parts RtsFault → Result Parts DecodeFault → Type 0
+IsReadBy read (Ok p) = Ok p ≡ read
+IsReadBy read (Err (Rts place kind)) = Err (record { place = place; kind = kind }) ≡ read
+IsReadBy read (Err NoMemory) = Unit {0}

@@ -5,13 +5,15 @@ use Rattle.rh_rts.specs.declared.command.Address4or16.{Address4or16}
 use Rattle.rh_rts.specs.declared.command.Cookie.{Cookie}
 use Rattle.rh_rts.specs.declared.command.Command.{Command}
 use Rattle.rh_rts.specs.declared.command.Command.TheVariants as commands
-use Rattle.rh_rts.specs.declared.command.TheConstants.{COOKIE_LEN, V4_LEN, V6_LEN, ADDRESS_PADDING_LEN}
+use Rattle.rh_rts.specs.declared.command.TheConstants.{COOKIE_LEN, V4_LEN, V6_LEN}
+use Rattle.rh_rts.specs.declared.command.TheConstants.{ADDRESS_PADDING_LEN}
 use Rattle.rh_rts.specs.declared.command.TheConstants.{GREATEST_DESTINATION}
 use Rattle.rh_rts.specs.declared.fault.RtsKind.{RtsKind}
 use Rattle.rh_rts.specs.declared.fault.RtsKind.TheVariants.{BadType, BadAddressType, BadCount}
 use Rattle.rh_rts.specs.declared.layout.Layout.{Layout}
 use Rattle.rh_rts.specs.declared.layout.Layout.TheVariants as layouts
-use Rattle.rh_rts.specs.declared.layout.TheConstants.{NUMBER_LEN, TYPE_OF_V4, GREATEST_ADDRESS_TYPE, GREATEST_COUNT}
+use Rattle.rh_rts.specs.declared.layout.TheConstants.{NUMBER_LEN, TYPE_OF_V4, GREATEST_ADDRESS_TYPE}
+use Rattle.rh_rts.specs.declared.layout.TheConstants.{GREATEST_COUNT}
 
 -- ---- the table
 

@@ -7,3 +7,4 @@ pub mod Showing
 pub mod Texts
 pub mod Writing
 pub mod Judging
+pub mod Reading

@@ -1,17 +1,19 @@
--- the commands that stand at the front of bytes, one after the other: for models and private
--- contracts alone
-use Rattle.std.specs.Prelude.{◌≡◌, ◌+◌, ◌==◌, ℕ, zero, suc, List, [], ◌∷◌, length, take, drop, if◌then◌else◌, Some, None}
+-- the commands that stand at the front of bytes, one after the other
+use Rattle.std.specs.Prelude.{◌≡◌, ◌+◌, ◌==◌, ℕ, zero, suc, List, [], ◌∷◌, length, take, drop}
+use Rattle.std.specs.Prelude.{if◌then◌else◌, Some, None}
 use Rattle.std.specs.declared.option.Option.{Option}
 use Rattle.rh_rts.specs.declared.command.Cookie.{Cookie}
 use Rattle.rh_rts.specs.declared.command.Address4or16.{Address4or16}
 use Rattle.rh_rts.specs.declared.command.Address4or16.TheVariants.{V4, V6}
-use Rattle.rh_rts.specs.declared.command.TheConstants.{COOKIE_LEN, V4_LEN, V6_LEN, ADDRESS_PADDING_LEN}
+use Rattle.rh_rts.specs.declared.command.TheConstants.{COOKIE_LEN, V4_LEN, V6_LEN}
+use Rattle.rh_rts.specs.declared.command.TheConstants.{ADDRESS_PADDING_LEN}
 use Rattle.rh_rts.specs.declared.command.Command.{Command}
 use Rattle.rh_rts.specs.declared.command.Command.TheVariants as commands
 use Rattle.rh_rts.specs.declared.fault.RtsFault.{RtsFault}
 use Rattle.rh_rts.specs.declared.layout.Layout.{Layout}
 use Rattle.rh_rts.specs.declared.layout.Layout.TheVariants as layouts
-use Rattle.rh_rts.specs.declared.layout.TheConstants.{NUMBER_LEN, FIELDS_AT, ACK_COOKIE_AT, TYPE_OF_V4}
+use Rattle.rh_rts.specs.declared.layout.TheConstants.{NUMBER_LEN, FIELDS_AT, ACK_COOKIE_AT}
+use Rattle.rh_rts.specs.declared.layout.TheConstants.{TYPE_OF_V4}
 use Rattle.rh_rts.specs.Layouts.{Values, Row, row_of, layout_in}
 use Rattle.rh_rts.specs.Commands.{spellings, AreCommands}
 use Rattle.rh_rts.specs.Refusals.{command_fault, type_of, field_of, number_of, length_by}

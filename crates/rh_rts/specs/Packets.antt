@@ -1,5 +1,6 @@
 -- the whole packet (MS-RPCH 2.2.3.6)
-use Rattle.std.specs.Prelude.{◌≡◌, ◌⊎◌, ◌≤◌, ◌+◌, ◌-◌, ◌^◌, ℕ, List, [], ◌∷◌, ◌++◌, length, min, nat_lt, if◌then◌else◌}
+use Rattle.std.specs.Prelude.{◌≡◌, ◌⊎◌, ◌≤◌, ◌+◌, ◌-◌, ◌^◌, ℕ, List, [], ◌∷◌, ◌++◌, length, min}
+use Rattle.std.specs.Prelude.{nat_lt, if◌then◌else◌}
 use Rattle.std.specs.Prelude.{Some, None, Ok, Err}
 use Rattle.std.specs.declared.option.Option.{Option}
 use Rattle.std.specs.declared.result.Result.{Result}
@@ -7,7 +8,8 @@ use Rattle.std.specs.Int.{w16, to_le_bytes}
 use Rattle.rh_rts.specs.declared.command.Command.{Command}
 use Rattle.rh_rts.specs.declared.command.Command.TheVariants as commands
 use Rattle.rh_rts.specs.declared.fault.PacketFault.{PacketFault}
-use Rattle.rh_rts.specs.declared.fault.PacketFault.TheVariants.{BadFlags, BadDestination, TooLong, NoMemory}
+use Rattle.rh_rts.specs.declared.fault.PacketFault.TheVariants.{BadFlags, BadDestination, TooLong}
+use Rattle.rh_rts.specs.declared.fault.PacketFault.TheVariants.{NoMemory}
 use Rattle.rh_rts.specs.declared.packet.TheConstants.{ALL_FLAGS, GREATEST_PACKET_LENGTH}
 use Rattle.rh_rts.specs.declared.header.TheConstants.{PACKET_HEADER_LEN}
 use Rattle.rh_rts.specs.declared.command.TheConstants.{GREATEST_DESTINATION}

@@ -1,13 +1,16 @@
 -- what is the first to be wrong with bytes that are to be a packet (MS-RPCH 2.2.3.5, 2.2.3.6)
-use Rattle.std.specs.Prelude.{◌≡◌, ◌≢◌, ◌≤◌, ◌<◌, ◌+◌, ◌-◌, ◌⊎◌, ℕ, List, [], ◌∷◌, ◌++◌, length, take, drop}
+use Rattle.std.specs.Prelude.{◌≡◌, ◌≢◌, ◌≤◌, ◌<◌, ◌+◌, ◌-◌, ◌⊎◌, ℕ, List, [], ◌∷◌, ◌++◌, length}
+use Rattle.std.specs.Prelude.{take, drop}
 use Rattle.std.specs.Prelude.{nat_lt, if◌then◌else◌, slice_index, Some, None}
 use Rattle.std.specs.declared.option.Option.{Option}
 use Rattle.std.specs.Int.{w16, w32, from_le_bytes}
 use Rattle.rh_rts.specs.declared.command.Command.{Command}
 use Rattle.rh_rts.specs.declared.fault.RtsFault.{RtsFault}
 use Rattle.rh_rts.specs.declared.fault.RtsKind.{RtsKind}
-use Rattle.rh_rts.specs.declared.fault.RtsKind.TheVariants.{BadHeader, BadLength, BadFlags, CutShort, BadType, Left}
-use Rattle.rh_rts.specs.declared.header.TheConstants.{PACKET_HEADER_LEN, FRAG_AT, FLAGS_AT, COUNT_AT}
+use Rattle.rh_rts.specs.declared.fault.RtsKind.TheVariants.{BadHeader, BadLength, BadFlags}
+use Rattle.rh_rts.specs.declared.fault.RtsKind.TheVariants.{CutShort, BadType, Left}
+use Rattle.rh_rts.specs.declared.header.TheConstants.{PACKET_HEADER_LEN, FRAG_AT, FLAGS_AT}
+use Rattle.rh_rts.specs.declared.header.TheConstants.{COUNT_AT}
 use Rattle.rh_rts.specs.declared.packet.TheConstants.{ALL_FLAGS}
 use Rattle.rh_rts.specs.declared.layout.Layout.{Layout}
 use Rattle.rh_rts.specs.declared.layout.TheConstants.{NUMBER_LEN}

@@ -1,22 +1,22 @@
 //! Reads a packet from its bytes (MS-RPCH 2.2.3.6).
 
-ghost use Rattle.std.specs.Prelude.{◌≡◌, MatchResult, IfOk};
+ghost use Rattle.std.specs.Prelude.{◌≡◌, IfOk, Ok, Err};
 ghost use Rattle.rh_rts.specs.declared.fault.RtsFault.{RtsFault};
 ghost use Rattle.rh_rts.specs.Packets.{Parts, IsPacket, packet_bytes};
 ghost use Rattle.rh_rts.specs.Refusals.{FirstFault};
-ghost use Rattle.rh_rts.specs.Judging.{Decoded, IsPacketOf, IsFaultOf};
-ghost use Rattle.rh_rts.specs.declared.fault.DecodeFault.TheVariants.{NoMemory};
+ghost use Rattle.rh_rts.specs.Judging.{Decoded, IsReadBy};
+ghost use Rattle.rh_rts.specs.Reading.{read_packet};
 
 use crate::command::Command;
 use crate::fault::DecodeFault;
 use crate::judging::view;
 use crate::packet::Packet;
 use crate::views::Commands;
-use std::alloc::Global;
+use std::alloc::{AllocError, Global};
 
 /// The commands, each with memory of its own.
-fn all_owned(alloc: Global, commands: Commands<'_>) -> Result<Vec<Command>, DecodeFault>
-    ensures { MatchResult result (λ all. all.items ≡ commands.entry) (λ e. e ≡ NoMemory) }
+fn all_owned(alloc: Global, commands: Commands<'_>) -> Result<Vec<Command>, AllocError>
+    ensures { IfOk result (λ all. all.items ≡ commands.entry) }
 {
     let mut all = Vec::new(alloc);
     let mut left = commands;
@@ -31,8 +31,10 @@ fn all_owned(alloc: Global, commands: Commands<'_>) -> Result<Vec<Command>, Deco
 /// It takes memory for the list of commands, and for the bytes of each `Padding`.
 pub fn decode(alloc: Global, bytes: &[u8]) -> Result<Packet, DecodeFault>
     ensures reads { Decoded bytes.now result }
-    ensures packet { (p : Parts) → IsPacket p → bytes.now ≡ packet_bytes p → IsPacketOf p result }
-    ensures fault { (wrong : RtsFault) → FirstFault bytes.now wrong → IsFaultOf wrong result }
+    ensures computed { IsReadBy (read_packet bytes.now) result }
+    ensures packet { (p : Parts) → IsPacket p → bytes.now ≡ packet_bytes p
+        → IsReadBy (Ok p) result }
+    ensures fault { (wrong : RtsFault) → FirstFault bytes.now wrong → IsReadBy (Err wrong) result }
 {
     read(alloc, bytes)
 }

@@ -1,7 +1,8 @@
 //! Writes the bytes of a packet (MS-RPCH 2.2.3.5, 2.2.3.6).
 
 ghost use Rattle.std.specs.Prelude.{◌≡◌, ◌+◌, ◌++◌, ◌≤◌, ◌<◌, length};
-ghost use Rattle.rh_rts.specs.Commands.{le4, spelling, spellings, address_bytes, IsCommand, AreCommands};
+ghost use Rattle.rh_rts.specs.Commands.{le4, spelling, spellings, address_bytes, IsCommand};
+ghost use Rattle.rh_rts.specs.Commands.{AreCommands};
 ghost use Rattle.rh_rts.specs.Packets.{parts, IsPacket, packet_length, header_bytes};
 ghost use Rattle.rh_rts.specs.Writing.{over, Writes};
 

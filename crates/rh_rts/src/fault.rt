@@ -5,7 +5,7 @@ ghost use Rattle.rh_rts.specs.declared.fault.DecodeFault.TheVariants as decode;
 ghost use Rattle.rh_rts.specs.declared.fault.PacketFault.TheVariants as packet;
 
 use rh_text::{Part, write_parts};
-use std::alloc::{AllocError, AllocFailed};
+use std::alloc::AllocError;
 
 /// What is wrong with bytes that are to be a packet.
 #[derive(Clone, Copy, Debug, PartialEq, Eq)]
@@ -116,26 +116,10 @@ impl From<AllocError> for DecodeFault {
     }
 }
 
-impl<T: Drop> From<AllocFailed<T>> for DecodeFault {
-    ghost from_gives = { λ _ fault. fault ≡ decode.NoMemory };
-
-    fn from(_: AllocFailed<T>) -> DecodeFault {
-        DecodeFault::NoMemory
-    }
-}
-
 impl From<AllocError> for PacketFault {
     ghost from_gives = { λ _ fault. fault ≡ packet.NoMemory };
 
     fn from(_: AllocError) -> PacketFault {
-        PacketFault::NoMemory
-    }
-}
-
-impl<T: Drop> From<AllocFailed<T>> for PacketFault {
-    ghost from_gives = { λ _ fault. fault ≡ packet.NoMemory };
-
-    fn from(_: AllocFailed<T>) -> PacketFault {
         PacketFault::NoMemory
     }
 }

@@ -1,6 +1,7 @@
 //! The header of a packet (MS-RPCH 2.2.3.6).
 
-ghost use Rattle.std.specs.Prelude.{◌≡◌, ◌≤◌, ◌<◌, ◌+◌, length, take, drop, MatchOption, MatchResult};
+ghost use Rattle.std.specs.Prelude.{◌≡◌, ◌≤◌, ◌<◌, ◌+◌, length, take, drop, MatchOption};
+ghost use Rattle.std.specs.Prelude.{MatchResult};
 ghost use Rattle.rh_rts.specs.Packets.{header_front};
 ghost use Rattle.rh_rts.specs.Refusals.{DiffersAt, IsHead, HeadFault, flags_of, count_of, short_at};
 

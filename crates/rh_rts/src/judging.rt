@@ -1,12 +1,14 @@
 //! Judges the bytes of a packet, and reads it (MS-RPCH 2.2.3.6).
 
-ghost use Rattle.std.specs.Prelude.{◌≡◌, ◌+◌, ◌≤◌, ◌<◌, ◌-◌, ◌^◌, length, drop, MatchResult, Some, None};
+ghost use Rattle.std.specs.Prelude.{◌≡◌, ◌+◌, ◌≤◌, ◌<◌, ◌-◌, ◌^◌, length, drop, MatchResult, Some};
+ghost use Rattle.std.specs.Prelude.{None};
 ghost use Rattle.std.specs.Prelude.{◌≢◌, [], Ok, Err};
 ghost use Rattle.rh_rts.specs.declared.fault.RtsFault.{RtsFault};
 ghost use Rattle.rh_rts.specs.Packets.{Parts, IsPacket, packet_bytes};
 ghost use Rattle.rh_rts.specs.Refusals.{fault, FirstFault, BodyFault};
 ghost use Rattle.rh_rts.specs.declared.fault.RtsKind.TheVariants.{Left};
 ghost use Rattle.rh_rts.specs.Judging.{Judged};
+ghost use Rattle.rh_rts.specs.Reading.{read_packet};
 ghost use Rattle.rh_rts.specs.Listing.{listed, AreAll};
 
 use crate::fault::{RtsFault, RtsKind};
@@ -45,6 +47,7 @@ fn check_body(total: usize, count: u16, body: &[u8]) -> Result<(), RtsFault>
 /// The packet that the bytes are; else the first part that is wrong.
 pub fn view(bytes: &[u8]) -> Result<View<'_>, RtsFault>
     ensures reads { Judged bytes.now result }
+    ensures computed { result ≡ read_packet bytes.now }
     ensures packet { (p : Parts) → IsPacket p → bytes.now ≡ packet_bytes p → result ≡ Ok p }
     ensures fault { (wrong : RtsFault) → FirstFault bytes.now wrong → result ≡ Err wrong }
 {

@@ -21,7 +21,7 @@ pub use decoding::decode;
 pub use encoding::{encode, encode_parts};
 pub use fault::{DecodeFault, NoRoom, PacketFault, RtsFault, RtsKind};
 pub use judging::view;
-pub use laws::one_packet;
+pub use laws::{one_packet, packets_are_read};
 pub use packet::Packet;
 pub use rh_text::Bytes;
 pub use views::{Commands, View};

@@ -1,15 +1,15 @@
 //! A packet (MS-RPCH 2.2.3.6).
 
 ghost use Rattle.std.specs.Prelude.{◌≡◌, ◌+◌, ◌<◌, ◌^◌, length, MatchResult, IfOk, Ok, Err};
-ghost use Rattle.rh_rts.specs.Commands.{spelling, spellings, address_bytes, IsAddress, HasSize, HaveSizes};
+ghost use Rattle.rh_rts.specs.Commands.{spelling, spellings, address_bytes, IsAddress, HasSize};
+ghost use Rattle.rh_rts.specs.Commands.{HaveSizes};
 ghost use Rattle.rh_rts.specs.Packets.{parts, packet_length, made, bad_destination, as_told};
-ghost use Rattle.rh_rts.specs.declared.fault.PacketFault.TheVariants.{NoMemory};
 
 use crate::command::{ADDRESS_PADDING_LEN, Address4or16, Command, Cookie, GREATEST_DESTINATION};
 use crate::fault::PacketFault;
 use crate::header::PACKET_HEADER_LEN;
 use crate::layout::{NUMBER_LEN, fields, layouts};
-use std::alloc::Global;
+use std::alloc::{AllocError, Global};
 use std::marker::Model;
 
 /// A ping.
@@ -135,8 +135,8 @@ fn checked_length(flags: u16, commands: &[Command]) -> Result<u16, PacketFault>
 }
 
 /// The commands, each with memory of its own.
-fn copy_of(alloc: Global, commands: &[Command]) -> Result<Vec<Command>, PacketFault>
-    ensures { MatchResult result (λ all. all.items ≡ commands.now) (λ fault. fault ≡ NoMemory) }
+fn copy_of(alloc: Global, commands: &[Command]) -> Result<Vec<Command>, AllocError>
+    ensures { IfOk result (λ all. all.items ≡ commands.now) }
 {
     let mut all = Vec::with_capacity(alloc, commands.len())?;
     for command in commands {

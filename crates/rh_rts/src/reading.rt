@@ -1,11 +1,13 @@
 //! Reads a command where it stands (MS-RPCH 2.2.3.5).
 
-ghost use Rattle.std.specs.Prelude.{◌≡◌, ◌≤◌, ◌<◌, ◌+◌, ◌^◌, length, take, drop, MatchResult, IfOk, Some, None};
+ghost use Rattle.std.specs.Prelude.{◌≡◌, ◌≤◌, ◌<◌, ◌+◌, ◌^◌, length, take, drop, MatchResult, IfOk};
+ghost use Rattle.std.specs.Prelude.{Some, None};
 ghost use Rattle.rh_rts.specs.Layouts.{rows};
 ghost use Rattle.rh_rts.specs.Refusals.{number_of, type_of, field_of, field_fault, command_fault};
 ghost use Rattle.rh_rts.specs.Showing.{shown};
 ghost use Rattle.rh_rts.specs.declared.command.Command.TheVariants as commands;
-ghost use Rattle.rh_rts.specs.Listing.{cookie_at, address_len, client_address_at, command_of, length_of};
+ghost use Rattle.rh_rts.specs.Listing.{cookie_at, address_len, client_address_at, command_of};
+ghost use Rattle.rh_rts.specs.Listing.{length_of};
 
 use crate::command::{
     ADDRESS_PADDING_LEN, Address4or16, COOKIE_LEN, CommandRef, Cookie, V4_LEN, V6_LEN,

@@ -7,7 +7,7 @@ ghost use Rattle.rh_text.specs.Writing.{Writes};
 ghost use Rattle.rh_show.specs.Shown.{address_text, bytes_text, command_text, flags_text, packet_text};
 
 use rh_rts::{Address4or16, CommandRef, Cookie, View};
-use rh_sig::{COOKIE_TEXT_LEN, cookie_text};
+use rh_sig::{COOKIE_TEXT_LEN, cookie_text, number_of};
 use rh_text::{Part, write_parts};
 use std::alloc::AllocError;
 use std::str;
@@ -55,15 +55,6 @@ fn write_command(command: CommandRef<'_>, out: &mut String) -> Result<(), AllocE
     let (space, name) = (Part::Text(" "), Part::Text(command.name()));
     let mut room = [0; COOKIE_TEXT_LEN];
     match command {
-        CommandRef::ReceiveWindowSize(number)
-        | CommandRef::ConnectionTimeout(number)
-        | CommandRef::ChannelLifetime(number)
-        | CommandRef::ClientKeepalive(number)
-        | CommandRef::Version(number)
-        | CommandRef::Destination(number)
-        | CommandRef::PingTrafficSentNotify(number) => {
-            write_parts(&[space, name, space, Part::Number(u64::from(number))], out)
-        }
         CommandRef::FlowControlAck {
             received,
             window,
@@ -88,6 +79,11 @@ fn write_command(command: CommandRef<'_>, out: &mut String) -> Result<(), AllocE
         CommandRef::Padding(bytes) => write_parts(&[space, name, space, Part::Hex(bytes)], out),
         CommandRef::ClientAddress { address, padding } => {
             write_address(command.name(), &address, &padding, out)
+        }
+        // The others have a number alone, or the contract would not be proved.
+        other => {
+            let number = Part::Number(u64::from(number_of(other)));
+            write_parts(&[space, name, space, number], out)
         }
     }
 }

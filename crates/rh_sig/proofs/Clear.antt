@@ -4,11 +4,11 @@ use Rattle.rh_rts.specs.Packets.{Parts}
 use Rattle.rh_sig.specs.declared.name.Name.{Name}
 use Rattle.rh_sig.specs.declared.name.Pipe.{Pipe}
 use Rattle.rh_sig.specs.declared.named.Named.{Named}
-use Rattle.rh_sig.specs.Names.{row_of, types_of, unpadded, IsNamed, IsCarried}
+use Rattle.rh_sig.specs.Names.{row_of, IsNamed, IsCarried}
 use Rattle.rh_sig.specs.Values.{name_of_named, commands_of, parts_of, ReadsAs}
 use Rattle.rh_sig.specs.Reading.{value}
 use Rattle.rh_sig.proofs.Again.{same_value, same_types, plain}
-use Rattle.rh_sig.proofs.Table.{one_row, row_in}
+use Rattle.rh_sig.proofs.Table.{one_row, some_same, name_found}
 
 pub one_carried : (pipe : Pipe) (a b : Name) → IsCarried a pipe → IsCarried b pipe
     → (row_of a).flags ≡ (row_of b).flags → (row_of a).types ≡ (row_of b).types → a ≡ b
@@ -19,8 +19,7 @@ one_carried pipe a b p q flags types =
 
 pub one_name : (p : Parts) (pipe : Pipe) (a b : Name) → IsNamed p pipe a → IsNamed p pipe b → a ≡ b
 one_name p pipe a b x y =
-    one_row pipe p.flags (types_of (unpadded p.commands)) a b (row_in p pipe a x)
-    (row_in p pipe b y)
+    some_same a b (sym (name_found p pipe a x) ∙ name_found p pipe b y)
 
 pub one_value : (a b : Named) → name_of_named a ≡ name_of_named b → commands_of a ≡ commands_of b
     → a ≡ b

@@ -1,5 +1,6 @@
 -- the packets of a few commands that named packets have
-use Rattle.std.proofs.Common.{◌≡◌, ℕ, ◌*◌, ◌≤◌, List, [], ◌∷◌, length, refl, arith, length-append}
+use Rattle.std.proofs.Common.{rules, ◌≡◌, ℕ, ◌+◌, ◌*◌, ◌≤◌, List, [], ◌∷◌, length, refl, arith}
+use Rattle.std.proofs.Common.{length-append}
 use Rattle.std.specs.Prelude.{None}
 use Rattle.std.proofs.lemmas.Bool.{le-ltb}
 use Rattle.rh_rts.specs.declared.command.Address4or16.{Address4or16}
@@ -8,36 +9,55 @@ use Rattle.rh_rts.specs.declared.command.Command.{Command}
 use Rattle.rh_rts.specs.declared.command.Command.TheVariants as commands
 use Rattle.rh_rts.specs.declared.packet.TheConstants.{ALL_FLAGS, GREATEST_PACKET_LENGTH}
 use Rattle.rh_rts.specs.Commands.{spelling, spellings, IsAddress, address_bytes, HasSize, HaveSizes}
-use Rattle.rh_rts.specs.Packets.{parts, packet_length, IsPacket, bad_destination}
+use Rattle.rh_rts.specs.Commands.{IsCommand, AreCommands}
+use Rattle.rh_rts.specs.Packets.{parts, packet_length, packet_bytes, IsPacket, bad_destination}
 use Rattle.rh_rts.proofs.Making.{is_sound}
-use Rattle.rh_sig.specs.Values.{IsPlain, ArePlain}
+use Rattle.rh_rts.proofs.OneReading.{sized}
+use Rattle.rh_sig.specs.declared.named.Named.{Named}
+use Rattle.rh_sig.specs.declared.named.Named.TheVariants as named
+use Rattle.rh_sig.specs.Values.{IsPlain, ArePlain, MayBeWritten, commands_of, parts_of}
+use Rattle.rh_sig.specs.Naming.{named_bytes}
 
 address_short : (address : Address4or16) → IsAddress address → length (address_bytes address) ≤ 20
 address_short (V4 bytes) is = omega (arith, is)
 address_short (V6 bytes) is = omega (arith, is)
 
--- no command is longer than a client's address of 16 bytes
-short : (c : Command) → HasSize c → IsPlain c → length (spelling c) ≤ 36
-unfolding spelling
-short (commands.FlowControlAck received window cookie) h plain = omega (arith, h)
-short (commands.Cookie cookie) h plain = omega (arith, h)
-short (commands.AssociationGroupId cookie) h plain = omega (arith, h)
-short (commands.Padding bytes) h plain = absurd plain
-short (commands.ClientAddress address padding) h plain =
-    omega (arith, h.1, address_short address h.0, length-append (address_bytes address) padding)
-short c h plain = omega arith
+-- the most bytes of a command
+abbrev most : Command → ℕ
+most (commands.FlowControlAck received window cookie) = 28
+most (commands.Cookie cookie) = 20
+most (commands.AssociationGroupId cookie) = 20
+most (commands.Padding bytes) = 8 + length bytes
+most (commands.ClientAddress address padding) = 36
+most _ = 8
 
-all_short : (cs : List Command) → HaveSizes cs → ArePlain cs
-    → length (spellings cs) ≤ 36 * length cs
-all_short [] h plain = omega arith
-all_short (c ∷ cs) h plain =
-    omega (
-      arith,
-      short c h.0 plain.0,
-      all_short cs h.1 plain.1,
-      length-append (spelling c)
-          (spellings cs),
-    )
+abbrev mosts : List Command → ℕ
+mosts [] = 0
+mosts (c ∷ cs) = most c + mosts cs
+
+short : (c : Command) → HasSize c → length (spelling c) ≤ most c
+unfolding spelling
+short (commands.FlowControlAck received window cookie) h = omega (arith, h)
+short (commands.Cookie cookie) h = omega (arith, h)
+short (commands.AssociationGroupId cookie) h = omega (arith, h)
+short (commands.Padding bytes) h = omega arith
+short (commands.ClientAddress address padding) h =
+    omega (arith, h.1, address_short address h.0, length-append (address_bytes address) padding)
+short c h = omega arith
+
+all_short : (cs : List Command) → HaveSizes cs → length (spellings cs) ≤ mosts cs
+all_short [] h = omega arith
+all_short (c ∷ cs) h =
+    omega (arith, short c h.0, all_short cs h.1, length-append (spelling c) (spellings cs))
+
+-- none that named packets have is longer than a client's address of 16 bytes
+plain_most : (c : Command) → IsPlain c → most c ≤ 36
+plain_most (commands.Padding bytes) plain = absurd plain
+plain_most c plain = omega arith
+
+plain_mosts : (cs : List Command) → ArePlain cs → mosts cs ≤ 36 * length cs
+plain_mosts [] plain = omega arith
+plain_mosts (c ∷ cs) plain = omega (arith, plain_most c plain.0, plain_mosts cs plain.1)
 
 -- each destination is one
 no_bad : (cs : List Command) → ArePlain cs → bad_destination cs ≡ None
@@ -49,5 +69,47 @@ pub small_packet : (flags : ℕ) (cs : List Command) → flags ≤ ALL_FLAGS →
     → HaveSizes cs → IsPacket (parts flags cs)
 small_packet flags cs known few plain sizes =
     let fits : packet_length (parts flags cs) ≤ GREATEST_PACKET_LENGTH =
-    omega (arith, all_short cs sizes plain, few) in
+    omega (arith, all_short cs sizes, plain_mosts cs plain, few) in
     is_sound (parts flags cs) sizes (rw (le-ltb _ _ known, no_bad cs plain, le-ltb _ _ fits) refl)
+
+-- ---- named packets
+
+flags_known : (n : Named) → (parts_of n).flags ≤ ALL_FLAGS
+flags_known named.Ping = omega arith
+flags_known n = omega arith
+
+at_most_seven : (n : Named) → length (commands_of n) ≤ 7
+at_most_seven named.Ping = omega arith
+at_most_seven n = omega arith
+
+all_plain : (n : Named) → MayBeWritten n → ArePlain (commands_of n)
+all_plain n may = search rules
+
+-- with fields of their size and a destination that is one, they can be sent
+pub sound : (n : Named) → MayBeWritten n → HaveSizes (commands_of n) → IsPacket (parts_of n)
+sound n may sizes =
+    small_packet (parts_of n).flags (commands_of n) (flags_known n) (at_most_seven n)
+    (all_plain n may) sizes
+
+-- the longest is CONN/B2 with an address of 16 bytes
+longest : (n : Named) → 20 + mosts (commands_of n) ≤ 140
+longest named.Ping = omega arith
+longest n = omega arith
+
+size_of : (c : Command) → IsCommand c → HasSize c
+size_of commands.Empty h = h.0
+size_of c h = h.0
+
+sizes_of : (cs : List Command) → AreCommands cs → HaveSizes cs
+sizes_of [] h = tt
+sizes_of (c ∷ cs) h = (size_of c h.0, sizes_of cs h.1)
+
+pub at_most_140 : (n : Named) → IsPacket (parts_of n) → length (named_bytes n) ≤ 140
+unfolding named_bytes
+at_most_140 n is =
+    omega (
+      arith,
+      sized (packet_bytes (parts_of n)) (parts_of n) refl,
+      all_short (commands_of n) (sizes_of (commands_of n) is.commands),
+      longest n,
+    )

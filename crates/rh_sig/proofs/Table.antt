@@ -15,6 +15,7 @@ use Rattle.rh_sig.specs.declared.name.Name.TheVariants.{ConnA1}
 use Rattle.rh_sig.specs.declared.name.Pipe.TheVariants.{CiU, IsU, IsD, CoU, CoD, OsU, OsD}
 use Rattle.rh_sig.specs.Names.{row_of, IsNamed, IsNameless}
 use Rattle.rh_sig.specs.Looking.{names, found, fits, carries}
+use Rattle.rh_sig.specs.Naming.{name_on}
 use Rattle.rh_rts.specs.Commands.{kind_of}
 use Rattle.rh_sig.specs.Names.{types_of, unpadded}
 use Rattle.rh_sig.proofs.Again.{seven_types}
@@ -47,7 +48,7 @@ pub record IsRow (name : Name) (pipe : Pipe) (told : ℕ) (ks : List ℕ) : Type
   pub flags : (row_of name).flags ≡ told
   pub types : (row_of name).types ≡ ks
 
-some_same : {X : Type 0} (x y : X) → Some x ≡ Some y → x ≡ y
+pub some_same : {X : Type 0} (x y : X) → Some x ≡ Some y → x ≡ y
 some_same x y e = cc
 
 found_by : (n : Name) (ns : List Name) (pipe : Pipe) (told : ℕ) (ks : List ℕ) (name : Name)
@@ -117,22 +118,44 @@ pub row_in : (p : Parts) (pipe : Pipe) (name : Name) → IsNamed p pipe name
     → IsRow name pipe p.flags (types_of (unpadded p.commands))
 row_in p pipe name is = record { carried = is.carried; flags = is.flags; types = is.types }
 
+-- a name is found
+pub name_found : (p : Parts) (pipe : Pipe) (name : Name) → IsNamed p pipe name
+    → name_on p pipe ≡ Some name
+unfolding name_on
+name_found p pipe name is =
+    row_found name pipe p.flags (types_of (unpadded p.commands)) (row_in p pipe name is)
+
 none_some : (name : Name) → None ≡ Some name → ⊥
 none_some name e = absurd cc
 
 -- the packet has the name that is found, or none
-pub named_by : (p : Parts) (pipe : Pipe) (o : Option Name)
-    → o ≡ found names pipe p.flags (types_of (unpadded p.commands))
+pub is_named : (p : Parts) (pipe : Pipe) (o : Option Name) → o ≡ name_on p pipe
     → MatchOption o (IsNameless p pipe) (λ name. IsNamed p pipe name)
-named_by p pipe (Some name) is =
+unfolding name_on
+is_named p pipe (Some name) is =
     let row = found_fits names pipe p.flags (types_of (unpadded p.commands)) name (sym is) in
     record { carried = row.carried; flags = row.flags; types = row.types }
-named_by p pipe None is = λ name named.
-    none_some name (is ∙ row_found name pipe p.flags (types_of (unpadded p.commands))
-    (row_in p pipe name named))
+is_named p pipe None is = λ name named. none_some name (is ∙ name_found p pipe name named)
+
+none_by : (p : Parts) (pipe : Pipe) (o : Option Name)
+    → MatchOption o (IsNameless p pipe) (λ name. IsNamed p pipe name) → IsNameless p pipe
+    → o ≡ None
+none_by p pipe None is never = refl
+none_by p pipe (Some name) is never = absurd (never name is)
+
+-- where no name fits, none is found
+pub none_found : (p : Parts) (pipe : Pipe) → IsNameless p pipe → name_on p pipe ≡ None
+none_found p pipe never = none_by p pipe (name_on p pipe) (is_named p pipe _ refl) never
 
 -- a packet of more than seven commands has no name
-pub too_many : (p : Parts) (pipe : Pipe) → 7 < length (unpadded p.commands) → IsNameless p pipe
-too_many p pipe more = λ name is.
+pub too_many : (p : Parts) (pipe : Pipe) → 7 < length (unpadded p.commands)
+    → name_on p pipe ≡ None
+too_many p pipe more = none_found p pipe (λ name is.
     let same = ap length is.types in
-    absurd (omega (arith, more, seven_types name, same, length-map (unpadded p.commands) kind_of))
+    absurd (omega (
+      arith,
+      more,
+      seven_types name,
+      same,
+      length-map (unpadded p.commands) kind_of,
+    )))

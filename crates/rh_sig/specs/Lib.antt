@@ -3,3 +3,4 @@ pub mod Names
 pub mod Values
 pub mod Reading
 pub mod Looking
+pub mod Naming

@@ -1,12 +1,13 @@
--- looking a name up in the table, row by row: for private contracts alone
-use Rattle.std.specs.Prelude.{◌==◌, ◌&&◌, ◌||◌, ℕ, List, [], ◌∷◌, Bool, false, if◌then◌else◌, Some, None}
+-- looking a name up in the table, row by row
+use Rattle.std.specs.Prelude.{◌==◌, ◌&&◌, ◌||◌, ℕ, List, [], ◌∷◌, Bool, false, if◌then◌else◌, Some}
+use Rattle.std.specs.Prelude.{None}
 use Rattle.std.specs.Str.{bytes_eq}
 use Rattle.std.specs.declared.option.Option.{Option}
 use Rattle.rh_sig.specs.declared.name.Name.{Name}
 use Rattle.rh_sig.specs.declared.name.Name.TheVariants.{ConnA1, ConnA2, ConnA3, ConnB1, ConnB2}
 use Rattle.rh_sig.specs.declared.name.Name.TheVariants.{ConnB3, ConnC1, ConnC2, InR1A1, InR1A2}
 use Rattle.rh_sig.specs.declared.name.Name.TheVariants.{InR1A3, InR1A4, InR1A5, InR1A6, InR1B1}
-use Rattle.rh_sig.specs.declared.name.Name.TheVariants.{InR1B2}
+use Rattle.rh_sig.specs.declared.name.Name.TheVariants.{InR1B2, InR2A2, InR2A3, InR2A4}
 use Rattle.rh_sig.specs.declared.name.Name.TheVariants.{OutR1A1, OutR1A2, OutR1A3, OutR2C1, OutR1A4}
 use Rattle.rh_sig.specs.declared.name.Name.TheVariants.{OutR1A5, OutR1A6, OutR1A7, OutR1A8, OutR1A9}
 use Rattle.rh_sig.specs.declared.name.Name.TheVariants.{OutR1A10, EndA1, EndA2, EndB1, EndB2, Ack}
@@ -38,9 +39,9 @@ fits flags types told kinds = (flags == told) && bytes_eq types kinds
 unfoldable pub names : List Name
 names =
     ConnA1 ∷ ConnA2 ∷ ConnA3 ∷ ConnB1 ∷ ConnB2 ∷ ConnB3 ∷ ConnC1 ∷ ConnC2 ∷ InR1A1 ∷ InR1A2 ∷
-    InR1A3 ∷ InR1A4 ∷ InR1A5 ∷ InR1A6 ∷ InR1B1 ∷ InR1B2 ∷ OutR1A1 ∷ OutR1A2 ∷ OutR1A3 ∷ OutR2C1 ∷
-    OutR1A4 ∷ OutR1A5 ∷ OutR1A6 ∷ OutR1A7 ∷ OutR1A8 ∷ OutR1A9 ∷ OutR1A10 ∷ EndA1 ∷ EndA2 ∷ EndB1 ∷
-    EndB2 ∷ Ack ∷ AckTo ∷ KeepAlive ∷ PingTraffic ∷ Ping ∷ []
+    InR1A3 ∷ InR1A4 ∷ InR1A5 ∷ InR1A6 ∷ InR1B1 ∷ InR1B2 ∷ InR2A2 ∷ InR2A3 ∷ InR2A4 ∷ OutR1A1 ∷
+    OutR1A2 ∷ OutR1A3 ∷ OutR2C1 ∷ OutR1A4 ∷ OutR1A5 ∷ OutR1A6 ∷ OutR1A7 ∷ OutR1A8 ∷ OutR1A9 ∷
+    OutR1A10 ∷ EndA1 ∷ EndA2 ∷ EndB1 ∷ EndB2 ∷ Ack ∷ AckTo ∷ KeepAlive ∷ PingTraffic ∷ Ping ∷ []
 
 -- the first of the names whose row lists the pipe and has these flags and types
 abbrev pub found : List Name → Pipe → ℕ → List ℕ → Option Name

@@ -8,7 +8,7 @@ use Rattle.rh_sig.specs.declared.name.Name.{Name}
 use Rattle.rh_sig.specs.declared.name.Name.TheVariants.{ConnA1, ConnA2, ConnA3, ConnB1, ConnB2}
 use Rattle.rh_sig.specs.declared.name.Name.TheVariants.{ConnB3, ConnC1, ConnC2, InR1A1, InR1A2}
 use Rattle.rh_sig.specs.declared.name.Name.TheVariants.{InR1A3, InR1A4, InR1A5, InR1A6, InR1B1}
-use Rattle.rh_sig.specs.declared.name.Name.TheVariants.{InR1B2}
+use Rattle.rh_sig.specs.declared.name.Name.TheVariants.{InR1B2, InR2A2, InR2A3, InR2A4}
 use Rattle.rh_sig.specs.declared.name.Name.TheVariants.{OutR1A1, OutR1A2, OutR1A3, OutR2C1, OutR1A4}
 use Rattle.rh_sig.specs.declared.name.Name.TheVariants.{OutR1A5, OutR1A6, OutR1A7, OutR1A8, OutR1A9}
 use Rattle.rh_sig.specs.declared.name.Name.TheVariants.{OutR1A10, EndA1, EndA2, EndB1, EndB2, Ack}
@@ -19,9 +19,12 @@ use Rattle.rh_rts.specs.declared.command.Command.{Command}
 use Rattle.rh_rts.specs.declared.command.Command.TheVariants as commands
 use Rattle.rh_rts.specs.Commands.{kind_of}
 use Rattle.rh_rts.specs.Packets.{Parts}
-use Rattle.rh_rts.specs.declared.kinds.TheConstants.{VERSION, COOKIE, RECEIVE_WINDOW_SIZE, EMPTY, ANCE}
-use Rattle.rh_rts.specs.declared.kinds.TheConstants.{CONNECTION_TIMEOUT, CHANNEL_LIFETIME, DESTINATION}
-use Rattle.rh_rts.specs.declared.kinds.TheConstants.{CLIENT_KEEPALIVE, ASSOCIATION_GROUP_ID, CLIENT_ADDRESS}
+use Rattle.rh_rts.specs.declared.kinds.TheConstants.{VERSION, COOKIE, RECEIVE_WINDOW_SIZE, EMPTY}
+use Rattle.rh_rts.specs.declared.kinds.TheConstants.{ANCE}
+use Rattle.rh_rts.specs.declared.kinds.TheConstants.{CONNECTION_TIMEOUT, CHANNEL_LIFETIME}
+use Rattle.rh_rts.specs.declared.kinds.TheConstants.{DESTINATION}
+use Rattle.rh_rts.specs.declared.kinds.TheConstants.{CLIENT_KEEPALIVE, ASSOCIATION_GROUP_ID}
+use Rattle.rh_rts.specs.declared.kinds.TheConstants.{CLIENT_ADDRESS}
 use Rattle.rh_rts.specs.declared.kinds.TheConstants.{FLOW_CONTROL_ACK, PING_TRAFFIC_SENT_NOTIFY}
 use Rattle.rh_rts.specs.declared.packet.TheConstants.{PING, OTHER_CMD, RECYCLE_CHANNEL}
 use Rattle.rh_rts.specs.declared.packet.TheConstants.{IN_CHANNEL, OUT_CHANNEL, EOF}
@@ -79,6 +82,9 @@ row_of InR1A5 = row (CiU ∷ []) NONE (COOKIE ∷ [])
 row_of InR1A6 = row (IsU ∷ []) NONE (COOKIE ∷ [])
 row_of InR1B1 = row (IsD ∷ []) NONE (EMPTY ∷ [])
 row_of InR1B2 = row (IsD ∷ []) NONE (RECEIVE_WINDOW_SIZE ∷ [])
+row_of InR2A2 = row (IsU ∷ []) (IN_CHANNEL + RECYCLE_CHANNEL) (COOKIE ∷ [])
+row_of InR2A3 = row (OsD ∷ []) NONE (DESTINATION ∷ [])
+row_of InR2A4 = row (CoD ∷ []) NONE (DESTINATION ∷ [])
 row_of OutR1A1 = row (OsD ∷ []) RECYCLE_CHANNEL (DESTINATION ∷ [])
 row_of OutR1A2 = row (CoD ∷ []) RECYCLE_CHANNEL (DESTINATION ∷ [])
 row_of OutR1A3 =

@@ -1,5 +1,5 @@
--- the fields of commands, and the named packet that has them: for private contracts alone
-use Rattle.std.specs.Prelude.{ℕ, List, [], ◌∷◌, map, replicate}
+-- the fields of commands, and the named packet that has them
+use Rattle.std.specs.Prelude.{ℕ, zero, suc, List, [], ◌∷◌, map, replicate}
 use Rattle.rh_rts.specs.declared.command.Address4or16.{Address4or16}
 use Rattle.rh_rts.specs.declared.command.Address4or16.TheVariants.{V4}
 use Rattle.rh_rts.specs.declared.command.Cookie.{Cookie}
@@ -11,7 +11,7 @@ use Rattle.rh_sig.specs.declared.name.Name.{Name}
 use Rattle.rh_sig.specs.declared.name.Name.TheVariants.{ConnA1, ConnA2, ConnA3, ConnB1, ConnB2}
 use Rattle.rh_sig.specs.declared.name.Name.TheVariants.{ConnB3, ConnC1, ConnC2, InR1A1, InR1A2}
 use Rattle.rh_sig.specs.declared.name.Name.TheVariants.{InR1A3, InR1A4, InR1A5, InR1A6, InR1B1}
-use Rattle.rh_sig.specs.declared.name.Name.TheVariants.{InR1B2}
+use Rattle.rh_sig.specs.declared.name.Name.TheVariants.{InR1B2, InR2A2, InR2A3, InR2A4}
 use Rattle.rh_sig.specs.declared.name.Name.TheVariants.{OutR1A1, OutR1A2, OutR1A3, OutR2C1, OutR1A4}
 use Rattle.rh_sig.specs.declared.name.Name.TheVariants.{OutR1A5, OutR1A6, OutR1A7, OutR1A8, OutR1A9}
 use Rattle.rh_sig.specs.declared.name.Name.TheVariants.{OutR1A10, EndA1, EndA2, EndB1, EndB2, Ack}
@@ -64,84 +64,71 @@ abbrev pub rest : List Command → List Command
 rest [] = []
 rest (c ∷ cs) = cs
 
-abbrev pub second : List Command → Command
-second cs = first (rest cs)
+-- the command in that place, counted from 0, and its fields
+abbrev pub command_at : ℕ → List Command → Command
+command_at zero cs = first cs
+command_at (suc n) cs = command_at n (rest cs)
 
-abbrev pub third : List Command → Command
-third cs = second (rest cs)
+abbrev pub number_at : ℕ → List Command → ℕ
+number_at n cs = value_of (command_at n cs)
 
-abbrev pub fourth : List Command → Command
-fourth cs = third (rest cs)
-
-abbrev pub fifth : List Command → Command
-fifth cs = fourth (rest cs)
-
-abbrev pub sixth : List Command → Command
-sixth cs = fifth (rest cs)
-
-abbrev pub seventh : List Command → Command
-seventh cs = sixth (rest cs)
+abbrev pub cookie_at : ℕ → List Command → Cookie
+cookie_at n cs = cookie_of (command_at n cs)
 
 -- the named packet of that name, with the fields of these commands
 abbrev pub value : Name → List Command → Named
-value ConnA1 cs =
-    named.ConnA1 (value_of (first cs)) (cookie_of (second cs)) (cookie_of (third cs))
-    (value_of (fourth cs))
+value ConnA1 cs = named.ConnA1 (number_at 0 cs) (cookie_at 1 cs) (cookie_at 2 cs) (number_at 3 cs)
 value ConnA2 cs =
-    named.ConnA2 (value_of (first cs)) (cookie_of (second cs)) (cookie_of (third cs))
-    (value_of (fourth cs))
-    (value_of (fifth cs))
-value ConnA3 cs = named.ConnA3 (value_of (first cs))
+    named.ConnA2 (number_at 0 cs) (cookie_at 1 cs) (cookie_at 2 cs) (number_at 3 cs)
+    (number_at 4 cs)
+value ConnA3 cs = named.ConnA3 (number_at 0 cs)
 value ConnB1 cs =
-    named.ConnB1 (value_of (first cs)) (cookie_of (second cs)) (cookie_of (third cs))
-    (value_of (fourth cs))
-    (value_of (fifth cs)) (cookie_of (sixth cs))
+    named.ConnB1 (number_at 0 cs) (cookie_at 1 cs) (cookie_at 2 cs) (number_at 3 cs)
+    (number_at 4 cs) (cookie_at 5 cs)
 value ConnB2 cs =
-    named.ConnB2 (value_of (first cs)) (cookie_of (second cs)) (cookie_of (third cs))
-    (value_of (fourth cs))
-    (value_of (fifth cs)) (cookie_of (sixth cs)) (address_of (seventh cs)) (padding_of (seventh cs))
-value ConnB3 cs = named.ConnB3 (value_of (first cs)) (value_of (second cs))
-value ConnC1 cs = named.ConnC1 (value_of (first cs)) (value_of (second cs)) (value_of (third cs))
-value ConnC2 cs = named.ConnC2 (value_of (first cs)) (value_of (second cs)) (value_of (third cs))
-value InR1A1 cs =
-    named.InR1A1 (value_of (first cs)) (cookie_of (second cs)) (cookie_of (third cs))
-    (cookie_of (fourth cs))
+    named.ConnB2 (number_at 0 cs) (cookie_at 1 cs) (cookie_at 2 cs) (number_at 3 cs)
+    (number_at 4 cs) (cookie_at 5 cs) (address_of (command_at 6 cs)) (padding_of (command_at 6 cs))
+value ConnB3 cs = named.ConnB3 (number_at 0 cs) (number_at 1 cs)
+value ConnC1 cs = named.ConnC1 (number_at 0 cs) (number_at 1 cs) (number_at 2 cs)
+value ConnC2 cs = named.ConnC2 (number_at 0 cs) (number_at 1 cs) (number_at 2 cs)
+value InR1A1 cs = named.InR1A1 (number_at 0 cs) (cookie_at 1 cs) (cookie_at 2 cs) (cookie_at 3 cs)
 value InR1A2 cs =
-    named.InR1A2 (value_of (first cs)) (cookie_of (second cs)) (cookie_of (third cs))
-    (cookie_of (fourth cs)) (value_of (fifth cs)) (value_of (sixth cs))
-value InR1A3 cs =
-    named.InR1A3 (value_of (first cs)) (value_of (second cs)) (value_of (third cs))
-    (value_of (fourth cs))
-value InR1A4 cs =
-    named.InR1A4 (value_of (first cs)) (value_of (second cs)) (value_of (third cs))
-    (value_of (fourth cs))
-value InR1A5 cs = named.InR1A5 (cookie_of (first cs))
-value InR1A6 cs = named.InR1A6 (cookie_of (first cs))
+    named.InR1A2 (number_at 0 cs) (cookie_at 1 cs) (cookie_at 2 cs) (cookie_at 3 cs)
+    (number_at 4 cs) (number_at 5 cs)
+value InR1A3 cs = named.InR1A3 (number_at 0 cs) (number_at 1 cs) (number_at 2 cs) (number_at 3 cs)
+value InR1A4 cs = named.InR1A4 (number_at 0 cs) (number_at 1 cs) (number_at 2 cs) (number_at 3 cs)
+value InR1A5 cs = named.InR1A5 (cookie_at 0 cs)
+value InR1A6 cs = named.InR1A6 (cookie_at 0 cs)
 value InR1B1 cs = named.InR1B1
-value InR1B2 cs = named.InR1B2 (value_of (first cs))
-value OutR1A1 cs = named.OutR1A1 (value_of (first cs))
-value OutR1A2 cs = named.OutR1A2 (value_of (first cs))
+value InR1B2 cs = named.InR1B2 (number_at 0 cs)
+value InR2A2 cs = named.InR2A2 (cookie_at 0 cs)
+value InR2A3 cs = named.InR2A3 (number_at 0 cs)
+value InR2A4 cs = named.InR2A4 (number_at 0 cs)
+value OutR1A1 cs = named.OutR1A1 (number_at 0 cs)
+value OutR1A2 cs = named.OutR1A2 (number_at 0 cs)
 value OutR1A3 cs =
-    named.OutR1A3 (value_of (first cs)) (cookie_of (second cs)) (cookie_of (third cs))
-    (cookie_of (fourth cs)) (value_of (fifth cs))
+    named.OutR1A3 (number_at 0 cs) (cookie_at 1 cs) (cookie_at 2 cs) (cookie_at 3 cs)
+    (number_at 4 cs)
 value OutR2C1 cs = named.OutR2C1
 value OutR1A4 cs =
-    named.OutR1A4 (value_of (first cs)) (cookie_of (second cs)) (cookie_of (third cs))
-    (cookie_of (fourth cs)) (value_of (fifth cs)) (value_of (sixth cs)) (value_of (seventh cs))
-value OutR1A5 cs = named.OutR1A5 (value_of (first cs)) (value_of (second cs)) (value_of (third cs))
-value OutR1A6 cs = named.OutR1A6 (value_of (first cs)) (value_of (second cs)) (value_of (third cs))
-value OutR1A7 cs = named.OutR1A7 (value_of (first cs)) (cookie_of (second cs))
-value OutR1A8 cs = named.OutR1A8 (value_of (first cs)) (cookie_of (second cs))
+    named.OutR1A4 (number_at 0 cs) (cookie_at 1 cs) (cookie_at 2 cs) (cookie_at 3 cs)
+    (number_at 4 cs) (number_at 5 cs) (number_at 6 cs)
+value OutR1A5 cs = named.OutR1A5 (number_at 0 cs) (number_at 1 cs) (number_at 2 cs)
+value OutR1A6 cs = named.OutR1A6 (number_at 0 cs) (number_at 1 cs) (number_at 2 cs)
+value OutR1A7 cs = named.OutR1A7 (number_at 0 cs) (cookie_at 1 cs)
+value OutR1A8 cs = named.OutR1A8 (number_at 0 cs) (cookie_at 1 cs)
 value OutR1A9 cs = named.OutR1A9
 value OutR1A10 cs = named.OutR1A10
 value EndA1 cs = named.EndA1
 value EndA2 cs = named.EndA2
 value EndB1 cs = named.EndB1
 value EndB2 cs = named.EndB2
-value Ack cs = named.Ack (received_of (first cs)) (window_of (first cs)) (ack_cookie_of (first cs))
+value Ack cs =
+    named.Ack (received_of (command_at 0 cs)) (window_of (command_at 0 cs))
+    (ack_cookie_of (command_at 0 cs))
 value AckTo cs =
-    named.AckTo (value_of (first cs)) (received_of (second cs)) (window_of (second cs))
-    (ack_cookie_of (second cs))
-value KeepAlive cs = named.KeepAlive (value_of (first cs))
-value PingTraffic cs = named.PingTraffic (value_of (first cs))
+    named.AckTo (number_at 0 cs) (received_of (command_at 1 cs)) (window_of (command_at 1 cs))
+    (ack_cookie_of (command_at 1 cs))
+value KeepAlive cs = named.KeepAlive (number_at 0 cs)
+value PingTraffic cs = named.PingTraffic (number_at 0 cs)
 value Ping cs = named.Ping

@@ -5,7 +5,7 @@ use Rattle.rh_sig.specs.declared.name.Name.{Name}
 use Rattle.rh_sig.specs.declared.name.Name.TheVariants.{ConnA1, ConnA2, ConnA3, ConnB1, ConnB2}
 use Rattle.rh_sig.specs.declared.name.Name.TheVariants.{ConnB3, ConnC1, ConnC2, InR1A1, InR1A2}
 use Rattle.rh_sig.specs.declared.name.Name.TheVariants.{InR1A3, InR1A4, InR1A5, InR1A6, InR1B1}
-use Rattle.rh_sig.specs.declared.name.Name.TheVariants.{InR1B2}
+use Rattle.rh_sig.specs.declared.name.Name.TheVariants.{InR1B2, InR2A2, InR2A3, InR2A4}
 use Rattle.rh_sig.specs.declared.name.Name.TheVariants.{OutR1A1, OutR1A2, OutR1A3, OutR2C1, OutR1A4}
 use Rattle.rh_sig.specs.declared.name.Name.TheVariants.{OutR1A5, OutR1A6, OutR1A7, OutR1A8, OutR1A9}
 use Rattle.rh_sig.specs.declared.name.Name.TheVariants.{OutR1A10, EndA1, EndA2, EndB1, EndB2, Ack}
@@ -21,9 +21,11 @@ use Rattle.rh_rts.specs.Packets.{Parts}
 use Rattle.rh_sig.specs.declared.name.Pipe.{Pipe}
 use Rattle.rh_sig.specs.Names.{row_of, IsNamed, IsNameless, unpadded}
 use Rattle.rh_rts.specs.Commands.{kind_of}
-use Rattle.rh_sig.specs.declared.ranges.TheConstants.{LEAST_WINDOW, GREATEST_WINDOW, LEAST_TIMEOUT}
-use Rattle.rh_sig.specs.declared.ranges.TheConstants.{GREATEST_TIMEOUT, LEAST_LIFETIME, GREATEST_LIFETIME}
-use Rattle.rh_sig.specs.declared.ranges.TheConstants.{DEFAULT_KEEPALIVE, LEAST_KEEPALIVE, GREATEST_KEEPALIVE}
+use Rattle.rh_window.specs.Sides.{IsWindow}
+use Rattle.rh_sig.specs.declared.ranges.TheConstants.{LEAST_TIMEOUT, GREATEST_TIMEOUT}
+use Rattle.rh_sig.specs.declared.ranges.TheConstants.{LEAST_LIFETIME, GREATEST_LIFETIME}
+use Rattle.rh_sig.specs.declared.ranges.TheConstants.{DEFAULT_KEEPALIVE, LEAST_KEEPALIVE}
+use Rattle.rh_sig.specs.declared.ranges.TheConstants.{GREATEST_KEEPALIVE}
 use Rattle.rh_sig.specs.declared.ranges.TheConstants.{PROTOCOL_VERSION}
 
 -- the name of a named packet
@@ -45,6 +47,9 @@ name_of_named (named.InR1A5 successor) = InR1A5
 name_of_named (named.InR1A6 successor) = InR1A6
 name_of_named named.InR1B1 = InR1B1
 name_of_named (named.InR1B2 window) = InR1B2
+name_of_named (named.InR2A2 successor) = InR2A2
+name_of_named (named.InR2A3 destination) = InR2A3
+name_of_named (named.InR2A4 destination) = InR2A4
 name_of_named (named.OutR1A1 destination) = OutR1A1
 name_of_named (named.OutR1A2 destination) = OutR1A2
 name_of_named (named.OutR1A3 version connection predecessor successor window) = OutR1A3
@@ -109,6 +114,9 @@ commands_of (named.InR1A5 successor) = commands.Cookie successor ∷ []
 commands_of (named.InR1A6 successor) = commands.Cookie successor ∷ []
 commands_of named.InR1B1 = commands.Empty ∷ []
 commands_of (named.InR1B2 window) = commands.ReceiveWindowSize window ∷ []
+commands_of (named.InR2A2 successor) = commands.Cookie successor ∷ []
+commands_of (named.InR2A3 destination) = commands.Destination destination ∷ []
+commands_of (named.InR2A4 destination) = commands.Destination destination ∷ []
 commands_of (named.OutR1A1 destination) = commands.Destination destination ∷ []
 commands_of (named.OutR1A2 destination) = commands.Destination destination ∷ []
 commands_of (named.OutR1A3 version connection predecessor successor window) =
@@ -154,6 +162,8 @@ ReadsAs p pipe n = IsNamed p pipe (name_of_named n) × (commands_of n ≡ unpadd
 abbrev pub destination_of : Named → Option ℕ
 destination_of (named.InR1A3 destination version window timeout) = Some destination
 destination_of (named.InR1A4 destination version window timeout) = Some destination
+destination_of (named.InR2A3 destination) = Some destination
+destination_of (named.InR2A4 destination) = Some destination
 destination_of (named.OutR1A1 destination) = Some destination
 destination_of (named.OutR1A2 destination) = Some destination
 destination_of (named.OutR1A5 destination version timeout) = Some destination
@@ -182,10 +192,6 @@ ArePlain (c ∷ cs) = IsPlain c × ArePlain cs
 -- from the least to the greatest, both of them in range
 abbrev pub IsWithin : ℕ → ℕ → ℕ → Type 0
 IsWithin least greatest n = (least ≤ n) × (n ≤ greatest)
-
--- a receive window, in bytes
-abbrev pub IsWindow : ℕ → Type 0
-IsWindow n = IsWithin LEAST_WINDOW GREATEST_WINDOW n
 
 -- a connection timeout, in milliseconds
 abbrev pub IsTimeout : ℕ → Type 0

@@ -21,7 +21,8 @@ mod writing;
 
 pub use cookie::{COOKIE_TEXT_LEN, cookie_text};
 pub use fault::SigFault;
-pub use laws::one_name;
+pub use fields::number_of;
+pub use laws::{one_name, packets_are_named};
 pub use name::{Name, Pipe};
 pub use named::Named;
 pub use reading::{name_of, read_named};

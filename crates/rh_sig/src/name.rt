@@ -19,7 +19,8 @@ pub enum Pipe {
 /// The name of a packet, without stroke and underscore: `ConnA1` is CONN/A1.
 ///
 /// The names of opening, flow control and pings are of MS-RPCH 2.2.4; those of replacement
-/// (`InR1..`, `OutR..`) and of a clean end (`End..`) are (profile).
+/// (`InR1..` by another in proxy, `InR2..` by the same one, `OutR..`) and of a clean end (`End..`)
+/// are (profile).
 #[derive(Clone, Copy, Debug, PartialEq, Eq)]
 pub enum Name {
     ConnA1,
@@ -38,6 +39,9 @@ pub enum Name {
     InR1A6,
     InR1B1,
     InR1B2,
+    InR2A2,
+    InR2A3,
+    InR2A4,
     OutR1A1,
     OutR1A2,
     OutR1A3,

@@ -45,6 +45,12 @@ pub enum Named {
     InR1B1,
     /// Window of the server.
     InR1B2(u32),
+    /// Successor.
+    InR2A2(Cookie),
+    /// Destination.
+    InR2A3(u32),
+    /// Destination.
+    InR2A4(u32),
     /// Destination.
     OutR1A1(u32),
     /// Destination.
@@ -102,6 +108,8 @@ impl Named {
         match *self {
             Named::InR1A3(destination, ..)
             | Named::InR1A4(destination, ..)
+            | Named::InR2A3(destination)
+            | Named::InR2A4(destination)
             | Named::OutR1A1(destination)
             | Named::OutR1A2(destination)
             | Named::OutR1A5(destination, ..)

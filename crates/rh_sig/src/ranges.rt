@@ -1,18 +1,15 @@
-//! The values that commands may have here (profile).
+//! The values that commands may have here (profile). Those of receive windows are `rh_window`'s.
 
-ghost use Rattle.std.specs.Prelude.{◌≡◌, ◌↔◌, IsTrue, MatchOption};
+ghost use Rattle.std.specs.Prelude.{◌≡◌};
 ghost use Rattle.rh_rts.specs.Showing.{shown};
 ghost use Rattle.rh_sig.specs.Reading.{all_shown};
-ghost use Rattle.rh_sig.specs.Values.{IsWithin, IsInRange, AreInRange, IsOut};
+ghost use Rattle.rh_sig.specs.Naming.{is_within, is_in_range, first_out};
 
 use crate::fault::SigFault;
 use crate::fields::number_of;
 use rh_rts::CommandRef;
+use rh_window::{GREATEST_WINDOW, LEAST_WINDOW};
 
-/// The least receive window, in bytes.
-pub const LEAST_WINDOW: u32 = 8_192;
-/// The greatest receive window, in bytes.
-pub const GREATEST_WINDOW: u32 = 262_144;
 /// The least connection timeout, in milliseconds.
 pub const LEAST_TIMEOUT: u32 = 120_000;
 /// The greatest connection timeout, in milliseconds.
@@ -32,14 +29,14 @@ pub const PROTOCOL_VERSION: u32 = 1;
 
 /// Whether the number is one of those from the least to the greatest.
 fn is_within(least: u32, greatest: u32, number: u32) -> bool
-    ensures { IsTrue result ↔ IsWithin least greatest number }
+    ensures { result ≡ is_within least greatest number }
 {
     least <= number && number <= greatest
 }
 
 /// Whether the value of the command is in range.
-fn in_range(command: CommandRef<'_>) -> bool
-    ensures { IsTrue result ↔ IsInRange (shown command.entry) }
+fn is_in_range(command: CommandRef<'_>) -> bool
+    ensures { result ≡ is_in_range (shown command.entry) }
 {
     match command {
         CommandRef::ReceiveWindowSize(bytes) => is_within(LEAST_WINDOW, GREATEST_WINDOW, bytes),
@@ -55,11 +52,10 @@ fn in_range(command: CommandRef<'_>) -> bool
 
 /// The first command whose value is out of range.
 pub fn first_out_of_range(commands: &[CommandRef<'_>]) -> Option<SigFault>
-    ensures { MatchOption result (AreInRange (all_shown commands.now))
-        (λ fault. IsOut (all_shown commands.now) fault) }
+    ensures { result ≡ first_out (all_shown commands.now) }
 {
     for command in commands {
-        if !in_range(*command) {
+        if !is_in_range(*command) {
             return Some(SigFault::OutOfRange {
                 command: command.kind(),
                 value: number_of(*command),

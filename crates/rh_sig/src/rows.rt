@@ -7,7 +7,7 @@ pub const NONE: u16 = 0;
 /// it, its flags, and its commands with the fields that they have.
 ///
 /// The packets of opening, flow control and pings are those of MS-RPCH 2.2.4. Those of replacement
-/// (`InR1..`, `OutR..`) and of a clean end (`End..`) follow its pattern and are (profile).
+/// (`InR..`, `OutR..`) and of a clean end (`End..`) follow its pattern and are (profile).
 macro_rules! named_packets {
     ($rows:ident) => {
         $rows! {
@@ -46,6 +46,9 @@ macro_rules! named_packets {
             InR1A6(successor) on IsU is NONE [Cookie(successor)];
             InR1B1 on IsD is NONE [Empty];
             InR1B2(window) on IsD is NONE [ReceiveWindowSize(window)];
+            InR2A2(successor) on IsU is IN_CHANNEL | RECYCLE_CHANNEL [Cookie(successor)];
+            InR2A3(destination) on OsD is NONE [Destination(destination)];
+            InR2A4(destination) on CoD is NONE [Destination(destination)];
             OutR1A1(destination) on OsD is RECYCLE_CHANNEL [Destination(destination)];
             OutR1A2(destination) on CoD is RECYCLE_CHANNEL [Destination(destination)];
             OutR1A3(version, connection, predecessor, successor, window) on CoU is RECYCLE_CHANNEL

@@ -44,7 +44,7 @@ const ENDS: &[(Pipe, Name)] = &[
     (Pipe::CoD, Name::EndB2),
 ];
 
-const CASES: [Case; 37] = [
+const CASES: [Case; 40] = [
     (
         Named::ConnA1(1, A, B, 8_192),
         76,
@@ -110,6 +110,17 @@ const CASES: [Case; 37] = [
     ),
     (Named::InR1B1, 24, &[(Pipe::IsD, Name::InR1B1)]),
     (Named::InR1B2(8_201), 28, &[(Pipe::IsD, Name::InR1B2)]),
+    (Named::InR2A2(C), 40, &[(Pipe::IsU, Name::InR2A2)]),
+    (
+        Named::InR2A3(0),
+        28,
+        &[(Pipe::OsD, Name::InR2A3), (Pipe::CoD, Name::InR2A4)],
+    ),
+    (
+        Named::InR2A4(1),
+        28,
+        &[(Pipe::OsD, Name::InR2A3), (Pipe::CoD, Name::InR2A4)],
+    ),
     (
         Named::OutR1A1(2),
         28,

@@ -5,7 +5,7 @@ use crate::{Named, Pipe, SigFault, name_of, read_named};
 use rh_rts::view;
 
 // A packet, a pipe that carries it, and the type and value of its first command out of range.
-const VALUES: [(Named, Pipe, Option<(u32, u32)>); 29] = [
+const VALUES: [(Named, Pipe, Option<(u32, u32)>); 30] = [
     (Named::InR1B2(8_191), Pipe::IsD, Some((0, 8_191))),
     (Named::InR1B2(8_192), Pipe::IsD, None),
     (Named::InR1B2(262_144), Pipe::IsD, None),
@@ -57,6 +57,7 @@ const VALUES: [(Named, Pipe, Option<(u32, u32)>); 29] = [
     (Named::PingTraffic(0), Pipe::OsU, None),
     (Named::PingTraffic(4_294_967_295), Pipe::OsU, None),
     (Named::OutR1A1(3), Pipe::OsD, None),
+    (Named::InR2A4(3), Pipe::CoD, None),
 ];
 
 // Whether the packet is refused on this pipe for this value, or else is read.

@@ -1,6 +1,6 @@
 //! Packets as they are written.
 
-use crate::tests::{CASES, Case, written};
+use crate::tests::{A, CASES, Case, written};
 use crate::{Named, write_named};
 use rh_rts::{Cookie, NoRoom};
 use rh_vectors::packets::{ACK_TO_SERVER, CONN_A1};
@@ -42,4 +42,42 @@ fn is_spelled(named: Named, bytes: &[u8]) -> bool {
 fn bytes_by_hand_are_those_that_are_written(rt: HostRuntime) {
     assert!(rt; is_spelled(Named::ConnA1(1, cookie(1), cookie(3), 65_536), &CONN_A1));
     assert!(rt; is_spelled(Named::AckTo(2, 32_768, 65_536, cookie(9)), &ACK_TO_SERVER));
+}
+
+// The second form of inbound replacement by hand: a packet's length, flags and commands.
+const SECOND_FORM: [(Named, &[u8]); 3] = [
+    (
+        Named::InR2A2(A),
+        &[
+            5, 0, 20, 3, 16, 0, 0, 0, 40, 0, 0, 0, 0, 0, 0, 0, 12, 0, 1, 0, 3, 0, 0, 0, 1, 1, 1, 1,
+            1, 1, 1, 1, 1, 1, 1, 1, 1, 1, 1, 1,
+        ],
+    ),
+    (
+        Named::InR2A3(0),
+        &[
+            5, 0, 20, 3, 16, 0, 0, 0, 28, 0, 0, 0, 0, 0, 0, 0, 0, 0, 1, 0, 13, 0, 0, 0, 0, 0, 0, 0,
+        ],
+    ),
+    (
+        Named::InR2A4(3),
+        &[
+            5, 0, 20, 3, 16, 0, 0, 0, 28, 0, 0, 0, 0, 0, 0, 0, 0, 0, 1, 0, 13, 0, 0, 0, 3, 0, 0, 0,
+        ],
+    ),
+];
+
+#[test]
+fn the_second_form_of_inbound_replacement_is_written_as_by_hand(rt: HostRuntime) {
+    for (named, bytes) in SECOND_FORM {
+        assert!(rt; is_spelled(named, bytes), "{:?}", named);
+    }
+}
+
+#[test]
+fn a_destination_above_the_greatest_may_not_be_written(rt: HostRuntime) {
+    assert!(rt; !Named::InR2A3(4).may_be_written());
+    assert!(rt; !Named::InR2A4(4_294_967_295).may_be_written());
+    assert!(rt; !Named::AckTo(4, 0, 0, cookie(9)).may_be_written());
+    assert!(rt; Named::InR2A4(3).may_be_written());
 }
