@@ -22,6 +22,10 @@ joined_more pieces i d below =
     ap joined (take_more pieces i d below) ∙ joined-append (take i pieces) (last ∷ [])
     ∙ ap (λ (t : List ℕ). joined (take i pieces) ++ t) (append-nil last.now)
 
+-- what stands for a piece where there is none
+abbrev pub nothing : Bor (List ℕ)
+nothing = record { ref_ptr = (0, 0); now = [] }
+
 -- the pieces so far and the next one are no longer than all
 pub joined_fits : (pieces : List (Bor (List ℕ))) (i : ℕ) (d : Bor (List ℕ)) → i < length pieces
     → length (joined (take i pieces)) + length (get_or pieces i d).now ≤ length (joined pieces)

@@ -1,12 +1,11 @@
 -- digits, and the numbers that they spell
-use Rattle.std.proofs.Common.{◌≡◌, ◌≢◌, ℕ, ◌+◌, ◌-◌, ◌*◌, ◌<◌, ◌≤◌, ◌^◌, true, List, length, take, get_or, sym, ◌∙◌, ap, subst, arith}
-use Rattle.std.specs.Fmt.{decimal}
+use Rattle.std.proofs.Common.{◌≡◌, ℕ, ◌+◌, ◌-◌, ◌*◌, ◌<◌, ◌≤◌, true, List, length, take, get_or, sym, ◌∙◌, ap, subst, arith}
 use Rattle.std.specs.Int.{IsInRange}
 use Rattle.std.specs.Char.{digit_value}
 use Rattle.std.specs.Str.{all_ascii_digits}
 use Rattle.std.specs.Str.Parse.{digits_value, AllDigits}
 use Rattle.std.proofs.lemmas.Bool.Decides.{nat_tests}
-use Rattle.std.proofs.lemmas.Fmt.{decimal-digits_value, digits_decimal, digits_value-decimal, decimal_nonempty, first_decimal, length-decimal-le}
+use Rattle.std.proofs.lemmas.Fmt.{decimal_injective}
 use Rattle.std.proofs.lemmas.Int.Digits.{digits_value_more, digits_more}
 use Rattle.std.proofs.lemmas.List.{length-take-le, take_all}
 use Rattle.std.proofs.lemmas.Str.Parse.{IsNumeralModel, numerals_by_value, tells_all_ascii_digits, digits_value_short, digit_at}
@@ -38,10 +37,10 @@ value_of_digit : (c : ℕ) → IsInRange 48 57 c → digit_value c ≡ c - 48
 value_of_digit c (low, high) = grind (arith, nat_tests)
 
 -- past one more digit
-pub read_more : (text : List ℕ) (i n digit : ℕ) → i < length text → Read text i n
-    → IsInRange 48 57 (get_or text i 0) → digit ≡ get_or text i 0 - 48
-    → Read text (i + 1) (n * 10 + digit)
-read_more text i n digit below h range is =
+pub read_more : (text : List ℕ) (i n next : ℕ) → i < length text → Read text i n
+    → IsInRange 48 57 (get_or text i 0) → next ≡ n * 10 + (get_or text i 0 - 48)
+    → Read text (i + 1) next
+read_more text i n next below h range is =
     let value = value_of_digit (get_or text i 0) range in
     record {
       digits = digits_more 10 text i below h.digits (omega (arith, value, range.1));
@@ -71,34 +70,7 @@ each_digit text n i h below = digit_at text i (own.to text h.digits) below
 pub one_length : (text : List ℕ) (m n : ℕ) → IsLengthText text m → IsLengthText text n → m ≡ n
 one_length text m n h k = h.value ∙ sym k.value
 
--- ---- ports
-
--- the text of a port spells its number, and begins with another digit than 0
-pub port_shape : (text : List ℕ) (port : ℕ) → IsPortText text port
-    → IsLengthText text port × (get_or text 0 0 ≢ 48)
-port_shape text port h =
-    let small : port < 2 ^ 64 = omega (arith, h.high) in
-    let lead = first_decimal port h.low small in
-    let few : length (decimal port) ≤ 5 =
-    length-decimal-le 5 port (omega arith) (omega (arith, h.high)) small in
-    let made : IsLengthText (decimal port) port = record {
-      some = decimal_nonempty port small;
-      most = omega (arith, few);
-      digits = digits_decimal own port small;
-      value = sym (digits_value-decimal own port small);
-    } in
-    let P : List ℕ → Type 0 = λ ds. IsLengthText ds port × (get_or ds 0 0 ≢ 48) in
-    subst P (sym h.digits) (made, λ e. absurd (omega (arith, e, lead)))
-
--- and a text of these is that of the port
-pub port_made : (text : List ℕ) (port : ℕ) → IsLengthText text port → get_or text 0 0 ≢ 48
-    → 1 ≤ port → port ≤ 65535
-    → IsPortText text port
-port_made text port h first low high =
-    let written : decimal port ≡ text =
-    ap decimal h.value
-    ∙ decimal-digits_value own text h.digits h.some (λ e. absurd (first e)) (omega (
-      arith,
-      h.value,
-    )) in
-    record { digits = sym written; low = low; high = high }
+-- the text of a port spells one number
+pub one_port : (text : List ℕ) (m n : ℕ) → IsPortText text m → IsPortText text n → m ≡ n
+one_port text m n h k =
+    decimal_injective m n (omega (arith, h.most)) (omega (arith, k.most)) (sym h.digits ∙ k.digits)

@@ -216,34 +216,37 @@ module _ {T : Type 0} (judges : List ℕ → Result T HttpFault → Type 0)
   same_verdict bytes m n a b e h k =
       let P : ℕ → Type 0 = λ i. judges (take i bytes) a in one (take n bytes) a b (subst P e h) k
 
+  -- bytes that are to be followed by more are no fault
+  open_no_fault : (bytes : List ℕ) (place : ℕ) (fault : HttpFault) → IsAnswer judges bytes Need
+      → IsAnswer judges bytes (Fault place fault) → ⊥
+  open_no_fault bytes place fault h k =
+      ⊎_elim (λ over. omega (arith, h.1, over.3)) (λ head. h.0 place head.0.ends)
+      (fault_view judges bytes place fault k)
+
+  -- and a head is none
+  head_no_fault : (bytes : List ℕ) (value : T) (len place : ℕ) (fault : HttpFault)
+      → IsAnswer judges bytes (Head value len) → IsAnswer judges bytes (Fault place fault) → ⊥
+  head_no_fault bytes value len place fault h k =
+      ⊎_elim (λ over. over.2 len h.0.ends)
+      (λ head.
+      let ends = same_end (take greatest_head bytes) len place h.0 head.0 in
+      cc (same_verdict bytes len place (Ok value) (Err fault) ends h.1 head.1))
+      (fault_view judges bytes place fault k)
+
   -- bytes have one answer, where a text has one verdict
   pub one_answer : (bytes : List ℕ) (a b : Got T) → IsAnswer judges bytes a
       → IsAnswer judges bytes b → a ≡ b
   one_answer bytes Need Need h k = refl
   one_answer bytes Need (Head w n) h k = absurd (h.0 n k.0.ends)
-  one_answer bytes Need (Fault q g) h k =
-      ⊎_elim (λ over. absurd (omega (arith, h.1, over.3))) (λ head. absurd (h.0 q head.0.ends))
-      (fault_view judges bytes q g k)
+  one_answer bytes Need (Fault q g) h k = absurd (open_no_fault bytes q g h k)
   one_answer bytes (Head v m) Need h k = absurd (k.0 m h.0.ends)
   one_answer bytes (Head v m) (Head w n) h k =
       let ends = same_end (take greatest_head bytes) m n h.0 k.0 in
       let verdicts = same_verdict bytes m n (Ok v) (Ok w) ends h.1 k.1 in
       let values : v ≡ w = cc in cc
-  one_answer bytes (Head v m) (Fault q g) h k =
-      ⊎_elim (λ over. absurd (over.2 m h.0.ends))
-      (λ head. absurd
-      (cc (same_verdict bytes m q (Ok v) (Err g)
-      (same_end (take greatest_head bytes) m q h.0 head.0) h.1 head.1)))
-      (fault_view judges bytes q g k)
-  one_answer bytes (Fault p f) Need h k =
-      ⊎_elim (λ over. absurd (omega (arith, k.1, over.3))) (λ head. absurd (k.0 p head.0.ends))
-      (fault_view judges bytes p f h)
-  one_answer bytes (Fault p f) (Head w n) h k =
-      ⊎_elim (λ over. absurd (over.2 n k.0.ends))
-      (λ head. absurd
-      (cc (same_verdict bytes p n (Err f) (Ok w)
-      (same_end (take greatest_head bytes) p n head.0 k.0) head.1 k.1)))
-      (fault_view judges bytes p f h)
+  one_answer bytes (Head v m) (Fault q g) h k = absurd (head_no_fault bytes v m q g h k)
+  one_answer bytes (Fault p f) Need h k = absurd (open_no_fault bytes p f k h)
+  one_answer bytes (Fault p f) (Head w n) h k = absurd (head_no_fault bytes w n p f k h)
   one_answer bytes (Fault p f) (Fault q g) h k =
       ⊎_elim
       (λ over. ⊎_elim

@@ -9,7 +9,7 @@ use Rattle.rh_http.specs.Hosts.{IsHost, is_host_byte}
 use Rattle.rh_http.specs.Numbers.{IsPortText}
 use Rattle.rh_http.specs.declared.host.Host.{Host}
 use Rattle.rh_http.specs.Requests.{path_of, host_text, IsServer, IsTarget, HasTarget}
-use Rattle.rh_http.proofs.NumberLemmas.{one_length, port_shape}
+use Rattle.rh_http.proofs.NumberLemmas.{one_port}
 use Rattle.rh_http.proofs.Splits.{before_front}
 
 -- a host has no byte that may not stand there
@@ -77,8 +77,5 @@ pub same_server : (query a b : List ℕ) (m n : ℕ) → IsServer query a m → 
     × (m ≡ n)
 same_server query a b m n h k =
     let before : before_first (λ c. c == 58) query ≡ a = host_before query a m h in
-    let other = port_behind query a h.digits b n k before h.joined in (
-      other.0,
-      one_length h.digits m n (port_shape h.digits m h.is_port).0
-          (port_shape h.digits n other.1).0,
-    )
+    let other = port_behind query a h.digits b n k before h.joined in
+    (other.0, one_port h.digits m n h.is_port other.1)

@@ -314,7 +314,7 @@ request_read inbound config n low high asks rest =
     let port_text = decimal_length config.port (omega (arith, high)) in
     let s : Sent inbound host port proxy digits config.port n = record {
       host_ok = config.host.kept.text;
-      port_ok = record { digits = refl; low = low; high = omega (arith, high) };
+      port_ok = record { digits = refl; least = low; most = omega (arith, high) };
       port_seen = port_text.1;
       proxy_ok = config.proxy_host.kept.text;
       length_ok = length_text.0;

@@ -9,3 +9,4 @@ pub mod Reading
 pub mod Extents
 pub mod Refusals
 pub mod Texts
+pub mod Names

@@ -1,8 +1,8 @@
 -- the numbers of a head
 use Rattle.std.specs.Prelude.{◌≡◌, ◌≤◌, ℕ, List, true, length}
-use Rattle.std.specs.Fmt.{decimal}
 use Rattle.std.specs.Str.{all_ascii_digits}
 use Rattle.std.specs.Str.Parse.{digits_value}
+use Rattle.rh_text.specs.Numbers.{IsNumber}
 
 -- 1 to 10 digits, and the number that they spell; zeros may lead it
 pub record IsLengthText (text : List ℕ) (n : ℕ) : Type 0 where
@@ -12,7 +12,5 @@ pub record IsLengthText (text : List ℕ) (n : ℕ) : Type 0 where
   pub value : n ≡ digits_value 10 text
 
 -- 1 to 65,535 in decimal, with no leading zero
-pub record IsPortText (text : List ℕ) (port : ℕ) : Type 0 where
-  pub digits : text ≡ decimal port
-  pub low : 1 ≤ port
-  pub high : port ≤ 65535
+abbrev pub IsPortText : List ℕ → ℕ → Type 0
+IsPortText text port = IsNumber 1 65535 text port

@@ -22,3 +22,8 @@ IsAnswer judges bytes (Fault place TooLong) =
     (place ≡ greatest_head) × IsOpen (take greatest_head bytes) × (greatest_head ≤ length bytes)
 IsAnswer judges bytes (Fault place fault) =
     FirstEnd (take greatest_head bytes) place × judges (take place bytes) (Err fault)
+
+-- no other answer is one
+abbrev pub IsAlone : {T : Type 0} → (List ℕ → Result T HttpFault → Type 0) → List ℕ → Got T
+    → Type 0
+IsAlone {T} judges bytes got = (other : Got T) → IsAnswer judges bytes other → other ≡ got

@@ -8,6 +8,7 @@ pub mod fault;
 pub mod got;
 pub mod host;
 mod lengths;
+mod names;
 mod numbers;
 mod pieces;
 mod reading;

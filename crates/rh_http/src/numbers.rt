@@ -1,12 +1,26 @@
 //! The numbers of a head.
 
-ghost use Rattle.std.specs.Prelude.{ℕ, MatchOption};
+ghost use Rattle.std.specs.Prelude.{◌≡◌, ◌+◌, ◌-◌, ◌*◌, ◌<◌, ℕ, MatchOption};
+ghost use Rattle.std.specs.Int.{IsInRange};
 ghost use Rattle.rh_http.specs.Numbers.{IsLengthText, IsPortText};
+
+use rh_text::read_number;
 
 /// The most digits of a length.
 const MOST_DIGITS: usize = 10;
-/// The greatest port.
+/// The least and the greatest port.
+const LEAST_PORT: u64 = 1;
+
 const GREATEST_PORT: u64 = 65_535;
+
+/// The number with one more digit behind its own.
+fn with_digit(number: u64, digit: u8) -> u64
+    requires number { number < 1000000000 }
+    requires digit { IsInRange 48 57 digit }
+    ensures { result ≡ number * 10 + (digit - 48) }
+{
+    number * 10 + u64::from(digit - b'0')
+}
 
 /// The number that 1 to 10 digits spell; zeros may lead it.
 pub fn read_length(text: &[u8]) -> Option<u64>
@@ -22,7 +36,7 @@ pub fn read_length(text: &[u8]) -> Option<u64>
         if !digit.is_ascii_digit() {
             return None;
         }
-        number = number * 10 + u64::from(digit - b'0');
+        number = with_digit(number, digit);
     }
     Some(number)
 }
@@ -31,13 +45,6 @@ pub fn read_length(text: &[u8]) -> Option<u64>
 pub fn read_port(text: &[u8]) -> Option<u16>
     ensures { MatchOption result ((n : ℕ) → ¬ IsPortText text.now n) (λ n. IsPortText text.now n) }
 {
-    let number = read_length(text)?;
-    if text[0] == b'0' {
-        return None;
-    }
-    if number >= 1 && number <= GREATEST_PORT {
-        Some(number as u16)
-    } else {
-        None
-    }
+    let port = read_number(text, LEAST_PORT, GREATEST_PORT)?;
+    Some(port as u16)
 }

@@ -19,13 +19,16 @@ fn length_of(pieces: &[&[u8]]) -> usize
     length
 }
 
-/// Writes a piece from this place on.
+/// Writes a piece from this place on, and answers where it ends.
 #[tactic(auto, unfolding(rh_rts::specs::Writing::over))]
-fn put(room: &mut [u8], at: usize, piece: &[u8])
+fn put(room: &mut [u8], at: usize, piece: &[u8]) -> usize
     requires { at + length piece.now ≤ length room.old }
-    ensures { room.new ≡ over room.old at piece.now }
+    ensures room { room.new ≡ over room.old at piece.now }
+    ensures end { result ≡ at + length piece.now }
 {
-    room[at..at + piece.len()].copy_from_slice(piece);
+    let end = at + piece.len();
+    room[at..end].copy_from_slice(piece);
+    end
 }
 
 /// Writes the pieces, one behind the other, at the front.
@@ -35,8 +38,7 @@ fn put_all(pieces: &[&[u8]], room: &mut [u8])
 {
     let mut at = 0;
     for piece in pieces {
-        put(room, at, piece);
-        at += piece.len();
+        at = put(room, at, piece);
     }
 }
 

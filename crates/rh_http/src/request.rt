@@ -3,15 +3,13 @@
 ghost use Rattle.std.specs.Prelude.{◌≡◌, ◌≤◌, ℕ, List, All, length, map};
 ghost use Rattle.httparse.specs.Spans.{IsHeaderWithin, IsWithin, header_bytes, span_bytes};
 ghost use Rattle.rh_http.specs.Requests.{method_of, Passes, JudgesRequest};
-ghost use Rattle.rh_http.specs.declared.got.Got.{Got};
-ghost use Rattle.rh_http.specs.declared.request.Request.{Request};
-ghost use Rattle.rh_http.specs.Reading.{IsAnswer};
+ghost use Rattle.rh_http.specs.Reading.{IsAnswer, IsAlone};
 
 use crate::fault::HttpFault;
-use crate::got::{Extent, GREATEST_FIELDS, GREATEST_HEAD, Got};
+use crate::got::{GREATEST_FIELDS, Got};
 use crate::host::Host;
 use crate::lengths::request_length;
-use crate::reading::extent_of;
+use crate::reading::{Judge, answer};
 use crate::target::{has_path, read_target};
 use httparse::Status;
 use httparse::spans::{EMPTY_HEADER_SPAN, HeaderSpan, RequestSpans, parse_request};
@@ -71,17 +69,26 @@ fn judge_parts(
     Ok(Request { host, port, length })
 }
 
-/// Judges the bytes up to and with a blank line.
-fn judge_request(head: &[u8], inbound: bool) -> Result<Request, HttpFault>
-    ensures { JudgesRequest inbound head.now result }
-{
-    let mut headers = [EMPTY_HEADER_SPAN; GREATEST_FIELDS];
-    match parse_request(head, &mut headers) {
-        Ok(Status::Complete(spans)) if spans.len == head.len() => {
-            let (fields, _) = headers.split_at(spans.headers);
-            judge_parts(head, &spans, fields, inbound)
+/// Judges requests for IN channels (true), or for OUT channels.
+#[derive(Drop)]
+struct Requests {
+    inbound: bool,
+}
+
+impl Judge for Requests {
+    type Head = Request;
+
+    ghost judges = { λ requests text result. JudgesRequest requests.inbound text result };
+
+    fn judge(&self, text: &[u8]) -> Result<Request, HttpFault> {
+        let mut headers = [EMPTY_HEADER_SPAN; GREATEST_FIELDS];
+        match parse_request(text, &mut headers) {
+            Ok(Status::Complete(spans)) if spans.len == text.len() => {
+                let (fields, _) = headers.split_at(spans.headers);
+                judge_parts(text, &spans, fields, self.inbound)
+            }
+            _ => Err(HttpFault::Syntax),
         }
-        _ => Err(HttpFault::Syntax),
     }
 }
 
@@ -92,31 +99,7 @@ fn judge_request(head: &[u8], inbound: bool) -> Result<Request, HttpFault>
 /// and its length. Where bytes come in pieces, `HeadEnd` tells when to call this.
 pub fn read_request(bytes: &[u8], inbound: bool) -> Got<Request>
     ensures answer { IsAnswer (JudgesRequest inbound) bytes.now result }
-    ensures alone { (other : Got Request)
-        → IsAnswer (JudgesRequest inbound) bytes.now other → other ≡ result }
+    ensures alone { IsAlone (JudgesRequest inbound) bytes.now result }
 {
-    answer_request(bytes, inbound)
-}
-
-/// Finds the end of the head and judges it, from which the law of `read_request` follows.
-fn answer_request(bytes: &[u8], inbound: bool) -> Got<Request>
-    ensures { IsAnswer (JudgesRequest inbound) bytes.now result }
-{
-    match extent_of(bytes) {
-        Extent::Open => Got::Need,
-        Extent::Over => Got::Fault {
-            place: GREATEST_HEAD as u32,
-            fault: HttpFault::TooLong,
-        },
-        Extent::Ends(len) => {
-            let (head, _) = bytes.split_at(len);
-            match judge_request(head, inbound) {
-                Ok(value) => Got::Head { value, len },
-                Err(fault) => Got::Fault {
-                    place: len as u32,
-                    fault,
-                },
-            }
-        }
-    }
+    answer(&Requests { inbound }, bytes)
 }

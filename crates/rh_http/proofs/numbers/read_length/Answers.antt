@@ -16,30 +16,17 @@ returns-then-not-is_ascii_digit c = λ n h.
       c.if-not-is_ascii_digit.true,
     )
 
-pub overflow_mul-number : goal.overflow_mul-number
-overflow_mul-number c =
-    omega (
-      arith,
-      read_below c.args.text.now c.loop-place.place c.loop-place.number c.loop-place-test.true
-          c.if-text-gt-MOST_DIGITS.false c.loop-place.invariant,
-    )
-
-pub overflow_add-number : goal.overflow_add-number
-overflow_add-number c =
-    omega (
-      arith,
-      read_below c.args.text.now c.loop-place.place c.loop-place.number c.loop-place-test.true
-          c.if-text-gt-MOST_DIGITS.false c.loop-place.invariant,
-      c.type_inv.text c.loop-place.place,
-    )
+pub with_digit-number-requires-clause-number : goal.with_digit-number-requires-clause-number
+with_digit-number-requires-clause-number c =
+    read_below c.args.text.now c.loop-place.place c.loop-place.number c.loop-place-test.true
+    c.if-text-gt-MOST_DIGITS.false c.loop-place.invariant
 
 pub loop-place-preserved : goal.loop-place-preserved
 loop-place-preserved c =
     let digit : IsInRange 48 57 (get_or c.args.text.now c.loop-place.place 0) =
     grind (arith, nat_tests, c.is_ascii_digit.ensures.value, c.if-not-is_ascii_digit.false) in
-    read_more c.args.text.now c.loop-place.place c.loop-place.number c.from.result
-    c.loop-place-test.true
-    c.loop-place.invariant digit c.from.ensures
+    read_more c.args.text.now c.loop-place.place c.loop-place.number c.with_digit-number.result
+    c.loop-place-test.true c.loop-place.invariant digit c.with_digit-number.ensures
 
 pub returns : goal.returns
 returns c =
