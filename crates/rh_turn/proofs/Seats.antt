@@ -207,6 +207,13 @@ module _ {S E : Type 0} (next : S → E → S) (first : S) (seats : ℕ) where
       × Kept next first seats (stepped s i n id carried w act)
       × tells (w, carried_after carried act)
 
+  -- what a step tells may be told otherwise
+  pub retold : (s : State (Option S) (View E)) (i n id : ℕ) (carried : List (ℕ × Option S))
+      (tells other : Mine S E → Type 0) → ((r : Mine S E) → tells r → other r)
+      → Goes s i n id carried tells → Goes s i n id carried other
+  retold s i n id carried tells other means gone =
+      (gone.0, gone.1, gone.2, gone.3, means (gone.0, carried_after carried gone.1) gone.4)
+
   -- a step of a seat at a stage is allowed if it goes from each account
   pub allows : (slots id : ℕ) (stage : Stage E) (me : Mine S E) → me.0.stage ≡ stage
       → (i : ℕ) (f : ℕ → ℕ) (tells : Mine S E → ℕ → Mine S E → Type 0)

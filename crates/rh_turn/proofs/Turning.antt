@@ -6,7 +6,7 @@ use Rattle.std.proofs.lemmas.Bool.Decides.{nat_tests}
 use mathlib.Core.Option.{some, none}
 use lib.ListN.{get_elem?}
 use prog.Atomic.{either}
-use Rattle.atomic_table.specs.Table.{State, carried_after, keeps, takes, gives, step, Allows}
+use Rattle.atomic_table.specs.Table.{State, keeps, takes, gives, step, Allows}
 use Rattle.rh_turn.specs.declared.view.View.{View}
 use Rattle.rh_turn.specs.declared.view.Stage.TheVariants.{Idle, Waiting, Holding, Entered}
 use Rattle.rh_turn.specs.History.{state_after, times, one_if}
@@ -14,7 +14,7 @@ use Rattle.rh_turn.specs.Rule.{Account, ticket, turn, place, parts, slot_of, Kep
 use Rattle.rh_turn.specs.Steps.{Mine, waiting, holding, entered, idle, TakesTurn, Draws, Looks, Enters, Raises}
 use Rattle.rh_turn.proofs.Beginnings.{begins_itself, begins_shorter}
 use Rattle.rh_turn.proofs.Sums.{one_here, below_more, times_push}
-use Rattle.rh_turn.proofs.Seats.{restaged, fitting, keeping, table_of, Sits, fits_here, others_same, seats_set, reseated, served_is_drawn, none_holds, holds_it, slot_is_out, others_later, own, Goes, allows}
+use Rattle.rh_turn.proofs.Seats.{restaged, fitting, keeping, table_of, Sits, fits_here, others_same, seats_set, reseated, served_is_drawn, none_holds, holds_it, slot_is_out, others_later, own, Goes, retold, allows}
 
 -- a place just behind places below n
 within_push : (n k : ℕ) (mine : List ℕ) → (0 < times k mine → k < n)
@@ -168,16 +168,11 @@ module _ {S E : Type 0} (next : S → E → S) (first : S) (seats : ℕ) where
         | false ↦ λ miss.
             (m.0, keeps, tt, (a, reseated sits m.0 (λ d. refl) (fits_here sits)), refl)
       ] refl in
-      let r : Mine S E = (gone.0, carried_after me.1 gone.1) in (
-        gone.0,
-        gone.1,
-        gone.2,
-        gone.3,
-        λ other is.
-            let same : first ≡ other = cc (named_is, is) in
-            let hit = a.serving == me.0.ticket in
-            subst (λ f. MatchBool hit (TakesTurn next f m r) (r ≡ m)) same gone.4,
-      ))
+      let tells : S → Mine S E → Type 0 =
+      λ f r. MatchBool (a.serving == me.0.ticket) (TakesTurn next f m r) (r ≡ m) in
+      retold next first seats (table_of s a) 1 a.serving id me.1 (tells first)
+      (Looks next named (step slots 1 0 0 none) m a.serving)
+      (λ r told other is. subst (λ f. tells f r) (cc (named_is, is)) told) gone)
 
   pub enter_allows : (slots id : ℕ) (me : Mine S E) (named : Option E) (event : E)
       → named ≡ Some event → me.0.stage ≡ Holding → 0 < me.0.parts
@@ -186,16 +181,11 @@ module _ {S E : Type 0} (next : S → E → S) (first : S) (seats : ℕ) where
   enter_allows slots id me named event named_is holds some_part =
       allows next first seats slots id Holding me holds 2 (λ n. (n + 1) % 2 ^ 64)
       (Enters named (step slots 2 1 0 none)) (λ s a sits.
-      let gone = enter me.0 me.1 some_part event sits in
-      let r : Mine S E = (gone.0, carried_after me.1 gone.1) in (
-        gone.0,
-        gone.1,
-        gone.2,
-        gone.3,
-        λ other is.
-            let same : event ≡ other = cc (named_is, is) in
-            subst (λ e. r ≡ (entered me.0 e, me.1)) same gone.4,
-      ))
+      let tells : E → Mine S E → Type 0 = λ e r. r ≡ (entered me.0 e, me.1) in
+      retold next first seats (table_of s a) 2 ((length a.log + 1) % 2 ^ 64) id me.1 (tells event)
+      (Enters named (step slots 2 1 0 none) (record me.0 { stage = Holding }, me.1) (length a.log))
+      (λ r told other is. subst (λ e. tells e r) (cc (named_is, is)) told)
+      (enter me.0 me.1 some_part event sits))
 
   pub raise_allows : (slots id : ℕ) (me : Mine S E) → me.0.stage ≡ Entered → 0 < me.0.parts
       → me.1 ≡ (0, Some (state_after next first me.0.seen)) ∷ []

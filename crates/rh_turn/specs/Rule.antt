@@ -31,14 +31,6 @@ pub data Dealt : Type 0 where
   place : ℕ → Dealt
   parts : Dealt
 
--- a seat at this stage has a ticket
-abbrev pub has_ticket : {E : Type 0} → Stage E → Bool
-has_ticket Idle = false
-has_ticket Waiting = true
-has_ticket Holding = true
-has_ticket Entered = true
-has_ticket (Joined one other) = false
-
 -- a seat at this stage holds the turn
 abbrev pub has_turn : {E : Type 0} → Stage E → Bool
 has_turn Idle = false
@@ -46,6 +38,11 @@ has_turn Waiting = false
 has_turn Holding = true
 has_turn Entered = true
 has_turn (Joined one other) = false
+
+-- a seat at this stage has a ticket: it waits, or holds the turn
+abbrev pub has_ticket : {E : Type 0} → Stage E → Bool
+has_ticket Waiting = true
+has_ticket stage = has_turn stage
 
 -- how much a seat has of it
 abbrev pub has : {E : Type 0} → Dealt → View E → ℕ

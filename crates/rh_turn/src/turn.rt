@@ -82,8 +82,8 @@ impl<M: Machine> Turn<M> {
 
     /// Waits for the turn, acts an event and answers the machine's reply. It takes no memory.
     ///
-    /// The event stands at one place of the history, behind all that the seat has seen, and then the
-    /// seat has seen the history up to and with it.
+    /// The event stands at one place of the history, behind all that the seat has seen, and then
+    /// the seat has seen the history up to and with it.
     pub fn act<R: Wait>(&self, rt: &R, seat: &mut Seat<M>, event: M::Event) -> M::Reply
         requires { seat.old.turn ≡ self.now.id }
         ensures acts { Acts M.next M.reply self.now.first event result seat.old seat.new }

@@ -3,13 +3,9 @@ use Rattle.rh_turn.proofs.Turning.{look_allows}
 use Rattle.rh_turn.proofs.board.Board.look.Goals as goal
 
 pub load-requires : goal.load-requires
-load-requires g c =
-    let words = c.args.self.now.table.shared in
-    let key = words.key in
-    let token = c.args.token.now in
-    let asked = c.requires in (
-      asked.table,
-      omega arith,
-      look_allows g.M.Machine.next key.first.value key.seats words.table_id.slots token.id token.me
-          g.C.Call.first asked.first asked.waiting.0 asked.some_part,
-    )
+load-requires g c = (
+  c.requires.table,
+  omega arith,
+  look_allows g.M.Machine.next _ _ _ _ _ g.C.Call.first c.requires.first c.requires.waiting.0
+      c.requires.some_part,
+)

@@ -3,13 +3,9 @@ use Rattle.rh_turn.proofs.Turning.{raise_allows}
 use Rattle.rh_turn.proofs.board.Board.raise.Goals as goal
 
 pub fetch_add-requires : goal.fetch_add-requires
-fetch_add-requires g c =
-    let words = c.args.self.now.table.shared in
-    let key = words.key in
-    let token = c.args.token.now in
-    let asked = c.requires in (
-      asked.table,
-      omega arith,
-      raise_allows g.M.Machine.next key.first.value key.seats words.table_id.slots token.id token.me
-          asked.entered asked.some_part asked.state,
-    )
+fetch_add-requires g c = (
+  c.requires.table,
+  omega arith,
+  raise_allows g.M.Machine.next _ _ _ _ _ c.requires.entered c.requires.some_part
+      c.requires.state,
+)
