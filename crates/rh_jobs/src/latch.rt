@@ -89,6 +89,19 @@ impl<Go: Ledger, Off: Ledger> Undecided<Go, Off> {
         let off = self.off_passes.split_off(1, 0);
         Pass { go, off }
     }
+
+    // The books of both decisions, in which nothing was entered.
+    fn books(self) -> (Book<Go>, Book<Off>)
+        ensures { (result.0.total ≡ 0) × (result.1.total ≡ 0) }
+    {
+        let Undecided {
+            go,
+            off,
+            go_passes: _,
+            off_passes: _,
+        } = self;
+        (go, off)
+    }
 }
 
 /// A decision, and the book for the entries of those that see it.
@@ -127,24 +140,14 @@ impl<Go: Ledger, Off: Ledger> Latch<Go, Off> {
     pub fn begin(&self, rt: &impl Wait, undecided: Undecided<Go, Off>) -> Never<Off>
         requires { undecided.go_passes.parts ≡ 0 }
     {
-        let Undecided {
-            go,
-            off,
-            go_passes: _,
-            off_passes: _,
-        } = undecided;
+        let (go, off) = undecided.books();
         self.decide(rt, Decision::Begin(go));
         Never { total: off.close() }
     }
 
     /// Sends the jobs back.
     pub fn call_off(&self, rt: &impl Wait, undecided: Undecided<Go, Off>) -> Never<Go> {
-        let Undecided {
-            go,
-            off,
-            go_passes: _,
-            off_passes: _,
-        } = undecided;
+        let (go, off) = undecided.books();
         self.decide(rt, Decision::CallOff(off));
         Never { total: go.close() }
     }

@@ -15,49 +15,6 @@ use std::sync::ledger::{Blank, Ledger};
 use std::sync::{Arc, Wait};
 use std::thread::{self, Threads};
 
-// Starts a thread that waits at the latch with its job. Where none can be started, all is called
-// off, and the job comes back.
-fn start<
-    J: Job + Send + Drop + 'static,
-    R: Threads + Wait + Copy + Send + 'static,
-    Go: Ledger + Send + Sync + 'static,
-    Off: Ledger + Send + Sync + 'static,
->(
-    rt: &R,
-    latch: &Arc<Latch<Go, Off>, Global>,
-    undecided: Undecided<Go, Off>,
-    job: J,
-) -> Result<(Handle<J, J::Out, Go, Off>, Undecided<Go, Off>), (J, Never<Go>)>
-where
-    J::Out: Send + Drop + 'static,
-    requires { 0 < undecided.go_passes.parts }
-    ensures ok { IfOk result (λ started. started.0.promise.job.value ≡ job) }
-    ensures pass { IfOk result (λ started.
-        started.1.go_passes.parts + 1 ≡ undecided.go_passes.parts) }
-    ensures err { IfErr result (λ refused. refused.0 ≡ job) }
-{
-    let Ok(theirs) = Arc::try_clone(latch) else {
-        return Err((job, latch.call_off(rt, undecided)));
-    };
-    let mut undecided = undecided;
-    let pass = undecided.pass();
-    let owed = Owed {
-        job: Snapshot::of(&job),
-    };
-    let their_rt = *rt;
-    let worker = move || -> Returned<J, J::Out, Go, Off>
-        ensures { Settles J.answers job result }
-    { settle(wait_at(their_rt, theirs, pass, job)) };
-    match thread::spawn_with(rt, owed, worker) {
-        Ok(handle) => Ok((handle, undecided)),
-        Err(refused) => {
-            let never = latch.call_off(rt, undecided);
-            let job = unbegun(&never, (refused.value)());
-            Err((job, never))
-        }
-    }
-}
-
 // Pushes where there is room.
 fn put<T: Drop>(list: &mut Vec<T>, value: T)
     requires { vec_len list.old < vec_capacity list.old }
@@ -70,74 +27,111 @@ fn put<T: Drop>(list: &mut Vec<T>, value: T)
     };
 }
 
-// Starts a thread for the last job that waits, or lets it wait on.
-fn start_next<
-    J: Job + Send + Drop + 'static,
-    R: Threads + Wait + Copy + Send + 'static,
-    Go: Ledger + Send + Sync + 'static,
-    Off: Ledger + Send + Sync + 'static,
->(
-    rt: &R,
-    latch: &Arc<Latch<Go, Off>, Global>,
-    undecided: Undecided<Go, Off>,
-    job: J,
-    waiting: &mut Vec<J>,
-    handles: &mut Vec<Handle<J, J::Out, Go, Off>>,
-) -> Result<Undecided<Go, Off>, Never<Go>>
-where
-    J::Out: Send + Drop + 'static,
-    requires pass { 0 < undecided.go_passes.parts }
-    requires room { vec_len handles.old < vec_capacity handles.old }
-    requires back { vec_len waiting.old < vec_capacity waiting.old }
-    ensures pass { IfOk result (λ rest. rest.go_passes.parts + 1 ≡ undecided.go_passes.parts) }
-    ensures waiting { OnOk result (waiting.new ≡ waiting.old) }
-    ensures capacity { (vec_capacity handles.old ≤ vec_capacity handles.new)
-        × (vec_capacity waiting.old ≤ vec_capacity waiting.new) }
-    ensures count { vec_len waiting.new + vec_len handles.new
-        ≡ vec_len waiting.old + vec_len handles.old + 1 }
-    ensures jobs { waiting.new.items ++ jobs_of handles.new.items
-        ≡ (waiting.old.items ++ job ∷ []) ++ jobs_of handles.old.items }
-{
-    match start(rt, latch, undecided, job) {
-        Ok((handle, rest)) => {
-            put(handles, handle);
-            Ok(rest)
-        }
-        Err((job, never)) => {
-            put(waiting, job);
-            Err(never)
-        }
-    }
+// Starts threads that wait at a latch, each with its job.
+#[derive(Drop)]
+struct Starter<R, Go: Ledger, Off: Ledger> {
+    rt: R,
+    latch: Arc<Latch<Go, Off>, Global>,
 }
 
-// Starts a thread for each job, from the last job on, until one can't be started.
-fn start_all<
-    J: Job + Send + Drop + 'static,
+impl<
     R: Threads + Wait + Copy + Send + 'static,
     Go: Ledger + Send + Sync + 'static,
     Off: Ledger + Send + Sync + 'static,
->(
-    rt: &R,
-    latch: &Arc<Latch<Go, Off>, Global>,
-    undecided: Undecided<Go, Off>,
-    waiting: &mut Vec<J>,
-    handles: &mut Vec<Handle<J, J::Out, Go, Off>>,
-) -> Result<Undecided<Go, Off>, Never<Go>>
-where
-    J::Out: Send + Drop + 'static,
-    requires passes { undecided.go_passes.parts ≡ vec_len waiting.old }
-    requires none { handles.old.items ≡ [] }
-    requires room { vec_len waiting.old ≤ vec_capacity handles.old }
-    ensures all { OnOk result (waiting.new.items ≡ []) }
-    ensures passes { IfOk result (λ undecided. undecided.go_passes.parts ≡ 0) }
-    ensures room { vec_len waiting.new + vec_len handles.new ≤ vec_capacity waiting.new }
-    ensures jobs { waiting.new.items ++ jobs_of handles.new.items ≡ waiting.old.items }
-{
-    let mut undecided = undecided;
-    while let Some(job) = waiting.pop() {
-        undecided = start_next(rt, latch, undecided, job, waiting, handles)?;
+> Starter<R, Go, Off> {
+    // Starts a thread. Where none can be started, all is called off, and the job comes back.
+    fn start<J: Job + Send + Drop + 'static>(
+        &self,
+        undecided: Undecided<Go, Off>,
+        job: J,
+    ) -> Result<(Handle<J, J::Out, Go, Off>, Undecided<Go, Off>), (J, Never<Go>)>
+    where
+        J::Out: Send + Drop + 'static,
+        requires { 0 < undecided.go_passes.parts }
+        ensures ok { IfOk result (λ started. started.0.promise.job.value ≡ job) }
+        ensures pass { IfOk result (λ started.
+            started.1.go_passes.parts + 1 ≡ undecided.go_passes.parts) }
+        ensures err { IfErr result (λ refused. refused.0 ≡ job) }
+    {
+        let Ok(theirs) = Arc::try_clone(&self.latch) else {
+            return Err((job, self.latch.call_off(&self.rt, undecided)));
+        };
+        let mut undecided = undecided;
+        let pass = undecided.pass();
+        let owed = Owed {
+            job: Snapshot::of(&job),
+        };
+        let their_rt = self.rt;
+        let worker = move || -> Returned<J, J::Out, Go, Off>
+            ensures { Settles J.answers job result }
+        { settle(wait_at(their_rt, theirs, pass, job)) };
+        match thread::spawn_with(&self.rt, owed, worker) {
+            Ok(handle) => Ok((handle, undecided)),
+            Err(refused) => {
+                let never = self.latch.call_off(&self.rt, undecided);
+                let job = unbegun(&never, (refused.value)());
+                Err((job, never))
+            }
+        }
     }
-    Ok(undecided)
+
+    // Starts a thread for the last job that waits, or lets it wait on.
+    fn start_next<J: Job + Send + Drop + 'static>(
+        &self,
+        undecided: Undecided<Go, Off>,
+        job: J,
+        waiting: &mut Vec<J>,
+        handles: &mut Vec<Handle<J, J::Out, Go, Off>>,
+    ) -> Result<Undecided<Go, Off>, Never<Go>>
+    where
+        J::Out: Send + Drop + 'static,
+        requires pass { 0 < undecided.go_passes.parts }
+        requires room { vec_len handles.old < vec_capacity handles.old }
+        requires back { vec_len waiting.old < vec_capacity waiting.old }
+        ensures pass { IfOk result (λ rest. rest.go_passes.parts + 1 ≡ undecided.go_passes.parts) }
+        ensures waiting { OnOk result (waiting.new ≡ waiting.old) }
+        ensures capacity { (vec_capacity handles.old ≤ vec_capacity handles.new)
+            × (vec_capacity waiting.old ≤ vec_capacity waiting.new) }
+        ensures count { vec_len waiting.new + vec_len handles.new
+            ≡ vec_len waiting.old + vec_len handles.old + 1 }
+        ensures jobs { waiting.new.items ++ jobs_of handles.new.items
+            ≡ (waiting.old.items ++ job ∷ []) ++ jobs_of handles.old.items }
+    {
+        match self.start(undecided, job) {
+            Ok((handle, rest)) => {
+                put(handles, handle);
+                Ok(rest)
+            }
+            Err((job, never)) => {
+                put(waiting, job);
+                Err(never)
+            }
+        }
+    }
+
+    // Starts a thread for each job, from the last job on, until one can't be started.
+    fn start_all<J: Job + Send + Drop + 'static>(
+        &self,
+        undecided: Undecided<Go, Off>,
+        waiting: &mut Vec<J>,
+        handles: &mut Vec<Handle<J, J::Out, Go, Off>>,
+    ) -> Result<Undecided<Go, Off>, Never<Go>>
+    where
+        J::Out: Send + Drop + 'static,
+        requires passes { undecided.go_passes.parts ≡ vec_len waiting.old }
+        requires none { handles.old.items ≡ [] }
+        requires room { vec_len waiting.old ≤ vec_capacity handles.old }
+        ensures all { OnOk result (waiting.new.items ≡ []) }
+        ensures passes { IfOk result (λ undecided. undecided.go_passes.parts ≡ 0) }
+        ensures room { vec_len waiting.new + vec_len handles.new ≤ vec_capacity waiting.new }
+        ensures jobs { waiting.new.items ++ jobs_of handles.new.items ≡ waiting.old.items }
+    {
+        let mut undecided = undecided;
+        while let Some(job) = waiting.pop() {
+            undecided = self.start_next(undecided, job, waiting, handles)?;
+        }
+        Ok(undecided)
+    }
 }
 
 // Puts the jobs of the threads back behind those that wait.
@@ -227,14 +221,15 @@ where
     };
     let undecided = Undecided::new(go, off);
     let mut waiting = jobs;
-    match start_all(&rt, &latch, undecided, &mut waiting, &mut handles) {
+    let starter = Starter { rt, latch };
+    match starter.start_all(undecided, &mut waiting, &mut handles) {
         Ok(undecided) => {
-            let never = latch.begin(&rt, undecided);
-            gather(&rt, &never, &mut handles, &mut answers);
+            let never = starter.latch.begin(&starter.rt, undecided);
+            gather(&starter.rt, &never, &mut handles, &mut answers);
             Ok(answers)
         }
         Err(never) => {
-            take_back(&rt, &never, &mut waiting, &mut handles);
+            take_back(&starter.rt, &never, &mut waiting, &mut handles);
             Err((SpawnRefused::Failed, waiting))
         }
     }

@@ -1,7 +1,7 @@
 -- the jobs that wait and those of the threads are all jobs; each that waits has a pass and room
 use Rattle.std.proofs.Common.{◌≡◌, ◌≤◌, ◌+◌, ◌++◌, vec_len, vec_capacity}
 use Rattle.rh_jobs.specs.Workers.{jobs_of}
-use Rattle.rh_jobs.proofs.started.start_all.Given as goal
+use Rattle.rh_jobs.proofs.started.Starter.start_all.Given as goal
 
 abbrev pub decreases-loop-job : goal.decreases-loop-job
 decreases-loop-job g l = vec_len l.waiting

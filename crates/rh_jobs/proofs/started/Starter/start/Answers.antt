@@ -1,5 +1,5 @@
 -- the thread that could not be started, run here, gives its job back
-use Rattle.rh_jobs.proofs.started.start.Goals as goal
+use Rattle.rh_jobs.proofs.started.Starter.start.Goals as goal
 
 pub returns-in-Err-clause-err : goal.returns-in-Err-clause-err
 returns-in-Err-clause-err g c =
