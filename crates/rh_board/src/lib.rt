@@ -4,6 +4,7 @@
 pub mod board;
 pub mod callers;
 mod lane;
+mod leg_half;
 pub mod mem_net;
 pub mod pipe;
 

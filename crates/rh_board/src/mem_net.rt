@@ -1,8 +1,11 @@
 //! One role's hold of a board.
 
-ghost use Rattle.std.specs.Prelude.{◌≡◌, None, reverse, IfSome};
+ghost use Rattle.std.specs.Prelude.{◌≡◌, None, Some, reverse, IfSome, OnOk, OnErr, is_err};
+ghost use Rattle.rh_net.specs.Calls.{AreLater, CountsFault};
+ghost use Rattle.rh_net.specs.Failing.{fails_next};
 
 use crate::board::{Board, Party};
+use crate::leg_half::{Half, LegHalf};
 use rh_io::{NoMemory, Sink, SinkFailed, Source, SourceFailed};
 use rh_net::{Address, FailingCalls, Net, NetCounts, NetFailed, ShutSink, ShutSource};
 use std::alloc::Global;
@@ -19,11 +22,9 @@ pub struct LegFails {
 }
 
 /// The source of a leg in memory. It waits for bytes, and tells none. To drop it shuts it.
+#[derive(Drop)]
 pub struct PipeSource<R: Wait + Copy> {
-    rt: R,
-    board: Arc<Board, Global>,
-    leg: Option<usize>,
-    party: Party,
+    half: LegHalf<R>,
     fails: FailingCalls,
     faults: u64,
     ends: u64,
@@ -47,7 +48,7 @@ impl<R: Wait + Copy> Source for PipeSource<R> {
             self.faults = self.faults.saturating_add(1);
             return Err(SourceFailed);
         }
-        match self.board.reads(self.leg, self.party).read(&self.rt, room) {
+        match self.half.read(room) {
             Some(count) => Ok(count),
             None => {
                 self.ends = self.ends.saturating_add(1);
@@ -59,34 +60,15 @@ impl<R: Wait + Copy> Source for PipeSource<R> {
 
 impl<R: Wait + Copy> ShutSource for PipeSource<R> {
     fn shut(&mut self) {
-        self.board.reads(self.leg, self.party).end_reader(&self.rt);
-    }
-}
-
-impl<R: Wait + Copy> Drop for PipeSource<R> {
-    fn drop(mut self) {
-        self.shut();
-        let Self {
-            rt: _,
-            board,
-            leg: _,
-            party: _,
-            fails,
-            faults: _,
-            ends: _,
-        } = self;
-        drop(board);
-        drop(fails);
+        self.half.end();
     }
 }
 
 /// The sink of a leg in memory. It waits for room, fails once its reader is gone, and tells no
 /// bytes. To drop it shuts it.
+#[derive(Drop)]
 pub struct PipeSink<R: Wait + Copy> {
-    rt: R,
-    board: Arc<Board, Global>,
-    leg: Option<usize>,
-    party: Party,
+    half: LegHalf<R>,
     fails: FailingCalls,
     faults: u64,
 }
@@ -102,11 +84,7 @@ impl<R: Wait + Copy> Sink for PipeSink<R> {
             return Ok(0);
         }
         if !is_to_fail {
-            if let Some(count) = self
-                .board
-                .writes(self.leg, self.party)
-                .write(&self.rt, piece)
-            {
+            if let Some(count) = self.half.write(piece) {
                 return Ok(count);
             }
         }
@@ -117,23 +95,7 @@ impl<R: Wait + Copy> Sink for PipeSink<R> {
 
 impl<R: Wait + Copy> ShutSink for PipeSink<R> {
     fn shut(&mut self) {
-        self.board.writes(self.leg, self.party).end_writer(&self.rt);
-    }
-}
-
-impl<R: Wait + Copy> Drop for PipeSink<R> {
-    fn drop(mut self) {
-        self.shut();
-        let Self {
-            rt: _,
-            board,
-            leg: _,
-            party: _,
-            fails,
-            faults: _,
-        } = self;
-        drop(board);
-        drop(fails);
+        self.half.end();
     }
 }
 
@@ -179,10 +141,7 @@ impl<R: Wait + Copy> MemNet<R> {
 
     /// The counts of this net.
     pub fn counts(&self) -> NetCounts
-        ensures calls { (⟦<MemNet<R> as Net>⟧.faults self.now ≡ result.faults)
-            × (⟦<MemNet<R> as Net>⟧.given self.now ≡ result.given) }
-        ensures legs { (⟦<MemNet<R> as Net>⟧.leg_faults self.now ≡ result.leg_faults)
-            × (⟦<MemNet<R> as Net>⟧.leg_ends self.now ≡ result.leg_ends) }
+        ensures { ⟦<MemNet<R> as Net>⟧.counts self.now ≡ result }
     {
         self.counts
     }
@@ -228,19 +187,13 @@ impl<R: Wait + Copy> MemNet<R> {
     {
         let LegFails { reads, writes } = fails;
         let source = PipeSource {
-            rt: self.rt,
-            board: holds.0,
-            leg,
-            party,
+            half: LegHalf::new(self.rt, holds.0, leg, party, Half::Reading),
             fails: FailingCalls::new(reads),
             faults: 0,
             ends: 0,
         };
         let sink = PipeSink {
-            rt: self.rt,
-            board: holds.1,
-            leg,
-            party,
+            half: LegHalf::new(self.rt, holds.1, leg, party, Half::Writing),
             fails: FailingCalls::new(writes),
             faults: 0,
         };
@@ -283,13 +236,7 @@ impl<R: Wait + Copy> Net for MemNet<R> {
 
     type Out = PipeSink<R>;
 
-    ghost faults = { λ n. n.counts.faults };
-
-    ghost given = { λ n. n.counts.given };
-
-    ghost leg_faults = { λ n. n.counts.leg_faults };
-
-    ghost leg_ends = { λ n. n.counts.leg_ends };
+    ghost counts = { λ n. n.counts };
 
     ghost backs = { λ _. None };
 
@@ -312,7 +259,15 @@ impl<R: Wait + Copy> Net for MemNet<R> {
         Err(NetFailed)
     }
 
-    fn listen(&mut self, at: &Address) -> Result<(), NetFailed> {
+    fn listen(&mut self, at: &Address) -> Result<(), NetFailed>
+        ensures ok { OnOk result (self.new.counts ≡ self.old.counts) }
+        ensures err { OnErr result (CountsFault self.old.counts self.new.counts) }
+        ensures later { AreLater self.old.counts self.new.counts }
+        ensures listens { OnOk result (self.new.listens_at ≡ Some at.now) }
+        ensures fails { is_err result
+            ≡ fails_next self.old.fails.numbers.items self.old.fails.calls }
+        ensures same { (self.new.board ≡ self.old.board) × (self.new.legs ≡ self.old.legs) }
+    {
         if self.fails.next_fails() {
             self.counts.count_fault();
             return Err(NetFailed);

@@ -1,5 +1,6 @@
 pub mod Counts
 pub mod Failing
 pub mod Backs
+pub mod Calls
 pub mod Answered
 pub mod Script

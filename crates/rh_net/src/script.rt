@@ -3,9 +3,10 @@
 ghost use Rattle.std.specs.Prelude.{◌≡◌, ◌+◌, ◌<◌, ◌≤◌, [], ◌∷◌, ◌++◌, None, Some, map, reverse, All, vec_len};
 ghost use Rattle.std.specs.Prelude.{vec_capacity, IfOk, OnOk, OnErr, MatchOption, MatchResult, is_err, ◌||◌, ◌==◌};
 ghost use Rattle.std.specs.Option.{option_map};
-ghost use Rattle.rh_io.specs.Counts.{Rose};
-ghost use Rattle.rh_net.specs.Backs.{no_backs, TellsAtMost, with_source, with_sink, IsUnread, IsUnwritten};
-ghost use Rattle.rh_net.specs.Counts.{one_more, one_more_where};
+ghost use Rattle.rh_net.specs.Backs.{no_backs, TellsAtMost, with_source, with_sink};
+ghost use Rattle.rh_net.specs.Calls.{AreLater, CountsFault, GivesLeg, IsUnused};
+ghost use Rattle.rh_net.specs.Calls.{sink_back, source_back};
+ghost use Rattle.rh_net.specs.Counts.{one_more};
 ghost use Rattle.rh_net.specs.Failing.{fails_next};
 ghost use Rattle.rh_net.specs.Script.{GivesLast, GivesLastOrEnd, back_source, back_sink, backs_of};
 
@@ -266,10 +267,7 @@ impl ScriptNet {
 
     /// The counts of this net.
     pub fn counts(&self) -> NetCounts
-        ensures calls { (⟦<ScriptNet as Net>⟧.faults self.now ≡ result.faults)
-            × (⟦<ScriptNet as Net>⟧.given self.now ≡ result.given) }
-        ensures legs { (⟦<ScriptNet as Net>⟧.leg_faults self.now ≡ result.leg_faults)
-            × (⟦<ScriptNet as Net>⟧.leg_ends self.now ≡ result.leg_ends) }
+        ensures { ⟦<ScriptNet as Net>⟧.counts self.now ≡ result }
     {
         self.counts
     }
@@ -291,13 +289,7 @@ impl Net for ScriptNet {
 
     type Out = ScriptSink;
 
-    ghost faults = { λ n. n.counts.faults };
-
-    ghost given = { λ n. n.counts.given };
-
-    ghost leg_faults = { λ n. n.counts.leg_faults };
-
-    ghost leg_ends = { λ n. n.counts.leg_ends };
+    ghost counts = { λ n. n.counts };
 
     ghost backs = { λ n. option_map (λ b. backs_of
         (map (λ s. back_source
@@ -305,18 +297,13 @@ impl Net for ScriptNet {
         (map (λ s. back_sink (⟦<ScriptSink as Sink>⟧.written s) s.faults) b.sinks.items)) n.backs };
 
     fn back_in(&mut self, source: ScriptSource)
-        ensures leg_faults { self.new.counts.leg_faults
-            ≡ one_more_where self.old.counts.leg_faults source.faults }
-        ensures leg_ends { self.new.counts.leg_ends
-            ≡ one_more_where self.old.counts.leg_ends source.ends }
+        ensures counts { self.new.counts
+            ≡ source_back self.old.counts source.faults source.ends }
         ensures backs { TellsAtMost (⟦<ScriptNet as Net>⟧.backs self.old)
             (⟦<ScriptNet as Net>⟧.backs self.new)
             (λ b. with_source b (back_source
             (⟦<ScriptSource as Source>⟧.taken source) source.faults source.ends)) }
-        ensures later { (self.old.counts.leg_faults ≤ self.new.counts.leg_faults)
-            × (self.old.counts.leg_ends ≤ self.new.counts.leg_ends) }
-        ensures same { (self.new.counts.faults ≡ self.old.counts.faults)
-            × (self.new.counts.given ≡ self.old.counts.given) }
+        ensures later { AreLater self.old.counts self.new.counts }
         ensures told { MatchOption self.old.backs (self.new.backs ≡ None) (λ old.
             MatchOption self.new.backs (old.room ≤ vec_len old.sources) (λ new.
             (new.sources.items ≡ old.sources.items ++ source ∷ []) × (new.sinks ≡ old.sinks)
@@ -333,15 +320,11 @@ impl Net for ScriptNet {
     }
 
     fn back_out(&mut self, sink: ScriptSink)
-        ensures leg_faults { self.new.counts.leg_faults
-            ≡ one_more_where self.old.counts.leg_faults sink.faults }
+        ensures counts { self.new.counts ≡ sink_back self.old.counts sink.faults }
         ensures backs { TellsAtMost (⟦<ScriptNet as Net>⟧.backs self.old)
             (⟦<ScriptNet as Net>⟧.backs self.new)
             (λ b. with_sink b (back_sink (⟦<ScriptSink as Sink>⟧.written sink) sink.faults)) }
-        ensures later { self.old.counts.leg_faults ≤ self.new.counts.leg_faults }
-        ensures same { (self.new.counts.faults ≡ self.old.counts.faults)
-            × (self.new.counts.given ≡ self.old.counts.given)
-            × (self.new.counts.leg_ends ≡ self.old.counts.leg_ends) }
+        ensures later { AreLater self.old.counts self.new.counts }
         ensures told { MatchOption self.old.backs (self.new.backs ≡ None) (λ old.
             MatchOption self.new.backs (old.room ≤ vec_len old.sinks) (λ new.
             (new.sinks.items ≡ old.sinks.items ++ sink ∷ []) × (new.sources ≡ old.sources)
@@ -358,20 +341,12 @@ impl Net for ScriptNet {
     }
 
     fn connect(&mut self, _to: &Address) -> Result<(ScriptSource, ScriptSink), NetFailed>
-        ensures source { IfOk result (λ leg.
-            IsUnread (⟦<ScriptSource as Source>⟧.taken leg.0) leg.0.faults leg.0.ends) }
-        ensures sink { IfOk result
-            (λ leg. IsUnwritten (⟦<ScriptSink as Sink>⟧.written leg.1) leg.1.faults) }
-        ensures ok { OnOk result ((self.new.counts.given ≡ one_more self.old.counts.given)
-            × (self.new.counts.faults ≡ self.old.counts.faults)) }
-        ensures err { OnErr result ((self.new.counts.given ≡ self.old.counts.given)
-            × Rose self.old.counts.faults self.new.counts.faults) }
-        ensures later { (self.old.counts.given ≤ self.new.counts.given)
-            × (self.old.counts.faults ≤ self.new.counts.faults) }
-        ensures same { (self.new.counts.leg_faults ≡ self.old.counts.leg_faults)
-            × (self.new.counts.leg_ends ≡ self.old.counts.leg_ends)
-            × (⟦<ScriptNet as Net>⟧.backs self.new ≡ ⟦<ScriptNet as Net>⟧.backs self.old) }
-        ensures leg { MatchResult result
+        ensures leg { GivesLeg result (IsUnused ⟦<ScriptSource as Source>⟧.taken
+            ⟦<ScriptSource as Source>⟧.faults ⟦<ScriptSource as Source>⟧.ends
+            ⟦<ScriptSink as Sink>⟧.written ⟦<ScriptSink as Sink>⟧.faults)
+            self.old.counts self.new.counts }
+        ensures backs { ⟦<ScriptNet as Net>⟧.backs self.new ≡ ⟦<ScriptNet as Net>⟧.backs self.old }
+        ensures gives { MatchResult result
             (λ leg. GivesLast self.old.connects.items self.new.connects.items
             leg.0.source leg.1.sink)
             (λ _. self.new.connects.items ≡ self.old.connects.items) }
@@ -393,13 +368,10 @@ impl Net for ScriptNet {
     }
 
     fn listen(&mut self, _at: &Address) -> Result<(), NetFailed>
-        ensures ok { OnOk result (self.new.counts.faults ≡ self.old.counts.faults) }
-        ensures err { OnErr result (Rose self.old.counts.faults self.new.counts.faults) }
-        ensures later { self.old.counts.faults ≤ self.new.counts.faults }
-        ensures same { (self.new.counts.given ≡ self.old.counts.given)
-            × (self.new.counts.leg_faults ≡ self.old.counts.leg_faults)
-            × (self.new.counts.leg_ends ≡ self.old.counts.leg_ends)
-            × (⟦<ScriptNet as Net>⟧.backs self.new ≡ ⟦<ScriptNet as Net>⟧.backs self.old) }
+        ensures ok { OnOk result (self.new.counts ≡ self.old.counts) }
+        ensures err { OnErr result (CountsFault self.old.counts self.new.counts) }
+        ensures later { AreLater self.old.counts self.new.counts }
+        ensures backs { ⟦<ScriptNet as Net>⟧.backs self.new ≡ ⟦<ScriptNet as Net>⟧.backs self.old }
         ensures fails { is_err result
             ≡ fails_next self.old.fails.numbers.items self.old.fails.calls }
         ensures next { (self.new.fails.calls ≡ one_more self.old.fails.calls)
@@ -415,20 +387,12 @@ impl Net for ScriptNet {
     }
 
     fn accept(&mut self) -> Result<(ScriptSource, ScriptSink), NetFailed>
-        ensures source { IfOk result (λ leg.
-            IsUnread (⟦<ScriptSource as Source>⟧.taken leg.0) leg.0.faults leg.0.ends) }
-        ensures sink { IfOk result
-            (λ leg. IsUnwritten (⟦<ScriptSink as Sink>⟧.written leg.1) leg.1.faults) }
-        ensures ok { OnOk result ((self.new.counts.given ≡ one_more self.old.counts.given)
-            × (self.new.counts.faults ≡ self.old.counts.faults)) }
-        ensures err { OnErr result ((self.new.counts.given ≡ self.old.counts.given)
-            × Rose self.old.counts.faults self.new.counts.faults) }
-        ensures later { (self.old.counts.given ≤ self.new.counts.given)
-            × (self.old.counts.faults ≤ self.new.counts.faults) }
-        ensures same { (self.new.counts.leg_faults ≡ self.old.counts.leg_faults)
-            × (self.new.counts.leg_ends ≡ self.old.counts.leg_ends)
-            × (⟦<ScriptNet as Net>⟧.backs self.new ≡ ⟦<ScriptNet as Net>⟧.backs self.old) }
-        ensures leg { MatchResult result
+        ensures leg { GivesLeg result (IsUnused ⟦<ScriptSource as Source>⟧.taken
+            ⟦<ScriptSource as Source>⟧.faults ⟦<ScriptSource as Source>⟧.ends
+            ⟦<ScriptSink as Sink>⟧.written ⟦<ScriptSink as Sink>⟧.faults)
+            self.old.counts self.new.counts }
+        ensures backs { ⟦<ScriptNet as Net>⟧.backs self.new ≡ ⟦<ScriptNet as Net>⟧.backs self.old }
+        ensures gives { MatchResult result
             (λ leg. GivesLastOrEnd self.old.accepts.items self.new.accepts.items
             (⟦<ScriptSource as Source>⟧.left leg.0) leg.0.source leg.1.sink)
             (λ _. self.new.accepts.items ≡ self.old.accepts.items) }

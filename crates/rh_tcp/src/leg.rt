@@ -1,6 +1,6 @@
 //! The two streams of a leg over TCP.
 
-ghost use Rattle.std.specs.Prelude.{◌≡◌, None, IfOk};
+ghost use Rattle.std.specs.Prelude.{◌≡◌, None};
 ghost use Rattle.std.specs.Io.{ReadsAtMost, WritesAtMost};
 
 use rh_io::{Sink, SinkFailed, Source, SourceFailed};
@@ -27,7 +27,8 @@ pub struct TcpSource {
 }
 
 impl TcpSource {
-    fn over(stream: Option<TcpStream>) -> TcpSource
+    // Over a socket, or at its end.
+    pub(crate) fn over(stream: Option<TcpStream>) -> TcpSource
         ensures { (result.faults ≡ 0) × (result.ends ≡ 0) }
     {
         TcpSource {
@@ -120,7 +121,8 @@ pub struct TcpSink {
 }
 
 impl TcpSink {
-    fn over(stream: Option<TcpStream>) -> TcpSink
+    // Over a socket, or with no peer.
+    pub(crate) fn over(stream: Option<TcpStream>) -> TcpSink
         ensures { result.faults ≡ 0 }
     {
         TcpSink { stream, faults: 0 }
@@ -186,21 +188,4 @@ fn mark_half_shut(stream: &TcpStream) {
 
 fn is_half_shut(stream: &TcpStream) -> bool {
     matches!(stream.write_timeout(), Ok(Some(_)))
-}
-
-/// The streams of a leg over a socket. Small pieces go out at once (TCP_NODELAY).
-pub(crate) fn leg_over(stream: TcpStream) -> io::Result<(TcpSource, TcpSink)>
-    ensures { IfOk result (λ leg. (leg.0.faults ≡ 0) × (leg.0.ends ≡ 0) × (leg.1.faults ≡ 0)) }
-{
-    stream.set_nodelay(true)?;
-    stream.set_read_timeout(Some(Duration::from_secs(WAIT_SECONDS)))?;
-    let other = stream.try_clone()?;
-    Ok((TcpSource::over(Some(stream)), TcpSink::over(Some(other))))
-}
-
-/// A leg whose source is at its end and whose sink takes no byte.
-pub(crate) fn end_leg() -> (TcpSource, TcpSink)
-    ensures { (result.0.faults ≡ 0) × (result.0.ends ≡ 0) × (result.1.faults ≡ 0) }
-{
-    (TcpSource::over(None), TcpSink::over(None))
 }

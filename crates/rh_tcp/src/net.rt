@@ -1,8 +1,10 @@
 //! Legs over TCP.
 
-ghost use Rattle.std.specs.Prelude.{◌≡◌, None, IfOk};
+ghost use Rattle.std.specs.Prelude.{◌≡◌, ◌↔◌, None, IfOk, IsOk, IsSome, OnOk, OnErr};
+ghost use Rattle.rh_net.specs.Calls.{AreLater, CountsFault, GivesLeg};
+ghost use Rattle.rh_tcp.specs.Legs.{IsNewLeg};
 
-use crate::leg::{TcpSink, TcpSource, WAIT_SECONDS, end_leg, leg_over};
+use crate::leg::{TcpSink, TcpSource, WAIT_SECONDS};
 use rh_net::{Address, Net, NetCounts, NetFailed, ShutSink, ShutSource};
 use std::io::{self, ErrorKind};
 use std::net::{self as sockets, TcpListener, TcpStream};
@@ -34,12 +36,29 @@ impl<R: sockets::Net<Listener = TcpListener, Stream = TcpStream> + Copy> TcpNet<
 
     /// The counts of this net.
     pub fn counts(&self) -> NetCounts
-        ensures calls { (⟦<TcpNet<R> as Net>⟧.faults self.now ≡ result.faults)
-            × (⟦<TcpNet<R> as Net>⟧.given self.now ≡ result.given) }
-        ensures legs { (⟦<TcpNet<R> as Net>⟧.leg_faults self.now ≡ result.leg_faults)
-            × (⟦<TcpNet<R> as Net>⟧.leg_ends self.now ≡ result.leg_ends) }
+        ensures { ⟦<TcpNet<R> as Net>⟧.counts self.now ≡ result }
     {
         self.counts
+    }
+
+    // Counts a leg that is given, or a call that failed.
+    fn count_leg(
+        &mut self,
+        leg: io::Result<(TcpSource, TcpSink)>,
+    ) -> Result<(TcpSource, TcpSink), NetFailed>
+        requires { IfOk leg IsNewLeg }
+        ensures leg { GivesLeg result IsNewLeg self.old.counts self.new.counts }
+    {
+        match leg {
+            Ok(leg) => {
+                self.counts.count_given();
+                Ok(leg)
+            }
+            Err(_) => {
+                self.counts.count_fault();
+                Err(NetFailed)
+            }
+        }
     }
 
     /// The port listened at, where there is one: of use after `listen` at port 0, for which the
@@ -55,13 +74,7 @@ impl<R: sockets::Net<Listener = TcpListener, Stream = TcpStream> + Copy> Net for
 
     type Out = TcpSink;
 
-    ghost faults = { λ n. n.counts.faults };
-
-    ghost given = { λ n. n.counts.given };
-
-    ghost leg_faults = { λ n. n.counts.leg_faults };
-
-    ghost leg_ends = { λ n. n.counts.leg_ends };
+    ghost counts = { λ n. n.counts };
 
     ghost backs = { λ _. None };
 
@@ -78,19 +91,16 @@ impl<R: sockets::Net<Listener = TcpListener, Stream = TcpStream> + Copy> Net for
     }
 
     fn connect(&mut self, to: &Address) -> Result<(TcpSource, TcpSink), NetFailed> {
-        match connected(&self.rt, to) {
-            Ok(leg) => {
-                self.counts.count_given();
-                Ok(leg)
-            }
-            Err(_) => {
-                self.counts.count_fault();
-                Err(NetFailed)
-            }
-        }
+        let leg = connected(&self.rt, to);
+        self.count_leg(leg)
     }
 
-    fn listen(&mut self, at: &Address) -> Result<(), NetFailed> {
+    fn listen(&mut self, at: &Address) -> Result<(), NetFailed>
+        ensures ok { OnOk result (self.new.counts ≡ self.old.counts) }
+        ensures err { OnErr result (CountsFault self.old.counts self.new.counts) }
+        ensures later { AreLater self.old.counts self.new.counts }
+        ensures listens { IsOk result ↔ IsSome self.new.listener }
+    {
         // The listener before it is closed first, so that its port is free again.
         self.listener = None;
         match listening(&self.rt, at) {
@@ -106,16 +116,8 @@ impl<R: sockets::Net<Listener = TcpListener, Stream = TcpStream> + Copy> Net for
     }
 
     fn accept(&mut self) -> Result<(TcpSource, TcpSink), NetFailed> {
-        match accepted(&self.listener) {
-            Ok(leg) => {
-                self.counts.count_given();
-                Ok(leg)
-            }
-            Err(_) => {
-                self.counts.count_fault();
-                Err(NetFailed)
-            }
-        }
+        let leg = accepted(&self.listener);
+        self.count_leg(leg)
     }
 }
 
@@ -131,7 +133,7 @@ fn connected<R: sockets::Net<Listener = TcpListener, Stream = TcpStream>>(
     rt: &R,
     to: &Address,
 ) -> io::Result<(TcpSource, TcpSink)>
-    ensures { IfOk result (λ leg. (leg.0.faults ≡ 0) × (leg.0.ends ≡ 0) × (leg.1.faults ≡ 0)) }
+    ensures { IfOk result IsNewLeg }
 {
     leg_over(TcpStream::connect(rt, (host_of(to)?, to.port))?)
 }
@@ -151,7 +153,7 @@ fn listening<R: sockets::Net<Listener = TcpListener, Stream = TcpStream>>(
 
 // The leg of who came, or one at its end where nobody did, or who came had gone again.
 fn accepted(listener: &Option<TcpListener>) -> io::Result<(TcpSource, TcpSink)>
-    ensures { IfOk result (λ leg. (leg.0.faults ≡ 0) × (leg.0.ends ≡ 0) × (leg.1.faults ≡ 0)) }
+    ensures { IfOk result IsNewLeg }
 {
     let Some(listener) = listener else {
         return Err(io::Error::from(ErrorKind::NotConnected));
@@ -165,4 +167,21 @@ fn accepted(listener: &Option<TcpListener>) -> io::Result<(TcpSource, TcpSink)>
             ) => { Ok(end_leg()) }
         Err(error) => Err(error),
     }
+}
+
+// The streams of a leg over a socket. Small pieces go out at once (TCP_NODELAY).
+fn leg_over(stream: TcpStream) -> io::Result<(TcpSource, TcpSink)>
+    ensures { IfOk result IsNewLeg }
+{
+    stream.set_nodelay(true)?;
+    stream.set_read_timeout(Some(Duration::from_secs(WAIT_SECONDS)))?;
+    let other = stream.try_clone()?;
+    Ok((TcpSource::over(Some(stream)), TcpSink::over(Some(other))))
+}
+
+// A leg whose source is at its end and whose sink takes no byte.
+fn end_leg() -> (TcpSource, TcpSink)
+    ensures { IsNewLeg result }
+{
+    (TcpSource::over(None), TcpSink::over(None))
 }

@@ -28,6 +28,17 @@ fn net<R: Wait + Copy>(
     Ok(MemNet::new(rt, Arc::try_clone(board)?, legs, fails))
 }
 
+// Two nets on a board for one leg, on which these calls of the first fail.
+fn two_nets<R: Wait + Copy>(
+    rt: R,
+    alloc: Global,
+    of_leg: &[u64],
+) -> Result<(MemNet<R>, MemNet<R>), AllocError> {
+    let board = Board::new(alloc, 1)?;
+    let first = net(rt, alloc, &board, &[], of_leg)?;
+    Ok((first, net(rt, alloc, &board, &[], &[])?))
+}
+
 // The calls of nets and streams, without their contracts: a test is proved sooner so.
 
 fn listens<N: Net>(net: &mut N) -> bool {
@@ -109,11 +120,7 @@ fn echo<S: ShutSource + Drop, T: ShutSink + Drop>(leg: (S, T)) -> bool {
 
 #[test]
 fn threads_move_a_megabyte_each_way_over_a_leg(rt: HostRuntime) -> Result<(), Fail> {
-    let board = Board::new(rt.alloc(), 1)?;
-    let (mut client, mut server) = (
-        net(rt, rt.alloc(), &board, &[], &[])?,
-        net(rt, rt.alloc(), &board, &[], &[])?,
-    );
+    let (mut client, mut server) = two_nets(rt, rt.alloc(), &[])?;
     assert!(rt; listens(&mut server));
     let (source, sink) = connect(&mut client).expect(&rt, "a leg");
     let leg = accept(&mut server).expect(&rt, "its other end");
@@ -127,11 +134,7 @@ fn threads_move_a_megabyte_each_way_over_a_leg(rt: HostRuntime) -> Result<(), Fa
 
 #[test]
 fn a_write_to_a_full_pipe_fails_once_the_reader_goes(rt: HostRuntime) -> Result<(), Fail> {
-    let board = Board::new(rt.alloc(), 1)?;
-    let (mut client, mut server) = (
-        net(rt, rt.alloc(), &board, &[], &[])?,
-        net(rt, rt.alloc(), &board, &[], &[])?,
-    );
+    let (mut client, mut server) = two_nets(rt, rt.alloc(), &[])?;
     assert!(rt; listens(&mut server));
     let (_, sink) = connect(&mut client).expect(&rt, "a leg");
     let (mut source, _) = accept(&mut server).expect(&rt, "its other end");
@@ -188,11 +191,7 @@ fn each_call_of_a_net_fails_in_turn_and_is_counted(rt: HostRuntime) -> Result<()
 
 #[test]
 fn calls_of_a_leg_fail_where_asked_and_are_counted_by_its_net(rt: HostRuntime) -> Result<(), Fail> {
-    let board = Board::new(rt.alloc(), 1)?;
-    let (mut client, mut server) = (
-        net(rt, rt.alloc(), &board, &[], &[2])?,
-        net(rt, rt.alloc(), &board, &[], &[])?,
-    );
+    let (mut client, mut server) = two_nets(rt, rt.alloc(), &[2])?;
     assert!(rt; listens(&mut server));
     let (source, mut sink) = connect(&mut client).expect(&rt, "a leg");
     let (mut inner, _) = accept(&mut server).expect(&rt, "its other end");
