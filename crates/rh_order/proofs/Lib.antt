@@ -1,0 +1,13 @@
+pub mod ItemLists
+pub mod Prefixes
+pub mod ByNumber
+pub mod GiverKeeps
+pub mod ShelvesKeep
+pub mod PasserKeeps
+pub mod TakerKeeps
+pub mod Hearing
+pub mod Streams
+pub mod OnTheWay
+pub mod Reaching
+pub mod ExampleIsRoute
+pub mod WireKeeps

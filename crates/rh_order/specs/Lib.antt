@@ -1,0 +1,11 @@
+pub mod Items
+pub mod Logs
+pub mod Hearing
+pub mod Giving
+pub mod Shelves
+pub mod Passing
+pub mod Taking
+pub mod Routes
+pub mod Paths
+pub mod Examples
+pub mod Wires
