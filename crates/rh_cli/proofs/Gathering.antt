@@ -18,10 +18,12 @@ pub record Took (before now : Out) (piece : List ℕ) : Type 0 where
 -- a piece was written, and the rest is left
 pub took : (before now : Out) (gathered piece left : List ℕ) → Appends before.known now.known piece
     → piece ++ left ≡ gathered
-    → (length gathered ≤ before.takes + length left → before.takes + length left ≤ now.takes + length gathered)
+    → (length gathered ≤ before.takes + length left
+    → before.takes + length left ≤ now.takes + length gathered)
     → Took before now piece
 took before now gathered piece left wrote is paid =
-    let sizes : length piece + length left ≡ length gathered = sym (length-append piece left) ∙ ap length is in
+    let sizes : length piece + length left ≡ length gathered = sym (length-append piece left)
+    ∙ ap length is in
     record {
       wrote = wrote;
       paid = λ fits. omega (arith, paid (omega (arith, fits, sizes)), sizes);
@@ -40,7 +42,8 @@ gathers_none out = record {
 }
 
 -- more is said, and gathered
-pub gathers_more : (said gathered more : List ℕ) (before now : Out) → Gathers said gathered before now
+pub gathers_more : (said gathered more : List ℕ) (before now : Out)
+    → Gathers said gathered before now
     → Gathers (said ++ more) (gathered ++ more) before now
 gathers_more said gathered more before now h = record {
   written = h.written;
@@ -49,12 +52,14 @@ gathers_more said gathered more before now h = record {
 }
 
 -- a front of what was gathered is written
-pub gathers_passed : (said gathered piece left : List ℕ) (before now later : Out) → Took now later piece
+pub gathers_passed : (said gathered piece left : List ℕ) (before now later : Out)
+    → Took now later piece
     → piece ++ left ≡ gathered → Gathers said gathered before now → Gathers said left before later
 gathers_passed said gathered piece left before now later took is h = record {
   written = h.written ++ piece;
   took = record {
-    wrote = Appends-trans before.known now.known later.known h.written piece h.took.wrote took.wrote;
+    wrote = Appends-trans before.known now.known later.known h.written piece h.took.wrote
+        took.wrote;
     paid = λ fits.
         let sizes = length-append h.written piece in
         let first = h.took.paid (omega (arith, fits, sizes)) in
@@ -64,12 +69,15 @@ gathers_passed said gathered piece left before now later took is h = record {
 }
 
 -- where nothing is left, all is written
-pub gathers_all : (said left : List ℕ) (before now : Out) → left ≡ [] → (h : Gathers said left before now)
+pub gathers_all : (said left : List ℕ) (before now : Out) → left ≡ []
+    → (h : Gathers said left before now)
     → said ≡ h.written
-gathers_all said left before now none h = h.said_is ∙ ap (λ x. h.written ++ x) none ∙ append-nil h.written
+gathers_all said left before now none h = h.said_is ∙ ap (λ x. h.written ++ x) none
+    ∙ append-nil h.written
 
 -- an output that takes all that is said takes what is gathered
-pub gathers_sure : (said gathered behind : List ℕ) (before now : Out) → (h : Gathers said gathered before now)
+pub gathers_sure : (said gathered behind : List ℕ) (before now : Out)
+    → (h : Gathers said gathered before now)
     → length (h.written ++ (gathered ++ behind)) ≤ before.takes → length gathered ≤ now.takes
 gathers_sure said gathered behind before now h fits =
     let sizes = length-append h.written (gathered ++ behind) in

@@ -2,3 +2,4 @@ pub mod Results
 pub mod Coming
 pub mod Gathering
 pub mod Writing
+pub mod Memory

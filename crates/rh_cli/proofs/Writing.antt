@@ -1,11 +1,11 @@
 -- writing what a text says, line by line
-use Rattle.std.proofs.Common.{◌≡◌, ◌≢◌, ℕ, ◌+◌, ◌≤◌, ◌<◌, List, [], ◌∷◌, ◌++◌, length, refl, sym, ◌∙◌, ap, subst}
-use Rattle.std.proofs.Common.{append_assoc, arith}
-use Rattle.std.proofs.lemmas.List.{append-nil, length-append, nil_from_length}
+use Rattle.std.proofs.Common.{◌≡◌, ◌≢◌, ℕ, ◌≤◌, List, [], ◌∷◌, ◌++◌, length, refl, sym, ◌∙◌, ap, subst}
+use Rattle.std.proofs.Common.{append_assoc}
+use Rattle.std.proofs.lemmas.List.{append-nil, nil_from_length}
 use Rattle.std.specs.declared.option.Option.{Option}
 use Rattle.std.specs.Io.KnownBytes.{Appends}
 use Rattle.std.proofs.KnownBytes.{Appends-nil, Appends-trans}
-use Rattle.rh_text.specs.Lines.{BeginsWith, Rules, FirstLine, Leads, TextOf, IsText}
+use Rattle.rh_text.specs.Lines.{BeginsWith, Rules, FirstLine, Leads, IsText}
 use Rattle.rh_text.proofs.Texts.{OneLine, NoEmpty, begins_same, first_line, Leads-push, Leads-append, lines_behind}
 use Rattle.rh_text.proofs.Texts.{none_left, no_first}
 use Rattle.rh_cli.specs.Words.{Deeds, Tells, SaysOf, IsBegun}
@@ -22,7 +22,8 @@ ToldTo {W} deeds word (line ∷ lines) said end =
 
 module _ {L W : Type 0} (deeds : Deeds W L) where
   -- one line more
-  pub ToldTo-push : (word : W) (lines : List L) (said : List ℕ) (end : W) (line : L) (told : List ℕ) (next : W)
+  pub ToldTo-push : (word : W) (lines : List L) (said : List ℕ) (end : W) (line : L) (told : List ℕ)
+      (next : W)
       → ToldTo deeds word lines said end → deeds.Does end line told next
       → ToldTo deeds word (lines ++ line ∷ []) (said ++ told) next
   ToldTo-push word [] said end line told next h does = (
@@ -43,7 +44,8 @@ module _ {L W : Type 0} (deeds : Deeds W L) where
   )
 
   -- and then the other lines
-  pub ToldTo-then : (word : W) (lines : List L) (said : List ℕ) (end : W) (others : List L) (more : List ℕ)
+  pub ToldTo-then : (word : W) (lines : List L) (said : List ℕ) (end : W) (others : List L)
+      (more : List ℕ)
       → ToldTo deeds word lines said end → Tells deeds end others more
       → Tells deeds word (lines ++ others) (said ++ more)
   ToldTo-then word [] said end others more h k =
@@ -68,19 +70,23 @@ abbrev pub ComesToEnd : {L W : Type 0} → Deeds W L → Type 0
 ComesToEnd {L} {W} deeds = (word : W) → (told : List ℕ) × deeds.Ends word told
 
 -- so lines that are read tell something
-tells_ahead : {P L W : Type 0} (rules : Rules P L) (deeds : Deeds W L) → GoesOn rules deeds → ComesToEnd deeds
-    → (place : P) (lines : List L) (text : List ℕ) (last : P) (word : W) → Leads rules place lines text last []
+tells_ahead : {P L W : Type 0} (rules : Rules P L) (deeds : Deeds W L) → GoesOn rules deeds
+    → ComesToEnd deeds
+    → (place : P) (lines : List L) (text : List ℕ) (last : P) (word : W)
+    → Leads rules place lines text last []
     → (written : List ℕ) × Tells deeds word lines written
 tells_ahead rules deeds goes ends place [] text last word h = ends word
 tells_ahead rules deeds goes ends place (line ∷ lines) text last word (behind, first, rest) =
     let (told, next, did) = goes word place first.spelling line first.spelled in
-    let later = tells_ahead rules deeds goes ends (rules.next place line) lines behind last next rest in
+    let later = tells_ahead rules deeds goes ends (rules.next place line) lines behind last next
+    rest in
     (told ++ later.0, (told, later.0, next, did, refl, later.1))
 
 -- ---- what was written so far
 
 -- the lines done and those left, and what those done tell: written, or gathered
-pub record Writing {P L W : Type 0} (rules : Rules P L) (deeds : Deeds W L) (text : List ℕ) (place : P)
+pub record Writing {P L W : Type 0} (rules : Rules P L) (deeds : Deeds W L) (text : List ℕ)
+    (place : P)
     (rest : List ℕ) (word : W) (gathered : List ℕ) (before now : Out) : Type 0 where
   pub done : List L
   pub read : Leads rules rules.first done text place rest
@@ -129,28 +135,33 @@ module _ {P L W : Type 0} (rules : Rules P L) (deeds : Deeds W L) (text : List �
 
   pub line_ahead : (place : P) (rest : List ℕ) (word : W) (gathered : List ℕ) (before now : Out)
       (line behind : List ℕ) → rest ≢ [] → BeginsWith rest line behind
-      → Writing rules deeds text place rest word gathered before now → (l : L) × rules.Spells place line l
+      → Writing rules deeds text place rest word gathered before now
+      → (l : L) × rules.Spells place line l
   line_ahead place rest word gathered before now line behind some begins h =
       spelled_ahead place h.ahead rest h.last line behind h.left some begins
 
   -- behind it stand the others
-  others_ahead : OneLine rules → NoEmpty rules → (place : P) (ahead : List L) (rest : List ℕ) (last : P) (l : L)
+  others_ahead : OneLine rules → NoEmpty rules → (place : P) (ahead : List L) (rest : List ℕ)
+      (last : P) (l : L)
       (behind : List ℕ) → Leads rules place ahead rest last [] → FirstLine rules place rest l behind
       → (others : List L) × Leads rules (rules.next place l) others behind last []
   others_ahead one some place [] rest last l behind h first =
-      absurd (no_first rules some place l behind (subst (λ t. FirstLine rules place t l behind) h.0 first))
+      absurd (no_first rules some place l behind
+      (subst (λ t. FirstLine rules place t l behind) h.0 first))
   others_ahead one some place (a ∷ ahead) rest last l behind h first =
       (ahead, (lines_behind rules one some place a ahead rest last l behind h first).1)
 
   -- one line is done
-  pub writing_line : OneLine rules → NoEmpty rules → {place : P} {rest : List ℕ} {word : W} {gathered : List ℕ}
+  pub writing_line : OneLine rules → NoEmpty rules
+      → {place : P} {rest : List ℕ} {word : W} {gathered : List ℕ}
       {before now : Out} {line behind : List ℕ} (next : W) (further : P) (more : List ℕ)
       → BeginsWith rest line behind
       → ((l : L) × (told : List ℕ) × rules.Spells place line l × (further ≡ rules.next place l)
       × deeds.Does word l told next × (more ≡ gathered ++ told))
       → Writing rules deeds text place rest word gathered before now
       → Writing rules deeds text further behind next more before now
-  writing_line one some {place} {rest} {word} {gathered} {before} {now} {line} {behind} next further more begins
+  writing_line one some {place} {rest} {word} {gathered} {before} {now} {line} {behind} next further
+      more begins
       (l, told, is, there, did, more_is) h =
       let first = first_line rules place rest line behind l begins is in
       let ahead = others_ahead one some place h.ahead rest h.last l behind h.left first in
@@ -195,13 +206,15 @@ module _ {P L W : Type 0} (rules : Rules P L) (deeds : Deeds W L) (text : List �
   writing_begun goes ends place rest word gathered before now h =
       let later = tells_ahead rules deeds goes ends place h.ahead rest h.last word h.left in
       let whole : h.said ++ later.0 ≡ h.gathers.written ++ (gathered ++ later.0) =
-      ap (λ (x : List ℕ). x ++ later.0) h.gathers.said_is ∙ append_assoc h.gathers.written gathered later.0 in (
+      ap (λ (x : List ℕ). x ++ later.0) h.gathers.said_is
+      ∙ append_assoc h.gathers.written gathered later.0 in (
         later.0,
         record {
           lines = h.done ++ h.ahead;
           is_text = record {
             last = h.last;
-            read = Leads-append rules rules.first h.done h.ahead text place h.last rest [] h.read h.left;
+            read = Leads-append rules rules.first h.done h.ahead text place h.last rest [] h.read
+                h.left;
             over = h.over;
           };
           word = h.start;
@@ -215,23 +228,30 @@ module _ {P L W : Type 0} (rules : Rules P L) (deeds : Deeds W L) (text : List �
       (gathered piece left : List ℕ) (before now : Out) (later : Option (List ℕ))
       → Appends now.known later piece → gathered ≡ piece ++ left
       → Writing rules deeds text place rest word gathered before now
-      → (written : List ℕ) × Appends before.known later written × IsBegun (SaysOf rules deeds) text written
+      → (written : List ℕ) × Appends before.known later written
+      × IsBegun (SaysOf rules deeds) text written
   writing_front goes ends place rest word gathered piece left before now later wrote is h =
       let (behind, says) = writing_begun goes ends place rest word gathered before now h in
-      let whole : h.gathers.written ++ (gathered ++ behind) ≡ (h.gathers.written ++ piece) ++ (left ++ behind) =
+      let whole : h.gathers.written ++ (gathered ++ behind) ≡ (h.gathers.written ++ piece)
+      ++ (left ++ behind) =
       ap (λ (x : List ℕ). h.gathers.written ++ (x ++ behind)) is
       ∙ ap (λ (x : List ℕ). h.gathers.written ++ x) (append_assoc piece left behind)
       ∙ sym (append_assoc h.gathers.written piece (left ++ behind)) in (
         h.gathers.written ++ piece,
-        Appends-trans before.known now.known later h.gathers.written piece h.gathers.took.wrote wrote,
+        Appends-trans before.known now.known later h.gathers.written piece h.gathers.took.wrote
+            wrote,
         (left ++ behind, subst (SaysOf rules deeds text) whole says),
       )
 
-  pub writing_so_far : GoesOn rules deeds → ComesToEnd deeds → (place : P) (rest : List ℕ) (word : W)
-      (gathered : List ℕ) (before now : Out) → Writing rules deeds text place rest word gathered before now
-      → (written : List ℕ) × Appends before.known now.known written × IsBegun (SaysOf rules deeds) text written
+  pub writing_so_far : GoesOn rules deeds → ComesToEnd deeds
+      → (place : P) (rest : List ℕ) (word : W)
+      (gathered : List ℕ) (before now : Out)
+      → Writing rules deeds text place rest word gathered before now
+      → (written : List ℕ) × Appends before.known now.known written
+      × IsBegun (SaysOf rules deeds) text written
   writing_so_far goes ends place rest word gathered before now h =
-      writing_front goes ends place rest word gathered [] gathered before now now.known (Appends-nil now.known) refl h
+      writing_front goes ends place rest word gathered [] gathered before now now.known
+      (Appends-nil now.known) refl h
 
   pub writing_sure : GoesOn rules deeds → ComesToEnd deeds → (place : P) (rest : List ℕ) (word : W)
       (gathered : List ℕ) (before now : Out)
@@ -243,7 +263,8 @@ module _ {P L W : Type 0} (rules : Rules P L) (deeds : Deeds W L) (text : List �
       (all (h.gathers.written ++ (gathered ++ behind)) says)
 
   -- the lines are all done
-  pub writing_whole : OneLine rules → NoEmpty rules → (place : P) (rest : List ℕ) (word : W) (gathered : List ℕ)
+  pub writing_whole : OneLine rules → NoEmpty rules
+      → (place : P) (rest : List ℕ) (word : W) (gathered : List ℕ)
       (before now : Out) (told more : List ℕ) → length rest ≡ 0 → deeds.Ends word told
       → more ≡ gathered ++ told → Writing rules deeds text place rest word gathered before now
       → Whole rules deeds text more before now
@@ -270,9 +291,11 @@ module _ {P L W : Type 0} (rules : Rules P L) (deeds : Deeds W L) (text : List �
 
   pub whole_all : (gathered piece left : List ℕ) (before now later : Out) → Took now later piece
       → piece ++ left ≡ gathered → left ≡ [] → Whole rules deeds text gathered before now
-      → (written : List ℕ) × Appends before.known later.known written × SaysOf rules deeds text written
+      → (written : List ℕ) × Appends before.known later.known written
+      × SaysOf rules deeds text written
   whole_all gathered piece left before now later wrote is none h =
-      let passed = gathers_passed h.said gathered piece left before now later wrote is h.gathers in (
+      let passed =
+      gathers_passed h.said gathered piece left before now later wrote is h.gathers in (
         passed.written,
         passed.took.wrote,
         subst (SaysOf rules deeds text) (gathers_all h.said left before later none passed) h.says,
@@ -280,8 +303,10 @@ module _ {P L W : Type 0} (rules : Rules P L) (deeds : Deeds W L) (text : List �
 
   -- what was written is a front of an output, where a front of what was gathered went too
   pub whole_begun : (gathered piece left : List ℕ) (before now : Out) (later : Option (List ℕ))
-      → Appends now.known later piece → gathered ≡ piece ++ left → Whole rules deeds text gathered before now
-      → (written : List ℕ) × Appends before.known later written × IsBegun (SaysOf rules deeds) text written
+      → Appends now.known later piece → gathered ≡ piece ++ left
+      → Whole rules deeds text gathered before now
+      → (written : List ℕ) × Appends before.known later written
+      × IsBegun (SaysOf rules deeds) text written
   whole_begun gathered piece left before now later wrote is h =
       let wrote_first = h.gathers.took.wrote in
       let said : h.said ≡ (h.gathers.written ++ piece) ++ left = h.gathers.said_is

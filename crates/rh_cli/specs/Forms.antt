@@ -7,7 +7,7 @@ use Rattle.std.specs.Io.KnownBytes.{Appends}
 use Rattle.rh_io.specs.Bytes.{Moves}
 use Rattle.rh_io.specs.Counts.{Rose}
 use Rattle.rh_text.specs.Lines.{Rules, IsText, FirstBad}
-use Rattle.rh_world.specs.Recording.{recording}
+use Rattle.rh_record.specs.Places.{direct_recording}
 use Rattle.rh_show.specs.Lines.{packets}
 use Rattle.rh_cli.specs.declared.form.Form.{Form}
 use Rattle.rh_cli.specs.declared.form.Form.TheVariants.{Replay, Show, Help, Version}
@@ -16,7 +16,7 @@ use Rattle.rh_cli.specs.declared.status.Status.TheVariants.{Done, WriteFault}
 use Rattle.rh_cli.specs.declared.word.Ended.{Ended}
 use Rattle.rh_cli.specs.declared.word.Ended.TheVariants as ends
 use Rattle.rh_cli.specs.Statuses.{status_of}
-use Rattle.rh_cli.specs.Words.{Answers, Counts, Counted, IsTaken, most_input}
+use Rattle.rh_cli.specs.Words.{Answers, Counts, counts, Counted, IsTaken, most_input}
 use Rattle.rh_cli.specs.Replay.{IsReplayed}
 use Rattle.rh_cli.specs.Show.{IsShown}
 
@@ -40,39 +40,61 @@ pub record Outside : Type 0 where
   -- how many bytes the output takes for sure
   pub takes : ℕ
 
+-- what a source and a sink tell of themselves, by what tells each of these
+abbrev pub outside : {I O : Type 0} → (left read : I → Option (List ℕ)) → (read_faults ends : I → ℕ)
+    → (written : O → Option (List ℕ)) → (write_faults takes : O → ℕ) → I → O → Outside
+outside left read read_faults ends written write_faults takes input output = record {
+  left = left input;
+  read = read input;
+  written = written output;
+  counts = counts read_faults ends write_faults input output;
+  takes = takes output;
+}
+
 -- a text that comes is read by these rules, and what it says is written
-pub record Reads {P L : Type 0} (rules : Rules P L) (Says : List ℕ → List ℕ → Type 0) (Unfailing : Type 0)
+pub record Reads {P L : Type 0} (rules : Rules P L) (Says : List ℕ → List ℕ → Type 0)
+    (Unfailing : Type 0)
     (ended : Ended) (before after : Outside) : Type 0 where
   -- the bytes that came are answered, and what was written is what they say, or a front of it
-  pub answers : (came : List ℕ) × (written : List ℕ) × Moves before.left after.left before.read after.read came
+  pub answers : (came : List ℕ) × (written : List ℕ)
+      × Moves before.left after.left before.read after.read came
       × Appends before.written after.written written
       × Answers (FirstBad rules) Says ended after.left came written
   pub counted : Counted ended before.counts after.counts
   -- where the input tells that it holds such a text, no more than is read, nothing is wrong with it
-  pub taken : (text : List ℕ) → before.left ≡ Some text → IsText rules text → length text ≤ most_input
+  pub taken : (text : List ℕ) → before.left ≡ Some text → IsText rules text
+      → length text ≤ most_input
       → IsTaken ended
   -- an input of which no read fails, and an output that takes all that the text says, don't fail
   pub unfailing : Unfailing → ended ≢ ends.ReadFault
   pub takes : (text : List ℕ) → before.left ≡ Some text
       → ((whole : List ℕ) → Says text whole → length whole ≤ before.takes) → ended ≢ ends.WriteFault
 
--- a text was written whole, or a front of it where the output failed; an output that takes it all doesn't fail
-pub record Tells (text : List ℕ) (status : Status) (before after : Option (List ℕ)) (faults now takes : ℕ)
+-- a text was written whole, or a front of it where the output failed; an output that takes it all
+-- doesn't fail
+pub record Tells (text : List ℕ) (status : Status) (before after : Option (List ℕ))
+    (faults now takes : ℕ)
     : Type 0 where
   pub written : List ℕ
   pub behind : List ℕ
   pub wrote : Appends before after written
   pub front : text ≡ written ++ behind
-  pub ended : ((status ≡ Done) × (behind ≡ []) × (now ≡ faults)) ⊎ ((status ≡ WriteFault) × Rose faults now)
+  pub ended : ((status ≡ Done) × (behind ≡ []) × (now ≡ faults))
+      ⊎ ((status ≡ WriteFault) × Rose faults now)
   pub sure : length text ≤ takes → status ≡ Done
 
 -- what a form is answered; `help` and `version` are what the program tells of itself
-abbrev pub Ran : (help version : List ℕ) (Unfailing : Type 0) → Form → Status → Outside → Outside → Type 0
+abbrev pub Ran : (help version : List ℕ) (Unfailing : Type 0) → Form → Status → Outside → Outside
+    → Type 0
 Ran help version Unfailing Replay status before after =
-    (ended : Ended) × (status ≡ status_of ended) × Reads recording IsReplayed Unfailing ended before after
+    (ended : Ended) × (status ≡ status_of ended)
+    × Reads direct_recording IsReplayed Unfailing ended before after
 Ran help version Unfailing Show status before after =
-    (ended : Ended) × (status ≡ status_of ended) × Reads packets IsShown Unfailing ended before after
+    (ended : Ended) × (status ≡ status_of ended)
+    × Reads packets IsShown Unfailing ended before after
 Ran help version Unfailing Help status before after =
-    Tells help status before.written after.written before.counts.write_faults after.counts.write_faults before.takes
+    Tells help status before.written after.written before.counts.write_faults
+    after.counts.write_faults before.takes
 Ran help version Unfailing Version status before after =
-    Tells version status before.written after.written before.counts.write_faults after.counts.write_faults before.takes
+    Tells version status before.written after.written before.counts.write_faults
+    after.counts.write_faults before.takes

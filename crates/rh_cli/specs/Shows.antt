@@ -1,5 +1,5 @@
 -- packets can be shown at any time, and what is written line by line shows the packets of the text
-use Rattle.std.proofs.Common.{◌≡◌, ℕ, List, [], ◌∷◌, ◌++◌, refl, ◌∙◌, ap, append_assoc}
+use Rattle.std.proofs.Common.{ℕ, List, [], ◌∷◌, ◌++◌, refl, ◌∙◌, ap, append_assoc}
 use Rattle.hex.proofs.HexLemmas.{decode_of-ok}
 use Rattle.rh_show.specs.Lines.{packets, IsPacketHex}
 use Rattle.rh_show.specs.Shown.{ShowText}
@@ -17,7 +17,8 @@ pub comes_to_end : (show : Unit {0}) → (written : List ℕ) × showing.Ends sh
 comes_to_end show = ([], refl)
 
 -- what is written of packets shows them
-tells_shown : (show : Unit {0}) (lines : List (List ℕ)) (written : List ℕ) → Tells showing show lines written
+tells_shown : (show : Unit {0}) (lines : List (List ℕ)) (written : List ℕ)
+    → Tells showing show lines written
     → ShowText lines written
 tells_shown show [] written h = h
 tells_shown show (bytes ∷ lines) written (one, more, next, (line, is, ended), joined, rest) = (

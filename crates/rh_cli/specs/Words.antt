@@ -1,8 +1,7 @@
 -- a word that reads a text of lines and writes what they say
-use Rattle.std.specs.Prelude.{◌≡◌, ℕ, ◌+◌, ◌≤◌, ◌⊎◌, List, [], ◌∷◌, ◌++◌, length, Some}
+use Rattle.std.specs.Prelude.{◌≡◌, ℕ, ◌+◌, ◌≤◌, ◌⊎◌, List, [], ◌∷◌, ◌++◌, length}
 use Rattle.std.specs.declared.option.Option.{Option}
-use Rattle.std.specs.Io.KnownBytes.{Appends, IsAtEnd}
-use Rattle.rh_io.specs.Bytes.{Moves}
+use Rattle.std.specs.Io.KnownBytes.{IsAtEnd}
 use Rattle.rh_io.specs.Counts.{Rose}
 use Rattle.rh_text.specs.Lines.{Rules, TextOf}
 use Rattle.rh_cli.specs.declared.word.Ended.{Ended}
@@ -14,7 +13,8 @@ most_input = 67108864
 
 -- ---- what a word does
 
--- as what it starts; what it writes of a line, and what it is then; what it writes behind the last line
+-- as what it starts; what it writes of a line, and what it is then; what it writes behind the last
+-- line
 pub record Deeds (Word Line : Type 0) : Type 1 where
   pub Starts : Word → Type 0
   pub Does : Word → Line → List ℕ → Word → Type 0
@@ -28,7 +28,8 @@ Tells {W} deeds word (line ∷ lines) written =
     × deeds.Does word line told next × (written ≡ told ++ more) × Tells deeds next lines more
 
 -- what is written of a text
-pub record SaysOf {P L W : Type 0} (rules : Rules P L) (deeds : Deeds W L) (text written : List ℕ) : Type 0 where
+pub record SaysOf {P L W : Type 0} (rules : Rules P L) (deeds : Deeds W L)
+    (text written : List ℕ) : Type 0 where
   pub lines : List L
   pub is_text : TextOf rules text lines
   pub word : W
@@ -41,8 +42,8 @@ pub record SaysOf {P L W : Type 0} (rules : Rules P L) (deeds : Deeds W L) (text
 abbrev pub IsBegun : (Says : List ℕ → List ℕ → Type 0) → List ℕ → List ℕ → Type 0
 IsBegun Says came written = (behind : List ℕ) × Says came (written ++ behind)
 
--- what came, what the input tells as left, and what was written. `Says` has the output of a text, and
--- `Refuses` the first line that is outside the grammar.
+-- what came, what the input tells as left, and what was written. `Says` has the output of a text,
+-- and `Refuses` the first line that is outside the grammar.
 abbrev pub Answers : (Refuses : List ℕ → ℕ → Type 0) (Says : List ℕ → List ℕ → Type 0)
     → Ended → Option (List ℕ) → List ℕ → List ℕ → Type 0
 Answers Refuses Says Done left came written =
@@ -60,6 +61,15 @@ pub record Counts : Type 0 where
   pub read_faults : ℕ
   pub ends : ℕ
   pub write_faults : ℕ
+
+-- what a source and a sink count, by what tells each of these
+abbrev pub counts : {I O : Type 0} → (read_faults ends : I → ℕ) → (write_faults : O → ℕ) → I → O
+    → Counts
+counts read_faults ends write_faults input output = record {
+  read_faults = read_faults input;
+  ends = ends input;
+  write_faults = write_faults output;
+}
 
 -- the count whose cause came rose, and no other
 abbrev pub Counted : Ended → Counts → Counts → Type 0

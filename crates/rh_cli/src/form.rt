@@ -19,7 +19,8 @@ pub enum Form {
 
 /// The form of the words behind the program's own name; `None` where they are in none.
 pub fn form_of(words: &[String]) -> Option<Form>
-    ensures { MatchOption result ((form : Form) → ¬ IsForm form words.now) (λ form. IsForm form words.now) }
+    ensures { MatchOption result ((form : Form) → ¬ IsForm form words.now)
+        (λ form. IsForm form words.now) }
 {
     match words {
         [word] => form_of_word(word.as_str()),
@@ -29,7 +30,8 @@ pub fn form_of(words: &[String]) -> Option<Form>
 
 /// The form of one word.
 fn form_of_word(word: &str) -> Option<Form>
-    ensures { MatchOption result ((form : Form) → word.now ≢ form_word form) (λ form. word.now ≡ form_word form) }
+    ensures { MatchOption result ((form : Form) → word.now ≢ form_word form)
+        (λ form. word.now ≡ form_word form) }
 {
     match word {
         "replay" => Some(Form::Replay),

@@ -2,6 +2,7 @@
 #![tactic(auto)]
 
 mod form;
+mod laws;
 mod output;
 mod replay;
 mod run;
@@ -23,7 +24,9 @@ fn words(rt: &HostRuntime) -> Result<Vec<String>, Status> {
     match env::args(rt) {
         Ok(args) => {
             for word in args.skip(1) {
-                words.push(word)?;
+                if words.push(word).is_err() {
+                    return Err(Status::NoMemory);
+                }
             }
             Ok(words)
         }

@@ -1,6 +1,6 @@
 //! Writes what was gathered in pieces.
 
-ghost use Rattle.std.specs.Prelude.{◌≡◌, ◌+◌, ◌≤◌, ◌++◌, ℕ, List, IsOk, OnOk, OnErr, [], string_bytes, length};
+ghost use Rattle.std.specs.Prelude.{◌≡◌, ◌+◌, ◌≤◌, ◌++◌, ℕ, List, IsOk, OnOk, OnErr, Err, [], string_bytes, length};
 ghost use Rattle.std.specs.Io.KnownBytes.{Appends};
 ghost use Rattle.rh_io.specs.Counts.{Rose};
 
@@ -30,23 +30,12 @@ impl From<AllocError> for Unfinished {
     }
 }
 
-impl From<SinkFailed> for Unfinished {
-    ghost use Rattle.std.specs.Prelude.{◌≡◌};
-    ghost use Rattle.rh_cli.specs.declared.output.Unfinished.TheVariants.{WriteFault};
-
-    ghost from_gives = { λ _ fault. fault ≡ WriteFault };
-
-    fn from(_: SinkFailed) -> Unfinished {
-        Unfinished::WriteFault
-    }
-}
-
 /// Writes what was gathered where that is at least so many bytes, and keeps its room for more.
 pub fn pass_on<W: Sink>(
     gathered: &mut String,
     least: usize,
     output: &mut W,
-) -> Result<(), SinkFailed>
+) -> Result<(), Unfinished>
     ensures ok { OnOk result ((piece : List ℕ)
         × Appends (W.written output.old) (W.written output.new) piece
         × (piece ++ string_bytes gathered.new ≡ string_bytes gathered.old)) }
@@ -54,6 +43,7 @@ pub fn pass_on<W: Sink>(
     ensures err { OnErr result ((piece : List ℕ) × (behind : List ℕ)
         × Appends (W.written output.old) (W.written output.new) piece
         × (string_bytes gathered.old ≡ piece ++ behind)) }
+    ensures fault { OnErr result (result ≡ Err Unfinished.WriteFault) }
     ensures failed { OnErr result (Rose (W.faults output.old) (W.faults output.new)) }
     ensures no_failure { OnOk result (W.faults output.new ≡ W.faults output.old) }
     ensures takes { length (string_bytes gathered.old) ≤ W.takes output.old → IsOk result }
@@ -63,8 +53,10 @@ pub fn pass_on<W: Sink>(
         ≤ W.takes output.new + length (string_bytes gathered.old)) }
 {
     if gathered.len() >= least {
-        write_whole(output, gathered.as_bytes())?;
-        gathered.clear();
+        match write_whole(output, gathered.as_bytes()) {
+            Ok(()) => gathered.clear(),
+            Err(SinkFailed) => return Err(Unfinished::WriteFault),
+        }
     }
     Ok(())
 }

@@ -1,9 +1,8 @@
 //! Replays a recording.
 
 use crate::word::Word;
-use rh_text::Grammar;
-use rh_world::line::Line;
-use rh_world::{LineRefused, RecordKind, Recording, Report, World, read_line, write_report};
+use rh_record::{DirectRecording, LineRefused, RecordKind, Report, read_line, write_report};
+use rh_world::{World, WorldConfig};
 use std::alloc::{AllocError, Global};
 use std::marker::Model;
 
@@ -22,34 +21,7 @@ impl Model for Replay {
     ghost view = { λ a. a.world };
 }
 
-impl Grammar for Replay {
-    ghost use Rattle.rh_world.specs.Recording.{recording};
-    ghost use Rattle.rh_world.specs.Readings.{one_line_at, no_empty};
-
-    type Place = RecordKind;
-
-    type Line = Line;
-
-    ghost rules = { recording };
-
-    fn first_place() -> RecordKind {
-        Recording::first_place()
-    }
-
-    fn may_end(place: RecordKind) -> bool {
-        Recording::may_end(place)
-    }
-
-    fn judge_line(text: &[u8], place: RecordKind) -> Option<RecordKind> {
-        Recording::judge_line(text, place)
-    }
-
-    ghost one = { one_line_at };
-
-    ghost some = { no_empty };
-}
-
-impl Word for Replay {
+impl Word<DirectRecording> for Replay {
     ghost use Rattle.std.specs.Prelude.{◌+◌};
     ghost use Rattle.rh_cli.specs.Replay.{IsReplayed, replaying};
     ghost use Rattle.rh_cli.specs.Replays.{goes_on, comes_to_end, means};
@@ -62,7 +34,7 @@ impl Word for Replay {
 
     fn start(alloc: Global) -> Result<Replay, AllocError> {
         Ok(Replay {
-            world: World::new(alloc)?,
+            world: World::new(alloc, &WorldConfig::direct())?,
             report: Report::new(alloc),
         })
     }

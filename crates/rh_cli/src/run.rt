@@ -2,7 +2,7 @@
 
 ghost use Rattle.std.specs.Prelude.{◌≡◌};
 ghost use Rattle.rh_cli.specs.declared.form.Form.{Form};
-ghost use Rattle.rh_cli.specs.Forms.{IsForm, Tells, Ran};
+ghost use Rattle.rh_cli.specs.Forms.{IsForm, Tells, Ran, outside};
 
 use crate::form::{Form, form_of};
 use crate::replay::Replay;
@@ -10,6 +10,8 @@ use crate::show::Show;
 use crate::status::{Status, statuses};
 use crate::word::answer;
 use rh_io::{Sink, SinkFailed, Source, write_whole};
+use rh_record::DirectRecording;
+use rh_show::Packets;
 use std::alloc::Global;
 
 macro_rules! help {
@@ -23,7 +25,7 @@ macro_rules! help {
   rh_cli --version    writes the name and the version
 
 A line for show has 1 to 65,535 bytes in hex digits of either case, and nothing else. From a capture
-in pcap format and from a file that holds one packet, by the repository's tools and by xxd:
+that tshark reads and from a file that holds one packet, by the repository's tools and by xxd:
 
   tools/pcap_packets.py FILE | rh_cli show
   xxd -p FILE | tr -d '\\n' | rh_cli show
@@ -58,34 +60,16 @@ pub fn run<R: Source, W: Sink>(
     ensures unused { result ≡ Status.Usage → (input.new ≡ input.old) × (output.new ≡ output.old) }
     ensures unread { (IsForm Form.Help words.now → input.new ≡ input.old)
         × (IsForm Form.Version words.now → input.new ≡ input.old) }
-    ensures ran { (form : Form) → IsForm form words.now
+    ensures ran { let seen = outside R.left R.taken R.faults R.ends W.written W.faults W.takes in
+        (form : Form) → IsForm form words.now
         → Ran HELP.now VERSION.now (R.unfailing input.old) form result
-        (record {
-          left = R.left input.old;
-          read = R.taken input.old;
-          written = W.written output.old;
-          counts = record {
-            read_faults = R.faults input.old;
-            ends = R.ends input.old;
-            write_faults = W.faults output.old;
-          };
-          takes = W.takes output.old;
-        })
-        (record {
-          left = R.left input.new;
-          read = R.taken input.new;
-          written = W.written output.new;
-          counts = record {
-            read_faults = R.faults input.new;
-            ends = R.ends input.new;
-            write_faults = W.faults output.new;
-          };
-          takes = W.takes output.new;
-        }) }
+        (seen input.old output.old) (seen input.new output.new) }
 {
     match form_of(words) {
-        Some(Form::Replay) => Status::from(answer::<Replay, R, W>(alloc, input, output)),
-        Some(Form::Show) => Status::from(answer::<Show, R, W>(alloc, input, output)),
+        Some(Form::Replay) => Status::from(answer::<DirectRecording, Replay, R, W>(
+            alloc, input, output,
+        )),
+        Some(Form::Show) => Status::from(answer::<Packets, Show, R, W>(alloc, input, output)),
         Some(Form::Help) => tell(HELP, output),
         Some(Form::Version) => tell(VERSION, output),
         None => Status::Usage,

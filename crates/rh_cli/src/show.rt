@@ -2,7 +2,6 @@
 
 use crate::word::Word;
 use rh_show::{LineReader, Packets, show_packet};
-use rh_text::{Bytes, Grammar};
 use std::alloc::{AllocError, Global};
 use std::marker::Model;
 
@@ -18,34 +17,7 @@ impl Model for Show {
     ghost view = { λ _. tt };
 }
 
-impl Grammar for Show {
-    ghost use Rattle.rh_show.specs.Lines.{packets};
-    ghost use Rattle.rh_show.specs.Readings.{one_packet_at, no_empty};
-
-    type Place = ();
-
-    type Line = Bytes;
-
-    ghost rules = { packets };
-
-    fn first_place() {
-        Packets::first_place()
-    }
-
-    fn may_end(place: ()) -> bool {
-        Packets::may_end(place)
-    }
-
-    fn judge_line(text: &[u8], place: ()) -> Option<()> {
-        Packets::judge_line(text, place)
-    }
-
-    ghost one = { one_packet_at };
-
-    ghost some = { no_empty };
-}
-
-impl Word for Show {
+impl Word<Packets> for Show {
     ghost use Rattle.rh_cli.specs.Show.{IsShown, showing};
     ghost use Rattle.rh_cli.specs.Shows.{goes_on, comes_to_end, means};
 

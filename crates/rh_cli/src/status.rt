@@ -1,7 +1,6 @@
 //! How the program ends.
 
 use crate::word::Ended;
-use std::alloc::{AllocError, AllocFailed};
 use std::fmt::{self, Display, Formatter, Write};
 
 /// How a run ended. Its number is the program's exit status, and its text goes to standard error.
@@ -23,8 +22,8 @@ pub enum Status {
     TooLong,
 }
 
-/// Calls a macro with a row for each status but `Done`: its number, its text, and what stands behind
-/// the text.
+/// Calls a macro with a row for each status but `Done`: its number, its text, and what stands
+/// behind the text.
 macro_rules! statuses {
     ($rows:ident) => {
         $rows! {
@@ -102,28 +101,6 @@ impl From<Ended> for Status {
             Ended::NoMemory => Status::NoMemory,
             Ended::TooLong => Status::TooLong,
         }
-    }
-}
-
-impl<T: Drop> From<AllocFailed<T>> for Status {
-    ghost use Rattle.std.specs.Prelude.{◌≡◌};
-    ghost use Rattle.rh_cli.specs.declared.status.Status.TheVariants.{NoMemory};
-
-    ghost from_gives = { λ _ status. status ≡ NoMemory };
-
-    fn from(_: AllocFailed<T>) -> Status {
-        Status::NoMemory
-    }
-}
-
-impl From<AllocError> for Status {
-    ghost use Rattle.std.specs.Prelude.{◌≡◌};
-    ghost use Rattle.rh_cli.specs.declared.status.Status.TheVariants.{NoMemory};
-
-    ghost from_gives = { λ _ status. status ≡ NoMemory };
-
-    fn from(_: AllocError) -> Status {
-        Status::NoMemory
     }
 }
 

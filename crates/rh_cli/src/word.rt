@@ -5,7 +5,7 @@ ghost use Rattle.std.specs.Io.KnownBytes.{Appends};
 ghost use Rattle.rh_io.specs.Bytes.{Moves};
 ghost use Rattle.rh_io.specs.Counts.{Rose};
 ghost use Rattle.rh_text.specs.Lines.{IsText, FirstBad};
-ghost use Rattle.rh_cli.specs.Words.{Deeds, SaysOf, Answers, Counted, IsBegun, IsTaken};
+ghost use Rattle.rh_cli.specs.Words.{Deeds, SaysOf, Answers, counts, Counted, IsBegun, IsTaken};
 
 use crate::output::{PIECE, Unfinished, pass_on};
 use rh_io::{ReadWholeError, Sink, Source, read_whole};
@@ -15,10 +15,10 @@ use std::alloc::{AllocError, Global};
 /// The most bytes of input that are read.
 pub const MOST_INPUT: usize = 67_108_864;
 
-/// A word that reads a text of lines and writes what it says.
-pub trait Word: Grammar + Drop {
+/// A word that reads a text of lines by the grammar `G` and writes what it says.
+pub trait Word<G: Grammar>: Drop {
     /// As what it starts, what it writes of each line and what it is then, and what at the end.
-    ghost deeds: { Deeds Self Self.Line };
+    ghost deeds: { Deeds Self G.Line };
 
     /// The output of a text, in the word's own terms.
     ghost says: { List ℕ → List ℕ → Type 0 };
@@ -30,19 +30,19 @@ pub trait Word: Grammar + Drop {
     fn start(alloc: Global) -> Result<Self, AllocError>
         ensures { IfOk result (λ word. deeds.Starts word × (done word ≡ 0)) };
 
-    /// Does a line that stands at this place, appends what it says, and answers the place behind it.
-    /// Fails where there is no memory.
+    /// Does a line that stands at this place, appends what it says, and answers the place behind
+    /// it. Fails where there is no memory.
     fn write_line(
         &mut self,
         alloc: Global,
         line: &[u8],
-        place: Self::Place,
+        place: G::Place,
         out: &mut String,
-    ) -> Result<Self::Place, AllocError>
-        requires line { (l : Self.Line) × Self.rules.Spells place line.now l }
+    ) -> Result<G::Place, AllocError>
+        requires line { (l : G.Line) × G.rules.Spells place line.now l }
         requires few { done self.old < MOST_INPUT }
-        ensures told { IfOk result (λ next. (l : Self.Line) × (told : List ℕ)
-            × Self.rules.Spells place line.now l × (next ≡ Self.rules.next place l)
+        ensures told { IfOk result (λ next. (l : G.Line) × (told : List ℕ)
+            × G.rules.Spells place line.now l × (next ≡ G.rules.next place l)
             × deeds.Does self.old l told self.new
             × (string_bytes out.new ≡ string_bytes out.old ++ told)) }
         ensures done { OnOk result (done self.new ≤ done self.old + 1) };
@@ -53,8 +53,8 @@ pub trait Word: Grammar + Drop {
             × (string_bytes out.new ≡ string_bytes out.old ++ told)) };
 
     /// A line can be done at any time.
-    ghost goes_on: { (word : Self) (place : Self.Place) (text : List ℕ) (line : Self.Line)
-        → Self.rules.Spells place text line
+    ghost goes_on: { (word : Self) (place : G.Place) (text : List ℕ) (line : G.Line)
+        → G.rules.Spells place text line
         → (told : List ℕ) × (next : Self) × deeds.Does word line told next };
 
     /// There can be an end at any time.
@@ -62,7 +62,7 @@ pub trait Word: Grammar + Drop {
 
     /// What is written line by line is the output of the text.
     ghost means: { (text written : List ℕ)
-        → SaysOf Self.rules deeds text written → says text written };
+        → SaysOf G.rules deeds text written → says text written };
 }
 
 /// How a word that reads a text ended.
@@ -83,31 +83,31 @@ pub enum Ended {
 }
 
 /// Does each line in turn, and writes what it says in pieces.
-fn write_all<X: Word, W: Sink>(
+fn write_all<G: Grammar, X: Word<G>, W: Sink>(
     alloc: Global,
     mut word: X,
     text: &[u8],
     output: &mut W,
 ) -> Result<(), Unfinished>
     requires word { X.deeds.Starts word × (X.done word ≡ 0) }
-    requires text { IsText X.rules text.now }
+    requires text { IsText G.rules text.now }
     requires short { length text.now ≤ MOST_INPUT }
     ensures ok { OnOk result ((written : List ℕ)
         × Appends (W.written output.old) (W.written output.new) written
-        × SaysOf X.rules X.deeds text.now written) }
+        × SaysOf G.rules X.deeds text.now written) }
     ensures err { OnErr result ((written : List ℕ)
         × Appends (W.written output.old) (W.written output.new) written
-        × IsBegun (SaysOf X.rules X.deeds) text.now written) }
+        × IsBegun (SaysOf G.rules X.deeds) text.now written) }
     ensures failed { result ≡ Err Unfinished.WriteFault
         → Rose (W.faults output.old) (W.faults output.new) }
     ensures no_failure { result ≢ Err Unfinished.WriteFault
         → W.faults output.new ≡ W.faults output.old }
-    ensures takes { ((whole : List ℕ) → SaysOf X.rules X.deeds text.now whole
+    ensures takes { ((whole : List ℕ) → SaysOf G.rules X.deeds text.now whole
         → length whole ≤ W.takes output.old) → result ≢ Err Unfinished.WriteFault }
 {
     let mut gathered = String::new(alloc);
     let mut rest = text;
-    let mut place = X::first_place();
+    let mut place = G::first_place();
     'lines: while !rest.is_empty() {
         let (line, behind) = split_line(rest);
         place = word.write_line(alloc, line, place, &mut gathered)?;
@@ -120,23 +120,18 @@ fn write_all<X: Word, W: Sink>(
 }
 
 /// Reads a text to its end and writes what it says. Nothing is written before every line was read.
-pub fn answer<X: Word, R: Source, W: Sink>(alloc: Global, input: &mut R, output: &mut W) -> Ended
+pub fn answer<G: Grammar, X: Word<G>, R: Source, W: Sink>(
+    alloc: Global,
+    input: &mut R,
+    output: &mut W,
+) -> Ended
     ensures answers { (came : List ℕ) × (written : List ℕ)
         × Moves (R.left input.old) (R.left input.new) (R.taken input.old) (R.taken input.new) came
         × Appends (W.written output.old) (W.written output.new) written
-        × Answers (FirstBad X.rules) X.says result (R.left input.new) came written }
-    ensures counted { Counted result
-        (record {
-          read_faults = R.faults input.old;
-          ends = R.ends input.old;
-          write_faults = W.faults output.old;
-        })
-        (record {
-          read_faults = R.faults input.new;
-          ends = R.ends input.new;
-          write_faults = W.faults output.new;
-        }) }
-    ensures taken { (text : List ℕ) → R.left input.old ≡ Some text → IsText X.rules text
+        × Answers (FirstBad G.rules) X.says result (R.left input.new) came written }
+    ensures counted { let counted = counts R.faults R.ends W.faults in
+        Counted result (counted input.old output.old) (counted input.new output.new) }
+    ensures taken { (text : List ℕ) → R.left input.old ≡ Some text → IsText G.rules text
         → length text ≤ MOST_INPUT → IsTaken result }
     ensures unfailing { R.unfailing input.old → result ≢ Ended.ReadFault }
     ensures takes { (text : List ℕ) → R.left input.old ≡ Some text
@@ -149,13 +144,13 @@ pub fn answer<X: Word, R: Source, W: Sink>(alloc: Global, input: &mut R, output:
         Err(ReadWholeError::TooLong) => return Ended::TooLong,
         Err(ReadWholeError::NoMemory) => return Ended::NoMemory,
     };
-    if let Some(line) = first_bad_line::<X>(&text) {
+    if let Some(line) = first_bad_line::<G>(&text) {
         return Ended::BadInput(line);
     }
     let Ok(word) = X::start(alloc) else {
         return Ended::NoMemory;
     };
-    match write_all::<X, W>(alloc, word, &text, output) {
+    match write_all::<G, X, W>(alloc, word, &text, output) {
         Ok(()) => Ended::Done,
         Err(Unfinished::WriteFault) => Ended::WriteFault,
         Err(Unfinished::NoMemory) => Ended::NoMemory,

@@ -1,7 +1,6 @@
 -- queues of PDUs
-use Rattle.std.specs.Prelude.{ℕ, ◌≡◌, ◌+◌, ◌-◌, ◌≤◌, ◌==◌, if◌then◌else◌, List, [], ◌∷◌, length}
-use Rattle.std.specs.List.{AllByRecursion}
-use Rattle.rh_pdu.specs.Frames.{IsPdu}
+use Rattle.std.specs.Prelude.{ℕ, ◌+◌, ◌-◌, ◌==◌, ◌++◌, if◌then◌else◌, List, [], ◌∷◌, length, drop, Some, None}
+use Rattle.std.specs.declared.option.Option.{Option}
 
 -- the most bytes of PDUs that a queue holds
 abbrev pub queue_bytes : ℕ
@@ -17,11 +16,15 @@ abbrev pub behind : List (List ℕ) → List (List ℕ)
 behind [] = []
 behind (pdu ∷ pdus) = pdus
 
--- PDUs whose bytes together are those counted, and no more than there is room for
-pub record IsQueue (pdus : List (List ℕ)) (held room : ℕ) : Type 0 where
-  pub counted : held ≡ total pdus
-  pub each : AllByRecursion IsPdu pdus
-  pub fits : held ≤ room
+-- the length of the first one
+abbrev pub front_length : List (List ℕ) → Option ℕ
+front_length [] = None
+front_length (pdu ∷ pdus) = Some (length pdu)
+
+-- the first one at the front of a room, which stays behind it
+abbrev pub put_first : List (List ℕ) → List ℕ → List ℕ
+put_first [] room = room
+put_first (pdu ∷ pdus) room = pdu ++ drop (length pdu) room
 
 -- the PDUs that have no byte among the first so many of all
 abbrev pub untouched : ℕ → List (List ℕ) → List (List ℕ)

@@ -1,5 +1,6 @@
 //! Why an end doesn't accept a PDU.
 
+use crate::cause::Cause;
 use rh_pdu::PduFault;
 
 /// Why a PDU was not accepted. Nothing has changed then.
@@ -9,4 +10,8 @@ pub enum GiveFault {
     Full { held: usize, len: usize },
     /// The bytes are no PDU.
     BadPdu(PduFault),
+    /// The end was told that no PDU will be given any more.
+    Closing,
+    /// The end closed, with this cause.
+    Closed(Cause),
 }

@@ -1,35 +1,34 @@
 //! The queue of an end: PDUs that were accepted and of which no byte was drawn yet.
 
-ghost use Rattle.std.specs.Prelude.{◌≡◌, ◌+◌, ◌≤◌, ◌↔◌, ◌++◌, [], ◌∷◌, IsTrue, IfOk, IfSome, IfNone, IsSomeAnd, OnErr, length, take, drop, slice_get, Some};
+ghost use Rattle.std.specs.Prelude.{◌≡◌, ◌+◌, ◌≤◌, ◌↔◌, ◌++◌, [], ◌∷◌, IsTrue, IfOk, IfSome, IfNone, length, take, drop, slice_get, Some};
 ghost use Rattle.std.specs.Bool.{OnTrue, OnFalse};
 ghost use Rattle.std.specs.List.{AllByRecursion};
 ghost use Rattle.rh_pdu.specs.Frames.{IsPdu};
-ghost use Rattle.rh_line.specs.Queue.{total, behind};
+ghost use Rattle.rh_line.specs.Queue.{behind, front_length, total};
 
-use crate::pdu::OwnedPdu;
+use crate::pdu_ring::PduRing;
 use std::alloc::{AllocError, Global};
-use std::collections::VecDeque;
 use std::marker::Model;
 
 /// How many bytes of PDUs a queue holds at most.
 pub const QUEUE_BYTES: usize = 262_144;
 
-/// PDUs in the order in which they were pushed. Their bytes never pass `QUEUE_BYTES`.
+/// PDUs in the order in which they were pushed. Their bytes never pass `QUEUE_BYTES`, and only
+/// `new` takes memory.
 #[derive(Drop)]
 pub struct SendLine {
-    pdus: VecDeque<OwnedPdu>,
-    held: usize,
+    pdus: PduRing,
 }
 
 impl Model for SendLine {
-    ghost use Rattle.std.specs.Prelude.{List, ℕ};
-    ghost use Rattle.rh_line.specs.Queue.{IsQueue, queue_bytes};
+    ghost use Rattle.std.specs.Prelude.{List, ℕ, ◌≡◌};
+    ghost use Rattle.rh_line.specs.Queue.{queue_bytes};
 
     ghost Value = { List (List ℕ) };
 
-    ghost view = { λ a. a.pdus.items };
+    ghost view = { λ a. a.pdus.pdus };
 
-    ghost invariant = { λ a. IsQueue a.pdus.items a.held queue_bytes };
+    ghost invariant = { λ a. a.pdus.room ≡ queue_bytes };
 }
 
 impl SendLine {
@@ -37,10 +36,8 @@ impl SendLine {
     pub fn new(alloc: Global) -> Result<SendLine, AllocError>
         ensures { IfOk result (λ line. line ≡ []) }
     {
-        Ok(SendLine {
-            pdus: VecDeque::new(alloc),
-            held: 0,
-        })
+        let pdus = PduRing::with_capacity(alloc, QUEUE_BYTES)?;
+        Ok(SendLine { pdus })
     }
 
     /// How many bytes the PDUs have together: 0 to `QUEUE_BYTES`.
@@ -49,39 +46,31 @@ impl SendLine {
         ensures most { result ≤ QUEUE_BYTES }
         ensures each { AllByRecursion IsPdu self.now }
     {
-        self.held
+        self.pdus.held()
     }
 
     /// The length of the first PDU, 16 to 8,192 bytes. `None` exactly where the queue is empty.
     pub fn front(&self) -> Option<u16>
-        ensures some { IfSome result
-            (λ len. IsSomeAnd (slice_get self.now 0) (λ pdu. len ≡ length pdu)) }
-        ensures none { IfNone result (self.now ≡ []) }
+        ensures { result ≡ front_length self.now }
     {
-        let pdu = self.pdus.front()?;
-        Some(pdu.len() as u16)
+        self.pdus.front()
     }
 
     /// Puts a PDU at the end, and answers whether there was room.
     ///
     /// `false` exactly where the bytes held and the PDU's are together above `QUEUE_BYTES`. Nothing
-    /// has changed then, nor where memory ran out.
-    pub fn push(&mut self, alloc: Global, pdu: &[u8]) -> Result<bool, AllocError>
+    /// has changed then.
+    pub fn push(&mut self, pdu: &[u8]) -> bool
         requires { IsPdu pdu.now }
-        ensures room { IfOk result
-            (λ pushed. IsTrue pushed ↔ (total self.old + length pdu.now ≤ QUEUE_BYTES)) }
-        ensures pushed { IfOk result
-            (λ pushed. OnTrue pushed (self.new ≡ self.old ++ pdu.now ∷ [])) }
-        ensures full { IfOk result (λ pushed. OnFalse pushed (self.new ≡ self.old)) }
-        ensures err { OnErr result (self.new ≡ self.old) }
+        ensures room { IsTrue result ↔ (total self.old + length pdu.now ≤ QUEUE_BYTES) }
+        ensures pushed { OnTrue result (self.new ≡ self.old ++ pdu.now ∷ []) }
+        ensures full { OnFalse result (self.new ≡ self.old) }
     {
-        if self.held + pdu.len() > QUEUE_BYTES {
-            return Ok(false);
+        if self.pdus.held() + pdu.len() > QUEUE_BYTES {
+            return false;
         }
-        let copy = OwnedPdu::copy_of(alloc, pdu)?;
-        self.pdus.push_back(copy)?;
-        self.held += pdu.len();
-        Ok(true)
+        self.pdus.push(pdu);
+        true
     }
 
     /// Takes the first PDU out, puts it at the front of the room and answers its length, 16 to
@@ -93,10 +82,6 @@ impl SendLine {
         ensures rest { self.new ≡ behind self.old }
         ensures none { IfNone result ((self.old ≡ []) × (room.new ≡ room.old)) }
     {
-        let pdu = self.pdus.pop_front()?;
-        let len = pdu.len();
-        room[..len].copy_from_slice(pdu.as_slice());
-        self.held -= len;
-        Some(len as u16)
+        self.pdus.pop(room)
     }
 }

@@ -1,7 +1,9 @@
 //! Queues and rooms by hand.
 
 mod begun;
+mod recv_line;
 mod send_line;
+mod texts;
 
 use crate::SendLine;
 use std::alloc::Global;
@@ -20,7 +22,7 @@ fn queue_of_two(rt: &impl Abort, alloc: Global) -> Result<SendLine, Fail> {
     assert!(rt; rh_pdu::check(&FIRST).is_ok());
     assert!(rt; rh_pdu::check(&SECOND).is_ok());
     let mut queue = SendLine::new(alloc)?;
-    assert!(rt; queue.push(alloc, &FIRST)?);
-    assert!(rt; queue.push(alloc, &SECOND)?);
+    assert!(rt; queue.push(&FIRST));
+    assert!(rt; queue.push(&SECOND));
     Ok(queue)
 }

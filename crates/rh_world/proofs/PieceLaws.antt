@@ -5,7 +5,8 @@ use Rattle.std.proofs.lemmas.List.{length-drop, take-append-le, drop-append-le, 
 use Rattle.rh_world.specs.Pieces.{pieces, added}
 
 -- a piece more at the end
-pub pieces_push : (lengths bytes piece : List ℕ) (n : ℕ) → added lengths ≡ length bytes → length piece ≡ n
+pub pieces_push : (lengths bytes piece : List ℕ) (n : ℕ) → added lengths ≡ length bytes
+    → length piece ≡ n
     → pieces (lengths ++ n ∷ []) (bytes ++ piece) ≡ pieces lengths bytes ++ piece ∷ []
 pieces_push [] bytes piece n whole is =
     let none : bytes ≡ [] = nil_from_length bytes (sym whole) in
@@ -14,7 +15,8 @@ pieces_push [] bytes piece n whole is =
 pieces_push (m ∷ lengths) bytes piece n whole is =
     let fits : m ≤ length bytes = omega arith in
     rw (take-append-le m bytes piece fits, drop-append-le m bytes piece fits)
-    (ap (λ ps. take m bytes ∷ ps) (pieces_push lengths (drop m bytes) piece n (omega (arith, length-drop m bytes)) is))
+    (ap (λ ps. take m bytes ∷ ps) (pieces_push lengths (drop m bytes) piece n
+    (omega (arith, length-drop m bytes)) is))
 
 pub added_push : (lengths : List ℕ) (n : ℕ) → added (lengths ++ n ∷ []) ≡ added lengths + n
 added_push [] n = omega arith

@@ -24,13 +24,15 @@ length-concat (pdu ∷ pdus) =
 concat-push : (pdus : List (List ℕ)) (pdu : List ℕ) → concat (pdus ++ pdu ∷ []) ≡ concat pdus ++ pdu
 concat-push [] pdu = append-nil pdu
 concat-push (first ∷ pdus) pdu =
-    ap (λ (x : List ℕ). first ++ x) (concat-push pdus pdu) ∙ sym (append_assoc first (concat pdus) pdu)
+    ap (λ (x : List ℕ). first ++ x) (concat-push pdus pdu)
+    ∙ sym (append_assoc first (concat pdus) pdu)
 
 -- a PDU that is queued is undrawn
 pub undrawn-push : (begun : List ℕ) (queue : List (List ℕ)) (pdu : List ℕ)
     → begun ++ concat (queue ++ pdu ∷ []) ≡ (begun ++ concat queue) ++ pdu
 undrawn-push begun queue pdu =
-    ap (λ (x : List ℕ). begun ++ x) (concat-push queue pdu) ∙ sym (append_assoc begun (concat queue) pdu)
+    ap (λ (x : List ℕ). begun ++ x) (concat-push queue pdu)
+    ∙ sym (append_assoc begun (concat queue) pdu)
 
 -- what is undrawn, in bytes
 pub length-undrawn : (begun : List ℕ) (queue : List (List ℕ))
@@ -41,19 +43,23 @@ length-undrawn begun queue =
 -- ---- the bytes on the way, from the receiver back to the giver
 
 -- a frame that is given stands behind whole frames
-pub give_path : (fed flight undrawn pdu : List ℕ) → rest_of (fed ++ (flight ++ undrawn)) ≡ [] → IsFrame pdu
-    → (frames_of (fed ++ (flight ++ (undrawn ++ pdu))) ≡ frames_of (fed ++ (flight ++ undrawn)) ++ pdu ∷ [])
+pub give_path : (fed flight undrawn pdu : List ℕ) → rest_of (fed ++ (flight ++ undrawn)) ≡ []
+    → IsFrame pdu
+    → (frames_of (fed ++ (flight ++ (undrawn ++ pdu))) ≡ frames_of (fed ++ (flight ++ undrawn))
+    ++ pdu ∷ [])
     × (rest_of (fed ++ (flight ++ (undrawn ++ pdu))) ≡ [])
 give_path fed flight undrawn pdu whole frame =
     let path = fed ++ (flight ++ undrawn) in
     let behind : fed ++ (flight ++ (undrawn ++ pdu)) ≡ path ++ pdu =
-    ap (λ (x : List ℕ). fed ++ x) (sym (append_assoc flight undrawn pdu)) ∙ sym (append_assoc fed (flight ++ undrawn) pdu) in
+    ap (λ (x : List ℕ). fed ++ x) (sym (append_assoc flight undrawn pdu))
+    ∙ sym (append_assoc fed (flight ++ undrawn) pdu) in
     let more = framing_appends path pdu in
     let one = single_frame pdu frame in (
       ap (λ (x : List ℕ). frames_of x) behind ∙ more.0
           ∙ ap (λ (r : List ℕ). frames_of path ++ frames_of (r ++ pdu)) whole
           ∙ ap (λ (fs : List (List ℕ)). frames_of path ++ fs) one.0,
-      ap (λ (x : List ℕ). rest_of x) behind ∙ more.1 ∙ ap (λ (r : List ℕ). rest_of (r ++ pdu)) whole ∙ one.1,
+      ap (λ (x : List ℕ). rest_of x) behind ∙ more.1 ∙ ap (λ (r : List ℕ). rest_of (r ++ pdu)) whole
+          ∙ one.1,
     )
 
 -- bytes that are drawn stay where they were
@@ -74,7 +80,8 @@ cut_path fed flight undrawn n =
 pub move_path : (fed flight undrawn : List ℕ) (n : ℕ)
     → (frames_of (fed ++ (flight ++ undrawn)) ≡ frames_of (fed ++ take n flight)
     ++ frames_of (rest_of (fed ++ take n flight) ++ (drop n flight ++ undrawn)))
-    × (rest_of (fed ++ (flight ++ undrawn)) ≡ rest_of (rest_of (fed ++ take n flight) ++ (drop n flight ++ undrawn)))
+    × (rest_of (fed ++ (flight ++ undrawn))
+    ≡ rest_of (rest_of (fed ++ take n flight) ++ (drop n flight ++ undrawn)))
 move_path fed flight undrawn n =
     let cut = cut_path fed flight undrawn n in
     let more = framing_appends (fed ++ take n flight) (drop n flight ++ undrawn) in
@@ -82,7 +89,8 @@ move_path fed flight undrawn n =
 
 -- ---- what a direction keeps true, call by call
 
-pub nothing_carried : (framer : FramerState) → framer.rest ≡ [] → framer.fault ≡ None → IsCarrying [] [] framer [] 0 0
+pub nothing_carried : (framer : FramerState) → framer.rest ≡ [] → framer.fault ≡ None
+    → IsCarrying [] [] framer [] 0 0
 nothing_carried framer rest going = record {
   going = going;
   whole = ap (λ (r : List ℕ). rest_of (r ++ [])) rest ∙ (frames_joined [] tt).1;
@@ -90,7 +98,8 @@ nothing_carried framer rest going = record {
       ∙ ap (λ (fs : List (List ℕ)). 0 + (0 + length fs)) (frames_joined [] tt).0);
 }
 
-pub given_carried : (undrawn flight : List ℕ) (framer : FramerState) (untaken : List (List ℕ)) (given taken : ℕ)
+pub given_carried : (undrawn flight : List ℕ) (framer : FramerState) (untaken : List (List ℕ))
+    (given taken : ℕ)
     (pdu : List ℕ) → IsFrame pdu → IsCarrying undrawn flight framer untaken given taken
     → IsCarrying (undrawn ++ pdu) flight framer untaken (given + 1) taken
 given_carried undrawn flight framer untaken given taken pdu frame h =
@@ -99,10 +108,16 @@ given_carried undrawn flight framer untaken given taken pdu frame h =
     record {
       going = h.going;
       whole = path.1;
-      counted = omega (arith, h.counted, more, length_push (frames_of (framer.rest ++ (flight ++ undrawn))) pdu);
+      counted = omega (
+        arith,
+        h.counted,
+        more,
+        length_push (frames_of (framer.rest ++ (flight ++ undrawn))) pdu,
+      );
     }
 
-pub drawn_carried : (undrawn flight : List ℕ) (framer : FramerState) (untaken : List (List ℕ)) (given taken n : ℕ)
+pub drawn_carried : (undrawn flight : List ℕ) (framer : FramerState) (untaken : List (List ℕ))
+    (given taken n : ℕ)
     → IsCarrying undrawn flight framer untaken given taken
     → IsCarrying (drop n undrawn) (flight ++ take n undrawn) framer untaken given taken
 drawn_carried undrawn flight framer untaken given taken n h =
@@ -110,20 +125,25 @@ drawn_carried undrawn flight framer untaken given taken n h =
     record {
       going = h.going;
       whole = ap (λ (x : List ℕ). rest_of x) (sym path) ∙ h.whole;
-      counted = h.counted ∙ ap (λ (x : List ℕ). taken + (length untaken + length (frames_of x))) path;
+      counted = h.counted
+          ∙ ap (λ (x : List ℕ). taken + (length untaken + length (frames_of x))) path;
     }
 
 -- what is fed leaves no header at fault
-pub fed_sound : (undrawn flight : List ℕ) (framer : FramerState) (untaken : List (List ℕ)) (given taken n : ℕ)
-    → IsCarrying undrawn flight framer untaken given taken → IsBad (rest_of (framer.rest ++ take n flight)) → ⊥
+pub fed_sound : (undrawn flight : List ℕ) (framer : FramerState) (untaken : List (List ℕ))
+    (given taken n : ℕ)
+    → IsCarrying undrawn flight framer untaken given taken
+    → IsBad (rest_of (framer.rest ++ take n flight)) → ⊥
 fed_sound undrawn flight framer untaken given taken n h =
     no_bad_front (framer.rest ++ take n flight) (drop n flight ++ undrawn)
     (ap (λ (x : List ℕ). rest_of x) (sym (cut_path framer.rest flight undrawn n)) ∙ h.whole)
 
-pub fed_carried : (undrawn flight : List ℕ) (framer next : FramerState) (untaken : List (List ℕ)) (given taken n : ℕ)
+pub fed_carried : (undrawn flight : List ℕ) (framer next : FramerState) (untaken : List (List ℕ))
+    (given taken n : ℕ)
     → next.fault ≡ None → next.rest ≡ rest_of (framer.rest ++ take n flight)
     → IsCarrying undrawn flight framer untaken given taken
-    → IsCarrying undrawn (drop n flight) next (untaken ++ frames_of (framer.rest ++ take n flight)) given taken
+    → IsCarrying undrawn (drop n flight) next (untaken ++ frames_of (framer.rest ++ take n flight))
+    given taken
 fed_carried undrawn flight framer next untaken given taken n going rest h =
     let frames = frames_of (framer.rest ++ take n flight) in
     let behind = drop n flight ++ undrawn in
@@ -146,16 +166,22 @@ fed_carried undrawn flight framer next untaken given taken n going rest h =
 -- ---- what a call does
 
 -- a PDU that isn't refused is given
-pub give_done : (way : Way) (pdu : List ℕ) (queue : List (List ℕ)) (undrawn : List ℕ) → pdu_fault pdu ≡ None
-    → total way.queue + length pdu ≤ queue_bytes → queue ≡ way.queue ++ pdu ∷ [] → undrawn ≡ way.undrawn ++ pdu
-    → (record way { queue = queue; undrawn = undrawn; given = way.given + 1 }, Ok (length pdu)) ≡ give way pdu
+pub give_done : (way : Way) (pdu : List ℕ) (queue : List (List ℕ)) (undrawn : List ℕ)
+    → pdu_fault pdu ≡ None
+    → total way.queue + length pdu ≤ queue_bytes → queue ≡ way.queue ++ pdu ∷ []
+    → undrawn ≡ way.undrawn ++ pdu
+    → (record way { queue = queue; undrawn = undrawn; given = way.given + 1 }, Ok (length pdu))
+    ≡ give way pdu
 give_done way pdu queue undrawn sound room queue_is undrawn_is =
-    let fits : nat_lt queue_bytes (total way.queue + length pdu) ≡ false = grind (arith, nat_tests, room) in
+    let fits : nat_lt queue_bytes (total way.queue + length pdu) ≡ false =
+    grind (arith, nat_tests, room) in
     rw (queue_is, undrawn_is, sound, fits) refl
 
 -- as many bytes are drawn as there is room for
-pub send_done : (way : Way) (n : ℕ) (begun : List ℕ) (queue : List (List ℕ)) (undrawn flight : List ℕ)
-    (count : ℕ) → way.undrawn ≡ begun ++ concat way.queue → count ≡ min n (length begun + total way.queue)
+pub send_done : (way : Way) (n : ℕ) (begun : List ℕ) (queue : List (List ℕ))
+    (undrawn flight : List ℕ)
+    (count : ℕ) → way.undrawn ≡ begun ++ concat way.queue
+    → count ≡ min n (length begun + total way.queue)
     → queue ≡ untouched (count - length begun) way.queue → undrawn ≡ drop count way.undrawn
     → flight ≡ way.flight ++ take count way.undrawn
     → (record way { queue = queue; undrawn = undrawn; flight = flight }, count) ≡ send way n
@@ -170,7 +196,8 @@ send_done way n begun queue undrawn flight count here least queue_is undrawn_is 
 
 -- what was given is what was taken and then all that is on the way, in order
 pub record Carries (way : Way) (given taken : List (List ℕ)) : Type 0 where
-  pub in_order : given ≡ taken ++ (way.untaken ++ frames_of (way.fed ++ (way.flight ++ way.undrawn)))
+  pub in_order : given
+      ≡ taken ++ (way.untaken ++ frames_of (way.fed ++ (way.flight ++ way.undrawn)))
   pub whole : rest_of (way.fed ++ (way.flight ++ way.undrawn)) ≡ []
   pub given_count : way.given ≡ length given
   pub taken_count : way.taken ≡ length taken
@@ -183,7 +210,8 @@ empty_carries = record {
   taken_count = refl;
 }
 
-pub give_carries : (way : Way) (pdu : List ℕ) (given taken : List (List ℕ)) → IsFrame pdu → Carries way given taken
+pub give_carries : (way : Way) (pdu : List ℕ) (given taken : List (List ℕ)) → IsFrame pdu
+    → Carries way given taken
     → Carries (give_by None way pdu).0 (given ++ pdu ∷ []) taken
 give_carries way pdu given taken frame h =
     let path = give_path way.fed way.flight way.undrawn pdu h.whole frame in
@@ -214,16 +242,19 @@ pub move_carries : (way : Way) (n : ℕ) (given taken : List (List ℕ)) → Car
 move_carries way n given taken h =
     let path = move_path way.fed way.flight way.undrawn n in
     let frames = frames_of (way.fed ++ take n way.flight) in
-    let later = frames_of (rest_of (way.fed ++ take n way.flight) ++ (drop n way.flight ++ way.undrawn)) in
+    let later = frames_of (rest_of (way.fed ++ take n way.flight)
+    ++ (drop n way.flight ++ way.undrawn)) in
     record {
       in_order = h.in_order ∙ ap (λ (x : List (List ℕ)). taken ++ x)
-          (ap (λ (x : List (List ℕ)). way.untaken ++ x) path.0 ∙ sym (append_assoc way.untaken frames later));
+          (ap (λ (x : List (List ℕ)). way.untaken ++ x) path.0
+          ∙ sym (append_assoc way.untaken frames later));
       whole = sym path.1 ∙ h.whole;
       given_count = h.given_count;
       taken_count = h.taken_count;
     }
 
-pub take_carries : (way : Way) (pdu : List ℕ) (pdus given taken : List (List ℕ)) → way.untaken ≡ pdu ∷ pdus
+pub take_carries : (way : Way) (pdu : List ℕ) (pdus given taken : List (List ℕ))
+    → way.untaken ≡ pdu ∷ pdus
     → Carries way given taken → Carries (take_from (pdu ∷ pdus) way).0 given (taken ++ pdu ∷ [])
 take_carries way pdu pdus given taken first h =
     let frames = frames_of (way.fed ++ (way.flight ++ way.undrawn)) in

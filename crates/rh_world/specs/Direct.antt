@@ -13,12 +13,12 @@ use Rattle.rh_pdu.specs.Cut.{frames_of, rest_of}
 use Rattle.rh_line.specs.declared.give_fault.GiveFault.{GiveFault}
 use Rattle.rh_line.specs.declared.give_fault.GiveFault.TheVariants.{Full, BadPdu}
 use Rattle.rh_line.specs.Queue.{queue_bytes, total, untouched}
-use Rattle.rh_world.specs.declared.line.Line.{Line}
-use Rattle.rh_world.specs.declared.line.Line.TheVariants as line
-use Rattle.rh_world.specs.declared.answer.TakeAnswer.{TakeAnswer}
-use Rattle.rh_world.specs.declared.answer.TakeAnswer.TheVariants.{Pdu, Empty}
-use Rattle.rh_world.specs.declared.answer.Answer.{Answer}
-use Rattle.rh_world.specs.declared.answer.Answer.TheVariants as answer
+use Rattle.rh_record.specs.declared.line.Line.{Line}
+use Rattle.rh_record.specs.declared.line.Line.TheVariants as line
+use Rattle.rh_record.specs.declared.answer.TakeAnswer.{TakeAnswer}
+use Rattle.rh_record.specs.declared.answer.TakeAnswer.TheVariants.{Pdu, Empty}
+use Rattle.rh_record.specs.declared.answer.Answer.{Answer}
+use Rattle.rh_record.specs.declared.answer.Answer.TheVariants as answer
 
 -- one direction of the leg, from the end that gives to the end that takes
 pub record Way : Type 0 where
@@ -123,14 +123,42 @@ with_way world D way = record world { down = way }
 abbrev pub done_on : {A : Type 0} → World → Dir → (A → Answer) → Way × A → World × List Answer
 done_on world dir told did = (with_way world dir did.0, told did.1 ∷ [])
 
-abbrev pub step : World → Line → World × List Answer
-step world line.First = (world, [])
-step world (line.Give side pdu) =
+-- the answers to a send and a move of the one leg
+abbrev pub sent : Dir → ℕ → Answer
+sent dir count = answer.Send None dir (Some count)
+
+abbrev pub moved : Dir → List ℕ → Answer
+moved dir bytes = answer.Move None dir (Some bytes)
+
+-- what a line does
+pub data Deed : Type 0 where
+  -- a PDU is offered at an end; the next is asked for at an end
+  Offers : Side → List ℕ → Deed
+  Asks : Side → Deed
+  -- so many bytes are drawn, and are fed
+  Draws : Dir → ℕ → Deed
+  Feeds : Dir → ℕ → Deed
+  -- the first line, and one of another world
+  Nothing : Deed
+
+abbrev pub deed : Line → Deed
+deed (line.Give side pdu) = Offers side pdu
+deed (line.Take side) = Asks side
+deed (line.Send None dir count) = Draws dir count
+deed (line.Move None dir count) = Feeds dir count
+deed _ = Nothing
+
+abbrev pub act : World → Deed → World × List Answer
+act world (Offers side pdu) =
     done_on world (giving side) (answer.Give side) (give (way_of world (giving side)) pdu)
-step world (line.Take side) =
+act world (Asks side) =
     done_on world (taking side) (answer.Take side) (take_pdu (way_of world (taking side)))
-step world (line.Send dir count) = done_on world dir (answer.Send dir) (send (way_of world dir) count)
-step world (line.Move dir count) = done_on world dir (answer.Move dir) (move (way_of world dir) count)
+act world (Draws dir count) = done_on world dir (sent dir) (send (way_of world dir) count)
+act world (Feeds dir count) = done_on world dir (moved dir) (move (way_of world dir) count)
+act world Nothing = (world, [])
+
+abbrev pub step : World → Line → World × List Answer
+step world line = act world (deed line)
 
 -- the last lines of a report
 abbrev pub last : World → List Answer

@@ -1,7 +1,4 @@
-pub mod Recording
-pub mod ParsedLines
-pub mod Readings
-pub mod Report
+pub mod Config
 pub mod Direct
 pub mod Pieces
 pub mod Carrying

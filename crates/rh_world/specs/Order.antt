@@ -2,11 +2,12 @@
 use Rattle.std.specs.Prelude.{◌≡◌, ◌⊎◌, ℕ, List, [], ◌∷◌, ◌++◌, length, map, take, Ok, Err}
 use Rattle.rh_text.specs.declared.ends.Side.{Side}
 use Rattle.rh_text.specs.declared.ends.Side.TheVariants.{Client, Server}
-use Rattle.rh_world.specs.declared.line.Line.{Line}
-use Rattle.rh_world.specs.declared.line.Line.TheVariants as line
-use Rattle.rh_world.specs.declared.answer.TakeAnswer.TheVariants.{Pdu, Empty}
-use Rattle.rh_world.specs.declared.answer.Answer.{Answer}
-use Rattle.rh_world.specs.declared.answer.Answer.TheVariants.{Give, Take, Send, Move, Up, Down}
+use Rattle.rh_record.specs.declared.line.Line.{Line}
+use Rattle.rh_record.specs.declared.line.Line.TheVariants as line
+use Rattle.rh_record.specs.declared.answer.TakeAnswer.TheVariants as takes
+use Rattle.rh_record.specs.declared.answer.Answer.{Answer}
+use Rattle.rh_record.specs.declared.answer.Answer.TheVariants.{Give, Take, Close, NodeClosed, Up, Down}
+use Rattle.rh_record.specs.declared.answer.Who.TheVariants as nodes
 
 -- what an answer says of PDUs and ends
 pub data Event : Type 0 where
@@ -28,12 +29,14 @@ pub data Event : Type 0 where
 abbrev pub event : Answer → Event
 event (Give side (Ok len)) = Gives side
 event (Give side (Err fault)) = Refuses side
-event (Take side (Pdu pdu)) = Takes side pdu
-event (Take side Empty) = Silent
-event (Send dir count) = Silent
-event (Move dir bytes) = Silent
-event (Up given taken) = Silent
-event (Down given taken) = Silent
+event (Take side (takes.Pdu pdu)) = Takes side pdu
+event (Take side takes.Empty) = Silent
+event (Take side takes.Ended) = Ends side
+event (Take side (takes.Closed cause)) = Closes side
+event (Close side) = Stops side
+event (NodeClosed nodes.Client cause) = Closes Client
+event (NodeClosed nodes.Server cause) = Closes Server
+event _ = Silent
 
 abbrev pub events : List Answer → List Event
 events report = map event report
@@ -52,11 +55,8 @@ of_end Server Server pdu = pdu ∷ []
 
 -- what a line offers
 abbrev pub offer : Line → List (List ℕ)
-offer line.First = []
 offer (line.Give side pdu) = pdu ∷ []
-offer (line.Take side) = []
-offer (line.Send dir count) = []
-offer (line.Move dir count) = []
+offer _ = []
 
 -- what the lines of a recording offer, in order
 abbrev pub offered : List Line → List (List ℕ)
@@ -102,15 +102,18 @@ IsPrefix front all = (rest : List (List ℕ)) × (all ≡ front ++ rest)
 abbrev pub Counts : List Line → List Answer → Type 0
 Counts lines report =
     (front : List Answer) × (report ≡ front
-    ++ Up (length (given Client (offered lines) (events report))) (length (taken Server (events report)))
-    ∷ Down (length (given Server (offered lines) (events report))) (length (taken Client (events report)))
+    ++ Up (length (given Client (offered lines) (events report)))
+    (length (taken Server (events report)))
+    ∷ Down (length (given Server (offered lines) (events report)))
+    (length (taken Client (events report)))
     ∷ [])
 
 -- the order law of a recording and its report
 pub record InOrder (lines : List Line) (report : List Answer) : Type 0 where
   -- at every line, what an end took is a prefix of what the other end gave
   pub in_order : (end : Side) (k : ℕ)
-      → IsPrefix (taken end (take k (events report))) (given (other end) (offered lines) (take k (events report)))
+      → IsPrefix (taken end (take k (events report)))
+      (given (other end) (offered lines) (take k (events report)))
   -- an end takes nothing after it closed or ended
   pub none_taken_after : (end : Side) (front behind : List Event) (stop : Event)
       → events report ≡ front ++ stop ∷ behind → StopsTaking end stop → taken end behind ≡ []

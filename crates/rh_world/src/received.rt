@@ -27,7 +27,8 @@ impl Model for Received {
       places = a.lengths.capacity - length a.lengths.items;
     } };
 
-    ghost invariant = { λ a. seen.IsWhole a.lengths.items a.bytes.items a.lengths.capacity a.bytes.capacity };
+    ghost invariant = { λ a. seen.IsWhole a.lengths.items a.bytes.items a.lengths.capacity
+        a.bytes.capacity };
 }
 
 impl Received {
@@ -70,7 +71,8 @@ impl Received {
 
     /// Takes the first PDU out, if there is one. Nothing changes where there is no memory for it.
     pub(crate) fn pop(&mut self, alloc: Global) -> Result<Option<Bytes>, AllocError>
-        ensures ok { IfOk result (λ taken. MatchOption taken ((self.old.pdus ≡ []) × (self.new.pdus ≡ []))
+        ensures ok { IfOk result (λ taken. MatchOption taken
+            ((self.old.pdus ≡ []) × (self.new.pdus ≡ []))
             (λ pdu. self.old.pdus ≡ pdu ∷ self.new.pdus)) }
         ensures err { OnErr result (self.new.pdus ≡ self.old.pdus) }
     {

@@ -31,7 +31,28 @@ pub(crate) fn make_room<T: Copy>(
     Ok(())
 }
 
-/// Takes the first bytes out: `count` of them, or all where there are fewer. The others stay where they are.
+/// The first `count` bytes, as a list of their own.
+fn front_of(
+    alloc: Global,
+    ring: &HeapCircularBuffer<u8>,
+    count: usize,
+) -> Result<Vec<u8>, AllocError>
+    requires { count ≤ length ring.now.items }
+    ensures { IfOk result (λ bytes. bytes.items ≡ take count ring.now.items) }
+{
+    let (front, behind) = ring.as_slices();
+    if count <= front.len() {
+        return Vec::from_slice(alloc, &front[..count]);
+    }
+    let mut bytes = Vec::with_capacity(alloc, count)?;
+    bytes.extend_from_slice(front)?;
+    bytes.extend_from_slice(&behind[..count - front.len()])?;
+    Ok(bytes)
+}
+
+/// Takes the first bytes out: `count` of them, or all where there are fewer. The others stay where
+/// they are.
+#[inline(always)]
 pub(crate) fn take_front(
     alloc: Global,
     ring: &mut HeapCircularBuffer<u8>,
@@ -42,7 +63,8 @@ pub(crate) fn take_front(
     ensures room { ring.new.capacity ≡ ring.old.capacity }
     ensures err { OnErr result (ring.new ≡ ring.old) }
 {
-    let mut front = vec![in alloc; 0u8; count.min(ring.len())]?;
-    ring.read_into(&mut front);
+    let count = count.min(ring.len());
+    let front = front_of(alloc, ring, count)?;
+    ring.truncate_front(ring.len() - count);
     Ok(Bytes::new(front))
 }

@@ -1,5 +1,3 @@
-//! Lines, answers and a world by hand.
+//! Worlds driven by hand.
 
-mod reading;
 mod world;
-mod writing;

@@ -8,12 +8,12 @@ ghost use Rattle.rh_line.specs.Queue.{untouched};
 ghost use Rattle.rh_pdu.specs.Cut.{frames_of, rest_of};
 ghost use Rattle.rh_world.specs.Direct as seen;
 
-use crate::answer::TakeAnswer;
 use crate::received::Received;
 use crate::ring::{make_room, take_front};
 use circular_buffer::HeapCircularBuffer;
 use rh_line::{Begun, GiveFault, SendLine, draw};
 use rh_pdu::{Feed, Framer, check};
+use rh_record::TakeAnswer;
 use rh_text::Bytes;
 use std::alloc::{AllocError, Global};
 use std::marker::Model;
@@ -41,19 +41,12 @@ impl Model for Way {
     ghost use Rattle.std.specs.Prelude.{◌++◌};
     ghost use Rattle.std.specs.List.{concat};
     ghost use Rattle.rh_world.specs.Direct as seen;
-    ghost use Rattle.rh_world.specs.Carrying.{IsCarrying};
+    ghost use Rattle.rh_world.specs.Carrying.{IsCarrying, way_with};
 
     ghost Value = { seen.Way };
 
-    ghost view = { λ a. record {
-      queue = a.queue;
-      undrawn = a.begun ++ concat a.queue;
-      flight = a.flight.items;
-      fed = a.framer.rest;
-      untaken = a.untaken.pdus;
-      given = a.given;
-      taken = a.taken;
-    } };
+    ghost view = { λ a. way_with a.queue a.begun a.flight.items a.framer a.untaken.pdus a.given
+        a.taken };
 
     ghost invariant = { λ a. IsCarrying (a.begun ++ concat a.queue) a.flight.items a.framer
         a.untaken.pdus a.given a.taken };
@@ -90,27 +83,23 @@ impl Way {
         self.taken
     }
 
-    /// Queues a PDU, and answers its length or why it is refused. Bytes that are no PDU are told first.
-    pub(crate) fn give(
-        &mut self,
-        alloc: Global,
-        pdu: &[u8],
-    ) -> Result<Result<u16, GiveFault>, AllocError>
+    /// Queues a PDU, and answers its length or why it is refused. Bytes that are no PDU are told
+    /// first.
+    pub(crate) fn give(&mut self, pdu: &[u8]) -> Result<u16, GiveFault>
         requires { self.old.given + 1 < 2 ^ 32 }
-        ensures done { IfOk result (λ answer. (self.new, answer) ≡ seen.give self.old pdu.now) }
-        ensures err { OnErr result (self.new ≡ self.old) }
+        ensures { (self.new, result) ≡ seen.give self.old pdu.now }
     {
         if let Err(fault) = check(pdu) {
-            return Ok(Err(GiveFault::BadPdu(fault)));
+            return Err(GiveFault::BadPdu(fault));
         }
-        if !self.queue.push(alloc, pdu)? {
-            return Ok(Err(GiveFault::Full {
+        if !self.queue.push(pdu) {
+            return Err(GiveFault::Full {
                 held: self.queue.held(),
                 len: pdu.len(),
-            }));
+            });
         }
         self.given += 1;
-        Ok(Ok(pdu.len() as u16))
+        Ok(pdu.len() as u16)
     }
 
     /// Draws up to `count` bytes into flight, and answers how many.
@@ -180,8 +169,8 @@ fn widen(room: &mut Vec<u8>, count: usize) -> Result<(), AllocError>
     Ok(())
 }
 
-/// Feeds a piece up to the end of the first frame, which the framer then lends, and answers how many
-/// bytes of the piece that used; `None` where all of it was used and no frame is whole.
+/// Feeds a piece up to the end of the first frame, which the framer then lends, and answers how
+/// many bytes of the piece that used; `None` where all of it was used and no frame is whole.
 fn next_frame(framer: &mut Framer, piece: &[u8]) -> Option<usize>
     requires going { framer.old.fault ≡ None }
     requires sound { IsBad (rest_of (framer.old.rest ++ piece.now)) → ⊥ }

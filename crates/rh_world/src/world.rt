@@ -1,20 +1,19 @@
 //! The direct world: one leg, `cs`, between a client and a server.
 
-ghost use Rattle.std.specs.Prelude.{◌≡◌, ◌↔◌, ◌⊎◌, ◌+◌, ◌<◌, ◌≤◌, IsTrue, ◌++◌, [], ◌∷◌, IfOk, OnOk, OnErr};
+ghost use Rattle.std.specs.Prelude.{◌≡◌, ◌↔◌, ◌⊎◌, ◌+◌, ◌<◌, ◌≤◌, IsTrue, ◌++◌, [], ◌∷◌, None, IfOk, OnOk, OnErr};
 ghost use Rattle.rh_text.specs.Writing.{Writes};
 
-use crate::answer::{Answer, Report};
-use crate::line::Line;
+use crate::config::WorldConfig;
 use crate::way::Way;
-use rh_line::{Dir, Side};
+use rh_record::{Answer, Dir, Line, Report, Side};
 use std::alloc::{AllocError, Global};
 use std::marker::Model;
 
 /// How many PDUs a world counts at most.
 pub const MOST_PDUS: u32 = u32::MAX;
 
-/// A client and a server, and the leg that carries what each gives to the other. After want of memory a
-/// world may only be dropped.
+/// A client and a server, and the leg that carries what each gives to the other. After want of
+/// memory a world may only be dropped.
 #[derive(Drop)]
 pub struct World {
     up: Way,
@@ -30,10 +29,14 @@ impl Model for World {
 }
 
 impl World {
+    ghost use Rattle.std.specs.Prelude.{true};
+    ghost use Rattle.rh_world.specs.Config.{AreInRange};
     ghost use Rattle.rh_world.specs.Direct as seen;
 
     /// A world in which nothing was given.
-    pub fn new(alloc: Global) -> Result<World, AllocError>
+    pub fn new(alloc: Global, config: &WorldConfig) -> Result<World, AllocError>
+        requires direct { config.now.direct ≡ true }
+        requires in_range { AreInRange config.now }
         ensures { IfOk result (λ world. world ≡ seen.empty) }
     {
         Ok(World {
@@ -50,7 +53,8 @@ impl World {
         given >= u64::from(MOST_PDUS)
     }
 
-    /// Does what a line says, and adds its answer to the report. A first line does nothing.
+    /// Does what a line says, and adds its answer to the report. A first line, and one of another
+    /// world, does nothing.
     ///
     /// Fails where there is no memory. The report has then not changed; the line was done whole, or
     /// nothing of it.
@@ -70,11 +74,19 @@ impl World {
             ≤ self.old.up.given + self.old.down.given + 1 }
     {
         let answer = match line {
-            Line::First => return Ok(()),
-            Line::Give { side, pdu } => self.give(alloc, *side, pdu.as_slice())?,
+            Line::Give { side, pdu } => self.give(*side, pdu.as_slice()),
             Line::Take { side } => self.take(alloc, *side)?,
-            Line::Send { dir, count } => self.send(alloc, *dir, *count)?,
-            Line::Move { dir, count } => self.feed(alloc, *dir, *count)?,
+            Line::Send {
+                leg: None,
+                dir,
+                count,
+            } => self.send(alloc, *dir, *count)?,
+            Line::Move {
+                leg: None,
+                dir,
+                count,
+            } => self.feed(alloc, *dir, *count)?,
+            _ => return Ok(()),
         };
         report.push(answer)
     }
@@ -95,20 +107,20 @@ impl World {
         })
     }
 
-    fn give(&mut self, alloc: Global, side: Side, pdu: &[u8]) -> Result<Answer, AllocError>
+    fn give(&mut self, side: Side, pdu: &[u8]) -> Answer
         requires { self.old.up.given + self.old.down.given < MOST_PDUS }
-        ensures done { IfOk result (λ answer. (self.new, answer ∷ []) ≡ seen.step self.old (Line.Give side pdu.now)) }
-        ensures err { OnErr result (self.new ≡ self.old) }
+        ensures { (self.new, result ∷ []) ≡ seen.step self.old (Line.Give side pdu.now) }
     {
         let answer = match side {
-            Side::Client => self.up.give(alloc, pdu)?,
-            Side::Server => self.down.give(alloc, pdu)?,
+            Side::Client => self.up.give(pdu),
+            Side::Server => self.down.give(pdu),
         };
-        Ok(Answer::Give { side, answer })
+        Answer::Give { side, answer }
     }
 
     fn take(&mut self, alloc: Global, side: Side) -> Result<Answer, AllocError>
-        ensures done { IfOk result (λ answer. (self.new, answer ∷ []) ≡ seen.step self.old (Line.Take side)) }
+        ensures done { IfOk result (λ answer. (self.new, answer ∷ [])
+            ≡ seen.step self.old (Line.Take side)) }
         ensures err { OnErr result (self.new ≡ self.old) }
     {
         let answer = match side {
@@ -119,24 +131,34 @@ impl World {
     }
 
     fn send(&mut self, alloc: Global, dir: Dir, count: u32) -> Result<Answer, AllocError>
-        ensures done { IfOk result (λ answer. (self.new, answer ∷ []) ≡ seen.step self.old (Line.Send dir count)) }
+        ensures done { IfOk result (λ answer. (self.new, answer ∷ [])
+            ≡ seen.step self.old (Line.Send None dir count)) }
         ensures err { OnErr result (self.new ≡ self.old) }
     {
         let count = match dir {
             Dir::U => self.up.send(alloc, count)?,
             Dir::D => self.down.send(alloc, count)?,
         };
-        Ok(Answer::Send { dir, count })
+        Ok(Answer::Send {
+            leg: None,
+            dir,
+            count: Some(count),
+        })
     }
 
     fn feed(&mut self, alloc: Global, dir: Dir, count: u32) -> Result<Answer, AllocError>
-        ensures done { IfOk result (λ answer. (self.new, answer ∷ []) ≡ seen.step self.old (Line.Move dir count)) }
+        ensures done { IfOk result (λ answer. (self.new, answer ∷ [])
+            ≡ seen.step self.old (Line.Move None dir count)) }
         ensures err { OnErr result (self.new ≡ self.old) }
     {
         let bytes = match dir {
             Dir::U => self.up.feed(alloc, count)?,
             Dir::D => self.down.feed(alloc, count)?,
         };
-        Ok(Answer::Move { dir, bytes })
+        Ok(Answer::Move {
+            leg: None,
+            dir,
+            bytes: Some(bytes),
+        })
     }
 }

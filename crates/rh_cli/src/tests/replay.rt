@@ -1,4 +1,5 @@
 use super::{ROOM, answered, tells_failures};
+use crate::laws::run_in_memory;
 use crate::run::run;
 use crate::status::Status;
 use rh_io::{MemSink, MemSource, Sink, SinkFailed};
@@ -233,6 +234,16 @@ fn a_sink_that_takes_one_byte_a_write_gets_the_whole_report(rt: HostRuntime) -> 
         Status::Done
     );
     assert!(rt; output.bytes.as_slice() == REPORT.as_bytes());
+    Ok(())
+}
+
+#[test]
+fn a_recording_in_memory_is_replayed_whole(rt: HostRuntime) -> Result<(), Fail> {
+    let words = vec![in rt.alloc(); String::from_str(rt.alloc(), "replay")?]?;
+    let text = RECORDING.as_bytes().to_vec(rt.alloc())?;
+    let (status, output) = run_in_memory(rt.alloc(), &words, text, ROOM)?;
+    assert_eq!(rt; status, Status::Done);
+    assert!(rt; output.written() == REPORT.as_bytes());
     Ok(())
 }
 

@@ -6,8 +6,9 @@ use std::test::Fail;
 // Lines of hex, and the lines that tell their packets.
 type Rows<'a> = &'a [(&'a str, &'a str)];
 
-// CONN/A1, CONN/B1, a packet that is cut, bytes behind the last command, an unknown flag, the padding
-// of an address, and a header whose integers have their least byte first, and their greatest first.
+// CONN/A1, CONN/B1, a packet that is cut, bytes behind the last command, an unknown flag, the
+// padding of an address, and a header whose integers have their least byte first, and their
+// greatest first.
 const WORKED: Rows<'static> = &[
     (
         "05001403100000004c0000000000000000000400060000000100000003000000000000000000000000000000\

@@ -1,10 +1,8 @@
 //! A world driven line by line.
 
-use crate::answer::Report;
-use crate::line::Line;
+use crate::config::WorldConfig;
 use crate::world::World;
-use crate::writing::write_report;
-use rh_text::{Bytes, Dir, Side};
+use rh_record::{Bytes, Dir, Line, Report, Side, write_report};
 use std::test::Fail;
 
 // 24 bytes.
@@ -12,20 +10,32 @@ const PDU: &str = "05000003100000001800000001000000aabbccddeeff0011";
 
 #[test]
 fn a_pdu_given_at_one_end_is_taken_at_the_other(rt: HostRuntime) -> Result<(), Fail> {
-    let mut world = World::new(rt.alloc())?;
+    let mut world = World::new(rt.alloc(), &WorldConfig::direct())?;
     let mut report = Report::new(rt.alloc());
     let pdu = hex::decode(rt.alloc(), PDU)?;
-    let (side, dir) = (Side::Client, Dir::U);
+    let (side, leg, dir) = (Side::Client, None, Dir::U);
     for line in [
-        Line::First,
+        Line::First { roles: false },
         Line::Give {
             side,
             pdu: Bytes::new(pdu),
         },
-        Line::Send { dir, count: 100 },
-        Line::Move { dir, count: 20 },
+        Line::Send {
+            leg,
+            dir,
+            count: 100,
+        },
+        Line::Move {
+            leg,
+            dir,
+            count: 20,
+        },
         Line::Take { side: Side::Server },
-        Line::Move { dir, count: 100 },
+        Line::Move {
+            leg,
+            dir,
+            count: 100,
+        },
         Line::Take { side: Side::Server },
         Line::Take { side },
     ] {

@@ -11,10 +11,15 @@ returns-in_default-start-clause-answers g c =
     (came.0, [], came.1, Appends-nil (g.W.Sink.written c.args.output.now), inl refl)
 
 -- what is begun of the text read is begun of what came
-begun : {Says SaysWord : List ℕ → List ℕ → Type 0} → ((text whole : List ℕ) → SaysWord text whole → Says text whole)
-    → (read came written : List ℕ) → read ≡ came → IsBegun SaysWord read written → IsBegun Says came written
-begun {Says} {SaysWord} means read came written same (behind, says) =
-    (behind, means came (written ++ behind) (subst (λ (x : List ℕ). SaysWord x (written ++ behind)) same says))
+begun : {Says SaysWord : List ℕ → List ℕ → Type 0} → ((text whole : List ℕ) → SaysWord text whole
+    → Says text whole)
+    → (read came written : List ℕ) → read ≡ came → IsBegun SaysWord read written
+    → IsBegun Says came written
+begun {Says} {SaysWord} means read came written same (behind, says) = (
+  behind,
+  means came (written ++ behind)
+      (subst (λ (x : List ℕ). SaysWord x (written ++ behind)) same says),
+)
 
 pub returns-in-Err-WriteFault-clause-answers : goal.returns-in-Err-WriteFault-clause-answers
 returns-in-Err-WriteFault-clause-answers g c =
@@ -39,7 +44,7 @@ returns-in-Err-WriteFault-clause-takes g c = λ text left all said.
     ∙ all_came _ _ text came.0 left came.1.from c.in-Ok.ensures.ok.1 in
     c.in-Err-WriteFault.ensures.takes
     (λ whole h. all whole (g.met.X.Word.means text whole
-    (subst (λ (x : List ℕ). SaysOf g.X.Grammar.rules g.X.Word.deeds x whole) is h)))
+    (subst (λ (x : List ℕ). SaysOf g.G.Grammar.rules g.X.Word.deeds x whole) is h)))
     (ap Err c.in-Err-WriteFault.field-0-is)
 
 pub returns-clause-answers : goal.returns-clause-answers

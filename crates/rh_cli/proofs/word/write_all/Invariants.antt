@@ -8,7 +8,8 @@ decreases-lines g l = length l.rest
 
 abbrev pub invariant-lines : goal.invariant-lines
 invariant-lines g l = record {
-  writing : Writing g.X.Grammar.rules g.X.Word.deeds l.text l.place l.rest l.word (string_bytes l.gathered)
+  writing : Writing g.G.Grammar.rules g.X.Word.deeds l.text l.place l.rest l.word
+      (string_bytes l.gathered)
       (record { known = g.W.Sink.written l.fn.output; takes = g.W.Sink.takes l.fn.output })
       (record { known = g.W.Sink.written l.output; takes = g.W.Sink.takes l.output });
   counted : g.X.Word.done l.word + length l.rest ≤ length l.text;

@@ -1,9 +1,7 @@
-use Rattle.std.proofs.Common.{◌≡◌, ◌≢◌, ℕ, ◌+◌, ◌-◌, ◌++◌, [], List, length, take, drop, min, sym, ◌∙◌, ap, subst, arith}
-use Rattle.std.proofs.lemmas.Bool.Decides.{nat_tests}
-use Rattle.std.proofs.lemmas.List.{length-drop, length-take-le}
+use Rattle.std.proofs.Common.{◌≢◌, ◌+◌, ◌-◌, ◌++◌, length, sym, ◌∙◌}
 use Rattle.std.specs.List.{concat}
 use borrow.Rule.Slice.PartMut.{put_mid}
-use Rattle.rh_line.proofs.Drawing.{IsDrawn, Drew, drawn_length, drawn_step, drawn_out, drawn_next, drawn_full, drawn_all}
+use Rattle.rh_line.proofs.Drawing.{Drew, drawn_length, drawn_step, drawn_out, drawn_next, drawn_full, drawn_all}
 use Rattle.rh_line.proofs.begun.draw.Goals as goal
 use Rattle.rh_line.proofs.begun.draw.Goals.{then-drawn-room-via-then-drawn-room, then-drawn-room-via-else-drawn-room+then-not-begin_next}
 

@@ -16,6 +16,8 @@ returns-clause-flight c =
     c.draw.ensures.room ∙ ap (λ (x : List ℕ). take (length c.args.room.now) all ++ x) none
     ∙ append-nil (take (length c.args.room.now) all) in
     let long = ap length full in
-    let fill = filled c.args.flight.now c.fill_from_slice.new.self c.draw.new.room c.fill_from_slice.result
-    c.fill_from_slice.ensures.count c.fill_from_slice.ensures.items (omega (arith, c.requires.fits, long, size)) in
+    let fill = filled c.args.flight.now c.fill_from_slice.new.self c.draw.new.room
+    c.fill_from_slice.result
+    c.fill_from_slice.ensures.count c.fill_from_slice.ensures.items
+    (omega (arith, c.requires.fits, long, size)) in
     fill.0 ∙ ap (λ (x : List ℕ). c.args.flight.now.items ++ x) full

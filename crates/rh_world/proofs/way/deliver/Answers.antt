@@ -8,7 +8,8 @@ use Rattle.rh_world.proofs.way.deliver.Goals as goal
 pub push-requires-clause-short : goal.push-requires-clause-short
 push-requires-clause-short c =
     let bounds = frame_bounds c.next_frame.new.framer.frame c.in-Some.ensures.frames.1 in
-    let lent : length c.frame.result.now ≡ length c.next_frame.new.framer.frame = ap length c.frame.ensures in
+    let lent : length c.frame.result.now ≡ length c.next_frame.new.framer.frame =
+    ap length c.frame.ensures in
     omega (arith, bounds.1, lent)
 
 pub frames-preserved : goal.frames-preserved
@@ -16,14 +17,16 @@ frames-preserved c =
     let p = c.frames in
     let next = c.next_frame.new.framer in
     let is = c.in-Some.ensures.frames in
-    let t = frame_taken (p.framer.rest ++ p.left.now) next.frame next.rest (drop c.in-Some.used p.left.now)
+    let t = frame_taken (p.framer.rest ++ p.left.now) next.frame next.rest
+    (drop c.in-Some.used p.left.now)
     (next.rest ++ c.split_at.result.1.now)
     (is.0, is.1, is.2, ap (λ (x : List ℕ). next.rest ++ x) c.split_at.ensures.back) in
     let lent : length c.frame.result.now ≡ length next.frame = ap length c.frame.ensures in
     record {
       going = c.in-Some.ensures.going;
       frames = rw (c.push.ensures.pdus, c.frame.ensures)
-          (append_assoc p.untaken.pdus (next.frame ∷ []) (frames_of (next.rest ++ c.split_at.result.1.now))
+          (append_assoc p.untaken.pdus (next.frame ∷ [])
+          (frames_of (next.rest ++ c.split_at.result.1.now))
           ∙ ap (λ (x : List (List ℕ)). p.untaken.pdus ++ x) (sym t.frames) ∙ p.invariant.frames);
       rest = sym t.rest ∙ p.invariant.rest;
       room = omega (arith, p.invariant.room, c.push.ensures.room, t.joined, lent);

@@ -8,4 +8,5 @@ pub invariant_of-result : goal.invariant_of-result
 invariant_of-result c =
     let is = c.new-4.ensures in
     rw (c.in_ok-new.ensures, c.new-2.ensures, c.in_ok-with_capacity.ensures, c.in_ok-new-2.ensures)
-    (nothing_carried c.new-4.result (ap (λ (s : FramerState). s.rest) is) (ap (λ (s : FramerState). s.fault) is))
+    (nothing_carried c.new-4.result (ap (λ (s : FramerState). s.rest) is)
+    (ap (λ (s : FramerState). s.fault) is))

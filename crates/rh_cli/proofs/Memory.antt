@@ -1,0 +1,120 @@
+-- runs from bytes in memory to room in memory
+use Rattle.std.proofs.Common.{◌≡◌, ◌⊎◌, ◌≤◌, ℕ, List, [], length, refl, sym, ◌∙◌, ap, subst, inl, inr}
+use Rattle.std.proofs.Common.{Some, None, ◌++◌}
+use Rattle.std.proofs.lemmas.List.{append-nil}
+use Rattle.std.specs.declared.option.Option.{Option}
+use Rattle.std.specs.Io.KnownBytes.{Appends}
+use Rattle.rh_text.specs.Lines.{Rules, IsText}
+use Rattle.rh_record.specs.Places.{direct_recording}
+use Rattle.rh_show.specs.Lines.{packets}
+use Rattle.rh_cli.specs.declared.form.Form.{Form}
+use Rattle.rh_cli.specs.declared.form.Form.TheVariants.{Replay, Show, Help, Version}
+use Rattle.rh_cli.specs.declared.status.Status.{Status}
+use Rattle.rh_cli.specs.declared.status.Status.TheVariants as statuses
+use Rattle.rh_cli.specs.declared.word.Ended.{Ended}
+use Rattle.rh_cli.specs.declared.word.Ended.TheVariants as ends
+use Rattle.rh_cli.specs.Words.{most_input}
+use Rattle.rh_cli.specs.Statuses.{status_of}
+use Rattle.rh_cli.specs.Replay.{IsReplayed}
+use Rattle.rh_cli.specs.Show.{IsShown}
+use Rattle.rh_cli.specs.Forms.{Outside, Reads, Tells, Ran}
+use Rattle.rh_cli.specs.Memory.{IsRoomFor, NoneFailed, RanInMemory}
+use Rattle.rh_cli.proofs.Coming.{all_came}
+
+-- where nothing was written before, all is what was appended
+all_written : (before after : Option (List ℕ)) (written : List ℕ) → before ≡ Some []
+    → Appends before after written → after ≡ Some written
+all_written None after written is h = absurd (cc)
+all_written (Some old) None written is h = absurd h
+all_written (Some old) (Some new) written is h = let e = h in cc
+
+-- a word's run over memory
+record Spared {P L : Type 0} (rules : Rules P L) (Says : List ℕ → List ℕ → Type 0) (ended : Ended)
+    (text : List ℕ) (written : Option (List ℕ)) : Type 0 where
+  none_failed : NoneFailed (status_of ended)
+  whole : status_of ended ≡ statuses.Done
+      → (output : List ℕ) × (written ≡ Some output) × Says text output
+  done : IsText rules text × (length text ≤ most_input)
+      → (status_of ended ≡ statuses.Done) ⊎ (status_of ended ≡ statuses.NoMemory)
+
+module _ {P L : Type 0} (rules : Rules P L) (Says : List ℕ → List ℕ → Type 0) (Unfailing : Type 0)
+    (before after : Outside) (text : List ℕ) where
+  spared : (ended : Ended) → Reads rules Says Unfailing ended before after → Unfailing
+      → before.left ≡ Some text → before.written ≡ Some []
+      → ((whole : List ℕ) → Says text whole → length whole ≤ before.takes)
+      → Spared rules Says ended text after.written
+  spared ends.Done h sure left none room =
+      let (came, written, moves, wrote, (short, over, says)) = h.answers in
+      let same = all_came before.left after.left text came left moves.from over in
+      record {
+        none_failed = tt;
+        whole = λ _. (
+          written,
+          all_written before.written after.written written none wrote,
+          subst (λ (t : List ℕ). Says t written) same says,
+        );
+        done = λ _. inl refl;
+      }
+  spared (ends.BadInput line) h sure left none room = record {
+    none_failed = tt;
+    whole = λ e. absurd (cc);
+    done = λ is. absurd (h.taken text left is.0 is.1);
+  }
+  spared ends.ReadFault h sure left none room = absurd (h.unfailing sure refl)
+  spared ends.WriteFault h sure left none room = absurd (h.takes text left room refl)
+  spared ends.NoMemory h sure left none room = record {
+    none_failed = tt;
+    whole = λ e. absurd (cc);
+    done = λ _. inr refl;
+  }
+  spared ends.TooLong h sure left none room = record {
+    none_failed = tt;
+    whole = λ e. absurd (cc);
+    done = λ is. absurd (h.taken text left is.0 is.1);
+  }
+
+-- what the program tells of itself goes out whole
+told_whole : (text : List ℕ) (status : Status) (before after : Option (List ℕ))
+    (faults now takes : ℕ)
+    → Tells text status before after faults now takes → before ≡ Some [] → length text ≤ takes
+    → (status ≡ statuses.Done) × ((output : List ℕ) × (after ≡ Some output) × (output ≡ text))
+told_whole text status before after faults now takes h none room =
+    let sure = h.sure room in
+    let all : h.behind ≡ [] = elim h.ended [
+      | inl e ↦ e.1
+      | inr e ↦ absurd (let f = e.0 in cc)
+    ] in
+    let is : text ≡ h.written =
+    h.front ∙ ap (λ (x : List ℕ). h.written ++ x) all ∙ append-nil h.written in
+    (sure, (h.written, all_written before after h.written none h.wrote, sym is))
+
+-- any form's run over memory
+pub ran_in_memory : (help version : List ℕ) (Unfailing : Type 0) (form : Form) (status : Status)
+    (before after : Outside) (text : List ℕ) → Ran help version Unfailing form status before after
+    → Unfailing → before.left ≡ Some text → before.written ≡ Some []
+    → IsRoomFor help version form text before.takes
+    → RanInMemory help version form text status after.written
+ran_in_memory help version Unfailing Replay status before after text (
+  ended,
+  is,
+  reads,
+) sure left none room =
+    let s =
+    spared direct_recording IsReplayed Unfailing before after text ended reads sure left none
+    room in
+    rw is (record { none_failed = s.none_failed; whole = s.whole; done = s.done })
+ran_in_memory help version Unfailing Show status before after text (
+  ended,
+  is,
+  reads,
+) sure left none room =
+    let s = spared packets IsShown Unfailing before after text ended reads sure left none room in
+    rw is (record { none_failed = s.none_failed; whole = s.whole; done = s.done })
+ran_in_memory help version Unfailing Help status before after text h sure left none room =
+    let t = told_whole help status before.written after.written _ _ before.takes h none
+    (room help refl) in
+    rw t.0 (record { none_failed = tt; whole = λ _. t.1; done = λ _. inl refl })
+ran_in_memory help version Unfailing Version status before after text h sure left none room =
+    let t = told_whole version status before.written after.written _ _ before.takes h none
+    (room version refl) in
+    rw t.0 (record { none_failed = tt; whole = λ _. t.1; done = λ _. inl refl })

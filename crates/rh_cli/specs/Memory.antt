@@ -1,0 +1,51 @@
+-- runs from bytes in memory to room in memory, where no call of either is to fail
+use Rattle.std.specs.Prelude.{◌≡◌, ◌⊎◌, ◌≤◌, ℕ, List, length, Some}
+use Rattle.std.specs.declared.option.Option.{Option}
+use Rattle.rh_text.specs.Lines.{IsText}
+use Rattle.rh_record.specs.Places.{direct_recording}
+use Rattle.rh_show.specs.Lines.{packets}
+use Rattle.rh_cli.specs.declared.form.Form.{Form}
+use Rattle.rh_cli.specs.declared.form.Form.TheVariants.{Replay, Show, Help, Version}
+use Rattle.rh_cli.specs.declared.status.Status.{Status}
+use Rattle.rh_cli.specs.declared.status.Status.TheVariants as statuses
+use Rattle.rh_cli.specs.Words.{most_input}
+use Rattle.rh_cli.specs.Replay.{IsReplayed}
+use Rattle.rh_cli.specs.Show.{IsShown}
+
+-- what a form writes of a text, whole; `help` and `version` are what the program tells of itself
+abbrev pub IsOutput : (help version : List ℕ) → Form → List ℕ → List ℕ → Type 0
+IsOutput help version Replay text whole = IsReplayed text whole
+IsOutput help version Show text whole = IsShown text whole
+IsOutput help version Help text whole = whole ≡ help
+IsOutput help version Version text whole = whole ≡ version
+
+-- nothing is wrong with the text for this form
+abbrev pub IsInput : Form → List ℕ → Type 0
+IsInput Replay text = IsText direct_recording text × (length text ≤ most_input)
+IsInput Show text = IsText packets text × (length text ≤ most_input)
+IsInput Help text = Unit {0}
+IsInput Version text = Unit {0}
+
+-- neither the input nor the output failed
+abbrev pub NoneFailed : Status → Type 0
+NoneFailed statuses.Done = Unit {0}
+NoneFailed statuses.Usage = Unit {0}
+NoneFailed (statuses.BadInput line) = Unit {0}
+NoneFailed statuses.ReadFault = ⊥
+NoneFailed statuses.WriteFault = ⊥
+NoneFailed statuses.NoMemory = Unit {0}
+NoneFailed statuses.TooLong = Unit {0}
+
+-- there is room for all that the form writes of the text
+abbrev pub IsRoomFor : (help version : List ℕ) → Form → List ℕ → ℕ → Type 0
+IsRoomFor help version form text room =
+    (whole : List ℕ) → IsOutput help version form text whole → length whole ≤ room
+
+-- where all is done, what was written is the whole output; where nothing is wrong with the text,
+-- all is done but for want of memory
+pub record RanInMemory (help version : List ℕ) (form : Form) (text : List ℕ) (status : Status)
+    (written : Option (List ℕ)) : Type 0 where
+  pub none_failed : NoneFailed status
+  pub whole : status ≡ statuses.Done
+      → (output : List ℕ) × (written ≡ Some output) × IsOutput help version form text output
+  pub done : IsInput form text → (status ≡ statuses.Done) ⊎ (status ≡ statuses.NoMemory)

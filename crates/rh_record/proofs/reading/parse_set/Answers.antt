@@ -1,0 +1,5 @@
+use Rattle.rh_record.proofs.LineLaws.{no_set}
+use Rattle.rh_record.proofs.reading.parse_set.Goals as goal
+
+pub returns-in_err-key : goal.returns-in_err-key
+returns-in_err-key c = rw c.from_residual.ensures (no_set c.args.words.now c.in_err-key.ensures)

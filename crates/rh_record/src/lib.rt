@@ -1,0 +1,25 @@
+//! Recordings and reports: their lines and answers, and the text of each.
+#![tactic(auto)]
+
+pub mod answer;
+pub mod keys;
+pub mod line;
+pub mod place;
+pub mod reading;
+pub mod recording;
+pub mod report;
+#[cfg(test)]
+mod tests;
+mod verb;
+pub mod words;
+pub mod writing;
+
+pub use answer::{Answer, TakeAnswer, Who};
+pub use line::{Key, Line, RecordKind};
+pub use place::{Keys, Place};
+pub use reading::{LineRefused, read_line};
+pub use recording::{DirectRecording, Recording, one_direct_recording, one_reading, one_recording};
+pub use report::Report;
+pub use rh_line::{Dir, GiveFault, Side};
+pub use rh_text::Bytes;
+pub use writing::{write_answer, write_report};

@@ -1,0 +1,124 @@
+//! The grammars of recordings: which line may stand where.
+
+ghost use Rattle.std.specs.Prelude.{◌≡◌, ℕ, List};
+ghost use Rattle.rh_text.specs.Lines.{TextOf, IsText, FirstBad};
+ghost use Rattle.rh_record.specs.declared.line.Line.{Line};
+ghost use Rattle.rh_record.specs.Recording.{LineText};
+ghost use Rattle.rh_record.specs.Places.{direct_recording, recording};
+
+use crate::line::{Line, RecordKind};
+use crate::place::{Place, behind_direct, behind_direct_give};
+use crate::reading::{MOST_BYTES, Parsed, parse};
+use rh_text::{Grammar, is_hex, one_text};
+
+/// The grammar of recordings, direct ones and those of roles.
+#[derive(Clone, Copy, Debug)]
+pub struct Recording;
+
+impl Grammar for Recording {
+    ghost use Rattle.rh_record.specs.Places.{recording};
+    ghost use Rattle.rh_record.specs.Readings.{one_line_at, no_empty};
+
+    type Place = Place;
+
+    type Line = Line;
+
+    ghost rules = { recording };
+
+    fn first_place() -> Place {
+        Place::Header
+    }
+
+    fn may_end(place: Place) -> bool {
+        !matches!(place, Place::Header)
+    }
+
+    /// Reads no bytes of a give, and takes no memory.
+    fn judge_line(text: &[u8], place: Place) -> Option<Place> {
+        match parse(text)? {
+            Parsed::Plain(line) => place.behind(&line),
+            Parsed::Give { hex, .. } => {
+                if is_hex(hex, MOST_BYTES) {
+                    place.behind_give()
+                } else {
+                    None
+                }
+            }
+        }
+    }
+
+    ghost one = { one_line_at };
+
+    ghost some = { no_empty };
+}
+
+/// The grammar of direct recordings alone.
+#[derive(Clone, Copy, Debug)]
+pub struct DirectRecording;
+
+impl Grammar for DirectRecording {
+    ghost use Rattle.rh_record.specs.Places.{direct_recording};
+    ghost use Rattle.rh_record.specs.Readings.{one_direct_line, no_empty_direct};
+
+    type Place = RecordKind;
+
+    type Line = Line;
+
+    ghost rules = { direct_recording };
+
+    fn first_place() -> RecordKind {
+        RecordKind::Header
+    }
+
+    fn may_end(place: RecordKind) -> bool {
+        place != RecordKind::Header
+    }
+
+    /// Reads no bytes of a give, and takes no memory.
+    fn judge_line(text: &[u8], place: RecordKind) -> Option<RecordKind> {
+        match parse(text)? {
+            Parsed::Plain(line) => behind_direct(place, &line),
+            Parsed::Give { hex, .. } => {
+                if is_hex(hex, MOST_BYTES) {
+                    behind_direct_give(place)
+                } else {
+                    None
+                }
+            }
+        }
+    }
+
+    ghost one = { one_direct_line };
+
+    ghost some = { no_empty_direct };
+}
+
+/// A text spells one line at most: this function does nothing, and its contract is that law.
+pub fn one_reading()
+    ensures { (text : List ℕ) (a b : Line) → LineText a text → LineText b text → a ≡ b }
+{}
+
+/// A text is the text of one recording, or has one first bad line, and never both: this function
+/// does nothing, and its contract is that law. `first_bad_line::<Recording>` tells which.
+pub fn one_recording()
+    ensures lines { (text : List ℕ) (a b : List Line) → TextOf recording text a
+        → TextOf recording text b → a ≡ b }
+    ensures bad { (text : List ℕ) (n m : ℕ) → FirstBad recording text n → FirstBad recording text m
+        → n ≡ m }
+    ensures never_both { (text : List ℕ) (n : ℕ) → IsText recording text
+        → ¬ FirstBad recording text n }
+{
+    one_text::<Recording>();
+}
+
+/// The same of direct recordings alone: `first_bad_line::<DirectRecording>` tells which.
+pub fn one_direct_recording()
+    ensures lines { (text : List ℕ) (a b : List Line)
+        → TextOf direct_recording text a → TextOf direct_recording text b → a ≡ b }
+    ensures bad { (text : List ℕ) (n m : ℕ)
+        → FirstBad direct_recording text n → FirstBad direct_recording text m → n ≡ m }
+    ensures never_both { (text : List ℕ) (n : ℕ) → IsText direct_recording text
+        → ¬ FirstBad direct_recording text n }
+{
+    one_text::<DirectRecording>();
+}

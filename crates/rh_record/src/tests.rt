@@ -1,0 +1,5 @@
+//! Recordings and reports, line by line and whole.
+
+mod answers;
+mod lines;
+mod recordings;

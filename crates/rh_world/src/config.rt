@@ -1,0 +1,51 @@
+//! What a world is made by.
+
+/// The numbers of a world, each named by its key, and whether it is a direct one. A direct world
+/// uses none of the numbers.
+#[derive(Clone, Copy, Debug, PartialEq, Eq)]
+pub struct WorldConfig {
+    /// Whether it is a direct world.
+    pub direct: bool,
+    /// The window of the client, in bytes: 8,192 to 262,144.
+    pub cwin: u32,
+    /// The window of the in proxies, likewise.
+    pub iwin: u32,
+    /// The window of the out proxies, likewise.
+    pub owin: u32,
+    /// The window of the server, likewise.
+    pub swin: u32,
+    /// The lifetime of an IN channel, in bytes: 131,072 to 2,147,483,648.
+    pub ilife: u32,
+    /// The lifetime of an OUT channel, likewise.
+    pub olife: u32,
+    /// The connection timeout of the in proxies, in milliseconds: 120,000 to 14,400,000.
+    pub itime: u32,
+    /// The connection timeout of the out proxies, likewise.
+    pub otime: u32,
+    /// The client's keepalive, in milliseconds: 0, which means 300,000, or 60,000 to 4,294,967,295.
+    pub keep: u32,
+}
+
+impl WorldConfig {
+    ghost use Rattle.std.specs.Prelude.{◌≡◌, true};
+    ghost use Rattle.rh_world.specs.Config.{AreInRange};
+
+    /// A direct world, and the numbers that stand where no line sets them.
+    pub fn direct() -> WorldConfig
+        ensures direct { result.direct ≡ true }
+        ensures in_range { AreInRange result }
+    {
+        WorldConfig {
+            direct: true,
+            cwin: 65_536,
+            iwin: 65_536,
+            owin: 65_536,
+            swin: 65_536,
+            ilife: 1_073_741_824,
+            olife: 1_073_741_824,
+            itime: 120_000,
+            otime: 120_000,
+            keep: 300_000,
+        }
+    }
+}
