@@ -1,0 +1,12 @@
+mod HeadTexts
+mod Scans
+mod Framed
+mod Steps
+mod Hearings
+mod FilledRooms
+mod Draws
+mod Places
+mod ClosedNodes
+mod Passed
+mod Kept
+mod Merges

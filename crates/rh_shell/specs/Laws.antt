@@ -1,0 +1,24 @@
+-- laws of nodes
+use Rattle.std.specs.Prelude.{◌≡◌, ℕ, List}
+use Rattle.rh_line.specs.declared.leg.Leg.{Leg}
+use Rattle.rh_line.specs.declared.cause.Cause.{Cause}
+use Rattle.rh_line.specs.declared.state.Verdict.TheVariants as verdict
+use Rattle.rh_shell.specs.declared.course.Course.{Course}
+use Rattle.rh_shell.specs.declared.course.Course.TheVariants.{Going, Closed, Refusing}
+use Rattle.rh_shell.specs.Rules.{Rules}
+use Rattle.rh_shell.specs.Shells.{Shell, bytes, ended, broken, drawn, tick}
+
+-- the node closed with this cause
+abbrev pub ClosedWith : Cause → Course → Type 0
+ClosedWith why Going = ⊥
+ClosedWith why (Closed first) = first ≡ why
+ClosedWith why (Refusing first leg rest) = first ≡ why
+
+-- whatever comes then, nothing changes, and the answer is that cause
+pub record Stays {S : Type 0} (rules : Rules S) (s : Shell S) (why : Cause) : Type 0 where
+  pub bytes : (leg : Leg) (piece : List ℕ) → bytes rules s leg piece ≡ (s, verdict.Closed why)
+  pub ended : (leg : Leg) → ended rules s leg ≡ (s, verdict.Closed why)
+  pub broken : (leg : Leg) → broken rules s leg ≡ (s, verdict.Closed why)
+  pub tick : (now : ℕ) → tick rules s now ≡ (s, verdict.Closed why)
+  -- drawing keeps the cause
+  pub draw : (leg : Leg) (room : ℕ) → ClosedWith why (drawn rules s leg room).0.course

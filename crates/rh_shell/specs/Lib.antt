@@ -1,0 +1,12 @@
+pub mod Intakes
+pub mod Texts
+pub mod Readings
+pub mod Rules
+pub mod NearEnds
+pub mod Hearing
+pub mod Keeping
+pub mod Drawing
+pub mod Shells
+pub mod Laws
+pub mod Waiting
+pub mod Merging

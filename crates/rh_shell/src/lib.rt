@@ -1,0 +1,34 @@
+//! What is the same in every role of a virtual connection (MS-RPCH 3.2).
+#![tactic(auto)]
+
+pub mod answers;
+pub mod begun;
+pub mod course;
+mod drawing;
+pub mod due;
+pub mod heading;
+mod hearing;
+pub mod laws;
+pub mod merging;
+mod near_end;
+pub mod reading;
+pub mod role;
+pub mod rooms;
+pub mod shell;
+pub mod stage;
+pub mod standing;
+pub mod stop;
+#[cfg(test)]
+mod tests;
+mod text;
+pub mod waiting;
+
+pub use answers::{Behind, Count, HeadRefused, HeadTaken, Phase, Refused};
+pub use begun::Begun;
+pub use due::{Due, Origin};
+pub use laws::{cuts_change_nothing, first_cause_is_kept};
+pub use merging::{edges_never_fall, one_waits_of_each};
+pub use role::Role;
+pub use rooms::Rooms;
+pub use shell::Shell;
+pub use waiting::{FORWARDED_ROOM, Gate, OWN_ROOM, Waiting};
