@@ -1,7 +1,7 @@
-//! Reads RTS packets from standard input, one behind the other, and prints how many bytes and commands
-//! there were. With the word `read` no command is counted; with `view` each packet is viewed; with
-//! `recode` each is decoded and encoded again, and must be the same bytes. `bench/packets.py`
-//! measures it.
+//! Reads RTS packets from standard input, one behind the other, and prints how many bytes and
+//! commands there were. With the word `read` no command is counted; with `view` each packet is
+//! viewed; with `recode` each is decoded and encoded again, and must be the same bytes.
+//! `bench/packets.py` measures it.
 #![tactic(auto)]
 
 ghost use Rattle.std.specs.Prelude.{◌<◌, length, IfSome};
