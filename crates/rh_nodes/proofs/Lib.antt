@@ -1,0 +1,10 @@
+pub mod Rings
+pub mod Grown
+pub mod Appending
+pub mod Told
+pub mod Lows
+pub mod Idles
+pub mod Times
+pub mod Keeping
+pub mod Settles
+pub mod Pushed
