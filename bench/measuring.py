@@ -63,8 +63,10 @@ def programs_of(options):
     return programs
 
 
-def measure(doc, program, cases):
-    """Measures each case, a name with the program's word and what writes its input to a file and tells its size."""
+def measure(doc, program, cases, more_words=()):
+    """Measures each case, a name with the program's word and what writes its input to a file and tells its size.
+
+    Further words, the same for all cases, stand behind the case's word."""
     parser = argparse.ArgumentParser(description=doc + OPTIONS, formatter_class=argparse.RawDescriptionHelpFormatter)
     parser.add_argument("--program", type=pathlib.Path, default=TOP / program)
     parser.add_argument("--against", type=pathlib.Path)
@@ -86,7 +88,7 @@ def measure(doc, program, cases):
             labels = [name, f"{name}, against"][: len(programs)]
             sinks = [folder / f"{label}.out" if options.outputs else pathlib.Path(os.devnull) for label in labels]
             rounds = [
-                [run([path, word], source, sink) for path, sink in zip(programs, sinks)] for _ in range(options.runs)
+                [run([path, word, *more_words], source, sink) for path, sink in zip(programs, sinks)] for _ in range(options.runs)
             ]
             for label, results in zip(labels, zip(*rounds)):
                 all_well = print_figures(label, size, results) and all_well

@@ -33,7 +33,7 @@ impl Model for Channel {
 
 impl Channel {
     ghost use Rattle.rh_window.specs.Receiving.{after_tell, after_told, due};
-    ghost use Rattle.rh_line.specs.Lines.{IsIncoming, admitted, channel_verdict, fresh, released, unopened, with_end, with_window};
+    ghost use Rattle.rh_line.specs.Lines.{IsIncoming, admitted, channel_verdict, fresh, is_empty, released, unopened, with_end, with_window};
 
     /// A channel on which nothing came and whose window is shut, with room for `size` bytes.
     pub(crate) fn new(alloc: Global, size: u32) -> Result<Channel, AllocError>
@@ -122,6 +122,13 @@ impl Channel {
         ensures { result ≡ front_length self.now.pdus }
     {
         self.pdus.front()
+    }
+
+    /// Whether no PDU is held.
+    pub(crate) fn is_empty(&self) -> bool
+        ensures { result ≡ is_empty self.now.pdus }
+    {
+        self.pdus.front().is_none()
     }
 
     /// Takes the first PDU out and releases it to the window, puts it at the front of the room and

@@ -42,7 +42,7 @@ impl Model for RecvLine {
 }
 
 impl RecvLine {
-    ghost use Rattle.rh_line.specs.Lines.{IsLine, IsThere, channel_of, first_line, admit_verdict, after_admit, after_end, after_finish, after_open_next, after_tell, after_told, after_take, due, moved_on, take_answer};
+    ghost use Rattle.rh_line.specs.Lines.{IsLine, IsThere, channel_of, first_line, admit_verdict, after_admit, after_end, after_finish, after_open_next, after_tell, after_told, after_take, due, is_empty, is_ended, moved_on, take_answer};
 
     /// A line with one channel, whose window of `size` bytes is told: `LEAST_WINDOW` to
     /// `GREATEST_WINDOW` of rh_window.
@@ -102,6 +102,26 @@ impl RecvLine {
         match channel {
             Which::Current => self.current.is_ended(),
             Which::Next => self.next.is_ended(),
+        }
+    }
+
+    /// Whether END came on the current channel, or on one that was current before.
+    pub fn is_ended(&self) -> bool
+        ensures ended { result ≡ is_ended self.now }
+        ensures sound { IsLine self.now }
+    {
+        self.was_ended || self.current.is_ended()
+    }
+
+    /// Whether no PDU of a channel is held.
+    pub fn is_empty(&self, channel: Which) -> bool
+        requires { IsThere self.now channel }
+        ensures empty { result ≡ is_empty (channel_of self.now channel).pdus }
+        ensures sound { IsLine self.now }
+    {
+        match channel {
+            Which::Current => self.current.is_empty(),
+            Which::Next => self.next.is_empty(),
         }
     }
 
@@ -213,7 +233,7 @@ impl RecvLine {
         ensures sound { IsLine self.new }
     {
         let Some(len) = self.current.take(room) else {
-            return if self.was_ended || self.current.is_ended() {
+            return if self.is_ended() {
                 LineTake::Ended
             } else {
                 LineTake::Empty

@@ -10,3 +10,13 @@ mod ClosedNodes
 mod Passed
 mod Kept
 mod Merges
+pub mod Leading
+mod Takings
+mod TakenPieces
+mod Puttings
+mod Following
+mod EndFollowing
+mod Cuttings
+mod RoomCuts
+mod Rooming
+mod OnWires

@@ -1,5 +1,5 @@
 -- what a leg's end makes of the bytes up to what they first make whole
-use Rattle.std.proofs.Common.{◌≡◌, ℕ, List, [], ◌∷◌, drop, Some, None, sym, ◌∙◌, ap, refl}
+use Rattle.std.proofs.Common.{◌≡◌, ℕ, List, [], ◌∷◌, drop, Some, None, Ok, Err, sym, ◌∙◌, ap, refl}
 use Rattle.std.specs.declared.option.Option.{Option}
 use Rattle.std.specs.declared.result.Result.{Result}
 use Rattle.rh_pdu.specs.declared.fault.HeadFault.{HeadFault}
@@ -12,7 +12,7 @@ use Rattle.rh_shell.specs.declared.stage.Stage.TheVariants as stage
 use Rattle.rh_shell.specs.declared.stop.Stop.{Stop}
 use Rattle.rh_shell.specs.Intakes.{Intake, Frame, Fault, behind, is_whole_head, is_whole_greeting, scan}
 use Rattle.rh_shell.specs.Texts.{Adds}
-use Rattle.rh_shell.specs.Keeping.{overrun, overran}
+use Rattle.rh_shell.specs.Keeping.{overrun, overran, after_row}
 use Rattle.rh_shell.specs.NearEnds.{NearEnd}
 use Rattle.rh_shell.specs.Rules.{Rules}
 use Rattle.rh_shell.specs.Hearing.{Turn, goes, stops, stop, behind_head, behind_frame, take_greeting, take_head, take_frame, heading, take, with_intake, take_scanned, hear_next}
@@ -74,7 +74,7 @@ module _ {S : Type 0} (rules : Rules S) {end now : NearEnd} (is : end ≡ now) (
   at_end : (at : Heading) → at ≡ heading now now.intake.place → at ≡ heading end end.intake.place
   at_end at e = e ∙ ap (λ (x : NearEnd). heading x x.intake.place) (sym is)
 
-  pub frame_taken : (at : Heading) (i : Intake) (frame left : List ℕ) (next : S)
+  frame_taken : (at : Heading) (i : Intake) (frame left : List ℕ) (next : S)
       (taken : Result Count Cause)
       → at ≡ heading now now.intake.place
       → record { intake = i; came = Frame end.intake.place frame; left = left } ≡ scan end.intake
@@ -87,6 +87,29 @@ module _ {S : Type 0} (rules : Rules S) {end now : NearEnd} (is : end ≡ now) (
       (ap (λ x. (behind_frame (with_intake end i) x, left))
       (e ∙ ap (λ (x : Heading). take_frame rules x role frame) (at_end at there))
       ∙ ap (take_scanned rules end role) scans)
+
+  row_turn : (e : NearEnd) (next : S) (taken : Result Count Cause)
+      → record {
+        end = (after_row e taken).0;
+        role = next;
+        stop = (after_row e taken).1;
+      } ≡ behind_frame e (next, taken)
+  row_turn e next (Ok count) = refl
+  row_turn e next (Err why) = refl
+
+  pub row_taken : (at : Heading) (i : Intake) (frame left : List ℕ) (next : S)
+      (taken : Result Count Cause) (x : NearEnd × Option Stop)
+      → x ≡ after_row (with_intake end i) taken
+      → at ≡ heading now now.intake.place
+      → record { intake = i; came = Frame end.intake.place frame; left = left } ≡ scan end.intake
+      piece
+      → (next, taken) ≡ take_frame rules at role frame
+      → (record { end = x.0; role = next; stop = x.1 }, left) ≡ hear_next rules now role piece
+  row_taken at i frame left next taken x row there scans e =
+      ap (λ (y : NearEnd × Option Stop).
+      (record { end = y.0; role = next; stop = y.1 }, left)) row
+      ∙ ap (λ (t : Turn S). (t, left)) (row_turn (with_intake end i) next taken)
+      ∙ frame_taken at i frame left next taken there scans e
 
   pub fault_taken : (at : Heading) (i : Intake) (left : List ℕ) (fault : HeadFault)
       → at ≡ heading now now.intake.place

@@ -1,7 +1,10 @@
--- the bytes of a body as pieces: for private contracts alone
-use Rattle.std.specs.Prelude.{ℕ, ◌-◌, ◌+◌, List, [], ◌∷◌, min, Some, None}
+-- the bytes of a body as pieces, and what is behind a frame: for private contracts alone
+use Rattle.std.specs.Prelude.{ℕ, ◌-◌, ◌+◌, List, [], ◌∷◌, min, Some, None, Ok, Err}
 use Rattle.std.specs.declared.option.Option.{Option}
+use Rattle.std.specs.declared.result.Result.{Result}
+use Rattle.rh_line.specs.declared.cause.Cause.{Cause}
 use Rattle.rh_line.specs.declared.cause.Cause.TheVariants as cause
+use Rattle.rh_shell.specs.declared.answers.Count.{Count}
 use Rattle.rh_shell.specs.declared.stage.Stage.{Stage}
 use Rattle.rh_shell.specs.declared.stage.Stage.TheVariants as stage
 use Rattle.rh_shell.specs.declared.stage.Body.{Body}
@@ -38,3 +41,8 @@ overran end (b ∷ bs) = (
       ),
   bs,
 )
+
+-- the end of a leg behind a row that took a frame or refused it, and why the node stops
+abbrev pub after_row : NearEnd → Result Count Cause → NearEnd × Option Stop
+after_row end (Ok next) = (record end { count = next }, None)
+after_row end (Err why) = (end, Some (stop why))

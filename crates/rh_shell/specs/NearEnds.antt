@@ -66,6 +66,11 @@ abbrev pub is_empty : List ℕ → Bool
 is_empty [] = true
 is_empty (b ∷ bs) = false
 
+-- the first of a list of messages, or no bytes
+abbrev pub first_of : List (List ℕ) → List ℕ
+first_of [] = []
+first_of (message ∷ messages) = message
+
 abbrev pub is_marked : Standing → Bool
 is_marked Up = false
 is_marked Marked = true

@@ -6,12 +6,15 @@ use Rattle.rh_rts.specs.declared.command.Cookie.{Cookie}
 use Rattle.rh_sig.specs.declared.name.Pipe.{Pipe}
 use Rattle.rh_sig.specs.declared.named.Named.{Named}
 use Rattle.rh_sig.specs.Naming.{named_bytes}
+use Rattle.rh_line.specs.Lines.{Line}
 use Rattle.rh_line.specs.declared.leg.Leg.{Leg}
 use Rattle.rh_shell.specs.declared.answers.Count.{Count}
 use Rattle.rh_shell.specs.declared.answers.HeadRefused.{HeadRefused}
 use Rattle.rh_shell.specs.declared.answers.HeadTaken.{HeadTaken}
 use Rattle.rh_shell.specs.declared.answers.Phase.{Phase}
 use Rattle.rh_shell.specs.declared.answers.Refused.{Refused}
+use Rattle.rh_shell.specs.declared.end_role.GiveRefused.{GiveRefused}
+use Rattle.rh_shell.specs.declared.end_role.RecycleRefused.{RecycleRefused}
 
 -- ---- messages
 
@@ -62,3 +65,14 @@ pub record Rules (S : Type 0) : Type 0 where
 abbrev pub put_into : {S : Type 0} → S → Option (S × Message) → S × List ℕ
 put_into s None = (s, [])
 put_into s (Some put) = (put.0, spell put.1)
+
+-- what the role of an end does besides
+pub record Acts (S : Type 0) : Type 0 where
+  pub give : S → List ℕ → S × Result (Unit {0}) GiveRefused
+  -- the line from which is taken, and the role behind a take
+  pub line : S → Line
+  pub take : S → S
+  pub close : S → S
+  pub recycle : S → S × Result (Unit {0}) RecycleRefused
+  -- the IN and the OUT channel in use
+  pub channels : S → ℕ × ℕ

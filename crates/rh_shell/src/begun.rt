@@ -3,6 +3,7 @@
 ghost use Rattle.std.specs.Prelude.{◌≡◌};
 ghost use Rattle.rh_shell.specs.NearEnds.{is_empty};
 
+use rh_line::{LineTake, RecvLine, SendLine};
 use rh_sig::{Named, write_named};
 use std::marker::Model;
 
@@ -31,6 +32,9 @@ impl Begun {
     ghost use Rattle.std.specs.Prelude.{◌≡◌, ◌≤◌, ◌++◌, [], length, take, drop, min};
     ghost use Rattle.rh_sig.specs.Naming.{named_bytes};
     ghost use Rattle.rh_sig.specs.Values.{MayBeWritten};
+    ghost use Rattle.rh_line.specs.Lines.{after_take};
+    ghost use Rattle.rh_line.specs.Queue.{behind};
+    ghost use Rattle.rh_shell.specs.NearEnds.{first_of};
 
     /// No message.
     pub fn new() -> Begun
@@ -86,6 +90,31 @@ impl Begun {
         self.room[..bytes.len()].copy_from_slice(bytes);
         self.from = 0;
         self.to = bytes.len();
+    }
+
+    /// Begins the first PDU of a line's current channel, which is taken from it; nothing where none
+    /// is there.
+    pub fn begin_taken(&mut self, line: &mut RecvLine)
+        ensures begun { self.new ≡ first_of line.old.current.pdus }
+        ensures line { line.new ≡ after_take line.old }
+    {
+        self.from = 0;
+        self.to = match line.take(&mut self.room) {
+            LineTake::Pdu(len) => usize::from(len),
+            LineTake::Empty | LineTake::Ended => 0,
+        };
+    }
+
+    /// Begins the first PDU of a queue, which is taken from it; nothing where none is there.
+    pub fn begin_popped(&mut self, queue: &mut SendLine)
+        ensures begun { self.new ≡ first_of queue.old }
+        ensures queue { queue.new ≡ behind queue.old }
+    {
+        self.from = 0;
+        self.to = match queue.pop(&mut self.room) {
+            Some(len) => usize::from(len),
+            None => 0,
+        };
     }
 
     /// Begins a packet in the place of what was begun.

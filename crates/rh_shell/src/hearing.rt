@@ -4,7 +4,7 @@ ghost use Rattle.std.specs.Prelude.{◌≡◌, ◌≤◌, ◌<◌, ℕ, [], leng
 ghost use Rattle.rh_pdu.specs.Frames.{IsFrame};
 ghost use Rattle.rh_shell.specs.Intakes.{counted, length_told};
 ghost use Rattle.rh_shell.specs.Texts.{IsWithin};
-ghost use Rattle.rh_shell.specs.Keeping.{ReadsBody, room, overran};
+ghost use Rattle.rh_shell.specs.Keeping.{ReadsBody, room, overran, after_row};
 ghost use Rattle.rh_shell.specs.Hearing as seen;
 ghost use Rattle.rh_shell.specs.Readings.{packet_of};
 ghost use Rattle.rh_shell.specs.declared.stage.Stage.TheVariants as stage;
@@ -295,6 +295,19 @@ impl NearEnd {
         (Some(stop(why)), behind)
     }
 
+    /// A row took a frame, or refused it: then the node stops.
+    fn close_frame(&mut self, taken: Result<Count, Cause>) -> Option<Stop>
+        ensures { (self.new, result) ≡ after_row self.old taken }
+    {
+        match taken {
+            Ok(count) => {
+                self.count = count;
+                None
+            }
+            Err(why) => Some(stop(why)),
+        }
+    }
+
     /// Takes a frame that stands whole at the front of the piece, where it stands.
     #[tactic(auto, unfolding(crate::specs::Hearing::take))]
     fn take_whole<'p, R: Role>(
@@ -316,13 +329,7 @@ impl NearEnd {
         let taken = take_frame(self.heading(), role, frame);
         self.place = self.place.saturating_add(len as u64);
         self.body = counted(len, self.body);
-        match taken {
-            Ok(count) => {
-                self.count = count;
-                (None, behind)
-            }
-            Err(why) => (Some(stop(why)), behind),
-        }
+        (self.close_frame(taken), behind)
     }
 
     /// Adds bytes to a frame, and takes it where it is whole.
@@ -347,13 +354,7 @@ impl NearEnd {
                 self.place = self.place.saturating_add(len as u64);
                 self.body = counted(used, self.body);
                 let (_, behind) = piece.split_at(used);
-                match taken {
-                    Ok(count) => {
-                        self.count = count;
-                        (None, behind)
-                    }
-                    Err(why) => (Some(stop(why)), behind),
-                }
+                (self.close_frame(taken), behind)
             }
             Feed::Fault { fault, .. } => {
                 let used = HEADER_LEN - held;

@@ -86,7 +86,7 @@ pub trait Role: Drop {
         ensures { result ≡ rules.silence self.now leg };
 
     /// A Ping is due on the leg where nothing was put for half of this time, in milliseconds.
-    fn ping_after(&self, leg: Leg) -> Option<u32>
+    fn ping_after(&self, leg: Leg) -> Option<u64>
         ensures { result ≡ rules.ping_after self.now leg };
 
     /// A Ping becomes due on the leg.

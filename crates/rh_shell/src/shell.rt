@@ -54,9 +54,9 @@ use std::marker::Model;
 /// `new` takes all memory that the node will use.
 #[derive(Drop)]
 pub struct Shell<R> {
-    role: R,
+    pub(crate) role: R,
     legs: Vec<NearEnd>,
-    course: Course,
+    pub(crate) course: Course,
     now: u64,
     rooms: Rooms,
 }
@@ -238,7 +238,7 @@ fn first_silent<R: Role>(role: &R, now: u64, legs: &[NearEnd]) -> Option<(Leg, u
     first
 }
 
-fn is_quiet_by(time: Option<u32>, put_at: u64, now: u64) -> bool
+fn is_quiet_by(time: Option<u64>, put_at: u64, now: u64) -> bool
     ensures { result ≡ is_quiet_by time put_at now }
 {
     match time {
@@ -301,6 +301,13 @@ impl<R: Role> Shell<R> {
         ensures { result.now ≡ self.entry.now.role }
     {
         &self.role
+    }
+
+    /// The last moment, in milliseconds; 0 before the first.
+    pub fn now(&self) -> u64
+        ensures { result ≡ self.entry.now.now }
+    {
+        self.now
     }
 
     /// The state: a closed one keeps its first cause.
@@ -406,7 +413,7 @@ impl<R: Role> Shell<R> {
     }
 
     /// Whether the node isn't closed.
-    fn is_going(&self) -> bool
+    pub(crate) fn is_going(&self) -> bool
         ensures { result ≡ seen.is_going self.entry.now.course }
     {
         matches!(self.course, Course::Going)

@@ -1,20 +1,28 @@
 //! A node of a role that does next to nothing.
 
+mod ends;
 mod waiting;
 
 use crate::{Begun, Count, HeadRefused, HeadTaken, Phase, Refused, Role, Rooms, Shell};
-use rh_line::{Cause, Leg, LegKind, State, Verdict};
+use rh_line::{Cause, Leg, LegKind, LineFault, RecvLine, SendLine, State, Verdict, Which};
 use rh_rts::Cookie;
 use rh_sig::{Named, Pipe};
+use rh_window::LEAST_WINDOW;
 use std::alloc::Global;
 use std::process::Abort;
 use std::test::Fail;
 
-/// A role with one leg from a server. It takes RPC PDUs, refuses packets, and puts Pings.
+/// A role whose legs are from servers. It takes RPC PDUs into a line, refuses packets, and puts
+/// Pings that are due and the PDUs of a queue.
 #[derive(Drop)]
 struct Keeper {
     phase: Phase,
     due: bool,
+    line: RecvLine,
+    queue: SendLine,
+    closing: bool,
+    under_way: Option<Leg>,
+    number: u32,
 }
 
 impl Role for Keeper {
@@ -24,7 +32,12 @@ impl Role for Keeper {
     ghost use Rattle.rh_shell.specs.declared.answers.HeadRefused.TheVariants.{Status};
     ghost use Rattle.rh_shell.specs.declared.answers.Phase.TheVariants.{Open};
     ghost use Rattle.rh_shell.specs.declared.answers.Refused.TheVariants.{Unexpected};
-    ghost use Rattle.rh_shell.specs.Rules.{Packet};
+    ghost use Rattle.rh_line.specs.Lines.{is_empty, admit_verdict, after_admit};
+    ghost use Rattle.rh_line.specs.Queue.{behind};
+    ghost use Rattle.rh_line.specs.declared.which.Which.TheVariants.{Current};
+    ghost use Rattle.rh_shell.specs.NearEnds.{first_of};
+    ghost use Rattle.rh_shell.specs.Rules.{Packet, Pdu};
+    ghost use Rattle.rh_shell.specs.SmallEnds.{row_of};
 
     ghost rules = { record {
       phase = λ s. s.phase;
@@ -34,10 +47,15 @@ impl Role for Keeper {
       up = λ s leg cookie. record s { phase = Open };
       pipe = λ s leg. Some IsD;
       head = λ s leg text. (s, Err (Status 200));
-      pdu = λ s leg count pdu. (s, Ok tt);
+      pdu = λ s leg count pdu. (
+        record s { line = after_admit s.line Current pdu },
+        row_of (admit_verdict s.line Current pdu),
+      );
       packet = λ s leg count named. (s, Err Unexpected);
       is_done = λ s leg. false;
-      put = λ s leg. if s.due then Some (record s { due = false }, Packet Ping) else None;
+      put = λ s leg. if s.due then Some (record s { due = false }, Packet Ping)
+          else (if is_empty s.queue then None
+          else Some (record s { queue = behind s.queue }, Pdu (first_of s.queue)));
       drawn = λ s leg. s;
       only_marks = λ s leg. false;
       mark = λ s leg. s;
@@ -75,8 +93,12 @@ impl Role for Keeper {
         Err(HeadRefused::Status(200))
     }
 
-    fn pdu(&mut self, _leg: Leg, _count: Count, _pdu: &[u8]) -> Result<(), Refused> {
-        Ok(())
+    fn pdu(&mut self, _leg: Leg, _count: Count, pdu: &[u8]) -> Result<(), Refused> {
+        match self.line.admit(Which::Current, pdu) {
+            Ok(()) => Ok(()),
+            Err(LineFault::Window(exceeded)) => Err(Refused::Window(exceeded)),
+            Err(LineFault::Over) => Err(Refused::Unexpected),
+        }
     }
 
     fn packet(&mut self, _leg: Leg, _count: Count, _packet: Named) -> Result<(), Refused> {
@@ -91,6 +113,8 @@ impl Role for Keeper {
         if self.due {
             self.due = false;
             begun.begin_packet(&Named::Ping);
+        } else if self.queue.front().is_some() {
+            begun.begin_popped(&mut self.queue);
         }
     }
 
@@ -110,7 +134,7 @@ impl Role for Keeper {
         Some(120_000)
     }
 
-    fn ping_after(&self, _leg: Leg) -> Option<u32> {
+    fn ping_after(&self, _leg: Leg) -> Option<u64> {
         Some(60_000)
     }
 
@@ -118,6 +142,11 @@ impl Role for Keeper {
         self.due = true;
     }
 }
+
+const OS1: Leg = Leg {
+    kind: LegKind::OutServer,
+    number: 1,
+};
 
 const IS1: Leg = Leg {
     kind: LegKind::InServer,
@@ -135,19 +164,29 @@ const PING: [u8; 20] = [
     5, 0, 20, 3, 0x10, 0, 0, 0, 20, 0, 0, 0, 0, 0, 0, 0, 1, 0, 0, 0,
 ];
 
-/// A node whose leg is up.
-fn node(rt: &impl Abort, alloc: Global) -> Result<Shell<Keeper>, Fail> {
+/// A node with no leg, whose role's IN channel has this number.
+fn new_node(alloc: Global, number: u32) -> Result<Shell<Keeper>, Fail> {
     let rooms = Rooms {
         client_out: 0,
-        out_server: 0,
+        out_server: 1,
         client_in: 0,
         in_server: 1,
     };
     let role = Keeper {
         phase: Phase::Opening,
         due: false,
+        line: RecvLine::new(alloc, LEAST_WINDOW)?,
+        queue: SendLine::new(alloc)?,
+        closing: false,
+        under_way: None,
+        number,
     };
-    let mut node = Shell::new(alloc, role, rooms)?;
+    Ok(Shell::new(alloc, role, rooms)?)
+}
+
+/// A node whose leg is up.
+fn node(rt: &impl Abort, alloc: Global) -> Result<Shell<Keeper>, Fail> {
+    let mut node = new_node(alloc, 1)?;
     assert!(rt; node.state() == State::Opening);
     assert!(rt; node.wants(IS1));
     assert!(rt; node.may_up(IS1));
@@ -211,5 +250,22 @@ fn a_packet_without_a_row_is_unexpected_at_its_place(rt: HostRuntime) -> Result<
         place: 30,
     };
     assert!(rt; node.bytes(IS1, &packet) == Verdict::Closed(cause));
+    Ok(())
+}
+
+#[test]
+fn the_first_leg_is_told_whatever_order_they_came_up_in(rt: HostRuntime) -> Result<(), Fail> {
+    for legs in [[OS1, IS1], [IS1, OS1]] {
+        let mut node = new_node(rt.alloc(), 1)?;
+        for leg in legs {
+            node.up(leg, Cookie([0; 16]));
+        }
+        let cause = Cause::Silent {
+            leg: OS1,
+            since: 0,
+            now: 130_000,
+        };
+        assert!(rt; node.tick(130_000) == Verdict::Closed(cause));
+    }
     Ok(())
 }

@@ -1,6 +1,5 @@
 use Rattle.std.proofs.Common.{◌≡◌, ℕ, ◌+◌, ◌-◌, ◌++◌, ◌≤◌, List, [], take, drop, length, arith, ap, ◌∙◌, refl, subst, None}
 use Rattle.std.proofs.lemmas.List.{take-take}
-use Rattle.std.specs.Prelude.{Ok, Err}
 use Rattle.rh_pdu.specs.Feeding.{FramerState, FedFault, IsSoundBy, capped}
 use Rattle.rh_pdu.specs.Frames.{IsUnfinished}
 use Rattle.rh_shell.specs.declared.stage.Stage.TheVariants as stage
@@ -10,7 +9,7 @@ use Rattle.rh_shell.specs.NearEnds.{NearEnd}
 use Rattle.rh_shell.specs.Hearing.{take_frame}
 use Rattle.rh_shell.proofs.Scans.{keeping}
 use Rattle.rh_shell.proofs.Framed.{need_scanned, frame_scanned, fault_scanned}
-use Rattle.rh_shell.proofs.Steps.{frame_taken, fault_taken, overrun_taken}
+use Rattle.rh_shell.proofs.Steps.{row_taken, fault_taken, overrun_taken}
 use Rattle.rh_shell.proofs.near_end.NearEnd.feed.Goals as goal
 
 pub overflow_sub-used : goal.overflow_sub-used
@@ -66,8 +65,8 @@ returns-in-Need-clause-heard g c =
     (keeping i (s.framer.rest ++ take most c.args.piece.now) (counted most s.body))
     (drop most c.args.piece.now) after scans
 
-pub returns-in-Ok-clause-heard : goal.returns-in-Ok-clause-heard
-returns-in-Ok-clause-heard g c =
+pub returns-in-Frame-clause-heard : goal.returns-in-Frame-clause-heard
+returns-in-Frame-clause-heard g c =
     let s = c.self.inside in
     let h : s.stage ≡ stage.Frames = ap (λ (e : NearEnd). e.intake.stage) c.self.view_is ∙
     c.requires.stage in
@@ -93,65 +92,17 @@ returns-in-Ok-clause-heard g c =
     let scans = frame_scanned i c.args.piece.now t.frame c.in-Frame.used refl c.self.invariant.1
     f.some within bytes f.frame in
     let none : t.rest ≡ [] = ap (λ (x : FramerState). x.rest) f.after in
-    let taken = c.in-Ok.ensures ∙ ap (take_frame g.R.Role.rules c.heading-at.result c.args.role.now)
-    c.frame.ensures in
-    let place : c.saturating_add-self-inside.result ≡ capped (s.place + length t.frame) =
-    c.saturating_add-self-inside.ensures ∙ ap (λ (n : ℕ). capped (s.place + n)) f.size in
-    rw (
-      h,
-      place,
-      none,
-      c.counted-self-inside-in-Frame.ensures.count,
-      c.split_at-in-Frame.ensures.back,
-    )
-    (frame_taken g.R.Role.rules is c.args.role.now c.args.piece.now c.heading-at.result (behind
-    (record i { body = counted c.in-Frame.used i.body }) t.frame) t.frame (drop c.in-Frame.used
-    c.args.piece.now) c.take_frame-taken.new.role (Ok c.in-Ok.count) c.heading-at.ensures scans
-    taken)
-
-pub returns-in-Err-clause-heard : goal.returns-in-Err-clause-heard
-returns-in-Err-clause-heard g c =
-    let s = c.self.inside in
-    let h : s.stage ≡ stage.Frames = ap (λ (e : NearEnd). e.intake.stage) c.self.view_is ∙
-    c.requires.stage in
-    let is = rw h at c.self.view_is in
-    let i : Intake = record {
-      stage = stage.Frames;
-      held = s.framer.rest;
-      place = s.place;
-      body =
-          s.body;
-    } in
-    let t = c.feed.new.self in
-    let f = c.in-Frame.ensures.fed in
-    let most = c.room.result in
-    let front : c.split_at.result.0.now ≡ take most c.args.piece.now = c.split_at.ensures.front in
-    let size : length c.split_at.result.0.now ≡ most = c.split_at.ensures.front_len in
-    let bytes : t.frame ≡ s.framer.rest ++ take c.in-Frame.used c.args.piece.now =
-    f.bytes ∙ ap (λ (x : List ℕ). s.framer.rest ++ take c.in-Frame.used x) front
-    ∙ ap (λ (x : List ℕ). s.framer.rest ++ x) (take-take c.in-Frame.used most c.args.piece.now
-    (omega (arith, f.within, size))) in
-    let within : c.in-Frame.used ≤ room (length c.args.piece.now) s.body = omega
-    (arith, f.within, size, c.room.ensures.count) in
-    let scans = frame_scanned i c.args.piece.now t.frame c.in-Frame.used refl c.self.invariant.1
-    f.some within bytes f.frame in
-    let none : t.rest ≡ [] = ap (λ (x : FramerState). x.rest) f.after in
-    let taken = c.in-Err.ensures ∙ ap (take_frame g.R.Role.rules c.heading-at.result
+    let taken = c.take_frame-taken.ensures ∙ ap (take_frame g.R.Role.rules c.heading-at.result
     c.args.role.now) c.frame.ensures in
     let place : c.saturating_add-self-inside.result ≡ capped (s.place + length t.frame) =
     c.saturating_add-self-inside.ensures ∙ ap (λ (n : ℕ). capped (s.place + n)) f.size in
-    rw (
-      c.stop.ensures,
-      h,
-      place,
-      none,
-      c.counted-self-inside-in-Frame.ensures.count,
-      c.split_at-in-Frame.ensures.back,
-    )
-    (frame_taken g.R.Role.rules is c.args.role.now c.args.piece.now c.heading-at.result (behind
+    let after = rw (h, place, none, c.counted-self-inside-in-Frame.ensures.count)
+    at c.close_frame.ensures in
+    rw (c.split_at-in-Frame.ensures.back)
+    (row_taken g.R.Role.rules is c.args.role.now c.args.piece.now c.heading-at.result (behind
     (record i { body = counted c.in-Frame.used i.body }) t.frame) t.frame (drop c.in-Frame.used
-    c.args.piece.now) c.take_frame-taken.new.role (Err c.in-Err.why) c.heading-at.ensures scans
-    taken)
+    c.args.piece.now) c.take_frame-taken.new.role c.take_frame-taken.result
+    (c.close_frame.new.self, c.close_frame.result) after c.heading-at.ensures scans taken)
 
 pub returns-in-Fault-clause-heard : goal.returns-in-Fault-clause-heard
 returns-in-Fault-clause-heard g c =
@@ -179,7 +130,7 @@ returns-in-Fault-clause-heard g c =
     let body = c.counted-self-inside-in-Fault.ensures.count ∙ ap (λ (n : ℕ). counted n s.body) held
     in
     let back = c.split_at-in-Fault.ensures.back ∙ ap (λ (n : ℕ). drop n c.args.piece.now) held in
-    rw (c.stop-in-Fault.ensures, body, back)
+    rw (c.stop.ensures, body, back)
     (fault_taken g.R.Role.rules is c.args.role.now c.args.piece.now c.heading-at.result (record i {
       stage = stage.Shut;
       held = t.rest;

@@ -1,0 +1,5 @@
+pub mod RequestLengths
+pub mod ClientLogs
+pub mod GivesInOrder
+pub mod TakesKept
+pub mod TakesInOrder

@@ -1,0 +1,12 @@
+pub mod Channels
+pub mod Replacements
+pub mod State
+pub mod Opening
+pub mod Acknowledging
+pub mod InReplacement
+pub mod OutReplacement
+pub mod Ending
+pub mod Time
+pub mod Putting
+pub mod Client
+pub mod Order

@@ -1,0 +1,4 @@
+mod Picks
+mod OrderKeeps
+mod OrderPuts
+mod OrderMoves

@@ -1,0 +1,12 @@
+pub mod State
+pub mod Answers
+pub mod Opening
+pub mod Acknowledging
+pub mod Passing
+pub mod InReplacement
+pub mod OutReplacement
+pub mod Ending
+pub mod Time
+pub mod Putting
+pub mod Machine
+pub mod Order

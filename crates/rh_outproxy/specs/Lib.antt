@@ -1,0 +1,11 @@
+pub mod OutProxy
+pub mod Rows
+pub mod Opening
+pub mod Acknowledging
+pub mod InReplacement
+pub mod OutReplacement
+pub mod Ending
+pub mod Time
+pub mod Putting
+pub mod Machine
+pub mod Order

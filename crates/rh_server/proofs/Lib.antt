@@ -1,0 +1,10 @@
+mod Onces
+mod Picks
+mod Gives
+mod InSpots
+mod TakesKept
+mod TakesQuiet
+mod TakesRows
+mod TakesLegs
+mod TakesOpens
+mod Takes

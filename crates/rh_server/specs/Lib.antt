@@ -1,0 +1,13 @@
+pub mod States
+pub mod OutLines
+pub mod OutLegs
+pub mod Opening
+pub mod Acknowledging
+pub mod InReplacement
+pub mod OutReplacement
+pub mod Ending
+pub mod Time
+pub mod Putting
+pub mod Servers
+pub mod FirstKinds
+pub mod Order
