@@ -2,3 +2,6 @@ mod Picks
 mod OrderKeeps
 mod OrderPuts
 mod OrderMoves
+mod LegibleKeeps
+mod LegiblePuts
+mod LegibleMoves

@@ -1,5 +1,5 @@
 -- what may go, in turn
-use Rattle.std.proofs.Common.{subst, ◌≡◌, ℕ, List, [], ◌∷◌, Bool, true, false, ap, refl, ◌∙◌}
+use Rattle.std.proofs.Common.{subst, ◌≡◌, ℕ, List, [], ◌∷◌, Bool, true, false, ap, refl}
 use Rattle.std.specs.Prelude.{Some, None}
 use Rattle.rh_shell.specs.declared.due.Due.{Due}
 use Rattle.rh_shell.specs.Rules.{put_into}

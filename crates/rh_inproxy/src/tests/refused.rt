@@ -85,6 +85,39 @@ fn rows_of_the_client_are_refused(rt: HostRuntime) -> Result<(), Fail> {
 }
 
 #[test]
+fn what_passes_a_channel_is_refused(rt: HostRuntime) -> Result<(), Fail> {
+    let (requested, served, followed) = (requested(), served(65_536), followed());
+    let (told, kept) = (Named::OutR1A7(2, cookie(6)), Named::KeepAlive(0));
+    let handed = Named::InR1A5(cookie(5));
+    let cases = [
+        // The first packet on ci 1 did not come, and then that on ci 2.
+        Case {
+            first: &requested,
+            then: &[Step::Says(CI1, told)],
+            verdict: unexpected(CI1, 205),
+        },
+        Case {
+            first: &requested,
+            then: &[Step::Says(CI1, kept)],
+            verdict: unexpected(CI1, 205),
+        },
+        Case {
+            first: &followed,
+            then: &[Step::Says(CI2, told)],
+            verdict: unexpected(CI2, 205),
+        },
+        // IN_R1/A5 came there.
+        Case {
+            first: &served,
+            then: &[Step::Says(CI1, handed), Step::Says(CI1, told)],
+            verdict: unexpected(CI1, 349),
+        },
+    ];
+    assert_eq!(rt; first_unmet(rt.alloc(), &cases)?, None);
+    Ok(())
+}
+
+#[test]
 fn rows_of_a_later_leg_are_refused(rt: HostRuntime) -> Result<(), Fail> {
     let followed = followed();
     let joins = Step::Says(CI2, in_r1_a1(1, 4));

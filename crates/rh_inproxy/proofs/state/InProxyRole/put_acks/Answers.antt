@@ -1,6 +1,6 @@
 use Rattle.rh_inproxy.specs.State.{InProxy}
 use Rattle.rh_inproxy.specs.Acknowledging.{current_ack, next_ack}
-use Rattle.rh_inproxy.proofs.Picks.{Puts, other_goes}
+use Rattle.rh_inproxy.proofs.Picks.{other_goes}
 use Rattle.rh_inproxy.proofs.state.InProxyRole.put_acks.Goals as goal
 
 pub returns-else-put_current_ack-clause-put : goal.returns-else-put_current_ack-clause-put

@@ -1,6 +1,6 @@
 use Rattle.rh_inproxy.specs.Acknowledging.{put_acks}
 use Rattle.rh_inproxy.specs.Putting.{put_early}
-use Rattle.rh_inproxy.proofs.Picks.{Puts, first_goes, other_goes}
+use Rattle.rh_inproxy.proofs.Picks.{first_goes, other_goes}
 use Rattle.rh_inproxy.proofs.state.InProxyRole.put_control.Goals as goal
 
 pub returns-then-put_early-clause-put : goal.returns-then-put_early-clause-put

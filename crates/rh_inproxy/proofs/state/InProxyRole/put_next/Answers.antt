@@ -1,5 +1,5 @@
 use Rattle.rh_inproxy.specs.Putting.{put_control, put_stream}
-use Rattle.rh_inproxy.proofs.Picks.{Puts, first_goes, none_begun, other_goes}
+use Rattle.rh_inproxy.proofs.Picks.{first_goes, none_begun, other_goes}
 use Rattle.rh_inproxy.proofs.state.InProxyRole.put_next.Goals as goal
 
 pub put_stream-requires : goal.put_stream-requires

@@ -1,6 +1,6 @@
 use Rattle.rh_inproxy.specs.Passing.{put_pdu}
 use Rattle.rh_inproxy.specs.Putting.{put_behind}
-use Rattle.rh_inproxy.proofs.Picks.{Puts, first_goes, none_begun, other_goes}
+use Rattle.rh_inproxy.proofs.Picks.{first_goes, none_begun, other_goes}
 use Rattle.rh_inproxy.proofs.state.InProxyRole.put_stream.Goals as goal
 
 pub put_behind-requires : goal.put_behind-requires
