@@ -6,3 +6,8 @@ pub mod OtherRows
 pub mod OrderRows
 pub mod OrderPuts
 pub mod OrderKept
+pub mod FinePackets
+pub mod LegibleKept
+pub mod LegibleRows
+pub mod LegiblePuts
+pub mod LegibleMoves

@@ -9,3 +9,4 @@ pub mod Time
 pub mod Putting
 pub mod Machine
 pub mod Order
+pub mod Legible

@@ -4,6 +4,7 @@
 mod acknowledging;
 mod ending;
 mod in_replacement;
+pub mod legible;
 mod opening;
 pub mod order;
 pub mod out_proxy;
@@ -16,6 +17,7 @@ pub mod state;
 mod tests;
 mod time;
 
+pub use legible::what_an_out_proxy_puts_reads_back;
 pub use order::an_out_proxy_keeps_order;
 pub use out_proxy::{OutProxy, ROOMS};
 pub use state::{OutProxyConfig, OutProxyRole};
