@@ -10,3 +10,4 @@ pub mod Time
 pub mod Putting
 pub mod Client
 pub mod Order
+pub mod Legible

@@ -12,16 +12,60 @@
 //! * At most one channel is replaced at a time (`Replacement`), and what is wanted meanwhile waits,
 //!   in the order in which it was wanted. So at most one packet of a replacement is due at any
 //!   time, and no list of packets is kept.
-//! * The replacement of the IN channel is asked for by `recycle` or by the writing channel's meter.
-//!   The successor's leg comes up and IN_R1/A1 goes there; IN_R1/A4 or IN_R2/A4 answers; IN_R1/A5
-//!   goes on the predecessor, and the successor is the writing channel. END is put again there.
-//! * The replacement of the OUT channel is asked for by OUT_R1/A2. The successor's leg comes up and
-//!   OUT_R1/A3 goes there; OUT_R1/A6 answers on the current leg; OUT_R1/A7 goes on the writing
-//!   channel, and PDUs may come on both legs; OUT_R1/A10 finishes the predecessor, and behind its
-//!   last PDU the successor is the current channel (`OutStage`).
 //! * RPC PDUs, END/A1, acknowledgements and the packets of a replacement go on the writing channel,
 //!   within its window and its lifetime. A leg that ends or breaks before the client is Ended, and
 //!   that is still of use, closes it.
+//!
+//! # The stages of a replacement
+//!
+//! What each role holds once the packet came there or was put; an empty cell is as before. Who
+//! forwards a packet puts it under its next name.
+//!
+//! The IN channel, whose successor goes over another in proxy (`InStage`):
+//!
+//! | moved by | client | in proxies | out proxy | server |
+//! |---|---|---|---|---|
+//! | none: `recycle`, the meter | `Asked`: a leg is wanted | | | |
+//! | IN_R1/A1 | `Put` on that leg | new: `WantsServer` | | |
+//! | IN_R1/A2 | | new: `Announced` | | `Waits`, then `Opened`: A3 is due |
+//! | IN_R1/A3, A4 | `Answered`: A5 is due | | forwards | |
+//! | IN_R1/A5 | writes on the successor | old: `Came`: A6 behind PDUs, END | | |
+//! | IN_R1/A6 | | old: `Passed` | | old leg: B1 is due |
+//! | IN_R1/B1 | | old: `Done` | | old leg: `Left` |
+//! | IN_R1/B2 | | new: `Known` window | | `Told`: the successor is current |
+//!
+//! The same, over the same in proxy, which has one leg to the server for both channels:
+//!
+//! | moved by | client | in proxy | out proxy | server |
+//! |---|---|---|---|---|
+//! | none: `recycle`, the meter | `Asked`: a leg is wanted | | | |
+//! | IN_R1/A1 | `Put` on that leg | `Joined`, `TellsServer` | | |
+//! | IN_R2/A2 | | `Told` | | the leg's next number |
+//! | IN_R2/A3, A4 | `Answered`: A5 is due | | forwards | |
+//! | IN_R1/A5 | writes on the successor | `Follows`; current behind the PDUs held | | |
+//!
+//! The OUT channel (`OutStage`):
+//!
+//! | moved by | client | in proxy | out proxies | server |
+//! |---|---|---|---|---|
+//! | OUT_R1/A1, A2 | `Asked`: a leg is wanted | | old: forwards | `Asked` |
+//! | OUT_R1/A3, OUT_R2/C1 | `Put` on that leg | | new: `Successor` | |
+//! | OUT_R1/A4 | | | new: server's leg `Up` | `Answered`: A5 is due |
+//! | OUT_R1/A5, A6 | `Answered`: A7 is due | | old: forwards | |
+//! | OUT_R1/A7, A8 | `Switched`: PDUs come on both | forwards | | `Confirmed`: A9 is due |
+//! | OUT_R1/A9 | | | old: `Came`: A10 behind PDUs, END | writes on the successor |
+//! | OUT_R1/A10 | `Finished` until its PDUs are taken | | old: `Put`, Ended | |
+//!
+//! The clean end, one direction as the other; END is put again on a successor:
+//!
+//! | moved by | client | in proxy | out proxy | server |
+//! |---|---|---|---|---|
+//! | none: `close` | `is_closing`: END behind the queue | | | the same: `Closing` |
+//! | END/A1 | `is_end_put` | `ended`: A2 behind PDUs | | |
+//! | END/A2 | | `end_put` | | `ended` |
+//! | END/B1 | | | `Came`: B2 behind PDUs | `end_mark`: `Put` |
+//! | END/B2 | `ended`; Ended once END/A1 was put | | `Put` | |
+//! | none: the legs end | | `Done` | `Marked`: Ended | `Ended` |
 //!
 //! Order is kept whatever the peers put (`order.rt`).
 

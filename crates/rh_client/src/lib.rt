@@ -6,6 +6,7 @@ pub mod channels;
 pub mod client;
 mod ending;
 mod in_replacement;
+pub mod legible;
 pub mod lengths;
 mod opening;
 pub mod order;
@@ -20,6 +21,7 @@ mod tests;
 mod time;
 
 pub use client::{Client, ROOMS};
+pub use legible::what_a_client_puts_reads_back;
 pub use order::{a_client_gives_in_order, a_client_takes_in_order};
 pub use rh_http::ClientConfig;
 pub use state::ClientRole;

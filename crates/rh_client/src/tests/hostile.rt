@@ -126,5 +126,10 @@ fn an_ended_leg_is_no_clean_end(rt: HostRuntime) -> Result<(), Fail> {
     };
     assert!(rt; end(&mut client, CO1) == Verdict::Closed(cause));
     assert!(rt; stays_closed(&mut client, CO1, cause));
+    let mut cut = up(rt.alloc())?;
+    feed_each(&mut cut, CO1, RESPONSE);
+    feed_each(&mut cut, CO1, front);
+    assert!(rt; end(&mut cut, CO1) == Verdict::Closed(cause));
+    assert!(rt; stays_closed(&mut cut, CO1, cause));
     Ok(())
 }
