@@ -8,3 +8,10 @@ mod TakesRows
 mod TakesLegs
 mod TakesOpens
 mod Takes
+mod Each
+mod Putable
+mod Telling
+mod Sounds
+mod SoundRows
+mod SoundPuts
+mod PutsReadBack

@@ -30,7 +30,7 @@ use Rattle.rh_server.specs.declared.state.Replacement.TheVariants as replacement
 use Rattle.rh_server.specs.declared.state.InLeg.{InLeg}
 use Rattle.rh_server.specs.declared.state.OutLeg.{OutLeg}
 use Rattle.rh_server.specs.OutLines.{Gate, is_own, is_kind, lets, is_ack_of}
-use Rattle.rh_server.specs.States.{Server, is_open, is_put, is_nil, is_due, is_shut, stays, same_cookie, set_at, in_place, in_leg, with_in, out_at, out_place, out_cookie, without_out}
+use Rattle.rh_server.specs.States.{Server, is_open, is_put, is_due, is_shut, stays, same_cookie, set_at, in_place, in_leg, with_in, out_at, out_place, out_cookie, without_out}
 use Rattle.rh_server.specs.Opening.{Done, took, unexpected, is_first, opens, with_first_out, first_out_at, conn_a2_at, on_conn_a2}
 use Rattle.rh_server.specs.Acknowledging.{forward_by, forwards, forwards_writing, forwards_to, channel_leg, on_ack_to, acked_at, acked_in, acked_cookie, on_ack, on_ping_traffic}
 use Rattle.rh_server.specs.OutReplacement.{asks, wishes, wished, recycle, is_under_way, last_number, answered_by, answered_on, out_r1_a4_by, out_r1_a4_at, may_answer, on_out_r1_a4, confirms, out_r1_a8_at, on_out_r1_a8, handed}

@@ -11,3 +11,4 @@ pub mod Putting
 pub mod Servers
 pub mod FirstKinds
 pub mod Order
+pub mod Legible

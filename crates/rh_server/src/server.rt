@@ -7,21 +7,36 @@
 //! On each the greeting goes first.
 //!
 //! * `Stage`: CONN/A2 on os 1 and CONN/B2 on is 1 come in either order, with one cookie of the
-//!   connection. Then the server is open, CONN/B3 goes on is 1 and CONN/C1 on os 1. It ends when
-//!   END/B1 was put on the writing channel and every is leg is ended or finished.
-//! * What comes is a `RecvLine`: the channel of the current is leg, and that of the next one. A
-//!   first packet IN_R1/A2 announces a leg's channel (`InStage::Waits`), which opens as the next
-//!   one once there is none: its window is shut, and IN_R1/A3 is due. IN_R1/A6 on the current leg
-//!   finishes that channel. Behind its last PDU the next one is current, and IN_R1/B2 tells its
-//!   window; IN_R1/B1 is the last that goes on the old leg (`Leaving`). By IN_R2/A2 a leg carries
-//!   one channel more, and only the number that `channels` tells changes.
-//! * What goes is a queue, and the packets that wait (`OutLine`): all go on the writing channel,
-//!   but an AckTo 3 on the leg of its own. `Replacement` tells how far a successor of that channel
-//!   is: `Asked` with OUT_R1/A1, `Answered` by OUT_R1/A4, which brings the successor's edge and
-//!   lets OUT_R1/A5 go, `Confirmed` by OUT_R1/A8, which lets OUT_R1/A9 go. Once that is put the
-//!   successor is the writing channel, and what waited waits for it.
+//!   connection. Then the server is open, CONN/B3 goes on is 1 and CONN/C1 on os 1.
+//! * What comes is a `RecvLine`: the channel of the current is leg, and that of the next one. What
+//!   goes is a queue, and the packets that wait (`OutLine`): all go on the writing channel, but an
+//!   AckTo 3 on the leg of its own.
 //! * Each OUT channel has a meter. Where that has no room for a packet, the packet is passed by,
 //!   and goes later or on the successor; a meter that is used up so far asks for one by itself.
+//!
+//! A channel is replaced, and a connection ends, in these stages:
+//!
+//! | stage | what moves it there | what the server holds there, and does |
+//! |---|---|---|
+//! | **IN, another in proxy** | | |
+//! | `InStage::Waits` | IN_R1/A2 comes, first on a leg | its channel: cookie, window, timeout |
+//! | `InStage::Opened` | there is no next channel | it is the next one, shut; IN_R1/A3 is due |
+//! | `Leaving::InR1B1` | IN_R1/A6 comes on the current leg | no PDU comes there; IN_R1/B1 is due |
+//! | `Leaving::Left` | IN_R1/B1 is put | the leg is finished |
+//! | `Edge::Shut` | behind A6 the last PDU is taken | the next is current; IN_R1/B2 is due |
+//! | `Edge::Told` | IN_R1/B2 is put | it told the window of the current channel |
+//! | **IN, the same in proxy** | | |
+//! | (one stage) | IN_R2/A2 comes on an open leg | a number more for `channels`; IN_R2/A3 is due |
+//! | **OUT** | | |
+//! | `Asked` | `recycle_out`, or the meter | OUT_R1/A1 is due |
+//! | `Answered` | OUT_R1/A4 comes, first on a leg | its cookie and edge; OUT_R1/A5 is due |
+//! | `Confirmed` | OUT_R1/A8 comes | OUT_R1/A9 is due |
+//! | `Steady` | OUT_R1/A9 is put | what waits goes on the successor: it is the writing one |
+//! | **a clean end** | | |
+//! | `Giving::Closing` | `close` | the queue goes, and behind it END/B1 |
+//! | `EndMark::Put` | END/B1 is put | an is leg may end behind END/A2; a successor owes it anew |
+//! | `ended` of a channel | END/A2 comes on its leg | no PDU comes there |
+//! | `Stage::Ended` | END/B1 was put, the last is leg ends | what came can still be taken |
 //!
 //! Two rules are looked at behind each put and each loss of a leg, and change nothing where they
 //! were looked at before: whether the work is done, and whether the meter wishes for a successor.

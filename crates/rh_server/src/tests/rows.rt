@@ -1,8 +1,8 @@
 //! Rows of the table, taken and refused.
 
 use super::{
-    CONNECTION, IN_1, IN_2, OUT_1, OUT_2, conn_b2, cookie, hear, in_r1_a2, is, opened, os,
-    out_r1_a4, raise, takes,
+    CONNECTION, IN_1, IN_2, OUT_1, OUT_2, conn_b2, cookie, feed, front, hear, in_r1_a2, is, opened,
+    os, out_r1_a4, pdu, puts, raise, takes,
 };
 use crate::Server;
 use rh_line::{Cause, Leg, Verdict};
@@ -24,7 +24,7 @@ fn is_taken(node: &mut Server, leg: Leg, packet: &Named, times: u32) -> bool {
 
 #[test]
 fn rows_are_taken_where_their_condition_holds(rt: HostRuntime) -> Result<(), Fail> {
-    let rows: [(Leg, Named, u32); 9] = [
+    let rows: [(Leg, Named, u32); 10] = [
         (is(1), Named::EndA2, 1),
         (is(1), Named::InR2A2(cookie(IN_2)), 1),
         (is(1), Named::InR1A6(cookie(IN_2)), 0),
@@ -34,11 +34,29 @@ fn rows_are_taken_where_their_condition_holds(rt: HostRuntime) -> Result<(), Fai
         (is(1), Named::KeepAlive(0), 0),
         (os(1), out_r1_a4(), 0),
         (os(1), Named::OutR1A5(0, 1, 120_000), 0),
+        (os(2), Named::PingTraffic(20), 0),
     ];
-    for i in 0..9 {
+    for i in 0..10 {
         let mut node = opened(rt.alloc(), 131_072)?;
+        raise(&mut node, os(2));
         let (leg, packet, times) = rows[i];
         assert!(rt; is_taken(&mut node, leg, &packet, times));
+    }
+    Ok(())
+}
+
+#[test]
+fn no_pdu_comes_behind_the_last_packet_of_a_leg(rt: HostRuntime) -> Result<(), Fail> {
+    let rows = [Named::InR1A6(cookie(IN_2)), Named::EndA2];
+    for i in 0..2 {
+        let mut node = opened(rt.alloc(), 131_072)?;
+        raise(&mut node, is(2));
+        assert!(rt; takes(&mut node, is(2), &in_r1_a2()));
+        assert!(rt; puts(&mut node, os(1), &Named::InR1A3(0, 1, 65_536, 120_000)));
+        assert!(rt; feed(&mut node, is(1), front(&pdu(16, 1), 16)) == Verdict::Going);
+        assert!(rt; takes(&mut node, is(1), &rows[i]));
+        let refused = feed(&mut node, is(1), front(&pdu(16, 2), 16));
+        assert!(rt; matches!(refused, Verdict::Closed(Cause::Unexpected { .. })));
     }
     Ok(())
 }
