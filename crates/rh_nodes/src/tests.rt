@@ -1,0 +1,4 @@
+//! Worlds of a small cast, driven by hand.
+
+mod player;
+mod worlds;
