@@ -1,5 +1,7 @@
 //! What a world is made by.
 
+use rh_record::Key;
+
 /// The numbers of a world, each named by its key, and whether it is a direct one. A direct world
 /// uses none of the numbers.
 #[derive(Clone, Copy, Debug, PartialEq, Eq)]
@@ -24,11 +26,13 @@ pub struct WorldConfig {
     pub otime: u32,
     /// The client's keepalive, in milliseconds: 0, which means 300,000, or 60,000 to 4,294,967,295.
     pub keep: u32,
+    /// Whether settling opens an IN successor at the proxy of its predecessor, where it may.
+    pub same: bool,
 }
 
 impl WorldConfig {
     ghost use Rattle.std.specs.Prelude.{◌≡◌, true};
-    ghost use Rattle.rh_world.specs.Config.{AreInRange};
+    ghost use Rattle.rh_world.specs.Config.{AreInRange, roles_config, with_number};
 
     /// A direct world, and the numbers that stand where no line sets them.
     pub fn direct() -> WorldConfig
@@ -46,6 +50,44 @@ impl WorldConfig {
             itime: 120_000,
             otime: 120_000,
             keep: 300_000,
+            same: false,
+        }
+    }
+
+    /// A world of roles, and the numbers that stand where no line sets them.
+    pub fn roles() -> WorldConfig
+        ensures numbers { result ≡ roles_config }
+        ensures in_range { AreInRange result }
+    {
+        WorldConfig {
+            direct: false,
+            ..WorldConfig::direct()
+        }
+    }
+
+    /// These numbers, but that of the key is the value. A value that the key doesn't take changes
+    /// nothing.
+    pub fn with_number(self, key: Key, value: u32) -> WorldConfig
+        ensures numbers { result ≡ with_number self key value }
+        ensures in_range { AreInRange self → AreInRange result }
+    {
+        if !key.takes(u64::from(value)) {
+            return self;
+        }
+        match key {
+            Key::Cwin => WorldConfig { cwin: value, ..self },
+            Key::Iwin => WorldConfig { iwin: value, ..self },
+            Key::Owin => WorldConfig { owin: value, ..self },
+            Key::Swin => WorldConfig { swin: value, ..self },
+            Key::Ilife => WorldConfig { ilife: value, ..self },
+            Key::Olife => WorldConfig { olife: value, ..self },
+            Key::Itime => WorldConfig { itime: value, ..self },
+            Key::Otime => WorldConfig { otime: value, ..self },
+            Key::Keep => WorldConfig { keep: value, ..self },
+            Key::Same => WorldConfig {
+                same: value == 1,
+                ..self
+            },
         }
     }
 }
