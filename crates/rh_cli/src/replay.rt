@@ -14,7 +14,7 @@ pub struct Replay {
 }
 
 impl Model for Replay {
-    ghost use Rattle.rh_world.specs.Any.{AnyWorld};
+    ghost use Rattle.rh_world.specs.declared.any_world.AnyWorld.{AnyWorld};
 
     ghost Value = { AnyWorld };
 

@@ -9,7 +9,6 @@ use crate::world::World;
 use rh_nodes::Nodes;
 use rh_record::{Line, Report};
 use std::alloc::{AllocError, Global};
-use std::marker::Model;
 
 /// What the lines of a recording made so far. After want of memory it may only be dropped.
 #[derive(Drop)]
@@ -20,14 +19,6 @@ pub enum AnyWorld {
     /// A world of roles, made of these where no more settings come.
     Settings(Roles),
     Roles(Nodes<Roles>),
-}
-
-impl Model for AnyWorld {
-    ghost use Rattle.rh_world.specs.Any as seen;
-
-    ghost Value = { seen.AnyWorld };
-
-    ghost view = { seen.view };
 }
 
 impl AnyWorld {
