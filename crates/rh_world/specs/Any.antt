@@ -25,10 +25,10 @@ prepared world _ = world
 
 -- a world afterwards, and what is answered
 abbrev pub as_direct : direct.World × List Answer → AnyWorld × List Answer
-as_direct (world, answers) = (Direct world, answers)
+as_direct did = (Direct did.0, did.1)
 
 abbrev pub as_roles : roles.World × List Answer → AnyWorld × List Answer
-as_roles (world, answers) = (Roles world, answers)
+as_roles did = (Roles did.0, did.1)
 
 abbrev pub act : AnyWorld → Line → AnyWorld × List Answer
 act (Direct world) line = as_direct (direct.step world line)

@@ -103,7 +103,8 @@ fn a_header_outside_the_grammar_is_line_1(rt: HostRuntime) -> Result<(), Fail> {
     for text in [
         "",
         "\n",
-        "rh 1 roles",
+        "rh 1 roles ",
+        "rh 1 role",
         "rh 2 1",
         "rh 1",
         "rh 1 direct ",
