@@ -1,5 +1,5 @@
 -- the world of the real roles (profile)
-use Rattle.std.specs.Prelude.{ℕ, List, [], ◌∷◌, codes}
+use Rattle.std.specs.Prelude.{ℕ, List, [], ◌∷◌}
 use Rattle.rh_record.specs.declared.answer.Answer.{Answer}
 use Rattle.rh_record.specs.declared.line.Line.{Line}
 use Rattle.rh_rts.specs.declared.command.Cookie.{Cookie}
@@ -23,7 +23,7 @@ use Rattle.rh_nodes.specs.Opening.{Makers, makers_of}
 use Rattle.rh_nodes.specs.Steps as steps
 use Rattle.rh_nodes.specs.World as nodes
 use Rattle.rh_world.specs.declared.config.WorldConfig.{WorldConfig}
-use Rattle.rh_world.specs.Hosts.{host_of}
+use Rattle.rh_world.specs.Hosts.{server_host, proxy_host}
 
 -- ---- how the nodes are made
 
@@ -35,9 +35,9 @@ client_config config connection group = record {
   window = config.cwin;
   lifetime = config.ilife;
   keepalive = config.keep;
-  host = host_of (codes "server");
+  host = server_host;
   port = 593;
-  proxy_host = host_of (codes "proxy");
+  proxy_host = proxy_host;
 }
 
 abbrev pub client : WorldConfig → Cookie → Cookie → Shell ClientRole

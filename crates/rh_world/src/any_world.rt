@@ -1,6 +1,6 @@
 //! The world of a recording of either form.
 
-ghost use Rattle.std.specs.Prelude.{◌≡◌, ◌+◌, ◌<◌, ◌≤◌, ◌++◌, OnOk};
+ghost use Rattle.std.specs.Prelude.{◌≡◌, ◌+◌, ◌<◌, ◌≤◌, ◌++◌, IfOk, OnOk};
 ghost use Rattle.rh_text.specs.Writing.{Writes};
 
 use crate::config::WorldConfig;
@@ -27,7 +27,7 @@ impl AnyWorld {
 
     /// A world of roles that has had all its settings.
     fn of_roles(alloc: Global, roles: &Roles) -> Result<AnyWorld, AllocError>
-        ensures { OnOk result (result ≡ seen.of_roles roles.now) }
+        ensures { IfOk result (λ world. world ≡ seen.of_roles roles.now) }
     {
         let config = roles.config();
         let nodes = Nodes::new(alloc, Roles::new(config), 0, config.same)?;

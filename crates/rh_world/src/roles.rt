@@ -2,7 +2,8 @@
 
 ghost use Rattle.std.specs.Prelude.{◌≡◌};
 ghost use Rattle.rh_http.specs.Hosts.{IsHost};
-ghost use Rattle.rh_world.specs.Hosts.{host_of};
+ghost use Rattle.rh_http.specs.Requests.{host_text};
+ghost use Rattle.rh_world.specs.Hosts as hosts;
 
 use crate::config::WorldConfig;
 use rh_client::{ClientConfig, ClientRole};
@@ -43,12 +44,28 @@ impl Model for Roles {
 /// The host of a name that a host may have.
 fn host(name: &[u8]) -> Host
     requires { IsHost name.now }
-    ensures { result ≡ host_of name.now }
+    ensures { host_text result ≡ name.now }
 {
     match Host::new(name) {
         Ok(host) => host,
         Err(_) => unreachable!(),
     }
+}
+
+/// The host of the server.
+#[tactic(auto, using(rh_http::proofs::HostLemmas::host_once, crate::specs::Hosts::server_is_host))]
+fn server_host() -> Host
+    ensures { result ≡ hosts.server_host }
+{
+    host(b"server")
+}
+
+/// The host of the client's proxy.
+#[tactic(auto, using(rh_http::proofs::HostLemmas::host_once, crate::specs::Hosts::proxy_is_host))]
+fn proxy_host() -> Host
+    ensures { result ≡ hosts.proxy_host }
+{
+    host(b"proxy")
 }
 
 impl Roles {
@@ -108,9 +125,9 @@ impl Cast for Roles {
             window: self.config.cwin,
             lifetime: self.config.ilife,
             keepalive: self.config.keep,
-            host: host(b"server"),
+            host: server_host(),
             port: PORT,
-            proxy_host: host(b"proxy"),
+            proxy_host: proxy_host(),
         };
         let role = ClientRole::new(alloc, config)?;
         Shell::new(alloc, role, rh_client::ROOMS)
