@@ -66,9 +66,7 @@ pub fn run<R: Source, W: Sink>(
         (seen input.old output.old) (seen input.new output.new) }
 {
     match form_of(words) {
-        Some(Form::Replay) => Status::from(answer::<Recording, Replay, R, W>(
-            alloc, input, output,
-        )),
+        Some(Form::Replay) => Status::from(answer::<Recording, Replay, R, W>(alloc, input, output)),
         Some(Form::Show) => Status::from(answer::<Packets, Show, R, W>(alloc, input, output)),
         Some(Form::Help) => tell(HELP, output),
         Some(Form::Version) => tell(VERSION, output),

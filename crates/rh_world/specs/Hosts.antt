@@ -13,13 +13,13 @@ pub server_is_host : IsHost (codes "server")
 server_is_host =
     let some : 1 ≤ 6 = omega arith in
     let most : 6 ≤ 255 = omega arith in
-    record { some = some; most = most; characters = tt }
+    record { some = some; most = most; characters = refl }
 
 pub proxy_is_host : IsHost (codes "proxy")
 proxy_is_host =
     let some : 1 ≤ 5 = omega arith in
     let most : 5 ≤ 255 = omega arith in
-    record { some = some; most = most; characters = tt }
+    record { some = some; most = most; characters = refl }
 
 abbrev pub server_host : Host
 server_host = record {

@@ -71,23 +71,22 @@ impl WorldConfig {
         ensures numbers { result ≡ with_number self key value }
         ensures in_range { AreInRange self → AreInRange result }
     {
+        let mut config = self;
         if !key.takes(u64::from(value)) {
-            return self;
+            return config;
         }
         match key {
-            Key::Cwin => WorldConfig { cwin: value, ..self },
-            Key::Iwin => WorldConfig { iwin: value, ..self },
-            Key::Owin => WorldConfig { owin: value, ..self },
-            Key::Swin => WorldConfig { swin: value, ..self },
-            Key::Ilife => WorldConfig { ilife: value, ..self },
-            Key::Olife => WorldConfig { olife: value, ..self },
-            Key::Itime => WorldConfig { itime: value, ..self },
-            Key::Otime => WorldConfig { otime: value, ..self },
-            Key::Keep => WorldConfig { keep: value, ..self },
-            Key::Same => WorldConfig {
-                same: value == 1,
-                ..self
-            },
+            Key::Cwin => config.cwin = value,
+            Key::Iwin => config.iwin = value,
+            Key::Owin => config.owin = value,
+            Key::Swin => config.swin = value,
+            Key::Ilife => config.ilife = value,
+            Key::Olife => config.olife = value,
+            Key::Itime => config.itime = value,
+            Key::Otime => config.otime = value,
+            Key::Keep => config.keep = value,
+            Key::Same => config.same = value == 1,
         }
+        config
     }
 }

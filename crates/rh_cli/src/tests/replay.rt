@@ -266,7 +266,11 @@ fn a_recording_of_roles_is_replayed(rt: HostRuntime) -> Result<(), Fail> {
 fn a_recording_of_roles_may_have_settings_alone(rt: HostRuntime) -> Result<(), Fail> {
     let wanted = "up given 0 taken 0\ndown given 0 taken 0\nclient opening in 1 out 1\n\
         server opening in 1 out 1\n";
-    for text in ["rh 1 roles", "rh 1 roles\n", "rh 1 roles\nset keep 0\nset itime 120000"] {
+    for text in [
+        "rh 1 roles",
+        "rh 1 roles\n",
+        "rh 1 roles\nset keep 0\nset itime 120000",
+    ] {
         let (status, output) = replay(&rt, text.as_bytes())?;
         assert_eq!(rt; status, Status::Done);
         assert!(rt; output.written() == wanted.as_bytes(), "{text}");
