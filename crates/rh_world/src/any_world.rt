@@ -37,7 +37,8 @@ impl AnyWorld {
     /// A first line, a setting, and the first line that is no setting make the world other than it
     /// was.
     fn prepare(&mut self, alloc: Global, line: &Line) -> Result<(), AllocError>
-        ensures { OnOk result (self.new ≡ seen.prepared self.old line.now) }
+        ensures world { OnOk result (self.new ≡ seen.prepared self.old line.now) }
+        ensures given { OnOk result (seen.given self.new ≤ seen.given self.old) }
     {
         match (&mut *self, line) {
             (AnyWorld::Before, Line::First { roles: false }) => {
@@ -65,7 +66,7 @@ impl AnyWorld {
         requires { seen.given self.old < MOST_PDUS }
         ensures world { OnOk result (self.new ≡ (seen.step self.old line.now).0) }
         ensures report { OnOk result (report.new ≡ report.old ++ (seen.step self.old line.now).1) }
-        ensures given { seen.given self.new ≤ seen.given self.old + 1 }
+        ensures given { OnOk result (seen.given self.new ≤ seen.given self.old + 1) }
     {
         self.prepare(alloc, line)?;
         match self {
