@@ -1,0 +1,13 @@
+pub mod Rings
+pub mod Grown
+pub mod Appending
+pub mod Told
+pub mod Fours
+pub mod Lows
+pub mod Idles
+pub mod Opened
+pub mod Times
+pub mod Keeping
+pub mod Settles
+pub mod Pushed
+pub mod OtherLines

@@ -1,0 +1,13 @@
+-- nothing was reported
+use Rattle.std.proofs.Common.{refl}
+use Rattle.rh_nodes.proofs.Told.{tells_failed}
+use Rattle.rh_nodes.proofs.nodes.Nodes.take_one.Goals as goal
+
+pub returns-in_err-answer : goal.returns-in_err-answer
+returns-in_err-answer g c =
+    tells_failed _ _ c.from_residual.result _ _ _ c.from_residual.ensures.1 refl
+
+pub returns-in_err-push : goal.returns-in_err-push
+returns-in_err-push g c =
+    tells_failed _ _ c.from_residual-in_err-push.result _ _ _
+    c.from_residual-in_err-push.ensures.1 c.in_err-push.ensures.err

@@ -1,0 +1,70 @@
+//! Rings of items that grow before they are filled, so that filling them takes no memory.
+
+ghost use Rattle.std.specs.Prelude.{◌≡◌, ◌+◌, ◌≤◌, IfOk, OnOk, OnErr, length, take, drop};
+
+use circular_buffer::HeapCircularBuffer;
+use rh_text::Bytes;
+use std::alloc::{AllocError, Global};
+
+/// Makes room for `count` items more. The room at least doubles where it doesn't suffice.
+pub(crate) fn make_room<T: Copy>(
+    alloc: Global,
+    ring: &mut HeapCircularBuffer<T>,
+    count: usize,
+) -> Result<(), AllocError>
+    ensures items { ring.new.items ≡ ring.old.items }
+    ensures room { OnOk result (length ring.new.items + count ≤ ring.new.capacity) }
+    ensures within { length ring.new.items ≤ ring.new.capacity }
+{
+    let room = ring.capacity();
+    if count > room - ring.len() {
+        let needed = ring.len().checked_add(count).ok_or(AllocError)?;
+        let mut wider = HeapCircularBuffer::with_capacity(
+            alloc,
+            needed.max(room.saturating_mul(2)),
+        )?;
+        let (front, behind) = ring.as_slices();
+        wider.fill_from_slice(front);
+        wider.fill_from_slice(behind);
+        *ring = wider;
+    }
+    Ok(())
+}
+
+/// The first `count` bytes, as a list of their own.
+fn front_of(
+    alloc: Global,
+    ring: &HeapCircularBuffer<u8>,
+    count: usize,
+) -> Result<Vec<u8>, AllocError>
+    requires { count ≤ length ring.now.items }
+    ensures { IfOk result (λ bytes. bytes.items ≡ take count ring.now.items) }
+{
+    let (front, behind) = ring.as_slices();
+    if count <= front.len() {
+        return Vec::from_slice(alloc, &front[..count]);
+    }
+    let mut bytes = Vec::with_capacity(alloc, count)?;
+    bytes.extend_from_slice(front)?;
+    bytes.extend_from_slice(&behind[..count - front.len()])?;
+    Ok(bytes)
+}
+
+/// Takes the first bytes out: `count` of them, or all where there are fewer. The others stay where
+/// they are.
+#[inline(always)]
+pub(crate) fn take_front(
+    alloc: Global,
+    ring: &mut HeapCircularBuffer<u8>,
+    count: usize,
+) -> Result<Bytes, AllocError>
+    ensures taken { IfOk result (λ front. front ≡ take count ring.old.items) }
+    ensures left { OnOk result (ring.new.items ≡ drop count ring.old.items) }
+    ensures room { ring.new.capacity ≡ ring.old.capacity }
+    ensures err { OnErr result (ring.new ≡ ring.old) }
+{
+    let count = count.min(ring.len());
+    let front = front_of(alloc, ring, count)?;
+    ring.truncate_front(ring.len() - count);
+    Ok(Bytes::new(front))
+}
