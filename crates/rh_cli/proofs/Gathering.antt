@@ -4,82 +4,102 @@ use Rattle.std.proofs.lemmas.List.{append-nil, length-append}
 use Rattle.std.specs.declared.option.Option.{Option}
 use Rattle.std.specs.Io.KnownBytes.{Appends}
 use Rattle.std.proofs.KnownBytes.{Appends-nil, Appends-trans}
+use Rattle.rh_cli.specs.Outputs.{Out, Took, Gathers, Stops}
 
--- what an output tells as written, and how many bytes it takes for sure
-pub record Out : Type 0 where
-  pub known : Option (List ℕ)
-  pub takes : ℕ
-
--- the output took this piece; where it was sure to take so much, it is still sure to take the rest
-pub record Took (before now : Out) (piece : List ℕ) : Type 0 where
-  pub wrote : Appends before.known now.known piece
-  pub paid : length piece ≤ before.takes → before.takes ≤ now.takes + length piece
-
--- a piece was written, and the rest is left
-pub took : (before now : Out) (gathered piece left : List ℕ) → Appends before.known now.known piece
-    → piece ++ left ≡ gathered
-    → (length gathered ≤ before.takes + length left
-    → before.takes + length left ≤ now.takes + length gathered)
-    → Took before now piece
-took before now gathered piece left wrote is paid =
-    let sizes : length piece + length left ≡ length gathered = sym (length-append piece left)
-    ∙ ap length is in
+-- a piece was written, and the rest is gathered
+pub gathers : (before now : Out) (text piece left : List ℕ) → Appends before.known now.known piece
+    → text ≡ piece ++ left
+    → (length text ≤ before.takes + length left
+    → before.takes + length left ≤ now.takes + length text)
+    → Gathers text left before now
+gathers before now text piece left wrote is paid =
+    let sizes : length text ≡ length piece + length left =
+    ap length is ∙ length-append piece left in
     record {
-      wrote = wrote;
-      paid = λ fits. omega (arith, paid (omega (arith, fits, sizes)), sizes);
+      written = piece;
+      took = record {
+        wrote = wrote;
+        paid = λ fits. omega (arith, paid (omega (arith, fits, sizes)), sizes);
+      };
+      text_is = is;
     }
 
-pub record Gathers (said gathered : List ℕ) (before now : Out) : Type 0 where
-  pub written : List ℕ
-  pub took : Took before now written
-  pub said_is : said ≡ written ++ gathered
-
-pub gathers_none : (out : Out) → Gathers [] [] out out
-gathers_none out = record {
+-- nothing was written
+pub gathers_all : (text : List ℕ) (out : Out) → Gathers text text out out
+gathers_all text out = record {
   written = [];
   took = record { wrote = Appends-nil out.known; paid = λ fits. omega arith };
-  said_is = refl;
+  text_is = refl;
 }
 
--- more is said, and gathered
-pub gathers_more : (said gathered more : List ℕ) (before now : Out)
-    → Gathers said gathered before now
-    → Gathers (said ++ more) (gathered ++ more) before now
-gathers_more said gathered more before now h = record {
+-- more stands behind the text, and is gathered
+pub gathers_more : {text gathered : List ℕ} (more : List ℕ) {before now : Out}
+    → Gathers text gathered before now
+    → Gathers (text ++ more) (gathered ++ more) before now
+gathers_more {text} {gathered} more {before} {now} h = record {
   written = h.written;
   took = h.took;
-  said_is = ap (λ x. x ++ more) h.said_is ∙ append_assoc h.written gathered more;
+  text_is = ap (λ x. x ++ more) h.text_is ∙ append_assoc h.written gathered more;
 }
 
--- a front of what was gathered is written
-pub gathers_passed : (said gathered piece left : List ℕ) (before now later : Out)
-    → Took now later piece
-    → piece ++ left ≡ gathered → Gathers said gathered before now → Gathers said left before later
-gathers_passed said gathered piece left before now later took is h = record {
-  written = h.written ++ piece;
+-- and then a front of what was gathered was written
+pub gathers_on : {text gathered left : List ℕ} {before now later : Out}
+    → Gathers text gathered before now → Gathers gathered left now later
+    → Gathers text left before later
+gathers_on {text} {gathered} {left} {before} {now} {later} h k = record {
+  written = h.written ++ k.written;
   took = record {
-    wrote = Appends-trans before.known now.known later.known h.written piece h.took.wrote
-        took.wrote;
+    wrote = Appends-trans before.known now.known later.known h.written k.written h.took.wrote
+        k.took.wrote;
     paid = λ fits.
-        let sizes = length-append h.written piece in
+        let sizes = length-append h.written k.written in
         let first = h.took.paid (omega (arith, fits, sizes)) in
-        omega (arith, first, took.paid (omega (arith, fits, sizes, first)), sizes);
+        omega (arith, first, k.took.paid (omega (arith, fits, sizes, first)), sizes);
   };
-  said_is = h.said_is ∙ ap (λ x. h.written ++ x) (sym is) ∙ sym (append_assoc h.written piece left);
+  text_is = h.text_is ∙ ap (λ x. h.written ++ x) k.text_is
+      ∙ sym (append_assoc h.written k.written left);
 }
 
--- where nothing is left, all is written
-pub gathers_all : (said left : List ℕ) (before now : Out) → left ≡ []
-    → (h : Gathers said left before now)
-    → said ≡ h.written
-gathers_all said left before now none h = h.said_is ∙ ap (λ x. h.written ++ x) none
-    ∙ append-nil h.written
+-- and then no more than a front
+pub stops_on : {text gathered : List ℕ} {before now : Out} {later : Option (List ℕ)}
+    → Gathers text gathered before now → Stops gathered now.known later
+    → Stops text before.known later
+stops_on {text} {gathered} {before} {now} {later} h k = record {
+  written = h.written ++ k.written;
+  behind = k.behind;
+  wrote = Appends-trans before.known now.known later h.written k.written h.took.wrote k.wrote;
+  text_is = h.text_is ∙ ap (λ x. h.written ++ x) k.text_is
+      ∙ sym (append_assoc h.written k.written k.behind);
+}
 
--- an output that takes all that is said takes what is gathered
-pub gathers_sure : (said gathered behind : List ℕ) (before now : Out)
-    → (h : Gathers said gathered before now)
-    → length (h.written ++ (gathered ++ behind)) ≤ before.takes → length gathered ≤ now.takes
-gathers_sure said gathered behind before now h fits =
-    let sizes = length-append h.written (gathered ++ behind) in
+-- where nothing is gathered, all is written
+pub all_written : {text left : List ℕ} {before now : Out} → left ≡ []
+    → (h : Gathers text left before now)
+    → text ≡ h.written
+all_written {text} {left} {before} {now} none h =
+    h.text_is ∙ ap (λ x. h.written ++ x) none ∙ append-nil h.written
+
+-- nothing of a text is written
+pub stops_now : (text : List ℕ) (out : Out) → Stops text out.known out.known
+stops_now text out = record {
+  written = [];
+  behind = text;
+  wrote = Appends-nil out.known;
+  text_is = refl;
+}
+
+-- an output that takes all of a text takes what is gathered of it
+pub gathers_sure : {text gathered : List ℕ} (behind : List ℕ) {before now : Out}
+    → Gathers text gathered before now
+    → length (text ++ behind) ≤ before.takes → length (gathered ++ behind) ≤ now.takes
+gathers_sure {text} {gathered} behind {before} {now} h fits =
+    let sizes : length (text ++ behind) ≡ length h.written + length (gathered ++ behind) =
+    ap length (ap (λ x. x ++ behind) h.text_is ∙ append_assoc h.written gathered behind)
+    ∙ length-append h.written (gathered ++ behind) in
     let first = h.took.paid (omega (arith, fits, sizes)) in
-    omega (arith, first, fits, sizes, length-append gathered behind)
+    omega (arith, first, fits, sizes)
+
+-- what has room for a text has room for its front
+pub sure_front : (front behind : List ℕ) (takes : ℕ) → length (front ++ behind) ≤ takes
+    → length front ≤ takes
+sure_front front behind takes fits = omega (arith, fits, length-append front behind)

@@ -4,12 +4,12 @@ use Rattle.std.proofs.Common.{append_assoc}
 use Rattle.std.proofs.lemmas.List.{append-nil, nil_from_length}
 use Rattle.std.specs.declared.option.Option.{Option}
 use Rattle.std.specs.Io.KnownBytes.{Appends}
-use Rattle.std.proofs.KnownBytes.{Appends-nil, Appends-trans}
 use Rattle.rh_text.specs.Lines.{BeginsWith, Rules, FirstLine, Leads, IsText}
 use Rattle.rh_text.proofs.Texts.{OneLine, NoEmpty, begins_same, first_line, Leads-push, Leads-append, lines_behind}
 use Rattle.rh_text.proofs.Texts.{none_left, no_first}
 use Rattle.rh_cli.specs.Words.{Deeds, Tells, SaysOf, IsBegun}
-use Rattle.rh_cli.proofs.Gathering.{Out, Took, Gathers, gathers_none, gathers_sure, gathers_more, gathers_passed, gathers_all}
+use Rattle.rh_cli.specs.Outputs.{Out, Gathers, Stops}
+use Rattle.rh_cli.proofs.Gathering.{gathers_all, gathers_more, gathers_on, gathers_sure, stops_on, stops_now, sure_front, all_written}
 
 -- ---- what lines tell
 
@@ -121,7 +121,7 @@ module _ {P L W : Type 0} (rules : Rules P L) (deeds : Deeds W L) (text : List �
     starts = starts;
     said = [];
     told = (refl, refl);
-    gathers = gathers_none out;
+    gathers = gathers_all [] out;
   }
 
   -- where something is left, the line that stands there is one
@@ -151,21 +151,19 @@ module _ {P L W : Type 0} (rules : Rules P L) (deeds : Deeds W L) (text : List �
   others_ahead one some place (a ∷ ahead) rest last l behind h first =
       (ahead, (lines_behind rules one some place a ahead rest last l behind h first).1)
 
-  -- one line is done
+  -- one line is done, if what it tells were gathered
   pub writing_line : OneLine rules → NoEmpty rules
       → {place : P} {rest : List ℕ} {word : W} {gathered : List ℕ}
-      {before now : Out} {line behind : List ℕ} (next : W) (further : P) (more : List ℕ)
+      {before now : Out} {line behind : List ℕ} (next : W) (l : L) (told : List ℕ)
       → BeginsWith rest line behind
-      → ((l : L) × (told : List ℕ) × rules.Spells place line l × (further ≡ rules.next place l)
-      × deeds.Does word l told next × (more ≡ gathered ++ told))
+      → rules.Spells place line l → deeds.Does word l told next
       → Writing rules deeds text place rest word gathered before now
-      → Writing rules deeds text further behind next more before now
-  writing_line one some {place} {rest} {word} {gathered} {before} {now} {line} {behind} next further
-      more begins
-      (l, told, is, there, did, more_is) h =
+      → Writing rules deeds text (rules.next place l) behind next (gathered ++ told) before now
+  writing_line one some {place} {rest} {word} {gathered} {before} {now} {line} {behind} next l told
+      begins is did h =
       let first = first_line rules place rest line behind l begins is in
       let ahead = others_ahead one some place h.ahead rest h.last l behind h.left first in
-      rw (there, more_is) (record {
+      record {
         done = h.done ++ l ∷ [];
         read = Leads-push rules rules.first h.done text place rest l behind h.read first;
         ahead = ahead.0;
@@ -176,15 +174,15 @@ module _ {P L W : Type 0} (rules : Rules P L) (deeds : Deeds W L) (text : List �
         starts = h.starts;
         said = h.said ++ told;
         told = ToldTo-push deeds h.start h.done h.said word l told next h.told did;
-        gathers = gathers_more h.said gathered told before now h.gathers;
-      })
+        gathers = gathers_more told h.gathers;
+      }
 
   -- a front of what was gathered is written
-  pub writing_passed : (place : P) (rest : List ℕ) (word : W) (gathered piece left : List ℕ)
-      (before now later : Out) → Took now later piece → piece ++ left ≡ gathered
+  pub writing_on : {place : P} {rest : List ℕ} {word : W} {gathered left : List ℕ}
+      {before now later : Out} → Gathers gathered left now later
       → Writing rules deeds text place rest word gathered before now
       → Writing rules deeds text place rest word left before later
-  writing_passed place rest word gathered piece left before now later wrote is h = record {
+  writing_on {place} {rest} {word} {gathered} {left} {before} {now} {later} wrote h = record {
     done = h.done;
     read = h.read;
     ahead = h.ahead;
@@ -195,19 +193,16 @@ module _ {P L W : Type 0} (rules : Rules P L) (deeds : Deeds W L) (text : List �
     starts = h.starts;
     said = h.said;
     told = h.told;
-    gathers = gathers_passed h.said gathered piece left before now later wrote is h.gathers;
+    gathers = gathers_on h.gathers wrote;
   }
 
-  -- what was written is a front of an output, and what was gathered stands behind it
-  writing_begun : GoesOn rules deeds → ComesToEnd deeds → (place : P) (rest : List ℕ) (word : W)
+  -- what is said so far is a front of an output
+  said_begun : GoesOn rules deeds → ComesToEnd deeds → (place : P) (rest : List ℕ) (word : W)
       (gathered : List ℕ) (before now : Out)
       → (h : Writing rules deeds text place rest word gathered before now)
-      → (behind : List ℕ) × SaysOf rules deeds text (h.gathers.written ++ (gathered ++ behind))
-  writing_begun goes ends place rest word gathered before now h =
-      let later = tells_ahead rules deeds goes ends place h.ahead rest h.last word h.left in
-      let whole : h.said ++ later.0 ≡ h.gathers.written ++ (gathered ++ later.0) =
-      ap (λ (x : List ℕ). x ++ later.0) h.gathers.said_is
-      ∙ append_assoc h.gathers.written gathered later.0 in (
+      → (behind : List ℕ) × SaysOf rules deeds text (h.said ++ behind)
+  said_begun goes ends place rest word gathered before now h =
+      let later = tells_ahead rules deeds goes ends place h.ahead rest h.last word h.left in (
         later.0,
         record {
           lines = h.done ++ h.ahead;
@@ -219,56 +214,55 @@ module _ {P L W : Type 0} (rules : Rules P L) (deeds : Deeds W L) (text : List �
           };
           word = h.start;
           starts = h.starts;
-          tells = subst (Tells deeds h.start (h.done ++ h.ahead)) whole
-              (ToldTo-then deeds h.start h.done h.said word h.ahead later.0 h.told later.1);
+          tells = ToldTo-then deeds h.start h.done h.said word h.ahead later.0 h.told later.1;
         },
       )
 
-  pub writing_front : GoesOn rules deeds → ComesToEnd deeds → (place : P) (rest : List ℕ) (word : W)
-      (gathered piece left : List ℕ) (before now : Out) (later : Option (List ℕ))
-      → Appends now.known later piece → gathered ≡ piece ++ left
+  -- what was written is a front of an output, where a front of what was gathered went too
+  pub writing_stops : GoesOn rules deeds → ComesToEnd deeds
+      → {place : P} {rest : List ℕ} {word : W} {gathered : List ℕ} {before now : Out}
+      {later : Option (List ℕ)} → Stops gathered now.known later
       → Writing rules deeds text place rest word gathered before now
       → (written : List ℕ) × Appends before.known later written
       × IsBegun (SaysOf rules deeds) text written
-  writing_front goes ends place rest word gathered piece left before now later wrote is h =
-      let (behind, says) = writing_begun goes ends place rest word gathered before now h in
-      let whole : h.gathers.written ++ (gathered ++ behind) ≡ (h.gathers.written ++ piece)
-      ++ (left ++ behind) =
-      ap (λ (x : List ℕ). h.gathers.written ++ (x ++ behind)) is
-      ∙ ap (λ (x : List ℕ). h.gathers.written ++ x) (append_assoc piece left behind)
-      ∙ sym (append_assoc h.gathers.written piece (left ++ behind)) in (
-        h.gathers.written ++ piece,
-        Appends-trans before.known now.known later h.gathers.written piece h.gathers.took.wrote
-            wrote,
-        (left ++ behind, subst (SaysOf rules deeds text) whole says),
+  writing_stops goes ends {place} {rest} {word} {gathered} {before} {now} {later} wrote h =
+      let (behind, says) = said_begun goes ends place rest word gathered before now h in
+      let went = stops_on h.gathers wrote in
+      let whole : h.said ++ behind ≡ went.written ++ (went.behind ++ behind) =
+      ap (λ (x : List ℕ). x ++ behind) went.text_is
+      ∙ append_assoc went.written went.behind behind in (
+        went.written,
+        went.wrote,
+        (went.behind ++ behind, subst (SaysOf rules deeds text) whole says),
       )
 
+  -- nothing more went
   pub writing_so_far : GoesOn rules deeds → ComesToEnd deeds
-      → (place : P) (rest : List ℕ) (word : W)
-      (gathered : List ℕ) (before now : Out)
+      → {place : P} {rest : List ℕ} {word : W} {gathered : List ℕ} {before now : Out}
       → Writing rules deeds text place rest word gathered before now
       → (written : List ℕ) × Appends before.known now.known written
       × IsBegun (SaysOf rules deeds) text written
-  writing_so_far goes ends place rest word gathered before now h =
-      writing_front goes ends place rest word gathered [] gathered before now now.known
-      (Appends-nil now.known) refl h
+  writing_so_far goes ends {place} {rest} {word} {gathered} {before} {now} h =
+      writing_stops goes ends (stops_now gathered now) h
 
-  pub writing_sure : GoesOn rules deeds → ComesToEnd deeds → (place : P) (rest : List ℕ) (word : W)
-      (gathered : List ℕ) (before now : Out)
+  -- an output that takes every output of the text takes what is gathered
+  pub writing_sure : GoesOn rules deeds → ComesToEnd deeds
+      → {place : P} {rest : List ℕ} {word : W} {gathered : List ℕ} {before now : Out}
       → ((whole : List ℕ) → SaysOf rules deeds text whole → length whole ≤ before.takes)
       → Writing rules deeds text place rest word gathered before now → length gathered ≤ now.takes
-  writing_sure goes ends place rest word gathered before now all h =
-      let (behind, says) = writing_begun goes ends place rest word gathered before now h in
-      gathers_sure h.said gathered behind before now h.gathers
-      (all (h.gathers.written ++ (gathered ++ behind)) says)
+  writing_sure goes ends {place} {rest} {word} {gathered} {before} {now} all h =
+      let (behind, says) = said_begun goes ends place rest word gathered before now h in
+      sure_front gathered behind now.takes
+      (gathers_sure behind h.gathers (all (h.said ++ behind) says))
 
   -- the lines are all done
   pub writing_whole : OneLine rules → NoEmpty rules
-      → (place : P) (rest : List ℕ) (word : W) (gathered : List ℕ)
-      (before now : Out) (told more : List ℕ) → length rest ≡ 0 → deeds.Ends word told
+      → {place : P} {rest : List ℕ} {word : W} {gathered : List ℕ} {before now : Out}
+      (told more : List ℕ) → length rest ≡ 0 → deeds.Ends word told
       → more ≡ gathered ++ told → Writing rules deeds text place rest word gathered before now
       → Whole rules deeds text more before now
-  writing_whole one some place rest word gathered before now told more none did more_is h =
+  writing_whole one some {place} {rest} {word} {gathered} {before} {now} told more none did more_is
+      h =
       let empty = nil_from_length rest none in
       let left = subst (λ r. Leads rules place h.ahead r h.last []) empty h.left in
       let over = none_left rules one some place h.ahead h.last left in
@@ -286,42 +280,38 @@ module _ {P L W : Type 0} (rules : Rules P L) (deeds : Deeds W L) (text : List �
           tells = subst (λ ls. Tells deeds h.start ls (h.said ++ told)) (append-nil h.done)
               (ToldTo-then deeds h.start h.done h.said word [] told h.told did);
         };
-        gathers = gathers_more h.said gathered told before now h.gathers;
+        gathers = gathers_more told h.gathers;
       })
 
-  pub whole_all : (gathered piece left : List ℕ) (before now later : Out) → Took now later piece
-      → piece ++ left ≡ gathered → left ≡ [] → Whole rules deeds text gathered before now
+  pub whole_all : {gathered left : List ℕ} {before now later : Out}
+      → Gathers gathered left now later → left ≡ [] → Whole rules deeds text gathered before now
       → (written : List ℕ) × Appends before.known later.known written
       × SaysOf rules deeds text written
-  whole_all gathered piece left before now later wrote is none h =
-      let passed =
-      gathers_passed h.said gathered piece left before now later wrote is h.gathers in (
-        passed.written,
-        passed.took.wrote,
-        subst (SaysOf rules deeds text) (gathers_all h.said left before later none passed) h.says,
+  whole_all {gathered} {left} {before} {now} {later} wrote none h =
+      let went = gathers_on h.gathers wrote in (
+        went.written,
+        went.took.wrote,
+        subst (SaysOf rules deeds text) (all_written none went) h.says,
       )
 
   -- what was written is a front of an output, where a front of what was gathered went too
-  pub whole_begun : (gathered piece left : List ℕ) (before now : Out) (later : Option (List ℕ))
-      → Appends now.known later piece → gathered ≡ piece ++ left
+  pub whole_stops : {gathered : List ℕ} {before now : Out} {later : Option (List ℕ)}
+      → Stops gathered now.known later
       → Whole rules deeds text gathered before now
       → (written : List ℕ) × Appends before.known later written
       × IsBegun (SaysOf rules deeds) text written
-  whole_begun gathered piece left before now later wrote is h =
-      let wrote_first = h.gathers.took.wrote in
-      let said : h.said ≡ (h.gathers.written ++ piece) ++ left = h.gathers.said_is
-      ∙ ap (λ x. h.gathers.written ++ x) is ∙ sym (append_assoc h.gathers.written piece left) in (
-        h.gathers.written ++ piece,
-        Appends-trans before.known now.known later h.gathers.written piece wrote_first wrote,
-        (left, subst (SaysOf rules deeds text) said h.says),
+  whole_stops {gathered} {before} {now} {later} wrote h =
+      let went = stops_on h.gathers wrote in (
+        went.written,
+        went.wrote,
+        (went.behind, subst (SaysOf rules deeds text) went.text_is h.says),
       )
 
   -- an output that takes every output of the text takes what is gathered
-  pub whole_sure : (gathered : List ℕ) (before now : Out)
+  pub whole_sure : {gathered : List ℕ} {before now : Out}
       → ((whole : List ℕ) → SaysOf rules deeds text whole → length whole ≤ before.takes)
       → Whole rules deeds text gathered before now → length gathered ≤ now.takes
-  whole_sure gathered before now all h =
-      let is : h.said ≡ h.gathers.written ++ (gathered ++ []) =
-      h.gathers.said_is ∙ ap (λ (x : List ℕ). h.gathers.written ++ x) (sym (append-nil gathered)) in
-      gathers_sure h.said gathered [] before now h.gathers
-      (subst (λ (x : List ℕ). length x ≤ before.takes) is (all h.said h.says))
+  whole_sure {gathered} {before} {now} all h =
+      let fits = subst (λ (x : List ℕ). length x ≤ before.takes) (sym (append-nil h.said))
+      (all h.said h.says) in
+      sure_front gathered [] now.takes (gathers_sure [] h.gathers fits)

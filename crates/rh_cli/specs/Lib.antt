@@ -1,3 +1,4 @@
+pub mod Outputs
 pub mod Words
 pub mod Statuses
 pub mod Replay

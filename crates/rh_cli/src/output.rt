@@ -1,8 +1,8 @@
 //! Writes what was gathered in pieces.
 
-ghost use Rattle.std.specs.Prelude.{◌≡◌, ◌+◌, ◌≤◌, ◌++◌, ℕ, List, IsOk, OnOk, OnErr, Err, [], string_bytes, length};
-ghost use Rattle.std.specs.Io.KnownBytes.{Appends};
+ghost use Rattle.std.specs.Prelude.{◌≡◌, ◌≤◌, IsOk, OnOk, OnErr, Err, [], string_bytes, length};
 ghost use Rattle.rh_io.specs.Counts.{Rose};
+ghost use Rattle.rh_cli.specs.Outputs.{out, Gathers, Stops};
 
 use rh_io::{Sink, SinkFailed, write_whole};
 use std::alloc::AllocError;
@@ -36,21 +36,15 @@ pub fn pass_on<W: Sink>(
     least: usize,
     output: &mut W,
 ) -> Result<(), Unfinished>
-    ensures ok { OnOk result ((piece : List ℕ)
-        × Appends (W.written output.old) (W.written output.new) piece
-        × (piece ++ string_bytes gathered.new ≡ string_bytes gathered.old)) }
+    ensures ok { OnOk result (Gathers (string_bytes gathered.old) (string_bytes gathered.new)
+        (out W.written W.takes output.old) (out W.written W.takes output.new)) }
     ensures all { OnOk result (least ≡ 0 → string_bytes gathered.new ≡ []) }
-    ensures err { OnErr result ((piece : List ℕ) × (behind : List ℕ)
-        × Appends (W.written output.old) (W.written output.new) piece
-        × (string_bytes gathered.old ≡ piece ++ behind)) }
+    ensures err { OnErr result (Stops (string_bytes gathered.old)
+        (W.written output.old) (W.written output.new)) }
     ensures fault { OnErr result (result ≡ Err Unfinished.WriteFault) }
     ensures failed { OnErr result (Rose (W.faults output.old) (W.faults output.new)) }
     ensures no_failure { OnOk result (W.faults output.new ≡ W.faults output.old) }
     ensures takes { length (string_bytes gathered.old) ≤ W.takes output.old → IsOk result }
-    ensures takes_on { length (string_bytes gathered.old)
-        ≤ W.takes output.old + length (string_bytes gathered.new)
-        → OnOk result (W.takes output.old + length (string_bytes gathered.new)
-        ≤ W.takes output.new + length (string_bytes gathered.old)) }
 {
     if gathered.len() >= least {
         match write_whole(output, gathered.as_bytes()) {

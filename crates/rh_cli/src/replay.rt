@@ -1,6 +1,8 @@
 //! Replays a recording.
 
+use crate::output::{PIECE, Unfinished, pass_on};
 use crate::word::Word;
+use rh_io::Sink;
 use rh_record::{DirectRecording, LineRefused, RecordKind, Report, read_line, write_report};
 use rh_world::{World, WorldConfig};
 use std::alloc::{AllocError, Global};
@@ -39,21 +41,23 @@ impl Word<DirectRecording> for Replay {
         })
     }
 
-    fn write_line(
+    fn write_line<W: Sink>(
         &mut self,
         alloc: Global,
         line: &[u8],
         place: RecordKind,
-        out: &mut String,
-    ) -> Result<RecordKind, AllocError> {
+        gathered: &mut String,
+        output: &mut W,
+    ) -> Result<RecordKind, Unfinished> {
         let line = match read_line(alloc, line, place) {
             Ok(line) => line,
             Err(LineRefused::Grammar) => unreachable!(),
-            Err(LineRefused::NoMemory) => return Err(AllocError),
+            Err(LineRefused::NoMemory) => return Err(Unfinished::NoMemory),
         };
         self.report.clear();
         self.world.step(alloc, &line, &mut self.report)?;
-        write_report(&self.report, out)?;
+        write_report(&self.report, gathered)?;
+        pass_on(gathered, PIECE, output)?;
         Ok(RecordKind::Direct)
     }
 

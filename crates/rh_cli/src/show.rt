@@ -1,6 +1,8 @@
 //! Shows packets.
 
+use crate::output::{PIECE, Unfinished, pass_on};
 use crate::word::Word;
+use rh_io::Sink;
 use rh_show::{LineReader, Packets, show_packet};
 use std::alloc::{AllocError, Global};
 use std::marker::Model;
@@ -33,17 +35,19 @@ impl Word<Packets> for Show {
         })
     }
 
-    fn write_line(
+    fn write_line<W: Sink>(
         &mut self,
         _: Global,
         line: &[u8],
         _: (),
-        out: &mut String,
-    ) -> Result<(), AllocError> {
+        gathered: &mut String,
+        output: &mut W,
+    ) -> Result<(), Unfinished> {
         let Some(bytes) = self.reader.read(line) else {
             unreachable!()
         };
-        show_packet(bytes, out)
+        show_packet(bytes, gathered)?;
+        pass_on(gathered, PIECE, output)
     }
 
     fn finish(&mut self, _: Global, _: &mut String) -> Result<(), AllocError> {

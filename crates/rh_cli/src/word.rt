@@ -5,9 +5,10 @@ ghost use Rattle.std.specs.Io.KnownBytes.{Appends};
 ghost use Rattle.rh_io.specs.Bytes.{Moves};
 ghost use Rattle.rh_io.specs.Counts.{Rose};
 ghost use Rattle.rh_text.specs.Lines.{IsText, FirstBad};
+ghost use Rattle.rh_cli.specs.Outputs.{out, Gathers, Stops};
 ghost use Rattle.rh_cli.specs.Words.{Deeds, SaysOf, Answers, counts, Counted, IsBegun, IsTaken};
 
-use crate::output::{PIECE, Unfinished, pass_on};
+use crate::output::{Unfinished, pass_on};
 use rh_io::{ReadWholeError, Sink, Source, read_whole};
 use rh_text::{Grammar, first_bad_line, split_line};
 use std::alloc::{AllocError, Global};
@@ -30,21 +31,38 @@ pub trait Word<G: Grammar>: Drop {
     fn start(alloc: Global) -> Result<Self, AllocError>
         ensures { IfOk result (λ word. deeds.Starts word × (done word ≡ 0)) };
 
-    /// Does a line that stands at this place, appends what it says, and answers the place behind
-    /// it. Fails where there is no memory.
-    fn write_line(
+    /// Does a line that stands at this place, and answers the place behind it. What the line says
+    /// is gathered behind what is gathered already, and written where that is a piece.
+    ///
+    /// Fails where there is no memory or the output fails. A front of what was gathered and of what
+    /// the line says was written then.
+    fn write_line<W: Sink>(
         &mut self,
         alloc: Global,
         line: &[u8],
         place: G::Place,
-        out: &mut String,
-    ) -> Result<G::Place, AllocError>
+        gathered: &mut String,
+        output: &mut W,
+    ) -> Result<G::Place, Unfinished>
         requires line { (l : G.Line) × G.rules.Spells place line.now l }
         requires few { done self.old < MOST_INPUT }
-        ensures told { IfOk result (λ next. (l : G.Line) × (told : List ℕ)
+        ensures ok { IfOk result (λ next. (l : G.Line) × (told : List ℕ)
             × G.rules.Spells place line.now l × (next ≡ G.rules.next place l)
             × deeds.Does self.old l told self.new
-            × (string_bytes out.new ≡ string_bytes out.old ++ told)) }
+            × Gathers (string_bytes gathered.old ++ told) (string_bytes gathered.new)
+            (out W.written W.takes output.old) (out W.written W.takes output.new)) }
+        ensures err { OnErr result ((l : G.Line) × (told : List ℕ) × (next : Self)
+            × G.rules.Spells place line.now l × deeds.Does self.old l told next
+            × Stops (string_bytes gathered.old ++ told)
+            (W.written output.old) (W.written output.new)) }
+        ensures failed { result ≡ Err Unfinished.WriteFault
+            → Rose (W.faults output.old) (W.faults output.new) }
+        ensures no_failure { result ≢ Err Unfinished.WriteFault
+            → W.faults output.new ≡ W.faults output.old }
+        ensures takes { ((l : G.Line) (told : List ℕ) (next : Self)
+            → G.rules.Spells place line.now l → deeds.Does self.old l told next
+            → length (string_bytes gathered.old ++ told) ≤ W.takes output.old)
+            → result ≢ Err Unfinished.WriteFault }
         ensures done { OnOk result (done self.new ≤ done self.old + 1) };
 
     /// Appends what stands behind the last line. Fails where there is no memory.
@@ -110,9 +128,8 @@ fn write_all<G: Grammar, X: Word<G>, W: Sink>(
     let mut place = G::first_place();
     'lines: while !rest.is_empty() {
         let (line, behind) = split_line(rest);
-        place = word.write_line(alloc, line, place, &mut gathered)?;
+        place = word.write_line::<W>(alloc, line, place, &mut gathered, output)?;
         rest = behind;
-        pass_on(&mut gathered, PIECE, output)?;
     }
     word.finish(alloc, &mut gathered)?;
     pass_on(&mut gathered, 0, output)?;
