@@ -1,28 +1,28 @@
 //! Replays a recording.
 
 use crate::word::Word;
-use rh_record::{DirectRecording, LineRefused, RecordKind, Report, read_line, write_report};
-use rh_world::{World, WorldConfig};
+use rh_record::{LineRefused, Place, Recording, Report, read_line, write_report};
+use rh_world::AnyWorld;
 use std::alloc::{AllocError, Global};
 use std::marker::Model;
 
 /// The word `replay`: reads a recording and writes its report.
 #[derive(Drop)]
 pub struct Replay {
-    world: World,
+    world: AnyWorld,
     report: Report,
 }
 
 impl Model for Replay {
-    ghost use Rattle.rh_world.specs.Direct.{World};
+    ghost use Rattle.rh_world.specs.declared.any_world.AnyWorld.{AnyWorld};
 
-    ghost Value = { World };
+    ghost Value = { AnyWorld };
 
     ghost view = { λ a. a.world };
 }
 
-impl Word<DirectRecording> for Replay {
-    ghost use Rattle.std.specs.Prelude.{◌+◌};
+impl Word<Recording> for Replay {
+    ghost use Rattle.rh_world.specs.Any.{given};
     ghost use Rattle.rh_cli.specs.Replay.{IsReplayed, replaying};
     ghost use Rattle.rh_cli.specs.Replays.{goes_on, comes_to_end, means};
 
@@ -30,11 +30,11 @@ impl Word<DirectRecording> for Replay {
 
     ghost says = { IsReplayed };
 
-    ghost done = { λ world. world.up.given + world.down.given };
+    ghost done = { given };
 
     fn start(alloc: Global) -> Result<Replay, AllocError> {
         Ok(Replay {
-            world: World::new(alloc, &WorldConfig::direct())?,
+            world: AnyWorld::Before,
             report: Report::new(alloc),
         })
     }
@@ -43,10 +43,10 @@ impl Word<DirectRecording> for Replay {
         &mut self,
         alloc: Global,
         line: &[u8],
-        place: RecordKind,
+        place: Place,
         out: &mut String,
-    ) -> Result<RecordKind, AllocError> {
-        let line = match read_line(alloc, line, place) {
+    ) -> Result<Place, AllocError> {
+        let line = match read_line(alloc, line, place.kind()) {
             Ok(line) => line,
             Err(LineRefused::Grammar) => unreachable!(),
             Err(LineRefused::NoMemory) => return Err(AllocError),
@@ -54,12 +54,12 @@ impl Word<DirectRecording> for Replay {
         self.report.clear();
         self.world.step(alloc, &line, &mut self.report)?;
         write_report(&self.report, out)?;
-        Ok(RecordKind::Direct)
+        Ok(place.next(&line))
     }
 
-    fn finish(&mut self, _: Global, out: &mut String) -> Result<(), AllocError> {
+    fn finish(&mut self, alloc: Global, out: &mut String) -> Result<(), AllocError> {
         self.report.clear();
-        self.world.last(&mut self.report)?;
+        self.world.last(alloc, &mut self.report)?;
         write_report(&self.report, out)
     }
 
