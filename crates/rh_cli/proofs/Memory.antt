@@ -5,7 +5,7 @@ use Rattle.std.proofs.lemmas.List.{append-nil}
 use Rattle.std.specs.declared.option.Option.{Option}
 use Rattle.std.specs.Io.KnownBytes.{Appends}
 use Rattle.rh_text.specs.Lines.{Rules, IsText}
-use Rattle.rh_record.specs.Places.{direct_recording}
+use Rattle.rh_record.specs.Places.{recording}
 use Rattle.rh_show.specs.Lines.{packets}
 use Rattle.rh_cli.specs.declared.form.Form.{Form}
 use Rattle.rh_cli.specs.declared.form.Form.TheVariants.{Replay, Show, Help, Version}
@@ -100,7 +100,7 @@ ran_in_memory help version Unfailing Replay status before after text (
   reads,
 ) sure left none room =
     let s =
-    spared direct_recording IsReplayed Unfailing before after text ended reads sure left none
+    spared recording IsReplayed Unfailing before after text ended reads sure left none
     room in
     rw is (record { none_failed = s.none_failed; whole = s.whole; done = s.done })
 ran_in_memory help version Unfailing Show status before after text (

@@ -7,7 +7,7 @@ use Rattle.std.specs.Io.KnownBytes.{Appends}
 use Rattle.rh_io.specs.Bytes.{Moves}
 use Rattle.rh_io.specs.Counts.{Rose}
 use Rattle.rh_text.specs.Lines.{Rules, IsText, FirstBad}
-use Rattle.rh_record.specs.Places.{direct_recording}
+use Rattle.rh_record.specs.Places.{recording}
 use Rattle.rh_show.specs.Lines.{packets}
 use Rattle.rh_cli.specs.declared.form.Form.{Form}
 use Rattle.rh_cli.specs.declared.form.Form.TheVariants.{Replay, Show, Help, Version}
@@ -88,7 +88,7 @@ abbrev pub Ran : (help version : List ℕ) (Unfailing : Type 0) → Form → Sta
     → Type 0
 Ran help version Unfailing Replay status before after =
     (ended : Ended) × (status ≡ status_of ended)
-    × Reads direct_recording IsReplayed Unfailing ended before after
+    × Reads recording IsReplayed Unfailing ended before after
 Ran help version Unfailing Show status before after =
     (ended : Ended) × (status ≡ status_of ended)
     × Reads packets IsShown Unfailing ended before after

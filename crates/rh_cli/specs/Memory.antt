@@ -2,7 +2,7 @@
 use Rattle.std.specs.Prelude.{◌≡◌, ◌⊎◌, ◌≤◌, ℕ, List, length, Some}
 use Rattle.std.specs.declared.option.Option.{Option}
 use Rattle.rh_text.specs.Lines.{IsText}
-use Rattle.rh_record.specs.Places.{direct_recording}
+use Rattle.rh_record.specs.Places.{recording}
 use Rattle.rh_show.specs.Lines.{packets}
 use Rattle.rh_cli.specs.declared.form.Form.{Form}
 use Rattle.rh_cli.specs.declared.form.Form.TheVariants.{Replay, Show, Help, Version}
@@ -21,7 +21,7 @@ IsOutput help version Version text whole = whole ≡ version
 
 -- nothing is wrong with the text for this form
 abbrev pub IsInput : Form → List ℕ → Type 0
-IsInput Replay text = IsText direct_recording text × (length text ≤ most_input)
+IsInput Replay text = IsText recording text × (length text ≤ most_input)
 IsInput Show text = IsText packets text × (length text ≤ most_input)
 IsInput Help text = Unit {0}
 IsInput Version text = Unit {0}

@@ -2,26 +2,27 @@
 -- the recording
 use Rattle.std.proofs.Common.{◌≡◌, ℕ, List, [], ◌∷◌, ◌++◌, refl, sym, ◌∙◌, ap}
 use Rattle.rh_record.specs.declared.line.Line.{Line}
-use Rattle.rh_record.specs.declared.line.RecordKind.{RecordKind}
-use Rattle.rh_record.specs.Places.{StandsDirect, direct_recording}
+use Rattle.rh_record.specs.declared.place.Place.{Place}
+use Rattle.rh_record.specs.Places.{Stands, recording}
 use Rattle.rh_record.specs.Report.{report_text}
-use Rattle.rh_world.specs.Direct.{World, step, last, told}
+use Rattle.rh_world.specs.declared.any_world.AnyWorld.{AnyWorld}
+use Rattle.rh_world.specs.Any.{step, last, told}
 use Rattle.rh_record.proofs.Reports.{report_text-append}
-use Rattle.rh_world.proofs.Runs.{run_in_order}
+use Rattle.rh_world.proofs.Either.{direct_in_order}
 use Rattle.rh_cli.specs.Words.{Tells, SaysOf}
 use Rattle.rh_cli.specs.Replay.{replaying, IsReplayed}
 
-pub goes_on : (world : World) (place : RecordKind) (text : List ℕ) (line : Line)
-    → StandsDirect place text line
-    → (written : List ℕ) × (next : World) × replaying.Does world line written next
+pub goes_on : (world : AnyWorld) (place : Place) (text : List ℕ) (line : Line)
+    → Stands place text line
+    → (written : List ℕ) × (next : AnyWorld) × replaying.Does world line written next
 goes_on world place text line h =
     (report_text (step world line).1, (step world line).0, (refl, refl))
 
-pub comes_to_end : (world : World) → (written : List ℕ) × replaying.Ends world written
+pub comes_to_end : (world : AnyWorld) → (written : List ℕ) × replaying.Ends world written
 comes_to_end world = (report_text (last world), refl)
 
 -- what is written of lines is the text of what they are answered
-tells_told : (world : World) (lines : List Line) (written : List ℕ)
+tells_told : (world : AnyWorld) (lines : List Line) (written : List ℕ)
     → Tells replaying world lines written
     → written ≡ report_text (told world lines)
 tells_told world [] written h = h
@@ -33,12 +34,12 @@ tells_told world (line ∷ lines) written (one, more, next, does, is, rest) =
     ∙ ap (λ w. report_text (told w lines)) there)
     ∙ sym (report_text-append (step world line).1 (told (step world line).0 lines))
 
-pub means : (text written : List ℕ) → SaysOf direct_recording replaying text written
+pub means : (text written : List ℕ) → SaysOf recording replaying text written
     → IsReplayed text written
 means text written h = record {
   lines = h.lines;
   is_text = h.is_text;
   report = tells_told h.word h.lines written h.tells
       ∙ ap (λ w. report_text (told w h.lines)) h.starts;
-  in_order = run_in_order h.lines;
+  in_order = direct_in_order h.lines;
 }

@@ -10,7 +10,7 @@ use crate::show::Show;
 use crate::status::{Status, statuses};
 use crate::word::answer;
 use rh_io::{Sink, SinkFailed, Source, write_whole};
-use rh_record::DirectRecording;
+use rh_record::Recording;
 use rh_show::Packets;
 use std::alloc::Global;
 
@@ -66,9 +66,7 @@ pub fn run<R: Source, W: Sink>(
         (seen input.old output.old) (seen input.new output.new) }
 {
     match form_of(words) {
-        Some(Form::Replay) => Status::from(answer::<DirectRecording, Replay, R, W>(
-            alloc, input, output,
-        )),
+        Some(Form::Replay) => Status::from(answer::<Recording, Replay, R, W>(alloc, input, output)),
         Some(Form::Show) => Status::from(answer::<Packets, Show, R, W>(alloc, input, output)),
         Some(Form::Help) => tell(HELP, output),
         Some(Form::Version) => tell(VERSION, output),

@@ -3,3 +3,4 @@ pub mod PieceLaws
 mod Frames
 pub mod Ways
 pub mod Runs
+pub mod Either

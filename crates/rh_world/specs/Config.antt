@@ -1,6 +1,7 @@
 -- the numbers of a world (profile)
-use Rattle.rh_record.specs.declared.line.Key.TheVariants.{Cwin, Iwin, Owin, Swin, Ilife, Olife, Itime, Otime, Keep}
-use Rattle.std.specs.Prelude.{IsTrue}
+use Rattle.std.specs.Prelude.{ℕ, Bool, true, false, IsTrue, if◌then◌else◌, ◌==◌}
+use Rattle.rh_record.specs.declared.line.Key.{Key}
+use Rattle.rh_record.specs.declared.line.Key.TheVariants.{Cwin, Iwin, Owin, Swin, Ilife, Olife, Itime, Otime, Keep, Same}
 use Rattle.rh_record.specs.Words.{takes}
 use Rattle.rh_world.specs.declared.config.WorldConfig.{WorldConfig}
 
@@ -15,3 +16,37 @@ pub record AreInRange (config : WorldConfig) : Type 0 where
   pub itime : IsTrue (takes Itime config.itime)
   pub otime : IsTrue (takes Otime config.otime)
   pub keep : IsTrue (takes Keep config.keep)
+
+-- a world of roles where no line sets a number
+abbrev pub roles_config : WorldConfig
+roles_config = record {
+  direct = false;
+  cwin = 65536;
+  iwin = 65536;
+  owin = 65536;
+  swin = 65536;
+  ilife = 1073741824;
+  olife = 1073741824;
+  itime = 120000;
+  otime = 120000;
+  keep = 300000;
+  same = false;
+}
+
+-- the number of a key is this value
+abbrev pub setting : WorldConfig → Key → ℕ → WorldConfig
+setting config Cwin value = record config { cwin = value }
+setting config Iwin value = record config { iwin = value }
+setting config Owin value = record config { owin = value }
+setting config Swin value = record config { swin = value }
+setting config Ilife value = record config { ilife = value }
+setting config Olife value = record config { olife = value }
+setting config Itime value = record config { itime = value }
+setting config Otime value = record config { otime = value }
+setting config Keep value = record config { keep = value }
+setting config Same value = record config { same = value == 1 }
+
+-- the same, where the key takes the value
+abbrev pub with_number : WorldConfig → Key → ℕ → WorldConfig
+with_number config key value =
+    if takes key value then setting config key value else config

@@ -1,4 +1,7 @@
 pub mod Config
+pub mod Hosts
+pub mod Roles
+pub mod Any
 pub mod Direct
 pub mod Pieces
 pub mod Carrying

@@ -1,5 +1,7 @@
 //! What a world is made by.
 
+use rh_record::Key;
+
 /// The numbers of a world, each named by its key, and whether it is a direct one. A direct world
 /// uses none of the numbers.
 #[derive(Clone, Copy, Debug, PartialEq, Eq)]
@@ -24,11 +26,13 @@ pub struct WorldConfig {
     pub otime: u32,
     /// The client's keepalive, in milliseconds: 0, which means 300,000, or 60,000 to 4,294,967,295.
     pub keep: u32,
+    /// Whether settling opens an IN successor at the proxy of its predecessor, where it may.
+    pub same: bool,
 }
 
 impl WorldConfig {
     ghost use Rattle.std.specs.Prelude.{◌≡◌, true};
-    ghost use Rattle.rh_world.specs.Config.{AreInRange};
+    ghost use Rattle.rh_world.specs.Config.{AreInRange, roles_config, with_number};
 
     /// A direct world, and the numbers that stand where no line sets them.
     pub fn direct() -> WorldConfig
@@ -46,6 +50,43 @@ impl WorldConfig {
             itime: 120_000,
             otime: 120_000,
             keep: 300_000,
+            same: false,
         }
+    }
+
+    /// A world of roles, and the numbers that stand where no line sets them.
+    pub fn roles() -> WorldConfig
+        ensures numbers { result ≡ roles_config }
+        ensures in_range { AreInRange result }
+    {
+        WorldConfig {
+            direct: false,
+            ..WorldConfig::direct()
+        }
+    }
+
+    /// These numbers, but that of the key is the value. A value that the key doesn't take changes
+    /// nothing.
+    pub fn with_number(self, key: Key, value: u32) -> WorldConfig
+        ensures numbers { result ≡ with_number self key value }
+        ensures in_range { AreInRange self → AreInRange result }
+    {
+        let mut config = self;
+        if !key.takes(u64::from(value)) {
+            return config;
+        }
+        match key {
+            Key::Cwin => config.cwin = value,
+            Key::Iwin => config.iwin = value,
+            Key::Owin => config.owin = value,
+            Key::Swin => config.swin = value,
+            Key::Ilife => config.ilife = value,
+            Key::Olife => config.olife = value,
+            Key::Itime => config.itime = value,
+            Key::Otime => config.otime = value,
+            Key::Keep => config.keep = value,
+            Key::Same => config.same = value == 1,
+        }
+        config
     }
 }

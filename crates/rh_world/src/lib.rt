@@ -1,13 +1,18 @@
-//! The direct world: a client and a server joined by one leg, driven line by line.
+//! The worlds of recordings, driven line by line: the direct one, where a client and a server are
+//! joined by one leg, and that of the real roles.
 #![tactic(auto)]
 
+pub mod any_world;
 pub mod config;
 mod received;
 mod ring;
+pub mod roles;
 mod way;
 pub mod world;
 
+pub use any_world::AnyWorld;
 pub use config::WorldConfig;
+pub use roles::Roles;
 pub use world::World;
 
 #[cfg(test)]

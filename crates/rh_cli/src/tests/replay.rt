@@ -103,7 +103,8 @@ fn a_header_outside_the_grammar_is_line_1(rt: HostRuntime) -> Result<(), Fail> {
     for text in [
         "",
         "\n",
-        "rh 1 roles",
+        "rh 1 roles ",
+        "rh 1 role",
         "rh 2 1",
         "rh 1",
         "rh 1 direct ",
@@ -244,6 +245,49 @@ fn a_recording_in_memory_is_replayed_whole(rt: HostRuntime) -> Result<(), Fail> 
     let (status, output) = run_in_memory(rt.alloc(), &words, text, ROOM)?;
     assert_eq!(rt; status, Status::Done);
     assert!(rt; output.written() == REPORT.as_bytes());
+    Ok(())
+}
+
+#[test]
+fn a_recording_of_roles_is_replayed(rt: HostRuntime) -> Result<(), Fail> {
+    let text = "rh 1 roles\nset same 1\nset cwin 8192\nopen ci1 same\nopen co1\nbreak co1\n\
+        take c\ntick 5\ntick 4\nsettle 1\n";
+    let wanted = "open ci1 same no\nopen co1 ok\nbreak co1 ok\nclosed c 1 LegBroken co1\n\
+        closed o1 1 LegBroken co1\ntake c closed 1 LegBroken co1\ntick 5 ok\ntick 4 no\n\
+        quiet 0\nup given 0 taken 0\ndown given 0 taken 0\nclient closed 1 LegBroken co1\n\
+        server opening in 1 out 1\n";
+    let (status, output) = replay(&rt, text.as_bytes())?;
+    assert_eq!(rt; status, Status::Done);
+    assert!(rt; output.written() == wanted.as_bytes());
+    Ok(())
+}
+
+#[test]
+fn a_recording_of_roles_may_have_settings_alone(rt: HostRuntime) -> Result<(), Fail> {
+    let wanted = "up given 0 taken 0\ndown given 0 taken 0\nclient opening in 1 out 1\n\
+        server opening in 1 out 1\n";
+    for text in [
+        "rh 1 roles",
+        "rh 1 roles\n",
+        "rh 1 roles\nset keep 0\nset itime 120000",
+    ] {
+        let (status, output) = replay(&rt, text.as_bytes())?;
+        assert_eq!(rt; status, Status::Done);
+        assert!(rt; output.written() == wanted.as_bytes(), "{text}");
+    }
+    Ok(())
+}
+
+#[test]
+fn a_setting_out_of_place_is_bad_input(rt: HostRuntime) -> Result<(), Fail> {
+    for text in [
+        "rh 1 roles\ntake c\nset same 1\n",
+        "rh 1 roles\nset same 1\nset same 1\n",
+        "rh 1 roles\nset cwin 8192\nset iwin 8191\n",
+        "rh 1 direct\ntake c\nset same 1\n",
+    ] {
+        assert!(rt; is_bad_input(&rt, text, 3)?, "{text}");
+    }
     Ok(())
 }
 

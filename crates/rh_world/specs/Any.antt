@@ -1,0 +1,62 @@
+-- the world of a recording of either form (profile)
+use Rattle.std.specs.Prelude.{ℕ, ◌+◌, List, [], ◌∷◌, ◌++◌, true, false}
+use Rattle.rh_record.specs.declared.answer.Answer.{Answer}
+use Rattle.rh_record.specs.declared.line.Line.{Line}
+use Rattle.rh_record.specs.declared.line.Line.TheVariants.{First, Set}
+use Rattle.rh_world.specs.declared.any_world.AnyWorld.{AnyWorld}
+use Rattle.rh_world.specs.declared.any_world.AnyWorld.TheVariants.{Before, Direct, Settings, Roles}
+use Rattle.rh_world.specs.declared.config.WorldConfig.{WorldConfig}
+use Rattle.rh_world.specs.Config.{roles_config, with_number}
+use Rattle.rh_world.specs.Direct as direct
+use Rattle.rh_world.specs.Roles as roles
+
+-- a world of roles that has had all its settings
+abbrev pub of_roles : WorldConfig → AnyWorld
+of_roles config = Roles (roles.begun config)
+
+-- the world that a line is done to: a first line makes one, a setting changes its numbers, and the
+-- first line that is no setting makes the nodes
+abbrev pub prepared : AnyWorld → Line → AnyWorld
+prepared Before (First false) = Direct direct.empty
+prepared Before (First true) = Settings roles_config
+prepared (Settings config) (Set key value) = Settings (with_number config key value)
+prepared (Settings config) _ = of_roles config
+prepared world _ = world
+
+-- a world afterwards, and what is answered
+abbrev pub as_direct : direct.World × List Answer → AnyWorld × List Answer
+as_direct did = (Direct did.0, did.1)
+
+abbrev pub as_roles : roles.World × List Answer → AnyWorld × List Answer
+as_roles did = (Roles did.0, did.1)
+
+abbrev pub act : AnyWorld → Line → AnyWorld × List Answer
+act (Direct world) line = as_direct (direct.step world line)
+act (Roles world) line = as_roles (roles.step line world)
+act world line = (world, [])
+
+abbrev pub step : AnyWorld → Line → AnyWorld × List Answer
+step world line = act (prepared world line) line
+
+-- the last lines of a report
+abbrev pub last : AnyWorld → List Answer
+last Before = []
+last (Direct world) = direct.last world
+last (Settings config) = roles.last (roles.begun config)
+last (Roles world) = roles.last world
+
+-- how many PDUs a direct world was given; one of roles counts as far as its counts go
+abbrev pub given : AnyWorld → ℕ
+given (Direct world) = world.up.given + world.down.given
+given _ = 0
+
+-- ---- recordings
+
+-- what lines are answered, one after the other, and the last lines of the report
+abbrev pub told : AnyWorld → List Line → List Answer
+told world [] = last world
+told world (line ∷ lines) = (step world line).1 ++ told (step world line).0 lines
+
+-- the report of a recording
+abbrev pub run : List Line → List Answer
+run lines = told Before lines

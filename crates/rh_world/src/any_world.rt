@@ -1,0 +1,94 @@
+//! The world of a recording of either form.
+
+ghost use Rattle.std.specs.Prelude.{◌≡◌, ◌+◌, ◌<◌, ◌≤◌, ◌++◌, IfOk, OnOk};
+ghost use Rattle.rh_text.specs.Writing.{Writes};
+
+use crate::config::WorldConfig;
+use crate::roles::Roles;
+use crate::world::World;
+use rh_nodes::Nodes;
+use rh_record::{Line, Report};
+use std::alloc::{AllocError, Global};
+
+/// What the lines of a recording made so far. After want of memory it may only be dropped.
+#[derive(Drop)]
+pub enum AnyWorld {
+    /// The first line is still to come.
+    Before,
+    Direct(World),
+    /// A world of roles, made of these where no more settings come.
+    Settings(Roles),
+    Roles(Nodes<Roles>),
+}
+
+impl AnyWorld {
+    ghost use Rattle.rh_world.specs.declared.world.TheConstants.{MOST_PDUS};
+    ghost use Rattle.rh_world.specs.Any as seen;
+
+    /// A world of roles that has had all its settings.
+    fn of_roles(alloc: Global, roles: &Roles) -> Result<AnyWorld, AllocError>
+        ensures { IfOk result (λ world. world ≡ seen.of_roles roles.now) }
+    {
+        let config = roles.config();
+        let nodes = Nodes::new(alloc, Roles::new(config), 0, config.same)?;
+        Ok(AnyWorld::Roles(nodes))
+    }
+
+    /// A first line, a setting, and the first line that is no setting make the world other than it
+    /// was.
+    fn prepare(&mut self, alloc: Global, line: &Line) -> Result<(), AllocError>
+        ensures world { OnOk result (self.new ≡ seen.prepared self.old line.now) }
+        ensures given { OnOk result (seen.given self.new ≤ seen.given self.old) }
+    {
+        match (&mut *self, line) {
+            (AnyWorld::Before, Line::First { roles: false }) => {
+                *self = AnyWorld::Direct(World::new(alloc, &WorldConfig::direct())?);
+            }
+            (AnyWorld::Before, Line::First { roles: true }) => {
+                *self = AnyWorld::Settings(Roles::new(WorldConfig::roles()));
+            }
+            (AnyWorld::Settings(roles), Line::Set { key, value }) => roles.set(*key, *value),
+            (AnyWorld::Settings(roles), _) => *self = AnyWorld::of_roles(alloc, roles)?,
+            _ => {}
+        }
+        Ok(())
+    }
+
+    /// Does what a line says, and adds its answers to the report.
+    ///
+    /// Fails where there is no memory.
+    pub fn step(
+        &mut self,
+        alloc: Global,
+        line: &Line,
+        report: &mut Report,
+    ) -> Result<(), AllocError>
+        requires { seen.given self.old < MOST_PDUS }
+        ensures world { OnOk result (self.new ≡ (seen.step self.old line.now).0) }
+        ensures report { OnOk result (report.new ≡ report.old ++ (seen.step self.old line.now).1) }
+        ensures given { OnOk result (seen.given self.new ≤ seen.given self.old + 1) }
+    {
+        self.prepare(alloc, line)?;
+        match self {
+            AnyWorld::Before | AnyWorld::Settings(_) => Ok(()),
+            AnyWorld::Direct(world) => world.step(alloc, line, report),
+            AnyWorld::Roles(nodes) => nodes.step(alloc, line, report),
+        }
+    }
+
+    /// Adds the last lines of a report. There are none before the first line.
+    ///
+    /// Fails where there is no memory; a front of these lines may be added then.
+    pub fn last(&mut self, alloc: Global, report: &mut Report) -> Result<(), AllocError>
+        ensures { Writes (seen.last self.old) result report.old report.new }
+    {
+        if let AnyWorld::Settings(roles) = self {
+            *self = AnyWorld::of_roles(alloc, roles)?;
+        }
+        match self {
+            AnyWorld::Before | AnyWorld::Settings(_) => Ok(()),
+            AnyWorld::Direct(world) => world.last(report),
+            AnyWorld::Roles(nodes) => nodes.last(report),
+        }
+    }
+}
