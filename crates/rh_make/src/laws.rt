@@ -1,0 +1,24 @@
+//! Laws of generated recordings: these functions do nothing, and their contracts are the laws.
+
+ghost use Rattle.std.specs.Prelude.{◌≡◌, ℕ, ◌++◌, length, None};
+ghost use Rattle.rh_pdu.specs.Checking.{pdu_fault};
+ghost use Rattle.rh_pdu.specs.Frames.{IsPdu};
+ghost use Rattle.rh_world.specs.declared.any_world.AnyWorld.TheVariants.{Before};
+ghost use Rattle.rh_world.specs.Any.{run};
+ghost use Rattle.rh_make.specs.Making.{lines};
+ghost use Rattle.rh_make.specs.Requests.{pdu, size};
+ghost use Rattle.rh_make.specs.Steps.{answers};
+ghost use Rattle.rh_make.specs.Summaries.{summary};
+
+/// What is given is a PDU of its length, so none is refused as bad.
+pub fn a_pdu_is_made()
+    ensures sound { (i : ℕ) → IsPdu (pdu i) }
+    ensures faultless { (i : ℕ) → pdu_fault (pdu i) ≡ None }
+    ensures long { (i : ℕ) → length (pdu i) ≡ size i }
+{}
+
+/// The report of the recording is what its lines were answered, and then the last lines of the
+/// summary.
+pub fn a_summary_is_of_the_report()
+    ensures { (n : ℕ) → run (lines n) ≡ answers Before (lines n) ++ (summary n).last }
+{}
