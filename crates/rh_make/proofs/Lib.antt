@@ -1,1 +1,3 @@
 pub mod Pdus
+pub mod Steps
+mod Recordings

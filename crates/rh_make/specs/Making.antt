@@ -1,6 +1,6 @@
 -- a generated recording of roles (profile)
 use Rattle.std.specs.Prelude.{ℕ, zero, suc, ◌≤◌, ◌%◌, ◌==◌, List, [], ◌∷◌, ◌++◌}
-use Rattle.std.specs.Prelude.{true, ◌||◌, if◌then◌else◌}
+use Rattle.std.specs.Prelude.{Bool, true, ◌||◌, if◌then◌else◌}
 use Rattle.rh_text.specs.declared.ends.Side.{Side}
 use Rattle.rh_text.specs.declared.ends.Side.TheVariants.{Client, Server}
 use Rattle.rh_record.specs.declared.line.Line.{Line}
@@ -20,13 +20,13 @@ giver i = if i % 2 == 1 then Client else Server
 abbrev pub settle : Line
 settle = Settle 1000
 
--- all settles behind each 16th give, and behind the last of n
-abbrev pub settling : ℕ → ℕ → List Line
-settling n i = if i % 16 == 0 || i == n then settle ∷ [] else []
+-- whether all settles behind PDU i of n: behind each 16th, and behind the last
+abbrev pub settles : ℕ → ℕ → Bool
+settles n i = i % 16 == 0 || i == n
 
 -- the lines of PDU i
 abbrev pub turn : ℕ → ℕ → List Line
-turn n i = Give (giver i) (pdu i) ∷ settling n i
+turn n i = Give (giver i) (pdu i) ∷ (if settles n i then settle ∷ [] else [])
 
 -- the lines up to those of PDU i
 unfoldable pub front : ℕ → ℕ → List Line

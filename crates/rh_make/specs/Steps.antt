@@ -8,7 +8,6 @@ use Rattle.rh_world.specs.Any.{step}
 use Rattle.rh_make.specs.declared.tally.Tally.{Tally}
 use Rattle.rh_make.specs.Tallies.{with, tally_of}
 
-
 -- the world behind lines
 abbrev pub after : AnyWorld → List Line → AnyWorld
 after world [] = world

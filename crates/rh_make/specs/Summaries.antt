@@ -7,7 +7,7 @@ use Rattle.rh_world.specs.Any.{last}
 use Rattle.rh_make.specs.declared.summary.Summary.{Summary}
 use Rattle.rh_make.specs.Making.{lines}
 use Rattle.rh_make.specs.Sums.{moved, rounds}
-use Rattle.rh_make.specs.Steps.{after, answers}
+use Rattle.rh_make.specs.Steps.{Made, after, answers}
 
 -- of the recording of n PDUs
 abbrev pub summary : ℕ → Summary
@@ -16,6 +16,11 @@ summary n = record {
   moved = moved (answers Before (lines n));
   rounds = rounds (answers Before (lines n));
 }
+
+-- of what was made so far
+abbrev pub summary_of : Made → Summary
+summary_of made =
+    record { last = last made.world; moved = made.tally.moved; rounds = made.tally.rounds }
 
 -- the last lines of the report, and a line for each sum
 abbrev pub summary_text : Summary → List ℕ

@@ -1,9 +1,8 @@
 //! Makes a recording of roles, a line at a time, and sums up what it is answered.
 
 ghost use Rattle.std.specs.Prelude.{◌≡◌, [], ◌∷◌, true, IfOk, OnOk};
-ghost use Rattle.rh_world.specs.Any.{last};
 ghost use Rattle.rh_make.specs.Making as lines;
-ghost use Rattle.rh_make.specs.Summaries.{summary};
+ghost use Rattle.rh_make.specs.Summaries.{summary, summary_of};
 
 use crate::count::MakeCount;
 use crate::requests::pdu;
@@ -45,13 +44,22 @@ fn giver(number: u32) -> Side
     }
 }
 
+/// Whether all settles behind the PDU of this number, of so many.
+fn settles(count: u32, number: u32) -> bool
+    ensures { result ≡ lines.settles count number }
+{
+    number % 16 == 0 || number == count
+}
+
 impl Making {
     ghost use Rattle.rh_record.specs.declared.line.Line.TheVariants.{First};
     ghost use Rattle.rh_make.specs.Steps.{IsOfRoles, do_all, does, made_by};
 
     /// The first line was done.
+    #[tactic(auto, unfolding(crate::specs::Steps::made_by))]
     fn new(alloc: Global) -> Result<Making, AllocError>
-        ensures { IfOk result (λ making. making ≡ made_by (First true ∷ [])) }
+        ensures done { IfOk result (λ making. making ≡ made_by (First true ∷ [])) }
+        ensures of_roles { IfOk result (λ making. IsOfRoles making.world) }
     {
         let mut world = AnyWorld::Before;
         let mut report = Report::new(alloc);
@@ -64,6 +72,7 @@ impl Making {
     }
 
     /// Does a line.
+    #[tactic(auto, unfolding(crate::specs::Steps::does), using(crate::proofs::Steps::none_given, crate::proofs::Steps::step_of_roles))]
     fn line(&mut self, alloc: Global, line: &Line) -> Result<(), AllocError>
         requires { IsOfRoles self.old.world }
         ensures done { OnOk result (self.new ≡ does self.old line.now) }
@@ -93,7 +102,7 @@ impl Making {
         let side = giver(number);
         let pdu = pdu(alloc, number)?;
         self.line(alloc, &Line::Give { side, pdu })?;
-        if number % 16 == 0 || number == count {
+        if settles(count, number) {
             self.settle(alloc)?;
         }
         Ok(())
@@ -110,13 +119,14 @@ impl Making {
     }
 
     /// What the lines so far come to, as if they were all.
-    fn summary(mut self, alloc: Global) -> Result<Summary, AllocError>
-        ensures { IfOk result (λ made. made ≡ record { last = last self.world; moved = self.tally.moved; rounds = self.tally.rounds }) }
+    fn summary(self, alloc: Global) -> Result<Summary, AllocError>
+        ensures { IfOk result (λ made. made ≡ summary_of self) }
     {
-        self.report.clear();
-        self.world.last(alloc, &mut self.report)?;
+        let mut world = self.world;
+        let mut last = Report::new(alloc);
+        world.last(alloc, &mut last)?;
         Ok(Summary {
-            last: self.report,
+            last,
             moved: self.tally.moved,
             rounds: self.tally.rounds,
         })

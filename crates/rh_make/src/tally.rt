@@ -19,7 +19,8 @@ fn bytes_of(answer: &Answer) -> u64
 {
     match answer {
         Answer::Move {
-            bytes: Some(bytes), ..
+            bytes: Some(bytes),
+            ..
         } => bytes.len() as u64,
         _ => 0,
     }
