@@ -1,5 +1,6 @@
 -- what is given is a PDU
-use Rattle.std.proofs.Common.{◌≡◌, ◌≢◌, ℕ, ◌+◌, ◌-◌, ◌*◌, ◌%◌, ◌≤◌, ◌<◌, ◌^◌, List, ◌++◌, length, take, replicate, None, arith, sym, ◌∙◌, ap}
+use Rattle.std.proofs.Common.{◌≡◌, ℕ, ◌+◌, ◌-◌, ◌*◌, ◌%◌, ◌≤◌, ◌<◌, ◌^◌, List, ◌++◌, length, take}
+use Rattle.std.proofs.Common.{replicate, None, arith, sym, ◌∙◌, ap}
 use Rattle.std.proofs.lemmas.List.{length-append, length-replicate, take_all}
 use Rattle.std.proofs.lemmas.Nat.{mod_below}
 use Rattle.std.proofs.lemmas.Bool.Decides.{nat_tests}

@@ -1,8 +1,7 @@
 -- a generated recording, made PDU by PDU
-use Rattle.std.proofs.Common.{◌≡◌, ℕ, ◌+◌, List, [], ◌∷◌, ◌++◌, true, refl, sym, ◌∙◌, ap, add-one}
-use Rattle.rh_record.specs.declared.line.Line.{Line}
+use Rattle.std.proofs.Common.{◌≡◌, ℕ, ◌+◌, [], ◌∷◌, true, refl, ◌∙◌, ap, add-one}
 use Rattle.rh_record.specs.declared.line.Line.TheVariants.{First}
-use Rattle.rh_make.specs.Making.{ending, front, lines, turn}
+use Rattle.rh_make.specs.Making.{ending, front, turn}
 use Rattle.rh_make.specs.Steps.{Made, do_all, made_by}
 use Rattle.rh_make.specs.Summaries.{summary, summary_of}
 use Rattle.rh_make.proofs.Steps.{all_more}

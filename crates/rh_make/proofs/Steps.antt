@@ -1,5 +1,6 @@
 -- lines done one after the other come to what they come to together
-use Rattle.std.proofs.Common.{◌≡◌, ℕ, ◌+◌, List, [], ◌∷◌, ◌++◌, true, arith, refl, sym, ◌∙◌, ap, append_assoc}
+use Rattle.std.proofs.Common.{◌≡◌, ℕ, ◌+◌, List, [], ◌∷◌, ◌++◌, add-zero, append_assoc}
+use Rattle.std.proofs.Common.{arith, refl, sym, ◌∙◌, ap}
 use Rattle.std.proofs.lemmas.List.{append-nil}
 use Rattle.std.proofs.lemmas.List.Sums.{sum_by-append}
 use Rattle.std.proofs.lemmas.Bool.Decides.{nat_tests}
@@ -10,8 +11,8 @@ use Rattle.rh_record.specs.declared.line.Line.{Line}
 use Rattle.rh_record.specs.declared.line.Line.TheVariants.{Set}
 use Rattle.rh_world.specs.declared.any_world.AnyWorld.{AnyWorld}
 use Rattle.rh_world.specs.declared.any_world.AnyWorld.TheVariants.{Before, Direct, Settings, Roles}
-use Rattle.rh_world.specs.Any.{act, given, last, prepared, step, told}
-use Rattle.rh_make.specs.Sums.{bytes_of, rounds_of}
+use Rattle.rh_world.specs.Any.{act, given, last, prepared, run, step, told}
+use Rattle.rh_make.specs.Sums.{bytes_of, moved, rounds, rounds_of}
 use Rattle.rh_make.specs.Tallies.{tally_of, with}
 use Rattle.rh_make.specs.Steps.{IsOfRoles, Made, after, answers, do_all, does, made_by}
 
@@ -38,9 +39,9 @@ act_of_roles (Settings config) line h = tt
 act_of_roles (Roles world) line h = tt
 
 -- a world of roles stays one
-pub step_of_roles : (world : AnyWorld) (line : Line) → IsOfRoles world
+pub stays_roles : (world : AnyWorld) (line : Line) → IsOfRoles world
     → IsOfRoles (step world line).0
-step_of_roles world line h =
+stays_roles world line h =
     act_of_roles (prepared world line) line (prepared_of_roles world line h)
 
 -- ---- sums
@@ -74,7 +75,7 @@ answers_append world (line ∷ front) more =
 
 one_more : (front : List Line) (line : Line)
     → does (made_by front) line ≡ made_by (front ++ line ∷ [])
-unfolding does made_by
+unfolding made_by
 one_more front line =
     let told = (step (after Before front) line).1 in
     let behind : answers Before (front ++ line ∷ []) ≡ answers Before front ++ told =
@@ -98,3 +99,30 @@ told_is world (line ∷ lines) =
     ap (λ (x : List Answer). (step world line).1 ++ x) (told_is (step world line).0 lines)
     ∙ sym (append_assoc (step world line).1 (answers (step world line).0 lines)
     (last (after (step world line).0 lines)))
+
+-- the last lines are no moves and no settlings
+last_moves : (world : AnyWorld) → sum_by bytes_of (last world) ≡ 0
+last_moves Before = refl
+last_moves (Direct world) = refl
+last_moves (Settings config) = refl
+last_moves (Roles world) = refl
+
+last_settles : (world : AnyWorld) → sum_by rounds_of (last world) ≡ 0
+last_settles Before = refl
+last_settles (Direct world) = refl
+last_settles (Settings config) = refl
+last_settles (Roles world) = refl
+
+sum_told : (f : Answer → ℕ) (lines : List Line) → sum_by f (last (after Before lines)) ≡ 0
+    → sum_by f (run lines) ≡ sum_by f (answers Before lines)
+sum_told f lines none =
+    ap (sum_by f) (told_is Before lines)
+    ∙ sum_by-append f (answers Before lines) (last (after Before lines))
+    ∙ ap (λ (n : ℕ). sum_by f (answers Before lines) + n) none
+    ∙ add-zero (sum_by f (answers Before lines))
+
+pub moved_told : (lines : List Line) → moved (run lines) ≡ moved (answers Before lines)
+moved_told lines = ap capped (sum_told bytes_of lines (last_moves (after Before lines)))
+
+pub rounds_told : (lines : List Line) → rounds (run lines) ≡ rounds (answers Before lines)
+rounds_told lines = ap capped (sum_told rounds_of lines (last_settles (after Before lines)))

@@ -1,5 +1,6 @@
 pub mod Requests
 pub mod Making
+pub mod Standing
 pub mod Sums
 pub mod Tallies
 pub mod Steps

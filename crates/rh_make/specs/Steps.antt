@@ -32,7 +32,7 @@ made_by lines = record {
 
 -- ---- one line after the other
 
-unfoldable pub does : Made → Line → Made
+abbrev pub does : Made → Line → Made
 does made line = record {
   world = (step made.world line).0;
   tally = with made.tally (step made.world line).1;

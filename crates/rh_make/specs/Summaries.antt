@@ -26,4 +26,5 @@ summary_of made =
 abbrev pub summary_text : Summary → List ℕ
 summary_text s =
     report_text s.last
-    ++ (codes "moved " ++ (decimal s.moved ++ (codes "\nrounds " ++ (decimal s.rounds ++ codes "\n"))))
+    ++ (codes "moved " ++ (decimal s.moved
+    ++ (codes "\nrounds " ++ (decimal s.rounds ++ codes "\n"))))

@@ -1,5 +1,5 @@
 -- what answers come to, some after others (profile)
-use Rattle.std.specs.Prelude.{ℕ, ◌+◌, List}
+use Rattle.std.specs.Prelude.{◌+◌, List}
 use Rattle.std.specs.List.{sum_by}
 use Rattle.rh_pdu.specs.Feeding.{capped}
 use Rattle.rh_record.specs.declared.answer.Answer.{Answer}

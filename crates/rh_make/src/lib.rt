@@ -13,7 +13,7 @@ mod tests;
 pub mod writing;
 
 pub use count::MakeCount;
-pub use laws::{a_pdu_is_made, a_summary_is_of_the_report};
+pub use laws::{a_pdu_is_made, a_recording_is_made, a_summary_is_of_the_report};
 pub use making::make;
 pub use requests::pdu;
 pub use summary::Summary;

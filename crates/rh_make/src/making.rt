@@ -72,7 +72,7 @@ impl Making {
     }
 
     /// Does a line.
-    #[tactic(auto, unfolding(crate::specs::Steps::does), using(crate::proofs::Steps::none_given, crate::proofs::Steps::step_of_roles))]
+    #[tactic(auto, using(crate::proofs::Steps::none_given, crate::proofs::Steps::stays_roles))]
     fn line(&mut self, alloc: Global, line: &Line) -> Result<(), AllocError>
         requires { IsOfRoles self.old.world }
         ensures done { OnOk result (self.new ≡ does self.old line.now) }

@@ -15,8 +15,8 @@ fn size(number: u32) -> u16
     24 + more as u16
 }
 
-/// Its header: version 5.0, a request, first and last fragment, the least byte of a number first, no
-/// authentication, and the number as that of the call (C706 12.6.3.1).
+/// Its header: version 5.0, a request, first and last fragment, the least byte of a number first,
+/// no authentication, and the number as that of the call (C706 12.6.3.1).
 fn header(number: u32) -> [u8; HEADER_LEN]
     ensures { result ≡ seen.header number }
 {

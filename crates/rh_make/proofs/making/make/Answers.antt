@@ -1,4 +1,4 @@
-use Rattle.std.proofs.Common.{◌≡◌, IfOk, ℕ, ◌+◌, arith, sym, ◌∙◌, ap, subst}
+use Rattle.std.proofs.Common.{◌≡◌, IfOk, ℕ, arith, ◌∙◌, ap, subst}
 use Rattle.rh_make.specs.declared.summary.Summary.{Summary}
 use Rattle.rh_make.specs.Making.{front}
 use Rattle.rh_make.specs.Steps.{made_by}
