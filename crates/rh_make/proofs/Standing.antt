@@ -1,6 +1,6 @@
 -- the lines of a generated recording may stand where they do
-use Rattle.std.proofs.Common.{◌≡◌, ℕ, zero, suc, List, [], ◌∷◌, ◌++◌, Bool, true, false, if◌then◌else◌}
-use Rattle.std.proofs.Common.{refl, sym, subst}
+use Rattle.std.proofs.Common.{◌≡◌, ℕ, zero, suc, List, [], ◌∷◌, ◌++◌, Bool, true, false}
+use Rattle.std.proofs.Common.{if◌then◌else◌, refl, sym, subst}
 use Rattle.rh_record.specs.declared.line.Line.{Line}
 use Rattle.rh_record.specs.declared.place.Place.{Place}
 use Rattle.rh_record.specs.declared.place.Place.TheVariants.{Header, Settings, Roles}
