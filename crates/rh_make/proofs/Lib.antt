@@ -1,0 +1,4 @@
+pub mod Pdus
+pub mod Steps
+mod Recordings
+mod Standing

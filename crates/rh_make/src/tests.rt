@@ -1,0 +1,3 @@
+//! Small recordings.
+
+mod making;
