@@ -7,8 +7,9 @@ use Rattle.std.specs.Io.KnownBytes.{Appends}
 use Rattle.rh_text.specs.Lines.{Rules, IsText}
 use Rattle.rh_record.specs.Places.{recording}
 use Rattle.rh_show.specs.Lines.{packets}
+use Rattle.rh_make.specs.Summaries.{summary, summary_text}
 use Rattle.rh_cli.specs.declared.form.Form.{Form}
-use Rattle.rh_cli.specs.declared.form.Form.TheVariants.{Replay, Show, Help, Version}
+use Rattle.rh_cli.specs.declared.form.Form.TheVariants.{Replay, Show, Make, Help, Version}
 use Rattle.rh_cli.specs.declared.status.Status.{Status}
 use Rattle.rh_cli.specs.declared.status.Status.TheVariants as statuses
 use Rattle.rh_cli.specs.declared.word.Ended.{Ended}
@@ -110,6 +111,20 @@ ran_in_memory help version Unfailing Show status before after text (
 ) sure left none room =
     let s = spared packets IsShown Unfailing before after text ended reads sure left none room in
     rw is (record { none_failed = s.none_failed; whole = s.whole; done = s.done })
+ran_in_memory help version Unfailing (Make count) status before after text (
+  inl h
+) sure left none room =
+    rw h.0 (record {
+      none_failed = tt;
+      whole = λ e. absurd (cc);
+      done = λ _. inr refl;
+    })
+ran_in_memory help version Unfailing (Make count) status before after text (
+  inr h
+) sure left none room =
+    let t = told_whole (summary_text (summary count)) status before.written after.written _ _
+    before.takes h none (room (summary_text (summary count)) refl) in
+    rw t.0 (record { none_failed = tt; whole = λ _. t.1; done = λ _. inl refl })
 ran_in_memory help version Unfailing Help status before after text h sure left none room =
     let t = told_whole help status before.written after.written _ _ before.takes h none
     (room help refl) in

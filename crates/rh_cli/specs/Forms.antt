@@ -1,5 +1,6 @@
 -- the forms of a command line, and what each is answered
 use Rattle.std.specs.Prelude.{◌≡◌, ◌⊎◌, ◌≢◌, ◌≤◌, ℕ, List, [], ◌∷◌, ◌++◌, length, codes, map, string_bytes, Some}
+use Rattle.std.specs.Fmt.{decimal}
 use Rattle.std.specs.declared.option.Option.{Option}
 use Rattle.std.specs.declared.string.String.{String}
 use Rattle.std.specs.Global.{Global}
@@ -9,10 +10,12 @@ use Rattle.rh_io.specs.Counts.{Rose}
 use Rattle.rh_text.specs.Lines.{Rules, IsText, FirstBad}
 use Rattle.rh_record.specs.Places.{recording}
 use Rattle.rh_show.specs.Lines.{packets}
+use Rattle.rh_make.specs.Making.{IsCount}
+use Rattle.rh_make.specs.Summaries.{summary, summary_text}
 use Rattle.rh_cli.specs.declared.form.Form.{Form}
-use Rattle.rh_cli.specs.declared.form.Form.TheVariants.{Replay, Show, Help, Version}
+use Rattle.rh_cli.specs.declared.form.Form.TheVariants.{Replay, Show, Make, Help, Version}
 use Rattle.rh_cli.specs.declared.status.Status.{Status}
-use Rattle.rh_cli.specs.declared.status.Status.TheVariants.{Done, WriteFault}
+use Rattle.rh_cli.specs.declared.status.Status.TheVariants.{Done, WriteFault, NoMemory}
 use Rattle.rh_cli.specs.declared.word.Ended.{Ended}
 use Rattle.rh_cli.specs.declared.word.Ended.TheVariants as ends
 use Rattle.rh_cli.specs.Statuses.{status_of}
@@ -20,16 +23,25 @@ use Rattle.rh_cli.specs.Words.{Answers, Counts, counts, Counted, IsTaken, most_i
 use Rattle.rh_cli.specs.Replay.{IsReplayed}
 use Rattle.rh_cli.specs.Show.{IsShown}
 
--- the word that asks for it
-abbrev pub form_word : Form → List ℕ
-form_word Replay = codes "replay"
-form_word Show = codes "show"
-form_word Help = codes "--help"
-form_word Version = codes "--version"
+-- the words that ask for it
+abbrev pub form_words : Form → List (List ℕ)
+form_words Replay = codes "replay" ∷ []
+form_words Show = codes "show" ∷ []
+form_words (Make count) = codes "make" ∷ decimal count ∷ []
+form_words Help = codes "--help" ∷ []
+form_words Version = codes "--version" ∷ []
 
--- the words are that one word
+-- a generated recording gives as many PDUs as it may
+abbrev pub IsMade : Form → Type 0
+IsMade Replay = Unit {0}
+IsMade Show = Unit {0}
+IsMade (Make count) = IsCount count
+IsMade Help = Unit {0}
+IsMade Version = Unit {0}
+
 abbrev pub IsForm : Form → List (String Global) → Type 0
-IsForm form words = map (λ (word : String Global). string_bytes word) words ≡ form_word form ∷ []
+IsForm form words =
+    (map (λ (word : String Global). string_bytes word) words ≡ form_words form) × IsMade form
 
 -- what the input tells as left and as read, what the output tells as written, and their counts
 pub record Outside : Type 0 where
@@ -83,6 +95,13 @@ pub record Tells (text : List ℕ) (status : Status) (before after : Option (Lis
       ⊎ ((status ≡ WriteFault) × Rose faults now)
   pub sure : length text ≤ takes → status ≡ Done
 
+-- a text that is made is written, or there was no memory for it, and nothing was written
+abbrev pub Made : (text : List ℕ) → Status → Outside → Outside → Type 0
+Made text status before after =
+    ((status ≡ NoMemory) × (after ≡ before))
+    ⊎ Tells text status before.written after.written before.counts.write_faults
+    after.counts.write_faults before.takes
+
 -- what a form is answered; `help` and `version` are what the program tells of itself
 abbrev pub Ran : (help version : List ℕ) (Unfailing : Type 0) → Form → Status → Outside → Outside
     → Type 0
@@ -92,6 +111,8 @@ Ran help version Unfailing Replay status before after =
 Ran help version Unfailing Show status before after =
     (ended : Ended) × (status ≡ status_of ended)
     × Reads packets IsShown Unfailing ended before after
+Ran help version Unfailing (Make count) status before after =
+    Made (summary_text (summary count)) status before after
 Ran help version Unfailing Help status before after =
     Tells help status before.written after.written before.counts.write_faults
     after.counts.write_faults before.takes

@@ -4,8 +4,9 @@ use Rattle.std.specs.declared.option.Option.{Option}
 use Rattle.rh_text.specs.Lines.{IsText}
 use Rattle.rh_record.specs.Places.{recording}
 use Rattle.rh_show.specs.Lines.{packets}
+use Rattle.rh_make.specs.Summaries.{summary, summary_text}
 use Rattle.rh_cli.specs.declared.form.Form.{Form}
-use Rattle.rh_cli.specs.declared.form.Form.TheVariants.{Replay, Show, Help, Version}
+use Rattle.rh_cli.specs.declared.form.Form.TheVariants.{Replay, Show, Make, Help, Version}
 use Rattle.rh_cli.specs.declared.status.Status.{Status}
 use Rattle.rh_cli.specs.declared.status.Status.TheVariants as statuses
 use Rattle.rh_cli.specs.Words.{most_input}
@@ -16,6 +17,7 @@ use Rattle.rh_cli.specs.Show.{IsShown}
 abbrev pub IsOutput : (help version : List ℕ) → Form → List ℕ → List ℕ → Type 0
 IsOutput help version Replay text whole = IsReplayed text whole
 IsOutput help version Show text whole = IsShown text whole
+IsOutput help version (Make count) text whole = whole ≡ summary_text (summary count)
 IsOutput help version Help text whole = whole ≡ help
 IsOutput help version Version text whole = whole ≡ version
 
@@ -23,6 +25,7 @@ IsOutput help version Version text whole = whole ≡ version
 abbrev pub IsInput : Form → List ℕ → Type 0
 IsInput Replay text = IsText recording text × (length text ≤ most_input)
 IsInput Show text = IsText packets text × (length text ≤ most_input)
+IsInput (Make count) text = Unit {0}
 IsInput Help text = Unit {0}
 IsInput Version text = Unit {0}
 

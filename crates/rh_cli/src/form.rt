@@ -1,8 +1,14 @@
 //! The forms of a command line.
 
-ghost use Rattle.std.specs.Prelude.{◌≡◌, ◌≢◌, MatchOption};
+ghost use Rattle.std.specs.Prelude.{◌≡◌, ◌≢◌, ◌∷◌, ℕ, [], MatchOption};
+ghost use Rattle.std.specs.Fmt.{decimal};
+ghost use Rattle.rh_make.specs.Making.{IsCount};
 ghost use Rattle.rh_cli.specs.declared.form.Form.{Form};
-ghost use Rattle.rh_cli.specs.Forms.{IsForm, form_word};
+ghost use Rattle.rh_cli.specs.Forms.{IsForm, IsMade, form_words};
+
+use rh_make::MakeCount;
+use rh_make::count::MOST_GIVEN;
+use rh_text::read_number;
 
 /// What the words ask for.
 #[derive(Clone, Copy, Debug, PartialEq, Eq)]
@@ -11,6 +17,8 @@ pub enum Form {
     Replay,
     /// `show`: what the packets of lines of hex are.
     Show,
+    /// `make <n>`: the summary of a generated recording of so many PDUs.
+    Make(MakeCount),
     /// `--help`: what each word does.
     Help,
     /// `--version`: the program's version.
@@ -24,14 +32,20 @@ pub fn form_of(words: &[String]) -> Option<Form>
 {
     match words {
         [word] => form_of_word(word.as_str()),
+        [word, number] => {
+            if word.as_str() != "make" {
+                return None;
+            }
+            Some(Form::Make(count_of(number.as_str())?))
+        }
         _ => None,
     }
 }
 
 /// The form of one word.
 fn form_of_word(word: &str) -> Option<Form>
-    ensures { MatchOption result ((form : Form) → word.now ≢ form_word form)
-        (λ form. word.now ≡ form_word form) }
+    ensures { MatchOption result ((form : Form) → word.now ∷ [] ≢ form_words form)
+        (λ form. (word.now ∷ [] ≡ form_words form) × IsMade form) }
 {
     match word {
         "replay" => Some(Form::Replay),
@@ -40,4 +54,13 @@ fn form_of_word(word: &str) -> Option<Form>
         "--version" => Some(Form::Version),
         _ => None,
     }
+}
+
+/// The number of PDUs that a word spells.
+fn count_of(word: &str) -> Option<MakeCount>
+    ensures { MatchOption result ((count : ℕ) → IsCount count → word.now ≢ decimal count)
+        (λ count. (word.now ≡ decimal count) × IsCount count) }
+{
+    let number = read_number(word.as_bytes(), 1, u64::from(MOST_GIVEN))?;
+    MakeCount::new(number as u32)
 }

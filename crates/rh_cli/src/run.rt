@@ -1,6 +1,7 @@
 //! The top call.
 
-ghost use Rattle.std.specs.Prelude.{◌≡◌};
+ghost use Rattle.std.specs.Prelude.{◌≡◌, ◌≢◌, ℕ, IfOk, string_bytes};
+ghost use Rattle.rh_make.specs.Summaries.{summary, summary_text};
 ghost use Rattle.rh_cli.specs.declared.form.Form.{Form};
 ghost use Rattle.rh_cli.specs.Forms.{IsForm, Tells, Ran, outside};
 
@@ -10,9 +11,10 @@ use crate::show::Show;
 use crate::status::{Status, statuses};
 use crate::word::answer;
 use rh_io::{Sink, SinkFailed, Source, write_whole};
+use rh_make::{MakeCount, make, write_summary};
 use rh_record::Recording;
 use rh_show::Packets;
-use std::alloc::Global;
+use std::alloc::{AllocError, Global};
 
 macro_rules! help {
     ($($status:ident $number:literal $name:literal $more:literal;)*) => {
@@ -21,6 +23,8 @@ macro_rules! help {
 
   rh_cli replay       reads a recording from standard input, writes its report to standard output
   rh_cli show         reads lines of hex, one packet each, and writes one line for each packet
+  rh_cli make <n>     runs a generated recording of n PDUs (1 to 10,000), writes its report's last
+                      lines, the bytes that moved and the rounds of its settlings
   rh_cli --help       writes this page
   rh_cli --version    writes the name and the version
 
@@ -48,7 +52,9 @@ pub const VERSION: &str = "rh_cli 0.1.0\n";
 ///
 /// The words are those behind the program's own name. The one word `replay` reads a recording and
 /// writes its report; `show` reads lines of hex, one packet each, and writes one line for each;
-/// `--help` and `--version` alone write a text and read nothing. Other words are `Usage`.
+/// `make` with a number from 1 to 10,000 generates a recording of roles of so many PDUs and writes
+/// what its report comes to. `--help` and `--version` alone write a text. These three read nothing.
+/// Other words are `Usage`.
 pub fn run<R: Source, W: Sink>(
     alloc: Global,
     words: &[String],
@@ -58,7 +64,8 @@ pub fn run<R: Source, W: Sink>(
     ensures usage { (result ≡ Status.Usage → (form : Form) → ¬ IsForm form words.now)
         × (((form : Form) → ¬ IsForm form words.now) → result ≡ Status.Usage) }
     ensures unused { result ≡ Status.Usage → (input.new ≡ input.old) × (output.new ≡ output.old) }
-    ensures unread { (IsForm Form.Help words.now → input.new ≡ input.old)
+    ensures unread { ((count : ℕ) → IsForm (Form.Make count) words.now → input.new ≡ input.old)
+        × (IsForm Form.Help words.now → input.new ≡ input.old)
         × (IsForm Form.Version words.now → input.new ≡ input.old) }
     ensures ran { let seen = outside R.left R.taken R.faults R.ends W.written W.faults W.takes in
         (form : Form) → IsForm form words.now
@@ -68,10 +75,33 @@ pub fn run<R: Source, W: Sink>(
     match form_of(words) {
         Some(Form::Replay) => Status::from(answer::<Recording, Replay, R, W>(alloc, input, output)),
         Some(Form::Show) => Status::from(answer::<Packets, Show, R, W>(alloc, input, output)),
+        Some(Form::Make(count)) => tell_summary(alloc, count, output),
         Some(Form::Help) => tell(HELP, output),
         Some(Form::Version) => tell(VERSION, output),
         None => Status::Usage,
     }
+}
+
+/// Generates a recording of so many PDUs, runs it, and writes what its report comes to.
+fn tell_summary<W: Sink>(alloc: Global, count: MakeCount, output: &mut W) -> Status
+    ensures made { result ≢ Status.NoMemory → Tells (summary_text (summary count)) result
+        (W.written output.old) (W.written output.new)
+        (W.faults output.old) (W.faults output.new) (W.takes output.old) }
+    ensures no_memory { result ≡ Status.NoMemory → output.new ≡ output.old }
+{
+    match summary_of(alloc, count) {
+        Ok(text) => tell(text.as_str(), output),
+        Err(AllocError) => Status::NoMemory,
+    }
+}
+
+/// The text of what a generated recording of so many PDUs comes to.
+fn summary_of(alloc: Global, count: MakeCount) -> Result<String, AllocError>
+    ensures { IfOk result (λ text. string_bytes text ≡ summary_text (summary count)) }
+{
+    let mut text = String::new(alloc);
+    write_summary(&make(alloc, count)?, &mut text)?;
+    Ok(text)
 }
 
 /// Writes a text whole.

@@ -1,11 +1,14 @@
--- one word is in the form that it names
-use Rattle.std.proofs.Common.{◌≡◌, ◌≢◌, ◌<◌, ◌≤◌, List, [], ◌∷◌, Some, None, length, get_or, string_bytes, ap, sym, arith}
+-- one word is in the form that it names, and two are where a number of PDUs is named
+use Rattle.std.proofs.Common.{◌≡◌, ◌≢◌, ◌<◌, ◌≤◌, ℕ, List, [], ◌∷◌, Some, None, codes, length, get_or, string_bytes, ap, sym, ◌∙◌, arith}
+use Rattle.std.specs.Fmt.{decimal}
 use Rattle.std.specs.declared.option.Option.{Option}
 use Rattle.std.specs.declared.string.String.{String}
 use Rattle.std.specs.Global.{Global}
 use Rattle.std.specs.Option.{MatchOption}
+use Rattle.rh_make.specs.Making.{IsCount}
 use Rattle.rh_cli.specs.declared.form.Form.{Form}
-use Rattle.rh_cli.specs.Forms.{IsForm, form_word}
+use Rattle.rh_cli.specs.declared.form.Form.TheVariants.{Replay, Show, Make, Help, Version}
+use Rattle.rh_cli.specs.Forms.{IsForm, IsMade, form_words}
 use Rattle.rh_cli.proofs.form.form_of.Goals as goal
 
 -- the words are the first of them alone
@@ -16,12 +19,12 @@ alone (w ∷ []) word some few is = ap (λ (v : String Global). v ∷ []) (sym i
 alone (w ∷ v ∷ words) word some few is = absurd (omega (arith, few))
 
 one_word : (found : Option Form) (word : String Global)
-    → MatchOption found ((form : Form) → string_bytes word ≢ form_word form)
-    (λ form. string_bytes word ≡ form_word form)
+    → MatchOption found ((form : Form) → string_bytes word ∷ [] ≢ form_words form)
+    (λ form. (string_bytes word ∷ [] ≡ form_words form) × IsMade form)
     → MatchOption found ((form : Form) → ¬ IsForm form (word ∷ []))
     (λ form. IsForm form (word ∷ []))
-one_word None word h = λ form is. h form cc
-one_word (Some form) word h = ap (λ bytes. bytes ∷ []) h
+one_word None word h = λ form is. h form is.0
+one_word (Some form) word h = h
 
 pub returns-in-len1 : goal.returns-in-len1
 returns-in-len1 c =
@@ -30,3 +33,33 @@ returns-in-len1 c =
     c.word-item.is in
     rw words (one_word c.form_of_word.result word
     (rw c.as_str.ensures.value at c.form_of_word.ensures))
+
+-- ---- two words
+
+two : (words : List (String Global)) (word number : String Global) → 2 ≤ length words
+    → length words < 3 → word ≡ get_or words 0 word → number ≡ get_or words 1 number
+    → words ≡ word ∷ number ∷ []
+two [] word number some few is then = absurd (omega (arith, some))
+two (w ∷ []) word number some few is then = absurd (omega (arith, some))
+two (w ∷ v ∷ []) word number some few is then =
+    ap (λ (x : String Global). x ∷ v ∷ []) (sym is) ∙ ap (λ (x : String Global). word ∷ x ∷ []) (sym then)
+two (w ∷ v ∷ u ∷ words) word number some few is then = absurd (omega (arith, few))
+
+-- no form but that of a number has two
+not_make : (word number : String Global) → string_bytes word ≢ codes "make"
+    → (form : Form) → ¬ IsForm form (word ∷ number ∷ [])
+not_make word number other Replay is = absurd (let e = ap length is.0 in cc)
+not_make word number other Show is = absurd (let e = ap length is.0 in cc)
+not_make word number other (Make count) is = other (ap (λ (x : List (List ℕ)). get_or x 0 []) is.0)
+not_make word number other Help is = absurd (let e = ap length is.0 in cc)
+not_make word number other Version is = absurd (let e = ap length is.0 in cc)
+
+no_count : (word number : String Global)
+    → ((count : ℕ) → IsCount count → string_bytes number ≢ decimal count)
+    → (form : Form) → ¬ IsForm form (word ∷ number ∷ [])
+no_count word number none Replay is = absurd (let e = ap length is.0 in cc)
+no_count word number none Show is = absurd (let e = ap length is.0 in cc)
+no_count word number none (Make count) is =
+    none count is.1 (ap (λ (x : List (List ℕ)). get_or x 1 []) is.0)
+no_count word number none Help is = absurd (let e = ap length is.0 in cc)
+no_count word number none Version is = absurd (let e = ap length is.0 in cc)
