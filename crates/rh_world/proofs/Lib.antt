@@ -1,5 +1,6 @@
 pub mod Rings
 pub mod PieceLaws
+pub mod Ranges
 mod Frames
 pub mod Ways
 pub mod Runs
