@@ -3,3 +3,4 @@ pub mod Coming
 pub mod Gathering
 pub mod Writing
 pub mod Memory
+pub mod FormLaws

@@ -6,7 +6,6 @@ ghost use Rattle.rh_make.specs.Making.{IsCount};
 ghost use Rattle.rh_cli.specs.declared.form.Form.{Form};
 ghost use Rattle.rh_cli.specs.Forms.{IsForm, IsMade, form_words};
 
-use rh_make::MakeCount;
 use rh_make::count::MOST_GIVEN;
 use rh_text::read_number;
 
@@ -18,7 +17,7 @@ pub enum Form {
     /// `show`: what the packets of lines of hex are.
     Show,
     /// `make <n>`: the summary of a generated recording of so many PDUs.
-    Make(MakeCount),
+    Make(u32),
     /// `--help`: what each word does.
     Help,
     /// `--version`: the program's version.
@@ -32,12 +31,7 @@ pub fn form_of(words: &[String]) -> Option<Form>
 {
     match words {
         [word] => form_of_word(word.as_str()),
-        [word, number] => {
-            if word.as_str() != "make" {
-                return None;
-            }
-            Some(Form::Make(count_of(number.as_str())?))
-        }
+        [word, number] => form_of_words(word.as_str(), number.as_str()),
         _ => None,
     }
 }
@@ -56,11 +50,23 @@ fn form_of_word(word: &str) -> Option<Form>
     }
 }
 
+/// The form of a word and a number.
+fn form_of_words(word: &str, number: &str) -> Option<Form>
+    ensures { MatchOption result
+        ((form : Form) → word.now ∷ number.now ∷ [] ≡ form_words form → ¬ IsMade form)
+        (λ form. (word.now ∷ number.now ∷ [] ≡ form_words form) × IsMade form) }
+{
+    match word {
+        "make" => Some(Form::Make(count_of(number)?)),
+        _ => None,
+    }
+}
+
 /// The number of PDUs that a word spells.
-fn count_of(word: &str) -> Option<MakeCount>
+fn count_of(word: &str) -> Option<u32>
     ensures { MatchOption result ((count : ℕ) → IsCount count → word.now ≢ decimal count)
         (λ count. (word.now ≡ decimal count) × IsCount count) }
 {
     let number = read_number(word.as_bytes(), 1, u64::from(MOST_GIVEN))?;
-    MakeCount::new(number as u32)
+    Some(number as u32)
 }

@@ -1,6 +1,7 @@
 //! The top call.
 
 ghost use Rattle.std.specs.Prelude.{◌≡◌, ◌≢◌, ℕ, IfOk, string_bytes};
+ghost use Rattle.rh_make.specs.Making.{IsCount};
 ghost use Rattle.rh_make.specs.Summaries.{summary, summary_text};
 ghost use Rattle.rh_cli.specs.declared.form.Form.{Form};
 ghost use Rattle.rh_cli.specs.Forms.{IsForm, Tells, Ran, outside};
@@ -83,7 +84,8 @@ pub fn run<R: Source, W: Sink>(
 }
 
 /// Generates a recording of so many PDUs, runs it, and writes what its report comes to.
-fn tell_summary<W: Sink>(alloc: Global, count: MakeCount, output: &mut W) -> Status
+fn tell_summary<W: Sink>(alloc: Global, count: u32, output: &mut W) -> Status
+    requires { IsCount count }
     ensures made { result ≢ Status.NoMemory → Tells (summary_text (summary count)) result
         (W.written output.old) (W.written output.new)
         (W.faults output.old) (W.faults output.new) (W.takes output.old) }
@@ -96,9 +98,13 @@ fn tell_summary<W: Sink>(alloc: Global, count: MakeCount, output: &mut W) -> Sta
 }
 
 /// The text of what a generated recording of so many PDUs comes to.
-fn summary_of(alloc: Global, count: MakeCount) -> Result<String, AllocError>
+fn summary_of(alloc: Global, count: u32) -> Result<String, AllocError>
+    requires { IsCount count }
     ensures { IfOk result (λ text. string_bytes text ≡ summary_text (summary count)) }
 {
+    let Some(count) = MakeCount::new(count) else {
+        unreachable!()
+    };
     let mut text = String::new(alloc);
     write_summary(&make(alloc, count)?, &mut text)?;
     Ok(text)

@@ -1,13 +1,10 @@
 -- one word is in the form that it names, and two are where a number of PDUs is named
-use Rattle.std.proofs.Common.{◌≡◌, ◌≢◌, ◌<◌, ◌≤◌, ℕ, List, [], ◌∷◌, Some, None, codes, length, get_or, string_bytes, ap, sym, ◌∙◌, arith}
-use Rattle.std.specs.Fmt.{decimal}
+use Rattle.std.proofs.Common.{◌≡◌, ◌≢◌, ◌<◌, ◌≤◌, List, [], ◌∷◌, Some, None, codes, length, get_or, string_bytes, ap, refl, sym, ◌∙◌, arith}
 use Rattle.std.specs.declared.option.Option.{Option}
 use Rattle.std.specs.declared.string.String.{String}
 use Rattle.std.specs.Global.{Global}
 use Rattle.std.specs.Option.{MatchOption}
-use Rattle.rh_make.specs.Making.{IsCount}
 use Rattle.rh_cli.specs.declared.form.Form.{Form}
-use Rattle.rh_cli.specs.declared.form.Form.TheVariants.{Replay, Show, Make, Help, Version}
 use Rattle.rh_cli.specs.Forms.{IsForm, IsMade, form_words}
 use Rattle.rh_cli.proofs.form.form_of.Goals as goal
 
@@ -45,21 +42,21 @@ two (w ∷ v ∷ []) word number some few is then =
     ap (λ (x : String Global). x ∷ v ∷ []) (sym is) ∙ ap (λ (x : String Global). word ∷ x ∷ []) (sym then)
 two (w ∷ v ∷ u ∷ words) word number some few is then = absurd (omega (arith, few))
 
--- no form but that of a number has two
-not_make : (word number : String Global) → string_bytes word ≢ codes "make"
-    → (form : Form) → ¬ IsForm form (word ∷ number ∷ [])
-not_make word number other Replay is = absurd (let e = ap length is.0 in cc)
-not_make word number other Show is = absurd (let e = ap length is.0 in cc)
-not_make word number other (Make count) is = other (ap (λ (x : List (List ℕ)). get_or x 0 []) is.0)
-not_make word number other Help is = absurd (let e = ap length is.0 in cc)
-not_make word number other Version is = absurd (let e = ap length is.0 in cc)
+two_words : (found : Option Form) (word number : String Global)
+    → MatchOption found ((form : Form)
+    → string_bytes word ∷ string_bytes number ∷ [] ≡ form_words form → ¬ IsMade form)
+    (λ form. (string_bytes word ∷ string_bytes number ∷ [] ≡ form_words form) × IsMade form)
+    → MatchOption found ((form : Form) → ¬ IsForm form (word ∷ number ∷ []))
+    (λ form. IsForm form (word ∷ number ∷ []))
+two_words None word number h = λ form is. h form is.0 is.1
+two_words (Some form) word number h = h
 
-no_count : (word number : String Global)
-    → ((count : ℕ) → IsCount count → string_bytes number ≢ decimal count)
-    → (form : Form) → ¬ IsForm form (word ∷ number ∷ [])
-no_count word number none Replay is = absurd (let e = ap length is.0 in cc)
-no_count word number none Show is = absurd (let e = ap length is.0 in cc)
-no_count word number none (Make count) is =
-    none count is.1 (ap (λ (x : List (List ℕ)). get_or x 1 []) is.0)
-no_count word number none Help is = absurd (let e = ap length is.0 in cc)
-no_count word number none Version is = absurd (let e = ap length is.0 in cc)
+pub returns-in-len2 : goal.returns-in-len2
+returns-in-len2 c =
+    let word = c.word-item-then-words-lt3.result in
+    let number = c.number-item.result in
+    let words = two c.args.words.now word number c.in-len2.len_at_least c.in-len2.len_below
+    c.word-item-then-words-lt3.is c.number-item.is in
+    rw words (two_words c.form_of_words.result word number
+    (rw (c.as_str-in-len2.ensures.value, c.as_str-in-len2-2.ensures.value)
+    at c.form_of_words.ensures))
