@@ -1,0 +1,13 @@
+pub mod Leading
+pub mod Numbers
+pub mod Losing
+pub mod Connecting
+pub mod Answering
+pub mod Rounds
+pub mod Lines
+pub mod Runs
+pub mod Noting
+pub mod Closed
+pub mod Reporting
+pub mod Carriages
+pub mod Wired

@@ -1,0 +1,143 @@
+-- what each leg carried: the bytes that its nodes drew and heard there by their histories, and those
+-- that are in flight (profile)
+use Rattle.std.specs.Prelude.{◌≡◌, ◌≢◌, ◌++◌, ◌||◌, ℕ, List, [], ◌∷◌, Bool, true, false, if◌then◌else◌, get_or}
+use Rattle.std.specs.List.{list_any}
+use Rattle.rh_text.specs.declared.ends.Dir.{Dir}
+use Rattle.rh_text.specs.declared.ends.Side.{Side}
+use Rattle.rh_line.specs.declared.leg.Leg.{Leg}
+use Rattle.rh_line.specs.declared.leg.LegKind.{LegKind}
+use Rattle.rh_line.specs.declared.leg.LegKind.TheVariants.{ClientOut, OutServer, ClientIn, InServer}
+use Rattle.rh_record.specs.declared.answer.Who.{Who}
+use Rattle.rh_record.specs.declared.answer.Who.TheVariants as who
+use Rattle.rh_shell.specs.Moving as moving
+use Rattle.rh_shell.specs.Moving.{EndEvent, Happens, IsGiven, IsTaken, IsClosed, IsRecycled, after_event, after_events, after_end_event, after_end_events}
+use Rattle.rh_shell.specs.Rules.{Rules, Acts}
+use Rattle.rh_shell.specs.Shells as shell
+use Rattle.rh_shell.specs.Shells.{Shell, same_leg, may_up, wants}
+use Rattle.rh_nodes.specs.declared.legs.Legs.{Legs}
+use Rattle.rh_nodes.specs.declared.wire.Wire.{Wire}
+use Rattle.rh_nodes.specs.Company.{Company, Rulebook}
+use Rattle.rh_nodes.specs.Giving.{Deeds}
+use Rattle.rh_nodes.specs.Legs as legs
+use Rattle.rh_nodes.specs.Opening.{Makers}
+use Rattle.rh_nodes.specs.Readers.{reader_of}
+use Rattle.rh_nodes.specs.Settling.{leg_at}
+use Rattle.rh_nodes.specs.Wires as wires
+use Rattle.rh_nodes.specs.Wires.{sender, receiver}
+use Rattle.rh_nodes.specs.World.{World, node_at}
+use Rattle.rh_history.specs.Carriages.{Carriage, IsCarried}
+use Rattle.rh_history.specs.Histories.{History}
+
+-- ---- what a node did on a leg, by its events
+
+-- the bytes that it drew
+abbrev pub drawn_in : {S : Type 0} → Rules S → Shell S → Leg → moving.Event → List ℕ
+drawn_in rules s leg (moving.Draws other room) =
+    if same_leg other leg then (shell.drawn rules s other room).1 else []
+drawn_in rules s leg event = []
+
+abbrev pub drawn_on : {S : Type 0} → Rules S → Shell S → Leg → List moving.Event → List ℕ
+drawn_on rules s leg [] = []
+drawn_on rules s leg (event ∷ events) =
+    drawn_in rules s leg event ++ drawn_on rules (after_event rules s event) leg events
+
+abbrev pub drawn_at_end : {S : Type 0} → Rules S → Acts S → Shell S → Leg → EndEvent → List ℕ
+drawn_at_end rules acts s leg (Happens event) = drawn_in rules s leg event
+drawn_at_end rules acts s leg act = []
+
+abbrev pub end_drawn_on : {S : Type 0} → Rules S → Acts S → Shell S → Leg → List EndEvent
+    → List ℕ
+end_drawn_on rules acts s leg [] = []
+end_drawn_on rules acts s leg (event ∷ events) =
+    drawn_at_end rules acts s leg event
+    ++ end_drawn_on rules acts (after_end_event rules acts s event) leg events
+
+-- the bytes that it heard
+abbrev pub heard_in : Leg → moving.Event → List ℕ
+heard_in leg (moving.Hears other piece) = if same_leg other leg then piece else []
+heard_in leg event = []
+
+abbrev pub heard_on : Leg → List moving.Event → List ℕ
+heard_on leg [] = []
+heard_on leg (event ∷ events) = heard_in leg event ++ heard_on leg events
+
+-- the leg came up
+abbrev pub is_up_of : Leg → moving.Event → Bool
+is_up_of leg (moving.ComesUp other cookie) = same_leg other leg
+is_up_of leg event = false
+
+abbrev pub came_up : Leg → List moving.Event → Bool
+came_up leg events = list_any (is_up_of leg) events
+
+-- the events at an end, without its acts
+abbrev pub happened : List EndEvent → List moving.Event
+happened [] = []
+happened (Happens event ∷ events) = event ∷ happened events
+happened (act ∷ events) = happened events
+
+-- ---- by the history of all nodes
+
+abbrev pub events_of : History → Who → List moving.Event
+events_of h who.Client = happened h.client
+events_of h who.Server = happened h.server
+events_of h (who.In n) = h.ins n
+events_of h (who.Out n) = h.outs n
+
+pub record Ledger : Type 0 where
+  pub drawn : Who → Leg → List ℕ
+  pub heard : Who → Leg → List ℕ
+  pub was_up : Who → Leg → Bool
+
+abbrev pub drawn_by : {K C S I O : Type 0} → Rulebook C S I O → Makers K I O → Deeds C S
+    → Company C S I O → K → History → Who → Leg → List ℕ
+drawn_by r m d first cast h who.Client leg =
+    end_drawn_on r.client d.client first.client leg h.client
+drawn_by r m d first cast h who.Server leg =
+    end_drawn_on r.server d.server first.server leg h.server
+drawn_by r m d first cast h (who.In n) leg =
+    drawn_on r.in_proxy (m.in_proxy cast n) leg (h.ins n)
+drawn_by r m d first cast h (who.Out n) leg =
+    drawn_on r.out_proxy (m.out_proxy cast n) leg (h.outs n)
+
+abbrev pub ledger : {K C S I O : Type 0} → Rulebook C S I O → Makers K I O → Deeds C S
+    → Company C S I O → K → History → Ledger
+ledger r m d first cast h = record {
+  drawn = drawn_by r m d first cast h;
+  heard = λ node leg. heard_on leg (events_of h node);
+  was_up = λ node leg. came_up leg (events_of h node);
+}
+
+-- ---- the legs
+
+abbrev pub wire_at : Legs → Leg → Wire
+wire_at all leg = get_or (legs.of leg.kind all) leg.number wires.blank
+
+abbrev pub end_node : List ℕ → Leg → Side → Who
+end_node readers leg end = node_at (reader_of readers leg.number) leg end
+
+-- one direction of a leg: what the node at the one end drew, what that at the other heard, and what
+-- is between them
+abbrev pub carriage : Ledger → Legs → List ℕ → Leg → Dir → Carriage
+carriage g all readers leg dir = record {
+  drawn = g.drawn (end_node readers leg (sender dir)) leg;
+  fed = g.heard (end_node readers leg (receiver dir)) leg;
+  flight = wires.in_flight dir (wire_at all leg);
+  puts = wires.is_up (sender dir) (wire_at all leg);
+  takes = wires.is_up (receiver dir) (wire_at all leg);
+  did_put = g.was_up (end_node readers leg (sender dir)) leg;
+  did_take = g.was_up (end_node readers leg (receiver dir)) leg;
+}
+
+pub record AreCarried (g : Ledger) (all : Legs) (readers : List ℕ) : Type 0 where
+  pub each : (leg : Leg) (dir : Dir) → IsCarried (carriage g all readers leg dir)
+  -- a node that never had the leg up drew nothing there, and heard nothing
+  pub idle : (node : Who) (leg : Leg) → g.was_up node leg ≡ false
+      → (g.drawn node leg ≡ []) × (g.heard node leg ≡ [])
+  -- an IN leg of the client is up at one in proxy, the one that reads it, and came up for the client
+  -- first
+  pub read : (j n : ℕ) → g.was_up (who.In j) (leg_at ClientIn n) ≡ true
+      → reader_of readers n ≡ j
+  pub first : (n : ℕ) → reader_of readers n ≢ 0
+      → g.was_up who.Client (leg_at ClientIn n) ≡ true
+  -- there is no in proxy 0
+  pub none : (leg : Leg) → g.was_up (who.In 0) leg ≡ false

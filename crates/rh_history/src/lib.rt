@@ -1,0 +1,13 @@
+//! What happens to a world of roles, in small changes: what each node is told, and what each leg
+//! carries. Its functions do nothing: their contracts are the laws.
+#![tactic(auto)]
+
+pub mod changing;
+pub mod closes;
+pub mod histories;
+
+pub use changing::{a_half_step_is_changes, a_line_is_changes, lines_are_changes};
+pub use closes::{
+    a_closed_end_tells_its_cause, a_node_closes_once, what_is_reported_closed_was_closed,
+};
+pub use histories::{a_recording_begins_new, each_node_is_what_its_history_made};
