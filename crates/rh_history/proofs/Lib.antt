@@ -11,3 +11,6 @@ pub mod Closed
 pub mod Reporting
 pub mod Carriages
 pub mod Wired
+pub mod Seen
+pub mod Ledgers
+pub mod LegsKept
