@@ -123,13 +123,13 @@ module _ (g new : Ledger) (all : Legs) (readers : List ℕ) (each : Each g all r
   -- nothing changes on a leg
   pub same_on : (later : Legs) (leg : Leg) (dir : Dir)
       → ((node : Who) → g.drawn node leg ≡ new.drawn node leg)
-      → ((node : Who) → g.heard node leg ≡ new.heard node leg)
+      → ((node : Who) → g.fed node leg ≡ new.fed node leg)
       → ((node : Who) → g.was_up node leg ≡ new.was_up node leg)
       → wire_at all leg ≡ wire_at later leg → IsCarried (carriage new later readers leg dir)
   same_on later leg dir d h u w =
       let from = end_node readers leg (sender dir) in
       let to = end_node readers leg (receiver dir) in
-      seen_as dir (g.drawn from leg) (new.drawn from leg) (g.heard to leg) (new.heard to leg)
+      seen_as dir (g.drawn from leg) (new.drawn from leg) (g.fed to leg) (new.fed to leg)
       (g.was_up from leg) (new.was_up from leg) (g.was_up to leg) (new.was_up to leg)
       (wire_at all leg) (wire_at later leg) (d from) (h to) (u from) (u to) w (each leg dir)
 
@@ -141,7 +141,7 @@ module _ (g new : Ledger) (all : Legs) (readers : List ℕ) (each : Each g all r
         (d : (node : Who) (other : Leg) → new.drawn node other
         ≡ g.drawn node other
         ++ bytes_here (end_node readers leg (sender dir)) leg bytes node other)
-        (h : (node : Who) (other : Leg) → new.heard node other ≡ g.heard node other)
+        (h : (node : Who) (other : Leg) → new.fed node other ≡ g.fed node other)
         (u : (node : Who) (other : Leg) → new.was_up node other ≡ g.was_up node other) where
       abbrev put_later : Legs
       put_later = legs.put leg dir bytes all
@@ -150,14 +150,14 @@ module _ (g new : Ledger) (all : Legs) (readers : List ℕ) (each : Each g all r
       draw_along =
           let from = end_node readers leg (sender dir) in
           let to = end_node readers leg (receiver dir) in
-          seen_as dir (g.drawn from leg ++ bytes) (new.drawn from leg) (g.heard to leg)
-          (new.heard to leg) (g.was_up from leg) (new.was_up from leg) (g.was_up to leg)
+          seen_as dir (g.drawn from leg ++ bytes) (new.drawn from leg) (g.fed to leg)
+          (new.fed to leg) (g.was_up from leg) (new.was_up from leg) (g.was_up to leg)
           (new.was_up to leg) (wires.put dir bytes (wire_at all leg)) (wire_at put_later leg)
           (added (g.drawn from leg) bytes (new.drawn from leg) (is_here from leg from leg)
           (here_itself from leg) (d from leg))
           (sym (h to leg)) (sym (u from leg)) (sym (u to leg))
           (sym (wired.put_here all leg (sender dir) dir bytes up))
-          (seen_put (g.drawn from leg) (g.heard to leg) (g.was_up from leg) (g.was_up to leg)
+          (seen_put (g.drawn from leg) (g.fed to leg) (g.was_up from leg) (g.was_up to leg)
           (wire_at all leg) dir bytes up (each leg dir))
 
       -- the other direction
@@ -170,15 +170,15 @@ module _ (g new : Ledger) (all : Legs) (readers : List ℕ) (each : Each g all r
           let apart : is_same puts from ≡ false =
           ap (λ end. is_same puts (end_node readers leg end)) (sym f)
           ∙ ends_apart readers leg dir in
-          seen_as back (g.drawn from leg) (new.drawn from leg) (g.heard to leg)
-          (new.heard to leg) (g.was_up from leg) (new.was_up from leg) (g.was_up to leg)
+          seen_as back (g.drawn from leg) (new.drawn from leg) (g.fed to leg)
+          (new.fed to leg) (g.was_up from leg) (new.was_up from leg) (g.was_up to leg)
           (new.was_up to leg) (wires.put dir bytes (wire_at all leg)) (wire_at put_later leg)
           (none_added (g.drawn from leg) bytes (new.drawn from leg) (is_here puts leg from leg)
           (not_other puts leg from leg apart) (d from leg))
           (sym (h to leg)) (sym (u from leg)) (sym (u to leg))
           (sym (wired.put_here all leg (sender dir) dir bytes up))
           (subst IsCarried (sym (put_aside dir back bytes (wire_at all leg) (g.drawn from leg)
-          (g.heard to leg) (g.was_up from leg) (g.was_up to leg) e)) (each leg back))
+          (g.fed to leg) (g.was_up from leg) (g.was_up to leg) e)) (each leg back))
 
       draw_here : (at : Dir) → IsCarried (carriage new put_later readers leg at)
       draw_here at =
@@ -200,8 +200,8 @@ module _ (g new : Ledger) (all : Legs) (readers : List ℕ) (each : Each g all r
     module _ (dir : Dir) (count : ℕ)
         (up : wires.is_up (receiver dir) (wire_at all leg) ≡ true)
         (d : (node : Who) (other : Leg) → new.drawn node other ≡ g.drawn node other)
-        (h : (node : Who) (other : Leg) → new.heard node other
-        ≡ g.heard node other
+        (h : (node : Who) (other : Leg) → new.fed node other
+        ≡ g.fed node other
         ++ bytes_here (end_node readers leg (receiver dir)) leg
         (take count (wires.in_flight dir (wire_at all leg))) node other)
         (u : (node : Who) (other : Leg) → new.was_up node other ≡ g.was_up node other) where
@@ -215,15 +215,15 @@ module _ (g new : Ledger) (all : Legs) (readers : List ℕ) (each : Each g all r
       feed_along =
           let from = end_node readers leg (sender dir) in
           let to = end_node readers leg (receiver dir) in
-          seen_as dir (g.drawn from leg) (new.drawn from leg) (g.heard to leg ++ piece)
-          (new.heard to leg) (g.was_up from leg) (new.was_up from leg) (g.was_up to leg)
+          seen_as dir (g.drawn from leg) (new.drawn from leg) (g.fed to leg ++ piece)
+          (new.fed to leg) (g.was_up from leg) (new.was_up from leg) (g.was_up to leg)
           (new.was_up to leg) (wires.take_out dir count (wire_at all leg)).0
           (wire_at take_later leg) (sym (d from leg))
-          (added (g.heard to leg) piece (new.heard to leg) (is_here to leg to leg)
+          (added (g.fed to leg) piece (new.fed to leg) (is_here to leg to leg)
           (here_itself to leg) (h to leg))
           (sym (u from leg)) (sym (u to leg))
           (sym (wired.take_here all leg (receiver dir) dir count up))
-          (seen_taken (g.drawn from leg) (g.heard to leg) (g.was_up from leg) (g.was_up to leg)
+          (seen_taken (g.drawn from leg) (g.fed to leg) (g.was_up from leg) (g.was_up to leg)
           (wire_at all leg) dir count up (each leg dir))
 
       feed_back : (back : Dir) → sender dir ≡ receiver back → receiver dir ≡ sender back
@@ -234,16 +234,16 @@ module _ (g new : Ledger) (all : Legs) (readers : List ℕ) (each : Each g all r
           let takes = end_node readers leg (receiver dir) in
           let apart : is_same takes to ≡ false =
           ap (λ end. is_same (end_node readers leg end) to) f ∙ ends_apart readers leg back in
-          seen_as back (g.drawn from leg) (new.drawn from leg) (g.heard to leg)
-          (new.heard to leg) (g.was_up from leg) (new.was_up from leg) (g.was_up to leg)
+          seen_as back (g.drawn from leg) (new.drawn from leg) (g.fed to leg)
+          (new.fed to leg) (g.was_up from leg) (new.was_up from leg) (g.was_up to leg)
           (new.was_up to leg) (wires.take_out dir count (wire_at all leg)).0
           (wire_at take_later leg) (sym (d from leg))
-          (none_added (g.heard to leg) piece (new.heard to leg) (is_here takes leg to leg)
+          (none_added (g.fed to leg) piece (new.fed to leg) (is_here takes leg to leg)
           (not_other takes leg to leg apart) (h to leg))
           (sym (u from leg)) (sym (u to leg))
           (sym (wired.take_here all leg (receiver dir) dir count up))
           (subst IsCarried (sym (take_aside dir back count (wire_at all leg) (g.drawn from leg)
-          (g.heard to leg) (g.was_up from leg) (g.was_up to leg) e)) (each leg back))
+          (g.fed to leg) (g.was_up from leg) (g.was_up to leg) e)) (each leg back))
 
       feed_here : (at : Dir) → IsCarried (carriage new take_later readers leg at)
       feed_here at =
@@ -255,7 +255,7 @@ module _ (g new : Ledger) (all : Legs) (readers : List ℕ) (each : Each g all r
           ⊎_elim (λ e. subst (λ x. IsCarried (carriage new take_later readers x at)) e
           (feed_here at)) (λ e. same_on take_later other at
           (λ node. sym (d node other))
-          (λ node. none_added (g.heard node other) piece (new.heard node other)
+          (λ node. none_added (g.fed node other) piece (new.fed node other)
           (is_here (end_node readers leg (receiver dir)) leg node other)
           (not_beside (end_node readers leg (receiver dir)) leg node other e) (h node other))
           (λ node. sym (u node other))
@@ -264,7 +264,7 @@ module _ (g new : Ledger) (all : Legs) (readers : List ℕ) (each : Each g all r
     -- ---- an end goes up, or down
 
     module _ (end : Side) (d : (node : Who) (other : Leg) → new.drawn node other ≡ g.drawn node other)
-        (h : (node : Who) (other : Leg) → new.heard node other ≡ g.heard node other) where
+        (h : (node : Who) (other : Leg) → new.fed node other ≡ g.fed node other) where
       module _ (first : g.was_up (end_node readers leg end) leg ≡ false)
           (u : (node : Who) (other : Leg) → new.was_up node other
           ≡ (g.was_up node other || is_here (end_node readers leg end) leg node other)) where
@@ -282,14 +282,14 @@ module _ (g new : Ledger) (all : Legs) (readers : List ℕ) (each : Each g all r
             let not : is_here here leg to leg ≡ false =
             not_other here leg to leg
             (ap (λ x. is_same (end_node readers leg x) to) e ∙ ends_apart readers leg dir) in
-            seen_as dir (g.drawn from leg) (new.drawn from leg) (g.heard to leg)
-            (new.heard to leg) true (new.was_up from leg) (g.was_up to leg) (new.was_up to leg)
+            seen_as dir (g.drawn from leg) (new.drawn from leg) (g.fed to leg)
+            (new.fed to leg) true (new.was_up from leg) (g.was_up to leg) (new.was_up to leg)
             (wires.raise (sender dir) (wire_at all leg)) (wire_at raise_later leg)
             (sym (d from leg)) (sym (h to leg))
             (sym (u from leg ∙ or_true (g.was_up from leg) (is_here here leg from leg) is))
             (sym (u to leg ∙ or_false (g.was_up to leg) (is_here here leg to leg) not))
             (sym (wired.raise_here all leg end ∙ ap (λ x. wires.raise x (wire_at all leg)) e))
-            (seen_up_put (g.drawn from leg) (g.heard to leg) (g.was_up from leg) (g.was_up to leg)
+            (seen_up_put (g.drawn from leg) (g.fed to leg) (g.was_up from leg) (g.was_up to leg)
             (wire_at all leg) dir (sym (ap (λ x. g.was_up (end_node readers leg x) leg) e) ∙ first)
             (each leg dir))
 
@@ -304,14 +304,14 @@ module _ (g new : Ledger) (all : Legs) (readers : List ℕ) (each : Each g all r
             let not : is_here here leg from leg ≡ false =
             not_other here leg from leg
             (ap (λ x. is_same (end_node readers leg x) from) e ∙ ends_apart_back readers leg dir) in
-            seen_as dir (g.drawn from leg) (new.drawn from leg) (g.heard to leg)
-            (new.heard to leg) (g.was_up from leg) (new.was_up from leg) true (new.was_up to leg)
+            seen_as dir (g.drawn from leg) (new.drawn from leg) (g.fed to leg)
+            (new.fed to leg) (g.was_up from leg) (new.was_up from leg) true (new.was_up to leg)
             (wires.raise (receiver dir) (wire_at all leg)) (wire_at raise_later leg)
             (sym (d from leg)) (sym (h to leg))
             (sym (u from leg ∙ or_false (g.was_up from leg) (is_here here leg from leg) not))
             (sym (u to leg ∙ or_true (g.was_up to leg) (is_here here leg to leg) is))
             (sym (wired.raise_here all leg end ∙ ap (λ x. wires.raise x (wire_at all leg)) e))
-            (seen_up_take (g.drawn from leg) (g.heard to leg) (g.was_up from leg) (g.was_up to leg)
+            (seen_up_take (g.drawn from leg) (g.fed to leg) (g.was_up from leg) (g.was_up to leg)
             (wire_at all leg) dir (sym (ap (λ x. g.was_up (end_node readers leg x) leg) e) ∙ first)
             (each leg dir))
 
@@ -335,12 +335,12 @@ module _ (g new : Ledger) (all : Legs) (readers : List ℕ) (each : Each g all r
         lower_on dir =
             let from = end_node readers leg (sender dir) in
             let to = end_node readers leg (receiver dir) in
-            seen_as dir (g.drawn from leg) (new.drawn from leg) (g.heard to leg)
-            (new.heard to leg) (g.was_up from leg) (new.was_up from leg) (g.was_up to leg)
+            seen_as dir (g.drawn from leg) (new.drawn from leg) (g.fed to leg)
+            (new.fed to leg) (g.was_up from leg) (new.was_up from leg) (g.was_up to leg)
             (new.was_up to leg) (wires.lower end (wire_at all leg)) (wire_at lower_later leg)
             (sym (d from leg)) (sym (h to leg)) (sym (u from leg)) (sym (u to leg))
             (sym (wired.lower_here all leg end))
-            (seen_down (g.drawn from leg) (g.heard to leg) (g.was_up from leg) (g.was_up to leg)
+            (seen_down (g.drawn from leg) (g.fed to leg) (g.was_up from leg) (g.was_up to leg)
             (wire_at all leg) end dir up (each leg dir))
 
         pub each_lowered : Each new lower_later readers

@@ -67,7 +67,7 @@ module _ (g new : Ledger) (all : Legs) (readers : List ℕ) (k : AreCarried g al
   -- ---- nothing happens to the legs
 
   pub kept_quiet : ((node : Who) (leg : Leg) → new.drawn node leg ≡ g.drawn node leg)
-      → ((node : Who) (leg : Leg) → new.heard node leg ≡ g.heard node leg)
+      → ((node : Who) (leg : Leg) → new.fed node leg ≡ g.fed node leg)
       → ((node : Who) (leg : Leg) → new.was_up node leg ≡ g.was_up node leg)
       → AreCarried new all readers
   kept_quiet d h u = record {
@@ -98,7 +98,7 @@ module _ (g new : Ledger) (all : Legs) (readers : List ℕ) (k : AreCarried g al
     pub kept_drawn : (bytes : List ℕ) → wires.is_up (sender dir) (wire_at all leg) ≡ true
         → ((node : Who) (other : Leg) → new.drawn node other ≡ g.drawn node other
         ++ bytes_here (end_node readers leg (sender dir)) leg bytes node other)
-        → ((node : Who) (other : Leg) → new.heard node other ≡ g.heard node other)
+        → ((node : Who) (other : Leg) → new.fed node other ≡ g.fed node other)
         → AreCarried new (legs.put leg dir bytes all) readers
     kept_drawn bytes up d h =
         let here = end_node readers leg (sender dir) in
@@ -120,7 +120,7 @@ module _ (g new : Ledger) (all : Legs) (readers : List ℕ) (k : AreCarried g al
 
     pub kept_fed : (count : ℕ) → wires.is_up (receiver dir) (wire_at all leg) ≡ true
         → ((node : Who) (other : Leg) → new.drawn node other ≡ g.drawn node other)
-        → ((node : Who) (other : Leg) → new.heard node other ≡ g.heard node other
+        → ((node : Who) (other : Leg) → new.fed node other ≡ g.fed node other
         ++ bytes_here (end_node readers leg (receiver dir)) leg
         (take count (wires.in_flight dir (wire_at all leg))) node other)
         → AreCarried new (legs.take_out leg dir count all).0 readers
@@ -133,7 +133,7 @@ module _ (g new : Ledger) (all : Legs) (readers : List ℕ) (k : AreCarried g al
               let was = sym (u node other) ∙ e in
               let old = k.idle node other was in (
                 d node other ∙ old.0,
-                sym (none_added (g.heard node other) piece (new.heard node other)
+                sym (none_added (g.fed node other) piece (new.fed node other)
                     (is_here here leg node other)
                     (none_here here leg ((k.each leg dir).take_up up) node other was)
                     (h node other)) ∙ old.1,
@@ -146,7 +146,7 @@ module _ (g new : Ledger) (all : Legs) (readers : List ℕ) (k : AreCarried g al
   -- ---- an end goes up, or down
 
   module _ (d : (node : Who) (other : Leg) → new.drawn node other ≡ g.drawn node other)
-      (h : (node : Who) (other : Leg) → new.heard node other ≡ g.heard node other) where
+      (h : (node : Who) (other : Leg) → new.fed node other ≡ g.fed node other) where
     pub kept_raised : (leg : Leg) (end : Side) → g.was_up (end_node readers leg end) leg ≡ false
         → is_same (end_node readers leg end) (who.In 0) ≡ false
         → ((node : Who) (other : Leg) → new.was_up node other
@@ -244,8 +244,8 @@ module _ (g new : Ledger) (all : Legs) (readers : List ℕ) (k : AreCarried g al
       did_same : (end : Side)
           → (g.drawn (end_node readers in_leg end) in_leg
           ≡ g.drawn (end_node later in_leg end) in_leg)
-          × (g.heard (end_node readers in_leg end) in_leg
-          ≡ g.heard (end_node later in_leg end) in_leg)
+          × (g.fed (end_node readers in_leg end) in_leg
+          ≡ g.fed (end_node later in_leg end) in_leg)
           × (g.was_up (end_node readers in_leg end) in_leg
           ≡ g.was_up (end_node later in_leg end) in_leg)
       did_same side.Client = (refl, refl, refl)
@@ -263,14 +263,14 @@ module _ (g new : Ledger) (all : Legs) (readers : List ℕ) (k : AreCarried g al
           let to = node_apart leg (receiver dir) e in
           seen_as dir (g.drawn (end_node readers leg (sender dir)) leg)
           (g.drawn (end_node later leg (sender dir)) leg)
-          (g.heard (end_node readers leg (receiver dir)) leg)
-          (g.heard (end_node later leg (receiver dir)) leg)
+          (g.fed (end_node readers leg (receiver dir)) leg)
+          (g.fed (end_node later leg (receiver dir)) leg)
           (g.was_up (end_node readers leg (sender dir)) leg)
           (g.was_up (end_node later leg (sender dir)) leg)
           (g.was_up (end_node readers leg (receiver dir)) leg)
           (g.was_up (end_node later leg (receiver dir)) leg)
           (wire_at all leg) (wire_at all leg) (ap (λ x. g.drawn x leg) (sym from))
-          (ap (λ x. g.heard x leg) (sym to)) (ap (λ x. g.was_up x leg) (sym from))
+          (ap (λ x. g.fed x leg) (sym to)) (ap (λ x. g.was_up x leg) (sym from))
           (ap (λ x. g.was_up x leg) (sym to)) refl (k.each leg dir)) (cases_leg in_leg leg)
         where
           this : IsCarried (carriage g all later in_leg dir)
@@ -279,8 +279,8 @@ module _ (g new : Ledger) (all : Legs) (readers : List ℕ) (k : AreCarried g al
               let to = did_same (receiver dir) in
               seen_as dir (g.drawn (end_node readers in_leg (sender dir)) in_leg)
               (g.drawn (end_node later in_leg (sender dir)) in_leg)
-              (g.heard (end_node readers in_leg (receiver dir)) in_leg)
-              (g.heard (end_node later in_leg (receiver dir)) in_leg)
+              (g.fed (end_node readers in_leg (receiver dir)) in_leg)
+              (g.fed (end_node later in_leg (receiver dir)) in_leg)
               (g.was_up (end_node readers in_leg (sender dir)) in_leg)
               (g.was_up (end_node later in_leg (sender dir)) in_leg)
               (g.was_up (end_node readers in_leg (receiver dir)) in_leg)

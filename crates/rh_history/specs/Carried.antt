@@ -1,6 +1,7 @@
 -- what each leg carried: the bytes that its nodes drew and heard there by their histories, and those
 -- that are in flight (profile)
-use Rattle.std.specs.Prelude.{◌≡◌, ◌≢◌, ◌++◌, ◌||◌, ℕ, List, [], ◌∷◌, Bool, true, false, if◌then◌else◌, get_or}
+use Rattle.std.specs.Prelude.{◌≡◌, ◌≢◌, ◌++◌, ℕ, List, [], ◌∷◌, Bool, true, false, IsTrue, if◌then◌else◌, get_or}
+use mathlib.Core.List.{IsPrefix}
 use Rattle.std.specs.List.{list_any}
 use Rattle.rh_text.specs.declared.ends.Dir.{Dir}
 use Rattle.rh_text.specs.declared.ends.Side.{Side}
@@ -15,6 +16,8 @@ use Rattle.rh_shell.specs.Rules.{Rules, Acts}
 use Rattle.rh_shell.specs.Shells as shell
 use Rattle.rh_shell.specs.Shells.{Shell, same_leg, may_up, wants}
 use Rattle.rh_nodes.specs.declared.legs.Legs.{Legs}
+use Rattle.rh_nodes.specs.declared.place.Place.{Place}
+use Rattle.rh_nodes.specs.declared.place.Place.TheVariants.{Absent, Here, Gone}
 use Rattle.rh_nodes.specs.declared.wire.Wire.{Wire}
 use Rattle.rh_nodes.specs.Company.{Company, Rulebook}
 use Rattle.rh_nodes.specs.Giving.{Deeds}
@@ -26,7 +29,7 @@ use Rattle.rh_nodes.specs.Wires as wires
 use Rattle.rh_nodes.specs.Wires.{sender, receiver}
 use Rattle.rh_nodes.specs.World.{World, node_at}
 use Rattle.rh_history.specs.Carriages.{Carriage, IsCarried}
-use Rattle.rh_history.specs.Histories.{History}
+use Rattle.rh_history.specs.Histories.{History, AreRuns, in_place, out_place}
 
 -- ---- what a node did on a leg, by its events
 
@@ -83,9 +86,10 @@ events_of h who.Server = happened h.server
 events_of h (who.In n) = h.ins n
 events_of h (who.Out n) = h.outs n
 
+-- what each node drew on each leg, what it was fed there, and whether it had the leg up
 pub record Ledger : Type 0 where
   pub drawn : Who → Leg → List ℕ
-  pub heard : Who → Leg → List ℕ
+  pub fed : Who → Leg → List ℕ
   pub was_up : Who → Leg → Bool
 
 abbrev pub drawn_by : {K C S I O : Type 0} → Rulebook C S I O → Makers K I O → Deeds C S
@@ -103,7 +107,7 @@ abbrev pub ledger : {K C S I O : Type 0} → Rulebook C S I O → Makers K I O �
     → Company C S I O → K → History → Ledger
 ledger r m d first cast h = record {
   drawn = drawn_by r m d first cast h;
-  heard = λ node leg. heard_on leg (events_of h node);
+  fed = h.fed;
   was_up = λ node leg. came_up leg (events_of h node);
 }
 
@@ -115,12 +119,12 @@ wire_at all leg = get_or (legs.of leg.kind all) leg.number wires.blank
 abbrev pub end_node : List ℕ → Leg → Side → Who
 end_node readers leg end = node_at (reader_of readers leg.number) leg end
 
--- one direction of a leg: what the node at the one end drew, what that at the other heard, and what
--- is between them
+-- one direction of a leg: what the node at the one end drew, what that at the other was fed, and
+-- what is between them
 abbrev pub carriage : Ledger → Legs → List ℕ → Leg → Dir → Carriage
 carriage g all readers leg dir = record {
   drawn = g.drawn (end_node readers leg (sender dir)) leg;
-  fed = g.heard (end_node readers leg (receiver dir)) leg;
+  fed = g.fed (end_node readers leg (receiver dir)) leg;
   flight = wires.in_flight dir (wire_at all leg);
   puts = wires.is_up (sender dir) (wire_at all leg);
   takes = wires.is_up (receiver dir) (wire_at all leg);
@@ -130,9 +134,9 @@ carriage g all readers leg dir = record {
 
 pub record AreCarried (g : Ledger) (all : Legs) (readers : List ℕ) : Type 0 where
   pub each : (leg : Leg) (dir : Dir) → IsCarried (carriage g all readers leg dir)
-  -- a node that never had the leg up drew nothing there, and heard nothing
+  -- a node that never had the leg up drew nothing there, and was fed nothing
   pub idle : (node : Who) (leg : Leg) → g.was_up node leg ≡ false
-      → (g.drawn node leg ≡ []) × (g.heard node leg ≡ [])
+      → (g.drawn node leg ≡ []) × (g.fed node leg ≡ [])
   -- an IN leg of the client is up at one in proxy, the one that reads it, and came up for the client
   -- first
   pub read : (j n : ℕ) → g.was_up (who.In j) (leg_at ClientIn n) ≡ true
@@ -141,3 +145,96 @@ pub record AreCarried (g : Ledger) (all : Legs) (readers : List ℕ) : Type 0 wh
       → g.was_up who.Client (leg_at ClientIn n) ≡ true
   -- there is no in proxy 0
   pub none : (leg : Leg) → g.was_up (who.In 0) leg ≡ false
+
+-- ---- what a node heard of what it was fed
+
+-- a proxy that is there heard all of it, and one that was let go what came before that
+abbrev pub IsHeard : {S : Type 0} → Place S → List ℕ → List ℕ → Type 0
+IsHeard Absent heard fed = fed ≡ []
+IsHeard (Here node legs) heard fed = heard ≡ fed
+IsHeard (Gone now) heard fed = IsPrefix heard fed
+
+pub record AreHeard {K C S I O : Type 0} (w : World K C S I O) (h : History) : Type 0 where
+  pub client : (leg : Leg) → heard_on leg (happened h.client) ≡ h.fed who.Client leg
+  pub server : (leg : Leg) → heard_on leg (happened h.server) ≡ h.fed who.Server leg
+  pub ins : (n : ℕ) (leg : Leg)
+      → IsHeard (in_place w.company n) (heard_on leg (h.ins n)) (h.fed (who.In n) leg)
+  pub outs : (n : ℕ) (leg : Leg)
+      → IsHeard (out_place w.company n) (heard_on leg (h.outs n)) (h.fed (who.Out n) leg)
+
+-- ---- a leg comes up at most once at a node, which is a fact of its role
+
+-- each leg that came up might
+abbrev pub IsAccepted : {S : Type 0} → Rules S → Shell S → moving.Event → Type 0
+IsAccepted rules s (moving.ComesUp leg cookie) = IsTrue (may_up rules s leg)
+IsAccepted rules s event = Unit {0}
+
+abbrev pub AreAccepted : {S : Type 0} → Rules S → Shell S → List moving.Event → Type 0
+AreAccepted rules s [] = Unit {0}
+AreAccepted rules s (event ∷ events) =
+    IsAccepted rules s event × AreAccepted rules (after_event rules s event) events
+
+abbrev pub IsAcceptedAtEnd : {S : Type 0} → Rules S → Shell S → EndEvent → Type 0
+IsAcceptedAtEnd rules s (Happens event) = IsAccepted rules s event
+IsAcceptedAtEnd rules s act = Unit {0}
+
+abbrev pub AreAcceptedAtEnd : {S : Type 0} → Rules S → Acts S → Shell S → List EndEvent → Type 0
+AreAcceptedAtEnd rules acts s [] = Unit {0}
+AreAcceptedAtEnd rules acts s (event ∷ events) =
+    IsAcceptedAtEnd rules s event
+    × AreAcceptedAtEnd rules acts (after_end_event rules acts s event) events
+
+-- whatever happens at a node that was this at first: a leg that it asks for may come up, and one
+-- that came up may not come up again
+pub record ComesUpOnce {S : Type 0} (rules : Rules S) (first : Shell S) : Type 0 where
+  pub wanted : (events : List moving.Event) (leg : Leg) → AreAccepted rules first events
+      → wants rules (after_events rules first events) leg ≡ true
+      → may_up rules (after_events rules first events) leg ≡ true
+  pub once : (events : List moving.Event) (leg : Leg) → AreAccepted rules first events
+      → came_up leg events ≡ true
+      → may_up rules (after_events rules first events) leg ≡ false
+
+pub record ComesUpOnceAtEnd {S : Type 0} (rules : Rules S) (acts : Acts S) (first : Shell S)
+    : Type 0 where
+  pub wanted : (events : List EndEvent) (leg : Leg) → AreAcceptedAtEnd rules acts first events
+      → wants rules (after_end_events rules acts first events) leg ≡ true
+      → may_up rules (after_end_events rules acts first events) leg ≡ true
+  pub once : (events : List EndEvent) (leg : Leg) → AreAcceptedAtEnd rules acts first events
+      → came_up leg (happened events) ≡ true
+      → may_up rules (after_end_events rules acts first events) leg ≡ false
+
+abbrev pub is_of_client : LegKind → Bool
+is_of_client ClientOut = true
+is_of_client OutServer = false
+is_of_client ClientIn = true
+is_of_client InServer = false
+
+-- at all nodes; and only legs of the client come up there
+pub record LegsComeUpOnce {K C S I O : Type 0} (r : Rulebook C S I O) (m : Makers K I O)
+    (d : Deeds C S) (first : Company C S I O) (cast : K) : Type 0 where
+  pub client : ComesUpOnceAtEnd r.client d.client first.client
+  pub server : ComesUpOnceAtEnd r.server d.server first.server
+  pub ins : (n : ℕ) → ComesUpOnce r.in_proxy (m.in_proxy cast n)
+  pub outs : (n : ℕ) → ComesUpOnce r.out_proxy (m.out_proxy cast n)
+  pub own : (events : List EndEvent) (leg : Leg)
+      → AreAcceptedAtEnd r.client d.client first.client events
+      → may_up r.client (after_end_events r.client d.client first.client events) leg ≡ true
+      → is_of_client leg.kind ≡ true
+
+-- ---- all of it
+
+pub record AllAccepted {K C S I O : Type 0} (r : Rulebook C S I O) (m : Makers K I O)
+    (d : Deeds C S) (first : Company C S I O) (cast : K) (h : History) : Type 0 where
+  pub client : AreAcceptedAtEnd r.client d.client first.client h.client
+  pub server : AreAcceptedAtEnd r.server d.server first.server h.server
+  pub ins : (n : ℕ) → AreAccepted r.in_proxy (m.in_proxy cast n) (h.ins n)
+  pub outs : (n : ℕ) → AreAccepted r.out_proxy (m.out_proxy cast n) (h.outs n)
+
+-- nodes are what their histories made of them, their legs came up where they might, and are carried
+pub record IsTraced {K C S I O : Type 0} (r : Rulebook C S I O) (m : Makers K I O)
+    (d : Deeds C S) (first : Company C S I O) (w : World K C S I O) (h : History)
+    : Type 0 where
+  pub runs : AreRuns r m d first w h
+  pub accepted : AllAccepted r m d first w.cast h
+  pub carried : AreCarried (ledger r m d first w.cast h) w.legs w.readers
+  pub heard : AreHeard w h

@@ -1,14 +1,15 @@
 -- what happened at each node (profile)
-use Rattle.std.specs.Prelude.{◌≡◌, ◌==◌, ◌++◌, ℕ, List, [], ◌∷◌, Bool, true, false, if◌then◌else◌, get_or, map}
+use Rattle.std.specs.Prelude.{◌≡◌, ◌++◌, ◌&&◌, ℕ, List, [], ◌∷◌, Bool, true, false, if◌then◌else◌, get_or, map}
 use Rattle.rh_text.specs.declared.ends.Side.{Side}
 use Rattle.rh_text.specs.declared.ends.Side.TheVariants as side
+use Rattle.rh_line.specs.declared.leg.Leg.{Leg}
 use Rattle.rh_line.specs.declared.leg.LegKind.TheVariants.{ClientIn, ClientOut}
 use Rattle.rh_record.specs.declared.answer.Who.{Who}
 use Rattle.rh_record.specs.declared.answer.Who.TheVariants as who
 use Rattle.rh_shell.specs.Moving as moving
 use Rattle.rh_shell.specs.Moving.{EndEvent, Happens, IsGiven, IsTaken, IsClosed, IsRecycled, after_events, after_end_events}
 use Rattle.rh_shell.specs.Rules.{Rules, Acts}
-use Rattle.rh_shell.specs.Shells.{Shell}
+use Rattle.rh_shell.specs.Shells.{Shell, same_leg}
 use Rattle.rh_nodes.specs.declared.event.Event.{Event}
 use Rattle.rh_nodes.specs.declared.event.Event.TheVariants.{Comes, Ends, Breaks, Passes}
 use Rattle.rh_nodes.specs.declared.place.Place.{Place}
@@ -24,15 +25,18 @@ use Rattle.rh_nodes.specs.Wires.{sender, receiver}
 use Rattle.rh_nodes.specs.World.{World, at}
 use Rattle.rh_history.specs.Changes.{Change, IsTold, IsFed, IsDrawn, GoesUp, GoesDown, OpensIn, OpensOut, OpensSame, Gives, Takes, Closes, RecyclesIn, RecyclesOut, MovesTo, Draws, Reports, changed}
 
--- what happened at the two ends, and at the proxies by their numbers
+-- what happened at the two ends, and at the proxies by their numbers; and the bytes that were fed
+-- to each on each leg
 pub record History : Type 0 where
   pub client : List EndEvent
   pub server : List EndEvent
   pub ins : ℕ → List moving.Event
   pub outs : ℕ → List moving.Event
+  pub fed : Who → Leg → List ℕ
 
 abbrev pub nothing : History
-nothing = record { client = []; server = []; ins = λ n. []; outs = λ n. [] }
+nothing =
+    record { client = []; server = []; ins = λ n. []; outs = λ n. []; fed = λ node leg. [] }
 
 -- ---- what a change is to a node
 
@@ -90,6 +94,13 @@ acts_by RecyclesIn other = act_at side.Client other IsRecycled
 acts_by RecyclesOut other = act_at side.Server other IsRecycled
 acts_by change other = []
 
+-- what is fed to a node on a leg
+abbrev pub fed_by : {K C S I O : Type 0} → World K C S I O → Change → Who → Leg → List ℕ
+fed_by w (IsFed leg dir count) other beside =
+    if same_leg leg beside && is_same (at w leg (receiver dir)) other
+    then (legs.take_out leg dir count w.legs).1 else []
+fed_by w change other beside = []
+
 -- ---- histories
 
 abbrev pub in_place : {C S I O : Type 0} → Company C S I O → ℕ → Place I
@@ -107,6 +118,7 @@ noted w h change = record {
   outs = λ n. h.outs n
       ++ at_place (out_place w.company n) (told_to w change (who.Out n))
       (made_by w change (who.Out n));
+  fed = λ node leg. h.fed node leg ++ fed_by w change node leg;
 }
 
 abbrev pub all_noted : {K C S I O : Type 0} → Rulebook C S I O → Makers K I O → Deeds C S
@@ -137,7 +149,9 @@ pub record AreRuns {K C S I O : Type 0} (r : Rulebook C S I O) (m : Makers K I O
   pub outs : (n : ℕ)
       → IsRun r.out_proxy (m.out_proxy w.cast n) (h.outs n) (out_place w.company n)
 
--- a world in which no proxy was made yet, as each recording begins
+-- a world in which no proxy was made yet and no leg was up, as each recording begins
 pub record IsNew {K C S I O : Type 0} (w : World K C S I O) : Type 0 where
   pub ins : w.company.ins ≡ []
   pub outs : w.company.outs ≡ []
+  pub low : w.legs ≡ legs.none
+  pub unread : w.readers ≡ []
