@@ -14,3 +14,4 @@ pub mod Wired
 pub mod Seen
 pub mod Ledgers
 pub mod LegsKept
+pub mod Appended
