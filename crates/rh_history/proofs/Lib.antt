@@ -15,3 +15,5 @@ pub mod Seen
 pub mod Ledgers
 pub mod LegsKept
 pub mod Appended
+pub mod NodeTraces
+pub mod HeardAll

@@ -238,3 +238,5 @@ pub record IsTraced {K C S I O : Type 0} (r : Rulebook C S I O) (m : Makers K I 
   pub accepted : AllAccepted r m d first w.cast h
   pub carried : AreCarried (ledger r m d first w.cast h) w.legs w.readers
   pub heard : AreHeard w h
+  -- proxies have the numbers from 1
+  pub zero : in_place w.company 0 ≡ Absent
