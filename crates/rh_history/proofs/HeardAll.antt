@@ -2,7 +2,7 @@
 use Rattle.std.proofs.Common.{◌≡◌, ℕ, List, [], ◌∷◌, ◌++◌, Bool, true, false, ◌&&◌, ◌||◌, if◌then◌else◌, IsTrue, get_or, refl, sym, ap, ap₂, ◌∙◌, subst, ◌⊎◌, inl, inr, append_assoc}
 use Rattle.std.specs.Prelude.{nat_lt, ◌==◌, ◌-◌}
 use mathlib.Core.List.{IsPrefix}
-use Rattle.std.proofs.lemmas.Bool.{true≢false, cases_eq}
+use Rattle.std.proofs.lemmas.Bool.{true≢false, cases_eq, ne_eqb}
 use Rattle.std.proofs.lemmas.List.{append-nil}
 use Rattle.rh_line.specs.declared.leg.Leg.{Leg}
 use Rattle.rh_shell.specs.Moving as moving
@@ -10,13 +10,13 @@ use Rattle.rh_shell.specs.Rules.{Rules}
 use Rattle.rh_shell.specs.Shells.{Shell, same_leg}
 use Rattle.rh_nodes.specs.declared.place.Place.{Place}
 use Rattle.rh_nodes.specs.declared.place.Place.TheVariants.{Absent, Here, Gone}
-use Rattle.rh_nodes.specs.Numbered.{change}
+use Rattle.rh_nodes.specs.Numbered.{change, put_at}
 use Rattle.rh_nodes.specs.Places as places
 use Rattle.rh_nodes.specs.Places.{is_working}
-use Rattle.rh_history.specs.Histories.{at_place}
+use Rattle.rh_history.specs.Histories.{at_place, IsRun}
 use Rattle.rh_history.specs.Carried.{heard_in, heard_on, IsHeard}
 use Rattle.rh_history.proofs.Appended.{heard_append}
-use Rattle.rh_history.proofs.Numbers.{changed_here, changes_elsewhere}
+use Rattle.rh_history.proofs.Numbers.{changed_here, changes_elsewhere, put_here, put_elsewhere}
 use Rattle.rh_history.proofs.Runs.{Runs}
 
 -- ---- what an event is heard as
@@ -121,3 +121,52 @@ module _ {S : Type 0} (rules : Rules S) (leg : Leg) where
           subst (λ (q : Place S). IsHeard q
           (heard_on leg (events ++ at_place (get_or list n Absent) [] [])) (fed ++ []))
           (sym (changes_elsewhere Absent (places.leave rules) list k n other)) old
+
+  -- a proxy that is made was fed nothing, and hears the moment
+  pub hear_made : (make : ℕ → Shell S) (list : List (Place S)) (k now : ℕ) (new : Place S)
+      → ((heard fed : List ℕ) → heard ≡ fed → IsHeard new heard fed)
+      → get_or list k Absent ≡ Absent → (n : ℕ) (events : List moving.Event) (fed : List ℕ)
+      → IsRun rules (make n) events (get_or list n Absent)
+      → IsHeard (get_or list n Absent) (heard_on leg events) fed
+      → IsHeard (get_or (put_at Absent list k new) n Absent)
+      (heard_on leg (events ++ at_place (get_or list n Absent) []
+      (if k == n then moving.Ticks now ∷ [] else []))) (fed ++ [])
+  hear_made make list k now new is absent n events fed run h = by (cases_eq k n)
+    where
+      only_moment : (b : Bool) → events ≡ [] → fed ≡ [] → (p : Place S) → p ≡ Absent
+          → heard_on leg (events ++ at_place p [] (if b then moving.Ticks now ∷ [] else []))
+          ≡ fed ++ []
+      only_moment b no_events no_fed p e =
+          ap (λ (q : Place S). heard_on leg
+          (events ++ at_place q [] (if b then moving.Ticks now ∷ [] else []))) e
+          ∙ heard_append leg events (if b then moving.Ticks now ∷ [] else [])
+          ∙ ap₂ (λ x y. x ++ y) (ap (heard_on leg) no_events ∙ sym no_fed)
+          (unheard leg (moving.Ticks now) refl b)
+
+      by : (k ≡ n) ⊎ (k ≡ n → ⊥)
+          → IsHeard (get_or (put_at Absent list k new) n Absent)
+          (heard_on leg (events ++ at_place (get_or list n Absent) []
+          (if k == n then moving.Ticks now ∷ [] else []))) (fed ++ [])
+      by (inl same) =
+          let here : get_or list n Absent ≡ Absent =
+          ap (λ j. get_or list j Absent) (sym same) ∙ absent in
+          let no_events : events ≡ [] =
+          subst (λ (p : Place S). IsRun rules (make n) events p) here run in
+          let no_fed : fed ≡ [] =
+          subst (λ (p : Place S). IsHeard p (heard_on leg events) fed) here h in
+          subst (λ (q : Place S). IsHeard q (heard_on leg (events
+          ++ at_place (get_or list n Absent) []
+          (if k == n then moving.Ticks now ∷ [] else []))) (fed ++ []))
+          (sym (ap (λ j. get_or (put_at Absent list k new) j Absent) (sym same)
+          ∙ put_here Absent list k new))
+          (is (heard_on leg (events ++ at_place (get_or list n Absent) []
+          (if k == n then moving.Ticks now ∷ [] else []))) (fed ++ [])
+          (only_moment (k == n) no_events no_fed (get_or list n Absent) here))
+      by (inr other) =
+          subst (λ (b : Bool). IsHeard (get_or (put_at Absent list k new) n Absent)
+          (heard_on leg (events ++ at_place (get_or list n Absent) []
+          (if b then moving.Ticks now ∷ [] else []))) (fed ++ [])) (sym (ne_eqb k n other))
+          (subst (λ (q : Place S). IsHeard q
+          (heard_on leg (events ++ at_place (get_or list n Absent) [] [])) (fed ++ []))
+          (sym (put_elsewhere Absent list k n new (λ e. other (sym e))))
+          (hear_none (get_or list n Absent) events fed h))

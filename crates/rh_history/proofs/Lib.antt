@@ -17,3 +17,4 @@ pub mod LegsKept
 pub mod Appended
 pub mod NodeTraces
 pub mod HeardAll
+pub mod Tracing
