@@ -1,7 +1,7 @@
 -- every change keeps the legs carried, and notes all that was heard
 use Rattle.std.proofs.Common.{◌≡◌, ℕ, List, [], ◌∷◌, ◌++◌, Bool, true, false, ◌&&◌, ◌||◌, if◌then◌else◌, IsTrue, get_or, take, refl, sym, ap, ap₂, ◌∙◌, subst, ◌⊎◌, inl, inr, ⊎_elim, arith}
 use Rattle.std.specs.Prelude.{nat_lt, ◌<◌}
-use Rattle.std.proofs.lemmas.Bool.{true≢false, false≢true, cases_eq, cases_Bool, ltb-true}
+use Rattle.std.proofs.lemmas.Bool.{true≢false, false≢true, cases_eq, cases_Bool, ltb-true, and_parts}
 use Rattle.std.proofs.lemmas.List.{append-nil}
 use Rattle.rh_rts.specs.declared.command.Cookie.{Cookie}
 use Rattle.rh_text.specs.declared.ends.Dir.{Dir}
@@ -15,7 +15,7 @@ use Rattle.rh_record.specs.declared.answer.Who.TheVariants.{Client, Server, In, 
 use Rattle.rh_shell.specs.Moving as moving
 use Rattle.rh_shell.specs.Rules.{Rules}
 use Rattle.rh_shell.specs.Shells as shell
-use Rattle.rh_shell.specs.Shells.{Shell}
+use Rattle.rh_shell.specs.Shells.{Shell, same_leg}
 use Rattle.rh_nodes.specs.declared.event.Event.{Event}
 use Rattle.rh_nodes.specs.declared.event.Event.TheVariants.{Comes, Ends, Breaks, Passes}
 use Rattle.rh_nodes.specs.declared.legs.Legs.{Legs}
@@ -35,11 +35,12 @@ use Rattle.rh_nodes.specs.Wires as wires
 use Rattle.rh_nodes.specs.Wires.{sender, receiver}
 use Rattle.rh_nodes.specs.World.{World, at}
 use Rattle.rh_history.specs.Changes.{Change, IsTold, IsFed, IsDrawn, GoesUp, GoesDown, OpensIn, OpensOut, OpensSame, Gives, Takes, Closes, RecyclesIn, RecyclesOut, MovesTo, Draws, Reports, MayChange, StandsAt, HasUp, changed}
-use Rattle.rh_history.specs.Histories.{History, heard, to_node, told_to, made_by, at_place, fed_by, in_place, out_place, noted, AreRuns}
+use Rattle.rh_history.specs.Histories.{History, heard, to_node, told_to, made_by, at_place, fed_by, in_place, out_place, noted, IsRun, AreRuns}
 use Rattle.rh_history.specs.Carried.{Ledger, ledger, drawn_by, heard_on, came_up, happened, events_of, wire_at, end_node, AreCarried, IsHeard, AreHeard, LegsComeUpOnce, AllAccepted, IsTraced, is_of_client}
 use Rattle.rh_history.proofs.Appended.{heard_append, happened_more}
 use Rattle.rh_history.proofs.HeardAll.{is_hears, unheard, heard_piece, hear_on, hear_none, hear_leaving, hear_made}
 use Rattle.rh_history.proofs.Ledgers.{is_here, bytes_here, or_false}
+use Rattle.rh_history.proofs.Lines.{same_who}
 use Rattle.rh_history.proofs.LegsKept.{kept_quiet, kept_drawn, kept_fed, kept_raised, kept_lowered, kept_opened}
 use Rattle.rh_history.proofs.NodeTraces.{Told, is_draws, is_comes, drawn_of, up_of, AllAccept, silent_drawn, silent_up, silent_accepts, none_drawn, none_up, none_accepts, drawn_there, up_there, up_accepts, drawn_more, up_more, accepted_more, never_up, may_come, in_may}
 use Rattle.rh_history.proofs.Noting.{absent_is, change_is_noted}
@@ -191,3 +192,242 @@ module _ {K C S I O : Type 0} (r : Rulebook C S I O) (m : Makers K I O) (d : Dee
     carried : AreCarried (new change) v.legs v.readers
     hears : Hears change v.company
     zero : in_place v.company 0 ≡ Absent
+
+  -- ---- something is told
+
+  told_hears : (node : Who) (event : Event) → MayChange r w (IsTold node event)
+      → is_hears (heard event) ≡ false
+  told_hears node (Comes leg piece) may = absurd may
+  told_hears node (Ends leg) may = refl
+  told_hears node (Breaks leg) may = refl
+  told_hears node (Passes now) may = refl
+
+  traces_told : (node : Who) (event : Event) → MayChange r w (IsTold node event)
+      → Traces (IsTold node event) (changed r m d w (IsTold node event))
+  traces_told node event may =
+      let c = IsTold node event in
+      let after = (company.tell r w.company node event).0 in
+      let e = heard event in
+      let me = tell_meets r w.company node event in
+      let quiet = told_hears node event may in
+      record {
+        accepts = none_accepts r w.company node e (told_comes event);
+        carried = kept_quiet old (new c) w.legs w.readers t.carried
+            (same_drawn c (none_drawn r w.company node e (told_draws event)))
+            (same_fed c (λ other leg. refl))
+            (same_up c (none_up r w.company node e (told_comes event)));
+        hears = record {
+          client = λ leg. unheard leg e quiet (is_same node Client);
+          server = λ leg. unheard leg e quiet (is_same node Server);
+          ins = met_in after node e quiet me;
+          outs = met_out after node e quiet me;
+        };
+        zero = absent_stays r.in_proxy (in_place w.company 0) (in_place after 0)
+            (to_node node (In 0) e) (me.ins 0) t.zero;
+      }
+
+  -- ---- bytes are fed
+
+  -- a proxy that was never made is not fed
+  never_fed : (events : List moving.Event) (leg : Leg) → came_up leg events ≡ true
+      → events ≡ [] → ⊥
+  never_fed events leg up none = true≢false (sym up ∙ ap (came_up leg) none)
+
+  module _ (leg : Leg) (dir : Dir) (count : ℕ) (may : MayChange r w (IsFed leg dir count)) where
+    abbrev fed_to : Who
+    fed_to = at w leg (receiver dir)
+
+    fed_up : wires.is_up (receiver dir) (wire_at w.legs leg) ≡ true
+    fed_up = sym (wired.is_up_at w.legs leg (receiver dir)) ∙ may
+
+    in_not_fed : (n : ℕ) (other : Leg) → in_place w.company n ≡ Absent
+        → fed_by w (IsFed leg dir count) (In n) other ≡ []
+    in_not_fed n other absent =
+        ⊎_elim (λ yes_here. absurd (never_fed (h.ins n) leg
+        (subst (λ (x : Who). old.was_up x leg ≡ true)
+        (same_who fed_to (In n) (and_parts (same_leg leg other) (is_same fed_to (In n))
+        yes_here).1) ((t.carried.each leg dir).take_up fed_up))
+        (subst (λ (p : Place I). IsRun r.in_proxy (m.in_proxy w.cast n) (h.ins n) p) absent
+        (t.runs.ins n))))
+        (λ f. ap (λ b. if b then (legs.take_out leg dir count w.legs).1 else []) f)
+        (cases_Bool (same_leg leg other && is_same fed_to (In n)))
+
+    out_not_fed : (n : ℕ) (other : Leg) → out_place w.company n ≡ Absent
+        → fed_by w (IsFed leg dir count) (Out n) other ≡ []
+    out_not_fed n other absent =
+        ⊎_elim (λ yes_here. absurd (never_fed (h.outs n) leg
+        (subst (λ (x : Who). old.was_up x leg ≡ true)
+        (same_who fed_to (Out n) (and_parts (same_leg leg other) (is_same fed_to (Out n))
+        yes_here).1) ((t.carried.each leg dir).take_up fed_up))
+        (subst (λ (p : Place O). IsRun r.out_proxy (m.out_proxy w.cast n) (h.outs n) p) absent
+        (t.runs.outs n))))
+        (λ f. ap (λ b. if b then (legs.take_out leg dir count w.legs).1 else []) f)
+        (cases_Bool (same_leg leg other && is_same fed_to (Out n)))
+
+    traces_fed : Traces (IsFed leg dir count) (changed r m d w (IsFed leg dir count))
+    traces_fed =
+        let c = IsFed leg dir count in
+        let piece = (legs.take_out leg dir count w.legs).1 in
+        let event = Comes leg piece in
+        let e = moving.Hears leg piece in
+        let after = (company.tell r w.company fed_to event).0 in
+        let me = tell_meets r w.company fed_to event in
+        record {
+          accepts = none_accepts r w.company fed_to e refl;
+          carried = kept_fed old (new c) w.legs w.readers t.carried leg dir
+              (same_up c (none_up r w.company fed_to e refl)) count fed_up
+              (same_drawn c (none_drawn r w.company fed_to e refl))
+              (λ node other. ap (λ x. h.fed node other
+              ++ (if same_leg leg other && is_same fed_to node then x else []))
+              (wired.taken_here w.legs leg (receiver dir) dir count fed_up));
+          hears = record {
+            client = λ other. heard_piece other leg piece (is_same fed_to Client);
+            server = λ other. heard_piece other leg piece (is_same fed_to Server);
+            ins = λ n other. hear_on r.in_proxy other (in_place w.company n) (in_place after n)
+                (h.ins n) (to_node fed_to (In n) e) (h.fed (In n) other) (fed_by w c (In n) other)
+                (me.ins n) (heard_piece other leg piece (is_same fed_to (In n)))
+                (in_not_fed n other) (t.heard.ins n other);
+            outs = λ n other. hear_on r.out_proxy other (out_place w.company n)
+                (out_place after n) (h.outs n) (to_node fed_to (Out n) e) (h.fed (Out n) other)
+                (fed_by w c (Out n) other) (me.outs n)
+                (heard_piece other leg piece (is_same fed_to (Out n))) (out_not_fed n other)
+                (t.heard.outs n other);
+          };
+          zero = absent_stays r.in_proxy (in_place w.company 0) (in_place after 0)
+              (to_node fed_to (In 0) e) (me.ins 0) t.zero;
+        }
+
+  -- ---- bytes are drawn
+
+  traces_drawn : (leg : Leg) (dir : Dir) (count : ℕ) → MayChange r w (IsDrawn leg dir count)
+      → Traces (IsDrawn leg dir count) (changed r m d w (IsDrawn leg dir count))
+  traces_drawn leg dir count may =
+      let c = IsDrawn leg dir count in
+      let node = at w leg (sender dir) in
+      let e = moving.Draws leg count in
+      let did = company.draw r w.company node leg count in
+      let after = did.0 in
+      let me = draw_meets r w.company node leg count in
+      record {
+        accepts = none_accepts r w.company node e refl;
+        carried = kept_drawn old (new c) w.legs w.readers t.carried leg dir
+            (same_up c (none_up r w.company node e refl)) did.1
+            (sym (wired.is_up_at w.legs leg (sender dir)) ∙ may)
+            (λ other beside. drawn_more r m d first w h t.runs c other beside
+            ∙ ap (λ x. old.drawn other beside ++ x)
+            (drawn_there r w.company node leg count other beside))
+            (same_fed c (λ other beside. refl));
+        hears = record {
+          client = λ other. unheard other e refl (is_same node Client);
+          server = λ other. unheard other e refl (is_same node Server);
+          ins = met_in after node e refl me;
+          outs = met_out after node e refl me;
+        };
+        zero = absent_stays r.in_proxy (in_place w.company 0) (in_place after 0)
+            (to_node node (In 0) e) (me.ins 0) t.zero;
+      }
+
+  -- ---- a leg comes up
+
+  -- there is no in proxy 0
+  not_zero : (node : Who) (leg : Leg) → company.may_up r w.company node leg ≡ true
+      → is_same node (In 0) ≡ false
+  not_zero node leg may =
+      ⊎_elim (λ same. absurd (false≢true (ap (places.may_up r.in_proxy leg) (sym t.zero)
+      ∙ sym (in_may r w.company 0 leg)
+      ∙ subst (λ (x : Who). company.may_up r w.company x leg ≡ true)
+      (same_who node (In 0) same) may))) (λ f. f) (cases_Bool (is_same node (In 0)))
+
+  stands_there : (node : Who) (leg : Leg) (end : Side)
+      → company.may_up r w.company node leg ≡ true → StandsAt w node leg end
+      → end_node w.readers leg end ≡ node
+  stands_there node leg end may (inl stands) = stands
+  stands_there node leg end may (inr is) =
+      ap (end_node w.readers leg) is.1
+      ∙ client_end w.readers leg (once.own h.client leg t.accepted.client
+      (ap (λ (s : Shell C). shell.may_up r.client s leg) (sym t.runs.client)
+      ∙ subst (λ (x : Who). company.may_up r w.company x leg ≡ true) is.0 may))
+      ∙ sym is.0
+
+  traces_up : (node : Who) (leg : Leg) (end : Side) (cookie : Cookie)
+      → MayChange r w (GoesUp node leg end cookie)
+      → Traces (GoesUp node leg end cookie) (changed r m d w (GoesUp node leg end cookie))
+  traces_up node leg end cookie may =
+      let c = GoesUp node leg end cookie in
+      let e = moving.ComesUp leg cookie in
+      let after = company.up r w.company node leg cookie in
+      let me = up_meets r w.company node leg cookie in
+      let up = may_come r m d first w h t.runs t.accepted once node leg may.0 in
+      let stands = stands_there node leg end up may.1 in
+      record {
+        accepts = up_accepts r w.company node leg cookie up;
+        carried = kept_raised old (new c) w.legs w.readers t.carried
+            (same_drawn c (none_drawn r w.company node e refl))
+            (same_fed c (λ other beside. refl)) leg end
+            (ap (λ x. old.was_up x leg) stands
+            ∙ never_up r m d first w h t.runs t.accepted once node leg up)
+            (ap (λ x. is_same x (In 0)) stands ∙ not_zero node leg up)
+            (λ other beside. up_more r m d first w h t.runs c other beside
+            ∙ ap (λ b. old.was_up other beside || b)
+            (up_there r w.company node leg cookie up other beside
+            ∙ ap (λ x. is_here x leg other beside) (sym stands)));
+        hears = record {
+          client = λ other. unheard other e refl (is_same node Client);
+          server = λ other. unheard other e refl (is_same node Server);
+          ins = met_in after node e refl me;
+          outs = met_out after node e refl me;
+        };
+        zero = absent_stays r.in_proxy (in_place w.company 0) (in_place after 0)
+            (to_node node (In 0) e) (me.ins 0) t.zero;
+      }
+
+  -- ---- or down
+
+  traces_down : (node : Who) (leg : Leg) (end : Side) → MayChange r w (GoesDown node leg end)
+      → Traces (GoesDown node leg end) (changed r m d w (GoesDown node leg end))
+  traces_down node leg end may =
+      let c = GoesDown node leg end in
+      record {
+        accepts = silent_accepts r w.company;
+        carried = kept_lowered old (new c) w.legs w.readers t.carried
+            (same_drawn c (silent_drawn r w.company)) (same_fed c (λ other beside. refl)) leg end
+            (sym (wired.is_up_at w.legs leg end) ∙ may.up)
+            (same_up c (silent_up r w.company));
+        hears = hears_down node;
+        zero = zero_down node;
+      }
+    where
+      hears_down : (node : Who)
+          → Hears (GoesDown node leg end) (company.leave r w.company node)
+      hears_down Client = record {
+        client = λ other. refl;
+        server = λ other. refl;
+        ins = quiet_in;
+        outs = quiet_out;
+      }
+      hears_down Server = record {
+        client = λ other. refl;
+        server = λ other. refl;
+        ins = quiet_in;
+        outs = quiet_out;
+      }
+      hears_down (In k) = record {
+        client = λ other. refl;
+        server = λ other. refl;
+        ins = λ n other. hear_leaving r.in_proxy other w.company.ins k n (h.ins n)
+            (h.fed (In n) other) (t.heard.ins n other);
+        outs = quiet_out;
+      }
+      hears_down (Out k) = record {
+        client = λ other. refl;
+        server = λ other. refl;
+        ins = quiet_in;
+        outs = λ n other. hear_leaving r.out_proxy other w.company.outs k n (h.outs n)
+            (h.fed (Out n) other) (t.heard.outs n other);
+      }
+
+      zero_down : (node : Who) → in_place (company.leave r w.company node) 0 ≡ Absent
+      zero_down Client = t.zero
+      zero_down Server = t.zero
+      zero_down (In k) = absent_leaves r.in_proxy w.company.ins k 0 t.zero
+      zero_down (Out k) = t.zero
