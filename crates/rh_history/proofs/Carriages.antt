@@ -164,3 +164,16 @@ same_carriage c d drawn fed flight puts takes did_put did_take k =
       did_take = did_take i;
     } in
     subst IsCarried same k
+
+-- nothing was lost while both ends have the leg up
+pub loses_nothing : (c : Carriage) → IsCarried c → c.puts ≡ true → c.takes ≡ true
+    → c.drawn ≡ c.fed ++ c.flight
+loses_nothing c k puts takes = by k.lost refl
+  where
+    not_over : (IsDone c.did_put c.puts × (c.flight ≡ [])) ⊎ IsDone c.did_take c.takes → ⊥
+    not_over (inl done) = up_goes_on c.did_put c.puts puts done.0
+    not_over (inr done) = up_goes_on c.did_take c.takes takes done
+
+    by : (lost : Bool) → k.lost ≡ lost → c.drawn ≡ c.fed ++ c.flight
+    by false e = k.wire.whole e
+    by true e = absurd (not_over (k.over e))

@@ -5,6 +5,7 @@ use Rattle.std.proofs.lemmas.Bool.{true≢false, false≢true, cases_eq, cases_B
 use Rattle.std.proofs.lemmas.List.{append-nil}
 use Rattle.rh_rts.specs.declared.command.Cookie.{Cookie}
 use Rattle.rh_text.specs.declared.ends.Dir.{Dir}
+use Rattle.rh_text.specs.declared.ends.Dir.TheVariants.{U, D}
 use Rattle.rh_text.specs.declared.ends.Side.{Side}
 use Rattle.rh_text.specs.declared.ends.Side.TheVariants as side
 use Rattle.rh_line.specs.declared.leg.Leg.{Leg}
@@ -30,20 +31,22 @@ use Rattle.rh_nodes.specs.Numbered.{ask, change, put_at}
 use Rattle.rh_nodes.specs.Opening.{Makers, reader_before}
 use Rattle.rh_nodes.specs.Places as places
 use Rattle.rh_nodes.specs.Places.{is_absent}
+use Rattle.rh_nodes.specs.Readers.{reader_of}
 use Rattle.rh_nodes.specs.Settling.{leg_at}
 use Rattle.rh_nodes.specs.Wires as wires
 use Rattle.rh_nodes.specs.Wires.{sender, receiver}
 use Rattle.rh_nodes.specs.World.{World, at}
-use Rattle.rh_history.specs.Changes.{Change, IsTold, IsFed, IsDrawn, GoesUp, GoesDown, OpensIn, OpensOut, OpensSame, Gives, Takes, Closes, RecyclesIn, RecyclesOut, MovesTo, Draws, Reports, MayChange, StandsAt, HasUp, changed}
-use Rattle.rh_history.specs.Histories.{History, heard, to_node, told_to, made_by, at_place, fed_by, in_place, out_place, noted, IsRun, AreRuns}
-use Rattle.rh_history.specs.Carried.{Ledger, ledger, drawn_by, heard_on, came_up, happened, events_of, wire_at, end_node, AreCarried, IsHeard, AreHeard, LegsComeUpOnce, AllAccepted, IsTraced, is_of_client}
+use Rattle.rh_history.specs.Changes.{Change, may_have, AreAllowed, all_changed, Leads, IsTold, IsFed, IsDrawn, GoesUp, GoesDown, OpensIn, OpensOut, OpensSame, Gives, Takes, Closes, RecyclesIn, RecyclesOut, MovesTo, Draws, Reports, MayChange, StandsAt, HasUp, changed}
+use Rattle.rh_history.specs.Histories.{History, heard, to_node, told_to, made_by, at_place, fed_by, in_place, out_place, noted, all_noted, nothing, IsRun, IsNew, AreRuns}
+use Rattle.rh_history.specs.Carriages.{IsCarried}
+use Rattle.rh_history.specs.Carried.{Ledger, carriage, ledger, drawn_by, heard_on, came_up, happened, events_of, wire_at, end_node, AreCarried, IsHeard, AreHeard, LegsComeUpOnce, AllAccepted, IsTraced, is_of_client}
 use Rattle.rh_history.proofs.Appended.{heard_append, happened_more}
 use Rattle.rh_history.proofs.HeardAll.{is_hears, unheard, heard_piece, hear_on, hear_none, hear_leaving, hear_made}
 use Rattle.rh_history.proofs.Ledgers.{is_here, bytes_here, or_false}
 use Rattle.rh_history.proofs.Lines.{same_who}
 use Rattle.rh_history.proofs.LegsKept.{kept_quiet, kept_drawn, kept_fed, kept_raised, kept_lowered, kept_opened}
 use Rattle.rh_history.proofs.NodeTraces.{Told, is_draws, is_comes, drawn_of, up_of, AllAccept, silent_drawn, silent_up, silent_accepts, none_drawn, none_up, none_accepts, drawn_there, up_there, up_accepts, drawn_more, up_more, accepted_more, never_up, may_come, in_may}
-use Rattle.rh_history.proofs.Noting.{absent_is, change_is_noted}
+use Rattle.rh_history.proofs.Noting.{absent_is, begins, change_is_noted}
 use Rattle.rh_history.proofs.Numbers.{asked, put_elsewhere, changed_here, changes_elsewhere}
 use Rattle.rh_history.proofs.Runs.{Runs, Meets, tell_meets, draw_meets, up_meets}
 use Rattle.rh_history.proofs.Wired as wired
@@ -431,3 +434,374 @@ module _ {K C S I O : Type 0} (r : Rulebook C S I O) (m : Makers K I O) (d : Dee
       zero_down Server = t.zero
       zero_down (In k) = absent_leaves r.in_proxy w.company.ins k 0 t.zero
       zero_down (Out k) = t.zero
+
+  -- ---- a leg of the client is up for it
+
+  client_up : (leg : Leg) → IsTrue (may_have r w Client leg)
+      → company.may_up r w.company Client leg ≡ true
+  client_up leg may = may_come r m d first w h t.runs t.accepted once Client leg may
+
+  client_never : (leg : Leg) → IsTrue (may_have r w Client leg) → old.was_up Client leg ≡ false
+  client_never leg may =
+      never_up r m d first w h t.runs t.accepted once Client leg (client_up leg may)
+
+  traces_open_in : (n : ℕ) (cookie : Cookie) → MayChange r w (OpensIn n cookie)
+      → Traces (OpensIn n cookie) (changed r m d w (OpensIn n cookie))
+  traces_open_in n cookie may =
+      let c = OpensIn n cookie in
+      let leg = leg_at ClientIn n in
+      let e = moving.ComesUp leg cookie in
+      let up = client_up leg may.2 in
+      let made = Here (shell.tick r.in_proxy (m.in_proxy w.cast n) w.now).0 0 in
+      let absent = absent_is (in_place w.company n)
+      (sym (asked Absent is_absent w.company.ins n) ∙ may.1) in
+      let above : 0 < n = ltb-true 0 n may.0 in
+      record {
+        accepts = up_accepts r w.company Client leg cookie up;
+        carried = kept_opened old (new c) w.legs w.readers t.carried
+            (same_drawn c (none_drawn r w.company Client e refl))
+            (same_fed c (λ other beside. refl)) n n (client_never leg may.2)
+            (λ other beside. up_more r m d first w h t.runs c other beside
+            ∙ ap (λ b. old.was_up other beside || b)
+            (up_there r w.company Client leg cookie up other beside));
+        hears = record {
+          client = λ other. refl;
+          server = λ other. refl;
+          ins = λ k other. hear_made r.in_proxy other (m.in_proxy w.cast) w.company.ins n w.now
+              made (λ heard fed same. same) absent k (h.ins k) (h.fed (In k) other)
+              (t.runs.ins k) (t.heard.ins k other);
+          outs = quiet_out;
+        };
+        zero = put_elsewhere Absent w.company.ins n 0 made (λ is. absurd (omega (arith, above, is)))
+            ∙ t.zero;
+      }
+
+  traces_open_out : (n : ℕ) (cookie : Cookie) → MayChange r w (OpensOut n cookie)
+      → Traces (OpensOut n cookie) (changed r m d w (OpensOut n cookie))
+  traces_open_out n cookie may =
+      let c = OpensOut n cookie in
+      let leg = leg_at ClientOut n in
+      let e = moving.ComesUp leg cookie in
+      let up = client_up leg may.2 in
+      let made = Here (shell.tick r.out_proxy (m.out_proxy w.cast n) w.now).0 0 in
+      let absent = absent_is (out_place w.company n)
+      (sym (asked Absent is_absent w.company.outs n) ∙ may.1) in
+      record {
+        accepts = up_accepts r w.company Client leg cookie up;
+        carried = kept_raised old (new c) w.legs w.readers t.carried
+            (same_drawn c (none_drawn r w.company Client e refl))
+            (same_fed c (λ other beside. refl)) leg side.Client (client_never leg may.2) refl
+            (λ other beside. up_more r m d first w h t.runs c other beside
+            ∙ ap (λ b. old.was_up other beside || b)
+            (up_there r w.company Client leg cookie up other beside));
+        hears = record {
+          client = λ other. refl;
+          server = λ other. refl;
+          ins = quiet_in;
+          outs = λ k other. hear_made r.out_proxy other (m.out_proxy w.cast) w.company.outs n
+              w.now made (λ heard fed same. same) absent k (h.outs k) (h.fed (Out k) other)
+              (t.runs.outs k) (t.heard.outs k other);
+        };
+        zero = t.zero;
+      }
+
+  traces_open_same : (n : ℕ) (cookie : Cookie) → MayChange r w (OpensSame n cookie)
+      → Traces (OpensSame n cookie) (changed r m d w (OpensSame n cookie))
+  traces_open_same n cookie may =
+      let c = OpensSame n cookie in
+      let leg = leg_at ClientIn n in
+      let e = moving.ComesUp leg cookie in
+      let up = client_up leg may.0 in
+      record {
+        accepts = up_accepts r w.company Client leg cookie up;
+        carried = kept_opened old (new c) w.legs w.readers t.carried
+            (same_drawn c (none_drawn r w.company Client e refl))
+            (same_fed c (λ other beside. refl)) n (reader_before w n) (client_never leg may.0)
+            (λ other beside. up_more r m d first w h t.runs c other beside
+            ∙ ap (λ b. old.was_up other beside || b)
+            (up_there r w.company Client leg cookie up other beside));
+        hears = record {
+          client = λ other. refl;
+          server = λ other. refl;
+          ins = quiet_in;
+          outs = quiet_out;
+        };
+        zero = t.zero;
+      }
+
+  -- ---- the acts of an end, and what is noted
+
+  abbrev quiet_carried : (c : Change)
+      → ((node : Who) (leg : Leg) → drawn_of r w.company (told_to w c) node leg ≡ [])
+      → ((node : Who) (leg : Leg) → fed_by w c node leg ≡ [])
+      → ((node : Who) (leg : Leg) → up_of r w.company (told_to w c) node leg ≡ false)
+      → AreCarried (new c) w.legs w.readers
+  quiet_carried c drawn fed up =
+      kept_quiet old (new c) w.legs w.readers t.carried (same_drawn c drawn) (same_fed c fed)
+      (same_up c up)
+
+  traces : (change : Change) → MayChange r w change
+      → Traces change (changed r m d w change)
+  traces (IsTold node event) may = traces_told node event may
+  traces (IsFed leg dir count) may = traces_fed leg dir count may
+  traces (IsDrawn leg dir count) may = traces_drawn leg dir count may
+  traces (GoesUp node leg end cookie) may = traces_up node leg end cookie may
+  traces (GoesDown node leg end) may = traces_down node leg end may
+  traces (OpensIn n cookie) may = traces_open_in n cookie may
+  traces (OpensOut n cookie) may = traces_open_out n cookie may
+  traces (OpensSame n cookie) may = traces_open_same n cookie may
+  traces (Gives side.Client pdu) may = record {
+    accepts = silent_accepts r w.company;
+    carried = quiet_carried (Gives side.Client pdu) (silent_drawn r w.company) (λ other beside. refl)
+        (silent_up r w.company);
+    hears = record {
+      client = λ other. refl;
+      server = λ other. refl;
+      ins = quiet_in;
+      outs = quiet_out;
+    };
+    zero = t.zero;
+  }
+  traces (Gives side.Server pdu) may = record {
+    accepts = silent_accepts r w.company;
+    carried = quiet_carried (Gives side.Server pdu) (silent_drawn r w.company) (λ other beside. refl)
+        (silent_up r w.company);
+    hears = record {
+      client = λ other. refl;
+      server = λ other. refl;
+      ins = quiet_in;
+      outs = quiet_out;
+    };
+    zero = t.zero;
+  }
+  traces (Takes side.Client) may = record {
+    accepts = silent_accepts r w.company;
+    carried = quiet_carried (Takes side.Client) (silent_drawn r w.company) (λ other beside. refl)
+        (silent_up r w.company);
+    hears = record {
+      client = λ other. refl;
+      server = λ other. refl;
+      ins = quiet_in;
+      outs = quiet_out;
+    };
+    zero = t.zero;
+  }
+  traces (Takes side.Server) may = record {
+    accepts = silent_accepts r w.company;
+    carried = quiet_carried (Takes side.Server) (silent_drawn r w.company) (λ other beside. refl)
+        (silent_up r w.company);
+    hears = record {
+      client = λ other. refl;
+      server = λ other. refl;
+      ins = quiet_in;
+      outs = quiet_out;
+    };
+    zero = t.zero;
+  }
+  traces (Closes side.Client) may = record {
+    accepts = silent_accepts r w.company;
+    carried = quiet_carried (Closes side.Client) (silent_drawn r w.company) (λ other beside. refl)
+        (silent_up r w.company);
+    hears = record {
+      client = λ other. refl;
+      server = λ other. refl;
+      ins = quiet_in;
+      outs = quiet_out;
+    };
+    zero = t.zero;
+  }
+  traces (Closes side.Server) may = record {
+    accepts = silent_accepts r w.company;
+    carried = quiet_carried (Closes side.Server) (silent_drawn r w.company) (λ other beside. refl)
+        (silent_up r w.company);
+    hears = record {
+      client = λ other. refl;
+      server = λ other. refl;
+      ins = quiet_in;
+      outs = quiet_out;
+    };
+    zero = t.zero;
+  }
+  traces RecyclesIn may = record {
+    accepts = silent_accepts r w.company;
+    carried = quiet_carried RecyclesIn (silent_drawn r w.company) (λ other beside. refl)
+        (silent_up r w.company);
+    hears = record {
+      client = λ other. refl;
+      server = λ other. refl;
+      ins = quiet_in;
+      outs = quiet_out;
+    };
+    zero = t.zero;
+  }
+  traces RecyclesOut may = record {
+    accepts = silent_accepts r w.company;
+    carried = quiet_carried RecyclesOut (silent_drawn r w.company) (λ other beside. refl)
+        (silent_up r w.company);
+    hears = record {
+      client = λ other. refl;
+      server = λ other. refl;
+      ins = quiet_in;
+      outs = quiet_out;
+    };
+    zero = t.zero;
+  }
+  traces (MovesTo now) may = record {
+    accepts = silent_accepts r w.company;
+    carried = quiet_carried (MovesTo now) (silent_drawn r w.company) (λ other beside. refl)
+        (silent_up r w.company);
+    hears = record {
+      client = λ other. refl;
+      server = λ other. refl;
+      ins = quiet_in;
+      outs = quiet_out;
+    };
+    zero = t.zero;
+  }
+  traces (Draws cookies) may = record {
+    accepts = silent_accepts r w.company;
+    carried = quiet_carried (Draws cookies) (silent_drawn r w.company) (λ other beside. refl)
+        (silent_up r w.company);
+    hears = record {
+      client = λ other. refl;
+      server = λ other. refl;
+      ins = quiet_in;
+      outs = quiet_out;
+    };
+    zero = t.zero;
+  }
+  traces Reports may = record {
+    accepts = silent_accepts r w.company;
+    carried = quiet_carried Reports (silent_drawn r w.company) (λ other beside. refl)
+        (silent_up r w.company);
+    hears = record {
+      client = λ other. refl;
+      server = λ other. refl;
+      ins = quiet_in;
+      outs = quiet_out;
+    };
+    zero = t.zero;
+  }
+
+  -- ---- all of it
+
+  cast_stays : (change : Change) → (changed r m d w change).cast ≡ w.cast
+  cast_stays (IsTold node event) = refl
+  cast_stays (IsFed leg dir count) = refl
+  cast_stays (IsDrawn leg dir count) = refl
+  cast_stays (GoesUp node leg end cookie) = refl
+  cast_stays (GoesDown node leg end) = refl
+  cast_stays (OpensIn n cookie) = refl
+  cast_stays (OpensOut n cookie) = refl
+  cast_stays (OpensSame n cookie) = refl
+  cast_stays (Gives side.Client pdu) = refl
+  cast_stays (Gives side.Server pdu) = refl
+  cast_stays (Takes side.Client) = refl
+  cast_stays (Takes side.Server) = refl
+  cast_stays (Closes side.Client) = refl
+  cast_stays (Closes side.Server) = refl
+  cast_stays RecyclesIn = refl
+  cast_stays RecyclesOut = refl
+  cast_stays (MovesTo now) = refl
+  cast_stays (Draws cookies) = refl
+  cast_stays Reports = refl
+
+  pub change_is_traced : (change : Change) → MayChange r w change
+      → IsTraced r m d first (changed r m d w change) (noted w h change)
+  change_is_traced change may =
+      let v = changed r m d w change in
+      let k = traces change may in
+      let cast = sym (cast_stays change) in
+      record {
+        runs = change_is_noted r m d first w h change may t.runs;
+        accepted = subst (λ (x : K). AllAccepted r m d first x (noted w h change)) cast
+            (accepted_more r m d first w h t.runs change t.accepted k.accepts);
+        carried = subst (λ (x : K). AreCarried (ledger r m d first x (noted w h change)) v.legs
+            v.readers) cast k.carried;
+        heard = hears_all change v k.hears;
+        zero = k.zero;
+      }
+
+-- a leg on which nothing happened yet
+fresh_carriage : IsCarried (record {
+  drawn = [];
+  fed = [];
+  flight = [];
+  puts = false;
+  takes = false;
+  did_put = false;
+  did_take = false;
+})
+fresh_carriage = record {
+  lost = false;
+  wire = record { in_order = ([], refl); whole = λ e. refl };
+  over = λ e. absurd (false≢true e);
+  put_up = λ e. absurd (false≢true e);
+  take_up = λ e. absurd (false≢true e);
+}
+
+module _ {K C S I O : Type 0} (r : Rulebook C S I O) (m : Makers K I O) (d : Deeds C S) where
+  all_are_traced : (first : Company C S I O) (w : World K C S I O) (h : History)
+      (changes : List Change) → AreAllowed r m d w changes → LegsComeUpOnce r m d first w.cast
+      → IsTraced r m d first w h
+      → IsTraced r m d first (all_changed r m d w changes) (all_noted r m d w h changes)
+  all_are_traced first w h [] allowed once t = t
+  all_are_traced first w h (change ∷ changes) allowed once t =
+      all_are_traced first (changed r m d w change) (noted w h change) changes allowed.1
+      (subst (λ (x : K). LegsComeUpOnce r m d first x)
+      (sym (cast_stays r m d first w h t once change)) once)
+      (change_is_traced r m d first w h t once change allowed.0)
+
+  pub changes_are_traced : (first : Company C S I O) (w v : World K C S I O) (h : History)
+      (leads : Leads r m d w v) → LegsComeUpOnce r m d first w.cast → IsTraced r m d first w h
+      → IsTraced r m d first v (all_noted r m d w h leads.changes)
+  changes_are_traced first w v h leads once t =
+      subst (λ (x : World K C S I O). IsTraced r m d first x (all_noted r m d w h leads.changes))
+      leads.reached (all_are_traced first w h leads.changes leads.allowed once t)
+
+  -- ---- a world in which nothing happened yet
+
+  pub traced_first : (w : World K C S I O) → IsNew w → IsTraced r m d w.company w nothing
+  traced_first w new = record {
+    runs = begins r m d w new;
+    accepted = record { client = tt; server = tt; ins = λ n. tt; outs = λ n. tt };
+    carried = record {
+      each = λ leg dir. subst (λ (x : Legs).
+          IsCarried (carriage (ledger r m d w.company w.cast nothing) x w.readers leg dir))
+          (sym new.low) (low_carried leg.kind leg.number dir);
+      idle = none_idle;
+      read = λ j n e. absurd (false≢true e);
+      first = λ n e. absurd (e (ap (λ (x : List ℕ). reader_of x n) new.unread));
+      none = λ leg. refl;
+    };
+    heard = record {
+      client = λ leg. refl;
+      server = λ leg. refl;
+      ins = λ n leg. subst (λ (x : List (Place I)). IsHeard (get_or x n Absent) [] [])
+          (sym new.ins) refl;
+      outs = λ n leg. subst (λ (x : List (Place O)). IsHeard (get_or x n Absent) [] [])
+          (sym new.outs) refl;
+    };
+    zero = ap (λ (x : List (Place I)). get_or x 0 Absent) new.ins;
+  }
+    where
+      none_idle : (node : Who) (leg : Leg)
+          → (ledger r m d w.company w.cast nothing).was_up node leg ≡ false
+          → ((ledger r m d w.company w.cast nothing).drawn node leg ≡ [])
+          × ((ledger r m d w.company w.cast nothing).fed node leg ≡ [])
+      none_idle Client leg e = (refl, refl)
+      none_idle Server leg e = (refl, refl)
+      none_idle (In n) leg e = (refl, refl)
+      none_idle (Out n) leg e = (refl, refl)
+
+      low_carried : (kind : LegKind) (n : ℕ) (dir : Dir)
+          → IsCarried (carriage (ledger r m d w.company w.cast nothing) legs.none w.readers
+          (leg_at kind n) dir)
+      low_carried ClientOut n U = fresh_carriage
+      low_carried ClientOut n D = fresh_carriage
+      low_carried OutServer n U = fresh_carriage
+      low_carried OutServer n D = fresh_carriage
+      low_carried ClientIn n U = fresh_carriage
+      low_carried ClientIn n D = fresh_carriage
+      low_carried InServer n U = fresh_carriage
+      low_carried InServer n D = fresh_carriage

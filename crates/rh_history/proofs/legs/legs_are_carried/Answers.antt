@@ -1,0 +1,9 @@
+use Rattle.rh_history.proofs.Tracing.{traced_first, change_is_traced, changes_are_traced}
+use Rattle.rh_history.proofs.legs.legs_are_carried.Goals as goal
+
+pub returns : goal.returns
+returns g c = record {
+  begins = traced_first;
+  change = change_is_traced;
+  changes = changes_are_traced;
+}

@@ -1,0 +1,42 @@
+//! What each leg carried. These functions do nothing: their contracts are the laws.
+
+ghost use Rattle.std.specs.Prelude.{◌≡◌, ◌++◌, List, true};
+ghost use Rattle.rh_text.specs.declared.ends.Dir.{Dir};
+ghost use Rattle.rh_line.specs.declared.leg.Leg.{Leg};
+ghost use Rattle.rh_nodes.specs.Company.{Company, Rulebook};
+ghost use Rattle.rh_nodes.specs.Giving.{Deeds};
+ghost use Rattle.rh_nodes.specs.Opening.{Makers};
+ghost use Rattle.rh_nodes.specs.World.{World};
+ghost use Rattle.rh_history.specs.Carriages.{Carriage, IsCarried};
+ghost use Rattle.rh_history.specs.Carried.{IsTraced, LegsComeUpOnce};
+ghost use Rattle.rh_history.specs.Changes.{Change, Leads, MayChange, changed};
+ghost use Rattle.rh_history.specs.Histories.{History, IsNew, all_noted, noted, nothing};
+
+/// On each leg and in each direction, what was fed at the one end is a front of what was drawn at
+/// the other, and while nothing was lost the rest is in flight. Something may have been lost only
+/// once the end that takes is done with the leg, or the one that puts is and nothing is in flight.
+///
+/// A node that never had a leg up drew nothing there and was fed nothing; an IN leg of the client
+/// comes up at one in proxy at most, the one that reads it, also where it is its predecessor's. A
+/// node heard all that it was fed, and a proxy that was let go a front of it.
+///
+/// It rests on what each role has to see to: a leg that came up at a node does not come up there
+/// again.
+pub fn legs_are_carried<K, C, S, I, O>()
+    ensures begins { (r : Rulebook C S I O) (m : Makers K I O) (d : Deeds C S)
+        (w : World K C S I O) → IsNew w → IsTraced r m d w.company w nothing }
+    ensures change { (r : Rulebook C S I O) (m : Makers K I O) (d : Deeds C S)
+        (first : Company C S I O) (w : World K C S I O) (h : History)
+        → IsTraced r m d first w h → LegsComeUpOnce r m d first w.cast → (change : Change)
+        → MayChange r w change → IsTraced r m d first (changed r m d w change) (noted w h change) }
+    ensures changes { (r : Rulebook C S I O) (m : Makers K I O) (d : Deeds C S)
+        (first : Company C S I O) (w v : World K C S I O) (h : History)
+        (leads : Leads r m d w v) → LegsComeUpOnce r m d first w.cast → IsTraced r m d first w h
+        → IsTraced r m d first v (all_noted r m d w h leads.changes) }
+{}
+
+/// While a leg is up for both of its ends, what was drawn is what was fed and what is in flight.
+pub fn a_leg_that_is_up_loses_nothing()
+    ensures { (c : Carriage) → IsCarried c → c.puts ≡ true → c.takes ≡ true
+        → c.drawn ≡ c.fed ++ c.flight }
+{}
