@@ -18,3 +18,5 @@ pub mod Appended
 pub mod NodeTraces
 pub mod HeardAll
 pub mod Tracing
+pub mod Once
+pub mod Counting

@@ -1,5 +1,5 @@
 -- the nodes that closed, and what closed them (profile)
-use Rattle.std.specs.Prelude.{◌≡◌, ◌⊎◌, ◌++◌, ℕ, List, [], ◌∷◌, Some, None, Err}
+use Rattle.std.specs.Prelude.{◌≡◌, ◌⊎◌, ◌+◌, ◌++◌, if◌then◌else◌, ℕ, List, [], ◌∷◌, Some, None, Err}
 use Rattle.std.specs.declared.option.Option.{Option}
 use Rattle.rh_text.specs.declared.ends.Side.TheVariants as side
 use Rattle.rh_line.specs.declared.cause.Cause.{Cause}
@@ -21,6 +21,7 @@ use Rattle.rh_nodes.specs.declared.place.Place.TheVariants.{Absent, Here, Gone}
 use Rattle.rh_nodes.specs.Company as company
 use Rattle.rh_nodes.specs.Company.{Company, Rulebook}
 use Rattle.rh_nodes.specs.Giving.{Deeds, give, take, recycle_in, recycle_out}
+use Rattle.rh_nodes.specs.Halves.{is_same}
 use Rattle.rh_nodes.specs.Legs as legs
 use Rattle.rh_nodes.specs.Opening.{Makers}
 use Rattle.rh_nodes.specs.Steps.{last_with, last_of, step_line}
@@ -33,6 +34,15 @@ use Rattle.rh_history.specs.Histories.{in_place, out_place}
 abbrev pub IsOneOf : {X : Type 0} → X → List X → Type 0
 IsOneOf x [] = ⊥
 IsOneOf x (y ∷ ys) = (y ≡ x) ⊎ IsOneOf x ys
+
+-- how often a report tells that a node closed
+abbrev pub closing_of : Who → Answer → ℕ
+closing_of node (answer.NodeClosed closed why) = if is_same closed node then 1 else 0
+closing_of node other = 0
+
+abbrev pub closings_of : Who → List Answer → ℕ
+closings_of node [] = 0
+closings_of node (one ∷ answers) = closing_of node one + closings_of node answers
 
 -- ---- what closes a node
 

@@ -1,7 +1,7 @@
 //! Which nodes closed, and what closed them. These functions do nothing: their contracts are the
 //! laws.
 
-ghost use Rattle.std.specs.Prelude.{◌≡◌, [], None, Some};
+ghost use Rattle.std.specs.Prelude.{◌≡◌, ◌≤◌, List, [], None, Some};
 ghost use Rattle.rh_line.specs.declared.cause.Cause.{Cause};
 ghost use Rattle.rh_record.specs.declared.answer.Answer.TheVariants.{NodeClosed};
 ghost use Rattle.rh_record.specs.declared.answer.Who.{Who};
@@ -13,10 +13,11 @@ ghost use Rattle.rh_nodes.specs.Company.{Company, Rulebook, tell};
 ghost use Rattle.rh_nodes.specs.Giving.{Deeds};
 ghost use Rattle.rh_nodes.specs.Halves.{half};
 ghost use Rattle.rh_nodes.specs.Opening.{Makers};
-ghost use Rattle.rh_nodes.specs.Steps.{step};
+ghost use Rattle.rh_nodes.specs.Steps.{step, told};
 ghost use Rattle.rh_nodes.specs.World.{World};
 ghost use Rattle.rh_history.specs.Changes.{Change, Leads, MayChange, changed};
 ghost use Rattle.rh_history.specs.Closes.{ClientTells, HasClosed, IsOneOf, LineCloses, ServerTells};
+ghost use Rattle.rh_history.specs.Closes.{closings_of};
 
 /// A node that a line reports as closed was told something by one of the changes of that line, and
 /// that closed it with the cause that is reported. Behind a line or a half step nothing is left to
@@ -47,6 +48,13 @@ pub fn a_node_closes_once<K, C, S, I, O>()
         → HasClosed v.company node why }
     ensures once { (r : Rulebook C S I O) (c : Company C S I O) (node : Who) (event : Event)
         (why : Cause) → HasClosed c node why → (tell r c node event).1 ≡ None }
+{}
+
+/// Over all lines of a recording a node is reported as closed once at most.
+pub fn a_node_is_reported_closed_once<K, C, S, I, O>()
+    ensures { (r : Rulebook C S I O) (m : Makers K I O) (d : Deeds C S) (node : Who)
+        (lines : List Line) (w : World K C S I O) → w.closed ≡ []
+        → closings_of node (told r m d w lines) ≤ 1 }
 {}
 
 /// An end that closed tells its cause for ever: as its state, to who gives and who takes there, and
