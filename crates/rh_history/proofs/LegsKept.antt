@@ -63,6 +63,12 @@ unfolding number_in
 in_reads readers n j side.Client e = absurd cc
 in_reads readers n j side.Server e = ap number_in e
 
+-- so an IN leg of the client was up for the in proxy that reads it
+read_by : (g : Ledger) (all : Legs) (readers : List ℕ) → AreCarried g all readers → (j n : ℕ)
+    → g.was_up (who.In j) (leg_at ClientIn n) ≡ true → reader_of readers n ≡ j
+read_by g all readers k j n e =
+    let at = k.stands (who.In j) (leg_at ClientIn n) e in in_reads readers n j at.0 at.1
+
 module _ (g new : Ledger) (all : Legs) (readers : List ℕ) (k : AreCarried g all readers) where
   -- ---- nothing happens to the legs
 
@@ -76,7 +82,7 @@ module _ (g new : Ledger) (all : Legs) (readers : List ℕ) (k : AreCarried g al
     idle = λ node leg e.
         let old = k.idle node leg (sym (u node leg) ∙ e) in
         (d node leg ∙ old.0, h node leg ∙ old.1);
-    read = λ j n e. k.read j n (sym (u (who.In j) (leg_at ClientIn n)) ∙ e);
+    stands = λ node leg e. k.stands node leg (sym (u node leg) ∙ e);
     first = λ n e. u who.Client (leg_at ClientIn n) ∙ k.first n e;
     none = λ leg. u (who.In 0) leg ∙ k.none leg;
   }
@@ -113,7 +119,7 @@ module _ (g new : Ledger) (all : Legs) (readers : List ℕ) (k : AreCarried g al
                     (d node other)) ∙ old.0,
                 h node other ∙ old.1,
               );
-          read = λ j n e. k.read j n (sym (u (who.In j) (leg_at ClientIn n)) ∙ e);
+          stands = λ node leg e. k.stands node leg (sym (u node leg) ∙ e);
           first = λ n e. u who.Client (leg_at ClientIn n) ∙ k.first n e;
           none = λ other. u (who.In 0) other ∙ k.none other;
         }
@@ -138,7 +144,7 @@ module _ (g new : Ledger) (all : Legs) (readers : List ℕ) (k : AreCarried g al
                     (none_here here leg ((k.each leg dir).take_up up) node other was)
                     (h node other)) ∙ old.1,
               );
-          read = λ j n e. k.read j n (sym (u (who.In j) (leg_at ClientIn n)) ∙ e);
+          stands = λ node leg e. k.stands node leg (sym (u node leg) ∙ e);
           first = λ n e. u who.Client (leg_at ClientIn n) ∙ k.first n e;
           none = λ other. u (who.In 0) other ∙ k.none other;
         }
@@ -158,15 +164,12 @@ module _ (g new : Ledger) (all : Legs) (readers : List ℕ) (k : AreCarried g al
           let was = neither (g.was_up node other)
           (is_here (end_node readers leg end) leg node other) (sym (u node other) ∙ e) in
           let old = k.idle node other was.0 in (d node other ∙ old.0, h node other ∙ old.1);
-      read = λ j n e.
-          let in_leg = leg_at ClientIn n in
-          ⊎_elim (λ was. k.read j n was)
-          (λ now. let is = here_is (end_node readers leg end) leg (who.In j) in_leg now in
-          in_reads readers n j end
-          (ap (λ x. end_node readers x end) (sym is.1) ∙ is.0))
-          (or_cases (g.was_up (who.In j) in_leg)
-          (is_here (end_node readers leg end) leg (who.In j) in_leg)
-          (sym (u (who.In j) in_leg) ∙ e));
+      stands = λ node other e.
+          ⊎_elim (λ was. k.stands node other was)
+          (λ now. let is = here_is (end_node readers leg end) leg node other now in
+          (end, ap (λ x. end_node readers x end) (sym is.1) ∙ is.0))
+          (or_cases (g.was_up node other) (is_here (end_node readers leg end) leg node other)
+          (sym (u node other) ∙ e));
       first = λ n e.
           u who.Client (leg_at ClientIn n)
           ∙ or_first (g.was_up who.Client (leg_at ClientIn n))
@@ -186,7 +189,7 @@ module _ (g new : Ledger) (all : Legs) (readers : List ℕ) (k : AreCarried g al
       idle = λ node other e.
           let old = k.idle node other (sym (u node other) ∙ e) in
           (d node other ∙ old.0, h node other ∙ old.1);
-      read = λ j n e. k.read j n (sym (u (who.In j) (leg_at ClientIn n)) ∙ e);
+      stands = λ node leg e. k.stands node leg (sym (u node leg) ∙ e);
       first = λ n e. u who.Client (leg_at ClientIn n) ∙ k.first n e;
       none = λ other. u (who.In 0) other ∙ k.none other;
     }
@@ -211,7 +214,8 @@ module _ (g new : Ledger) (all : Legs) (readers : List ℕ) (k : AreCarried g al
       none_up : (i : ℕ) → g.was_up (who.In i) in_leg ≡ false
       none_up i =
           ⊎_elim (λ t. not_both (g.was_up (who.In i) in_leg) t
-          (ap (λ x. g.was_up (who.In x) in_leg) (sym (k.read i n t) ∙ no_reader)
+          (ap (λ x. g.was_up (who.In x) in_leg)
+          (sym (read_by g all readers k i n t) ∙ no_reader)
           ∙ k.none in_leg)) (λ f. f) (cases_Bool (g.was_up (who.In i) in_leg))
 
       reader_there : reader_of later n ≡ j
@@ -288,6 +292,22 @@ module _ (g new : Ledger) (all : Legs) (readers : List ℕ) (k : AreCarried g al
               (wire_at all in_leg) (wire_at all in_leg) from.0 to.1 from.2 to.2 refl
               (k.each in_leg dir)
 
+      stood_here : (node : Who) (end : Side) → g.was_up node in_leg ≡ true
+          → end_node readers in_leg end ≡ node → end_node later in_leg end ≡ node
+      stood_here node side.Client was e = e
+      stood_here node side.Server was e =
+          not_both (g.was_up node in_leg) was
+          (ap (λ x. g.was_up x in_leg) (sym e) ∙ none_up (reader_of readers n))
+
+      stood : (node : Who) (leg : Leg) → g.was_up node leg ≡ true
+          → (end : Side) × (end_node readers leg end ≡ node)
+          → (end : Side) × (end_node later leg end ≡ node)
+      stood node leg was at =
+          ⊎_elim (λ same. (at.0, ap (λ x. end_node later x at.0) (sym same)
+          ∙ stood_here node at.0 (ap (g.was_up node) same ∙ was)
+          (ap (λ x. end_node readers x at.0) same ∙ at.1)))
+          (λ apart. (at.0, node_apart leg at.0 apart ∙ at.1)) (cases_leg in_leg leg)
+
       pub kept_opened : AreCarried new (legs.raise in_leg side.Client all) later
       kept_opened = record {
         each = each_raised g new all later each_later in_leg side.Client d h never u;
@@ -295,16 +315,12 @@ module _ (g new : Ledger) (all : Legs) (readers : List ℕ) (k : AreCarried g al
             let was = neither (g.was_up node other) (is_here who.Client in_leg node other)
             (sym (u node other) ∙ e) in
             let old = k.idle node other was.0 in (d node other ∙ old.0, h node other ∙ old.1);
-        read = λ i m e.
-            ⊎_elim (λ was. ⊎_elim
-            (λ same. not_both (g.was_up (who.In i) (leg_at ClientIn m)) was
-            (ap (λ x. g.was_up (who.In i) (leg_at ClientIn x)) same ∙ none_up i))
-            (λ other. reader_apart m other ∙ k.read i m was) (cases_eq m n))
-            (λ now. not_both (is_here who.Client in_leg (who.In i) (leg_at ClientIn m)) now
-            (not_other who.Client in_leg (who.In i) (leg_at ClientIn m) refl))
-            (or_cases (g.was_up (who.In i) (leg_at ClientIn m))
-            (is_here who.Client in_leg (who.In i) (leg_at ClientIn m))
-            (sym (u (who.In i) (leg_at ClientIn m)) ∙ e));
+        stands = λ node other e.
+            ⊎_elim (λ was. stood node other was (k.stands node other was))
+            (λ now. let is = here_is who.Client in_leg node other now in
+            (side.Client, ap (λ x. end_node later x side.Client) (sym is.1) ∙ is.0))
+            (or_cases (g.was_up node other) (is_here who.Client in_leg node other)
+            (sym (u node other) ∙ e));
         first = λ m e.
             ⊎_elim
             (λ same. ap (λ x. new.was_up who.Client (leg_at ClientIn x)) same

@@ -1,6 +1,7 @@
 -- every change keeps the legs carried, and notes all that was heard
 use Rattle.std.proofs.Common.{◌≡◌, ℕ, List, [], ◌∷◌, ◌++◌, Bool, true, false, ◌&&◌, ◌||◌, if◌then◌else◌, IsTrue, get_or, take, refl, sym, ap, ap₂, ◌∙◌, subst, ◌⊎◌, inl, inr, ⊎_elim, arith}
 use Rattle.std.specs.Prelude.{nat_lt, ◌<◌}
+use mathlib.Core.List.{IsPrefix}
 use Rattle.std.proofs.lemmas.Bool.{true≢false, false≢true, cases_eq, cases_Bool, ltb-true, and_parts}
 use Rattle.std.proofs.lemmas.List.{append-nil}
 use Rattle.rh_rts.specs.declared.command.Cookie.{Cookie}
@@ -36,14 +37,14 @@ use Rattle.rh_nodes.specs.Settling.{leg_at}
 use Rattle.rh_nodes.specs.Wires as wires
 use Rattle.rh_nodes.specs.Wires.{sender, receiver}
 use Rattle.rh_nodes.specs.World.{World, at}
-use Rattle.rh_history.specs.Changes.{Change, may_have, AreAllowed, all_changed, Leads, IsTold, IsFed, IsDrawn, GoesUp, GoesDown, OpensIn, OpensOut, OpensSame, Gives, Takes, Closes, RecyclesIn, RecyclesOut, MovesTo, Draws, Reports, MayChange, StandsAt, HasUp, changed}
+use Rattle.rh_history.specs.Changes.{Change, may_have, AreAllowed, all_changed, Leads, Turn, after_turns, IsTold, IsFed, IsDrawn, GoesUp, GoesDown, OpensIn, OpensOut, OpensSame, Gives, Takes, Closes, RecyclesIn, RecyclesOut, MovesTo, Draws, Reports, MayChange, StandsAt, HasUp, changed}
 use Rattle.rh_history.specs.Histories.{History, heard, to_node, told_to, made_by, at_place, fed_by, in_place, out_place, noted, all_noted, nothing, IsRun, IsNew, AreRuns}
 use Rattle.rh_history.specs.Carriages.{IsCarried}
-use Rattle.rh_history.specs.Carried.{Ledger, carriage, ledger, drawn_by, heard_on, came_up, happened, events_of, wire_at, end_node, AreCarried, IsHeard, AreHeard, LegsComeUpOnce, AllAccepted, IsTraced, is_of_client}
+use Rattle.rh_history.specs.Carried.{Ledger, carriage, ledger, drawn_by, heard_on, came_up, happened, events_of, wire_at, end_node, AreCarried, IsHeard, AreHeard, LegsComeUpOnce, AllAccepted, IsTraced, HasTrace, is_of_client}
 use Rattle.rh_history.proofs.Appended.{heard_append, happened_more}
 use Rattle.rh_history.proofs.HeardAll.{is_hears, unheard, heard_piece, hear_on, hear_none, hear_leaving, hear_made}
 use Rattle.rh_history.proofs.Ledgers.{is_here, bytes_here, or_false}
-use Rattle.rh_history.proofs.Lines.{same_who}
+use Rattle.rh_history.proofs.Lines.{same_who, leads_turns}
 use Rattle.rh_history.proofs.LegsKept.{kept_quiet, kept_drawn, kept_fed, kept_raised, kept_lowered, kept_opened}
 use Rattle.rh_history.proofs.NodeTraces.{Told, is_draws, is_comes, drawn_of, up_of, AllAccept, silent_drawn, silent_up, silent_accepts, none_drawn, none_up, none_accepts, drawn_there, up_there, up_accepts, drawn_more, up_more, accepted_more, never_up, may_come, in_may}
 use Rattle.rh_history.proofs.Noting.{absent_is, begins, change_is_noted}
@@ -770,7 +771,7 @@ module _ {K C S I O : Type 0} (r : Rulebook C S I O) (m : Makers K I O) (d : Dee
           IsCarried (carriage (ledger r m d w.company w.cast nothing) x w.readers leg dir))
           (sym new.low) (low_carried leg.kind leg.number dir);
       idle = none_idle;
-      read = λ j n e. absurd (false≢true e);
+      stands = none_stands;
       first = λ n e. absurd (e (ap (λ (x : List ℕ). reader_of x n) new.unread));
       none = λ leg. refl;
     };
@@ -794,6 +795,14 @@ module _ {K C S I O : Type 0} (r : Rulebook C S I O) (m : Makers K I O) (d : Dee
       none_idle (In n) leg e = (refl, refl)
       none_idle (Out n) leg e = (refl, refl)
 
+      none_stands : (node : Who) (leg : Leg)
+          → (ledger r m d w.company w.cast nothing).was_up node leg ≡ true
+          → (end : Side) × (end_node w.readers leg end ≡ node)
+      none_stands Client leg e = absurd (false≢true e)
+      none_stands Server leg e = absurd (false≢true e)
+      none_stands (In n) leg e = absurd (false≢true e)
+      none_stands (Out n) leg e = absurd (false≢true e)
+
       low_carried : (kind : LegKind) (n : ℕ) (dir : Dir)
           → IsCarried (carriage (ledger r m d w.company w.cast nothing) legs.none w.readers
           (leg_at kind n) dir)
@@ -805,3 +814,60 @@ module _ {K C S I O : Type 0} (r : Rulebook C S I O) (m : Makers K I O) (d : Dee
       low_carried ClientIn n D = fresh_carriage
       low_carried InServer n U = fresh_carriage
       low_carried InServer n D = fresh_carriage
+
+-- ---- nodes elsewhere
+
+module _ {K C S I O : Type 0} (r : Rulebook C S I O) (m : Makers K I O) (d : Deeds C S)
+    (first : Company C S I O) (w : World K C S I O) (h : History)
+    (t : IsTraced r m d first w h) where
+  prefix_of_none : (a : List ℕ) → IsPrefix a [] → a ≡ []
+  prefix_of_none [] p = refl
+  prefix_of_none (x ∷ a) p = absurd cc
+
+  heard_nothing : {T : Type 0} (p : Place T) (heard fed : List ℕ) → IsHeard p heard fed
+      → fed ≡ [] → (p ≡ Absent → heard ≡ []) → heard ≡ []
+  heard_nothing Absent heard fed k none absent = absent refl
+  heard_nothing (Here node legs) heard fed k none absent = k ∙ none
+  heard_nothing (Gone now) heard fed k none absent =
+      prefix_of_none heard (subst (λ x. IsPrefix heard x) none k)
+
+  nothing_heard : (node : Who) (leg : Leg) → h.fed node leg ≡ []
+      → heard_on leg (events_of h node) ≡ []
+  nothing_heard Client leg none = t.heard.client leg ∙ none
+  nothing_heard Server leg none = t.heard.server leg ∙ none
+  nothing_heard (In n) leg none =
+      heard_nothing (in_place w.company n) (heard_on leg (h.ins n)) (h.fed (In n) leg)
+      (t.heard.ins n leg) none (λ absent. ap (heard_on leg)
+      (subst (λ (p : Place I). IsRun r.in_proxy (m.in_proxy w.cast n) (h.ins n) p) absent
+      (t.runs.ins n)))
+  nothing_heard (Out n) leg none =
+      heard_nothing (out_place w.company n) (heard_on leg (h.outs n)) (h.fed (Out n) leg)
+      (t.heard.outs n leg) none (λ absent. ap (heard_on leg)
+      (subst (λ (p : Place O). IsRun r.out_proxy (m.out_proxy w.cast n) (h.outs n) p) absent
+      (t.runs.outs n)))
+
+  pub elsewhere : (node : Who) (leg : Leg)
+      → ((end : Side) → end_node w.readers leg end ≡ node → ⊥)
+      → (drawn_by r m d first w.cast h node leg ≡ [])
+      × (heard_on leg (events_of h node) ≡ [])
+  elsewhere node leg away =
+      let g = ledger r m d first w.cast h in
+      let down : g.was_up node leg ≡ false =
+      ⊎_elim (λ up. absurd (let at = t.carried.stands node leg up in away at.0 at.1)) (λ f. f)
+      (cases_Bool (g.was_up node leg)) in
+      let none = t.carried.idle node leg down in
+      (none.0, nothing_heard node leg none.1)
+
+-- ---- recordings
+
+module _ {K C S I O : Type 0} (r : Rulebook C S I O) (m : Makers K I O) (d : Deeds C S) where
+  pub recording_traced : (turns : List Turn) (w : World K C S I O) → IsNew w
+      → LegsComeUpOnce r m d w.company w.cast
+      → HasTrace r m d w (after_turns r m d w turns)
+  recording_traced turns w new once =
+      let leads = leads_turns r m d turns w in
+      record {
+        leads = leads;
+        traced = changes_are_traced r m d w.company w (after_turns r m d w turns) nothing leads once
+            (traced_first r m d w new);
+      }

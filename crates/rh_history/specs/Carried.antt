@@ -29,7 +29,8 @@ use Rattle.rh_nodes.specs.Wires as wires
 use Rattle.rh_nodes.specs.Wires.{sender, receiver}
 use Rattle.rh_nodes.specs.World.{World, node_at}
 use Rattle.rh_history.specs.Carriages.{Carriage, IsCarried}
-use Rattle.rh_history.specs.Histories.{History, AreRuns, in_place, out_place}
+use Rattle.rh_history.specs.Changes.{Leads}
+use Rattle.rh_history.specs.Histories.{History, AreRuns, all_noted, nothing, in_place, out_place}
 
 -- ---- what a node did on a leg, by its events
 
@@ -137,10 +138,11 @@ pub record AreCarried (g : Ledger) (all : Legs) (readers : List ℕ) : Type 0 wh
   -- a node that never had the leg up drew nothing there, and was fed nothing
   pub idle : (node : Who) (leg : Leg) → g.was_up node leg ≡ false
       → (g.drawn node leg ≡ []) × (g.fed node leg ≡ [])
-  -- an IN leg of the client is up at one in proxy, the one that reads it, and came up for the client
-  -- first
-  pub read : (j n : ℕ) → g.was_up (who.In j) (leg_at ClientIn n) ≡ true
-      → reader_of readers n ≡ j
+  -- a leg was up for the nodes at its two ends alone: so an IN leg of the client for one in proxy,
+  -- the one that reads it
+  pub stands : (node : Who) (leg : Leg) → g.was_up node leg ≡ true
+      → (end : Side) × (end_node readers leg end ≡ node)
+  -- an IN leg that has a reader came up for the client
   pub first : (n : ℕ) → reader_of readers n ≢ 0
       → g.was_up who.Client (leg_at ClientIn n) ≡ true
   -- there is no in proxy 0
@@ -240,3 +242,10 @@ pub record IsTraced {K C S I O : Type 0} (r : Rulebook C S I O) (m : Makers K I 
   pub heard : AreHeard w h
   -- proxies have the numbers from 1
   pub zero : in_place w.company 0 ≡ Absent
+
+-- changes lead from a world in which nothing happened yet, and their history traces the nodes and
+-- the legs
+pub record HasTrace {K C S I O : Type 0} (r : Rulebook C S I O) (m : Makers K I O) (d : Deeds C S)
+    (w v : World K C S I O) : Type 0 where
+  pub leads : Leads r m d w v
+  pub traced : IsTraced r m d w.company v (all_noted r m d w nothing leads.changes)
