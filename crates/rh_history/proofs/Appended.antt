@@ -1,5 +1,5 @@
 -- what a node did on a leg, over events behind events
-use Rattle.std.proofs.Common.{◌≡◌, ℕ, List, [], ◌∷◌, ◌++◌, Bool, true, false, ◌||◌, if◌then◌else◌, map, refl, sym, ap, ◌∙◌, subst, append_assoc}
+use Rattle.std.proofs.Common.{◌≡◌, List, [], ◌∷◌, ◌++◌, ◌||◌, map, refl, sym, ap, ◌∙◌, subst, append_assoc}
 use Rattle.std.proofs.lemmas.List.{append-nil}
 use Rattle.std.proofs.lemmas.List.Folds.{list_any-append}
 use Rattle.rh_text.specs.declared.ends.Side.{Side}
@@ -12,7 +12,6 @@ use Rattle.rh_shell.specs.Shells.{Shell}
 use Rattle.rh_history.specs.Changes.{Change, Gives, Takes, Closes, RecyclesIn, RecyclesOut}
 use Rattle.rh_history.specs.Histories.{act_at, acts_by}
 use Rattle.rh_history.specs.Carried.{drawn_in, drawn_on, drawn_at_end, end_drawn_on, heard_in, heard_on, is_up_of, came_up, happened, AreAccepted, AreAcceptedAtEnd}
-use Rattle.rh_history.proofs.Runs.{end_events_happen}
 
 -- ---- events behind events
 

@@ -3,7 +3,7 @@ use Rattle.std.proofs.Common.{◌≡◌, ℕ, List, [], ◌∷◌, ◌++◌, Boo
 use mathlib.Core.List.{IsPrefix}
 use Rattle.std.proofs.lemmas.Bool.{false≢true, true≢false}
 use Rattle.std.proofs.lemmas.List.{append-nil}
-use Rattle.rh_order.specs.Wires.{Wire, WireLaw, Draws, Feeds, Loses}
+use Rattle.rh_order.specs.Wires.{WireLaw, Draws, Feeds}
 use Rattle.rh_order.proofs.WireKeeps.{wire_step}
 use Rattle.rh_history.specs.Carriages.{Carriage, IsCarried, IsDone, wire_of}
 
@@ -58,7 +58,7 @@ module _ (c : Carriage) (k : IsCarried c) where
         over = λ lost. absurd (false≢true lost);
         put_up = k.put_up;
         take_up = k.take_up;
-              }
+      }
       by true e =
           let done = old e in
           let none = nothing_left bytes rest (sym done.1 ∙ is) in
@@ -73,7 +73,7 @@ module _ (c : Carriage) (k : IsCarried c) where
             over = λ lost. inl (done.0, none.1);
             put_up = k.put_up;
             take_up = k.take_up;
-                          }
+          }
 
   -- the leg comes up for an end for the first time
   pub carry_up_put : c.did_put ≡ false → IsCarried (record c { puts = true; did_put = true })

@@ -1,6 +1,6 @@
 -- nodes that closed stay closed, with their first cause
-use Rattle.std.proofs.Common.{◌≡◌, ℕ, List, [], ◌∷◌, Bool, true, false, ◌||◌, cond, if◌then◌else◌, IsTrue, get_or, take, drop, Some, None, Err, refl, sym, ap, ◌∙◌, subst, ◌⊎◌, inl, inr}
-use Rattle.std.specs.Prelude.{◌≢◌, nat_lt, ◌-◌}
+use Rattle.std.proofs.Common.{◌≡◌, ℕ, List, [], ◌∷◌, Bool, true, false, ◌||◌, cond, if◌then◌else◌, get_or, take, drop, Some, None, Err, refl, sym, ap, ◌∙◌, subst, ◌⊎◌, inl, inr}
+use Rattle.std.specs.Prelude.{nat_lt, ◌-◌}
 use Rattle.std.specs.declared.result.Result.{Result}
 use Rattle.std.proofs.lemmas.Bool.{cases_eq}
 use Rattle.rh_rts.specs.declared.command.Cookie.{Cookie}
@@ -9,7 +9,6 @@ use Rattle.rh_text.specs.declared.ends.Side.TheVariants as side
 use Rattle.rh_line.specs.declared.cause.Cause.{Cause}
 use Rattle.rh_line.specs.declared.give_fault.GiveFault.{GiveFault}
 use Rattle.rh_line.specs.declared.give_fault.GiveFault.TheVariants as give_fault
-use Rattle.rh_line.specs.declared.leg.Leg.{Leg}
 use Rattle.rh_line.specs.declared.leg.LegKind.TheVariants.{ClientIn, ClientOut}
 use Rattle.rh_line.specs.declared.recycle_fault.RecycleFault.{RecycleFault}
 use Rattle.rh_line.specs.declared.recycle_fault.RecycleFault.TheVariants as recycle_fault

@@ -18,7 +18,7 @@ use Rattle.rh_nodes.specs.Cookies.{draw}
 use Rattle.rh_nodes.specs.Giving.{Deeds}
 use Rattle.rh_nodes.specs.Halves.{up_at}
 use Rattle.rh_nodes.specs.Numbered.{ask}
-use Rattle.rh_nodes.specs.Opening.{Makers, at_moment, with_in, with_out, connect, connect_client, may_make, open_out_to, open_in_to, open_client_out, open_client_in, is_wanted, open_server, open_leg, reader_before, may_open_same, read_on, is_client_in, open_same}
+use Rattle.rh_nodes.specs.Opening.{Makers, at_moment, with_in, with_out, connect, connect_client, may_make, open_out_to, open_in_to, is_wanted, open_server, open_leg, reader_before, may_open_same, read_on, open_same}
 use Rattle.rh_nodes.specs.Places as places
 use Rattle.rh_nodes.specs.Places.{is_absent}
 use Rattle.rh_nodes.specs.Readers.{reader_of}
@@ -113,9 +113,11 @@ module _ {K C S I O : Type 0} (r : Rulebook C S I O) (m : Makers K I O) (d : Dee
         (put_here Absent w.company.outs n (Here new_out 0)) ∙ f in
         leads_more r m d w v (GoesUp (who.Out n) out_leg side.Server drawn.1)
         (leads_more r m d w x (OpensOut n drawn.1) (leads_one r m d w (Draws drawn.0) tt)
-        (may_parts (ask is_absent true w.company.outs n) out_leg e))
-        (or_left (company.may_up r v.company (who.Out n) out_leg)
-        (company.wants r v.company (who.Out n) out_leg) up, inl refl)
+        (may_parts (ask is_absent true w.company.outs n) out_leg e)) (
+          or_left (company.may_up r v.company (who.Out n) out_leg)
+              (company.wants r v.company (who.Out n) out_leg) up,
+          inl refl,
+        )
 
     in_made : may_make r w w.company.ins in_leg ≡ true
         → shell.may_up r.in_proxy new_in in_leg ≡ true
@@ -133,10 +135,12 @@ module _ {K C S I O : Type 0} (r : Rulebook C S I O) (m : Makers K I O) (d : Dee
         (put_here Absent w.company.ins n (Here new_in 0)) ∙ f in
         leads_more r m d w v (GoesUp reader in_leg side.Server drawn.1)
         (leads_more r m d w x (OpensIn n drawn.1) (leads_one r m d w (Draws drawn.0) tt)
-        (may_parts (ask is_absent true w.company.ins n) in_leg e))
-        (or_left (company.may_up r v.company reader in_leg)
-        (company.wants r v.company reader in_leg)
-        (ap (λ k. company.may_up r v.company (who.In k) in_leg) is ∙ up), inl refl)
+        (may_parts (ask is_absent true w.company.ins n) in_leg e)) (
+          or_left (company.may_up r v.company reader in_leg)
+              (company.wants r v.company reader in_leg)
+              (ap (λ k. company.may_up r v.company (who.In k) in_leg) is ∙ up),
+          inl refl,
+        )
 
     leads_open_out : Leads r m d w (open_leg r m w out_leg).0
     leads_open_out = by_make (may_make r w w.company.outs out_leg) refl

@@ -1,11 +1,10 @@
 -- a node is reported as closed once
-use Rattle.std.proofs.Common.{◌≡◌, ℕ, zero, suc, ◌+◌, ◌≤◌, List, [], ◌∷◌, ◌++◌, Bool, true, false, ◌&&◌, if◌then◌else◌, take, drop, Some, None, refl, sym, ap, ◌∙◌, subst, ◌⊎◌, inl, inr, ⊎_elim, arith}
+use Rattle.std.proofs.Common.{◌≡◌, ℕ, zero, suc, ◌+◌, ◌≤◌, List, [], ◌∷◌, ◌++◌, true, false, if◌then◌else◌, Some, None, refl, sym, ap, ◌∙◌, subst, ◌⊎◌, inl, inr, ⊎_elim, arith}
 use Rattle.std.specs.List.{insert, list_all}
 use Rattle.std.specs.declared.option.Option.{Option}
-use Rattle.std.proofs.lemmas.Bool.{and_parts, false≢true, true≢false, cases_Bool}
+use Rattle.std.proofs.lemmas.Bool.{and_parts, false≢true, cases_Bool}
 use Rattle.rh_text.specs.declared.ends.Side.TheVariants as side
 use Rattle.rh_line.specs.declared.cause.Cause.{Cause}
-use Rattle.rh_line.specs.declared.leg.Leg.{Leg}
 use Rattle.rh_record.specs.declared.answer.Answer.{Answer}
 use Rattle.rh_record.specs.declared.answer.Answer.TheVariants as answer
 use Rattle.rh_record.specs.declared.answer.Who.{Who}
@@ -23,12 +22,11 @@ use Rattle.rh_nodes.specs.Opening.{Makers}
 use Rattle.rh_nodes.specs.Steps.{step, step_line, told}
 use Rattle.rh_nodes.specs.Wires.{receiver}
 use Rattle.rh_nodes.specs.World.{World, at}
-use Rattle.rh_history.specs.Changes.{Change, IsTold, IsFed, IsDrawn, GoesUp, GoesDown, OpensIn, OpensOut, OpensSame, Gives, Takes, Closes, RecyclesIn, RecyclesOut, MovesTo, Draws, Reports, MayChange, AreAllowed, changed, all_changed, Leads}
+use Rattle.rh_history.specs.Changes.{Change, IsTold, IsFed, IsDrawn, GoesUp, GoesDown, OpensIn, OpensOut, OpensSame, Gives, Takes, Closes, RecyclesIn, RecyclesOut, MovesTo, Draws, Reports, MayChange, changed}
 use Rattle.rh_history.specs.Closes.{HasClosed, closing_of, closings_of}
 use Rattle.rh_history.proofs.Answering.{is_other}
 use Rattle.rh_history.proofs.Closed.{tell_closes, tell_silent, closed_stays}
 use Rattle.rh_history.proofs.Leading.{leads_keep}
-use Rattle.rh_history.proofs.Ledgers.{who_itself}
 use Rattle.rh_history.proofs.Lines.{goes_step_line, same_who}
 
 -- how often a node stands in a list of closed nodes
@@ -140,9 +138,14 @@ module _ {K C S I O : Type 0} (r : Rulebook C S I O) (m : Makers K I O) (d : Dee
             ⊎_elim (λ same.
             let one = ap {B = ℕ} (λ b. if b then 1 else 0) same in
             let closed = tell_closes r why w.company other event e in
-            inr (omega (arith, is, one, zero_times), (why,
-            subst (λ x. HasClosed v.company x why) (same_who other node same)
-            (subst (λ x. HasClosed x other why) (sym company_is) closed))))
+            inr (
+              omega (arith, is, one, zero_times),
+              (
+                why,
+                subst (λ x. HasClosed v.company x why) (same_who other node same)
+                    (subst (λ x. HasClosed x other why) (sym company_is) closed),
+              ),
+            ))
             (λ apart. let none = ap {B = ℕ} (λ b. if b then 1 else 0) apart in
             inl (omega (arith, is, none, zero_times))) (cases_Bool (is_same other node))
 

@@ -1,5 +1,5 @@
 -- a node that is there heard all that it was fed
-use Rattle.std.proofs.Common.{◌≡◌, ℕ, List, [], ◌∷◌, ◌++◌, Bool, true, false, ◌&&◌, ◌||◌, if◌then◌else◌, IsTrue, get_or, refl, sym, ap, ap₂, ◌∙◌, subst, ◌⊎◌, inl, inr, append_assoc}
+use Rattle.std.proofs.Common.{◌≡◌, ℕ, List, [], ◌∷◌, ◌++◌, Bool, true, false, ◌&&◌, ◌||◌, if◌then◌else◌, get_or, refl, sym, ap, ap₂, ◌∙◌, subst, ◌⊎◌, inl, inr, append_assoc}
 use Rattle.std.specs.Prelude.{nat_lt, ◌==◌, ◌-◌}
 use mathlib.Core.List.{IsPrefix}
 use Rattle.std.proofs.lemmas.Bool.{true≢false, cases_eq, ne_eqb}
@@ -14,7 +14,7 @@ use Rattle.rh_nodes.specs.Numbered.{change, put_at}
 use Rattle.rh_nodes.specs.Places as places
 use Rattle.rh_nodes.specs.Places.{is_working}
 use Rattle.rh_history.specs.Histories.{at_place, IsRun}
-use Rattle.rh_history.specs.Carried.{heard_in, heard_on, IsHeard}
+use Rattle.rh_history.specs.Carried.{heard_on, IsHeard}
 use Rattle.rh_history.proofs.Appended.{heard_append}
 use Rattle.rh_history.proofs.Numbers.{changed_here, changes_elsewhere, put_here, put_elsewhere}
 use Rattle.rh_history.proofs.Runs.{Runs}

@@ -1,7 +1,6 @@
 -- what happens to the legs keeps them carried
 use Rattle.std.proofs.Common.{◌≡◌, ℕ, List, [], ◌++◌, Bool, true, false, ◌&&◌, ◌||◌, if◌then◌else◌, take, refl, sym, ap, ◌∙◌, subst, ◌⊎◌, inl, inr, ⊎_elim}
-use Rattle.std.specs.Prelude.{◌≢◌}
-use Rattle.std.proofs.lemmas.Bool.{true≢false, false≢true, cases_eq, cases_Bool, or_cases, and_parts, eq-eqb}
+use Rattle.std.proofs.lemmas.Bool.{eq-eqb}
 use Rattle.std.proofs.lemmas.List.{append-nil}
 use Rattle.rh_text.specs.declared.ends.Dir.{Dir}
 use Rattle.rh_text.specs.declared.ends.Dir.TheVariants.{U, D}
@@ -16,15 +15,12 @@ use Rattle.rh_shell.specs.Shells.{same_leg}
 use Rattle.rh_nodes.specs.declared.legs.Legs.{Legs}
 use Rattle.rh_nodes.specs.Halves.{is_same}
 use Rattle.rh_nodes.specs.Legs as legs
-use Rattle.rh_nodes.specs.Readers.{reader_of, with_reader}
 use Rattle.rh_nodes.specs.Settling.{leg_at}
 use Rattle.rh_nodes.specs.Wires as wires
 use Rattle.rh_nodes.specs.Wires.{sender, receiver}
-use Rattle.rh_history.specs.Carriages.{Carriage, IsCarried}
-use Rattle.rh_history.specs.Carried.{Ledger, AreCarried, carriage, wire_at, end_node}
-use Rattle.rh_history.proofs.Lines.{same_who}
-use Rattle.rh_history.proofs.Numbers.{asked, put_here, put_elsewhere}
-use Rattle.rh_history.proofs.Seen.{seen, seen_as, seen_put, seen_taken, seen_up_put, seen_up_take, seen_down, put_aside, take_aside}
+use Rattle.rh_history.specs.Carriages.{IsCarried}
+use Rattle.rh_history.specs.Carried.{Ledger, carriage, wire_at, end_node}
+use Rattle.rh_history.proofs.Seen.{seen_as, seen_put, seen_taken, seen_up_put, seen_up_take, seen_down, put_aside, take_aside}
 use Rattle.rh_history.proofs.Wired as wired
 use Rattle.rh_history.proofs.Wired.{same_itself, cases_leg}
 

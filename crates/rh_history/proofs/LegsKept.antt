@@ -1,9 +1,8 @@
 -- whatever happens, legs are carried by nodes that had them up
-use Rattle.std.proofs.Common.{◌≡◌, ℕ, List, [], ◌++◌, Bool, true, false, ◌&&◌, ◌||◌, if◌then◌else◌, take, refl, sym, ap, ◌∙◌, subst, ◌⊎◌, inl, inr, ⊎_elim}
+use Rattle.std.proofs.Common.{◌≡◌, ℕ, List, ◌++◌, Bool, true, false, ◌||◌, take, refl, sym, ap, ◌∙◌, subst, ⊎_elim}
 use Rattle.std.specs.Prelude.{◌≢◌}
-use Rattle.std.proofs.lemmas.Bool.{true≢false, false≢true, cases_eq, cases_Bool, or_cases, and_parts, eq-eqb}
+use Rattle.std.proofs.lemmas.Bool.{true≢false, cases_eq, cases_Bool, or_cases, and_parts, eq-eqb}
 use Rattle.rh_text.specs.declared.ends.Dir.{Dir}
-use Rattle.rh_text.specs.declared.ends.Dir.TheVariants.{U, D}
 use Rattle.rh_text.specs.declared.ends.Side.{Side}
 use Rattle.rh_text.specs.declared.ends.Side.TheVariants as side
 use Rattle.rh_line.specs.declared.leg.Leg.{Leg}
@@ -25,7 +24,7 @@ use Rattle.rh_history.proofs.Lines.{same_who}
 use Rattle.rh_history.proofs.Numbers.{asked, put_here, put_elsewhere}
 use Rattle.rh_history.proofs.Seen.{seen_as}
 use Rattle.rh_history.proofs.Wired.{cases_leg}
-use Rattle.rh_history.proofs.Ledgers.{Each, is_here, bytes_here, here_itself, not_other, and_false, none_added, or_false, or_true, same_on, each_drawn, each_fed, each_raised, each_lowered}
+use Rattle.rh_history.proofs.Ledgers.{Each, is_here, bytes_here, here_itself, not_other, none_added, or_false, or_true, same_on, each_drawn, each_fed, each_raised, each_lowered}
 
 -- ---- tests
 
@@ -303,9 +302,12 @@ module _ (g new : Ledger) (all : Legs) (readers : List ℕ) (k : AreCarried g al
           → (end : Side) × (end_node readers leg end ≡ node)
           → (end : Side) × (end_node later leg end ≡ node)
       stood node leg was at =
-          ⊎_elim (λ same. (at.0, ap (λ x. end_node later x at.0) (sym same)
-          ∙ stood_here node at.0 (ap (g.was_up node) same ∙ was)
-          (ap (λ x. end_node readers x at.0) same ∙ at.1)))
+          ⊎_elim (λ same. (
+            at.0,
+            ap (λ x. end_node later x at.0) (sym same)
+                ∙ stood_here node at.0 (ap (g.was_up node) same ∙ was)
+                (ap (λ x. end_node readers x at.0) same ∙ at.1),
+          ))
           (λ apart. (at.0, node_apart leg at.0 apart ∙ at.1)) (cases_leg in_leg leg)
 
       pub kept_opened : AreCarried new (legs.raise in_leg side.Client all) later

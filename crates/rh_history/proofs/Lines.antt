@@ -1,10 +1,9 @@
 -- each line, and each half step, is a list of changes
-use Rattle.std.proofs.Common.{◌≡◌, ℕ, List, [], ◌∷◌, Bool, true, false, ◌&&◌, ◌||◌, not, if◌then◌else◌, IsTrue, Some, None, refl, sym, ap, ◌∙◌, subst, inl, inr}
-use Rattle.std.specs.Prelude.{nat_lt, nat_le, ◌==◌}
+use Rattle.std.proofs.Common.{◌≡◌, ℕ, List, [], ◌∷◌, Bool, true, false, ◌&&◌, not, if◌then◌else◌, IsTrue, Some, None, refl, sym, ap, inl, inr}
+use Rattle.std.specs.Prelude.{nat_lt, nat_le}
 use Rattle.std.specs.declared.option.Option.{Option}
 use Rattle.std.proofs.lemmas.Bool.{and_parts, eqb-true}
 use Rattle.rh_rts.specs.declared.command.Cookie.{Cookie}
-use Rattle.rh_text.specs.declared.ends.Dir.{Dir}
 use Rattle.rh_text.specs.declared.ends.Side.{Side}
 use Rattle.rh_text.specs.declared.ends.Side.TheVariants as side
 use Rattle.rh_line.specs.declared.leg.Leg.{Leg}
@@ -23,7 +22,7 @@ use Rattle.rh_nodes.specs.Company as company
 use Rattle.rh_nodes.specs.Company.{Rulebook}
 use Rattle.rh_nodes.specs.Cookies.{with_other, was_had}
 use Rattle.rh_nodes.specs.Giving.{Deeds}
-use Rattle.rh_nodes.specs.Halves.{is_same, end_of, make_out, make_in, make_by, make_proxy, up_at, with_cookie, up_client, up_end, up_half, refused_half, broken_end, broken_half, ended_end, ended_half, tick_from, tick_half, half_by, half}
+use Rattle.rh_nodes.specs.Halves.{is_same, end_of, make_by, make_proxy, up_at, with_cookie, up_client, up_end, up_half, refused_half, broken_end, ended_end, tick_from, half_by, half}
 use Rattle.rh_nodes.specs.Legs as legs
 use Rattle.rh_nodes.specs.Numbered.{ask}
 use Rattle.rh_nodes.specs.Opening.{Makers, at_moment, with_in, with_out}
@@ -222,9 +221,10 @@ module _ {K C S I O : Type 0} (r : Rulebook C S I O) (m : Makers K I O) (d : Dee
           → company.may_up r w.company node leg ≡ t
           → LeadsOk r m d w (if t then (up_at r w node leg end cookie, true) else (w, false))
       by end stands true e =
-          leads_one r m d w (GoesUp node leg end cookie)
-          (or_left (company.may_up r w.company node leg) (company.wants r w.company node leg) e,
-          inl stands)
+          leads_one r m d w (GoesUp node leg end cookie) (
+            or_left (company.may_up r w.company node leg) (company.wants r w.company node leg) e,
+            inl stands,
+          )
       by end stands false e = leads_none r m d w
 
   up_leads : (w : World K C S I O) (node : Who) (leg : Leg) (cookie : Cookie)

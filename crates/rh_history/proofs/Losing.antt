@@ -1,8 +1,7 @@
 -- the lines by which a leg is lost are changes, and those by which bytes are carried or time passes
-use Rattle.std.proofs.Common.{◌≡◌, ℕ, List, [], ◌∷◌, Bool, true, false, ◌&&◌, ◌||◌, if◌then◌else◌, IsTrue, length, Some, None, refl, arith, ◌⊎◌, inl, inr}
+use Rattle.std.proofs.Common.{◌≡◌, ℕ, Bool, true, false, ◌&&◌, if◌then◌else◌, length, None, refl, inl, inr}
 use Rattle.std.specs.Prelude.{nat_le}
 use Rattle.std.proofs.lemmas.Bool.{leb-true}
-use Rattle.std.specs.declared.option.Option.{Option}
 use Rattle.rh_text.specs.declared.ends.Dir.{Dir}
 use Rattle.rh_text.specs.declared.ends.Side.{Side}
 use Rattle.rh_text.specs.declared.ends.Side.TheVariants as side
@@ -11,7 +10,7 @@ use Rattle.rh_record.specs.declared.answer.Who.{Who}
 use Rattle.rh_record.specs.declared.answer.Who.TheVariants as who
 use Rattle.rh_nodes.specs.declared.event.Event.{Event}
 use Rattle.rh_nodes.specs.declared.event.Event.TheVariants.{Ends, Breaks, Passes}
-use Rattle.rh_nodes.specs.Breaking.{is_up, lost, lose, refuse_at, refuse, break_leg, end_leg}
+use Rattle.rh_nodes.specs.Breaking.{is_up, lost, lose, refuse, break_leg, end_leg}
 use Rattle.rh_nodes.specs.Carrying.{send, sent, draw_into, feed, fed}
 use Rattle.rh_nodes.specs.Company as company
 use Rattle.rh_nodes.specs.Company.{Rulebook}

@@ -1,6 +1,5 @@
 -- what a change is to the legs of each node
-use Rattle.std.proofs.Common.{◌≡◌, ℕ, List, [], ◌∷◌, ◌++◌, Bool, true, false, ◌&&◌, ◌||◌, if◌then◌else◌, IsTrue, get_or, map, refl, sym, ap, ◌∙◌, subst, ◌⊎◌, inl, inr, ⊎_elim}
-use Rattle.std.specs.Prelude.{◌==◌}
+use Rattle.std.proofs.Common.{◌≡◌, ℕ, List, [], ◌∷◌, ◌++◌, Bool, true, false, ◌&&◌, ◌||◌, if◌then◌else◌, IsTrue, refl, sym, ap, ◌∙◌, subst, ⊎_elim}
 use Rattle.std.proofs.lemmas.Bool.{true≢false, false≢true, cases_Bool, or_cases, eq-eqb}
 use Rattle.std.proofs.lemmas.List.{append-nil}
 use Rattle.rh_rts.specs.declared.command.Cookie.{Cookie}
@@ -10,11 +9,9 @@ use Rattle.rh_record.specs.declared.answer.Who.{Who}
 use Rattle.rh_record.specs.declared.answer.Who.TheVariants.{Client, Server, In, Out}
 use Rattle.rh_shell.specs.Moving as moving
 use Rattle.rh_shell.specs.Moving.{after_events, after_end_events}
-use Rattle.rh_shell.specs.Rules.{Rules, Acts}
+use Rattle.rh_shell.specs.Rules.{Rules}
 use Rattle.rh_shell.specs.Shells as shell
 use Rattle.rh_shell.specs.Shells.{Shell, same_leg}
-use Rattle.rh_nodes.specs.declared.event.Event.{Event}
-use Rattle.rh_nodes.specs.declared.event.Event.TheVariants.{Comes, Ends, Breaks, Passes}
 use Rattle.rh_nodes.specs.declared.place.Place.{Place}
 use Rattle.rh_nodes.specs.declared.place.Place.TheVariants.{Absent, Here, Gone}
 use Rattle.rh_nodes.specs.Company as company
@@ -25,10 +22,10 @@ use Rattle.rh_nodes.specs.Opening.{Makers}
 use Rattle.rh_nodes.specs.Places as places
 use Rattle.rh_nodes.specs.World.{World}
 use Rattle.rh_history.specs.Changes.{Change, OpensIn, OpensOut, may_have}
-use Rattle.rh_history.specs.Histories.{History, heard, to_node, told_to, made_by, at_place, in_place, out_place, noted, IsRun, AreRuns}
-use Rattle.rh_history.specs.Carried.{drawn_in, drawn_on, heard_on, came_up, events_of, drawn_by, AllAccepted, IsAccepted, AreAccepted, ComesUpOnce, ComesUpOnceAtEnd, LegsComeUpOnce}
-use Rattle.rh_history.proofs.Appended.{drawn_append, heard_append, came_append, accepted_append, end_drawn_more, happened_more, end_accepted_more}
-use Rattle.rh_history.proofs.Ledgers.{is_here, bytes_here, who_itself, not_other, and_false}
+use Rattle.rh_history.specs.Histories.{History, to_node, told_to, made_by, at_place, in_place, out_place, noted, IsRun, AreRuns}
+use Rattle.rh_history.specs.Carried.{drawn_in, drawn_on, heard_on, came_up, events_of, drawn_by, AllAccepted, IsAccepted, AreAccepted, ComesUpOnce, LegsComeUpOnce}
+use Rattle.rh_history.proofs.Appended.{drawn_append, came_append, accepted_append, end_drawn_more, happened_more, end_accepted_more}
+use Rattle.rh_history.proofs.Ledgers.{is_here, bytes_here, not_other}
 use Rattle.rh_history.proofs.Lines.{same_who}
 use Rattle.rh_history.proofs.Numbers.{asked, answered}
 
@@ -103,37 +100,37 @@ module _ {S : Type 0} (rules : Rules S) where
   no_accepts (Gone now) = tt
 
   module _ (made : Shell S) (events told moment : List moving.Event) (is : IsMoment rules moment)
-      where
-    place_drawn_more : (p : Place S) (leg : Leg) → IsRun rules made events p
-        → drawn_on rules made leg (events ++ at_place p told moment)
-        ≡ drawn_on rules made leg events ++ place_drawn p leg told
-    place_drawn_more Absent leg run =
-        drawn_append rules leg made events moment
-        ∙ ap (λ x. drawn_on rules made leg events ++ x)
-        (is.drawn (after_events rules made events) leg)
-    place_drawn_more (Here node legs) leg run =
-        drawn_append rules leg made events told
-        ∙ ap (λ (s : Shell S). drawn_on rules made leg events ++ drawn_on rules s leg told)
-        (sym run)
-    place_drawn_more (Gone now) leg run = drawn_append rules leg made events []
+    where
+      place_drawn_more : (p : Place S) (leg : Leg) → IsRun rules made events p
+          → drawn_on rules made leg (events ++ at_place p told moment)
+          ≡ drawn_on rules made leg events ++ place_drawn p leg told
+      place_drawn_more Absent leg run =
+          drawn_append rules leg made events moment
+          ∙ ap (λ x. drawn_on rules made leg events ++ x)
+          (is.drawn (after_events rules made events) leg)
+      place_drawn_more (Here node legs) leg run =
+          drawn_append rules leg made events told
+          ∙ ap (λ (s : Shell S). drawn_on rules made leg events ++ drawn_on rules s leg told)
+          (sym run)
+      place_drawn_more (Gone now) leg run = drawn_append rules leg made events []
 
-    place_came_more : (p : Place S) (leg : Leg)
-        → came_up leg (events ++ at_place p told moment)
-        ≡ (came_up leg events || place_up p leg told)
-    place_came_more Absent leg =
-        came_append leg events moment ∙ ap (λ x. came_up leg events || x) (is.down leg)
-    place_came_more (Here node legs) leg = came_append leg events told
-    place_came_more (Gone now) leg = came_append leg events []
+      place_came_more : (p : Place S) (leg : Leg)
+          → came_up leg (events ++ at_place p told moment)
+          ≡ (came_up leg events || place_up p leg told)
+      place_came_more Absent leg =
+          came_append leg events moment ∙ ap (λ x. came_up leg events || x) (is.down leg)
+      place_came_more (Here node legs) leg = came_append leg events told
+      place_came_more (Gone now) leg = came_append leg events []
 
-    place_accepted_more : (p : Place S) → IsRun rules made events p
-        → AreAccepted rules made events → place_accepts p told
-        → AreAccepted rules made (events ++ at_place p told moment)
-    place_accepted_more Absent run a b =
-        accepted_append rules made events moment a (is.accepted (after_events rules made events))
-    place_accepted_more (Here node legs) run a b =
-        accepted_append rules made events told a
-        (subst (λ (s : Shell S). AreAccepted rules s told) run b)
-    place_accepted_more (Gone now) run a b = accepted_append rules made events [] a tt
+      place_accepted_more : (p : Place S) → IsRun rules made events p
+          → AreAccepted rules made events → place_accepts p told
+          → AreAccepted rules made (events ++ at_place p told moment)
+      place_accepted_more Absent run a b =
+          accepted_append rules made events moment a (is.accepted (after_events rules made events))
+      place_accepted_more (Here node legs) run a b =
+          accepted_append rules made events told a
+          (subst (λ (s : Shell S). AreAccepted rules s told) run b)
+      place_accepted_more (Gone now) run a b = accepted_append rules made events [] a tt
 
   -- ---- legs come up once
 

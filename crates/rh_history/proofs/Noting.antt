@@ -1,8 +1,7 @@
 -- each node is what its history made of it
 use Rattle.std.proofs.Common.{◌≡◌, ℕ, List, [], ◌∷◌, ◌++◌, Bool, true, false, ◌||◌, if◌then◌else◌, IsTrue, get_or, map, refl, sym, ap, ◌∙◌, subst, ◌⊎◌, inl, inr}
-use Rattle.std.specs.Prelude.{◌≢◌, ◌==◌, nat_lt, ◌-◌}
+use Rattle.std.specs.Prelude.{◌==◌, nat_lt, ◌-◌}
 use Rattle.std.proofs.lemmas.Bool.{cases_eq, eq-eqb, ne_eqb, false≢true}
-use Rattle.std.proofs.lemmas.List.{append-nil}
 use Rattle.rh_rts.specs.declared.command.Cookie.{Cookie}
 use Rattle.rh_text.specs.declared.ends.Side.{Side}
 use Rattle.rh_text.specs.declared.ends.Side.TheVariants as side
@@ -19,7 +18,6 @@ use Rattle.rh_nodes.specs.declared.event.Event.{Event}
 use Rattle.rh_nodes.specs.declared.event.Event.TheVariants.{Comes}
 use Rattle.rh_nodes.specs.declared.place.Place.{Place}
 use Rattle.rh_nodes.specs.declared.place.Place.TheVariants.{Absent, Here, Gone}
-use Rattle.rh_nodes.specs.Company as company
 use Rattle.rh_nodes.specs.Company.{Company, Rulebook}
 use Rattle.rh_nodes.specs.Giving.{Deeds}
 use Rattle.rh_nodes.specs.Legs as legs
@@ -30,9 +28,9 @@ use Rattle.rh_nodes.specs.Places.{is_absent, is_working}
 use Rattle.rh_nodes.specs.Wires.{sender, receiver}
 use Rattle.rh_nodes.specs.World.{World, at}
 use Rattle.rh_history.specs.Changes.{Change, IsTold, IsFed, IsDrawn, GoesUp, GoesDown, OpensIn, OpensOut, OpensSame, Gives, Takes, Closes, RecyclesIn, RecyclesOut, MovesTo, Draws, Reports, MayChange, AreAllowed, changed, all_changed, Leads}
-use Rattle.rh_history.specs.Histories.{History, nothing, heard, to_node, told_to, made_by, at_place, acts_by, in_place, out_place, noted, all_noted, WasLetGo, IsRun, AreRuns, IsNew}
+use Rattle.rh_history.specs.Histories.{History, nothing, heard, to_node, told_to, made_by, at_place, acts_by, in_place, out_place, noted, all_noted, IsRun, AreRuns, IsNew}
 use Rattle.rh_history.proofs.Numbers.{asked, put_here, put_elsewhere, changed_here, changes_elsewhere}
-use Rattle.rh_history.proofs.Runs.{end_events_append, end_events_happen, runs_none, run_on, Meets, tell_meets, draw_meets, up_meets}
+use Rattle.rh_history.proofs.Runs.{end_events_append, end_events_happen, runs_none, run_on, tell_meets, draw_meets, up_meets}
 
 -- ---- the place of a proxy
 

@@ -1,12 +1,12 @@
 -- how a role shows that each leg comes up once at a node
-use Rattle.std.proofs.Common.{◌≡◌, ℕ, List, [], ◌∷◌, Bool, true, false, ◌||◌, refl, sym, ap, ◌∙◌, subst, ◌⊎◌, inl, inr, ⊎_elim}
+use Rattle.std.proofs.Common.{◌≡◌, List, [], ◌∷◌, true, false, sym, ◌∙◌, subst, ⊎_elim}
 use Rattle.std.proofs.lemmas.Bool.{true≢false, or_cases}
 use Rattle.rh_rts.specs.declared.command.Cookie.{Cookie}
 use Rattle.rh_line.specs.declared.leg.Leg.{Leg}
 use Rattle.rh_shell.specs.Moving as moving
 use Rattle.rh_shell.specs.Moving.{EndEvent, Happens, IsGiven, IsTaken, IsClosed, IsRecycled, after_event, after_events, after_end_event, after_end_events}
 use Rattle.rh_shell.specs.Rules.{Rules, Acts}
-use Rattle.rh_shell.specs.Shells.{Shell, same_leg, may_up, wants}
+use Rattle.rh_shell.specs.Shells.{Shell, may_up, wants}
 use Rattle.rh_history.specs.Carried.{is_up_of, came_up, happened, IsAccepted, AreAccepted, IsAcceptedAtEnd, AreAcceptedAtEnd, ComesUpOnce, ComesUpOnceAtEnd}
 use Rattle.rh_history.proofs.Wired.{cases_leg}
 

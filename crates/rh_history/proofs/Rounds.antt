@@ -1,6 +1,6 @@
 -- each round of settling is a list of changes, and reports no closed node
-use Rattle.std.proofs.Common.{◌≡◌, ℕ, zero, suc, ◌+◌, List, [], ◌∷◌, Bool, true, false, ◌&&◌, if◌then◌else◌, length, Some, None, refl, sym, ap, ◌∙◌, subst}
-use Rattle.std.specs.Prelude.{nat_le, max}
+use Rattle.std.proofs.Common.{ℕ, zero, suc, ◌+◌, List, [], ◌∷◌, Bool, true, false, ◌&&◌, if◌then◌else◌, length, Some, None, refl}
+use Rattle.std.specs.Prelude.{nat_le}
 use Rattle.std.specs.declared.option.Option.{Option}
 use Rattle.rh_text.specs.declared.ends.Dir.{Dir}
 use Rattle.rh_text.specs.declared.ends.Dir.TheVariants.{U, D}
@@ -19,7 +19,7 @@ use Rattle.rh_nodes.specs.Company.{Rulebook}
 use Rattle.rh_nodes.specs.Giving.{Deeds, take, has_ended}
 use Rattle.rh_nodes.specs.Legs as legs
 use Rattle.rh_nodes.specs.Opening.{Makers, open_leg, open_same, may_open_same}
-use Rattle.rh_nodes.specs.Reports.{and_then, each}
+use Rattle.rh_nodes.specs.Reports.{and_then}
 use Rattle.rh_nodes.specs.Settling.{leg_at, opened, opened_same, open_next, open_next_in, next_number, open_client_outs, open_client_ins, open_out_servers, open_in_servers, open_all, most_bytes, carry_bytes, carried, carry, carry_both, carry_kind, carry_all, took, take_one, take_both, ends_now, ended, end_where, end_one, end_kind, end_all, round, behind_round, rounds_from, settle}
 use Rattle.rh_nodes.specs.World.{World}
 use Rattle.rh_history.specs.Changes.{Takes, Leads}

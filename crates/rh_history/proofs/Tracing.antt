@@ -1,6 +1,6 @@
 -- every change keeps the legs carried, and notes all that was heard
-use Rattle.std.proofs.Common.{◌≡◌, ℕ, List, [], ◌∷◌, ◌++◌, Bool, true, false, ◌&&◌, ◌||◌, if◌then◌else◌, IsTrue, get_or, take, refl, sym, ap, ap₂, ◌∙◌, subst, ◌⊎◌, inl, inr, ⊎_elim, arith}
-use Rattle.std.specs.Prelude.{nat_lt, ◌<◌}
+use Rattle.std.proofs.Common.{◌≡◌, ℕ, List, [], ◌∷◌, ◌++◌, true, false, ◌&&◌, ◌||◌, if◌then◌else◌, IsTrue, get_or, refl, sym, ap, ap₂, ◌∙◌, subst, inl, inr, ⊎_elim, arith}
+use Rattle.std.specs.Prelude.{◌<◌}
 use mathlib.Core.List.{IsPrefix}
 use Rattle.std.proofs.lemmas.Bool.{true≢false, false≢true, cases_eq, cases_Bool, ltb-true, and_parts}
 use Rattle.std.proofs.lemmas.List.{append-nil}
@@ -28,7 +28,7 @@ use Rattle.rh_nodes.specs.Company.{Company, Rulebook}
 use Rattle.rh_nodes.specs.Giving.{Deeds}
 use Rattle.rh_nodes.specs.Halves.{is_same}
 use Rattle.rh_nodes.specs.Legs as legs
-use Rattle.rh_nodes.specs.Numbered.{ask, change, put_at}
+use Rattle.rh_nodes.specs.Numbered.{change}
 use Rattle.rh_nodes.specs.Opening.{Makers, reader_before}
 use Rattle.rh_nodes.specs.Places as places
 use Rattle.rh_nodes.specs.Places.{is_absent}
@@ -37,16 +37,16 @@ use Rattle.rh_nodes.specs.Settling.{leg_at}
 use Rattle.rh_nodes.specs.Wires as wires
 use Rattle.rh_nodes.specs.Wires.{sender, receiver}
 use Rattle.rh_nodes.specs.World.{World, at}
-use Rattle.rh_history.specs.Changes.{Change, may_have, AreAllowed, all_changed, Leads, Turn, after_turns, IsTold, IsFed, IsDrawn, GoesUp, GoesDown, OpensIn, OpensOut, OpensSame, Gives, Takes, Closes, RecyclesIn, RecyclesOut, MovesTo, Draws, Reports, MayChange, StandsAt, HasUp, changed}
-use Rattle.rh_history.specs.Histories.{History, heard, to_node, told_to, made_by, at_place, fed_by, in_place, out_place, noted, all_noted, nothing, IsRun, IsNew, AreRuns}
+use Rattle.rh_history.specs.Changes.{Change, may_have, AreAllowed, all_changed, Leads, Turn, after_turns, IsTold, IsFed, IsDrawn, GoesUp, GoesDown, OpensIn, OpensOut, OpensSame, Gives, Takes, Closes, RecyclesIn, RecyclesOut, MovesTo, Draws, Reports, MayChange, StandsAt, changed}
+use Rattle.rh_history.specs.Histories.{History, heard, to_node, told_to, made_by, at_place, fed_by, in_place, out_place, noted, all_noted, nothing, IsRun, IsNew}
 use Rattle.rh_history.specs.Carriages.{IsCarried}
 use Rattle.rh_history.specs.Carried.{Ledger, carriage, ledger, drawn_by, heard_on, came_up, happened, events_of, wire_at, end_node, AreCarried, IsHeard, AreHeard, LegsComeUpOnce, AllAccepted, IsTraced, HasTrace, is_of_client}
 use Rattle.rh_history.proofs.Appended.{heard_append, happened_more}
 use Rattle.rh_history.proofs.HeardAll.{is_hears, unheard, heard_piece, hear_on, hear_none, hear_leaving, hear_made}
-use Rattle.rh_history.proofs.Ledgers.{is_here, bytes_here, or_false}
+use Rattle.rh_history.proofs.Ledgers.{is_here, or_false}
 use Rattle.rh_history.proofs.Lines.{same_who, leads_turns}
 use Rattle.rh_history.proofs.LegsKept.{kept_quiet, kept_drawn, kept_fed, kept_raised, kept_lowered, kept_opened}
-use Rattle.rh_history.proofs.NodeTraces.{Told, is_draws, is_comes, drawn_of, up_of, AllAccept, silent_drawn, silent_up, silent_accepts, none_drawn, none_up, none_accepts, drawn_there, up_there, up_accepts, drawn_more, up_more, accepted_more, never_up, may_come, in_may}
+use Rattle.rh_history.proofs.NodeTraces.{is_draws, is_comes, drawn_of, up_of, AllAccept, silent_drawn, silent_up, silent_accepts, none_drawn, none_up, none_accepts, drawn_there, up_there, up_accepts, drawn_more, up_more, accepted_more, never_up, may_come, in_may}
 use Rattle.rh_history.proofs.Noting.{absent_is, begins, change_is_noted}
 use Rattle.rh_history.proofs.Numbers.{asked, put_elsewhere, changed_here, changes_elsewhere}
 use Rattle.rh_history.proofs.Runs.{Runs, Meets, tell_meets, draw_meets, up_meets}
