@@ -38,7 +38,8 @@ pub or_right : (a b : Bool) → b ≡ true → (a || b) ≡ true
 or_right true b h = refl
 or_right false b h = h
 
--- the node at one end wants the leg, and the one at the other may have it up, or the other way round
+-- the node at one end wants the leg, and the one at the other may have it up, or the other way
+-- round
 wanted : (a b c d : Bool) → (a && b || c && d) ≡ true
     → (IsTrue (d || a)) × (IsTrue (b || c))
 wanted true true c d h = (or_right d true refl, refl)

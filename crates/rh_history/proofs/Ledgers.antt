@@ -259,7 +259,8 @@ module _ (g new : Ledger) (all : Legs) (readers : List ℕ) (each : Each g all r
 
     -- ---- an end goes up, or down
 
-    module _ (end : Side) (d : (node : Who) (other : Leg) → new.drawn node other ≡ g.drawn node other)
+    module _ (end : Side)
+        (d : (node : Who) (other : Leg) → new.drawn node other ≡ g.drawn node other)
         (h : (node : Who) (other : Leg) → new.fed node other ≡ g.fed node other) where
       module _ (first : g.was_up (end_node readers leg end) leg ≡ false)
           (u : (node : Who) (other : Leg) → new.was_up node other

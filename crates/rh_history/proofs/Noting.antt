@@ -114,7 +114,8 @@ module _ {S : Type 0} (rules : Rules S) where
           subst (λ (p : Place S). IsRun rules (make k) events p) absent h in
           subst (λ (q : Place S). Made make now k events (get_or list k Absent) (k == k) q)
           (sym (put_here Absent list k (made_at make k now)))
-          (subst (λ (b : Bool). Made make now k events (get_or list k Absent) b (made_at make k now))
+          (subst (λ (b : Bool). Made make now k events (get_or list k Absent) b
+          (made_at make k now))
           (sym (eq-eqb k k refl))
           (subst (λ (p : Place S). Made make now k events p true (made_at make k now)) (sym absent)
           (subst (λ (es : List moving.Event). Made make now k es Absent true (made_at make k now))

@@ -1,34 +1,36 @@
 -- how a role shows that each leg comes up once at a node
-use Rattle.std.proofs.Common.{◌≡◌, List, [], ◌∷◌, true, false, sym, ◌∙◌, subst, ⊎_elim}
-use Rattle.std.proofs.lemmas.Bool.{true≢false, or_cases}
+use Rattle.std.proofs.Common.{◌≡◌, List, [], ◌∷◌, ◌++◌, true, false, ◌&&◌, refl, sym, ap, ◌∙◌, subst, ⊎_elim}
+use Rattle.std.proofs.lemmas.Bool.{true≢false, or_cases, and_parts, and_from}
 use Rattle.rh_rts.specs.declared.command.Cookie.{Cookie}
 use Rattle.rh_line.specs.declared.leg.Leg.{Leg}
 use Rattle.rh_shell.specs.Moving as moving
 use Rattle.rh_shell.specs.Moving.{EndEvent, Happens, IsGiven, IsTaken, IsClosed, IsRecycled, after_event, after_events, after_end_event, after_end_events}
 use Rattle.rh_shell.specs.Rules.{Rules, Acts}
-use Rattle.rh_shell.specs.Shells.{Shell, may_up, wants}
-use Rattle.rh_history.specs.Carried.{is_up_of, came_up, happened, IsAccepted, AreAccepted, IsAcceptedAtEnd, AreAcceptedAtEnd, ComesUpOnce, ComesUpOnceAtEnd}
+use Rattle.rh_shell.specs.Shells.{Shell, has_room, is_working, may_up, wants}
+use Rattle.rh_history.specs.Carried.{is_up_of, came_up, happened, IsAccepted, AreAccepted, IsAcceptedAtEnd, AreAcceptedAtEnd, ComesUpOnce, ComesUpOnceAtEnd, RemembersLegs, RemembersLegsAtEnd}
+use Rattle.rh_history.proofs.Ledgers.{and_false}
+use Rattle.rh_history.proofs.Runs.{events_append, end_events_append}
 use Rattle.rh_history.proofs.Wired.{cases_leg}
 
 -- what holds of a node, and what of a leg that came up there
-pub record KeepsLegs {S : Type 0} (rules : Rules S) (Holds : Shell S → Type 0)
+record KeepsLegs {S : Type 0} (rules : Rules S) (Holds : Shell S → Type 0)
     (WasUp : Shell S → Leg → Type 0) : Type 0 where
-  pub holds : (s : Shell S) (event : moving.Event) → Holds s → IsAccepted rules s event
+  holds : (s : Shell S) (event : moving.Event) → Holds s → IsAccepted rules s event
       → Holds (after_event rules s event)
-  pub stays : (s : Shell S) (event : moving.Event) (leg : Leg) → Holds s
+  stays : (s : Shell S) (event : moving.Event) (leg : Leg) → Holds s
       → IsAccepted rules s event → WasUp s leg → WasUp (after_event rules s event) leg
-  pub up : (s : Shell S) (leg : Leg) (cookie : Cookie) → Holds s → may_up rules s leg ≡ true
+  up : (s : Shell S) (leg : Leg) (cookie : Cookie) → Holds s → may_up rules s leg ≡ true
       → WasUp (after_event rules s (moving.ComesUp leg cookie)) leg
-  pub once : (s : Shell S) (leg : Leg) → Holds s → WasUp s leg → may_up rules s leg ≡ false
-  pub wanted : (s : Shell S) (leg : Leg) → Holds s → wants rules s leg ≡ true
+  once : (s : Shell S) (leg : Leg) → Holds s → WasUp s leg → may_up rules s leg ≡ false
+  wanted : (s : Shell S) (leg : Leg) → Holds s → wants rules s leg ≡ true
       → may_up rules s leg ≡ true
 
 -- the acts of an end keep it
-pub record ActsKeepLegs {S : Type 0} (rules : Rules S) (acts : Acts S)
+record ActsKeepLegs {S : Type 0} (rules : Rules S) (acts : Acts S)
     (Holds : Shell S → Type 0) (WasUp : Shell S → Leg → Type 0) : Type 0 where
-  pub holds : (s : Shell S) (event : EndEvent) → Holds s → IsAcceptedAtEnd rules s event
+  holds : (s : Shell S) (event : EndEvent) → Holds s → IsAcceptedAtEnd rules s event
       → Holds (after_end_event rules acts s event)
-  pub stays : (s : Shell S) (event : EndEvent) (leg : Leg) → Holds s
+  stays : (s : Shell S) (event : EndEvent) (leg : Leg) → Holds s
       → IsAcceptedAtEnd rules s event → WasUp s leg
       → WasUp (after_end_event rules acts s event) leg
 
@@ -71,7 +73,7 @@ module _ {S : Type 0} (rules : Rules S) (Holds : Shell S → Type 0)
       (λ later. came_was (after_event rules s event) events leg (k.holds s event h a.0) a.1 later)
       (or_cases (is_up_of leg event) (came_up leg events) e)
 
-  pub comes_up_once : (first : Shell S) → Holds first → ComesUpOnce rules first
+  comes_up_once : (first : Shell S) → Holds first → ComesUpOnce rules first
   comes_up_once first h = record {
     wanted = λ events leg a e.
         k.wanted (after_events rules first events) leg (holds_all first events h a) e;
@@ -118,7 +120,7 @@ module _ {S : Type 0} (rules : Rules S) (Holds : Shell S → Type 0)
         end_came_was (after_end_event rules acts s IsRecycled) events leg
         (j.holds s IsRecycled h a.0) a.1 e
 
-    pub comes_up_once_at_end : (first : Shell S) → Holds first
+    comes_up_once_at_end : (first : Shell S) → Holds first
         → ComesUpOnceAtEnd rules acts first
     comes_up_once_at_end first h = record {
       wanted = λ events leg a e.
@@ -128,3 +130,74 @@ module _ {S : Type 0} (rules : Rules S) (Holds : Shell S → Type 0)
           k.once (after_end_events rules acts first events) leg (end_holds_all first events h a)
           (end_came_was first events leg h a e);
     }
+
+-- ---- a role that knows the legs that were up
+
+module _ {S : Type 0} (rules : Rules S) where
+  abbrev Was : Shell S → Leg → Type 0
+  Was s leg = rules.was_up s.role leg ≡ true
+
+  not_again : (s : Shell S) (leg : Leg) → rules.may_up s.role leg ≡ false
+      → may_up rules s leg ≡ false
+  not_again s leg e =
+      and_false (is_working rules s) (has_room rules s leg.kind && rules.may_up s.role leg)
+      (and_false (has_room rules s leg.kind) (rules.may_up s.role leg) e)
+
+  wanted_may : (s : Shell S) (leg : Leg)
+      → (rules.wants s.role leg ≡ true → rules.may_up s.role leg ≡ true)
+      → wants rules s leg ≡ true → may_up rules s leg ≡ true
+  wanted_may s leg may e =
+      let a = and_parts (is_working rules s) (has_room rules s leg.kind && rules.wants s.role leg)
+      e in
+      let b = and_parts (has_room rules s leg.kind) (rules.wants s.role leg) a.1 in
+      and_from (is_working rules s) (has_room rules s leg.kind && rules.may_up s.role leg) a.0
+      (and_from (has_room rules s leg.kind) (rules.may_up s.role leg) b.0 (may b.1))
+
+  -- the nodes that are reached from the first
+  abbrev Reached : Shell S → Shell S → Type 0
+  Reached first s = (events : List moving.Event) × (after_events rules first events ≡ s)
+
+  pub once_remembered : (first : Shell S) → RemembersLegs rules first
+      → ComesUpOnce rules first
+  once_remembered first k = comes_up_once rules (Reached first) Was (record {
+    holds = λ s event h a. (
+      h.0 ++ event ∷ [],
+      events_append rules first h.0 (event ∷ []) ∙ ap (λ (x : Shell S). after_event rules x event)
+          h.1,
+    );
+    stays = λ s event leg h a. subst (λ (x : Shell S). Was x leg
+        → Was (after_event rules x event) leg) h.1 (k.stays h.0 (event ∷ []) leg);
+    up = λ s leg cookie h. subst (λ (x : Shell S). may_up rules x leg ≡ true
+        → Was (after_event rules x (moving.ComesUp leg cookie)) leg) h.1 (k.comes h.0 leg cookie);
+    once = λ s leg h up. not_again s leg (subst (λ (x : Shell S). Was x leg
+        → rules.may_up x.role leg ≡ false) h.1 (k.once h.0 leg) up);
+    wanted = λ s leg h. wanted_may s leg (k.wanted s.role leg);
+  }) first ([], refl)
+
+  abbrev ReachedAtEnd : Acts S → Shell S → Shell S → Type 0
+  ReachedAtEnd acts first s =
+      (events : List EndEvent) × (after_end_events rules acts first events ≡ s)
+
+  module _ (acts : Acts S) (first : Shell S) (k : RemembersLegsAtEnd rules acts first) where
+    acts_keep : ActsKeepLegs rules acts (ReachedAtEnd acts first) Was
+    acts_keep = record {
+      holds = λ s event h a. (
+        h.0 ++ event ∷ [],
+        end_events_append rules acts first h.0 (event ∷ [])
+            ∙ ap (λ (x : Shell S). after_end_event rules acts x event) h.1,
+      );
+      stays = λ s event leg h a. subst (λ (x : Shell S). Was x leg
+          → Was (after_end_event rules acts x event) leg) h.1 (k.stays h.0 (event ∷ []) leg);
+    }
+
+    pub once_remembered_at_end : ComesUpOnceAtEnd rules acts first
+    once_remembered_at_end = comes_up_once_at_end rules (ReachedAtEnd acts first) Was (record {
+      holds = λ s event h a. acts_keep.holds s (Happens event) h a;
+      stays = λ s event leg h a. acts_keep.stays s (Happens event) leg h a;
+      up = λ s leg cookie h. subst (λ (x : Shell S). may_up rules x leg ≡ true
+          → Was (after_event rules x (moving.ComesUp leg cookie)) leg) h.1
+          (k.comes h.0 leg cookie);
+      once = λ s leg h up. not_again s leg (subst (λ (x : Shell S). Was x leg
+          → rules.may_up x.role leg ≡ false) h.1 (k.once h.0 leg) up);
+      wanted = λ s leg h. wanted_may s leg (k.wanted s.role leg);
+    }) acts acts_keep first ([], refl)

@@ -58,22 +58,26 @@ module _ (d f : List ℕ) (p t : Bool) (w : Wire) where
       → IsCarried (seen d f p t (lower end w) dir)
   seen_down Client U up k = by w.server
     where
-      by : (b : Bool) → IsCarried (seen d f p t (if b then record w { client = false } else blank) U)
+      by : (b : Bool)
+          → IsCarried (seen d f p t (if b then record w { client = false } else blank) U)
       by true = carry_down_put (seen d f p t w U) k up
       by false = carry_lost (seen d f p t w U) k (inl up)
   seen_down Client D up k = by w.server
     where
-      by : (b : Bool) → IsCarried (seen d f p t (if b then record w { client = false } else blank) D)
+      by : (b : Bool)
+          → IsCarried (seen d f p t (if b then record w { client = false } else blank) D)
       by true = carry_down_take (seen d f p t w D) k up
       by false = carry_lost (seen d f p t w D) k (inr up)
   seen_down Server U up k = by w.client
     where
-      by : (b : Bool) → IsCarried (seen d f p t (if b then record w { server = false } else blank) U)
+      by : (b : Bool)
+          → IsCarried (seen d f p t (if b then record w { server = false } else blank) U)
       by true = carry_down_take (seen d f p t w U) k up
       by false = carry_lost (seen d f p t w U) k (inr up)
   seen_down Server D up k = by w.client
     where
-      by : (b : Bool) → IsCarried (seen d f p t (if b then record w { server = false } else blank) D)
+      by : (b : Bool)
+          → IsCarried (seen d f p t (if b then record w { server = false } else blank) D)
       by true = carry_down_put (seen d f p t w D) k up
       by false = carry_lost (seen d f p t w D) k (inl up)
 

@@ -37,6 +37,7 @@ use Rattle.rh_nodes.specs.Settling.{leg_at}
 use Rattle.rh_nodes.specs.Wires as wires
 use Rattle.rh_nodes.specs.Wires.{sender, receiver}
 use Rattle.rh_nodes.specs.World.{World, at}
+use Rattle.rh_order.proofs.Prefixes.{prefix_trans}
 use Rattle.rh_history.specs.Changes.{Change, may_have, AreAllowed, all_changed, Leads, Turn, after_turns, IsTold, IsFed, IsDrawn, GoesUp, GoesDown, OpensIn, OpensOut, OpensSame, Gives, Takes, Closes, RecyclesIn, RecyclesOut, MovesTo, Draws, Reports, MayChange, StandsAt, changed}
 use Rattle.rh_history.specs.Histories.{History, heard, to_node, told_to, made_by, at_place, fed_by, in_place, out_place, noted, all_noted, nothing, IsRun, IsNew}
 use Rattle.rh_history.specs.Carriages.{IsCarried}
@@ -553,8 +554,8 @@ module _ {K C S I O : Type 0} (r : Rulebook C S I O) (m : Makers K I O) (d : Dee
   traces (OpensSame n cookie) may = traces_open_same n cookie may
   traces (Gives side.Client pdu) may = record {
     accepts = silent_accepts r w.company;
-    carried = quiet_carried (Gives side.Client pdu) (silent_drawn r w.company) (λ other beside. refl)
-        (silent_up r w.company);
+    carried = quiet_carried (Gives side.Client pdu) (silent_drawn r w.company)
+        (λ other beside. refl) (silent_up r w.company);
     hears = record {
       client = λ other. refl;
       server = λ other. refl;
@@ -565,8 +566,8 @@ module _ {K C S I O : Type 0} (r : Rulebook C S I O) (m : Makers K I O) (d : Dee
   }
   traces (Gives side.Server pdu) may = record {
     accepts = silent_accepts r w.company;
-    carried = quiet_carried (Gives side.Server pdu) (silent_drawn r w.company) (λ other beside. refl)
-        (silent_up r w.company);
+    carried = quiet_carried (Gives side.Server pdu) (silent_drawn r w.company)
+        (λ other beside. refl) (silent_up r w.company);
     hears = record {
       client = λ other. refl;
       server = λ other. refl;
@@ -845,6 +846,41 @@ module _ {K C S I O : Type 0} (r : Rulebook C S I O) (m : Makers K I O) (d : Dee
       (t.heard.outs n leg) none (λ absent. ap (heard_on leg)
       (subst (λ (p : Place O). IsRun r.out_proxy (m.out_proxy w.cast n) (h.outs n) p) absent
       (t.runs.outs n)))
+
+  -- what is heard is a front of what was fed
+  heard_front : {T : Type 0} (p : Place T) (heard fed : List ℕ) → IsHeard p heard fed
+      → (p ≡ Absent → heard ≡ []) → IsPrefix heard fed
+  heard_front Absent heard fed k absent =
+      (fed, ap (λ x. x ++ fed) (absent refl))
+  heard_front (Here node legs) heard fed k absent = ([], append-nil heard ∙ k)
+  heard_front (Gone now) heard fed k absent = k
+
+  fed_front : (node : Who) (leg : Leg)
+      → IsPrefix (heard_on leg (events_of h node)) (h.fed node leg)
+  fed_front Client leg =
+      ([], append-nil (heard_on leg (events_of h Client)) ∙ t.heard.client leg)
+  fed_front Server leg =
+      ([], append-nil (heard_on leg (events_of h Server)) ∙ t.heard.server leg)
+  fed_front (In n) leg =
+      heard_front (in_place w.company n) (heard_on leg (h.ins n)) (h.fed (In n) leg)
+      (t.heard.ins n leg) (λ absent. ap (heard_on leg)
+      (subst (λ (p : Place I). IsRun r.in_proxy (m.in_proxy w.cast n) (h.ins n) p) absent
+      (t.runs.ins n)))
+  fed_front (Out n) leg =
+      heard_front (out_place w.company n) (heard_on leg (h.outs n)) (h.fed (Out n) leg)
+      (t.heard.outs n leg) (λ absent. ap (heard_on leg)
+      (subst (λ (p : Place O). IsRun r.out_proxy (m.out_proxy w.cast n) (h.outs n) p) absent
+      (t.runs.outs n)))
+
+  pub heard_was_drawn : (leg : Leg) (dir : Dir)
+      → IsPrefix (heard_on leg (events_of h (end_node w.readers leg (receiver dir))))
+      (drawn_by r m d first w.cast h (end_node w.readers leg (sender dir)) leg)
+  heard_was_drawn leg dir =
+      let from = end_node w.readers leg (sender dir) in
+      let to = end_node w.readers leg (receiver dir) in
+      prefix_trans (heard_on leg (events_of h to)) (h.fed to leg)
+      (drawn_by r m d first w.cast h from leg) (fed_front to leg)
+      (t.carried.each leg dir).wire.in_order
 
   pub elsewhere : (node : Who) (leg : Leg)
       → ((end : Side) → end_node w.readers leg end ≡ node → ⊥)

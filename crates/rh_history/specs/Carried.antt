@@ -1,8 +1,9 @@
--- what each leg carried: the bytes that its nodes drew and heard there by their histories, and those
--- that are in flight (profile)
+-- what each leg carried: the bytes that its nodes drew and heard there by their histories, and
+-- those that are in flight (profile)
 use Rattle.std.specs.Prelude.{◌≡◌, ◌≢◌, ◌++◌, ℕ, List, [], ◌∷◌, Bool, true, false, IsTrue, if◌then◌else◌, get_or}
 use mathlib.Core.List.{IsPrefix}
 use Rattle.std.specs.List.{list_any}
+use Rattle.rh_rts.specs.declared.command.Cookie.{Cookie}
 use Rattle.rh_text.specs.declared.ends.Dir.{Dir}
 use Rattle.rh_text.specs.declared.ends.Side.{Side}
 use Rattle.rh_line.specs.declared.leg.Leg.{Leg}
@@ -204,6 +205,37 @@ pub record ComesUpOnceAtEnd {S : Type 0} (rules : Rules S) (acts : Acts S) (firs
   pub once : (events : List EndEvent) (leg : Leg) → AreAcceptedAtEnd rules acts first events
       → came_up leg (happened events) ≡ true
       → may_up rules (after_end_events rules acts first events) leg ≡ false
+
+-- how a role sees to that: it knows the legs that were up, and keeps them so
+pub record RemembersLegs {S : Type 0} (rules : Rules S) (first : Shell S) : Type 0 where
+  pub comes : (events : List moving.Event) (leg : Leg) (cookie : Cookie)
+      → may_up rules (after_events rules first events) leg ≡ true
+      → rules.was_up (after_event rules (after_events rules first events)
+      (moving.ComesUp leg cookie)).role leg ≡ true
+  pub stays : (events later : List moving.Event) (leg : Leg)
+      → rules.was_up (after_events rules first events).role leg ≡ true
+      → rules.was_up (after_events rules (after_events rules first events) later).role leg ≡ true
+  pub once : (events : List moving.Event) (leg : Leg)
+      → rules.was_up (after_events rules first events).role leg ≡ true
+      → rules.may_up (after_events rules first events).role leg ≡ false
+  pub wanted : (role : S) (leg : Leg) → rules.wants role leg ≡ true
+      → rules.may_up role leg ≡ true
+
+pub record RemembersLegsAtEnd {S : Type 0} (rules : Rules S) (acts : Acts S) (first : Shell S)
+    : Type 0 where
+  pub comes : (events : List EndEvent) (leg : Leg) (cookie : Cookie)
+      → may_up rules (after_end_events rules acts first events) leg ≡ true
+      → rules.was_up (after_event rules (after_end_events rules acts first events)
+      (moving.ComesUp leg cookie)).role leg ≡ true
+  pub stays : (events later : List EndEvent) (leg : Leg)
+      → rules.was_up (after_end_events rules acts first events).role leg ≡ true
+      → rules.was_up (after_end_events rules acts (after_end_events rules acts first events)
+      later).role leg ≡ true
+  pub once : (events : List EndEvent) (leg : Leg)
+      → rules.was_up (after_end_events rules acts first events).role leg ≡ true
+      → rules.may_up (after_end_events rules acts first events).role leg ≡ false
+  pub wanted : (role : S) (leg : Leg) → rules.wants role leg ≡ true
+      → rules.may_up role leg ≡ true
 
 abbrev pub is_of_client : LegKind → Bool
 is_of_client ClientOut = true

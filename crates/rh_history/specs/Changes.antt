@@ -1,5 +1,5 @@
--- what really happens to a world of roles: small changes, of which each line, each round of settling
--- and each half step is a list (profile)
+-- what really happens to a world of roles: small changes, of which each line, each round of
+-- settling and each half step is a list (profile)
 use Rattle.std.specs.Prelude.{◌≡◌, ◌≤◌, ◌||◌, ◌⊎◌, ℕ, List, [], ◌∷◌, Bool, true, IsTrue, nat_lt}
 use Rattle.rh_rts.specs.declared.command.Cookie.{Cookie}
 use Rattle.rh_text.specs.declared.ends.Dir.{Dir}

@@ -114,7 +114,8 @@ noted w h change = record {
   client = h.client ++ (map Happens (told_to w change who.Client) ++ acts_by change side.Client);
   server = h.server ++ (map Happens (told_to w change who.Server) ++ acts_by change side.Server);
   ins = λ n. h.ins n
-      ++ at_place (in_place w.company n) (told_to w change (who.In n)) (made_by w change (who.In n));
+      ++ at_place (in_place w.company n) (told_to w change (who.In n))
+      (made_by w change (who.In n));
   outs = λ n. h.outs n
       ++ at_place (out_place w.company n) (told_to w change (who.Out n))
       (made_by w change (who.Out n));

@@ -14,6 +14,7 @@ pub use closes::{
 };
 pub use histories::{a_recording_begins_new, each_node_is_what_its_history_made};
 pub use legs::{
-    a_leg_is_read_at_its_ends, a_leg_that_is_up_loses_nothing, a_recording_is_traced,
-    legs_are_carried,
+    a_leg_is_read_at_its_ends, a_leg_that_is_remembered_comes_up_once,
+    a_leg_that_is_up_loses_nothing, a_recording_is_traced, legs_are_carried,
+    what_is_heard_was_drawn,
 };
