@@ -257,6 +257,12 @@ module _ {C S I O : Type 0} (r : Rulebook C S I O) (why : Cause) where
       answered Absent (places.tell r.out_proxy event) None refl c.outs n
       ∙ place_silent r.out_proxy why event (out_place c n) h
 
+state_names : (why : Cause) (course : Course) (p : Phase) → ClosedWith why course
+    → state_by course p ≡ state.Closed why
+state_names why Going p h = absurd h
+state_names why (Closed first) p h = ap state.Closed h
+state_names why (Refusing first leg rest) p h = ap state.Closed h
+
 -- ---- the acts of an end
 
 module _ {S : Type 0} (rules : Rules S) (acts : Acts S) (why : Cause) where
@@ -293,12 +299,6 @@ module _ {S : Type 0} (rules : Rules S) (acts : Acts S) (why : Cause) where
   recycle_by s Going h = absurd h
   recycle_by s (Closed first) h = refl
   recycle_by s (Refusing first leg rest) h = refl
-
-  state_is : (course : Course) (p : Phase) → ClosedWith why course
-      → state_by course p ≡ state.Closed why
-  state_is Going p h = absurd h
-  state_is (Closed first) p h = ap state.Closed h
-  state_is (Refusing first leg rest) p h = ap state.Closed h
 
   -- nothing that its end does changes it
   kept : (s t : Shell S) → t ≡ s → ClosedWith why s.course → ClosedWith why t.course
@@ -468,7 +468,7 @@ module _ {K C S I O : Type 0} (r : Rulebook C S I O) (d : Deeds C S) where
       → ClientTells r d w why
   client_tells w why h =
       let s = w.company.client in
-      let is = state_is r.client d.client why s.course (r.client.phase s.role) h in
+      let is = state_names why s.course (r.client.phase s.role) h in
       record {
         is = is;
         give = λ pdu. ap (λ (did : Shell C × Result (Unit {0}) GiveFault).
@@ -485,7 +485,7 @@ module _ {K C S I O : Type 0} (r : Rulebook C S I O) (d : Deeds C S) where
       → ServerTells r d w why
   server_tells w why h =
       let s = w.company.server in
-      let is = state_is r.server d.server why s.course (r.server.phase s.role) h in
+      let is = state_names why s.course (r.server.phase s.role) h in
       record {
         is = is;
         give = λ pdu. ap (λ (did : Shell S × Result (Unit {0}) GiveFault).
@@ -497,3 +497,11 @@ module _ {K C S I O : Type 0} (r : Rulebook C S I O) (d : Deeds C S) where
             (recycle_by r.server d.server why s s.course h);
         last = ap (λ st. last_with side.Server st (d.server.channels s.role)) is;
       }
+
+-- ---- a closed proxy
+
+pub place_tells : {S : Type 0} (rules : Rules S) (why : Cause) (p : Place S) (node : Shell S)
+    (legs : ℕ) → ClosedPlace why p → p ≡ Here node legs → state_of rules node ≡ state.Closed why
+place_tells {S} rules why p node legs h e =
+    state_names why node.course (rules.phase node.role)
+    (subst (λ (q : Place S). ClosedPlace why q) e h)

@@ -1,14 +1,17 @@
 //! Which nodes closed, and what closed them. These functions do nothing: their contracts are the
 //! laws.
 
-ghost use Rattle.std.specs.Prelude.{◌≡◌, ◌≤◌, List, [], None, Some};
+ghost use Rattle.std.specs.Prelude.{◌≡◌, ◌≤◌, ℕ, List, [], None, Some};
 ghost use Rattle.rh_line.specs.declared.cause.Cause.{Cause};
 ghost use Rattle.rh_record.specs.declared.answer.Answer.TheVariants.{NodeClosed};
 ghost use Rattle.rh_record.specs.declared.answer.Who.{Who};
-ghost use Rattle.rh_record.specs.declared.answer.Who.TheVariants.{Client, Server};
+ghost use Rattle.rh_line.specs.declared.state.State.TheVariants.{Closed};
+ghost use Rattle.rh_record.specs.declared.answer.Who.TheVariants.{Client, In, Out, Server};
 ghost use Rattle.rh_record.specs.declared.line.Line.{Line};
+ghost use Rattle.rh_shell.specs.Shells.{Shell, state_of};
 ghost use Rattle.rh_nodes.specs.declared.event.Event.{Event};
 ghost use Rattle.rh_nodes.specs.declared.half.Half.{Half};
+ghost use Rattle.rh_nodes.specs.declared.place.Place.TheVariants.{Here};
 ghost use Rattle.rh_nodes.specs.Company.{Company, Rulebook, tell};
 ghost use Rattle.rh_nodes.specs.Giving.{Deeds};
 ghost use Rattle.rh_nodes.specs.Halves.{half};
@@ -18,6 +21,7 @@ ghost use Rattle.rh_nodes.specs.World.{World};
 ghost use Rattle.rh_history.specs.Changes.{Change, Leads, MayChange, changed};
 ghost use Rattle.rh_history.specs.Closes.{ClientTells, HasClosed, IsOneOf, LineCloses, ServerTells};
 ghost use Rattle.rh_history.specs.Closes.{closings_of};
+ghost use Rattle.rh_history.specs.Histories.{in_place, out_place};
 
 /// A node that a line reports as closed was told something by one of the changes of that line, and
 /// that closed it with the cause that is reported. Behind a line or a half step nothing is left to
@@ -64,4 +68,14 @@ pub fn a_closed_end_tells_its_cause<K, C, S, I, O>()
         → HasClosed w.company Client why → ClientTells r d w why }
     ensures server { (r : Rulebook C S I O) (d : Deeds C S) (w : World K C S I O) (why : Cause)
         → HasClosed w.company Server why → ServerTells r d w why }
+{}
+
+/// So does the state of a proxy that closed, until it is let go.
+pub fn a_closed_proxy_names_its_cause<C, S, I, O>()
+    ensures in_proxy { (r : Rulebook C S I O) (c : Company C S I O) (number : ℕ) (why : Cause)
+        (node : Shell I) (legs : ℕ) → HasClosed c (In number) why
+        → in_place c number ≡ Here node legs → state_of r.in_proxy node ≡ Closed why }
+    ensures out_proxy { (r : Rulebook C S I O) (c : Company C S I O) (number : ℕ) (why : Cause)
+        (node : Shell O) (legs : ℕ) → HasClosed c (Out number) why
+        → out_place c number ≡ Here node legs → state_of r.out_proxy node ≡ Closed why }
 {}

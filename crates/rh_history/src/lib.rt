@@ -9,8 +9,8 @@ pub mod legs;
 
 pub use changing::{a_half_step_is_changes, a_line_is_changes, lines_are_changes};
 pub use closes::{
-    a_closed_end_tells_its_cause, a_node_closes_once, a_node_is_reported_closed_once,
-    what_is_reported_closed_was_closed,
+    a_closed_end_tells_its_cause, a_closed_proxy_names_its_cause, a_node_closes_once,
+    a_node_is_reported_closed_once, what_is_reported_closed_was_closed,
 };
 pub use histories::{a_recording_begins_new, each_node_is_what_its_history_made};
 pub use legs::{
