@@ -10,8 +10,8 @@ use Rattle.rh_nodes.specs.Giving.{Deeds}
 use Rattle.rh_nodes.specs.Opening.{Makers}
 use Rattle.rh_nodes.specs.Reports.{and_then, each}
 use Rattle.rh_nodes.specs.World.{World}
-use Rattle.rh_history.specs.Changes.{Leads}
-use Rattle.rh_history.proofs.Leading.{leads_none, leads_then}
+use Rattle.rh_history.specs.Changes.{Works}
+use Rattle.rh_history.proofs.Working.{works_none, works_then}
 
 -- it tells of something else than a closed node
 abbrev pub is_other : Answer → Bool
@@ -20,24 +20,24 @@ is_other one = true
 
 module _ {K C S I O : Type 0} (r : Rulebook C S I O) (m : Makers K I O) (d : Deeds C S) where
   pub record Goes (w : World K C S I O) (did : World K C S I O × List Answer) : Type 0 where
-    pub leads : Leads r m d w did.0
+    pub works : Works r m d w did.0
     pub others : list_all is_other did.1 ≡ true
 
-  pub goes_quiet : (w v : World K C S I O) → Leads r m d w v → Goes w (v, [])
-  goes_quiet w v a = record { leads = a; others = refl }
+  pub goes_quiet : (w v : World K C S I O) → Works r m d w v → Goes w (v, [])
+  goes_quiet w v a = record { works = a; others = refl }
 
   pub goes_none : (w : World K C S I O) → Goes w (w, [])
-  goes_none w = goes_quiet w w (leads_none r m d w)
+  goes_none w = goes_quiet w w (works_none r m d w)
 
-  pub goes_one : (w v : World K C S I O) (one : Answer) → Leads r m d w v → is_other one ≡ true
+  pub goes_one : (w v : World K C S I O) (one : Answer) → Works r m d w v → is_other one ≡ true
       → Goes w (v, one ∷ [])
-  goes_one w v one a other = record { leads = a; others = and_from (is_other one) true other refl }
+  goes_one w v one a other = record { works = a; others = and_from (is_other one) true other refl }
 
   pub goes_and_then : (w : World K C S I O) (did : World K C S I O × List Answer)
       (act : World K C S I O → World K C S I O × List Answer) → Goes w did
       → ((v : World K C S I O) → Goes v (act v)) → Goes w (and_then did act)
   goes_and_then w did act a b = record {
-    leads = leads_then r m d w did.0 (act did.0).0 a.leads (b did.0).leads;
+    works = works_then r m d w did.0 (act did.0).0 a.works (b did.0).works;
     others =
         list_all-append is_other did.1 (act did.0).1
         ∙ and_from (list_all is_other did.1) (list_all is_other (act did.0).1) a.others

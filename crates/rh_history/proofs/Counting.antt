@@ -247,13 +247,13 @@ module _ {K C S I O : Type 0} (r : Rulebook C S I O) (m : Makers K I O) (d : Dee
   line_stands one w none closed =
       let start = none_stand w none in
       leads_keep r m d (Stands 0) (stands_on 0) w (step_line r m d one w).0
-      (goes_step_line r m d one w).leads (omega (arith, start), closed)
+      (goes_step_line r m d one w).works.leads (omega (arith, start), closed)
 
   line_counted : (one : Line) (w : World K C S I O) → w.closed ≡ []
       → IsCounted (step_line r m d one w).0
   line_counted one w none =
       leads_keep r m d IsCounted counted_on w (step_line r m d one w).0
-      (goes_step_line r m d one w).leads (inl (none_stand w none))
+      (goes_step_line r m d one w).works.leads (inl (none_stand w none))
 
   -- ---- recordings
 

@@ -13,23 +13,19 @@ module _ {K C S I O : Type 0} (r : Rulebook C S I O) (m : Makers K I O) (d : Dee
   changed_append w [] ds = refl
   changed_append w (c ∷ cs) ds = changed_append (changed r m d w c) cs ds
 
-  allowed_append : (w : World K C S I O) (cs ds : List Change) → AreAllowed r m d w cs
+  pub allowed_append : (w : World K C S I O) (cs ds : List Change) → AreAllowed r m d w cs
       → AreAllowed r m d (all_changed r m d w cs) ds → AreAllowed r m d w (cs ++ ds)
   allowed_append w [] ds a b = b
   allowed_append w (c ∷ cs) ds a b = (a.0, allowed_append (changed r m d w c) cs ds a.1 b)
 
-  -- to the world behind something that was done or refused
-  abbrev pub LeadsOk : World K C S I O → World K C S I O × Bool → Type 0
-  LeadsOk w did = Leads r m d w did.0
-
-  pub leads_none : (w : World K C S I O) → Leads r m d w w
+  abbrev pub leads_none : (w : World K C S I O) → Leads r m d w w
   leads_none w = record { changes = []; allowed = tt; reached = refl }
 
-  pub leads_one : (w : World K C S I O) (change : Change) → MayChange r w change
+  abbrev pub leads_one : (w : World K C S I O) (change : Change) → MayChange r w change
       → Leads r m d w (changed r m d w change)
   leads_one w change may = record { changes = change ∷ []; allowed = (may, tt); reached = refl }
 
-  pub leads_then : (w v u : World K C S I O) → Leads r m d w v → Leads r m d v u
+  abbrev pub leads_then : (w v u : World K C S I O) → Leads r m d w v → Leads r m d v u
       → Leads r m d w u
   leads_then w v u a b = record {
     changes = a.changes ++ b.changes;
@@ -46,16 +42,6 @@ module _ {K C S I O : Type 0} (r : Rulebook C S I O) (m : Makers K I O) (d : Dee
       → MayChange r v change → Leads r m d w (changed r m d v change)
   leads_more w v change a may =
       leads_then w v (changed r m d v change) a (leads_one v change may)
-
-  -- ---- something done for each number
-
-  pub leads_for_each : (n : ℕ) (act : ℕ → World K C S I O → World K C S I O)
-      (w : World K C S I O) → ((k : ℕ) (v : World K C S I O) → Leads r m d v (act k v))
-      → Leads r m d w (for_each n act w)
-  leads_for_each zero act w a = leads_none w
-  leads_for_each (suc n) act w a =
-      leads_then w (for_each n act w) (act n (for_each n act w)) (leads_for_each n act w a)
-      (a n (for_each n act w))
 
   -- ---- what each change keeps
 

@@ -1,4 +1,5 @@
 pub mod Leading
+pub mod Working
 pub mod Numbers
 pub mod Losing
 pub mod Connecting

@@ -30,10 +30,11 @@ use Rattle.rh_nodes.specs.Places.{is_absent}
 use Rattle.rh_nodes.specs.Settling.{leg_at}
 use Rattle.rh_nodes.specs.Steps.{reported, ending_answer, leg_answer, answer_of, step_line, step}
 use Rattle.rh_nodes.specs.World.{World, at, tell}
-use Rattle.rh_history.specs.Changes.{IsTold, GoesUp, OpensIn, OpensOut, Gives, Takes, Closes, RecyclesIn, RecyclesOut, Draws, Reports, may_have, Leads, Turn, IsLine, IsHalf, after_turn, after_turns}
-use Rattle.rh_history.proofs.Leading.{LeadsOk, leads_none, leads_one, leads_then, leads_more}
-use Rattle.rh_history.proofs.Losing.{leads_broken, leads_ended, leads_break_leg, leads_end_leg, leads_send, leads_feed, leads_tick}
-use Rattle.rh_history.proofs.Connecting.{or_left, leads_open_leg, leads_open_same}
+use Rattle.rh_history.specs.Changes.{IsTold, GoesUp, OpensIn, OpensOut, Gives, Takes, Closes, RecyclesIn, RecyclesOut, Draws, Reports, may_have, Works, Turn, IsLine, IsHalf, after_turn, after_turns, Leads}
+use Rattle.rh_history.proofs.Leading.{leads_none, leads_then, leads_more}
+use Rattle.rh_history.proofs.Working.{WorksOk, works_none, works_one, works_then, works_more}
+use Rattle.rh_history.proofs.Losing.{works_broken, works_ended, works_break_leg, works_end_leg, works_send, works_feed, works_tick}
+use Rattle.rh_history.proofs.Connecting.{or_left, works_open_leg, works_open_same}
 use Rattle.rh_history.proofs.Answering.{is_other, Goes, goes_quiet, goes_one}
 use Rattle.rh_history.proofs.Rounds.{goes_settle}
 
@@ -59,27 +60,27 @@ same_who (Out a) (Out b) e = ap Out (eqb-true a b e)
 module _ {K C S I O : Type 0} (r : Rulebook C S I O) (m : Makers K I O) (d : Deeds C S) where
   -- ---- lines
 
-  ending_leads : (w : World K C S I O) (one : Line)
-      → Leads r m d w (ending_answer r w one).0
-  ending_leads w (line.BreakLeg leg) = leads_break_leg r m d w leg
-  ending_leads w (line.EndLeg leg dir) = leads_end_leg r m d w leg dir
-  ending_leads w (line.Tick now) = leads_tick r m d w now
-  ending_leads w one = leads_none r m d w
+  ending_works : (w : World K C S I O) (one : Line)
+      → Works r m d w (ending_answer r w one).0
+  ending_works w (line.BreakLeg leg) = works_break_leg r m d w leg
+  ending_works w (line.EndLeg leg dir) = works_end_leg r m d w leg dir
+  ending_works w (line.Tick now) = works_tick r m d w now
+  ending_works w one = works_none r m d w
 
-  leg_leads : (w : World K C S I O) (one : Line) → Leads r m d w (leg_answer r m w one).0
-  leg_leads w (line.Send (Some leg) dir count) = leads_send r m d w leg dir count
-  leg_leads w (line.Move (Some leg) dir count) = leads_feed r m d w leg dir count
-  leg_leads w (line.OpenLeg leg) = leads_open_leg r m d w leg
-  leg_leads w (line.OpenSame leg) = leads_open_same r m d w leg
-  leg_leads w one = ending_leads w one
+  leg_works : (w : World K C S I O) (one : Line) → Works r m d w (leg_answer r m w one).0
+  leg_works w (line.Send (Some leg) dir count) = works_send r m d w leg dir count
+  leg_works w (line.Move (Some leg) dir count) = works_feed r m d w leg dir count
+  leg_works w (line.OpenLeg leg) = works_open_leg r m d w leg
+  leg_works w (line.OpenSame leg) = works_open_same r m d w leg
+  leg_works w one = ending_works w one
 
-  answer_leads : (w : World K C S I O) (one : Line) → Leads r m d w (answer_of r m d w one).0
-  answer_leads w (line.Give end pdu) = leads_one r m d w (Gives end pdu) tt
-  answer_leads w (line.Take end) = leads_one r m d w (Takes end) tt
-  answer_leads w (line.Close end) = leads_one r m d w (Closes end) tt
-  answer_leads w line.RecycleIn = leads_one r m d w RecyclesIn tt
-  answer_leads w line.RecycleOut = leads_one r m d w RecyclesOut tt
-  answer_leads w one = leg_leads w one
+  answer_works : (w : World K C S I O) (one : Line) → Works r m d w (answer_of r m d w one).0
+  answer_works w (line.Give end pdu) = works_one r m d w (Gives end pdu) tt
+  answer_works w (line.Take end) = works_one r m d w (Takes end) tt
+  answer_works w (line.Close end) = works_one r m d w (Closes end) tt
+  answer_works w line.RecycleIn = works_one r m d w RecyclesIn tt
+  answer_works w line.RecycleOut = works_one r m d w RecyclesOut tt
+  answer_works w one = leg_works w one
 
   -- the answer of a line, where it has one
   abbrev is_other_answer : Option Answer → Bool
@@ -113,7 +114,7 @@ module _ {K C S I O : Type 0} (r : Rulebook C S I O) (m : Makers K I O) (d : Dee
   answer_others w one = leg_others w one
 
   reported_goes : (w : World K C S I O) (did : World K C S I O × Option Answer)
-      → Leads r m d w did.0 → is_other_answer did.1 ≡ true → Goes r m d w (reported did)
+      → Works r m d w did.0 → is_other_answer did.1 ≡ true → Goes r m d w (reported did)
   reported_goes w (v, None) a other = goes_quiet r m d w v a
   reported_goes w (v, Some one) a other = goes_one r m d w v one a other
 
@@ -121,167 +122,168 @@ module _ {K C S I O : Type 0} (r : Rulebook C S I O) (m : Makers K I O) (d : Dee
       → Goes r m d w (step_line r m d one w)
   goes_step_line (line.Settle rounds) w = goes_settle r m d rounds w
   goes_step_line one w =
-      reported_goes w (answer_of r m d w one) (answer_leads w one) (answer_others w one)
+      reported_goes w (answer_of r m d w one) (answer_works w one) (answer_others w one)
 
   pub leads_step : (one : Line) (w : World K C S I O) → Leads r m d w (step r m d one w).0
   leads_step one w =
-      leads_more r m d w (step_line r m d one w).0 Reports (goes_step_line one w).leads tt
+      leads_more r m d w (step_line r m d one w).0 Reports (goes_step_line one w).works.leads tt
 
   -- ---- half steps
 
   -- the client's leg, to a proxy that is made where none was
-  make_leads : (w : World K C S I O) (kind : LegKind) (n : ℕ) (cookie : Cookie)
+  make_works : (w : World K C S I O) (kind : LegKind) (n : ℕ) (cookie : Cookie)
       → IsTrue (may_have r w Client (leg_at kind n))
-      → Leads r m d w
+      → Works r m d w
       (up_at r (make_by r m w n kind) Client (leg_at kind n) side.Client cookie)
-  make_leads w OutServer n cookie may =
-      leads_one r m d w (GoesUp Client (leg_at OutServer n) side.Client cookie)
+  make_works w OutServer n cookie may =
+      works_one r m d w (GoesUp Client (leg_at OutServer n) side.Client cookie)
       (may, inr (refl, refl))
-  make_leads w InServer n cookie may =
-      leads_one r m d w (GoesUp Client (leg_at InServer n) side.Client cookie)
+  make_works w InServer n cookie may =
+      works_one r m d w (GoesUp Client (leg_at InServer n) side.Client cookie)
       (may, inr (refl, refl))
-  make_leads w ClientOut n cookie may =
+  make_works w ClientOut n cookie may =
       by (nat_lt 0 n && ask is_absent true w.company.outs n) refl
     where
       by : (t : Bool) → (nat_lt 0 n && ask is_absent true w.company.outs n) ≡ t
-          → Leads r m d w (up_at r (if t
+          → Works r m d w (up_at r (if t
           then with_out w n (at_moment r.out_proxy (m.out_proxy w.cast n) w.now) else w)
           Client (leg_at ClientOut n) side.Client cookie)
       by true e =
           let parts = and_parts (nat_lt 0 n) (ask is_absent true w.company.outs n) e in
-          leads_one r m d w (OpensOut n cookie) (parts.0, parts.1, may)
+          works_one r m d w (OpensOut n cookie) (parts.0, parts.1, may)
       by false e =
-          leads_one r m d w (GoesUp Client (leg_at ClientOut n) side.Client cookie)
+          works_one r m d w (GoesUp Client (leg_at ClientOut n) side.Client cookie)
           (may, inr (refl, refl))
-  make_leads w ClientIn n cookie may =
+  make_works w ClientIn n cookie may =
       by (nat_lt 0 n && ask is_absent true w.company.ins n) refl
     where
       by : (t : Bool) → (nat_lt 0 n && ask is_absent true w.company.ins n) ≡ t
-          → Leads r m d w (up_at r (if t
+          → Works r m d w (up_at r (if t
           then with_in w n (at_moment r.in_proxy (m.in_proxy w.cast n) w.now) else w)
           Client (leg_at ClientIn n) side.Client cookie)
       by true e =
           let parts = and_parts (nat_lt 0 n) (ask is_absent true w.company.ins n) e in
-          leads_one r m d w (OpensIn n cookie) (parts.0, parts.1, may)
+          works_one r m d w (OpensIn n cookie) (parts.0, parts.1, may)
       by false e =
-          leads_one r m d w (GoesUp Client (leg_at ClientIn n) side.Client cookie)
+          works_one r m d w (GoesUp Client (leg_at ClientIn n) side.Client cookie)
           (may, inr (refl, refl))
 
-  up_client_leads : (w : World K C S I O) (leg : Leg) (cookie : Cookie)
-      → Leads r m d w (up_client r m w leg cookie).0
-  up_client_leads w leg cookie =
+  up_client_works : (w : World K C S I O) (leg : Leg) (cookie : Cookie)
+      → Works r m d w (up_client r m w leg cookie).0
+  up_client_works w leg cookie =
       by (not (was_had w.cookies cookie) && company.may_up r w.company Client leg) refl
     where
       by : (t : Bool)
           → (not (was_had w.cookies cookie) && company.may_up r w.company Client leg) ≡ t
-          → LeadsOk r m d w (if t then (
+          → WorksOk r m d w (if t then (
             up_at r (make_proxy r m (with_cookie w cookie) leg) Client leg side.Client cookie,
             true,
           ) else (w, false))
-      by false e = leads_none r m d w
+      by false e = works_none r m d w
       by true e =
           let v = with_cookie w cookie in
           let up = (and_parts (not (was_had w.cookies cookie))
           (company.may_up r w.company Client leg) e).1 in
           let may = or_left (company.may_up r w.company Client leg)
           (company.wants r w.company Client leg) up in
-          leads_then r m d w v
+          works_then r m d w v
           (up_at r (make_proxy r m v leg) Client leg side.Client cookie)
-          (leads_one r m d w (Draws (with_other w.cookies cookie)) tt)
-          (make_leads v leg.kind leg.number cookie may)
+          (works_one r m d w (Draws (with_other w.cookies cookie)) tt)
+          (make_works v leg.kind leg.number cookie may)
 
   -- what is done at the end at which a node stands
   at_end : (w : World K C S I O) (node : Who) (leg : Leg)
       (does : Option Side → World K C S I O × Bool)
-      → ((end : Side) → at w leg end ≡ node → Leads r m d w (does (Some end)).0)
-      → Leads r m d w (does None).0 → Leads r m d w (does (end_of w node leg)).0
+      → ((end : Side) → at w leg end ≡ node → Works r m d w (does (Some end)).0)
+      → Works r m d w (does None).0 → Works r m d w (does (end_of w node leg)).0
   at_end w node leg does some none = by_client (is_same node (at w leg side.Client)) refl
     where
       by_server : (t : Bool) → is_same node (at w leg side.Server) ≡ t
-          → Leads r m d w (does (if t then Some side.Server else None)).0
+          → Works r m d w (does (if t then Some side.Server else None)).0
       by_server true e =
           some side.Server (sym (same_who node (at w leg side.Server) e))
       by_server false e = none
 
       by_client : (t : Bool) → is_same node (at w leg side.Client) ≡ t
-          → Leads r m d w (does (if t then Some side.Client
+          → Works r m d w (does (if t then Some side.Client
           else (if is_same node (at w leg side.Server) then Some side.Server else None))).0
       by_client true e =
           some side.Client (sym (same_who node (at w leg side.Client) e))
       by_client false e = by_server (is_same node (at w leg side.Server)) refl
 
-  up_other_leads : (w : World K C S I O) (node : Who) (leg : Leg) (cookie : Cookie)
-      → Leads r m d w (up_end r w node leg cookie (end_of w node leg)).0
-  up_other_leads w node leg cookie =
+  up_other_works : (w : World K C S I O) (node : Who) (leg : Leg) (cookie : Cookie)
+      → Works r m d w (up_end r w node leg cookie (end_of w node leg)).0
+  up_other_works w node leg cookie =
       at_end w node leg (up_end r w node leg cookie)
       (λ end stands. by end stands (company.may_up r w.company node leg) refl)
-      (leads_none r m d w)
+      (works_none r m d w)
     where
       by : (end : Side) → at w leg end ≡ node → (t : Bool)
           → company.may_up r w.company node leg ≡ t
-          → LeadsOk r m d w (if t then (up_at r w node leg end cookie, true) else (w, false))
+          → WorksOk r m d w (if t then (up_at r w node leg end cookie, true) else (w, false))
       by end stands true e =
-          leads_one r m d w (GoesUp node leg end cookie) (
+          works_one r m d w (GoesUp node leg end cookie) (
             or_left (company.may_up r w.company node leg) (company.wants r w.company node leg) e,
             inl stands,
           )
-      by end stands false e = leads_none r m d w
+      by end stands false e = works_none r m d w
 
-  up_leads : (w : World K C S I O) (node : Who) (leg : Leg) (cookie : Cookie)
-      → Leads r m d w (up_half r m w node leg cookie).0
-  up_leads w Client leg cookie = up_client_leads w leg cookie
-  up_leads w Server leg cookie = up_other_leads w Server leg cookie
-  up_leads w (In n) leg cookie = up_other_leads w (In n) leg cookie
-  up_leads w (Out n) leg cookie = up_other_leads w (Out n) leg cookie
+  up_works : (w : World K C S I O) (node : Who) (leg : Leg) (cookie : Cookie)
+      → Works r m d w (up_half r m w node leg cookie).0
+  up_works w Client leg cookie = up_client_works w leg cookie
+  up_works w Server leg cookie = up_other_works w Server leg cookie
+  up_works w (In n) leg cookie = up_other_works w (In n) leg cookie
+  up_works w (Out n) leg cookie = up_other_works w (Out n) leg cookie
 
-  refused_leads : (w : World K C S I O) (node : Who) (leg : Leg)
-      → Leads r m d w (refused_half r w node leg).0
-  refused_leads w node leg = by (company.wants r w.company node leg) refl
+  refused_works : (w : World K C S I O) (node : Who) (leg : Leg)
+      → Works r m d w (refused_half r w node leg).0
+  refused_works w node leg = by (company.wants r w.company node leg) refl
     where
       by : (t : Bool) → company.wants r w.company node leg ≡ t
-          → LeadsOk r m d w (if t then (tell r w node (Breaks leg), true) else (w, false))
-      by true e = leads_one r m d w (IsTold node (Breaks leg)) (inr e)
-      by false e = leads_none r m d w
+          → WorksOk r m d w (if t then (tell r w node (Breaks leg), true) else (w, false))
+      by true e = works_one r m d w (IsTold node (Breaks leg)) (inr e)
+      by false e = works_none r m d w
 
-  broken_leads : (w : World K C S I O) (node : Who) (leg : Leg) (o : Option Side)
-      → Leads r m d w (broken_end r w node leg o).0
-  broken_leads w node leg None = refused_leads w node leg
-  broken_leads w node leg (Some end) = by (legs.is_up leg end w.legs)
+  broken_works : (w : World K C S I O) (node : Who) (leg : Leg) (o : Option Side)
+      → Works r m d w (broken_end r w node leg o).0
+  broken_works w node leg None = refused_works w node leg
+  broken_works w node leg (Some end) = by (legs.is_up leg end w.legs)
     where
-      by : (t : Bool) → LeadsOk r m d w (if t then (lose r w leg end (Breaks leg), true)
+      by : (t : Bool) → WorksOk r m d w (if t then (lose r w leg end (Breaks leg), true)
           else refused_half r w node leg)
-      by true = leads_broken r m d w leg end
-      by false = refused_leads w node leg
+      by true = works_broken r m d w leg end
+      by false = refused_works w node leg
 
-  ended_leads : (w : World K C S I O) (leg : Leg) (o : Option Side)
-      → Leads r m d w (ended_end r w leg o).0
-  ended_leads w leg None = leads_none r m d w
-  ended_leads w leg (Some end) = by (legs.is_up leg end w.legs)
+  ended_works : (w : World K C S I O) (leg : Leg) (o : Option Side)
+      → Works r m d w (ended_end r w leg o).0
+  ended_works w leg None = works_none r m d w
+  ended_works w leg (Some end) = by (legs.is_up leg end w.legs)
     where
-      by : (t : Bool) → LeadsOk r m d w (if t then (lose r w leg end (Ends leg), true)
+      by : (t : Bool) → WorksOk r m d w (if t then (lose r w leg end (Ends leg), true)
           else (w, false))
-      by true = leads_ended r m d w leg end
-      by false = leads_none r m d w
+      by true = works_ended r m d w leg end
+      by false = works_none r m d w
 
-  tick_leads : (w : World K C S I O) (node : Who) (now : ℕ) (o : Option ℕ)
-      → Leads r m d w (tick_from r w node now o).0
-  tick_leads w node now None = leads_none r m d w
-  tick_leads w node now (Some last) = by (nat_le last now)
+  tick_works : (w : World K C S I O) (node : Who) (now : ℕ) (o : Option ℕ)
+      → Works r m d w (tick_from r w node now o).0
+  tick_works w node now None = works_none r m d w
+  tick_works w node now (Some last) = by (nat_le last now)
     where
-      by : (t : Bool) → LeadsOk r m d w (if t then (tell r w node (Passes now), true)
+      by : (t : Bool) → WorksOk r m d w (if t then (tell r w node (Passes now), true)
           else (w, false))
-      by true = leads_one r m d w (IsTold node (Passes now)) tt
-      by false = leads_none r m d w
+      by true = works_one r m d w (IsTold node (Passes now)) tt
+      by false = works_none r m d w
 
-  half_leads : (w : World K C S I O) (one : Half) → Leads r m d w (half_by r m w one).0
-  half_leads w (halves.Up node leg cookie) = up_leads w node leg cookie
-  half_leads w (halves.Broken node leg) = broken_leads w node leg (end_of w node leg)
-  half_leads w (halves.Ended node leg) = ended_leads w leg (end_of w node leg)
-  half_leads w (halves.Tick node now) =
-      tick_leads w node now (company.last_moment w.company node)
+  half_works : (w : World K C S I O) (one : Half) → Works r m d w (half_by r m w one).0
+  half_works w (halves.Up node leg cookie) = up_works w node leg cookie
+  half_works w (halves.Broken node leg) = broken_works w node leg (end_of w node leg)
+  half_works w (halves.Ended node leg) = ended_works w leg (end_of w node leg)
+  half_works w (halves.Tick node now) =
+      tick_works w node now (company.last_moment w.company node)
 
   pub leads_half : (one : Half) (w : World K C S I O) → Leads r m d w (half r m w one).0
-  leads_half one w = leads_more r m d w (half_by r m w one).0 Reports (half_leads w one) tt
+  leads_half one w =
+      leads_more r m d w (half_by r m w one).0 Reports (half_works w one).leads tt
 
   -- ---- in any order
 

@@ -22,34 +22,34 @@ use Rattle.rh_nodes.specs.Opening.{Makers, open_leg, open_same, may_open_same}
 use Rattle.rh_nodes.specs.Reports.{and_then}
 use Rattle.rh_nodes.specs.Settling.{leg_at, opened, opened_same, open_next, open_next_in, next_number, open_client_outs, open_client_ins, open_out_servers, open_in_servers, open_all, most_bytes, carry_bytes, carried, carry, carry_both, carry_kind, carry_all, took, take_one, take_both, ends_now, ended, end_where, end_one, end_kind, end_all, round, behind_round, rounds_from, settle}
 use Rattle.rh_nodes.specs.World.{World}
-use Rattle.rh_history.specs.Changes.{Takes, Leads}
-use Rattle.rh_history.proofs.Leading.{leads_none, leads_one, leads_then}
+use Rattle.rh_history.specs.Changes.{Takes, Works}
+use Rattle.rh_history.proofs.Working.{works_none, works_one, works_then}
 use Rattle.rh_history.proofs.Answering.{Goes, goes_none, goes_quiet, goes_one, goes_and_then, goes_each}
-use Rattle.rh_history.proofs.Losing.{leads_end_leg, leads_send, leads_feed}
-use Rattle.rh_history.proofs.Connecting.{leads_open_leg, leads_open_same}
+use Rattle.rh_history.proofs.Losing.{works_end_leg, works_send, works_feed}
+use Rattle.rh_history.proofs.Connecting.{works_open_leg, works_open_same}
 
 module _ {K C S I O : Type 0} (r : Rulebook C S I O) (m : Makers K I O) (d : Deeds C S) where
   -- ---- part 1
 
   opened_goes : (w : World K C S I O) (leg : Leg) (did : World K C S I O × Bool)
-      → Leads r m d w did.0 → Goes r m d w (opened leg did)
+      → Works r m d w did.0 → Goes r m d w (opened leg did)
   opened_goes w leg (v, true) a = goes_one r m d w v (answer.OpenLeg leg true) a refl
   opened_goes w leg (v, false) a = goes_quiet r m d w v a
 
   opened_same_goes : (w : World K C S I O) (leg : Leg) (did : World K C S I O × Bool)
-      → Leads r m d w did.0 → Goes r m d w (opened_same leg did)
+      → Works r m d w did.0 → Goes r m d w (opened_same leg did)
   opened_same_goes w leg (v, true) a = goes_one r m d w v (answer.OpenSame leg true) a refl
   opened_same_goes w leg (v, false) a = goes_quiet r m d w v a
 
   next_goes : (leg : Leg) (w : World K C S I O) → Goes r m d w (open_next r m leg w)
-  next_goes leg w = opened_goes w leg (open_leg r m w leg) (leads_open_leg r m d w leg)
+  next_goes leg w = opened_goes w leg (open_leg r m w leg) (works_open_leg r m d w leg)
 
   next_in_goes : (leg : Leg) (w : World K C S I O) → Goes r m d w (open_next_in r m leg w)
   next_in_goes leg w = by (w.same && may_open_same r w leg)
     where
       by : (t : Bool) → Goes r m d w (if t then opened_same leg (open_same r w leg)
           else open_next r m leg w)
-      by true = opened_same_goes w leg (open_same r w leg) (leads_open_same r m d w leg)
+      by true = opened_same_goes w leg (open_same r w leg) (works_open_same r m d w leg)
       by false = next_goes leg w
 
   client_outs_go : (w : World K C S I O) → Goes r m d w (open_client_outs r m w)
@@ -90,7 +90,7 @@ module _ {K C S I O : Type 0} (r : Rulebook C S I O) (m : Makers K I O) (d : Dee
   -- ---- part 2
 
   carried_goes : (w : World K C S I O) (leg : Leg) (dir : Dir)
-      (did : World K C S I O × Option (List ℕ)) → Leads r m d w did.0
+      (did : World K C S I O × Option (List ℕ)) → Works r m d w did.0
       → Goes r m d w (carried leg dir did)
   carried_goes w leg dir (v, None) a = goes_quiet r m d w v a
   carried_goes w leg dir (v, Some []) a = goes_quiet r m d w v a
@@ -102,8 +102,8 @@ module _ {K C S I O : Type 0} (r : Rulebook C S I O) (m : Makers K I O) (d : Dee
   carry_goes leg dir w =
       let v = (send r w leg dir most_bytes).0 in
       carried_goes w leg dir (carry_bytes r leg dir w)
-      (leads_then r m d w v (feed r v leg dir most_bytes).0
-      (leads_send r m d w leg dir most_bytes) (leads_feed r m d v leg dir most_bytes))
+      (works_then r m d w v (feed r v leg dir most_bytes).0
+      (works_send r m d w leg dir most_bytes) (works_feed r m d v leg dir most_bytes))
 
   both_go : (leg : Leg) (w : World K C S I O) → Goes r m d w (carry_both r leg w)
   both_go leg w =
@@ -129,7 +129,7 @@ module _ {K C S I O : Type 0} (r : Rulebook C S I O) (m : Makers K I O) (d : Dee
   -- ---- part 3
 
   took_goes : (w : World K C S I O) (end : Side) (ended : Bool)
-      (did : World K C S I O × TakeAnswer) → Leads r m d w did.0
+      (did : World K C S I O × TakeAnswer) → Works r m d w did.0
       → Goes r m d w (took end ended did)
   took_goes w end ended (v, takes.Pdu pdu) a =
       goes_one r m d w v (answer.Take end (takes.Pdu pdu)) a refl
@@ -141,7 +141,7 @@ module _ {K C S I O : Type 0} (r : Rulebook C S I O) (m : Makers K I O) (d : Dee
 
   take_goes : (end : Side) (w : World K C S I O) → Goes r m d w (take_one d end w)
   take_goes end w =
-      took_goes w end (has_ended w end) (take d w end) (leads_one r m d w (Takes end) tt)
+      took_goes w end (has_ended w end) (take d w end) (works_one r m d w (Takes end) tt)
 
   take_both_goes : (w : World K C S I O) → Goes r m d w (take_both d w)
   take_both_goes w =
@@ -155,7 +155,7 @@ module _ {K C S I O : Type 0} (r : Rulebook C S I O) (m : Makers K I O) (d : Dee
   where_goes leg w None = goes_none r m d w
   where_goes leg w (Some dir) =
       let did = end_leg r w leg dir in
-      goes_one r m d w did.0 (answer.EndLeg leg dir did.1) (leads_end_leg r m d w leg dir) refl
+      goes_one r m d w did.0 (answer.EndLeg leg dir did.1) (works_end_leg r m d w leg dir) refl
 
   kind_ends : (kind : LegKind) (w : World K C S I O) → Goes r m d w (end_kind r kind w)
   kind_ends kind w =
@@ -187,14 +187,14 @@ module _ {K C S I O : Type 0} (r : Rulebook C S I O) (m : Makers K I O) (d : Dee
       (rest : World K C S I O → World K C S I O × List Answer) → Goes r m d w did
       → ((v : World K C S I O) → Goes r m d v (rest v))
       → Goes r m d w (behind_round count did rest)
-  behind_goes w count (v, []) rest a b = goes_one r m d w v (answer.Quiet count) a.leads refl
+  behind_goes w count (v, []) rest a b = goes_one r m d w v (answer.Quiet count) a.works refl
   behind_goes w count (v, one ∷ more) rest a b =
       goes_and_then r m d w (v, one ∷ more) rest a b
 
   rounds_go : (n count : ℕ) (w : World K C S I O)
       → Goes r m d w (rounds_from n count (round r m d) w)
   unfolding rounds_from
-  rounds_go zero count w = goes_one r m d w w (answer.Spent count) (leads_none r m d w) refl
+  rounds_go zero count w = goes_one r m d w w (answer.Spent count) (works_none r m d w) refl
   rounds_go (suc n) count w =
       behind_goes w count (round r m d w)
       (λ next. rounds_from n (count + 1) (round r m d) next) (goes_round w)

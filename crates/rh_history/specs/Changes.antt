@@ -1,6 +1,7 @@
 -- what really happens to a world of roles: small changes, of which each line, each round of
 -- settling and each half step is a list (profile)
-use Rattle.std.specs.Prelude.{◌≡◌, ◌≤◌, ◌||◌, ◌⊎◌, ℕ, List, [], ◌∷◌, Bool, true, IsTrue, nat_lt}
+use Rattle.std.specs.Prelude.{◌≡◌, ◌≤◌, ◌||◌, ◌⊎◌, ℕ, List, [], ◌∷◌, Bool, true, false, IsTrue, nat_lt}
+use Rattle.std.specs.List.{list_all}
 use Rattle.rh_rts.specs.declared.command.Cookie.{Cookie}
 use Rattle.rh_text.specs.declared.ends.Dir.{Dir}
 use Rattle.rh_text.specs.declared.ends.Side.{Side}
@@ -162,6 +163,17 @@ pub record Leads {K C S I O : Type 0} (r : Rulebook C S I O) (m : Makers K I O) 
   pub changes : List Change
   pub allowed : AreAllowed r m d w changes
   pub reached : all_changed r m d w changes ≡ v
+
+-- a change that isn't the report of the nodes that closed
+abbrev pub is_work : Change → Bool
+is_work Reports = false
+is_work change = true
+
+-- none of them is
+pub record Works {K C S I O : Type 0} (r : Rulebook C S I O) (m : Makers K I O) (d : Deeds C S)
+    (w v : World K C S I O) : Type 0 where
+  pub leads : Leads r m d w v
+  pub work : list_all is_work leads.changes ≡ true
 
 -- ---- lines and half steps in any order
 

@@ -11,7 +11,7 @@ ghost use Rattle.rh_nodes.specs.Opening.{Makers};
 ghost use Rattle.rh_nodes.specs.Settling.{round};
 ghost use Rattle.rh_nodes.specs.Steps.{step, step_line};
 ghost use Rattle.rh_nodes.specs.World.{World};
-ghost use Rattle.rh_history.specs.Changes.{Leads, Turn, after_turns};
+ghost use Rattle.rh_history.specs.Changes.{Leads, Turn, Works, after_turns};
 
 /// Each line of a recording is a list of small changes, each allowed where it is made: a node is
 /// told something, bytes are drawn into flight or fed, an end of a leg goes up or down, a proxy is
@@ -21,9 +21,9 @@ pub fn a_line_is_changes<K, C, S, I, O>()
     ensures line { (r : Rulebook C S I O) (m : Makers K I O) (d : Deeds C S) (line : Line)
         (w : World K C S I O) → Leads r m d w (step r m d line w).0 }
     ensures unreported { (r : Rulebook C S I O) (m : Makers K I O) (d : Deeds C S) (line : Line)
-        (w : World K C S I O) → Leads r m d w (step_line r m d line w).0 }
+        (w : World K C S I O) → Works r m d w (step_line r m d line w).0 }
     ensures round { (r : Rulebook C S I O) (m : Makers K I O) (d : Deeds C S)
-        (w : World K C S I O) → Leads r m d w (round r m d w).0 }
+        (w : World K C S I O) → Works r m d w (round r m d w).0 }
 {}
 
 /// So is each half step, where one node alone is told something.
