@@ -1,9 +1,8 @@
 -- changes behind changes
-use Rattle.std.proofs.Common.{◌≡◌, Bool, ℕ, zero, suc, List, [], ◌∷◌, ◌++◌, refl, sym, ap, ◌∙◌, subst}
+use Rattle.std.proofs.Common.{◌≡◌, List, [], ◌∷◌, ◌++◌, refl, sym, ap, ◌∙◌, subst}
 use Rattle.rh_nodes.specs.Company.{Rulebook}
 use Rattle.rh_nodes.specs.Giving.{Deeds}
 use Rattle.rh_nodes.specs.Opening.{Makers}
-use Rattle.rh_nodes.specs.Time.{for_each}
 use Rattle.rh_nodes.specs.World.{World}
 use Rattle.rh_history.specs.Changes.{Change, MayChange, AreAllowed, changed, all_changed, Leads}
 

@@ -21,3 +21,4 @@ pub mod HeardAll
 pub mod Tracing
 pub mod Once
 pub mod Counting
+pub mod Reported

@@ -32,7 +32,7 @@ use Rattle.rh_nodes.specs.Steps.{reported, ending_answer, leg_answer, answer_of,
 use Rattle.rh_nodes.specs.World.{World, at, tell}
 use Rattle.rh_history.specs.Changes.{IsTold, GoesUp, OpensIn, OpensOut, Gives, Takes, Closes, RecyclesIn, RecyclesOut, Draws, Reports, may_have, Works, Turn, IsLine, IsHalf, after_turn, after_turns, Leads}
 use Rattle.rh_history.proofs.Leading.{leads_none, leads_then, leads_more}
-use Rattle.rh_history.proofs.Working.{WorksOk, works_none, works_one, works_then, works_more}
+use Rattle.rh_history.proofs.Working.{WorksOk, works_none, works_one, works_then}
 use Rattle.rh_history.proofs.Losing.{works_broken, works_ended, works_break_leg, works_end_leg, works_send, works_feed, works_tick}
 use Rattle.rh_history.proofs.Connecting.{or_left, works_open_leg, works_open_same}
 use Rattle.rh_history.proofs.Answering.{is_other, Goes, goes_quiet, goes_one}

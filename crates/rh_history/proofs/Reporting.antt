@@ -176,7 +176,7 @@ module _ {K C S I O : Type 0} (r : Rulebook C S I O) (m : Makers K I O) (d : Dee
       (one_of_both (NodeClosed node why) (step_line r m d one w).1
       (lines (step_line r m d one w).0.closed) h) in
       record {
-        leads = goes.works.leads;
+        works = goes.works;
         closed =
             ⊎_elim (λ old. absurd (subst (λ list. IsOneOf x list) none old)) (λ by. by)
             (changes_close w goes.works.leads.changes x

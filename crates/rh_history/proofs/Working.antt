@@ -1,5 +1,5 @@
 -- changes behind changes, none of which is a report
-use Rattle.std.proofs.Common.{◌≡◌, Bool, ℕ, zero, suc, List, [], ◌∷◌, ◌++◌, true, false, refl, ◌∙◌}
+use Rattle.std.proofs.Common.{◌≡◌, Bool, ℕ, zero, suc, [], ◌∷◌, true, refl, ◌∙◌}
 use Rattle.std.specs.List.{list_all}
 use Rattle.std.proofs.lemmas.Bool.{and_from}
 use Rattle.std.proofs.lemmas.List.Folds.{list_all-append}

@@ -27,7 +27,7 @@ use Rattle.rh_nodes.specs.Opening.{Makers}
 use Rattle.rh_nodes.specs.Steps.{last_with, last_of, step_line}
 use Rattle.rh_nodes.specs.Wires.{receiver}
 use Rattle.rh_nodes.specs.World.{World, at}
-use Rattle.rh_history.specs.Changes.{Change, IsTold, IsFed, all_changed, Leads}
+use Rattle.rh_history.specs.Changes.{Change, IsTold, IsFed, all_changed, Works}
 use Rattle.rh_history.specs.Histories.{in_place, out_place}
 
 -- one of a list
@@ -74,8 +74,8 @@ pub record IsClosedBy {K C S I O : Type 0} (r : Rulebook C S I O) (m : Makers K 
 pub record LineCloses {K C S I O : Type 0} (r : Rulebook C S I O) (m : Makers K I O)
     (d : Deeds C S) (line : Line) (w : World K C S I O) (node : Who) (why : Cause)
     : Type 0 where
-  pub leads : Leads r m d w (step_line r m d line w).0
-  pub closed : IsClosedBy r m d w leads.changes node why
+  pub works : Works r m d w (step_line r m d line w).0
+  pub closed : IsClosedBy r m d w works.leads.changes node why
 
 -- ---- nodes that are closed
 

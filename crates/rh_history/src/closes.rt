@@ -16,21 +16,26 @@ ghost use Rattle.rh_nodes.specs.Company.{Company, Rulebook, tell};
 ghost use Rattle.rh_nodes.specs.Giving.{Deeds};
 ghost use Rattle.rh_nodes.specs.Halves.{half};
 ghost use Rattle.rh_nodes.specs.Opening.{Makers};
-ghost use Rattle.rh_nodes.specs.Steps.{step, told};
+ghost use Rattle.rh_nodes.specs.Steps.{step, step_line, told};
 ghost use Rattle.rh_nodes.specs.World.{World};
-ghost use Rattle.rh_history.specs.Changes.{Change, Leads, MayChange, changed};
-ghost use Rattle.rh_history.specs.Closes.{ClientTells, HasClosed, IsOneOf, LineCloses, ServerTells};
-ghost use Rattle.rh_history.specs.Closes.{closings_of};
+ghost use Rattle.rh_history.specs.Changes.{Change, Leads, MayChange, Works, changed};
+ghost use Rattle.rh_history.specs.Closes.{ClientTells, HasClosed, IsClosedBy, IsOneOf, LineCloses};
+ghost use Rattle.rh_history.specs.Closes.{ServerTells, closings_of};
 ghost use Rattle.rh_history.specs.Histories.{in_place, out_place};
 
 /// A node that a line reports as closed was told something by one of the changes of that line, and
-/// that closed it with the cause that is reported. Behind a line or a half step nothing is left to
-/// report.
+/// that closed it with the cause that is reported; and each node that was closed so is reported.
+/// Behind a line or a half step nothing is left to report.
 pub fn what_is_reported_closed_was_closed<K, C, S, I, O>()
     ensures closed { (r : Rulebook C S I O) (m : Makers K I O) (d : Deeds C S) (line : Line)
         (w : World K C S I O) (node : Who) (why : Cause) → w.closed ≡ []
         → IsOneOf (NodeClosed node why) (step r m d line w).1
         → LineCloses r m d line w node why }
+    ensures reported { (r : Rulebook C S I O) (m : Makers K I O) (d : Deeds C S) (line : Line)
+        (w : World K C S I O) (node : Who) (why : Cause)
+        (works : Works r m d w (step_line r m d line w).0)
+        → IsClosedBy r m d w works.leads.changes node why
+        → IsOneOf (NodeClosed node why) (step r m d line w).1 }
     ensures line { (r : Rulebook C S I O) (m : Makers K I O) (d : Deeds C S) (line : Line)
         (w : World K C S I O) → (step r m d line w).0.closed ≡ [] }
     ensures half { (r : Rulebook C S I O) (m : Makers K I O) (one : Half) (w : World K C S I O)
