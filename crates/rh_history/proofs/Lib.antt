@@ -19,6 +19,7 @@ pub mod Appended
 pub mod NodeTraces
 pub mod HeardAll
 pub mod Tracing
+pub mod Recordings
 pub mod Once
 pub mod Counting
 pub mod Reported

@@ -1,4 +1,5 @@
-use Rattle.rh_history.proofs.Tracing.{traced_first, change_is_traced, changes_are_traced}
+use Rattle.rh_history.proofs.Recordings.{traced_first, changes_are_traced}
+use Rattle.rh_history.proofs.Tracing.{change_is_traced}
 use Rattle.rh_history.proofs.legs.legs_are_carried.Goals as goal
 
 pub returns : goal.returns
