@@ -1,0 +1,300 @@
+-- each line, and each half step, is a list of changes
+use Rattle.std.proofs.Common.{◌≡◌, ℕ, List, [], ◌∷◌, Bool, true, false, ◌&&◌, not, if◌then◌else◌, IsTrue, Some, None, refl, sym, ap, inl, inr}
+use Rattle.std.specs.Prelude.{nat_lt, nat_le}
+use Rattle.std.specs.declared.option.Option.{Option}
+use Rattle.std.proofs.lemmas.Bool.{and_parts, eqb-true}
+use Rattle.rh_rts.specs.declared.command.Cookie.{Cookie}
+use Rattle.rh_text.specs.declared.ends.Side.{Side}
+use Rattle.rh_text.specs.declared.ends.Side.TheVariants as side
+use Rattle.rh_line.specs.declared.leg.Leg.{Leg}
+use Rattle.rh_line.specs.declared.leg.LegKind.{LegKind}
+use Rattle.rh_line.specs.declared.leg.LegKind.TheVariants.{ClientOut, OutServer, ClientIn, InServer}
+use Rattle.rh_record.specs.declared.answer.Answer.{Answer}
+use Rattle.rh_record.specs.declared.answer.Who.{Who}
+use Rattle.rh_record.specs.declared.answer.Who.TheVariants.{Client, Server, In, Out}
+use Rattle.rh_record.specs.declared.line.Line.{Line}
+use Rattle.rh_record.specs.declared.line.Line.TheVariants as line
+use Rattle.rh_nodes.specs.declared.event.Event.TheVariants.{Breaks, Ends, Passes}
+use Rattle.rh_nodes.specs.declared.half.Half.{Half}
+use Rattle.rh_nodes.specs.declared.half.Half.TheVariants as halves
+use Rattle.rh_nodes.specs.Breaking.{lose}
+use Rattle.rh_nodes.specs.Company as company
+use Rattle.rh_nodes.specs.Company.{Rulebook}
+use Rattle.rh_nodes.specs.Cookies.{with_other, was_had}
+use Rattle.rh_nodes.specs.Giving.{Deeds}
+use Rattle.rh_nodes.specs.Halves.{is_same, end_of, make_by, make_proxy, up_at, with_cookie, up_client, up_end, up_half, refused_half, broken_end, ended_end, tick_from, half_by, half}
+use Rattle.rh_nodes.specs.Legs as legs
+use Rattle.rh_nodes.specs.Numbered.{ask}
+use Rattle.rh_nodes.specs.Opening.{Makers, at_moment, with_in, with_out}
+use Rattle.rh_nodes.specs.Places.{is_absent}
+use Rattle.rh_nodes.specs.Settling.{leg_at}
+use Rattle.rh_nodes.specs.Steps.{reported, ending_answer, leg_answer, answer_of, step_line, step}
+use Rattle.rh_nodes.specs.World.{World, at, tell}
+use Rattle.rh_history.specs.Changes.{IsTold, GoesUp, OpensIn, OpensOut, Gives, Takes, Closes, RecyclesIn, RecyclesOut, Draws, Reports, may_have, Works, Turn, IsLine, IsHalf, after_turn, after_turns, Leads}
+use Rattle.rh_history.proofs.Leading.{leads_none, leads_then, leads_more}
+use Rattle.rh_history.proofs.Working.{WorksOk, works_none, works_one, works_then}
+use Rattle.rh_history.proofs.Losing.{works_broken, works_ended, works_break_leg, works_end_leg, works_send, works_feed, works_tick}
+use Rattle.rh_history.proofs.Connecting.{or_left, works_open_leg, works_open_same}
+use Rattle.rh_history.proofs.Answering.{is_other, Goes, goes_quiet, goes_one}
+use Rattle.rh_history.proofs.Rounds.{goes_settle}
+
+-- two nodes that are the same
+pub same_who : (a b : Who) → is_same a b ≡ true → a ≡ b
+same_who Client Client e = refl
+same_who Client Server e = absurd cc
+same_who Client (In n) e = absurd cc
+same_who Client (Out n) e = absurd cc
+same_who Server Client e = absurd cc
+same_who Server Server e = refl
+same_who Server (In n) e = absurd cc
+same_who Server (Out n) e = absurd cc
+same_who (In a) Client e = absurd cc
+same_who (In a) Server e = absurd cc
+same_who (In a) (In b) e = ap In (eqb-true a b e)
+same_who (In a) (Out n) e = absurd cc
+same_who (Out a) Client e = absurd cc
+same_who (Out a) Server e = absurd cc
+same_who (Out a) (In n) e = absurd cc
+same_who (Out a) (Out b) e = ap Out (eqb-true a b e)
+
+module _ {K C S I O : Type 0} (r : Rulebook C S I O) (m : Makers K I O) (d : Deeds C S) where
+  -- ---- lines
+
+  ending_works : (w : World K C S I O) (one : Line)
+      → Works r m d w (ending_answer r w one).0
+  ending_works w (line.BreakLeg leg) = works_break_leg r m d w leg
+  ending_works w (line.EndLeg leg dir) = works_end_leg r m d w leg dir
+  ending_works w (line.Tick now) = works_tick r m d w now
+  ending_works w one = works_none r m d w
+
+  leg_works : (w : World K C S I O) (one : Line) → Works r m d w (leg_answer r m w one).0
+  leg_works w (line.Send (Some leg) dir count) = works_send r m d w leg dir count
+  leg_works w (line.Move (Some leg) dir count) = works_feed r m d w leg dir count
+  leg_works w (line.OpenLeg leg) = works_open_leg r m d w leg
+  leg_works w (line.OpenSame leg) = works_open_same r m d w leg
+  leg_works w one = ending_works w one
+
+  answer_works : (w : World K C S I O) (one : Line) → Works r m d w (answer_of r m d w one).0
+  answer_works w (line.Give end pdu) = works_one r m d w (Gives end pdu) tt
+  answer_works w (line.Take end) = works_one r m d w (Takes end) tt
+  answer_works w (line.Close end) = works_one r m d w (Closes end) tt
+  answer_works w line.RecycleIn = works_one r m d w RecyclesIn tt
+  answer_works w line.RecycleOut = works_one r m d w RecyclesOut tt
+  answer_works w one = leg_works w one
+
+  -- the answer of a line, where it has one
+  abbrev is_other_answer : Option Answer → Bool
+  is_other_answer None = true
+  is_other_answer (Some one) = is_other one
+
+  ending_others : (w : World K C S I O) (one : Line)
+      → is_other_answer (ending_answer r w one).1 ≡ true
+  ending_others w (line.BreakLeg leg) = refl
+  ending_others w (line.EndLeg leg dir) = refl
+  ending_others w (line.Tick now) = refl
+  ending_others w one = refl
+
+  leg_others : (w : World K C S I O) (one : Line)
+      → is_other_answer (leg_answer r m w one).1 ≡ true
+  leg_others w (line.Send (Some leg) dir count) = refl
+  leg_others w (line.Move (Some leg) dir count) = refl
+  leg_others w (line.OpenLeg leg) = refl
+  leg_others w (line.OpenSame leg) = refl
+  leg_others w one = ending_others w one
+
+  answer_others : (w : World K C S I O) (one : Line)
+      → is_other_answer (answer_of r m d w one).1 ≡ true
+  answer_others w (line.Give side.Client pdu) = refl
+  answer_others w (line.Give side.Server pdu) = refl
+  answer_others w (line.Take end) = refl
+  answer_others w (line.Close side.Client) = refl
+  answer_others w (line.Close side.Server) = refl
+  answer_others w line.RecycleIn = refl
+  answer_others w line.RecycleOut = refl
+  answer_others w one = leg_others w one
+
+  reported_goes : (w : World K C S I O) (did : World K C S I O × Option Answer)
+      → Works r m d w did.0 → is_other_answer did.1 ≡ true → Goes r m d w (reported did)
+  reported_goes w (v, None) a other = goes_quiet r m d w v a
+  reported_goes w (v, Some one) a other = goes_one r m d w v one a other
+
+  pub goes_step_line : (one : Line) (w : World K C S I O)
+      → Goes r m d w (step_line r m d one w)
+  goes_step_line (line.Settle rounds) w = goes_settle r m d rounds w
+  goes_step_line one w =
+      reported_goes w (answer_of r m d w one) (answer_works w one) (answer_others w one)
+
+  pub leads_step : (one : Line) (w : World K C S I O) → Leads r m d w (step r m d one w).0
+  leads_step one w =
+      leads_more r m d w (step_line r m d one w).0 Reports (goes_step_line one w).works.leads tt
+
+  -- ---- half steps
+
+  -- the client's leg, to a proxy that is made where none was
+  make_works : (w : World K C S I O) (kind : LegKind) (n : ℕ) (cookie : Cookie)
+      → IsTrue (may_have r w Client (leg_at kind n))
+      → Works r m d w
+      (up_at r (make_by r m w n kind) Client (leg_at kind n) side.Client cookie)
+  make_works w OutServer n cookie may =
+      works_one r m d w (GoesUp Client (leg_at OutServer n) side.Client cookie)
+      (may, inr (refl, refl))
+  make_works w InServer n cookie may =
+      works_one r m d w (GoesUp Client (leg_at InServer n) side.Client cookie)
+      (may, inr (refl, refl))
+  make_works w ClientOut n cookie may =
+      by (nat_lt 0 n && ask is_absent true w.company.outs n) refl
+    where
+      by : (t : Bool) → (nat_lt 0 n && ask is_absent true w.company.outs n) ≡ t
+          → Works r m d w (up_at r (if t
+          then with_out w n (at_moment r.out_proxy (m.out_proxy w.cast n) w.now) else w)
+          Client (leg_at ClientOut n) side.Client cookie)
+      by true e =
+          let parts = and_parts (nat_lt 0 n) (ask is_absent true w.company.outs n) e in
+          works_one r m d w (OpensOut n cookie) (parts.0, parts.1, may)
+      by false e =
+          works_one r m d w (GoesUp Client (leg_at ClientOut n) side.Client cookie)
+          (may, inr (refl, refl))
+  make_works w ClientIn n cookie may =
+      by (nat_lt 0 n && ask is_absent true w.company.ins n) refl
+    where
+      by : (t : Bool) → (nat_lt 0 n && ask is_absent true w.company.ins n) ≡ t
+          → Works r m d w (up_at r (if t
+          then with_in w n (at_moment r.in_proxy (m.in_proxy w.cast n) w.now) else w)
+          Client (leg_at ClientIn n) side.Client cookie)
+      by true e =
+          let parts = and_parts (nat_lt 0 n) (ask is_absent true w.company.ins n) e in
+          works_one r m d w (OpensIn n cookie) (parts.0, parts.1, may)
+      by false e =
+          works_one r m d w (GoesUp Client (leg_at ClientIn n) side.Client cookie)
+          (may, inr (refl, refl))
+
+  up_client_works : (w : World K C S I O) (leg : Leg) (cookie : Cookie)
+      → Works r m d w (up_client r m w leg cookie).0
+  up_client_works w leg cookie =
+      by (not (was_had w.cookies cookie) && company.may_up r w.company Client leg) refl
+    where
+      by : (t : Bool)
+          → (not (was_had w.cookies cookie) && company.may_up r w.company Client leg) ≡ t
+          → WorksOk r m d w (if t then (
+            up_at r (make_proxy r m (with_cookie w cookie) leg) Client leg side.Client cookie,
+            true,
+          ) else (w, false))
+      by false e = works_none r m d w
+      by true e =
+          let v = with_cookie w cookie in
+          let up = (and_parts (not (was_had w.cookies cookie))
+          (company.may_up r w.company Client leg) e).1 in
+          let may = or_left (company.may_up r w.company Client leg)
+          (company.wants r w.company Client leg) up in
+          works_then r m d w v
+          (up_at r (make_proxy r m v leg) Client leg side.Client cookie)
+          (works_one r m d w (Draws (with_other w.cookies cookie)) tt)
+          (make_works v leg.kind leg.number cookie may)
+
+  -- what is done at the end at which a node stands
+  at_end : (w : World K C S I O) (node : Who) (leg : Leg)
+      (does : Option Side → World K C S I O × Bool)
+      → ((end : Side) → at w leg end ≡ node → Works r m d w (does (Some end)).0)
+      → Works r m d w (does None).0 → Works r m d w (does (end_of w node leg)).0
+  at_end w node leg does some none = by_client (is_same node (at w leg side.Client)) refl
+    where
+      by_server : (t : Bool) → is_same node (at w leg side.Server) ≡ t
+          → Works r m d w (does (if t then Some side.Server else None)).0
+      by_server true e =
+          some side.Server (sym (same_who node (at w leg side.Server) e))
+      by_server false e = none
+
+      by_client : (t : Bool) → is_same node (at w leg side.Client) ≡ t
+          → Works r m d w (does (if t then Some side.Client
+          else (if is_same node (at w leg side.Server) then Some side.Server else None))).0
+      by_client true e =
+          some side.Client (sym (same_who node (at w leg side.Client) e))
+      by_client false e = by_server (is_same node (at w leg side.Server)) refl
+
+  up_other_works : (w : World K C S I O) (node : Who) (leg : Leg) (cookie : Cookie)
+      → Works r m d w (up_end r w node leg cookie (end_of w node leg)).0
+  up_other_works w node leg cookie =
+      at_end w node leg (up_end r w node leg cookie)
+      (λ end stands. by end stands (company.may_up r w.company node leg) refl)
+      (works_none r m d w)
+    where
+      by : (end : Side) → at w leg end ≡ node → (t : Bool)
+          → company.may_up r w.company node leg ≡ t
+          → WorksOk r m d w (if t then (up_at r w node leg end cookie, true) else (w, false))
+      by end stands true e =
+          works_one r m d w (GoesUp node leg end cookie) (
+            or_left (company.may_up r w.company node leg) (company.wants r w.company node leg) e,
+            inl stands,
+          )
+      by end stands false e = works_none r m d w
+
+  up_works : (w : World K C S I O) (node : Who) (leg : Leg) (cookie : Cookie)
+      → Works r m d w (up_half r m w node leg cookie).0
+  up_works w Client leg cookie = up_client_works w leg cookie
+  up_works w Server leg cookie = up_other_works w Server leg cookie
+  up_works w (In n) leg cookie = up_other_works w (In n) leg cookie
+  up_works w (Out n) leg cookie = up_other_works w (Out n) leg cookie
+
+  refused_works : (w : World K C S I O) (node : Who) (leg : Leg)
+      → Works r m d w (refused_half r w node leg).0
+  refused_works w node leg = by (company.wants r w.company node leg) refl
+    where
+      by : (t : Bool) → company.wants r w.company node leg ≡ t
+          → WorksOk r m d w (if t then (tell r w node (Breaks leg), true) else (w, false))
+      by true e = works_one r m d w (IsTold node (Breaks leg)) (inr e)
+      by false e = works_none r m d w
+
+  broken_works : (w : World K C S I O) (node : Who) (leg : Leg) (o : Option Side)
+      → Works r m d w (broken_end r w node leg o).0
+  broken_works w node leg None = refused_works w node leg
+  broken_works w node leg (Some end) = by (legs.is_up leg end w.legs)
+    where
+      by : (t : Bool) → WorksOk r m d w (if t then (lose r w leg end (Breaks leg), true)
+          else refused_half r w node leg)
+      by true = works_broken r m d w leg end
+      by false = refused_works w node leg
+
+  ended_works : (w : World K C S I O) (leg : Leg) (o : Option Side)
+      → Works r m d w (ended_end r w leg o).0
+  ended_works w leg None = works_none r m d w
+  ended_works w leg (Some end) = by (legs.is_up leg end w.legs)
+    where
+      by : (t : Bool) → WorksOk r m d w (if t then (lose r w leg end (Ends leg), true)
+          else (w, false))
+      by true = works_ended r m d w leg end
+      by false = works_none r m d w
+
+  tick_works : (w : World K C S I O) (node : Who) (now : ℕ) (o : Option ℕ)
+      → Works r m d w (tick_from r w node now o).0
+  tick_works w node now None = works_none r m d w
+  tick_works w node now (Some last) = by (nat_le last now)
+    where
+      by : (t : Bool) → WorksOk r m d w (if t then (tell r w node (Passes now), true)
+          else (w, false))
+      by true = works_one r m d w (IsTold node (Passes now)) tt
+      by false = works_none r m d w
+
+  half_works : (w : World K C S I O) (one : Half) → Works r m d w (half_by r m w one).0
+  half_works w (halves.Up node leg cookie) = up_works w node leg cookie
+  half_works w (halves.Broken node leg) = broken_works w node leg (end_of w node leg)
+  half_works w (halves.Ended node leg) = ended_works w leg (end_of w node leg)
+  half_works w (halves.Tick node now) =
+      tick_works w node now (company.last_moment w.company node)
+
+  pub leads_half : (one : Half) (w : World K C S I O) → Leads r m d w (half r m w one).0
+  leads_half one w =
+      leads_more r m d w (half_by r m w one).0 Reports (half_works w one).leads tt
+
+  -- ---- in any order
+
+  leads_turn : (turn : Turn) (w : World K C S I O) → Leads r m d w (after_turn r m d w turn)
+  leads_turn (IsLine one) w = leads_step one w
+  leads_turn (IsHalf one) w = leads_half one w
+
+  pub leads_turns : (turns : List Turn) (w : World K C S I O)
+      → Leads r m d w (after_turns r m d w turns)
+  leads_turns [] w = leads_none r m d w
+  leads_turns (turn ∷ turns) w =
+      leads_then r m d w (after_turn r m d w turn)
+      (after_turns r m d (after_turn r m d w turn) turns) (leads_turn turn w)
+      (leads_turns turns (after_turn r m d w turn))

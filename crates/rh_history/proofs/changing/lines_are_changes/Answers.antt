@@ -1,0 +1,5 @@
+use Rattle.rh_history.proofs.Lines.{leads_turns}
+use Rattle.rh_history.proofs.changing.lines_are_changes.Goals as goal
+
+pub returns : goal.returns
+returns g c = leads_turns

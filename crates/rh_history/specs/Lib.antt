@@ -1,0 +1,5 @@
+pub mod Changes
+pub mod Histories
+pub mod Closes
+pub mod Carriages
+pub mod Carried

@@ -1,0 +1,39 @@
+//! A world of roles changes by small changes. These functions do nothing: their contracts are the
+//! laws.
+
+ghost use Rattle.std.specs.Prelude.{List};
+ghost use Rattle.rh_record.specs.declared.line.Line.{Line};
+ghost use Rattle.rh_nodes.specs.declared.half.Half.{Half};
+ghost use Rattle.rh_nodes.specs.Company.{Rulebook};
+ghost use Rattle.rh_nodes.specs.Giving.{Deeds};
+ghost use Rattle.rh_nodes.specs.Halves.{half};
+ghost use Rattle.rh_nodes.specs.Opening.{Makers};
+ghost use Rattle.rh_nodes.specs.Settling.{round};
+ghost use Rattle.rh_nodes.specs.Steps.{step, step_line};
+ghost use Rattle.rh_nodes.specs.World.{World};
+ghost use Rattle.rh_history.specs.Changes.{Leads, Turn, Works, after_turns};
+
+/// Each line of a recording is a list of small changes, each allowed where it is made: a node is
+/// told something, bytes are drawn into flight or fed, an end of a leg goes up or down, a proxy is
+/// made, an end acts, or something is noted. So is a line before it reports the nodes that it
+/// closed, and each round of settling.
+pub fn a_line_is_changes<K, C, S, I, O>()
+    ensures line { (r : Rulebook C S I O) (m : Makers K I O) (d : Deeds C S) (line : Line)
+        (w : World K C S I O) → Leads r m d w (step r m d line w).0 }
+    ensures unreported { (r : Rulebook C S I O) (m : Makers K I O) (d : Deeds C S) (line : Line)
+        (w : World K C S I O) → Works r m d w (step_line r m d line w).0 }
+    ensures round { (r : Rulebook C S I O) (m : Makers K I O) (d : Deeds C S)
+        (w : World K C S I O) → Works r m d w (round r m d w).0 }
+{}
+
+/// So is each half step, where one node alone is told something.
+pub fn a_half_step_is_changes<K, C, S, I, O>()
+    ensures { (r : Rulebook C S I O) (m : Makers K I O) (d : Deeds C S) (one : Half)
+        (w : World K C S I O) → Leads r m d w (half r m w one).0 }
+{}
+
+/// And so are lines and half steps in any order.
+pub fn lines_are_changes<K, C, S, I, O>()
+    ensures { (r : Rulebook C S I O) (m : Makers K I O) (d : Deeds C S) (turns : List Turn)
+        (w : World K C S I O) → Leads r m d w (after_turns r m d w turns) }
+{}

@@ -1,0 +1,20 @@
+//! What happens to a world of roles, in small changes: what each node is told, and what each leg
+//! carries. Its functions do nothing: their contracts are the laws.
+#![tactic(auto)]
+
+pub mod changing;
+pub mod closes;
+pub mod histories;
+pub mod legs;
+
+pub use changing::{a_half_step_is_changes, a_line_is_changes, lines_are_changes};
+pub use closes::{
+    a_closed_end_tells_its_cause, a_closed_proxy_names_its_cause, a_node_closes_once,
+    a_node_is_reported_closed_once, what_is_reported_closed_was_closed,
+};
+pub use histories::{a_recording_begins_new, each_node_is_what_its_history_made};
+pub use legs::{
+    a_leg_is_read_at_its_ends, a_leg_that_is_remembered_comes_up_once,
+    a_leg_that_is_up_loses_nothing, a_recording_is_traced, legs_are_carried,
+    what_is_heard_was_drawn,
+};
