@@ -1,0 +1,7 @@
+mod Sorts
+mod HeardBytes
+mod FirstSilent
+mod LegChanges
+mod Places
+mod Touches
+mod NodeMoments

@@ -1,0 +1,8 @@
+//! Why nodes close. Its functions do nothing: their contracts are the laws.
+#![tactic(auto)]
+
+pub mod moments;
+
+pub use moments::{
+    a_leg_is_silent_since_it_was_heard, an_ends_leg_is_silent_since_it_was_heard,
+};
