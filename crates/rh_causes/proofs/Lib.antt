@@ -5,3 +5,4 @@ mod LegChanges
 mod Places
 mod Touches
 mod NodeMoments
+mod OnceUp
