@@ -3,6 +3,9 @@ use Rattle.std.proofs.Common.{◌≡◌, ℕ, List, [], ◌∷◌, ◌++◌, len
 use Rattle.std.specs.Prelude.{slice_index, ◌==◌, ◌&&◌, ◌+◌}
 use Rattle.std.specs.declared.option.Option.{Option}
 use Rattle.std.specs.declared.result.Result.{Result}
+use Rattle.rh_http.specs.declared.fault.HttpFault.{HttpFault}
+use Rattle.rh_http.specs.declared.refusal.Refusal.{Refusal}
+use Rattle.rh_http.specs.Refusals.{refusal_of}
 use Rattle.rh_pdu.specs.declared.fault.HeadFault.{HeadFault}
 use Rattle.rh_pdu.specs.Header.{rts, header_length, frag_of, head_fault}
 use Rattle.rh_sig.specs.declared.fault.SigFault.TheVariants as sig
@@ -144,6 +147,25 @@ module _ (at : Heading) (Refuses : ℕ → Type 0) where
     unfolding take_frame
     frame_of frame = by_type frame (slice_index frame 2 == rts)
 
+-- ---- why a node stops
+
+-- the refusal is that of a request that broke a rule
+pub record IsBadRequest (leg : Leg) (why : Cause) (refusal : Refusal) : Type 0 where
+  pub place : ℕ
+  pub fault : HttpFault
+  pub cause : why ≡ cause.BadHead leg place fault
+  pub answer : refusal ≡ refusal_of fault
+
+-- a cause that what came on a leg may have, and a refusal only of a request
+pub record IsStop (leg : Leg) (Refuses : ℕ → Type 0) (stop : Stop) : Type 0 where
+  pub cause : IsOfPiece leg Refuses stop.cause
+  pub refusal : (r : Refusal) → stop.refusal ≡ Some r → IsBadRequest leg stop.cause r
+
+-- what is no request is not refused
+plain_stop : (leg : Leg) (Refuses : ℕ → Type 0) (why : Cause) → IsOfPiece leg Refuses why
+    → IsStop leg Refuses (stop why)
+plain_stop leg Refuses why is = record { cause = is; refusal = λ r e. absurd cc }
+
 -- ---- what follows of another head follows of the cause
 
 other_heads : (leg : Leg) (P Q : ℕ → Type 0) → ((status : ℕ) → P status → Q status)
@@ -161,6 +183,11 @@ other_heads leg P Q so (cause.BadHead l place fault) h = h
 other_heads leg P Q so (cause.Silent l since now) h = absurd h
 other_heads leg P Q so (cause.ControlFull l) h = h
 other_heads leg P Q so (cause.BodyOver l count length) h = h
+
+other_stop : (leg : Leg) (P Q : ℕ → Type 0) → ((status : ℕ) → P status → Q status)
+    → (why : Stop) → IsStop leg P why → IsStop leg Q why
+other_stop leg P Q so why h =
+    record { cause = other_heads leg P Q so why.cause h.cause; refusal = h.refusal }
 
 -- ---- bytes
 
@@ -185,28 +212,27 @@ module _ {S : Type 0} (rules : Rules S) (now : ℕ) where
   -- where a turn stops, its cause is one of the piece
   abbrev Stops : Turn S → NearEnd → S → List ℕ → Type 0
   Stops t end role piece =
-      (why : Stop) → t.stop ≡ Some why
-      → IsOfPiece end.leg (RefusesHead rules role end piece) why.cause
+      (why : Stop) → t.stop ≡ Some why → IsStop end.leg (RefusesHead rules role end piece) why
 
   -- a turn that stopped hears no more
-  stopped_with : (t : Turn S) (first : Stop) (bs : List ℕ) (P : Cause → Type 0)
-      → t.stop ≡ Some first → P first.cause → (why : Stop)
-      → (hear rules now t bs).stop ≡ Some why → P why.cause
+  stopped_with : (t : Turn S) (first : Stop) (bs : List ℕ) (P : Stop → Type 0)
+      → t.stop ≡ Some first → P first → (why : Stop)
+      → (hear rules now t bs).stop ≡ Some why → P why
   stopped_with t first bs P is holds why e =
       let one : is_stopped t.stop ≡ true = rw is refl in
       let all = hear_stopped t bs one in
       let two : Some first ≡ Some why = sym is ∙ sym (ap (λ (u : Turn S). u.stop) all) ∙ e in
       let same : first ≡ why = cc in
-      subst (λ (x : Stop). P x.cause) same holds
+      subst P same holds
 
   -- the rest of a piece, once no head is unfinished
   rest_of : (e end : NearEnd) (r role : S) (b : ℕ) (bs : List ℕ) → e.leg ≡ end.leg
       → (e.intake.stage ≡ stage.Head → ⊥) → Stops (hear rules now (goes e r) bs) e r bs
       → Stops (hear rules now (goes e r) bs) end role (b ∷ bs)
   rest_of e end r role b bs leg past rest why is =
-      other_heads end.leg (RefusesHead rules r e bs) (RefusesHead rules role end (b ∷ bs))
-      (λ status h. absurd (past h.stage)) why.cause
-      (subst (λ (l : Leg). IsOfPiece l (RefusesHead rules r e bs) why.cause) leg (rest why is))
+      other_stop end.leg (RefusesHead rules r e bs) (RefusesHead rules role end (b ∷ bs))
+      (λ status h. absurd (past h.stage)) why
+      (subst (λ (l : Leg). IsStop l (RefusesHead rules r e bs) why) leg (rest why is))
 
   module _ (end : NearEnd) (role : S) (b : ℕ) (bs : List ℕ)
       (rest : (e : NearEnd) (r : S) → Stops (hear rules now (goes e r) bs) e r bs) where
@@ -218,8 +244,8 @@ module _ {S : Type 0} (rules : Rules S) (now : ℕ) where
     nothing_stops : (j : Intake) → After end.intake b (j, Nothing)
         → Stops (hear rules now (goes (behind_byte j) role) bs) end role (b ∷ bs)
     nothing_stops j after why is =
-        other_heads end.leg (RefusesHead rules role (behind_byte j) bs)
-        (RefusesHead rules role end (b ∷ bs)) so why.cause (rest (behind_byte j) role why is)
+        other_stop end.leg (RefusesHead rules role (behind_byte j) bs)
+        (RefusesHead rules role end (b ∷ bs)) so why (rest (behind_byte j) role why is)
       where
         so : (status : ℕ) → RefusesHead rules role (behind_byte j) bs status
             → RefusesHead rules role end (b ∷ bs) status
@@ -245,20 +271,30 @@ module _ {S : Type 0} (rules : Rules S) (now : ℕ) where
 
     refused_with : (text : List ℕ) (why : HeadRefused) → After end.intake b (end.intake, Head text)
         → (rules.head role end.leg text).1 ≡ Err why
-        → IsOfPiece end.leg (RefusesHead rules role end (b ∷ bs))
-        (stop_head end.leg (length text) why).cause
-    refused_with text (head.Request fault) after is = refl
-    refused_with text (head.Response fault) after is = refl
-    refused_with text (head.Status status) after is = (refl, record {
-      stage = after.0;
-      front = b ∷ [];
-      behind = bs;
-      cut = refl;
-      whole = subst (λ (x : List ℕ). is_whole_head x ≡ true) after.1 after.2;
-      refused =
-          subst (λ (x : List ℕ). (rules.head role end.leg x).1 ≡ Err (head.Status status)) after.1
-          is;
-    })
+        → IsStop end.leg (RefusesHead rules role end (b ∷ bs))
+        (stop_head end.leg (length text) why)
+    refused_with text (head.Request fault) after is = record {
+      cause = refl;
+      refusal = λ r e. record {
+        place = length text;
+        fault = fault;
+        cause = refl;
+        answer = cc;
+      };
+    }
+    refused_with text (head.Response fault) after is =
+        plain_stop end.leg (RefusesHead rules role end (b ∷ bs)) _ refl
+    refused_with text (head.Status status) after is =
+        plain_stop end.leg (RefusesHead rules role end (b ∷ bs)) _ (refl, record {
+          stage = after.0;
+          front = b ∷ [];
+          behind = bs;
+          cut = refl;
+          whole = subst (λ (x : List ℕ). is_whole_head x ≡ true) after.1 after.2;
+          refused =
+              subst (λ (x : List ℕ). (rules.head role end.leg x).1 ≡ Err (head.Status status))
+              after.1 is;
+        })
 
     head_stops : (j : Intake) (text : List ℕ) (x : S × Result HeadTaken HeadRefused)
         → rules.head role end.leg text ≡ x → After end.intake b (end.intake, Head text)
@@ -270,7 +306,7 @@ module _ {S : Type 0} (rules : Rules S) (now : ℕ) where
     head_stops j text (r, Err why) is after =
         stopped_with (stops (behind_byte j) r (stop_head end.leg (length text) why))
         (stop_head end.leg (length text) why) bs
-        (IsOfPiece end.leg (RefusesHead rules role end (b ∷ bs))) refl
+        (IsStop end.leg (RefusesHead rules role end (b ∷ bs))) refl
         (refused_with text why after (ap (λ (y : S × Result HeadTaken HeadRefused). y.1) is))
 
     greeting_stops : (j : Intake) (t : Bool)
@@ -283,7 +319,8 @@ module _ {S : Type 0} (rules : Rules S) (now : ℕ) where
     greeting_stops j false =
         stopped_with (stops (behind_byte j) role (stop (cause.Unexpected end.leg 0)))
         (stop (cause.Unexpected end.leg 0)) bs
-        (IsOfPiece end.leg (RefusesHead rules role end (b ∷ bs))) refl refl
+        (IsStop end.leg (RefusesHead rules role end (b ∷ bs))) refl
+        (plain_stop end.leg (RefusesHead rules role end (b ∷ bs)) _ refl)
 
     frame_stops : (j : Intake) (x : S × Result Count Cause) → j.stage ≡ stage.Frames
         → IsOfFrame end.leg (RefusesHead rules role end (b ∷ bs)) x.1
@@ -293,14 +330,16 @@ module _ {S : Type 0} (rules : Rules S) (now : ℕ) where
         rest_of e end r role b bs refl (λ h. absurd cc) (rest e r)
     frame_stops j (r, Err why) st is =
         stopped_with (stops (behind_byte j) r (stop why)) (stop why) bs
-        (IsOfPiece end.leg (RefusesHead rules role end (b ∷ bs))) refl is
+        (IsStop end.leg (RefusesHead rules role end (b ∷ bs))) refl
+        (plain_stop end.leg (RefusesHead rules role end (b ∷ bs)) why is)
 
     fault_stops : (j : Intake) (why : Cause)
         → IsOfPiece end.leg (RefusesHead rules role end (b ∷ bs)) why
         → Stops (hear rules now (stops (behind_byte j) role (stop why)) bs) end role (b ∷ bs)
     fault_stops j why is =
         stopped_with (stops (behind_byte j) role (stop why)) (stop why) bs
-        (IsOfPiece end.leg (RefusesHead rules role end (b ∷ bs))) refl is
+        (IsStop end.leg (RefusesHead rules role end (b ∷ bs))) refl
+        (plain_stop end.leg (RefusesHead rules role end (b ∷ bs)) why is)
 
     came_stops : (j : Intake) (c : Came) → After end.intake b (j, c)
         → Stops (hear rules now (take rules (behind_byte j) role c) bs) end role (b ∷ bs)

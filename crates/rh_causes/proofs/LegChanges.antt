@@ -17,10 +17,16 @@ use Rattle.rh_shell.specs.declared.answers.HeadTaken.{HeadTaken}
 use Rattle.rh_shell.specs.declared.course.Course.{Course}
 use Rattle.rh_shell.specs.declared.course.Course.TheVariants.{Going, Closed, Refusing}
 use Rattle.rh_shell.specs.declared.stop.Stop.{Stop}
-use Rattle.rh_shell.specs.Intakes.{Came, Nothing, Head, Greeting, Frame, Fault, Over, on_byte}
+use Rattle.rh_shell.specs.declared.answers.Behind.{Behind}
+use Rattle.rh_shell.specs.declared.answers.Behind.TheVariants as behinds
+use Rattle.rh_shell.specs.declared.stage.Stage.{Stage}
+use Rattle.rh_shell.specs.declared.stage.Stage.TheVariants as stage
+use Rattle.rh_shell.specs.Intakes.{Intake, Came, Nothing, Head, Greeting, Frame, Fault, Over, on_byte, byte_by, text_by, frame_by, frame_byte, is_whole_head, is_whole_greeting, is_full, counted}
+use Rattle.rh_pdu.specs.declared.fault.HeadFault.{HeadFault}
+use Rattle.rh_pdu.specs.Header.{header_length, frag_of, head_fault}
 use Rattle.rh_shell.specs.Rules.{Rules, Acts, put_into}
 use Rattle.rh_shell.specs.NearEnds.{NearEnd, new_end, marked, is_marked, is_empty, is_ended, is_finished, is_over}
-use Rattle.rh_shell.specs.Hearing.{Turn, goes, touched, with_intake, heading, head_row, behind_head, behind_frame, take_frame, is_greeting, is_stopped, hear, hear_byte, take_next}
+use Rattle.rh_shell.specs.Hearing.{Turn, goes, touched, with_intake, heading, head_row, stage_of, behind_head, behind_frame, take_frame, is_greeting, is_stopped, hear, hear_byte, take_next}
 use Rattle.rh_shell.specs.Hearing.{take as taken}
 use Rattle.rh_shell.specs.Drawing.{Drawn, drawn, put_on, begun_now, filled, left_by, next_byte, draw}
 use Rattle.rh_shell.specs.Shells.{Shell, same_leg, is_going, end_at, with_end, place, close, refuse, stop_by, stopped, may_up, with_leg, seated, up, bytes_at, bytes_by, lose, lost, ended_at, ended_by, wants, is_heard, unreached_by, unreached, broken_at, broken_by, put_back, drawn_at, drawn_by, first_silent, passed_by, passed, is_working, state_of}
@@ -31,26 +37,78 @@ use Rattle.rh_causes.proofs.Sorts.{end_leg}
 
 -- ---- the leg of an end stays where bytes are heard, and its moment is the last one
 
--- of the same leg, last heard at the same moment
+-- of the same leg, last heard at the same moment; it waits for a head only where the other does
 record IsLike (a b : NearEnd) : Type 0 where
   leg : a.leg ≡ b.leg
   since : a.since ≡ b.since
+  head : a.intake.stage ≡ stage.Head → b.intake.stage ≡ stage.Head
 
 like_self : (a : NearEnd) → IsLike a a
-like_self a = record { leg = refl; since = refl }
+like_self a = record { leg = refl; since = refl; head = λ h. h }
 
 like_then : (a b c : NearEnd) → IsLike a b → IsLike b c → IsLike a c
-like_then a b c p q = record { leg = p.leg ∙ q.leg; since = p.since ∙ q.since }
+like_then a b c p q = record {
+  leg = p.leg ∙ q.leg;
+  since = p.since ∙ q.since;
+  head = λ h. q.head (p.head h);
+}
+
+-- ---- what a leg waits for
+
+module _ (i : Intake) where
+  -- no head is waited for behind a byte that was not before it
+  abbrev Waits : Intake × Came → Type 0
+  Waits n = n.0.stage ≡ stage.Head → i.stage ≡ stage.Head
+
+  waits_by : (b : Bool) (m n : Intake × Came) → Waits m → Waits n → Waits (cond b m n)
+  waits_by true m n p q = p
+  waits_by false m n p q = q
+
+  header_waits : (j : Intake) (all : List ℕ) (o : Option HeadFault) → j.stage ≡ i.stage
+      → Waits (frame_by j all o)
+  header_waits j all (Some fault) same = λ h. absurd cc
+  header_waits j all None same =
+      waits_by (nat_lt (length all) (frag_of all)) _ _ (λ h. sym same ∙ h) (λ h. sym same ∙ h)
+
+  frame_waits : (j : Intake) (all : List ℕ) → j.stage ≡ i.stage → Waits (frame_byte j all)
+  frame_waits j all same =
+      waits_by (nat_lt (length all) header_length) _ _ (λ h. sym same ∙ h)
+      (header_waits j all (head_fault all) same)
+
+  text_waits : (all : List ℕ) (came : Came) (b : Bool) → Waits (text_by i all came b)
+  text_waits all came true = λ h. h
+  text_waits all came false = λ h. h
+
+  byte_waits : (s : Stage) (all : List ℕ) → Waits (byte_by s i all)
+  byte_waits stage.Head all = text_waits all (Head all) (is_whole_head all)
+  byte_waits stage.Greeting all = text_waits all (Greeting all) (is_whole_greeting all)
+  byte_waits stage.Frames all =
+      waits_by (is_full i.body) _ _ (λ h. absurd cc)
+      (frame_waits (record i { body = counted 1 i.body }) all refl)
+  byte_waits stage.PassedOver all =
+      waits_by (is_full i.body) _ _ (λ h. absurd cc) (λ h. h)
+  byte_waits stage.Shut all = λ h. h
+
+  on_byte_waits : (b : ℕ) → Waits (on_byte i b)
+  unfolding on_byte
+  on_byte_waits b = byte_waits i.stage (i.held ++ b ∷ [])
+
+-- ---- bytes
 
 head_like : {S : Type 0} (end : NearEnd) (leg : Leg) (n : ℕ) (x : S × Result HeadTaken HeadRefused)
     → IsLike (behind_head end (head_row leg n x)).end end
-head_like end leg n (role, Ok t) = record { leg = refl; since = refl }
-head_like end leg n (role, Err why) = record { leg = refl; since = refl }
+head_like end leg n (role, Ok t) =
+    record { leg = refl; since = refl; head = λ h. absurd (not_head t.behind h) }
+  where
+    not_head : (behind : Behind) → stage_of behind ≡ stage.Head → ⊥
+    not_head behinds.Frames h = absurd cc
+    not_head behinds.PassedOver h = absurd cc
+head_like end leg n (role, Err why) = like_self end
 
 frame_like : {S : Type 0} (end : NearEnd) (x : S × Result Count Cause)
     → IsLike (behind_frame end x).end end
-frame_like end (role, Ok next) = record { leg = refl; since = refl }
-frame_like end (role, Err why) = record { leg = refl; since = refl }
+frame_like end (role, Ok next) = record { leg = refl; since = refl; head = λ h. h }
+frame_like end (role, Err why) = like_self end
 
 either_like : {S : Type 0} (t : Bool) (a b : Turn S) (end : NearEnd) → IsLike a.end end
     → IsLike b.end end → IsLike (cond t a b).end end
@@ -64,7 +122,8 @@ module _ {S : Type 0} (rules : Rules S) where
   came_like end role (Head text) =
       head_like end end.leg (length text) (rules.head role end.leg text)
   came_like end role (Greeting text) =
-      either_like (is_greeting text) _ _ end (record { leg = refl; since = refl }) (like_self end)
+      either_like (is_greeting text) _ _ end
+      (record { leg = refl; since = refl; head = λ h. absurd cc }) (like_self end)
   came_like end role (Frame at frame) =
       frame_like end (take_frame rules (heading end at) role frame)
   came_like end role (Fault at fault) = like_self end
@@ -75,7 +134,8 @@ module _ {S : Type 0} (rules : Rules S) where
   next_like end role b =
       let next = on_byte end.intake b in
       let e = with_intake end next.0 in
-      like_then _ e end (came_like e role next.1) (record { leg = refl; since = refl })
+      like_then _ e end (came_like e role next.1)
+      (record { leg = refl; since = refl; head = on_byte_waits end.intake b })
 
   module _ (now : ℕ) where
     byte_like : (t : Turn S) (b : ℕ) → t.end.since ≡ now
@@ -86,7 +146,7 @@ module _ {S : Type 0} (rules : Rules S) where
         heard : IsLike (take_next rules (touched t.end now) t.role (on_byte t.end.intake b)).end
             t.end
         heard = like_then _ (touched t.end now) t.end (next_like (touched t.end now) t.role b)
-            (record { leg = refl; since = sym is })
+            (record { leg = refl; since = sym is; head = λ h. h })
 
         by : (stops over : Bool) → IsLike (cond (stops || over) t
             (take_next rules (touched t.end now) t.role (on_byte t.end.intake b))).end t.end
@@ -125,25 +185,32 @@ module _ {S : Type 0} (rules : Rules S) where
     pub record HeardEnd (end new : NearEnd) (flag : Bool) : Type 0 where
       pub leg : new.leg ≡ end.leg
       pub since : new.since ≡ cond flag now end.since
+      pub head : new.intake.stage ≡ stage.Head → end.intake.stage ≡ stage.Head
 
     pub piece_end : (end : NearEnd) (role : S) (piece : List ℕ)
         → HeardEnd end (hear rules now (goes end role) piece).end
         (not (is_empty piece) && not (is_over rules end role))
-    piece_end end role [] = rw (hear_none end role) (record { leg = refl; since = refl })
+    piece_end end role [] =
+        rw (hear_none end role) (record { leg = refl; since = refl; head = λ h. h })
     piece_end end role (b ∷ bs) = by (is_over rules end role) refl
       where
         by : (t : Bool) → is_over rules end role ≡ t
             → HeardEnd end (hear rules now (goes end role) (b ∷ bs)).end (not t)
         by true e =
             subst (λ (u : Turn S). HeardEnd end u.end false)
-            (sym (hear_over end role (b ∷ bs) e)) (record { leg = refl; since = refl })
+            (sym (hear_over end role (b ∷ bs) e))
+            (record { leg = refl; since = refl; head = λ h. h })
         by false e =
             let first = touched end now in
             let next = take_next rules first role (on_byte end.intake b) in
             let one = next_like first role b in
             let all = rest_like next bs one.since in
             subst (λ (u : Turn S). HeardEnd end u.end true) (sym (hear_first end role b bs e))
-            (record { leg = all.leg ∙ one.leg; since = all.since ∙ one.since })
+            (record {
+              leg = all.leg ∙ one.leg;
+              since = all.since ∙ one.since;
+              head = λ h. one.head (all.head h);
+            })
 
     -- what is not heard changes nothing
     pub piece_unheard : (end : NearEnd) (role : S) (piece : List ℕ)
@@ -161,7 +228,7 @@ module _ {S : Type 0} (rules : Rules S) where
 
     begun_like : (end : NearEnd) (text : List ℕ) → IsLike (begun_now now end text) end
     begun_like end [] = like_self end
-    begun_like end (b ∷ bs) = record { leg = refl; since = refl }
+    begun_like end (b ∷ bs) = record { leg = refl; since = refl; head = λ h. h }
 
     filled_like : (end : NearEnd) (role : S) → IsLike (filled rules now end role).end end
     filled_like end role = by (is_empty end.begun && not (is_over rules end role))
@@ -175,8 +242,8 @@ module _ {S : Type 0} (rules : Rules S) where
 
     left_like : (end : NearEnd) (role : S) (bs : List ℕ)
         → IsLike (left_by rules end role bs).end end
-    left_like end role [] = record { leg = refl; since = refl }
-    left_like end role (b ∷ bs) = record { leg = refl; since = refl }
+    left_like end role [] = record { leg = refl; since = refl; head = λ h. h }
+    left_like end role (b ∷ bs) = record { leg = refl; since = refl; head = λ h. h }
 
     more_like : (end : NearEnd) (f : Drawn S) (bytes : List ℕ) (more : NearEnd → S → Drawn S)
         → IsLike f.end end → ((e : NearEnd) (r : S) → IsLike (more e r).end e)
@@ -223,6 +290,7 @@ module _ {S : Type 0} (rules : Rules S) (s : Shell S) (event : Event) where
     pub same : new.leg ≡ old.leg
     pub legs : t.legs ≡ slice_set s.legs (place leg s.legs) new
     pub since : new.since ≡ cond flag s.now old.since
+    pub head : new.intake.stage ≡ stage.Head → old.intake.stage ≡ stage.Head
     pub touch : (other : Leg) → touches rules s other event ≡ (same_leg leg other && flag)
 
   pub record Comes (t : Shell S) : Type 0 where
@@ -247,16 +315,17 @@ module _ {S : Type 0} (rules : Rules S) (s : Shell S) (event : Event) where
 
   -- an end that is untouched
   one : IsUntouched → (leg : Leg) (end new : NearEnd) (role : S) → end_at s leg ≡ Some end
-      → new.leg ≡ end.leg → new.since ≡ end.since → Makes (with_end s leg new role)
-  one none leg end new role at same since = inr (inl (record {
+      → IsLike new end → Makes (with_end s leg new role)
+  one none leg end new role at like = inr (inl (record {
     leg = leg;
     old = end;
     new = new;
     flag = false;
     at = at;
-    same = same;
+    same = like.leg;
     legs = refl;
-    since = since;
+    since = like.since;
+    head = like.head;
     touch = λ other. none other ∙ sym (and_false (same_leg leg other));
   }))
 
@@ -264,15 +333,18 @@ module _ {S : Type 0} (rules : Rules S) (s : Shell S) (event : Event) where
       → Makes (lost rules s leg end why)
   loses none leg end why at = by (is_finished rules s.role end)
     where
+      lost : IsLike (marked end) end
+      lost = record { leg = refl; since = refl; head = λ h. h }
+
       by_mark : (t : Bool) → Makes
           (cond t (with_end s leg (marked end) (rules.mark s.role leg)) (close s why))
-      by_mark true = one none leg end (marked end) (rules.mark s.role leg) at refl refl
+      by_mark true = one none leg end (marked end) (rules.mark s.role leg) at lost
       by_mark false = stay none (close s why) refl
 
       by_phase : (t : Bool) → Makes (cond t (with_end s leg (marked end) s.role)
           (cond (rules.only_marks s.role leg)
           (with_end s leg (marked end) (rules.mark s.role leg)) (close s why)))
-      by_phase true = one none leg end (marked end) s.role at refl refl
+      by_phase true = one none leg end (marked end) s.role at lost
       by_phase false = by_mark (rules.only_marks s.role leg)
 
       by : (t : Bool) → Makes (cond t s (lose rules s leg end why))
@@ -337,6 +409,7 @@ module _ {S : Type 0} (rules : Rules S) (s : Shell S) where
             same = h.leg;
             legs = stop_legs rules s (Hears leg piece) (with_end s leg t.end t.role) leg t.stop;
             since = h.since;
+            head = h.head;
             touch = λ other. ap (λ t. same_leg leg other && t) hears;
           }))
 
@@ -409,7 +482,7 @@ module _ {S : Type 0} (rules : Rules S) (s : Shell S) where
           let like = draw_like rules s.now n end s.role in
           pair_by rules s (Draws leg n) (is_marked end.standing) (s, []) (put_back s leg d)
           (same s refl)
-          (one rules s (Draws leg n) (λ other. refl) leg end d.end d.role e like.leg like.since)
+          (one rules s (Draws leg n) (λ other. refl) leg end d.end d.role e like)
 
       by_course : (c : Course) → Makes rules s (Draws leg n) (drawn_by rules s leg n c).0
       by_course Going = by_end (end_at s leg) refl

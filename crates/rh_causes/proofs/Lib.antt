@@ -6,3 +6,6 @@ mod Places
 mod Touches
 mod NodeMoments
 mod OnceUp
+mod Refusing
+mod MoveRoles
+mod ServerLegs

@@ -1,3 +1,4 @@
 pub mod Reasons
 pub mod Once
 pub mod Moments
+pub mod Refusals

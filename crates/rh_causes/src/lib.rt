@@ -3,8 +3,12 @@
 
 pub mod moments;
 pub mod once;
+pub mod once_each;
+pub mod refusals;
 
 pub use moments::{
     a_leg_is_silent_since_it_was_heard, an_ends_leg_is_silent_since_it_was_heard,
 };
+pub use refusals::a_node_refuses_for_a_reason;
+pub use once_each::a_servers_leg_comes_up_once;
 pub use once::{UpOnce, a_leg_comes_up_once, an_ends_leg_comes_up_once};
