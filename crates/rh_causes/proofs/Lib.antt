@@ -9,3 +9,6 @@ mod OnceUp
 mod Refusing
 mod MoveRoles
 mod ServerLegs
+mod InProxyLegs
+mod OutProxyLegs
+mod ClosedBy

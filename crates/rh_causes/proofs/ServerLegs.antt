@@ -34,14 +34,14 @@ use Rattle.rh_server.specs.declared.state.Leaving.{Leaving}
 use Rattle.rh_server.specs.declared.state.Leaving.TheVariants as leaving
 use Rattle.rh_server.specs.declared.state.Tells.{Tells}
 use Rattle.rh_server.specs.declared.state.Tells.TheVariants as tells
-use Rattle.rh_server.specs.States.{Server, is_open, is_closing, is_due, in_leg, without_in, without_out, out_place}
+use Rattle.rh_server.specs.States.{Server, is_open, is_closing, is_due, is_waiting, stays, in_leg, with_in, without_in, without_out, out_place}
 use Rattle.rh_server.specs.Opening.{Done, unexpected, is_first, may_up, may_up_by, was_up, was_up_by, up, up_by, has_room, on_conn_a2, on_conn_b2}
 use Rattle.rh_server.specs.OutLines.{Gate, lets, length_of, waits}
 use Rattle.rh_server.specs.declared.out_line.Kind.TheVariants as kind
 use Rattle.rh_server.specs.Acknowledging.{channel_at, on_ack_to, on_ack, on_ping_traffic}
 use Rattle.rh_server.specs.InReplacement.{take, carries_next, in_r2_a2_on, on_in_r1_a2, on_in_r1_a6, on_in_r2_a2}
 use Rattle.rh_server.specs.OutReplacement.{recycle, on_out_r1_a4, on_out_r1_a8}
-use Rattle.rh_server.specs.Ending.{give, give_by, on_end_a2, drawn, drawn_by, in_is_drawn, mark, mark_by, with_ack_dropped, settled}
+use Rattle.rh_server.specs.Ending.{give, give_by, on_end_a2, drawn, drawn_by, in_is_drawn, mark, mark_by, lost_in, with_ack_dropped, settled}
 use Rattle.rh_server.specs.Putting.{Pick, or_else, put, put_by, put_in, put_in_by, put_in_greeting, put_tells, put_tells_by, put_b1, put_b1_by, put_ack, put_ack_by, ack_due, put_out, put_out_at, put_out_place, put_open, next_in, next_out, out_greeting_at, put_out_greeting, put_waiting, waiting_at, waiting_by, was_put, goes, with_out, counts, counts_at, may_go_at, may_end_at, is_end_due, gate, gate_at, put_pdu, pdu_by, put_end, put_pdu_or_end, settled_pick}
 use Rattle.rh_server.specs.Servers.{rules as server_rules, acts as server_acts, on_is, on_os, packet, packet_by, pdu}
 use Rattle.rh_causes.specs.Once.{ComesUpOnce, KeepsUp}
@@ -217,8 +217,17 @@ same_drawn s leg = by leg.kind
 same_mark : (s : Server) (leg : Leg) → Same s (mark s leg)
 same_mark s leg = by leg.kind
   where
+    lost : (o : Option InLeg) → Same s (lost_in s leg.number o)
+    lost None = refl
+    lost (Some one) =
+        by_test (Same s) (is_waiting one.stage && stays one.leaving)
+        (with_in s (record one { leaving = leaving.Lost })) (without_in s leg.number) (λ e. refl)
+        (λ e. refl)
+
     by : (kind : LegKind) → Same s (mark_by s leg.number kind)
-    by InServer = search rules
+    by InServer =
+        same_settled (lost_in s leg.number (in_leg leg.number s.ins))
+        ∙ lost (in_leg leg.number s.ins)
     by OutServer = same_settled (without_out (with_ack_dropped s leg.number) leg.number)
     by ClientIn = refl
     by ClientOut = refl

@@ -1,14 +1,18 @@
 //! Why nodes close. Its functions do nothing: their contracts are the laws.
 #![tactic(auto)]
 
+pub mod closings;
 pub mod moments;
 pub mod once;
 pub mod once_each;
 pub mod refusals;
 
+pub use closings::{causes_come_from_their_events, events_close_with_their_causes};
 pub use moments::{
     a_leg_is_silent_since_it_was_heard, an_ends_leg_is_silent_since_it_was_heard,
 };
 pub use refusals::a_node_refuses_for_a_reason;
-pub use once_each::a_servers_leg_comes_up_once;
+pub use once_each::{
+    a_servers_leg_comes_up_once, an_in_proxys_leg_comes_up_once, an_out_proxys_leg_comes_up_once,
+};
 pub use once::{UpOnce, a_leg_comes_up_once, an_ends_leg_comes_up_once};
