@@ -11,4 +11,5 @@ mod MoveRoles
 mod ServerLegs
 mod InProxyLegs
 mod OutProxyLegs
+mod ClientLegs
 mod ClosedBy

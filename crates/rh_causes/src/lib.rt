@@ -13,6 +13,7 @@ pub use moments::{
 };
 pub use refusals::a_node_refuses_for_a_reason;
 pub use once_each::{
-    a_servers_leg_comes_up_once, an_in_proxys_leg_comes_up_once, an_out_proxys_leg_comes_up_once,
+    a_clients_leg_comes_up_once, a_servers_leg_comes_up_once, an_in_proxys_leg_comes_up_once,
+    an_out_proxys_leg_comes_up_once,
 };
 pub use once::{UpOnce, a_leg_comes_up_once, an_ends_leg_comes_up_once};

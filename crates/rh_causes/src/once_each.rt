@@ -7,6 +7,8 @@ ghost use Rattle.rh_line.specs.declared.leg.Leg.{Leg};
 ghost use Rattle.rh_shell.specs.Moving.{ComesUp, EndEvent, Event, after_event, after_events};
 ghost use Rattle.rh_shell.specs.Moving.{after_end_events};
 ghost use Rattle.rh_shell.specs.Shells.{begun, may_up};
+ghost use Rattle.rh_http.specs.declared.config.ClientConfig.{ClientConfig};
+ghost use Rattle.rh_client.specs.Client as client;
 ghost use Rattle.rh_inproxy.specs.declared.state.InProxyConfig.{InProxyConfig};
 ghost use Rattle.rh_inproxy.specs.Machine as in_proxy;
 ghost use Rattle.rh_outproxy.specs.declared.out_proxy.TheConstants as out_proxies;
@@ -14,14 +16,21 @@ ghost use Rattle.rh_outproxy.specs.declared.state.OutProxyConfig.{OutProxyConfig
 ghost use Rattle.rh_outproxy.specs.Machine as out_proxy;
 ghost use Rattle.rh_outproxy.specs.OutProxy.{new_proxy};
 ghost use Rattle.rh_server.specs.Servers as server;
-ghost use Rattle.rh_causes.specs.Numbers.{AreNumbered};
+ghost use Rattle.rh_causes.specs.Numbers.{AreNumbered, ClientIsNumbered};
 ghost use Rattle.rh_causes.specs.Once.{AreNewLegs, AreNewLegsAtEnd, ComesUpOnce};
 ghost use Rattle.rh_causes.specs.Once.{KeepsUp, WasUp};
 
 use crate::once::{UpOnce, a_leg_comes_up_once, an_ends_leg_comes_up_once};
+use rh_client::ClientRole;
 use rh_inproxy::InProxyRole;
 use rh_outproxy::OutProxyRole;
 use rh_server::ServerRole;
+
+impl UpOnce for ClientRole {
+    ghost use Rattle.rh_causes.specs.Numbers.{ClientIsNumbered};
+
+    ghost holds = { ClientIsNumbered };
+}
 
 impl UpOnce for InProxyRole {
     ghost use Rattle.rh_causes.specs.Numbers.{AreNumbered};
@@ -35,6 +44,27 @@ impl UpOnce for OutProxyRole {
 
 impl UpOnce for ServerRole {
     ghost holds = { λ s. Unit {0} };
+}
+
+/// A leg comes up at most once at a client: its ci legs and its co legs have the numbers of its IN
+/// and OUT channels, each of which has the number behind the one that it replaces.
+pub fn a_clients_leg_comes_up_once()
+    ensures moves { ComesUpOnce client.rules ClientIsNumbered }
+    ensures calls { KeepsUp client.rules client.acts ClientIsNumbered }
+    ensures comes { (config : ClientConfig) (events : List EndEvent) (leg : Leg) (cookie : Cookie)
+        → (let node = after_end_events client.rules client.acts (client.first_client config)
+        events in
+        may_up client.rules node leg ≡ true
+        → WasUp client.rules (after_event client.rules node (ComesUp leg cookie)) leg) }
+    ensures once { (config : ClientConfig) (events later : List EndEvent) (leg : Leg)
+        → (let node = after_end_events client.rules client.acts (client.first_client config)
+        events in
+        client.rules.was_up node.role leg ≡ true
+        → WasUp client.rules (after_end_events client.rules client.acts node later) leg) }
+    ensures new { (config : ClientConfig) (events : List EndEvent)
+        → AreNewLegsAtEnd client.rules client.acts (client.first_client config) events }
+{
+    an_ends_leg_comes_up_once::<ClientRole>();
 }
 
 /// A leg comes up at most once at an in proxy: its is leg, and its ci legs, each of which has the
