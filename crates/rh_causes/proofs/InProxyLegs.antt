@@ -787,7 +787,7 @@ comes_up s leg are may =
     (λ f. let neither : false ≡ true = sym (ap (λ b. b || may_accept s leg) f ∙ e) ∙ may in
     absurd cc))
 
-in_order : (s : InProxy) → AreNumbered s → Holds s
+pub in_order : (s : InProxy) → AreNumbered s → Holds s
 in_order s are = record { first = are.first; behind = are.behind }
 
 pub in_proxy_once : ComesUpOnce proxy_rules AreNumbered

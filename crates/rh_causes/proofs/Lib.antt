@@ -13,3 +13,5 @@ mod InProxyLegs
 mod OutProxyLegs
 mod ClientLegs
 mod ClosedBy
+mod NoHeads
+mod RoleRefusals

@@ -4,3 +4,4 @@ pub mod Once
 pub mod Moments
 pub mod Refusals
 pub mod Numbers
+pub mod Watching

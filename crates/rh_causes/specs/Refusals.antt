@@ -43,6 +43,24 @@ MayRefuse rules role (Closed why) = Unit {0}
 MayRefuse rules role (Refusing why leg rest) =
     RefusesRequest why leg rest ⊎ TellsUnreached rules role why leg rest
 
+-- ---- proxies
+
+-- the proxy's leg to the server could not be connected, and the client is told so on its leg
+pub record TellsClient (client server : Leg) (why : Cause) (leg : Leg) (rest : List ℕ)
+    : Type 0 where
+  pub cause : why ≡ cause.LegBroken server
+  pub told : leg ≡ client
+  pub text : IsRestOf Unavailable rest
+
+-- why a proxy that has these legs refuses
+abbrev pub MayRefuseOn : Leg → Leg → Course → Type 0
+MayRefuseOn client server Going = Unit {0}
+MayRefuseOn client server (Closed why) = Unit {0}
+MayRefuseOn client server (Refusing why leg rest) =
+    RefusesRequest why leg rest ⊎ TellsClient client server why leg rest
+
+-- ---- responses
+
 -- the role never refuses a response for its status
 abbrev pub RefusesNoStatus : {S : Type 0} → Rules S → Type 0
 RefusesNoStatus {S} rules =

@@ -11,7 +11,10 @@ pub use closings::{causes_come_from_their_events, events_close_with_their_causes
 pub use moments::{
     a_leg_is_silent_since_it_was_heard, an_ends_leg_is_silent_since_it_was_heard,
 };
-pub use refusals::a_node_refuses_for_a_reason;
+pub use refusals::{
+    a_node_refuses_for_a_reason, a_proxy_refuses_for_a_reason,
+    only_a_client_closes_with_http_refused,
+};
 pub use once_each::{
     a_clients_leg_comes_up_once, a_servers_leg_comes_up_once, an_in_proxys_leg_comes_up_once,
     an_out_proxys_leg_comes_up_once,

@@ -1,0 +1,27 @@
+use Rattle.rh_shell.specs.Moving.{after_events}
+use Rattle.rh_shell.specs.Shells.{begun}
+use Rattle.rh_inproxy.specs.State.{first}
+use Rattle.rh_inproxy.specs.Machine as in_proxy
+use Rattle.rh_outproxy.specs.declared.out_proxy.TheConstants as out_proxies
+use Rattle.rh_outproxy.specs.OutProxy.{new_proxy}
+use Rattle.rh_outproxy.specs.Machine as out_proxy
+use Rattle.rh_causes.proofs.Refusing.{run_refuses}
+use Rattle.rh_causes.proofs.RoleRefusals.{in_config, in_refuses, out_config, out_refuses}
+use Rattle.rh_causes.proofs.refusals.a_proxy_refuses_for_a_reason.Goals as goal
+
+pub returns : goal.returns
+returns c = record {
+  in_proxy = λ config events.
+      let node = after_events in_proxy.rules (in_proxy.first_node config) events in
+      in_refuses config node.role node.course
+      (in_config config node
+      (c.roles_move_by_their_rules.ensures.run (first config) in_proxy.rooms events))
+      (run_refuses in_proxy.rules (in_proxy.first_node config) events tt);
+  out_proxy = λ config events.
+      let node =
+      after_events out_proxy.rules (begun (new_proxy config) out_proxies.ROOMS) events in
+      out_refuses config node.role node.course
+      (out_config config node
+      (c.roles_move_by_their_rules-2.ensures.run (new_proxy config) out_proxies.ROOMS events))
+      (run_refuses out_proxy.rules (begun (new_proxy config) out_proxies.ROOMS) events tt);
+}

@@ -1,0 +1,58 @@
+-- how long a role lets a leg be silent, in milliseconds: of a client MS-RPCH 3.2.2.6, of the others
+-- MS-RPCH 3.2; which legs of a proxy are watched is this profile's. A server and an out proxy watch
+-- none
+use Rattle.std.specs.Prelude.{ℕ, ◌≡◌, ◌⊎◌, ◌<◌, ◌&&◌, List, [], ◌∷◌, Bool, not, if◌then◌else◌, Some, None}
+use Rattle.std.specs.declared.option.Option.{Option}
+use Rattle.rh_http.specs.declared.config.ClientConfig.{ClientConfig}
+use Rattle.rh_sig.specs.declared.named.Named.{Named}
+use Rattle.rh_sig.specs.declared.named.Named.TheVariants.{ConnA3, OutR1A6}
+use Rattle.rh_line.specs.declared.leg.Leg.{Leg}
+use Rattle.rh_line.specs.declared.leg.LegKind.TheVariants.{ClientOut}
+use Rattle.rh_shell.specs.Rules.{Message, Text, Pdu, Packet}
+use Rattle.rh_shell.specs.Moves.{OnLeg, EndPassage, end_started}
+use Rattle.rh_shell.specs.Moving.{EndLeads}
+use Rattle.rh_shell.specs.Shells.{Shell}
+use Rattle.rh_inproxy.specs.declared.state.InProxyConfig.{InProxyConfig}
+use Rattle.rh_inproxy.specs.State.{is_client_leg}
+use Rattle.rh_client.specs.declared.state.ClientRole.{ClientRole}
+use Rattle.rh_client.specs.Client.{rules, acts}
+use Rattle.rh_client.specs.State.{first}
+
+-- ---- an in proxy
+
+-- a ci leg, until IN_R1/A5 came there: for the timeout that the proxy was made with
+abbrev pub in_proxy_limit : InProxyConfig → Leg → Bool → Option ℕ
+in_proxy_limit config leg handed_over =
+    if is_client_leg leg && not handed_over then Some config.timeout else None
+
+-- ---- a client
+
+-- the timeout of an OUT channel is told by CONN/A3 for the first one, and by OUT_R1/A6 for each
+-- later one
+abbrev pub TellsBy : ℕ → ℕ → Named → Type 0
+TellsBy number timeout (ConnA3 told) = (number ≡ 1) × (told ≡ timeout)
+TellsBy number timeout (OutR1A6 to version told) = (1 < number) × (told ≡ timeout)
+TellsBy number timeout packet = ⊥
+
+abbrev pub Tells : ℕ → ℕ → Message → Type 0
+Tells number timeout (Text bytes) = ⊥
+Tells number timeout (Pdu pdu) = ⊥
+Tells number timeout (Packet packet) = TellsBy number timeout packet
+
+-- one of the packets that came did
+abbrev pub WasTold : ℕ → ℕ → List OnLeg → Type 0
+WasTold number timeout [] = ⊥
+WasTold number timeout (one ∷ log) = Tells number timeout one.1 ⊎ WasTold number timeout log
+
+-- only a co leg is watched, and for the timeout that was told
+pub record IsWatched (came : List OnLeg) (leg : Leg) (limit : ℕ) : Type 0 where
+  pub kind : leg.kind ≡ ClientOut
+  pub told : WasTold leg.number limit came
+
+-- a client behind moves, and what it watches by what came
+pub record Watches (config : ClientConfig) (node : Shell ClientRole) : Type 0 where
+  pub passage : EndPassage ClientRole
+  pub leads : EndLeads rules acts (end_started (first config)) passage
+  pub role : passage.passage.role ≡ node.role
+  pub watched : (leg : Leg) (limit : ℕ) → rules.silence node.role leg ≡ Some limit
+      → IsWatched passage.passage.came leg limit
