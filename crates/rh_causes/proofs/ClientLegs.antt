@@ -55,38 +55,8 @@ use Rattle.rh_client.specs.Client.{pdu, packet, packet_by, packet_on, on_packet}
 use Rattle.rh_client.specs.Client as client
 use Rattle.rh_causes.specs.Once.{ComesUpOnce, KeepsUp}
 use Rattle.rh_causes.specs.Numbers.{AreNumberedBy, ClientIsNumbered}
+use Rattle.rh_causes.proofs.ClientSteps.{Side, Sides, sides, begun, shifted, StepLaws, Timed, later_same, later_self, packet_later, pdu_later, up_later, pick_later, put_by_later, drawn_same, ping_same, give_same, take_later, recycle_later}
 use Rattle.rh_causes.proofs.MoveRoles.{by_row, behind_put, by_put, by_given, by_first}
-
--- the channels of a direction: the one in use, whether its leg is up, and its successor's, where a
--- replacement is under way
-pub record Side : Type 0 where
-  pub now : ℕ
-  pub now_up : Bool
-  pub next : ℕ
-  pub next_up : Bool
-  pub under_way : Bool
-
-pub record Sides : Type 0 where
-  pub ins : Side
-  pub outs : Side
-
-abbrev pub sides : ClientRole → Sides
-sides s = record {
-  ins = record {
-    now = s.writing.number;
-    now_up = is_up s.writing.opening;
-    next = s.in_successor.number;
-    next_up = is_up s.in_successor.opening;
-    under_way = is_in s.replacement;
-  };
-  outs = record {
-    now = s.current.number;
-    now_up = is_up s.current.opening;
-    next = s.out_successor.number;
-    next_up = is_up s.out_successor.opening;
-    under_way = is_out s.replacement;
-  };
-}
 
 -- the number's leg was up, or is wanted
 abbrev was_on : ℕ → Side → Bool
@@ -105,13 +75,13 @@ pub record Grows (x y : Side) : Type 0 where
   pub sound : IsSound y
 
 -- a leg that was up was up from then on, and the numbers are in order
-pub record Later (s t : ClientRole) : Type 0 where
-  pub ins : Grows (sides s).ins (sides t).ins
-  pub outs : Grows (sides s).outs (sides t).outs
+pub record AllGrow (x y : Sides) : Type 0 where
+  pub ins : Grows x.ins y.ins
+  pub outs : Grows x.outs y.outs
 
-pub record Sound (s : ClientRole) : Type 0 where
-  pub ins : IsSound (sides s).ins
-  pub outs : IsSound (sides s).outs
+pub record AreSound (x : Sides) : Type 0 where
+  pub ins : IsSound x.ins
+  pub outs : IsSound x.outs
 
 -- ---- steps of a direction
 
@@ -132,11 +102,12 @@ more_next false true c v h = refl
 more_next false false true v h = refl
 more_next false false false v h = absurd cc
 
-no_next : (a b c v k : Bool) → (a || (b || ((false && c) && v))) ≡ true
+no_next : (a b w c v k : Bool) → w ≡ false → (a || (b || ((w && c) && v))) ≡ true
     → (a || (b || k)) ≡ true
-no_next true b c v k h = refl
-no_next false true c v k h = refl
-no_next false false c v k h = absurd cc
+no_next a b true c v k e h = absurd cc
+no_next true b false c v k e h = refl
+no_next false true false c v k e h = refl
+no_next false false false c v k e h = absurd cc
 
 -- the leg in use is up
 up_now : (x : Side) → IsSound x → Grows x (record x { now_up = true })
@@ -157,49 +128,83 @@ up_next x sound = record {
 }
 
 -- a replacement begins, where none was under way
-begins : (now next : ℕ) (u v : Bool) → IsSound (record {
-  now = now; now_up = u; next = next; next_up = v; under_way = false;
-}) → Grows (record { now = now; now_up = u; next = next; next_up = v; under_way = false })
-    (record { now = now; now_up = u; next = now + 1; next_up = false; under_way = true })
-begins now next u v sound = record {
+begins : (x : Side) → x.under_way ≡ false → IsSound x → Grows x (begun x)
+begins x e sound = record {
   was = λ n h.
-      no_next (nat_lt 0 n && nat_lt n now) (n == now && u) (n == next) v
-      ((true && n == now + 1) && false) h;
-  sound = record { first = sound.first; behind = λ e. omega arith };
+      no_next (nat_lt 0 n && nat_lt n x.now) (n == x.now && x.now_up) x.under_way (n == x.next)
+      x.next_up ((true && n == x.now + 1) && false) e h;
+  sound = record { first = sound.first; behind = λ f. omega arith };
 }
 
--- none is under way, so that the successor does not matter
-rests : (now next other : ℕ) (u v w : Bool) → IsSound (record {
-  now = now; now_up = u; next = next; next_up = v; under_way = false;
-}) → Grows (record { now = now; now_up = u; next = next; next_up = v; under_way = false })
-    (record { now = now; now_up = u; next = other; next_up = w; under_way = false })
-rests now next other u v w sound = record {
-  was = λ n h.
-      no_next (nat_lt 0 n && nat_lt n now) (n == now && u) (n == next) v
-      ((false && n == other) && w) h;
-  sound = record { first = sound.first; behind = λ e. absurd cc };
-}
-
-shift_by : (n now next : ℕ) (u v k : Bool) → 0 < now → now < next
-    → ((nat_lt 0 n && nat_lt n now) || ((n == now && u) || ((true && n == next) && v))) ≡ true
-    → ((nat_lt 0 n && nat_lt n next) || ((n == next && v) || k)) ≡ true
-shift_by n now next true true k p q h = grind (arith, nat_tests)
-shift_by n now next true false k p q h = grind (arith, nat_tests)
-shift_by n now next false true k p q h = grind (arith, nat_tests)
-shift_by n now next false false k p q h = grind (arith, nat_tests)
+shift_by : (n now next : ℕ) (u v w : Bool) → w ≡ true → 0 < now → now < next
+    → ((nat_lt 0 n && nat_lt n now) || ((n == now && u) || ((w && n == next) && v))) ≡ true
+    → ((nat_lt 0 n && nat_lt n next) || ((n == next && v) || ((false && n == 0) && false))) ≡ true
+shift_by n now next u v false e p q h = absurd cc
+shift_by n now next true true true e p q h = grind (arith, nat_tests)
+shift_by n now next true false true e p q h = grind (arith, nat_tests)
+shift_by n now next false true true e p q h = grind (arith, nat_tests)
+shift_by n now next false false true e p q h = grind (arith, nat_tests)
 
 -- the successor takes the place
-shifts : (now next other : ℕ) (u v w : Bool) → IsSound (record {
-  now = now; now_up = u; next = next; next_up = v; under_way = true;
-}) → Grows (record { now = now; now_up = u; next = next; next_up = v; under_way = true })
-    (record { now = next; now_up = v; next = other; next_up = w; under_way = false })
-shifts now next other u v w sound =
-    let behind : now < next = sound.behind refl in
+shifts : (x : Side) → x.under_way ≡ true → IsSound x → Grows x (shifted x)
+shifts x e sound =
+    let behind : x.now < x.next = sound.behind e in
     record {
       was = λ n h.
-          shift_by n now next u v ((false && n == other) && w) sound.first behind h;
-      sound = record { first = omega (arith, sound.first, behind); behind = λ e. absurd cc };
+          shift_by n x.now x.next x.now_up x.next_up x.under_way e sound.first behind h;
+      sound = record { first = omega (arith, sound.first, behind); behind = λ f. absurd cc };
     }
+
+growing : StepLaws AreSound AllGrow
+growing = record {
+  self = λ x good. record {
+    ins = grows_self x.ins good.ins;
+    outs = grows_self x.outs good.outs;
+  };
+  joined = λ x y z p q. record {
+    ins = grows_then x.ins y.ins z.ins p.ins q.ins;
+    outs = grows_then x.outs y.outs z.outs p.outs q.outs;
+  };
+  good = λ x y p. record { ins = p.ins.sound; outs = p.outs.sound };
+  in_now = λ x good. record {
+    ins = up_now x.ins good.ins;
+    outs = grows_self x.outs good.outs;
+  };
+  in_next = λ x good. record {
+    ins = up_next x.ins good.ins;
+    outs = grows_self x.outs good.outs;
+  };
+  out_now = λ x good. record {
+    ins = grows_self x.ins good.ins;
+    outs = up_now x.outs good.outs;
+  };
+  out_next = λ x good. record {
+    ins = grows_self x.ins good.ins;
+    outs = up_next x.outs good.outs;
+  };
+  in_begins = λ x e good. record {
+    ins = begins x.ins e good.ins;
+    outs = grows_self x.outs good.outs;
+  };
+  out_begins = λ x e good. record {
+    ins = grows_self x.ins good.ins;
+    outs = begins x.outs e good.outs;
+  };
+  in_shifts = λ x e good. record {
+    ins = shifts x.ins e good.ins;
+    outs = grows_self x.outs good.outs;
+  };
+  out_shifts = λ x e good. record {
+    ins = grows_self x.ins good.ins;
+    outs = shifts x.outs e good.outs;
+  };
+}
+
+abbrev Later : ClientRole → ClientRole → Type 0
+Later s t = AllGrow (sides s) (sides t)
+
+abbrev Sound : ClientRole → Type 0
+Sound s = AreSound (sides s)
 
 -- ---- a leg comes up once
 
@@ -217,582 +222,79 @@ once_on : (n : ℕ) (x : Side) → IsSound x → was_on n x ≡ true → wants_o
 once_on n x sound h =
     once_by n x.now x.next x.now_up x.next_up x.under_way sound.first sound.behind h
 
--- ---- roles
+-- ---- the rows that are told a timeout
 
-abbrev with_replacement : ClientRole → Replacement → ClientRole
-with_replacement s r = record s { replacement = r }
-
-later_same : (s t : ClientRole) → Sound s → sides t ≡ sides s → Later s t
-later_same s t sound same = record {
-  ins = subst (λ (x : Sides). Grows (sides s).ins x.ins) (sym same)
-      (grows_self (sides s).ins sound.ins);
-  outs = subst (λ (x : Sides). Grows (sides s).outs x.outs) (sym same)
-      (grows_self (sides s).outs sound.outs);
-}
-
-later_self : (s : ClientRole) → Sound s → Later s s
-later_self s sound = later_same s s sound refl
-
-later_then : (s t u : ClientRole) → Later s t → Later t u → Later s u
-later_then s t u p q = record {
-  ins = grows_then (sides s).ins (sides t).ins (sides u).ins p.ins q.ins;
-  outs = grows_then (sides s).outs (sides t).outs (sides u).outs p.outs q.outs;
-}
-
-sound_then : (s t : ClientRole) → Later s t → Sound t
-sound_then s t p = record { ins = p.ins.sound; outs = p.outs.sound }
-
--- ---- replacements begin
-
-begin_in_later : (s : ClientRole) (w : Bool) → Sound (with_replacement s NoneUnderWay)
-    → Later (with_replacement s NoneUnderWay) (begin_in s w)
-begin_in_later s w sound =
-    by_test (Later (with_replacement s NoneUnderWay)) (nat_lt s.writing.number LAST_NUMBER)
-    (record s {
-      in_successor = unopened_in (s.writing.number + 1) s.config.lifetime;
-      replacement = In in_stage.Asked w;
-    }) (record s { replacement = NoneUnderWay })
-    (λ e. record {
-      ins = begins s.writing.number s.in_successor.number (is_up s.writing.opening)
-          (is_up s.in_successor.opening) sound.ins;
-      outs = grows_self (sides (with_replacement s NoneUnderWay)).outs sound.outs;
-    })
-    (λ e. later_self (with_replacement s NoneUnderWay) sound)
-
-begin_out_later : (s : ClientRole) (w : Waits) → Sound (with_replacement s NoneUnderWay)
-    → Later (with_replacement s NoneUnderWay) (begin_out s w)
-begin_out_later s w sound =
-    by_test (Later (with_replacement s NoneUnderWay)) (nat_lt s.current.number LAST_NUMBER)
-    (record s {
-      out_successor = unopened_out (s.current.number + 1);
-      replacement = Out out_stage.Asked w;
-    }) (record s { replacement = NoneUnderWay })
-    (λ e. record {
-      ins = grows_self (sides (with_replacement s NoneUnderWay)).ins sound.ins;
-      outs = begins s.current.number s.out_successor.number (is_up s.current.opening)
-          (is_up s.out_successor.opening) sound.outs;
-    })
-    (λ e. later_self (with_replacement s NoneUnderWay) sound)
-
-after_in_later : (s : ClientRole) (w : Bool) → Sound (with_replacement s NoneUnderWay)
-    → Later (with_replacement s NoneUnderWay) (after_in s w)
-after_in_later s true sound = begin_out_later s waits.Nothing sound
-after_in_later s false sound = later_self (with_replacement s NoneUnderWay) sound
-
-after_out_later : (s : ClientRole) (w : Waits) → Sound (with_replacement s NoneUnderWay)
-    → Later (with_replacement s NoneUnderWay) (after_out s w)
-after_out_later s waits.Nothing sound = later_self (with_replacement s NoneUnderWay) sound
-after_out_later s waits.In sound = begin_in_later s false sound
-after_out_later s waits.Out sound = begin_out_later s waits.Nothing sound
-after_out_later s waits.InThenOut sound = begin_in_later s true sound
-after_out_later s waits.OutThenIn sound = begin_out_later s waits.In sound
-
--- ---- a replacement is over
-
-handed_later : (s : ClientRole) (stage : InStage) (w v : Bool)
-    → Sound (with_replacement s (In stage w))
-    → Later (with_replacement s (In stage w)) (handed_over s v)
-handed_later s stage w v sound =
-    let t : ClientRole = record s {
-      leaving = s.writing;
-      writing = s.in_successor;
-      in_successor = unopened_in 0 s.config.lifetime;
-    } in
-    let first : Later (with_replacement s (In stage w)) (with_replacement t NoneUnderWay) =
+-- but for the times, the sides stay
+same_but_times : (s t : ClientRole) → Sound s
+    → record (sides t) { outs = record (sides t).outs { limit = None; next_limit = None } }
+    ≡ record (sides s) { outs = record (sides s).outs { limit = None; next_limit = None } }
+    → Later s t
+same_but_times s t sound same =
+    let outs : record (sides t).outs { limit = None; next_limit = None }
+    ≡ record (sides s).outs { limit = None; next_limit = None } =
+    ap (λ (x : Sides). x.outs) same in
+    let ins : (sides t).ins ≡ (sides s).ins = ap (λ (x : Sides). x.ins) same in
     record {
-      ins = shifts s.writing.number s.in_successor.number 0 (is_up s.writing.opening)
-          (is_up s.in_successor.opening) false sound.ins;
-      outs = record { was = λ n h. h; sound = sound.outs };
-    } in
-    later_then (with_replacement s (In stage w)) (with_replacement t NoneUnderWay)
-    (handed_over s v) first
-    (after_in_later t v (sound_then (with_replacement s (In stage w))
-    (with_replacement t NoneUnderWay) first))
+      ins = subst (Grows (sides s).ins) (sym ins) (grows_self (sides s).ins sound.ins);
+      outs = untimed (sides s).outs (sides t).outs
+          (subst (Grows (record (sides s).outs { limit = None; next_limit = None })) (sym outs)
+          (grows_self (record (sides s).outs { limit = None; next_limit = None })
+          (record { first = sound.outs.first; behind = sound.outs.behind })));
+    }
+  where
+    untimed : (x y : Side) → Grows (record x { limit = None; next_limit = None })
+        (record y { limit = None; next_limit = None }) → Grows x y
+    untimed x y g = record {
+      was = g.was;
+      sound = record { first = g.sound.first; behind = g.sound.behind };
+    }
 
-succeeded_later : (s : ClientRole) (stage : OutStage) (w : Waits)
-    → Sound (with_replacement s (Out stage w))
-    → Later (with_replacement s (Out stage w)) (succeeded s)
-succeeded_later s stage w sound = record {
-  ins = record { was = λ n h. h; sound = sound.ins };
-  outs = shifts s.current.number s.out_successor.number 0 (is_up s.current.opening)
-      (is_up s.out_successor.opening) false sound.outs;
+timed : (s : ClientRole) (n : ℕ) (count : Count) (packet : Named) → Sound s
+    → Timed AreSound AllGrow growing s n count packet
+timed s n count packet sound = record {
+  a3 = λ timeout is.
+      same_but_times s (on_conn_a3 s n count timeout).0 sound (search rules);
+  a6 = λ to version timeout is.
+      same_but_times s (on_out_r1_a6 s n to timeout).0 sound (search rules);
 }
 
-ended_later : (s : ClientRole) (w : Waits) → Sound (with_replacement s NoneUnderWay)
-    → Later (with_replacement s NoneUnderWay) (ended_or (with_replacement s NoneUnderWay) w)
-ended_later s w sound =
-    by_test (Later (with_replacement s NoneUnderWay)) (is_over (with_replacement s NoneUnderWay))
-    (record s { phase = phase.Ended; replacement = NoneUnderWay })
-    (after_out (with_replacement s NoneUnderWay) w)
-    (λ e. later_same (with_replacement s NoneUnderWay)
-    (record s { phase = phase.Ended; replacement = NoneUnderWay }) sound refl)
-    (λ e. after_out_later (with_replacement s NoneUnderWay) w sound)
-
-pass_later : (s : ClientRole) (r : Replacement) → Sound (with_replacement s r)
-    → Later (with_replacement s r) (pass_by (with_replacement s r) r)
-pass_later s NoneUnderWay sound = later_self (with_replacement s NoneUnderWay) sound
-pass_later s (In stage w) sound = later_self (with_replacement s (In stage w)) sound
-pass_later s (Out out_stage.Asked w) sound =
-    later_self (with_replacement s (Out out_stage.Asked w)) sound
-pass_later s (Out out_stage.Answered w) sound =
-    later_self (with_replacement s (Out out_stage.Answered w)) sound
-pass_later s (Out out_stage.Switched w) sound =
-    later_self (with_replacement s (Out out_stage.Switched w)) sound
-pass_later s (Out out_stage.Finished w) sound =
-    let now : ClientRole = with_replacement s (Out out_stage.Finished w) in
-    by_test (Later now) s.line.has_next now (ended_or (succeeded now) w)
-    (λ e. later_self now sound)
-    (λ e. let first = succeeded_later s out_stage.Finished w sound in
-    later_then now (succeeded now) (ended_or (succeeded now) w) first
-    (ended_later (succeeded now) w (sound_then now (succeeded now) first)))
-
--- ---- rows
-
-a2_later : (s : ClientRole) (n : ℕ) (r : Replacement) → Sound (with_replacement s r)
-    → Later (with_replacement s r) (a2_by (with_replacement s r) n r).0
-a2_later s n NoneUnderWay sound = begin_out_later s waits.Nothing sound
-a2_later s n (In stage false) sound =
-    later_same (with_replacement s (In stage false)) (with_replacement s (In stage true)) sound refl
-a2_later s n (In stage true) sound = later_self (with_replacement s (In stage true)) sound
-a2_later s n (Out stage w) sound =
-    let now : ClientRole = with_replacement s (Out stage w) in
-    by_test (λ (x : Done). Later now x.0) (is_out_successor now n && not (has_out w))
-    (taken (with_replacement s (Out stage (with_out w)))) (unexpected now)
-    (λ e. later_same now (with_replacement s (Out stage (with_out w))) sound refl)
-    (λ e. later_self now sound)
-
-out_r1_a2_later : (s : ClientRole) (n to : ℕ) → Sound s → Later s (on_out_r1_a2 s n to).0
-out_r1_a2_later s n to sound =
-    by_test (λ (x : Done). Later s x.0) (is_open s.phase && (to == 0 && nat_lt n LAST_NUMBER))
-    (a2_by s n s.replacement) (unexpected s) (λ e. a2_later s n s.replacement sound)
-    (λ e. later_self s sound)
-
-a10_later : (s : ClientRole) (n : ℕ) (r : Replacement) → Sound (with_replacement s r)
-    → Later (with_replacement s r) (a10_by (with_replacement s r) n r).0
-a10_later s n NoneUnderWay sound = later_self (with_replacement s NoneUnderWay) sound
-a10_later s n (In stage w) sound = later_self (with_replacement s (In stage w)) sound
-a10_later s n (Out out_stage.Asked w) sound =
-    later_self (with_replacement s (Out out_stage.Asked w)) sound
-a10_later s n (Out out_stage.Answered w) sound =
-    later_self (with_replacement s (Out out_stage.Answered w)) sound
-a10_later s n (Out out_stage.Finished w) sound =
-    later_self (with_replacement s (Out out_stage.Finished w)) sound
-a10_later s n (Out out_stage.Switched w) sound =
-    let now : ClientRole = with_replacement s (Out out_stage.Switched w) in
-    let f : ClientRole = record s {
-      line = after_finish s.line;
-      replacement = Out out_stage.Finished w;
-    } in
-    by_test (λ (x : Done). Later now x.0) (s.line.has_next && is_current s n)
-    (taken (passed f)) (unexpected now)
-    (λ e. let first = later_same now f sound refl in
-    later_then now f (passed f) first
-    (pass_later f (Out out_stage.Finished w) (sound_then now f first)))
-    (λ e. later_self now sound)
-
--- of two answers that leave the sides alone
-either : (s : ClientRole) (b : Bool) (x y : Done) → sides x.0 ≡ sides s → sides y.0 ≡ sides s
-    → sides (if b then x else y).0 ≡ sides s
-either s true x y l m = l
-either s false x y l m = m
-
-ack_same : (s : ClientRole) (to r a : ℕ) (of : Cookie)
-    → sides (on_ack_to s to r a of).0 ≡ sides s
-ack_same s to r a of =
-    either s (is_open s.phase && to == 0) (ack_named s r a of) (unexpected s)
-    (either s (is_named s.writing of)
-    (record s { writing = acked s.writing r a }, ack_row s.writing r a) _ refl
-    (either s (is_named s.in_successor of)
-    (record s { in_successor = acked s.in_successor r a }, ack_row s.in_successor r a) _ refl
-    (either s (is_named s.leaving of)
-    (record s { leaving = acked s.leaving r a }, ack_row s.leaving r a) (taken s) refl refl)))
-    refl
-
-row_later : (s : ClientRole) (n : ℕ) (count : Count) (packet : Named) → Sound s
-    → Later s (on_packet s n count packet).0
-row_later s n count (named.ConnA3 t) sound =
-    later_same s (on_conn_a3 s n count t).0 sound (search rules)
-row_later s n count (named.ConnC2 v w t) sound =
-    later_same s (on_conn_c2 s n w t).0 sound (search rules)
-row_later s n count (named.AckTo to r a of) sound =
-    later_same s (on_ack_to s to r a of).0 sound (ack_same s to r a of)
-row_later s n count (named.InR1A4 to v w t) sound =
-    later_same s (on_in_r1_a4 s to w t).0 sound (search rules)
-row_later s n count (named.InR2A4 to) sound =
-    later_same s (on_in_r2_a4 s to).0 sound (search rules)
-row_later s n count (named.OutR1A2 to) sound = out_r1_a2_later s n to sound
-row_later s n count (named.OutR1A6 to v t) sound =
-    later_same s (on_out_r1_a6 s n to t).0 sound (search rules)
-row_later s n count named.OutR1A10 sound = a10_later s n s.replacement sound
-row_later s n count named.EndB2 sound =
-    later_same s (on_end_b2 s n).0 sound (search rules)
-row_later s n count packet sound = later_self s sound
-
-packet_later : (s : ClientRole) (n : ℕ) (count : Count) (packet : Named) (k : LegKind) → Sound s
-    → Later s (packet_by s n count packet k).0
-packet_later s n count packet ClientOut sound =
-    by_test (λ (x : Done). Later s x.0) (is_current s n || is_out_successor s n)
-    (on_packet s n count packet) (unexpected s) (λ e. row_later s n count packet sound)
-    (λ e. later_self s sound)
-packet_later s n count packet OutServer sound = later_self s sound
-packet_later s n count packet ClientIn sound = later_self s sound
-packet_later s n count packet InServer sound = later_self s sound
-
-pdu_later : (s : ClientRole) (n : ℕ) (bytes : List ℕ) (k : LegKind) → Sound s
-    → Later s (client.pdu_by s n bytes k).0
-pdu_later s n bytes ClientOut sound = later_same s (on_pdu s n bytes).0 sound (search rules)
-pdu_later s n bytes OutServer sound = later_self s sound
-pdu_later s n bytes ClientIn sound = later_self s sound
-pdu_later s n bytes InServer sound = later_self s sound
-
--- ---- a leg comes up
-
-up_in_later : (s : ClientRole) (n : ℕ) (cookie : Cookie) → Sound s → Later s (up_in s n cookie)
-up_in_later s n cookie sound =
-    by_test (Later s) (is_writing s n) (record s { writing = in_up s.writing cookie })
-    (record s { in_successor = in_up s.in_successor cookie })
-    (λ e. record {
-      ins = up_now (sides s).ins sound.ins;
-      outs = grows_self (sides s).outs sound.outs;
-    })
-    (λ e. record {
-      ins = up_next (sides s).ins sound.ins;
-      outs = grows_self (sides s).outs sound.outs;
-    })
-
-up_out_later : (s : ClientRole) (n : ℕ) (cookie : Cookie) → Sound s → Later s (up_out s n cookie)
-up_out_later s n cookie sound =
-    by_test (Later s) (is_current s n) (record s { current = out_up s.current cookie })
-    (record s { out_successor = out_up s.out_successor cookie; line = with_next s.line })
-    (λ e. record {
-      ins = grows_self (sides s).ins sound.ins;
-      outs = up_now (sides s).outs sound.outs;
-    })
-    (λ e. record {
-      ins = grows_self (sides s).ins sound.ins;
-      outs = up_next (sides s).outs sound.outs;
-    })
-
-up_later : (s : ClientRole) (n : ℕ) (cookie : Cookie) (k : LegKind) → Sound s
-    → Later s (up_by s n cookie k)
-up_later s n cookie ClientOut sound = up_out_later s n cookie sound
-up_later s n cookie ClientIn sound = up_in_later s n cookie sound
-up_later s n cookie OutServer sound = later_self s sound
-up_later s n cookie InServer sound = later_self s sound
-
--- ---- what is put
-
-abbrev LaterPick : ClientRole → Pick → Type 0
-LaterPick s pick = Later s (behind_put s pick)
-
-or_later : (s : ClientRole) (a b : Pick) → LaterPick s a → LaterPick s b
-    → LaterPick s (or_else a b)
-or_later s None b p q = q
-or_later s (Some pick) b p q = p
-
--- where it may go
-if_later : (s : ClientRole) (b : Bool) (f : ClientRole) (m : Message) → Sound s → Later s f
-    → LaterPick s (if b then Some (f, m) else None)
-if_later s true f m sound later = later
-if_later s false f m sound later = later_self s sound
-
-ins_now : (s : ClientRole) → Sound s → (t : ClientRole)
-    → sides t ≡ record (sides s) { ins = record (sides s).ins { now_up = true } } → Later s t
-ins_now s sound t same = record {
-  ins = subst (λ (x : Sides). Grows (sides s).ins x.ins) (sym same)
-      (up_now (sides s).ins sound.ins);
-  outs = subst (λ (x : Sides). Grows (sides s).outs x.outs) (sym same)
-      (grows_self (sides s).outs sound.outs);
-}
-
-ins_next : (s : ClientRole) → Sound s → (t : ClientRole)
-    → sides t ≡ record (sides s) { ins = record (sides s).ins { next_up = true } } → Later s t
-ins_next s sound t same = record {
-  ins = subst (λ (x : Sides). Grows (sides s).ins x.ins) (sym same)
-      (up_next (sides s).ins sound.ins);
-  outs = subst (λ (x : Sides). Grows (sides s).outs x.outs) (sym same)
-      (grows_self (sides s).outs sound.outs);
-}
-
-outs_now : (s : ClientRole) → Sound s → (t : ClientRole)
-    → sides t ≡ record (sides s) { outs = record (sides s).outs { now_up = true } } → Later s t
-outs_now s sound t same = record {
-  ins = subst (λ (x : Sides). Grows (sides s).ins x.ins) (sym same)
-      (grows_self (sides s).ins sound.ins);
-  outs = subst (λ (x : Sides). Grows (sides s).outs x.outs) (sym same)
-      (up_now (sides s).outs sound.outs);
-}
-
-outs_next : (s : ClientRole) → Sound s → (t : ClientRole)
-    → sides t ≡ record (sides s) { outs = record (sides s).outs { next_up = true } } → Later s t
-outs_next s sound t same = record {
-  ins = subst (λ (x : Sides). Grows (sides s).ins x.ins) (sym same)
-      (grows_self (sides s).ins sound.ins);
-  outs = subst (λ (x : Sides). Grows (sides s).outs x.outs) (sym same)
-      (up_next (sides s).outs sound.outs);
-}
-
-conn_b1_later : (s : ClientRole) → Sound s → LaterPick s (put_conn_b1 s)
-unfolding put_conn_b1
-conn_b1_later s sound =
-    let f : ClientRole = record s { writing = begun_in (metered s.writing CONN_B1_LEN) Put } in
-    if_later s (may_put s.writing.meter CONN_B1_LEN) f (Packet (conn_b1 s)) sound
-    (ins_now s sound f refl)
-
-in_r1_a1_later : (s : ClientRole) → Sound s → LaterPick s (put_in_r1_a1 s)
-unfolding put_in_r1_a1
-in_r1_a1_later s sound =
-    let f : ClientRole = record s {
-      in_successor = begun_in (metered s.in_successor IN_R1_A1_LEN) Put;
-    } in
-    if_later s (may_put s.in_successor.meter IN_R1_A1_LEN) f (Packet (in_r1_a1 s)) sound
-    (ins_next s sound f refl)
-
-current_later : (s : ClientRole) (o : Opening) → Sound s → LaterPick s (put_current s o)
-unfolding put_current
-current_later s NotUp sound = later_self s sound
-current_later s Request sound =
-    outs_now s sound (record s { current = begun_out s.current First }) refl
-current_later s First sound =
-    outs_now s sound (record s { current = begun_out s.current Put }) refl
-current_later s Second sound = later_self s sound
-current_later s Put sound = later_self s sound
-
-out_successor_later : (s : ClientRole) (o : Opening) → Sound s
-    → LaterPick s (put_out_successor s o)
-unfolding put_out_successor
-out_successor_later s NotUp sound = later_self s sound
-out_successor_later s Request sound =
-    outs_next s sound (record s { out_successor = begun_out s.out_successor First }) refl
-out_successor_later s First sound =
-    outs_next s sound (record s { out_successor = begun_out s.out_successor Second }) refl
-out_successor_later s Second sound =
-    outs_next s sound (record s { out_successor = begun_out s.out_successor Put }) refl
-out_successor_later s Put sound = later_self s sound
-
-out_later : (s : ClientRole) (n : ℕ) → Sound s → LaterPick s (put_out s n)
-unfolding put_out
-out_later s n sound =
-    by_test (LaterPick s) (is_current s n) (put_current s s.current.opening)
-    (if is_out_successor s n then put_out_successor s s.out_successor.opening else None)
-    (λ e. current_later s s.current.opening sound)
-    (λ e. by_test (LaterPick s) (is_out_successor s n)
-    (put_out_successor s s.out_successor.opening) None
-    (λ f. out_successor_later s s.out_successor.opening sound) (λ f. later_self s sound))
-
-due_later : (s : ClientRole) (r : Replacement) → Sound (with_replacement s r)
-    → LaterPick (with_replacement s r) (due_by (with_replacement s r) r)
-due_later s NoneUnderWay sound = later_self (with_replacement s NoneUnderWay) sound
-due_later s (In in_stage.Asked w) sound =
-    later_self (with_replacement s (In in_stage.Asked w)) sound
-due_later s (In in_stage.Answered w) sound =
-    let now : ClientRole = with_replacement s (In in_stage.Answered w) in
-    if_later now (fits s.writing.meter IN_R1_A5_LEN) (handed_over now w)
-    (Packet (named.InR1A5 s.in_successor.cookie)) sound
-    (handed_later now in_stage.Answered w w sound)
-due_later s (Out out_stage.Asked w) sound =
-    later_self (with_replacement s (Out out_stage.Asked w)) sound
-due_later s (Out out_stage.Answered w) sound =
-    let now : ClientRole = with_replacement s (Out out_stage.Answered w) in
-    let f : ClientRole = record s {
-      writing = metered s.writing OUT_R1_A7_LEN;
-      replacement = Out out_stage.Switched w;
-    } in
-    if_later now (fits s.writing.meter OUT_R1_A7_LEN) f
-    (Packet (named.OutR1A7 2 s.out_successor.cookie)) sound (later_same now f sound refl)
-due_later s (Out out_stage.Switched w) sound =
-    later_self (with_replacement s (Out out_stage.Switched w)) sound
-due_later s (Out out_stage.Finished w) sound =
-    later_self (with_replacement s (Out out_stage.Finished w)) sound
-
-put_due_later : (s : ClientRole) → Sound s → LaterPick s (put_due s)
-unfolding put_due
-put_due_later s sound = due_later s s.replacement sound
-
-ack_later : (s : ClientRole) (which : Which) (ack : Option Ack) → Sound s
-    → LaterPick s (ack_by s which ack)
-ack_later s which None sound = later_self s sound
-ack_later s which (Some ack) sound =
-    let f : ClientRole = record s {
-      line = after_told s.line which ack;
-      writing = metered s.writing ACK_TO_LEN;
-    } in
-    if_later s (may_put s.writing.meter ACK_TO_LEN) f
-    (Packet (named.AckTo 3 ack.received ack.available (cookie_of s which))) sound
-    (later_same s f sound refl)
-
-put_ack_later : (s : ClientRole) → Sound s → LaterPick s (put_ack s)
-unfolding put_ack put_ack_of
-put_ack_later s sound =
-    or_later s (ack_by s Current (ack_due s Current)) (ack_by s Next (ack_due s Next))
-    (ack_later s Current (ack_due s Current) sound) (ack_later s Next (ack_due s Next) sound)
-
-pdu_put_later : (s : ClientRole) (len : Option ℕ) → Sound s → LaterPick s (putting.pdu_by s len)
-pdu_put_later s None sound = later_self s sound
-pdu_put_later s (Some len) sound =
-    let f : ClientRole = record s { queue = behind s.queue; writing = sent s.writing len } in
-    if_later s (lets_pdu s len) f (Pdu (first_of s.queue)) sound (later_same s f sound refl)
-
-put_pdu_later : (s : ClientRole) → Sound s → LaterPick s (put_pdu s)
-unfolding put_pdu
-put_pdu_later s sound = pdu_put_later s (front_length s.queue) sound
-
-put_end_later : (s : ClientRole) → Sound s → LaterPick s (put_end s)
-unfolding put_end
-put_end_later s sound =
-    let f : ClientRole = record s { writing = with_end_put (metered s.writing END_A1_LEN) } in
-    if_later s (is_end_due s && fits s.writing.meter END_A1_LEN) f (Packet named.EndA1) sound
-    (later_same s f sound refl)
-
-put_ping_later : (s : ClientRole) → Sound s → LaterPick s (put_ping s)
-unfolding put_ping
-put_ping_later s sound =
-    let f : ClientRole = record s { writing = without_ping (metered s.writing PING_LEN) } in
-    if_later s (s.writing.is_ping_due && may_put s.writing.meter PING_LEN) f (Packet named.Ping)
-    sound (later_same s f sound refl)
-
-successor_ping_later : (s : ClientRole) → Sound s → LaterPick s (put_successor_ping s)
-unfolding put_successor_ping
-successor_ping_later s sound =
-    let f : ClientRole = record s {
-      in_successor = without_ping (metered s.in_successor PING_LEN);
-    } in
-    if_later s (s.in_successor.is_ping_due && may_put s.in_successor.meter PING_LEN) f
-    (Packet named.Ping) sound (later_same s f sound refl)
-
-put_next_later : (s : ClientRole) → Sound s → LaterPick s (put_next s)
-unfolding put_next
-put_next_later s sound =
-    or_later s (put_due s)
-    (or_else (put_ack s) (or_else (put_pdu s) (or_else (put_end s) (put_ping s))))
-    (put_due_later s sound)
-    (or_later s (put_ack s) (or_else (put_pdu s) (or_else (put_end s) (put_ping s)))
-    (put_ack_later s sound)
-    (or_later s (put_pdu s) (or_else (put_end s) (put_ping s)) (put_pdu_later s sound)
-    (or_later s (put_end s) (put_ping s) (put_end_later s sound) (put_ping_later s sound))))
-
-writing_later : (s : ClientRole) (o : Opening) → Sound s → LaterPick s (put_writing s o)
-unfolding put_writing
-writing_later s NotUp sound = later_self s sound
-writing_later s Request sound =
-    ins_now s sound (record s { writing = begun_in s.writing First }) refl
-writing_later s First sound = conn_b1_later s sound
-writing_later s Second sound = later_self s sound
-writing_later s Put sound = put_next_later s sound
-
-in_successor_later : (s : ClientRole) (o : Opening) → Sound s → LaterPick s (put_in_successor s o)
-unfolding put_in_successor
-in_successor_later s NotUp sound = later_self s sound
-in_successor_later s Request sound =
-    ins_next s sound (record s { in_successor = begun_in s.in_successor First }) refl
-in_successor_later s First sound = in_r1_a1_later s sound
-in_successor_later s Second sound = later_self s sound
-in_successor_later s Put sound = successor_ping_later s sound
-
-in_later : (s : ClientRole) (n : ℕ) → Sound s → LaterPick s (put_in s n)
-unfolding put_in
-in_later s n sound =
-    by_test (LaterPick s) (is_writing s n) (put_writing s s.writing.opening)
-    (if is_in_successor s n then put_in_successor s s.in_successor.opening else None)
-    (λ e. writing_later s s.writing.opening sound)
-    (λ e. by_test (LaterPick s) (is_in_successor s n)
-    (put_in_successor s s.in_successor.opening) None
-    (λ f. in_successor_later s s.in_successor.opening sound) (λ f. later_self s sound))
-
-put_by_later : (s : ClientRole) (n : ℕ) (k : LegKind) → Sound s → LaterPick s (put_by s n k)
-unfolding put_by
-put_by_later s n ClientOut sound = out_later s n sound
-put_by_later s n ClientIn sound = in_later s n sound
-put_by_later s n OutServer sound = later_self s sound
-put_by_later s n InServer sound = later_self s sound
-
--- ---- behind a put
-
-wish_later : (s : ClientRole) (r : Replacement) → Sound (with_replacement s r)
-    → Later (with_replacement s r) (wish_by (with_replacement s r) r)
-wish_later s NoneUnderWay sound = begin_in_later s false sound
-wish_later s (In stage w) sound = later_self (with_replacement s (In stage w)) sound
-wish_later s (Out stage w) sound =
-    later_same (with_replacement s (Out stage w)) (with_replacement s (Out stage (with_in w)))
-    sound refl
-
-settled_later : (s : ClientRole) → Sound s → Later s (settled_or_wished s)
-settled_later s sound =
-    by_test (Later s) (is_over s) (record s { phase = phase.Ended }) (wished s)
-    (λ e. later_same s (record s { phase = phase.Ended }) sound refl)
-    (λ e. by_test (Later s) (wants_successor s) (wish_by s s.replacement) s
-    (λ f. wish_later s s.replacement sound) (λ f. later_self s sound))
-
-pick_later : (s : ClientRole) (pick : Pick) → Sound s → LaterPick s pick
-    → LaterPick s (settled_pick pick)
-pick_later s None sound later = later
-pick_later s (Some pick) sound later =
-    later_then s pick.0 (settled_or_wished pick.0) later
-    (settled_later pick.0 (sound_then s pick.0 later))
-
--- ---- moves
-
-drawn_same : (s : ClientRole) (n : ℕ) (k : LegKind) → sides (drawn_by s n k) ≡ sides s
-drawn_same s n k = search rules
-
-ping_same : (s : ClientRole) (n : ℕ) (k : LegKind) → sides (ping_by s n k) ≡ sides s
-ping_same s n k = search rules
+-- ---- moves and calls
 
 later_move : (p : Passage ClientRole) (move : Move) → Sound p.role
     → Later p.role (moved client.rules p move).role
-later_move p (Up leg cookie) sound = up_later p.role leg.number cookie leg.kind sound
-later_move p (HeadCame leg text) sound = later_self p.role sound
+later_move p (Up leg cookie) sound = up_later AreSound AllGrow growing p.role leg.number cookie leg.kind sound
+later_move p (HeadCame leg text) sound = later_self AreSound AllGrow growing p.role sound
 later_move p (PduCame leg count bytes) sound =
     by_row (Later p.role) p leg (Pdu bytes) (pdu p.role leg count bytes)
-    (pdu_later p.role leg.number bytes leg.kind sound)
+    (pdu_later AreSound AllGrow growing p.role leg.number bytes leg.kind sound)
 later_move p (PacketCame leg count named) sound =
     by_row (Later p.role) p leg (Packet named) (packet p.role leg count named)
-    (packet_later p.role leg.number count named leg.kind sound)
+    (packet_later AreSound AllGrow growing p.role leg.number count named leg.kind
+    (timed p.role leg.number count named sound) sound)
 later_move p (Puts leg) sound =
     by_put (Later p.role) p leg (put p.role leg)
-    (pick_later p.role (put_by p.role leg.number leg.kind) sound
-    (put_by_later p.role leg.number leg.kind sound))
+    (pick_later AreSound AllGrow growing p.role (put_by p.role leg.number leg.kind) sound
+    (put_by_later AreSound AllGrow growing p.role leg.number leg.kind sound))
 later_move p (IsDrawn leg) sound =
-    later_same p.role (drawn p.role leg) sound (drawn_same p.role leg.number leg.kind)
-later_move p (Marks leg) sound = later_self p.role sound
+    later_same AreSound AllGrow growing p.role (drawn p.role leg) sound (drawn_same AreSound AllGrow growing p.role leg.number leg.kind)
+later_move p (Marks leg) sound = later_self AreSound AllGrow growing p.role sound
 later_move p (Pings leg) sound =
-    later_same p.role (ping p.role leg) sound (ping_same p.role leg.number leg.kind)
+    later_same AreSound AllGrow growing p.role (ping p.role leg) sound (ping_same AreSound AllGrow growing p.role leg.number leg.kind)
 
--- ---- calls
-
-give_same : (s : ClientRole) (bytes : List ℕ) → sides (give s bytes).0 ≡ sides s
-give_same s bytes = search rules
-
-take_later : (s : ClientRole) → Sound s → Later s (take s)
-take_later s sound =
-    let f : ClientRole = record s { line = after_take s.line } in
-    let first = later_same s f sound refl in
-    later_then s f (passed f) first (pass_later f f.replacement (sound_then s f first))
-
-recycle_later : (s : ClientRole) (r : Replacement) → Sound (with_replacement s r)
-    → Later (with_replacement s r) (recycle_by (with_replacement s r) r).0
-recycle_later s NoneUnderWay sound =
-    by_test (λ (x : ClientRole × Result (Unit {0}) RecycleRefused).
-    Later (with_replacement s NoneUnderWay) x.0) (nat_lt s.writing.number LAST_NUMBER)
-    (begin_in s false, Ok tt) (with_replacement s NoneUnderWay, Err Last)
-    (λ e. begin_in_later s false sound)
-    (λ e. later_self (with_replacement s NoneUnderWay) sound)
-recycle_later s (In stage w) sound = later_self (with_replacement s (In stage w)) sound
-recycle_later s (Out stage w) sound = later_self (with_replacement s (Out stage w)) sound
 
 later_call : (p : EndPassage ClientRole) (move : EndMove) → Sound p.passage.role
     → Later p.passage.role (end_moved client.rules client.acts p move).passage.role
 later_call p (Moves move) sound = later_move p.passage move sound
 later_call p (Gives bytes) sound =
     by_given (Later p.passage.role) p bytes (give p.passage.role bytes)
-    (later_same p.passage.role (give p.passage.role bytes).0 sound
-    (give_same p.passage.role bytes))
+    (later_same AreSound AllGrow growing p.passage.role (give p.passage.role bytes).0 sound
+    (give_same AreSound AllGrow growing p.passage.role bytes))
 later_call p Takes sound =
     by_first (Later p.passage.role) (end_now_at p (take p.passage.role))
-    p.passage.role.line.current.pdus (take_later p.passage.role sound)
+    p.passage.role.line.current.pdus (take_later AreSound AllGrow growing p.passage.role sound)
 later_call p Closes sound =
-    later_same p.passage.role (close p.passage.role) sound refl
-later_call p Recycles sound = recycle_later p.passage.role p.passage.role.replacement sound
+    later_same AreSound AllGrow growing p.passage.role (close p.passage.role) sound refl
+later_call p Recycles sound = recycle_later AreSound AllGrow growing p.passage.role p.passage.role.replacement sound
 
 -- ---- what was up
 
@@ -862,7 +364,10 @@ comes_up s leg cookie = by leg.kind
 numbered : (s : ClientRole) → Sound s → ClientIsNumbered s
 numbered s sound = record { ins = sound.ins; outs = sound.outs }
 
-sound_is : (s : ClientRole) → ClientIsNumbered s → Sound s
+sound_then : (s t : ClientRole) → Later s t → Sound t
+sound_then s t p = record { ins = p.ins.sound; outs = p.outs.sound }
+
+pub sound_is : (s : ClientRole) → ClientIsNumbered s → Sound s
 sound_is s is = record { ins = is.ins; outs = is.outs }
 
 pub client_once : ComesUpOnce client.rules ClientIsNumbered

@@ -11,6 +11,7 @@ mod MoveRoles
 mod ServerLegs
 mod InProxyLegs
 mod OutProxyLegs
+mod ClientSteps
 mod ClientLegs
 mod ClosedBy
 mod NoHeads
