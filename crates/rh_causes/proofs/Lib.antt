@@ -13,6 +13,7 @@ mod InProxyLegs
 mod OutProxyLegs
 mod ClientSteps
 mod ClientLegs
+mod ClientTimes
 mod ClosedBy
 mod NoHeads
 mod RoleRefusals

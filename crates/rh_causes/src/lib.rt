@@ -6,6 +6,7 @@ pub mod moments;
 pub mod once;
 pub mod once_each;
 pub mod refusals;
+pub mod watching;
 
 pub use closings::{causes_come_from_their_events, events_close_with_their_causes};
 pub use moments::{
@@ -20,3 +21,4 @@ pub use once_each::{
     an_out_proxys_leg_comes_up_once,
 };
 pub use once::{UpOnce, a_leg_comes_up_once, an_ends_leg_comes_up_once};
+pub use watching::{a_client_watches_by_what_was_told, a_proxy_watches_its_client};
