@@ -56,6 +56,7 @@ use Rattle.rh_client.specs.Client as client
 use Rattle.rh_causes.specs.Once.{ComesUpOnce, KeepsUp}
 use Rattle.rh_causes.specs.Numbers.{AreNumberedBy, ClientIsNumbered}
 use Rattle.rh_causes.proofs.ClientSteps.{Side, Sides, sides, begun, shifted, StepLaws, Timed, later_same, later_self, packet_later, pdu_later, up_later, pick_later, put_by_later, drawn_same, ping_same, give_same, take_later, recycle_later}
+use Rattle.rh_causes.proofs.Sorts.{or_true}
 use Rattle.rh_causes.proofs.MoveRoles.{by_row, behind_put, by_put, by_given, by_first}
 
 -- the number's leg was up, or is wanted
@@ -315,10 +316,6 @@ not_wanted s leg sound = by leg.kind
     by ClientIn h = once_on leg.number (sides s).ins sound.ins h
     by OutServer h = absurd cc
     by InServer h = absurd cc
-
-or_true : (t : Bool) → (t || true) ≡ true
-or_true true = refl
-or_true false = refl
 
 -- the leg in use comes up
 now_comes : (a b c : Bool) → b ≡ true → (a || ((b && true) || c)) ≡ true

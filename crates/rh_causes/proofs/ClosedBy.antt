@@ -13,6 +13,7 @@ use Rattle.rh_shell.specs.declared.answers.Phase.{Phase}
 use Rattle.rh_shell.specs.declared.answers.Phase.TheVariants as phase
 use Rattle.rh_shell.specs.declared.course.Course.{Course}
 use Rattle.rh_shell.specs.declared.course.Course.TheVariants.{Going, Closed, Refusing}
+use Rattle.rh_shell.specs.declared.stage.Stage.TheVariants as stage
 use Rattle.rh_shell.specs.declared.stop.Stop.{Stop}
 use Rattle.rh_shell.specs.Rules.{Rules}
 use Rattle.rh_shell.specs.NearEnds.{NearEnd, is_ended, is_finished, marked}
@@ -178,7 +179,8 @@ module _ {S : Type 0} (rules : Rules S) (s : Shell S) (why : Cause) where
 
         stops : (end : NearEnd) (t : Turn S) (o : Option Stop) → t.stop ≡ o
             → ((first : Stop) → t.stop ≡ Some first
-            → IsStop end.leg (RefusesHead rules s.role end piece) first)
+            → IsStop end.leg (end.intake.stage ≡ stage.Head)
+            (RefusesHead rules s.role end piece) first)
             → ClosedWith why (stopped (with_end s leg t.end t.role) leg o).course
             → IsOfPiece end.leg (RefusesHead rules s.role end piece) why
         stops end t None e all h = was_going h

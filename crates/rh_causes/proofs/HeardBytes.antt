@@ -156,15 +156,16 @@ pub record IsBadRequest (leg : Leg) (why : Cause) (refusal : Refusal) : Type 0 w
   pub cause : why ≡ cause.BadHead leg place fault
   pub answer : refusal ≡ refusal_of fault
 
--- a cause that what came on a leg may have, and a refusal only of a request
-pub record IsStop (leg : Leg) (Refuses : ℕ → Type 0) (stop : Stop) : Type 0 where
+-- a cause that what came on a leg may have, and a refusal only of a request, for which the leg waits
+pub record IsStop (leg : Leg) (Waits : Type 0) (Refuses : ℕ → Type 0) (stop : Stop)
+    : Type 0 where
   pub cause : IsOfPiece leg Refuses stop.cause
-  pub refusal : (r : Refusal) → stop.refusal ≡ Some r → IsBadRequest leg stop.cause r
+  pub refusal : (r : Refusal) → stop.refusal ≡ Some r → Waits × IsBadRequest leg stop.cause r
 
 -- what is no request is not refused
-plain_stop : (leg : Leg) (Refuses : ℕ → Type 0) (why : Cause) → IsOfPiece leg Refuses why
-    → IsStop leg Refuses (stop why)
-plain_stop leg Refuses why is = record { cause = is; refusal = λ r e. absurd cc }
+plain_stop : (leg : Leg) (Waits : Type 0) (Refuses : ℕ → Type 0) (why : Cause)
+    → IsOfPiece leg Refuses why → IsStop leg Waits Refuses (stop why)
+plain_stop leg Waits Refuses why is = record { cause = is; refusal = λ r e. absurd cc }
 
 -- ---- what follows of another head follows of the cause
 
@@ -184,10 +185,13 @@ other_heads leg P Q so (cause.Silent l since now) h = absurd h
 other_heads leg P Q so (cause.ControlFull l) h = h
 other_heads leg P Q so (cause.BodyOver l count length) h = h
 
-other_stop : (leg : Leg) (P Q : ℕ → Type 0) → ((status : ℕ) → P status → Q status)
-    → (why : Stop) → IsStop leg P why → IsStop leg Q why
-other_stop leg P Q so why h =
-    record { cause = other_heads leg P Q so why.cause h.cause; refusal = h.refusal }
+other_stop : (leg : Leg) (W V : Type 0) (P Q : ℕ → Type 0) → (W → V)
+    → ((status : ℕ) → P status → Q status) → (why : Stop) → IsStop leg W P why
+    → IsStop leg V Q why
+other_stop leg W V P Q waits so why h = record {
+  cause = other_heads leg P Q so why.cause h.cause;
+  refusal = λ r e. let bad = h.refusal r e in (waits bad.0, bad.1);
+}
 
 -- ---- bytes
 
@@ -197,13 +201,13 @@ module _ {S : Type 0} (rules : Rules S) (now : ℕ) where
   hear_stopped t [] h = refl
   hear_stopped t (b ∷ bs) h = rw h (hear_stopped t bs h)
 
-  hear_over : (end : NearEnd) (role : S) (bs : List ℕ) → is_over rules end role ≡ true
+  pub hear_over : (end : NearEnd) (role : S) (bs : List ℕ) → is_over rules end role ≡ true
       → hear rules now (goes end role) bs ≡ goes end role
   unfolding hear hear_byte
   hear_over end role [] h = refl
   hear_over end role (b ∷ bs) h = rw h (hear_over end role bs h)
 
-  hear_first : (end : NearEnd) (role : S) (b : ℕ) (bs : List ℕ) → is_over rules end role ≡ false
+  pub hear_first : (end : NearEnd) (role : S) (b : ℕ) (bs : List ℕ) → is_over rules end role ≡ false
       → hear rules now (goes end role) (b ∷ bs)
       ≡ hear rules now (take_next rules (touched end now) role (on_byte end.intake b)) bs
   unfolding hear hear_byte
@@ -212,7 +216,8 @@ module _ {S : Type 0} (rules : Rules S) (now : ℕ) where
   -- where a turn stops, its cause is one of the piece
   abbrev Stops : Turn S → NearEnd → S → List ℕ → Type 0
   Stops t end role piece =
-      (why : Stop) → t.stop ≡ Some why → IsStop end.leg (RefusesHead rules role end piece) why
+      (why : Stop) → t.stop ≡ Some why
+      → IsStop end.leg (end.intake.stage ≡ stage.Head) (RefusesHead rules role end piece) why
 
   -- a turn that stopped hears no more
   stopped_with : (t : Turn S) (first : Stop) (bs : List ℕ) (P : Stop → Type 0)
@@ -230,9 +235,11 @@ module _ {S : Type 0} (rules : Rules S) (now : ℕ) where
       → (e.intake.stage ≡ stage.Head → ⊥) → Stops (hear rules now (goes e r) bs) e r bs
       → Stops (hear rules now (goes e r) bs) end role (b ∷ bs)
   rest_of e end r role b bs leg past rest why is =
-      other_stop end.leg (RefusesHead rules r e bs) (RefusesHead rules role end (b ∷ bs))
+      other_stop end.leg (e.intake.stage ≡ stage.Head) (end.intake.stage ≡ stage.Head)
+      (RefusesHead rules r e bs) (RefusesHead rules role end (b ∷ bs)) (λ h. absurd (past h))
       (λ status h. absurd (past h.stage)) why
-      (subst (λ (l : Leg). IsStop l (RefusesHead rules r e bs) why) leg (rest why is))
+      (subst (λ (l : Leg). IsStop l (e.intake.stage ≡ stage.Head) (RefusesHead rules r e bs) why)
+      leg (rest why is))
 
   module _ (end : NearEnd) (role : S) (b : ℕ) (bs : List ℕ)
       (rest : (e : NearEnd) (r : S) → Stops (hear rules now (goes e r) bs) e r bs) where
@@ -244,8 +251,9 @@ module _ {S : Type 0} (rules : Rules S) (now : ℕ) where
     nothing_stops : (j : Intake) → After end.intake b (j, Nothing)
         → Stops (hear rules now (goes (behind_byte j) role) bs) end role (b ∷ bs)
     nothing_stops j after why is =
-        other_stop end.leg (RefusesHead rules role (behind_byte j) bs)
-        (RefusesHead rules role end (b ∷ bs)) so why (rest (behind_byte j) role why is)
+        other_stop end.leg (j.stage ≡ stage.Head) (end.intake.stage ≡ stage.Head)
+        (RefusesHead rules role (behind_byte j) bs) (RefusesHead rules role end (b ∷ bs))
+        (λ h. (after h).0) so why (rest (behind_byte j) role why is)
       where
         so : (status : ℕ) → RefusesHead rules role (behind_byte j) bs status
             → RefusesHead rules role end (b ∷ bs) status
@@ -271,21 +279,23 @@ module _ {S : Type 0} (rules : Rules S) (now : ℕ) where
 
     refused_with : (text : List ℕ) (why : HeadRefused) → After end.intake b (end.intake, Head text)
         → (rules.head role end.leg text).1 ≡ Err why
-        → IsStop end.leg (RefusesHead rules role end (b ∷ bs))
-        (stop_head end.leg (length text) why)
+        → IsStop end.leg (end.intake.stage ≡ stage.Head)
+        (RefusesHead rules role end (b ∷ bs)) (stop_head end.leg (length text) why)
     refused_with text (head.Request fault) after is = record {
       cause = refl;
-      refusal = λ r e. record {
+      refusal = λ r e. (after.0, record {
         place = length text;
         fault = fault;
         cause = refl;
         answer = cc;
-      };
+      });
     }
     refused_with text (head.Response fault) after is =
-        plain_stop end.leg (RefusesHead rules role end (b ∷ bs)) _ refl
+        plain_stop end.leg (end.intake.stage ≡ stage.Head)
+        (RefusesHead rules role end (b ∷ bs)) _ refl
     refused_with text (head.Status status) after is =
-        plain_stop end.leg (RefusesHead rules role end (b ∷ bs)) _ (refl, record {
+        plain_stop end.leg (end.intake.stage ≡ stage.Head)
+        (RefusesHead rules role end (b ∷ bs)) _ (refl, record {
           stage = after.0;
           front = b ∷ [];
           behind = bs;
@@ -306,7 +316,7 @@ module _ {S : Type 0} (rules : Rules S) (now : ℕ) where
     head_stops j text (r, Err why) is after =
         stopped_with (stops (behind_byte j) r (stop_head end.leg (length text) why))
         (stop_head end.leg (length text) why) bs
-        (IsStop end.leg (RefusesHead rules role end (b ∷ bs))) refl
+        (IsStop end.leg (end.intake.stage ≡ stage.Head) (RefusesHead rules role end (b ∷ bs))) refl
         (refused_with text why after (ap (λ (y : S × Result HeadTaken HeadRefused). y.1) is))
 
     greeting_stops : (j : Intake) (t : Bool)
@@ -319,8 +329,9 @@ module _ {S : Type 0} (rules : Rules S) (now : ℕ) where
     greeting_stops j false =
         stopped_with (stops (behind_byte j) role (stop (cause.Unexpected end.leg 0)))
         (stop (cause.Unexpected end.leg 0)) bs
-        (IsStop end.leg (RefusesHead rules role end (b ∷ bs))) refl
-        (plain_stop end.leg (RefusesHead rules role end (b ∷ bs)) _ refl)
+        (IsStop end.leg (end.intake.stage ≡ stage.Head) (RefusesHead rules role end (b ∷ bs))) refl
+        (plain_stop end.leg (end.intake.stage ≡ stage.Head)
+        (RefusesHead rules role end (b ∷ bs)) _ refl)
 
     frame_stops : (j : Intake) (x : S × Result Count Cause) → j.stage ≡ stage.Frames
         → IsOfFrame end.leg (RefusesHead rules role end (b ∷ bs)) x.1
@@ -330,16 +341,18 @@ module _ {S : Type 0} (rules : Rules S) (now : ℕ) where
         rest_of e end r role b bs refl (λ h. absurd cc) (rest e r)
     frame_stops j (r, Err why) st is =
         stopped_with (stops (behind_byte j) r (stop why)) (stop why) bs
-        (IsStop end.leg (RefusesHead rules role end (b ∷ bs))) refl
-        (plain_stop end.leg (RefusesHead rules role end (b ∷ bs)) why is)
+        (IsStop end.leg (end.intake.stage ≡ stage.Head) (RefusesHead rules role end (b ∷ bs))) refl
+        (plain_stop end.leg (end.intake.stage ≡ stage.Head)
+        (RefusesHead rules role end (b ∷ bs)) why is)
 
     fault_stops : (j : Intake) (why : Cause)
         → IsOfPiece end.leg (RefusesHead rules role end (b ∷ bs)) why
         → Stops (hear rules now (stops (behind_byte j) role (stop why)) bs) end role (b ∷ bs)
     fault_stops j why is =
         stopped_with (stops (behind_byte j) role (stop why)) (stop why) bs
-        (IsStop end.leg (RefusesHead rules role end (b ∷ bs))) refl
-        (plain_stop end.leg (RefusesHead rules role end (b ∷ bs)) why is)
+        (IsStop end.leg (end.intake.stage ≡ stage.Head) (RefusesHead rules role end (b ∷ bs))) refl
+        (plain_stop end.leg (end.intake.stage ≡ stage.Head)
+        (RefusesHead rules role end (b ∷ bs)) why is)
 
     came_stops : (j : Intake) (c : Came) → After end.intake b (j, c)
         → Stops (hear rules now (take rules (behind_byte j) role c) bs) end role (b ∷ bs)

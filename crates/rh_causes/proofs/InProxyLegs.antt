@@ -57,7 +57,7 @@ use Rattle.rh_inproxy.specs.Machine.{rules as proxy_rules}
 use Rattle.rh_causes.specs.Numbers.{AreNumbered, IsAbove}
 use Rattle.rh_causes.specs.Once.{ComesUpOnce}
 use Rattle.rh_causes.proofs.MoveRoles.{by_row, behind_put, by_put}
-use Rattle.rh_causes.proofs.Sorts.{both}
+use Rattle.rh_causes.proofs.Sorts.{both, and_false, or_true}
 
 -- its numbers, how far its first legs are, the ci leg of its current channel, and the one behind it
 pub record Legs : Type 0 where
@@ -595,10 +595,6 @@ later_move p (Pings leg) are = later_same p.role (ping p.role leg) are (same_pin
 
 -- ---- what was up
 
-and_false : (t : Bool) → (t && false) ≡ false
-and_false true = refl
-and_false false = refl
-
 -- a leg is not both
 apart : (k : LegKind) (same : Bool)
     → ((kind_number ClientIn == kind_number k)
@@ -619,10 +615,6 @@ stays_by true o true has had2 has2 true true up2 p q r h =
     let a = p refl in let b = r refl in rw (a, b) refl
 stays_by true true had true had2 has2 low up up2 p q r h =
     let a = q refl in rw a (or_true (had2 && low && up2))
-  where
-    or_true : (t : Bool) → (t || true) ≡ true
-    or_true true = refl
-    or_true false = refl
 stays_by true true true false had2 has2 true false up2 p q r h = absurd cc
 stays_by true true true false had2 has2 false up up2 p q r h = absurd cc
 stays_by true true false false had2 has2 low up up2 p q r h = absurd cc
@@ -714,10 +706,6 @@ not_again s leg h =
 
 within : (a b : ℕ) → a ≤ b → nat_le a b ≡ true
 within a b le = grind (arith, nat_tests)
-
-or_true : (t : Bool) → (t || true) ≡ true
-or_true true = refl
-or_true false = refl
 
 is_first_up : (c low up rest : Bool) → c ≡ true → low ≡ true → up ≡ true
     → ((c && true && low && up) || rest) ≡ true

@@ -33,7 +33,8 @@ use Rattle.rh_shell.specs.Shells.{Shell, same_leg, is_going, end_at, with_end, p
 use Rattle.rh_shell.specs.Moving.{Event, ComesUp, Hears, Ends, Breaks, Draws, Ticks, after_event}
 use Rattle.rh_shell.specs.Ends.{cause_of, give_where, take_where, close_where, recycle_where}
 use Rattle.rh_causes.specs.Moments.{is_heard_at, is_heard_on, hears_bytes, touches}
-use Rattle.rh_causes.proofs.Sorts.{end_leg}
+use Rattle.rh_causes.proofs.HeardBytes.{hear_over, hear_first}
+use Rattle.rh_causes.proofs.Sorts.{and_false, and_true}
 
 -- ---- the leg of an end stays where bytes are heard, and its moment is the last one
 
@@ -164,19 +165,6 @@ module _ {S : Type 0} (rules : Rules S) where
         let one = byte_like t b is in
         like_then _ next.end t.end (rest_like next bs (one.since ∙ is)) one
 
-    hear_over : (end : NearEnd) (role : S) (bs : List ℕ) → is_over rules end role ≡ true
-        → hear rules now (goes end role) bs ≡ goes end role
-    unfolding hear hear_byte
-    hear_over end role [] h = refl
-    hear_over end role (b ∷ bs) h = rw h (hear_over end role bs h)
-
-    hear_first : (end : NearEnd) (role : S) (b : ℕ) (bs : List ℕ)
-        → is_over rules end role ≡ false
-        → hear rules now (goes end role) (b ∷ bs)
-        ≡ hear rules now (take_next rules (touched end now) role (on_byte end.intake b)) bs
-    unfolding hear hear_byte
-    hear_first end role b bs h = rw h refl
-
     hear_none : (end : NearEnd) (role : S) → hear rules now (goes end role) [] ≡ goes end role
     unfolding hear
     hear_none end role = refl
@@ -198,14 +186,14 @@ module _ {S : Type 0} (rules : Rules S) where
             → HeardEnd end (hear rules now (goes end role) (b ∷ bs)).end (not t)
         by true e =
             subst (λ (u : Turn S). HeardEnd end u.end false)
-            (sym (hear_over end role (b ∷ bs) e))
+            (sym (hear_over rules now end role (b ∷ bs) e))
             (record { leg = refl; since = refl; head = λ h. h })
         by false e =
             let first = touched end now in
             let next = take_next rules first role (on_byte end.intake b) in
             let one = next_like first role b in
             let all = rest_like next bs one.since in
-            subst (λ (u : Turn S). HeardEnd end u.end true) (sym (hear_first end role b bs e))
+            subst (λ (u : Turn S). HeardEnd end u.end true) (sym (hear_first rules now end role b bs e))
             (record {
               leg = all.leg ∙ one.leg;
               since = all.since ∙ one.since;
@@ -221,7 +209,7 @@ module _ {S : Type 0} (rules : Rules S) where
       where
         by : (t : Bool) → is_over rules end role ≡ t → not t ≡ false
             → hear rules now (goes end role) (b ∷ bs) ≡ goes end role
-        by true e n = hear_over end role (b ∷ bs) e
+        by true e n = hear_over rules now end role (b ∷ bs) e
         by false e n = absurd cc
 
     -- ---- what is drawn
@@ -262,14 +250,6 @@ module _ {S : Type 0} (rules : Rules S) where
         more_like end f f.end.begun (draw rules now n) (filled_like end role) (draw_like n)
 
 -- ---- what an event makes of the legs
-
-and_false : (t : Bool) → (t && false) ≡ false
-and_false true = refl
-and_false false = refl
-
-and_true : (t : Bool) → (t && true) ≡ t
-and_true true = refl
-and_true false = refl
 
 module _ {S : Type 0} (rules : Rules S) (s : Shell S) (event : Event) where
   -- no leg is touched

@@ -6,6 +6,7 @@ mod Places
 mod Touches
 mod NodeMoments
 mod OnceUp
+mod NoHeads
 mod Refusing
 mod MoveRoles
 mod ServerLegs
@@ -15,5 +16,4 @@ mod ClientSteps
 mod ClientLegs
 mod ClientTimes
 mod ClosedBy
-mod NoHeads
 mod RoleRefusals

@@ -42,6 +42,7 @@ use Rattle.rh_outproxy.specs.Putting.{Pick, ping_room, or_else, answer_by, put_a
 use Rattle.rh_outproxy.specs.Machine.{packet, pdu, on_co, on_os}
 use Rattle.rh_outproxy.specs.Machine.{rules as proxy_rules}
 use Rattle.rh_causes.specs.Once.{ComesUpOnce}
+use Rattle.rh_causes.proofs.Sorts.{and_false}
 use Rattle.rh_causes.proofs.MoveRoles.{by_row, behind_put, by_put}
 
 -- its numbers and its two legs
@@ -265,10 +266,6 @@ later_move p (Marks leg) = later_mark p.role leg
 later_move p (Pings leg) = grows_self (legs p.role)
 
 -- ---- what was up
-
-and_false : (t : Bool) → (t && false) ≡ false
-and_false true = refl
-and_false false = refl
 
 -- a leg is not both
 apart : (k : LegKind) (same : Bool)

@@ -14,9 +14,10 @@ use Rattle.rh_shell.specs.declared.answers.Phase.{Phase}
 use Rattle.rh_shell.specs.declared.course.Course.{Course}
 use Rattle.rh_shell.specs.declared.course.Course.TheVariants.{Going, Closed, Refusing}
 use Rattle.rh_shell.specs.declared.rooms.Rooms.{Rooms}
+use Rattle.rh_shell.specs.declared.stage.Stage.TheVariants as stage
 use Rattle.rh_shell.specs.declared.stop.Stop.{Stop}
 use Rattle.rh_shell.specs.Rules.{Rules}
-use Rattle.rh_shell.specs.NearEnds.{NearEnd, marked, is_marked, is_ended, is_finished}
+use Rattle.rh_shell.specs.NearEnds.{NearEnd, first_stage, marked, is_marked, is_ended, is_finished}
 use Rattle.rh_shell.specs.Hearing.{Turn, goes, hear}
 use Rattle.rh_shell.specs.Drawing.{draw}
 use Rattle.rh_shell.specs.Shells.{Shell, begun, same_leg, end_at, with_end, place, close, refuse, stop_by, stopped, has_room, may_up, with_leg, up, bytes_at, bytes_by, lose, lost, ended_at, ended_by, wants, is_heard, unreached_by, unreached, broken_at, broken_by, put_back, drawn_at, drawn_by, first_silent, passed_by, passed, is_working, is_working_by, state_by}
@@ -24,6 +25,7 @@ use Rattle.rh_shell.specs.Moving.{Event, ComesUp, Hears, Ends, Breaks, Draws, Ti
 use Rattle.rh_causes.specs.Reasons.{RefusesHead}
 use Rattle.rh_causes.specs.Refusals.{IsRestOf, RefusesRequest, TellsUnreached, MayRefuse}
 use Rattle.rh_causes.proofs.Sorts.{both, end_leg}
+use Rattle.rh_causes.proofs.NoHeads.{WaitOn, event_waits, first_waits}
 use Rattle.rh_causes.proofs.HeardBytes.{IsBadRequest, IsStop, piece_stops}
 
 whole_text : (refusal : Refusal) → IsRestOf refusal (refusal_text refusal)
@@ -42,22 +44,38 @@ not_working Going f h = refl
 not_working (Closed why) f h = absurd cc
 not_working (Refusing why leg rest) f h = absurd cc
 
-module _ {S : Type 0} (rules : Rules S) where
+-- the same as `MayRefuse`, where a request is refused only on such a leg
+abbrev pub MayRefuseAt : {S : Type 0} → Rules S → (Leg → Type 0) → S → Course → Type 0
+MayRefuseAt rules On role Going = Unit {0}
+MayRefuseAt rules On role (Closed why) = Unit {0}
+MayRefuseAt rules On role (Refusing why leg rest) =
+    (On leg × RefusesRequest why leg rest) ⊎ TellsUnreached rules role why leg rest
+
+pub on_any : {S : Type 0} (rules : Rules S) (On : Leg → Type 0) (role : S) (c : Course)
+    → MayRefuseAt rules On role c → MayRefuse rules role c
+on_any rules On role Going may = tt
+on_any rules On role (Closed why) may = tt
+on_any rules On role (Refusing why leg rest) (inl r) = inl r.1
+on_any rules On role (Refusing why leg rest) (inr t) = inr t
+
+module _ {S : Type 0} (rules : Rules S) (On : Leg → Type 0)
+    (first : (role : S) (leg : Leg) → rules.may_up role leg ≡ true
+    → first_stage (rules.pipe role leg) ≡ stage.Head → On leg) where
   abbrev pub Refuses : Shell S → Type 0
-  Refuses s = MayRefuse rules s.role s.course
+  Refuses s = MayRefuseAt rules On s.role s.course
 
   -- a node that goes on refuses nobody
-  going : (role : S) (c : Course) → c ≡ Going → MayRefuse rules role c
-  going role c is = subst (MayRefuse rules role) (sym is) tt
+  going : (role : S) (c : Course) → c ≡ Going → MayRefuseAt rules On role c
+  going role c is = subst (MayRefuseAt rules On role) (sym is) tt
 
   rest_refuses : (role : S) (why : Cause) (client : Leg) (rest : List ℕ) (n : ℕ)
-      → MayRefuse rules role (Refusing why client rest)
-      → MayRefuse rules role (Refusing why client (drop n rest))
-  rest_refuses role why client rest n (inl r) = inl (record {
-    place = r.place;
-    fault = r.fault;
-    cause = r.cause;
-    text = less_text _ rest n r.text;
+      → MayRefuseAt rules On role (Refusing why client rest)
+      → MayRefuseAt rules On role (Refusing why client (drop n rest))
+  rest_refuses role why client rest n (inl r) = inl (r.0, record {
+    place = r.1.place;
+    fault = r.1.fault;
+    cause = r.1.cause;
+    text = less_text _ rest n r.1.text;
   })
   rest_refuses role why client rest n (inr t) = inr (record {
     lost = t.lost;
@@ -67,7 +85,7 @@ module _ {S : Type 0} (rules : Rules S) where
     text = less_text _ rest n t.text;
   })
 
-  module _ (s : Shell S) (may : Refuses s) where
+  module _ (s : Shell S) (may : Refuses s) (wait : WaitOn On s.legs) where
     either : (b : Bool) (t u : Shell S) → Refuses t → Refuses u → Refuses (cond b t u)
     either true t u p q = p
     either false t u p q = q
@@ -101,12 +119,15 @@ module _ {S : Type 0} (rules : Rules S) where
       where
         stops : (end : NearEnd) (t : Turn S) (stop : Stop) (o : Option Refusal)
             → stop.refusal ≡ o → end.leg ≡ leg
-            → IsStop end.leg (RefusesHead rules s.role end piece) stop
+            → (end.intake.stage ≡ stage.Head → On leg)
+            → IsStop end.leg (end.intake.stage ≡ stage.Head)
+            (RefusesHead rules s.role end piece) stop
             → Refuses (stop_by (with_end s leg t.end t.role) leg stop.cause o)
-        stops end t stop None e same is = tt
-        stops end t stop (Some refusal) e same is =
-            let bad = is.refusal refusal e in
-            inl (record {
+        stops end t stop None e same on is = tt
+        stops end t stop (Some refusal) e same on is =
+            let refused = is.refusal refusal e in
+            let bad = refused.1 in
+            inl (on refused.0, record {
               place = bad.place;
               fault = bad.fault;
               cause = bad.cause ∙ ap (λ (l : Leg). cause.BadHead l bad.place bad.fault) same;
@@ -116,19 +137,23 @@ module _ {S : Type 0} (rules : Rules S) where
 
         by_stop : (end : NearEnd) (t : Turn S) (o : Option Stop) → t.stop ≡ o
             → s.course ≡ Going → end.leg ≡ leg
+            → (end.intake.stage ≡ stage.Head → On leg)
             → ((why : Stop) → t.stop ≡ Some why
-            → IsStop end.leg (RefusesHead rules s.role end piece) why)
+            → IsStop end.leg (end.intake.stage ≡ stage.Head)
+            (RefusesHead rules s.role end piece) why)
             → Refuses (stopped (with_end s leg t.end t.role) leg o)
-        by_stop end t None e is same all = going t.role s.course is
-        by_stop end t (Some stop) e is same all =
-            stops end t stop stop.refusal refl same (all stop e)
+        by_stop end t None e is same on all = going t.role s.course is
+        by_stop end t (Some stop) e is same on all =
+            stops end t stop stop.refusal refl same on (all stop e)
 
         by_end : (o : Option NearEnd) → s.course ≡ Going → end_at s leg ≡ o
             → Refuses (bytes_at rules s leg piece o)
         by_end None is at = may
         by_end (Some end) is at =
             let t = hear rules s.now (goes end s.role) piece in
-            by_stop end t t.stop refl is (end_leg leg s.legs end at)
+            let same = end_leg leg s.legs end at in
+            by_stop end t t.stop refl is same
+            (λ h. subst On same (wait end (record { place = place leg s.legs; at = at }) h))
             (piece_stops rules s.now end s.role piece)
 
         by_course : (c : Course) → s.course ≡ c → Refuses (bytes_by rules s leg piece c)
@@ -201,7 +226,7 @@ module _ {S : Type 0} (rules : Rules S) where
         by_course (Refusing why client rest) is =
             pair (same_leg client leg)
             (record s { course = Refusing why client (drop n rest) }, take n rest) (s, [])
-            (rest_refuses s.role why client rest n (subst (MayRefuse rules s.role) is may)) may
+            (rest_refuses s.role why client rest n (subst (MayRefuseAt rules On s.role) is may)) may
 
     ticks : (now : ℕ) → Refuses (after_event rules s (Ticks now))
     ticks now = by_time (is_working rules s && nat_le s.now now) refl
@@ -227,8 +252,14 @@ module _ {S : Type 0} (rules : Rules S) where
     event_refuses (Draws leg n) = draws leg n
     event_refuses (Ticks now) = ticks now
 
-  pub run_refuses : (s : Shell S) (events : List Event) → Refuses s
+  pub run_refuses : (s : Shell S) (events : List Event) → Refuses s → WaitOn On s.legs
       → Refuses (after_events rules s events)
-  run_refuses s [] may = may
-  run_refuses s (event ∷ events) may =
-      run_refuses (after_event rules s event) events (event_refuses s may event)
+  run_refuses s [] may wait = may
+  run_refuses s (event ∷ events) may wait =
+      run_refuses (after_event rules s event) events (event_refuses s may wait event)
+      (event_waits rules On first s event wait)
+
+  pub refuses_from_start : (role : S) (rooms : Rooms) (events : List Event)
+      → Refuses (after_events rules (begun role rooms) events)
+  refuses_from_start role rooms events =
+      run_refuses (begun role rooms) events tt (first_waits rules On first role rooms)

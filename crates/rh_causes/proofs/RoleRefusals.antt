@@ -1,6 +1,6 @@
 -- what the four roles refuse
 use Rattle.std.proofs.Common.{◌≡◌, ◌⊎◌, inl, inr, ℕ, List, [], ◌∷◌, cond, Bool, true, false, Some, None, Ok, Err, refl, sym, ap, ◌∙◌, subst}
-use Rattle.std.specs.Prelude.{◌&&◌, nat_le}
+use Rattle.std.specs.Prelude.{◌==◌, ◌&&◌, ◌||◌, nat_le}
 use Rattle.std.specs.declared.option.Option.{Option}
 use Rattle.std.specs.declared.result.Result.{Result}
 use Rattle.rh_http.specs.declared.fault.HttpFault.{HttpFault}
@@ -24,27 +24,29 @@ use Rattle.rh_shell.specs.Moves.{Move, Passage, MayMove, moved, started}
 use Rattle.rh_shell.specs.Moving.{EndEvent, after_end_events, Follows}
 use Rattle.rh_shell.specs.NearEnds.{first_stage}
 use Rattle.rh_shell.specs.Rules.{Rules}
-use Rattle.rh_shell.specs.Shells.{Shell, end_at, place}
+use Rattle.rh_sig.specs.declared.name.Pipe.TheVariants.{CiU, IsD, CoU, OsD}
+use Rattle.rh_shell.specs.Shells.{Shell, kind_number, end_at, place}
 use Rattle.rh_shell.proofs.Leading.{leads_keep}
 use Rattle.rh_nodes.specs.declared.event.Event.{Event}
 use Rattle.rh_inproxy.specs.declared.state.InProxyConfig.{InProxyConfig}
-use Rattle.rh_inproxy.specs.State.{InProxy, first, is_server_leg}
-use Rattle.rh_inproxy.specs.Opening.{head_by, echo_asked, channel_asked, wants_server}
+use Rattle.rh_inproxy.specs.State.{InProxy, first, is_client_leg, is_server_leg}
+use Rattle.rh_inproxy.specs.Opening.{head_by, echo_asked, channel_asked, wants_server, accepts}
 use Rattle.rh_inproxy.specs.Machine as in_proxy
 use Rattle.rh_outproxy.specs.declared.state.OutProxyConfig.{OutProxyConfig}
 use Rattle.rh_outproxy.specs.OutProxy.{OutProxy, new_proxy, is_client_up, is_known, is_server_down}
 use Rattle.rh_outproxy.specs.Opening as opening
-use Rattle.rh_outproxy.specs.Rows.{is_os, co}
+use Rattle.rh_outproxy.specs.Rows.{is_co, is_os, co}
 use Rattle.rh_outproxy.specs.Machine as out_proxy
 use Rattle.rh_server.specs.States.{Server}
 use Rattle.rh_server.specs.Opening.{may_up_by}
 use Rattle.rh_server.specs.Servers as server
 use Rattle.rh_causes.specs.Closings.{ClosesWith, IsRefusal}
 use Rattle.rh_causes.specs.Numbers.{AreNumbered}
-use Rattle.rh_causes.specs.Refusals.{IsRestOf, RefusesRequest, TellsUnreached, TellsClient, MayRefuse, MayRefuseOn, RefusesNoStatus}
+use Rattle.rh_causes.specs.Refusals.{IsRestOf, RefusesRequest, TellsUnreached, TellsClient, MayRefuseOn, RefusesNoStatus}
 use Rattle.rh_causes.proofs.Sorts.{both, leg_is}
 use Rattle.rh_causes.proofs.ClosedBy.{from_event}
-use Rattle.rh_causes.proofs.NoHeads.{WaitForNone, run_at_end, first_waits}
+use Rattle.rh_causes.proofs.NoHeads.{run_at_end, first_waits}
+use Rattle.rh_causes.proofs.Refusing.{MayRefuseAt}
 use Rattle.rh_causes.proofs.InProxyLegs as in_legs
 use Rattle.rh_causes.proofs.OutProxyLegs as out_legs
 
@@ -110,8 +112,8 @@ pub server_never : (window : ℕ) (events : List EndEvent) (event : Event) (leg 
 server_never window events event leg status h =
     let node = after_end_events server.rules server.acts (server.new_server window) events in
     let r = from_event server.rules node event (cause.HttpRefused leg status) h in
-    run_at_end server.rules server_heads server.acts (server.new_server window) events
-    (first_waits server.rules server_heads (server.first window) server.rooms) r.end
+    run_at_end server.rules (λ l. ⊥) server_heads server.acts (server.new_server window) events
+    (first_waits server.rules (λ l. ⊥) server_heads (server.first window) server.rooms) r.end
     (record { place = place leg node.legs; at = r.at }) r.refuses.stage
 
 -- ---- the numbers of a proxy stay
@@ -144,15 +146,42 @@ out_config config s f =
     (λ p move k may. (out_legs.later_move p move).config ∙ k) (started (new_proxy config)) f.passage
     f.leads refl
 
+-- ---- on a client's leg alone a head comes first
+
+kind_is : (k l : LegKind) → (kind_number k == kind_number l) ≡ true → l ≡ k
+kind_is k l h = ap (λ (x : Leg). x.kind) (sym (leg_is (record { kind = k; number = 0 })
+    (record { kind = l; number = 0 }) (rw h refl)))
+
+pub in_heads : (s : InProxy) (leg : Leg) → in_proxy.rules.may_up s leg ≡ true
+    → first_stage (in_proxy.rules.pipe s leg) ≡ stage.Head → leg.kind ≡ ClientIn
+in_heads s leg may = by (is_client_leg leg) (is_server_leg s leg) refl refl may
+  where
+    by : (c o : Bool) → is_client_leg leg ≡ c → is_server_leg s leg ≡ o
+        → ((o && wants_server s.opening) || (c && accepts s s.opening leg.number)) ≡ true
+        → first_stage (cond c (Some CiU) (cond o (Some IsD) None)) ≡ stage.Head
+        → leg.kind ≡ ClientIn
+    by true o e f may is = kind_is ClientIn leg.kind e
+    by false true e f may is = absurd cc
+    by false false e f may is = absurd cc
+
+pub out_heads : (s : OutProxy) (leg : Leg) → out_proxy.rules.may_up s leg ≡ true
+    → first_stage (out_proxy.rules.pipe s leg) ≡ stage.Head → leg.kind ≡ ClientOut
+out_heads s leg may = by (is_co s leg) refl
+  where
+    by : (c : Bool) → is_co s leg ≡ c → first_stage (cond c (Some CoU) (Some OsD)) ≡ stage.Head
+        → leg.kind ≡ ClientOut
+    by true e is = ap (λ (l : Leg). l.kind) (sym (leg_is (co s) leg e))
+    by false e is = absurd cc
+
 -- ---- why a proxy refuses
 
 pub in_refuses : (config : InProxyConfig) (s : InProxy) (course : Course) → s.config ≡ config
-    → MayRefuse in_proxy.rules s course
+    → MayRefuseAt in_proxy.rules (λ (l : Leg). l.kind ≡ ClientIn) s course
     → MayRefuseOn (record { kind = ClientIn; number = config.number })
     (record { kind = InServer; number = config.number }) course
 in_refuses config s Going same may = tt
 in_refuses config s (Closed why) same may = tt
-in_refuses config s (Refusing why leg rest) same (inl r) = inl r
+in_refuses config s (Refusing why leg rest) same (inl r) = inl (record { kind = r.0; request = r.1 })
 in_refuses config s (Refusing why leg rest) same (inr t) =
     let server : t.lost ≡ record { kind = InServer; number = config.number } =
     sym (leg_is (record { kind = InServer; number = s.config.number }) t.lost
@@ -167,12 +196,12 @@ in_refuses config s (Refusing why leg rest) same (inr t) =
     })
 
 pub out_refuses : (config : OutProxyConfig) (s : OutProxy) (course : Course) → s.config ≡ config
-    → MayRefuse out_proxy.rules s course
+    → MayRefuseAt out_proxy.rules (λ (l : Leg). l.kind ≡ ClientOut) s course
     → MayRefuseOn (record { kind = ClientOut; number = config.number })
     (record { kind = OutServer; number = config.number }) course
 out_refuses config s Going same may = tt
 out_refuses config s (Closed why) same may = tt
-out_refuses config s (Refusing why leg rest) same (inl r) = inl r
+out_refuses config s (Refusing why leg rest) same (inl r) = inl (record { kind = r.0; request = r.1 })
 out_refuses config s (Refusing why leg rest) same (inr t) =
     let server : t.lost ≡ record { kind = OutServer; number = config.number } =
     sym (leg_is (record { kind = OutServer; number = s.config.number }) t.lost

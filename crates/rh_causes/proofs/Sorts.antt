@@ -13,6 +13,18 @@ pub both : (a b : Bool) → (a && b) ≡ true → (a ≡ true) × (b ≡ true)
 both true b h = (refl, h)
 both false b h = absurd cc
 
+pub and_false : (t : Bool) → (t && false) ≡ false
+and_false true = refl
+and_false false = refl
+
+pub and_true : (t : Bool) → (t && true) ≡ t
+and_true true = refl
+and_true false = refl
+
+pub or_true : (t : Bool) → (t || true) ≡ true
+or_true true = refl
+or_true false = refl
+
 -- ---- the same leg
 
 kind_is : (a b : LegKind) → (kind_number a == kind_number b) ≡ true → a ≡ b

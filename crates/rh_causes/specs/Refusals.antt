@@ -52,12 +52,17 @@ pub record TellsClient (client server : Leg) (why : Cause) (leg : Leg) (rest : L
   pub told : leg ≡ client
   pub text : IsRestOf Unavailable rest
 
+-- a client's request broke a rule
+pub record RefusesClient (client : Leg) (why : Cause) (leg : Leg) (rest : List ℕ) : Type 0 where
+  pub kind : leg.kind ≡ client.kind
+  pub request : RefusesRequest why leg rest
+
 -- why a proxy that has these legs refuses
 abbrev pub MayRefuseOn : Leg → Leg → Course → Type 0
 MayRefuseOn client server Going = Unit {0}
 MayRefuseOn client server (Closed why) = Unit {0}
 MayRefuseOn client server (Refusing why leg rest) =
-    RefusesRequest why leg rest ⊎ TellsClient client server why leg rest
+    RefusesClient client why leg rest ⊎ TellsClient client server why leg rest
 
 -- ---- responses
 

@@ -34,9 +34,9 @@ pub fn a_node_refuses_for_a_reason<R: Role>()
 {}
 
 /// Whatever happens at a proxy, it draws the rest of a head only where it closed for one of two
-/// reasons: a request on that leg broke a rule, which the head says; or its leg to the server
-/// could not be connected, and a head of status 503 says so on the client's leg, which has the
-/// same number.
+/// reasons: a request on that leg, which is a client's, broke a rule, which the head says; or its
+/// leg to the server could not be connected, and a head of status 503 says so on the client's leg
+/// of the same number.
 pub fn a_proxy_refuses_for_a_reason()
     ensures in_proxy { (config : InProxyConfig) (events : List Event)
         → MayRefuseOn (record { kind = legs.ClientIn; number = config.number })
