@@ -1,10 +1,12 @@
 -- what the four roles refuse
-use Rattle.std.proofs.Common.{◌≡◌, ◌⊎◌, inl, inr, ℕ, List, [], ◌∷◌, cond, Bool, true, false, Some, None, Ok, Err, refl, sym, ap, ◌∙◌, subst}
+use Rattle.std.proofs.Common.{◌≡◌, ◌⊎◌, inl, inr, ℕ, List, [], ◌∷◌, ◌++◌, cond, Bool, true, false, Some, None, Ok, Err, refl, sym, ap, ◌∙◌, subst}
 use Rattle.std.specs.Prelude.{◌==◌, ◌&&◌, ◌||◌, nat_le}
 use Rattle.std.specs.declared.option.Option.{Option}
 use Rattle.std.specs.declared.result.Result.{Result}
+use Rattle.std.proofs.lemmas.Bool.{eq-eqb}
 use Rattle.rh_http.specs.declared.fault.HttpFault.{HttpFault}
-use Rattle.rh_heads.specs.Verdicts.{Asked, request_verdict}
+use Rattle.rh_http.specs.declared.response.Response.{Response}
+use Rattle.rh_heads.specs.Verdicts.{Asked, request_verdict, response_verdict}
 use Rattle.rh_line.specs.declared.cause.Cause.{Cause}
 use Rattle.rh_line.specs.declared.cause.Cause.TheVariants as cause
 use Rattle.rh_line.specs.declared.leg.Leg.{Leg}
@@ -28,6 +30,10 @@ use Rattle.rh_sig.specs.declared.name.Pipe.TheVariants.{CiU, IsD, CoU, OsD}
 use Rattle.rh_shell.specs.Shells.{Shell, kind_number, end_at, place}
 use Rattle.rh_shell.proofs.Leading.{leads_keep}
 use Rattle.rh_nodes.specs.declared.event.Event.{Event}
+use Rattle.rh_client.specs.declared.state.ClientRole.{ClientRole}
+use Rattle.rh_client.specs.Client as client
+use Rattle.rh_client.specs.Opening as opens
+use Rattle.rh_client.specs.Opening.{success}
 use Rattle.rh_inproxy.specs.declared.state.InProxyConfig.{InProxyConfig}
 use Rattle.rh_inproxy.specs.State.{InProxy, first, is_client_leg, is_server_leg}
 use Rattle.rh_inproxy.specs.Opening.{head_by, echo_asked, channel_asked, wants_server, accepts}
@@ -40,10 +46,10 @@ use Rattle.rh_outproxy.specs.Machine as out_proxy
 use Rattle.rh_server.specs.States.{Server}
 use Rattle.rh_server.specs.Opening.{may_up_by}
 use Rattle.rh_server.specs.Servers as server
-use Rattle.rh_causes.specs.Closings.{ClosesWith, IsRefusal}
+use Rattle.rh_causes.specs.Closings.{ClosesWith, IsRefusal, IsResponse}
 use Rattle.rh_causes.specs.Numbers.{AreNumbered}
-use Rattle.rh_causes.specs.Refusals.{IsRestOf, RefusesRequest, TellsUnreached, TellsClient, MayRefuseOn, RefusesNoStatus}
-use Rattle.rh_causes.proofs.Sorts.{both, leg_is}
+use Rattle.rh_causes.specs.Refusals.{IsRestOf, RefusesRequest, TellsUnreached, TellsClient, MayRefuseOn, RefusesNoStatus, IsRefusedBy}
+use Rattle.rh_causes.proofs.Sorts.{both, leg_is, end_leg}
 use Rattle.rh_causes.proofs.ClosedBy.{from_event}
 use Rattle.rh_causes.proofs.NoHeads.{run_at_end, first_waits}
 use Rattle.rh_causes.proofs.Refusing.{MayRefuseAt}
@@ -84,6 +90,69 @@ out_no_status s leg text status = by (request_verdict false text)
     by : (r : Result Asked HttpFault) → (opening.head_by s r).1 ≡ Err (Status status) → ⊥
     by (Err fault) e = absurd cc
     by (Ok asked) e = by_length asked (nat_le asked.length greatest_echo) e
+
+fails : (n m : ℕ) → (n == success) ≡ false → n ≡ m → m ≡ success → ⊥
+fails n m e same ok =
+    let no : false ≡ true = sym e ∙ eq-eqb n success (same ∙ ok) in
+    absurd cc
+
+client_refused : (s : ClientRole) (leg : Leg) (text : List ℕ) (status : ℕ)
+    → (client.rules.head s leg text).1 ≡ Err (Status status) → IsRefusedBy leg text status
+client_refused s leg text status = by leg.kind (response_verdict text) refl refl
+  where
+    told : (response : Response) (k : LegKind) → response_verdict text ≡ Ok response
+        → leg.kind ≡ k → response.status ≡ status
+        → (k ≡ ClientOut → status ≡ success → ⊥) → IsRefusedBy leg text status
+    told response k read kind same failure = record {
+      response = response;
+      read = read;
+      told = same;
+      failure = λ out ok. failure (sym kind ∙ out) ok;
+    }
+
+    by_status : (response : Response) (t : Bool) → (response.status == success) ≡ t
+        → response_verdict text ≡ Ok response → leg.kind ≡ ClientOut
+        → cond {A = Result HeadTaken HeadRefused} t
+        (Ok (record { behind = behinds.Frames; length = response.length }))
+        (Err (Status response.status)) ≡ Err (Status status)
+        → IsRefusedBy leg text status
+    by_status response true e read kind h = absurd cc
+    by_status response false e read kind h =
+        let same : response.status ≡ status = cc in
+        told response ClientOut read kind same (λ out ok. fails response.status status e same ok)
+
+    by : (k : LegKind) (r : Result Response HttpFault) → leg.kind ≡ k → response_verdict text ≡ r
+        → opens.head_by k r ≡ Err (Status status) → IsRefusedBy leg text status
+    by k (Err fault) kind read h = absurd cc
+    by ClientOut (Ok response) kind read h =
+        by_status response (response.status == success) refl read kind h
+    by OutServer (Ok response) kind read h =
+        told response OutServer read kind (cc) (λ out ok. absurd cc)
+    by ClientIn (Ok response) kind read h =
+        told response ClientIn read kind (cc) (λ out ok. absurd cc)
+    by InServer (Ok response) kind read h =
+        told response InServer read kind (cc) (λ out ok. absurd cc)
+
+-- a client closes with it for a response on that leg, whose head came whole with the piece
+pub client_closes : (node : Shell ClientRole) (event : Event) (leg : Leg) (status : ℕ)
+    → ClosesWith client.rules node event (cause.HttpRefused leg status)
+    → IsResponse node event leg status
+client_closes node event leg status h =
+    let r = from_event client.rules node event (cause.HttpRefused leg status) h in
+    let same = end_leg leg node.legs r.end r.at in
+    record {
+      piece = r.piece;
+      is = r.is;
+      end = r.end;
+      at = r.at;
+      front = r.refuses.front;
+      behind = r.refuses.behind;
+      cut = r.refuses.cut;
+      refused = client_refused node.role leg (r.end.intake.held ++ r.refuses.front) status
+          (subst (λ (l : Leg).
+          (client.rules.head node.role l (r.end.intake.held ++ r.refuses.front)).1
+          ≡ Err (Status status)) same r.refuses.refused);
+    }
 
 -- so no node of such a role closes with it
 pub never_refused : {S : Type 0} (rules : Rules S) → RefusesNoStatus rules → (node : Shell S)

@@ -1,5 +1,5 @@
 -- why a node closes: what each event may close it with, and where each cause comes from (profile)
-use Rattle.std.specs.Prelude.{ℕ, ◌≡◌, List, Some}
+use Rattle.std.specs.Prelude.{ℕ, ◌≡◌, ◌++◌, List, Some}
 use Rattle.rh_line.specs.declared.leg.Leg.{Leg}
 use Rattle.rh_line.specs.declared.cause.Cause.{Cause}
 use Rattle.rh_line.specs.declared.cause.Cause.TheVariants as cause
@@ -9,6 +9,8 @@ use Rattle.rh_shell.specs.Shells.{Shell, end_at}
 use Rattle.rh_nodes.specs.declared.event.Event.{Event}
 use Rattle.rh_nodes.specs.declared.event.Event.TheVariants.{Comes, Ends, Breaks, Passes}
 use Rattle.rh_nodes.specs.Telling.{tell}
+use Rattle.rh_client.specs.declared.state.ClientRole.{ClientRole}
+use Rattle.rh_causes.specs.Refusals.{IsRefusedBy}
 use Rattle.rh_causes.specs.Reasons.{EndsPartly, FallsSilent, RefusesHead, ComesAmiss}
 
 -- the event closed the node with this cause
@@ -46,3 +48,18 @@ ComesFrom rules node event (cause.LegEnded leg partial) = event ≡ Ends leg
 ComesFrom rules node event (cause.Silent leg since now) = event ≡ Passes now
 ComesFrom rules node event (cause.HttpRefused leg status) = IsRefusal rules node event leg status
 ComesFrom rules node event why = IsPiece event
+
+-- ---- a client's responses
+
+-- a piece came on the leg, whose first bytes make a response whole, behind those that are held: it
+-- refuses the channel with this status
+pub record IsResponse (node : Shell ClientRole) (event : Event) (leg : Leg) (status : ℕ)
+    : Type 0 where
+  pub piece : List ℕ
+  pub is : event ≡ Comes leg piece
+  pub end : NearEnd
+  pub at : end_at node leg ≡ Some end
+  pub front : List ℕ
+  pub behind : List ℕ
+  pub cut : front ++ behind ≡ piece
+  pub refused : IsRefusedBy leg (end.intake.held ++ front) status

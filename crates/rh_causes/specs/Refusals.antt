@@ -1,18 +1,22 @@
 -- which heads a node that closed draws, and on which leg (MS-RPCH 2.1.2 and RFC 9112 section 15;
 -- which cause is told the client is this profile's)
-use Rattle.std.specs.Prelude.{ℕ, ◌≡◌, ◌⊎◌, List, drop, true, Some, Err}
+use Rattle.std.specs.Prelude.{ℕ, ◌≡◌, ◌⊎◌, List, drop, true, Some, Ok, Err}
 use Rattle.rh_http.specs.declared.fault.HttpFault.{HttpFault}
+use Rattle.rh_http.specs.declared.response.Response.{Response}
 use Rattle.rh_http.specs.declared.refusal.Refusal.{Refusal}
 use Rattle.rh_http.specs.declared.refusal.Refusal.TheVariants.{Unavailable}
 use Rattle.rh_http.specs.Refusals.{refusal_of}
 use Rattle.rh_http.specs.Texts.{refusal_text}
+use Rattle.rh_heads.specs.Verdicts.{response_verdict}
 use Rattle.rh_line.specs.declared.leg.Leg.{Leg}
+use Rattle.rh_line.specs.declared.leg.LegKind.TheVariants.{ClientOut}
 use Rattle.rh_line.specs.declared.cause.Cause.{Cause}
 use Rattle.rh_line.specs.declared.cause.Cause.TheVariants as cause
 use Rattle.rh_shell.specs.declared.answers.HeadRefused.TheVariants.{Status}
 use Rattle.rh_shell.specs.declared.course.Course.{Course}
 use Rattle.rh_shell.specs.declared.course.Course.TheVariants.{Going, Closed, Refusing}
 use Rattle.rh_shell.specs.Rules.{Rules}
+use Rattle.rh_client.specs.Opening.{success}
 
 -- so many bytes of the refusal's head were drawn
 pub record IsRestOf (refusal : Refusal) (rest : List ℕ) : Type 0 where
@@ -65,6 +69,14 @@ MayRefuseOn client server (Refusing why leg rest) =
     RefusesClient client why leg rest ⊎ TellsClient client server why leg rest
 
 -- ---- responses
+
+-- the head is a response of this status; on an OUT channel any but 200 refuses it, and on an IN
+-- channel each does, since it has no response before its end
+pub record IsRefusedBy (leg : Leg) (text : List ℕ) (status : ℕ) : Type 0 where
+  pub response : Response
+  pub read : response_verdict text ≡ Ok response
+  pub told : response.status ≡ status
+  pub failure : leg.kind ≡ ClientOut → status ≡ success → ⊥
 
 -- the role never refuses a response for its status
 abbrev pub RefusesNoStatus : {S : Type 0} → Rules S → Type 0

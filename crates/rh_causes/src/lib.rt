@@ -11,6 +11,7 @@ pub mod watching;
 pub use closings::{causes_come_from_their_events, events_close_with_their_causes};
 pub use moments::{
     a_leg_is_silent_since_it_was_heard, an_ends_leg_is_silent_since_it_was_heard,
+    each_roles_legs_are_silent_since_they_were_heard,
 };
 pub use refusals::{
     a_node_refuses_for_a_reason, a_proxy_refuses_for_a_reason,

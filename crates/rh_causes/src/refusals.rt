@@ -8,6 +8,8 @@ ghost use Rattle.rh_shell.specs.declared.rooms.Rooms.{Rooms};
 ghost use Rattle.rh_shell.specs.Moving.{EndEvent, Event, after_end_events, after_events};
 ghost use Rattle.rh_shell.specs.Shells.{Shell, begun};
 ghost use Rattle.rh_nodes.specs.declared.event.Event as told;
+ghost use Rattle.rh_client.specs.declared.state.ClientRole.{ClientRole};
+ghost use Rattle.rh_client.specs.Client as client;
 ghost use Rattle.rh_inproxy.specs.declared.state.InProxyConfig.{InProxyConfig};
 ghost use Rattle.rh_inproxy.specs.State.{InProxy};
 ghost use Rattle.rh_inproxy.specs.Machine as in_proxy;
@@ -16,7 +18,7 @@ ghost use Rattle.rh_outproxy.specs.declared.state.OutProxyConfig.{OutProxyConfig
 ghost use Rattle.rh_outproxy.specs.OutProxy.{OutProxy, new_proxy};
 ghost use Rattle.rh_outproxy.specs.Machine as out_proxy;
 ghost use Rattle.rh_server.specs.Servers as server;
-ghost use Rattle.rh_causes.specs.Closings.{ClosesWith};
+ghost use Rattle.rh_causes.specs.Closings.{ClosesWith, IsResponse};
 ghost use Rattle.rh_causes.specs.Refusals.{MayRefuse, MayRefuseOn, RefusesNoStatus};
 
 use rh_inproxy::InProxyRole;
@@ -51,9 +53,14 @@ pub fn a_proxy_refuses_for_a_reason()
     roles_move_by_their_rules::<OutProxyRole>();
 }
 
-/// Only a client closes with `HttpRefused`. A proxy refuses no head for its status, whatever its
-/// state is; and to a server no head comes, whatever happened there.
+/// Only a client closes with `HttpRefused`, and only for a response on that leg: of a status that
+/// isn't 200 on the leg of an OUT channel, and of any on that of an IN channel. A proxy refuses no
+/// head for its status, whatever its state is; and to a server no head comes, whatever happened
+/// there.
 pub fn only_a_client_closes_with_http_refused()
+    ensures client { (node : Shell ClientRole) (event : told.Event) (leg : Leg) (status : ℕ)
+        → ClosesWith client.rules node event (cause.HttpRefused leg status)
+        → IsResponse node event leg status }
     ensures in_proxies { RefusesNoStatus in_proxy.rules }
     ensures out_proxies { RefusesNoStatus out_proxy.rules }
     ensures in_proxy { (node : Shell InProxy) (event : told.Event) (leg : Leg) (status : ℕ)
