@@ -1,63 +1,31 @@
 -- a client's legs come up once each, by the numbers of its channels
-use Rattle.std.proofs.Common.{◌≡◌, ℕ, ◌+◌, ◌==◌, ◌<◌, ◌≤◌, ◌&&◌, ◌||◌, List, [], ◌∷◌, ◌++◌, length, Bool, true, false, cond, not, nat_lt, Some, None, Ok, Err, refl, sym, ap, ◌∙◌, subst, rules, arith}
-use Rattle.std.specs.Prelude.{nat_le, if◌then◌else◌}
-use Rattle.std.specs.declared.option.Option.{Option}
-use Rattle.std.specs.declared.result.Result.{Result}
+use Rattle.std.proofs.Common.{◌≡◌, ℕ, ◌+◌, ◌==◌, ◌<◌, ◌&&◌, ◌||◌, Bool, true, false, not, nat_lt, None, refl, sym, ap, subst, rules, arith}
 use Rattle.std.proofs.lemmas.Bool.Decides.{nat_tests}
 use Rattle.rh_rts.specs.declared.command.Cookie.{Cookie}
 use Rattle.rh_http.specs.declared.config.ClientConfig.{ClientConfig}
-use Rattle.rh_keep.specs.Meters.{fits, may_put}
 use Rattle.rh_sig.specs.declared.named.Named.{Named}
-use Rattle.rh_sig.specs.declared.named.Named.TheVariants as named
-use Rattle.rh_line.specs.Lines.{after_told, after_take, after_finish}
-use Rattle.rh_line.specs.Queue.{behind, front_length}
 use Rattle.rh_line.specs.declared.leg.Leg.{Leg}
 use Rattle.rh_line.specs.declared.leg.LegKind.{LegKind}
 use Rattle.rh_line.specs.declared.leg.LegKind.TheVariants.{ClientOut, OutServer, ClientIn, InServer}
-use Rattle.rh_line.specs.declared.which.Which.{Which}
-use Rattle.rh_line.specs.declared.which.Which.TheVariants.{Current, Next}
-use Rattle.rh_window.specs.declared.recv_window.Ack.{Ack}
 use Rattle.rh_order.proofs.ByNumber.{by_test}
-use Rattle.rh_shell.specs.NearEnds.{first_of}
 use Rattle.rh_shell.specs.declared.answers.Count.{Count}
-use Rattle.rh_shell.specs.declared.answers.Phase.TheVariants as phase
-use Rattle.rh_shell.specs.declared.end_role.GiveRefused.{GiveRefused}
-use Rattle.rh_shell.specs.declared.end_role.RecycleRefused.{RecycleRefused}
-use Rattle.rh_shell.specs.declared.end_role.RecycleRefused.TheVariants.{Busy, Last}
-use Rattle.rh_shell.specs.Rules.{Message, Text, Pdu, Packet}
-use Rattle.rh_shell.specs.Moves.{Move, Up, HeadCame, PduCame, PacketCame, Puts, IsDrawn, Marks, Pings, Passage, EndMove, EndPassage, Moves, Gives, Takes, Closes, Recycles, MayMove, MayEndMove, moved, end_moved, end_now_at}
-use Rattle.rh_client.specs.declared.channels.Opening.{Opening}
-use Rattle.rh_client.specs.declared.channels.Opening.TheVariants.{NotUp, Request, First, Second, Put}
-use Rattle.rh_client.specs.declared.channels.TheConstants.{LAST_NUMBER}
-use Rattle.rh_client.specs.declared.lengths.TheConstants.{CONN_B1_LEN, IN_R1_A1_LEN, IN_R1_A5_LEN, OUT_R1_A7_LEN, END_A1_LEN, ACK_TO_LEN, PING_LEN, CONN_A1_LEN, OUT_R1_A3_C1_LEN}
-use Rattle.rh_http.specs.Texts.{in_request, out_request}
-use Rattle.rh_client.specs.declared.replacement.Replacement.{Replacement}
-use Rattle.rh_client.specs.declared.replacement.Replacement.TheVariants.{NoneUnderWay, In, Out}
-use Rattle.rh_client.specs.declared.replacement.InStage.{InStage}
-use Rattle.rh_client.specs.declared.replacement.InStage.TheVariants as in_stage
-use Rattle.rh_client.specs.declared.replacement.OutStage.{OutStage}
-use Rattle.rh_client.specs.declared.replacement.OutStage.TheVariants as out_stage
-use Rattle.rh_client.specs.declared.replacement.Waits.{Waits}
-use Rattle.rh_client.specs.declared.replacement.Waits.TheVariants as waits
+use Rattle.rh_shell.specs.Rules.{Pdu, Packet}
+use Rattle.rh_shell.specs.Moves.{Move, Up, HeadCame, PduCame, PacketCame, Puts, IsDrawn, Marks, Pings, Passage, EndMove, EndPassage, Moves, Gives, Takes, Closes, Recycles, moved, end_moved, end_now_at}
 use Rattle.rh_client.specs.declared.state.ClientRole.{ClientRole}
-use Rattle.rh_client.specs.Channels.{is_up, is_named, unopened_in, unopened_out, in_up, out_up, metered, sent}
-use Rattle.rh_client.specs.Replacements.{is_in, is_out, with_in, with_out, has_out}
-use Rattle.rh_client.specs.State.{Done, first, taken, unexpected, is_open, is_writing, is_in_successor, is_current, is_out_successor, is_over, begin_in, begin_out, after_in, after_out}
-use Rattle.rh_client.specs.Opening.{wants, wants_by, wants_in, wants_out, was_up, was_up_by, was_in_up, was_out_up, up, up_by, up_in, up_out, with_next, on_conn_a3, on_conn_c2}
-use Rattle.rh_client.specs.Acknowledging.{acked, ack_row, ack_named, ack_due, cookie_of, on_pdu, on_ack_to}
-use Rattle.rh_client.specs.InReplacement.{recycle, recycle_by, wish_by, wants_successor, wished, handed_over, on_in_r1_a4, on_in_r2_a4}
-use Rattle.rh_client.specs.OutReplacement.{a2_by, a10_by, a10_at, succeeded, ended_or, pass_at, pass_by, passed, on_out_r1_a2, on_out_r1_a6, on_out_r1_a10}
-use Rattle.rh_client.specs.Ending.{give, close, take, on_end_b2, drawn, drawn_by}
-use Rattle.rh_client.specs.Time.{ping, ping_by}
-use Rattle.rh_client.specs.Putting as putting
-use Rattle.rh_client.specs.Putting.{Pick, or_else, conn_a1, conn_b1, in_r1_a1, out_r1_a3, begun_in, begun_out, put_conn_b1, put_in_r1_a1, put_current, put_out_successor, put_out, put_in_r1_a5, put_out_r1_a7, in_due, out_due, due_by, put_due, ack_by, put_ack_of, put_ack, lets_pdu, put_pdu, is_end_due, with_end_put, put_end, without_ping, put_ping, put_successor_ping, put_next, put_writing, put_in_successor, put_in, settled_or_wished, settled_pick, put_by, put}
+use Rattle.rh_client.specs.Channels.{is_up, in_up, out_up}
+use Rattle.rh_client.specs.State.{first, is_writing, is_in_successor, is_current, is_out_successor}
+use Rattle.rh_client.specs.Opening.{wants, wants_by, was_up, was_up_by, was_in_up, was_out_up, up, up_by, with_next, on_conn_a3}
+use Rattle.rh_client.specs.OutReplacement.{on_out_r1_a6}
+use Rattle.rh_client.specs.Ending.{give, close, take, drawn}
+use Rattle.rh_client.specs.Time.{ping}
+use Rattle.rh_client.specs.Putting.{put_by, put}
 use Rattle.rh_client.specs.Client.{pdu, packet, packet_by, packet_on, on_packet}
 use Rattle.rh_client.specs.Client as client
 use Rattle.rh_causes.specs.Once.{ComesUpOnce, KeepsUp}
 use Rattle.rh_causes.specs.Numbers.{AreNumberedBy, ClientIsNumbered}
 use Rattle.rh_causes.proofs.ClientSteps.{Side, Sides, sides, begun, shifted, StepLaws, Timed, later_same, later_self, packet_later, pdu_later, up_later, pick_later, put_by_later, drawn_same, ping_same, give_same, take_later, recycle_later}
 use Rattle.rh_causes.proofs.Sorts.{or_true}
-use Rattle.rh_causes.proofs.MoveRoles.{by_row, behind_put, by_put, by_given, by_first}
+use Rattle.rh_causes.proofs.MoveRoles.{by_row, by_put, by_given, by_first}
 
 -- the number's leg was up, or is wanted
 abbrev was_on : ℕ → Side → Bool
@@ -281,7 +249,6 @@ later_move p (IsDrawn leg) sound =
 later_move p (Marks leg) sound = later_self AreSound AllGrow growing p.role sound
 later_move p (Pings leg) sound =
     later_same AreSound AllGrow growing p.role (ping p.role leg) sound (ping_same AreSound AllGrow growing p.role leg.number leg.kind)
-
 
 later_call : (p : EndPassage ClientRole) (move : EndMove) → Sound p.passage.role
     → Later p.passage.role (end_moved client.rules client.acts p move).passage.role

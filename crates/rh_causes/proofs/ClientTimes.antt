@@ -1,6 +1,5 @@
 -- a client watches its OUT channels for the times that it was told
-use Rattle.std.proofs.Common.{◌≡◌, ◌⊎◌, inl, inr, ℕ, ◌==◌, ◌<◌, ◌&&◌, ◌||◌, List, [], ◌∷◌, ◌++◌, Bool, true, false, cond, Some, None, Ok, Err, refl, sym, ap, ◌∙◌, subst, arith}
-use Rattle.std.specs.declared.option.Option.{Option}
+use Rattle.std.proofs.Common.{◌≡◌, inl, inr, ℕ, ◌==◌, ◌&&◌, ◌||◌, List, [], ◌∷◌, ◌++◌, Bool, true, false, cond, Some, None, Ok, Err, refl, sym, ◌∙◌, subst, arith}
 use Rattle.std.specs.declared.result.Result.{Result}
 use Rattle.rh_http.specs.declared.config.ClientConfig.{ClientConfig}
 use Rattle.rh_sig.specs.declared.named.Named.{Named}
@@ -12,13 +11,12 @@ use Rattle.rh_order.proofs.ByNumber.{by_test, same_number}
 use Rattle.rh_shell.specs.declared.answers.Count.{Count}
 use Rattle.rh_shell.specs.declared.end_role.GiveRefused.{GiveRefused}
 use Rattle.rh_shell.specs.Hearing.{is_zero}
-use Rattle.rh_shell.specs.Rules.{Message, Text, Pdu, Packet}
+use Rattle.rh_shell.specs.Rules.{Message, Pdu, Packet}
 use Rattle.rh_shell.specs.Moves.{OnLeg, Move, Up, HeadCame, PduCame, PacketCame, Puts, IsDrawn, Marks, Pings, Passage, EndMove, EndPassage, Moves, Gives, Takes, Closes, Recycles, AreAllowedAtEnd, moved, end_moved, end_now_at, all_end_moved, end_started, taken_by, put_by as put_on, given_by, with_first}
 use Rattle.rh_shell.specs.Moving.{EndFollows}
 use Rattle.rh_shell.specs.Shells.{Shell}
 use Rattle.rh_client.specs.declared.replacement.Replacement.{Replacement}
 use Rattle.rh_client.specs.declared.replacement.Replacement.TheVariants.{NoneUnderWay, In, Out}
-use Rattle.rh_client.specs.declared.replacement.OutStage.{OutStage}
 use Rattle.rh_client.specs.declared.replacement.OutStage.TheVariants as out_stage
 use Rattle.rh_client.specs.declared.state.ClientRole.{ClientRole}
 use Rattle.rh_client.specs.Channels.{is_asked}
@@ -27,7 +25,6 @@ use Rattle.rh_client.specs.State.{Done, first, taken, unexpected, is_current, is
 use Rattle.rh_client.specs.Opening.{on_conn_a3}
 use Rattle.rh_client.specs.OutReplacement.{a6_by, on_out_r1_a6}
 use Rattle.rh_client.specs.Ending.{give, take}
-use Rattle.rh_client.specs.InReplacement.{recycle}
 use Rattle.rh_client.specs.Putting.{Pick, put_by, put}
 use Rattle.rh_client.specs.Time.{silence_by}
 use Rattle.rh_client.specs.Client.{pdu, packet, packet_by, packet_on, on_packet}
@@ -37,7 +34,7 @@ use Rattle.rh_causes.specs.Watching.{Tells, WasTold, IsWatched, Watches}
 use Rattle.rh_causes.proofs.MoveRoles.{behind_put}
 use Rattle.rh_causes.proofs.Sorts.{both}
 use Rattle.rh_causes.proofs.ClientLegs.{client_keeps, first_is}
-use Rattle.rh_causes.proofs.ClientSteps.{Side, Sides, sides, StepLaws, Timed, with_replacement, packet_later, pdu_later, up_later, pick_later, put_by_later, drawn_same, ping_same, give_same, take_later, recycle_later}
+use Rattle.rh_causes.proofs.ClientSteps.{Sides, sides, StepLaws, with_replacement, packet_later, pdu_later, up_later, pick_later, put_by_later, drawn_same, ping_same, give_same, take_later, recycle_later}
 
 -- ---- what was told
 

@@ -1,5 +1,5 @@
 -- which event closes a node with which cause
-use Rattle.std.proofs.Common.{◌≡◌, ℕ, ◌≤◌, List, [], ◌∷◌, length, cond, Bool, true, false, Some, None, refl, sym, ap, ◌∙◌, subst}
+use Rattle.std.proofs.Common.{◌≡◌, ℕ, ◌≤◌, List, length, cond, Bool, true, false, Some, None, refl, sym, ap, ◌∙◌, subst}
 use Rattle.std.specs.Prelude.{◌&&◌, nat_le}
 use Rattle.std.specs.declared.option.Option.{Option}
 use Rattle.std.proofs.lemmas.Bool.{leb-true}
@@ -19,12 +19,12 @@ use Rattle.rh_shell.specs.Rules.{Rules}
 use Rattle.rh_shell.specs.NearEnds.{NearEnd, is_ended, is_finished, marked}
 use Rattle.rh_shell.specs.Hearing.{Turn, goes, hear}
 use Rattle.rh_shell.specs.Laws.{ClosedWith}
-use Rattle.rh_shell.specs.Shells.{Shell, state_by, verdict_by, state_of, is_working, end_at, with_end, place, close, refuse, stop_by, stopped, bytes_at, bytes_by, lose, lost, ended_at, ended_by, wants, is_heard, unreached_by, unreached, broken_at, broken_by, first_silent, passed_by, passed, ticked}
+use Rattle.rh_shell.specs.Shells.{Shell, state_by, verdict_by, state_of, is_working, end_at, with_end, close, refuse, stop_by, stopped, bytes_at, bytes_by, lose, lost, ended_at, ended_by, wants, is_heard, unreached_by, unreached, broken_at, broken_by, first_silent, passed_by, passed, ticked}
 use Rattle.rh_nodes.specs.declared.event.Event.{Event}
 use Rattle.rh_nodes.specs.declared.event.Event.TheVariants.{Comes, Ends, Breaks, Passes}
-use Rattle.rh_nodes.specs.Telling.{cause_in, closing, happens, tell}
+use Rattle.rh_nodes.specs.Telling.{cause_in, closing, happens}
 use Rattle.rh_causes.specs.Reasons.{EndsPartly, FallsSilent, RefusesHead, IsOfPiece, ComesAmiss}
-use Rattle.rh_causes.specs.Closings.{ClosesWith, MayClose, IsPiece, IsRefusal, ComesFrom}
+use Rattle.rh_causes.specs.Closings.{ClosesWith, MayClose, IsRefusal, ComesFrom}
 use Rattle.rh_causes.proofs.Sorts.{both, end_leg}
 use Rattle.rh_causes.proofs.HeardBytes.{IsStop, piece_stops}
 use Rattle.rh_causes.proofs.FirstSilent.{silent_first}

@@ -1,6 +1,6 @@
 -- the first silent leg
-use Rattle.std.proofs.Common.{◌≡◌, ℕ, zero, suc, ◌≤◌, ◌-◌, List, [], ◌∷◌, cond, Bool, true, false, Some, None, arith, refl, sym, ap, ◌∙◌, subst}
-use Rattle.std.specs.Prelude.{◌&&◌, not, slice_get, nat_le}
+use Rattle.std.proofs.Common.{◌≡◌, ℕ, zero, suc, ◌-◌, List, [], ◌∷◌, cond, Bool, true, false, Some, None, refl, sym, subst}
+use Rattle.std.specs.Prelude.{not, slice_get}
 use Rattle.std.specs.declared.option.Option.{Option}
 use Rattle.std.proofs.lemmas.Bool.{leb-true, le-leb}
 use Rattle.rh_line.specs.declared.leg.Leg.{Leg}
@@ -8,7 +8,7 @@ use Rattle.rh_shell.specs.NearEnds.{NearEnd, is_finished}
 use Rattle.rh_shell.specs.Rules.{Rules}
 use Rattle.rh_shell.specs.Shells.{is_before, is_silent_by, is_silent, earlier, silent_one, first_silent}
 use Rattle.rh_causes.specs.Reasons.{WasSilent, StandsIn, IsFirstSilent}
-use Rattle.rh_causes.proofs.Sorts.{both, before_trans, before_anti, before_self}
+use Rattle.rh_causes.proofs.Sorts.{both, before_trans, before_self}
 
 module _ {S : Type 0} (rules : Rules S) (role : S) (now : ℕ) where
   -- ---- the test is what it says

@@ -19,7 +19,6 @@ use Rattle.rh_shell.specs.declared.answers.Count.{Count}
 use Rattle.rh_shell.specs.declared.answers.HeadRefused.{HeadRefused}
 use Rattle.rh_shell.specs.declared.answers.HeadRefused.TheVariants as head
 use Rattle.rh_shell.specs.declared.answers.HeadTaken.{HeadTaken}
-use Rattle.rh_shell.specs.declared.answers.Refused.{Refused}
 use Rattle.rh_shell.specs.declared.answers.Refused.TheVariants as refused
 use Rattle.rh_shell.specs.declared.heading.Heading.{Heading}
 use Rattle.rh_shell.specs.declared.reading.PacketFault.{PacketFault}
@@ -31,7 +30,7 @@ use Rattle.rh_shell.specs.Intakes.{Intake, Came, Nothing, Head, Greeting, Frame,
 use Rattle.rh_shell.specs.Readings.{packet_of}
 use Rattle.rh_shell.specs.NearEnds.{NearEnd, is_over}
 use Rattle.rh_shell.specs.Rules.{Rules, Row}
-use Rattle.rh_shell.specs.Hearing.{Turn, goes, stops, stop, stop_head, head_row, stage_of, begun_body, behind_head, behind_frame, cause_of, cause_unread, row_by, close_row, one_more, is_zero, is_upward, is_ping, take_ping, take_named, take_packet, take_frame, is_greeting, take_greeting, heading, touched, with_intake, take, take_next, is_stopped, hear_byte, hear}
+use Rattle.rh_shell.specs.Hearing.{Turn, goes, stops, stop, stop_head, head_row, stage_of, begun_body, behind_head, behind_frame, cause_unread, row_by, close_row, one_more, is_zero, is_upward, is_ping, take_ping, take_packet, take_frame, is_greeting, heading, touched, with_intake, take, take_next, is_stopped, hear_byte, hear}
 use Rattle.rh_causes.specs.Reasons.{IsOfPiece, RefusesHead}
 
 -- ---- a byte
@@ -283,28 +282,34 @@ module _ {S : Type 0} (rules : Rules S) (now : ℕ) where
         (RefusesHead rules role end (b ∷ bs)) (stop_head end.leg (length text) why)
     refused_with text (head.Request fault) after is = record {
       cause = refl;
-      refusal = λ r e. (after.0, record {
-        place = length text;
-        fault = fault;
-        cause = refl;
-        answer = cc;
-      });
+      refusal = λ r e. (
+        after.0,
+        record {
+          place = length text;
+          fault = fault;
+          cause = refl;
+          answer = cc;
+        },
+      );
     }
     refused_with text (head.Response fault) after is =
         plain_stop end.leg (end.intake.stage ≡ stage.Head)
         (RefusesHead rules role end (b ∷ bs)) _ refl
     refused_with text (head.Status status) after is =
         plain_stop end.leg (end.intake.stage ≡ stage.Head)
-        (RefusesHead rules role end (b ∷ bs)) _ (refl, record {
-          stage = after.0;
-          front = b ∷ [];
-          behind = bs;
-          cut = refl;
-          whole = subst (λ (x : List ℕ). is_whole_head x ≡ true) after.1 after.2;
-          refused =
-              subst (λ (x : List ℕ). (rules.head role end.leg x).1 ≡ Err (head.Status status))
-              after.1 is;
-        })
+        (RefusesHead rules role end (b ∷ bs)) _ (
+          refl,
+          record {
+            stage = after.0;
+            front = b ∷ [];
+            behind = bs;
+            cut = refl;
+            whole = subst (λ (x : List ℕ). is_whole_head x ≡ true) after.1 after.2;
+            refused =
+                subst (λ (x : List ℕ). (rules.head role end.leg x).1 ≡ Err (head.Status status))
+                after.1 is;
+          },
+        )
 
     head_stops : (j : Intake) (text : List ℕ) (x : S × Result HeadTaken HeadRefused)
         → rules.head role end.leg text ≡ x → After end.intake b (end.intake, Head text)

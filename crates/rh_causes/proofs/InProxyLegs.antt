@@ -1,5 +1,5 @@
 -- an in proxy's legs come up once each: its ci legs by their numbers, and its is leg
-use Rattle.std.proofs.Common.{◌≡◌, ℕ, suc, ◌+◌, ◌-◌, ◌==◌, ◌<◌, ◌≤◌, ◌&&◌, ◌||◌, List, [], ◌∷◌, length, Bool, true, false, cond, not, Some, None, Ok, Err, refl, sym, ap, ◌∙◌, subst, rules, arith}
+use Rattle.std.proofs.Common.{◌≡◌, ℕ, ◌+◌, ◌-◌, ◌==◌, ◌<◌, ◌≤◌, ◌&&◌, ◌||◌, List, [], ◌∷◌, length, Bool, true, false, not, Some, None, Ok, Err, refl, sym, ap, ◌∙◌, subst, rules, arith}
 use Rattle.std.specs.Prelude.{nat_le, if◌then◌else◌}
 use Rattle.std.specs.declared.option.Option.{Option}
 use Rattle.std.specs.declared.result.Result.{Result}
@@ -21,9 +21,9 @@ use Rattle.rh_order.proofs.ByNumber.{by_test, same_number}
 use Rattle.rh_shell.specs.declared.answers.Count.{Count}
 use Rattle.rh_shell.specs.declared.due.Due.{Due}
 use Rattle.rh_shell.specs.Waiting.{with_due}
-use Rattle.rh_shell.specs.Rules.{Message, Text, Pdu, Packet}
-use Rattle.rh_shell.specs.Moves.{Move, Up, HeadCame, PduCame, PacketCame, Puts, IsDrawn, Marks, Pings, Passage, MayMove, moved}
-use Rattle.rh_shell.specs.Shells.{kind_number, is_of, same_leg}
+use Rattle.rh_shell.specs.Rules.{Text, Pdu, Packet}
+use Rattle.rh_shell.specs.Moves.{Move, Up, HeadCame, PduCame, PacketCame, Puts, IsDrawn, Marks, Pings, Passage, moved}
+use Rattle.rh_shell.specs.Shells.{kind_number}
 use Rattle.rh_inproxy.specs.declared.state.InProxyConfig.{InProxyConfig}
 use Rattle.rh_inproxy.specs.declared.opening.TheConstants.{GREATEST_LENGTHS, KEEPALIVE}
 use Rattle.rh_inproxy.specs.declared.state.ClientLeg.{ClientLeg}
@@ -43,21 +43,21 @@ use Rattle.rh_inproxy.specs.declared.state.Work.{Work}
 use Rattle.rh_inproxy.specs.declared.state.Work.TheVariants as works
 use Rattle.rh_inproxy.specs.Answers.{Done, Pick, or_else, taken, refuse, unexpected}
 use Rattle.rh_shell.specs.declared.answers.Refused.TheVariants as refused
-use Rattle.rh_inproxy.specs.State.{InProxy, first, is_server_leg, is_client_leg, channel_of, has_come, has_a5, follows, followed, same_cookie}
-use Rattle.rh_inproxy.specs.Opening.{echo_answer, wants, may_up, was_up, up, wants_server, had_client, has_server, newest, newest_by, is_absent, accepts, accepts_later, may_accept, accepted, connected, head, head_by, drawn, drawn_by, is_first, opener_of, awaits_packet, opener, opened, kept_for, on_first_in_r1_a1, on_conn_b1, on_conn_b3, put_first, first_by, put_echo, echo_by}
-use Rattle.rh_inproxy.specs.Acknowledging.{on_ack_to, on_ack, put_acks, current_ack, next_ack, ack_by, ack_due, put_ack}
+use Rattle.rh_inproxy.specs.State.{InProxy, first, is_server_leg, is_client_leg, channel_of, has_come, has_a5, follows, same_cookie}
+use Rattle.rh_inproxy.specs.Opening.{echo_answer, wants, may_up, was_up, up, wants_server, had_client, has_server, newest, newest_by, is_absent, accepts, accepts_later, may_accept, accepted, connected, head, head_by, drawn, is_first, opener_of, awaits_packet, opener, opened, kept_for, on_first_in_r1_a1, on_conn_b1, on_conn_b3, put_first, first_by, put_echo, echo_by}
+use Rattle.rh_inproxy.specs.Acknowledging.{on_ack_to, on_ack, put_acks, current_ack, next_ack, ack_by, ack_due}
 use Rattle.rh_inproxy.specs.Ending.{on_end_a1, mark, put_end, settled, settled_pick, is_newest}
-use Rattle.rh_inproxy.specs.InReplacement.{joined, join, is_newcomer, on_later_in_r1_a1, on_in_r1_a1, on_in_r1_a5, on_in_r1_b1, on_in_r1_b2, told_by, put_in_r2_a2, one_less, finish_by, finished, hand_over, handed_over, mark_by, put_in_r1_a6}
+use Rattle.rh_inproxy.specs.InReplacement.{joined, join, is_newcomer, on_later_in_r1_a1, on_in_r1_a1, on_in_r1_a5, on_in_r1_b1, on_in_r1_b2, told_by, put_in_r2_a2, one_less, finish_by, finished, hand_over, mark_by, put_in_r1_a6}
 use Rattle.rh_inproxy.specs.OutReplacement.{on_out_r1_a7}
-use Rattle.rh_inproxy.specs.Passing.{on_pdu, passed, next_pdu, put_pdu}
+use Rattle.rh_inproxy.specs.Passing.{passed, next_pdu, put_pdu}
 use Rattle.rh_inproxy.specs.Putting.{put, next, put_waiting, waiting_by, put_control, put_early, put_stream, put_behind, put_mark}
 use Rattle.rh_inproxy.specs.Time.{on_keep_alive, ping, put_ping}
-use Rattle.rh_inproxy.specs.Machine.{packet, pdu, pdu_by, on_ci, on_is, on_channel, on_channel_by}
+use Rattle.rh_inproxy.specs.Machine.{packet, pdu, on_ci, on_is, on_channel, on_channel_by}
 use Rattle.rh_inproxy.specs.Machine.{rules as proxy_rules}
 use Rattle.rh_causes.specs.Numbers.{AreNumbered, IsAbove}
 use Rattle.rh_causes.specs.Once.{ComesUpOnce}
 use Rattle.rh_causes.proofs.MoveRoles.{by_row, behind_put, by_put}
-use Rattle.rh_causes.proofs.Sorts.{both, and_false, or_true}
+use Rattle.rh_causes.proofs.Sorts.{both, or_true}
 
 -- its numbers, how far its first legs are, the ci leg of its current channel, and the one behind it
 pub record Legs : Type 0 where

@@ -1,6 +1,6 @@
 -- what each event makes of the legs that a node keeps: they stay, one is changed, or one comes up
-use Rattle.std.proofs.Common.{◌≡◌, ◌⊎◌, inl, inr, ℕ, zero, suc, ◌<◌, List, [], ◌∷◌, ◌++◌, length, take, drop, cond, Bool, true, false, nat_lt, Some, None, Ok, Err, refl, sym, ap, ◌∙◌, subst}
-use Rattle.std.specs.Prelude.{◌&&◌, ◌||◌, not, nat_le, slice_get, slice_set}
+use Rattle.std.proofs.Common.{◌≡◌, ◌⊎◌, inl, inr, ℕ, zero, suc, List, [], ◌∷◌, ◌++◌, length, take, drop, cond, Bool, true, false, nat_lt, Some, None, Ok, Err, refl, sym, ap, ◌∙◌, subst}
+use Rattle.std.specs.Prelude.{◌&&◌, ◌||◌, not, nat_le, slice_set}
 use Rattle.std.specs.declared.option.Option.{Option}
 use Rattle.std.specs.declared.result.Result.{Result}
 use Rattle.rh_rts.specs.declared.command.Cookie.{Cookie}
@@ -29,10 +29,10 @@ use Rattle.rh_shell.specs.NearEnds.{NearEnd, new_end, marked, is_marked, is_empt
 use Rattle.rh_shell.specs.Hearing.{Turn, goes, touched, with_intake, heading, head_row, stage_of, behind_head, behind_frame, take_frame, is_greeting, is_stopped, hear, hear_byte, take_next}
 use Rattle.rh_shell.specs.Hearing.{take as taken}
 use Rattle.rh_shell.specs.Drawing.{Drawn, drawn, put_on, begun_now, filled, left_by, next_byte, draw}
-use Rattle.rh_shell.specs.Shells.{Shell, same_leg, is_going, end_at, with_end, place, close, refuse, stop_by, stopped, may_up, with_leg, seated, up, bytes_at, bytes_by, lose, lost, ended_at, ended_by, wants, is_heard, unreached_by, unreached, broken_at, broken_by, put_back, drawn_at, drawn_by, first_silent, passed_by, passed, is_working, state_of}
+use Rattle.rh_shell.specs.Shells.{Shell, same_leg, end_at, with_end, place, close, refuse, stop_by, stopped, may_up, with_leg, seated, up, bytes_at, bytes_by, lose, lost, ended_at, ended_by, wants, is_heard, unreached_by, unreached, broken_at, broken_by, put_back, drawn_at, drawn_by, first_silent, passed_by, passed, is_working}
 use Rattle.rh_shell.specs.Moving.{Event, ComesUp, Hears, Ends, Breaks, Draws, Ticks, after_event}
-use Rattle.rh_shell.specs.Ends.{cause_of, give_where, take_where, close_where, recycle_where}
-use Rattle.rh_causes.specs.Moments.{is_heard_at, is_heard_on, hears_bytes, touches}
+use Rattle.rh_shell.specs.Ends.{give_where, take_where, close_where, recycle_where}
+use Rattle.rh_causes.specs.Moments.{hears_bytes, touches}
 use Rattle.rh_causes.proofs.HeardBytes.{hear_over, hear_first}
 use Rattle.rh_causes.proofs.Sorts.{and_false, and_true}
 

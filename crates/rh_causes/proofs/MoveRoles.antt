@@ -1,10 +1,10 @@
 -- the role behind a move
-use Rattle.std.proofs.Common.{◌≡◌, ℕ, List, [], ◌∷◌, Bool, true, false, cond, Some, None, Ok, Err, refl, sym, ap, ◌∙◌, subst}
+use Rattle.std.proofs.Common.{ℕ, List, [], ◌∷◌, Some, None, Ok, Err}
 use Rattle.std.specs.declared.option.Option.{Option}
 use Rattle.std.specs.declared.result.Result.{Result}
 use Rattle.rh_line.specs.declared.leg.Leg.{Leg}
 use Rattle.rh_shell.specs.declared.end_role.GiveRefused.{GiveRefused}
-use Rattle.rh_shell.specs.Rules.{Rules, Row, Message}
+use Rattle.rh_shell.specs.Rules.{Row, Message}
 use Rattle.rh_shell.specs.Moves.{Passage, EndPassage, taken_by, put_by, given_by, with_first}
 
 -- of a row, whether it takes what came or not

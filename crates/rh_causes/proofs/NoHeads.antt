@@ -1,5 +1,5 @@
 -- on which legs a role waits for a head: those that come up with one first
-use Rattle.std.proofs.Common.{◌≡◌, ◌⊎◌, inl, inr, ℕ, List, [], ◌∷◌, Some, refl, sym, ap, ◌∙◌, subst}
+use Rattle.std.proofs.Common.{◌≡◌, ◌⊎◌, inl, inr, ℕ, List, [], ◌∷◌, Some, sym, ap, ◌∙◌, subst}
 use Rattle.std.specs.Prelude.{true, ◌&&◌, slice_get}
 use Rattle.rh_line.specs.declared.leg.Leg.{Leg}
 use Rattle.rh_shell.specs.declared.rooms.Rooms.{Rooms}
@@ -8,11 +8,11 @@ use Rattle.rh_shell.specs.Ends.{cause_of}
 use Rattle.rh_shell.specs.NearEnds.{NearEnd, first_stage, new_end}
 use Rattle.rh_shell.specs.Rules.{Rules, Acts}
 use Rattle.rh_shell.specs.Moving.{Event, after_event, EndEvent, Happens, IsGiven, IsTaken, IsClosed, IsRecycled, after_end_event, after_end_events}
-use Rattle.rh_shell.specs.Shells.{Shell, begun, state_of, is_working, has_room, may_up, place, free_place}
+use Rattle.rh_shell.specs.Shells.{Shell, begun, state_of, is_working, has_room, place, free_place}
 use Rattle.rh_causes.specs.Reasons.{StandsIn}
 use Rattle.rh_causes.proofs.Sorts.{both}
 use Rattle.rh_causes.proofs.Places.{IsSet, WasThere, set_cases, seat_cases, seat}
-use Rattle.rh_causes.proofs.LegChanges.{Stay, Changes, Comes, Makes, makes, given_legs, taken_legs, closed_legs, recycled_legs}
+use Rattle.rh_causes.proofs.LegChanges.{Makes, makes, given_legs, taken_legs, closed_legs, recycled_legs}
 
 -- an end waits for a head only on such a leg
 abbrev pub WaitOn : (Leg → Type 0) → List NearEnd → Type 0

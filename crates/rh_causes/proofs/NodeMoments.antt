@@ -3,7 +3,6 @@ use Rattle.std.proofs.Common.{◌≡◌, ℕ, zero, suc, ◌≤◌, List, [], �
 use Rattle.std.specs.Prelude.{◌&&◌, not, nat_le, slice_get, slice_set}
 use Rattle.std.specs.declared.option.Option.{Option}
 use Rattle.std.proofs.lemmas.Bool.{leb-true}
-use Rattle.rh_rts.specs.declared.command.Cookie.{Cookie}
 use Rattle.rh_http.specs.declared.refusal.Refusal.{Refusal}
 use Rattle.rh_http.specs.declared.refusal.Refusal.TheVariants.{Unavailable}
 use Rattle.rh_line.specs.declared.cause.Cause.{Cause}
@@ -13,10 +12,10 @@ use Rattle.rh_shell.specs.declared.course.Course.{Course}
 use Rattle.rh_shell.specs.declared.course.Course.TheVariants.{Going, Closed, Refusing}
 use Rattle.rh_shell.specs.declared.stop.Stop.{Stop}
 use Rattle.rh_shell.specs.Rules.{Rules}
-use Rattle.rh_shell.specs.NearEnds.{NearEnd, marked, is_marked, is_empty, is_ended, is_finished, is_over}
-use Rattle.rh_shell.specs.Hearing.{Turn, goes, hear}
+use Rattle.rh_shell.specs.NearEnds.{NearEnd, is_marked, is_empty, is_ended, is_finished, is_over}
+use Rattle.rh_shell.specs.Hearing.{goes, hear}
 use Rattle.rh_shell.specs.Drawing.{draw}
-use Rattle.rh_shell.specs.Shells.{Shell, same_leg, end_at, with_end, place, turned, close, refuse, stop_by, stopped, may_up, with_leg, up, bytes_at, bytes_by, lose, lost, ended_at, ended_by, wants, is_heard, unreached_by, unreached, broken_at, broken_by, put_back, drawn_at, drawn_by, first_silent, passed_by, passed, is_working}
+use Rattle.rh_shell.specs.Shells.{Shell, same_leg, end_at, with_end, place, turned, close, refuse, stop_by, stopped, may_up, with_leg, bytes_at, bytes_by, lost, ended_at, ended_by, wants, is_heard, unreached_by, unreached, broken_at, broken_by, put_back, drawn_at, drawn_by, first_silent, passed_by, passed, is_working}
 use Rattle.rh_shell.specs.Moving.{Event, ComesUp, Hears, Ends, Breaks, Draws, Ticks, after_event}
 use Rattle.rh_causes.specs.Moments.{hears_bytes, moment_after}
 use Rattle.rh_causes.proofs.Sorts.{both}

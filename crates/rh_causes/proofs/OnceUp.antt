@@ -1,5 +1,5 @@
 -- a leg comes up once at a node
-use Rattle.std.proofs.Common.{◌≡◌, ◌⊎◌, inl, inr, ℕ, List, [], ◌∷◌, length, Bool, true, false, Some, None, refl, sym, ap, ◌∙◌, subst}
+use Rattle.std.proofs.Common.{◌≡◌, ◌⊎◌, inl, inr, ℕ, List, [], ◌∷◌, true, Some, None, refl, sym, ap, ◌∙◌, subst}
 use Rattle.std.specs.Prelude.{◌&&◌, not, slice_get}
 use Rattle.std.specs.declared.option.Option.{Option}
 use Rattle.std.proofs.lemmas.List.Elements.{All-nil}
@@ -13,15 +13,15 @@ use Rattle.rh_shell.specs.declared.rooms.Rooms.{Rooms}
 use Rattle.rh_shell.specs.Ends.{cause_of}
 use Rattle.rh_shell.specs.NearEnds.{NearEnd, is_ended, new_end}
 use Rattle.rh_shell.specs.Rules.{Rules, Acts}
-use Rattle.rh_shell.specs.Moves.{Move, Up, Passage, EndMove, EndPassage, MayMove, MayEndMove, AreAllowedAtEnd, moved, started, end_moved, end_started, all_end_moved}
-use Rattle.rh_shell.specs.Moving.{Event, ComesUp, Hears, Ends, Breaks, Draws, Ticks, after_event, after_events, EndEvent, Happens, IsGiven, IsTaken, IsClosed, IsRecycled, after_end_event, after_end_events, IsHeld, AreHeld, Follows, EndFollows, EndLeads}
+use Rattle.rh_shell.specs.Moves.{Move, Up, Passage, EndMove, EndPassage, MayMove, AreAllowedAtEnd, moved, started, end_moved, end_started, all_end_moved}
+use Rattle.rh_shell.specs.Moving.{Event, ComesUp, Hears, Ends, Breaks, Draws, Ticks, after_event, after_events, EndEvent, Happens, IsGiven, IsTaken, IsClosed, IsRecycled, after_end_event, after_end_events, IsHeld, AreHeld, Follows, EndFollows}
 use Rattle.rh_shell.specs.Shells.{Shell, begun, state_by, state_of, is_working, is_working_by, has_room, end_at, may_up, place, free_place}
 use Rattle.rh_shell.proofs.Leading.{leads_keep}
 use Rattle.rh_causes.specs.Reasons.{StandsIn}
 use Rattle.rh_causes.specs.Once.{ComesUpOnce, KeepsUp, AreUpOnce, WasUp, IsNewLeg, AreNewLegs, IsNewLegAtEnd, AreNewLegsAtEnd}
 use Rattle.rh_causes.proofs.Sorts.{both, end_leg}
 use Rattle.rh_causes.proofs.Places.{IsSet, WasThere, set_cases, seat_cases, seat}
-use Rattle.rh_causes.proofs.LegChanges.{Stay, Changes, Comes, Makes, makes, given_legs, taken_legs, closed_legs, recycled_legs}
+use Rattle.rh_causes.proofs.LegChanges.{Makes, makes, given_legs, taken_legs, closed_legs, recycled_legs}
 
 at_work : (c : Course) (f : Phase) → is_working_by (state_by c f) ≡ true → not (is_ended f) ≡ true
 at_work Going phase.Opening h = refl
@@ -184,9 +184,11 @@ module _ {S : Type 0} (rules : Rules S) (Holds : S → Type 0) (law : ComesUpOnc
     pub new_legs : (s : Shell S) (events : List Event) → AreHeld s → AreUpOnce rules Holds s
         → AreNewLegs rules s events
     new_legs s [] held are = tt
-    new_legs s (event ∷ events) held are =
-        (new_leg s event are, new_legs (after_event rules s event) events
-        (event_held s event held) (event_once s event held are))
+    new_legs s (event ∷ events) held are = (
+      new_leg s event are,
+      new_legs (after_event rules s event) events
+          (event_held s event held) (event_once s event held are),
+    )
 
     -- ---- events of an end
 
@@ -268,9 +270,11 @@ module _ {S : Type 0} (rules : Rules S) (Holds : S → Type 0) (law : ComesUpOnc
       pub new_legs_at_end : (s : Shell S) (events : List EndEvent) → AreHeld s
           → AreUpOnce rules Holds s → AreNewLegsAtEnd rules acts s events
       new_legs_at_end s [] held are = tt
-      new_legs_at_end s (event ∷ events) held are =
-          (new_at_end s event are, new_legs_at_end (after_end_event rules acts s event) events
-          (end_held s event held) (end_once s event held are))
+      new_legs_at_end s (event ∷ events) held are = (
+        new_at_end s event are,
+        new_legs_at_end (after_end_event rules acts s event) events
+            (end_held s event held) (end_once s event held are),
+      )
 
   -- ---- from the start
 

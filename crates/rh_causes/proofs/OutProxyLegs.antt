@@ -1,5 +1,5 @@
 -- an out proxy's two legs come up once each
-use Rattle.std.proofs.Common.{◌≡◌, ℕ, ◌+◌, ◌==◌, ◌&&◌, ◌||◌, List, [], ◌∷◌, length, Bool, true, false, cond, not, Some, None, Ok, Err, refl, sym, ap, ◌∙◌, subst, rules, arith}
+use Rattle.std.proofs.Common.{◌≡◌, ℕ, ◌+◌, ◌==◌, ◌&&◌, ◌||◌, List, [], ◌∷◌, length, Bool, true, false, not, Some, None, Ok, Err, refl, sym, ap, ◌∙◌, subst, rules}
 use Rattle.std.specs.Prelude.{nat_le, if◌then◌else◌}
 use Rattle.std.specs.declared.option.Option.{Option}
 use Rattle.rh_rts.specs.declared.command.Cookie.{Cookie}
@@ -17,14 +17,12 @@ use Rattle.std.specs.declared.result.Result.{Result}
 use Rattle.rh_order.proofs.ByNumber.{by_test}
 use Rattle.rh_shell.specs.declared.answers.Count.{Count}
 use Rattle.rh_shell.specs.declared.due.Due.{Due}
-use Rattle.rh_shell.specs.Rules.{Message, Text, Pdu, Packet}
-use Rattle.rh_shell.specs.Moves.{Move, Up, HeadCame, PduCame, PacketCame, Puts, IsDrawn, Marks, Pings, Passage, MayMove, moved}
+use Rattle.rh_shell.specs.Rules.{Pdu, Packet}
+use Rattle.rh_shell.specs.Moves.{Move, Up, HeadCame, PduCame, PacketCame, Puts, IsDrawn, Marks, Pings, Passage, moved}
 use Rattle.rh_shell.specs.Shells.{kind_number, same_leg}
 use Rattle.rh_outproxy.specs.declared.state.OutProxyConfig.{OutProxyConfig}
 use Rattle.rh_outproxy.specs.declared.state.Answer.{Answer}
 use Rattle.rh_outproxy.specs.declared.state.Answer.TheVariants as answers
-use Rattle.rh_outproxy.specs.declared.state.Channel.{Channel}
-use Rattle.rh_outproxy.specs.declared.state.Channel.TheVariants as channels
 use Rattle.rh_outproxy.specs.declared.state.ClientLeg.{ClientLeg}
 use Rattle.rh_outproxy.specs.declared.state.ClientLeg.TheVariants as clients
 use Rattle.rh_outproxy.specs.declared.state.Mark.TheVariants as marks
@@ -32,9 +30,9 @@ use Rattle.rh_outproxy.specs.declared.state.Ping.TheVariants.{NotDue}
 use Rattle.rh_outproxy.specs.declared.state.ServerLeg.{ServerLeg}
 use Rattle.rh_outproxy.specs.declared.state.ServerLeg.TheVariants as servers
 use Rattle.rh_outproxy.specs.OutProxy.{OutProxy, is_due, is_ping_due, is_client_down, is_server_down, is_server_first, is_known, joined}
-use Rattle.rh_outproxy.specs.Rows.{Done, is_co, is_os, co, os, unexpected}
-use Rattle.rh_outproxy.specs.Opening.{wants, may_up, was_up, up, head, head_by, on_conn_a1, on_out_r1_a3, on_out_r2_c1, on_conn_c1, first_packet}
-use Rattle.rh_outproxy.specs.Acknowledging.{on_pdu, on_ack_to, ack_due}
+use Rattle.rh_outproxy.specs.Rows.{Done, is_co, is_os, unexpected}
+use Rattle.rh_outproxy.specs.Opening.{may_up, was_up, up, head, head_by, on_conn_a1, on_out_r1_a3, on_out_r2_c1, on_conn_c1, first_packet}
+use Rattle.rh_outproxy.specs.Acknowledging.{on_ack_to, ack_due}
 use Rattle.rh_outproxy.specs.InReplacement.{on_in_r1_a3, on_in_r2_a3}
 use Rattle.rh_outproxy.specs.OutReplacement.{on_out_r1_a1, on_out_r1_a5, on_out_r1_a9}
 use Rattle.rh_outproxy.specs.Ending.{on_end_b1, drawn, mark}

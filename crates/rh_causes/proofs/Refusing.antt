@@ -17,16 +17,16 @@ use Rattle.rh_shell.specs.declared.rooms.Rooms.{Rooms}
 use Rattle.rh_shell.specs.declared.stage.Stage.TheVariants as stage
 use Rattle.rh_shell.specs.declared.stop.Stop.{Stop}
 use Rattle.rh_shell.specs.Rules.{Rules}
-use Rattle.rh_shell.specs.NearEnds.{NearEnd, first_stage, marked, is_marked, is_ended, is_finished}
+use Rattle.rh_shell.specs.NearEnds.{NearEnd, first_stage, is_marked, is_ended, is_finished}
 use Rattle.rh_shell.specs.Hearing.{Turn, goes, hear}
 use Rattle.rh_shell.specs.Drawing.{draw}
-use Rattle.rh_shell.specs.Shells.{Shell, begun, same_leg, end_at, with_end, place, close, refuse, stop_by, stopped, has_room, may_up, with_leg, up, bytes_at, bytes_by, lose, lost, ended_at, ended_by, wants, is_heard, unreached_by, unreached, broken_at, broken_by, put_back, drawn_at, drawn_by, first_silent, passed_by, passed, is_working, is_working_by, state_by}
+use Rattle.rh_shell.specs.Shells.{Shell, begun, same_leg, end_at, with_end, place, close, refuse, stop_by, stopped, has_room, may_up, with_leg, up, bytes_at, bytes_by, lost, ended_at, ended_by, wants, is_heard, unreached_by, unreached, broken_at, broken_by, put_back, drawn_at, drawn_by, first_silent, passed_by, passed, is_working, is_working_by, state_by}
 use Rattle.rh_shell.specs.Moving.{Event, ComesUp, Hears, Ends, Breaks, Draws, Ticks, after_event, after_events}
 use Rattle.rh_causes.specs.Reasons.{RefusesHead}
 use Rattle.rh_causes.specs.Refusals.{IsRestOf, RefusesRequest, TellsUnreached, MayRefuse}
 use Rattle.rh_causes.proofs.Sorts.{both, end_leg}
 use Rattle.rh_causes.proofs.NoHeads.{WaitOn, event_waits, first_waits}
-use Rattle.rh_causes.proofs.HeardBytes.{IsBadRequest, IsStop, piece_stops}
+use Rattle.rh_causes.proofs.HeardBytes.{IsStop, piece_stops}
 
 whole_text : (refusal : Refusal) → IsRestOf refusal (refusal_text refusal)
 whole_text refusal = record { drawn = 0; is = refl }
@@ -71,12 +71,15 @@ module _ {S : Type 0} (rules : Rules S) (On : Leg → Type 0)
   rest_refuses : (role : S) (why : Cause) (client : Leg) (rest : List ℕ) (n : ℕ)
       → MayRefuseAt rules On role (Refusing why client rest)
       → MayRefuseAt rules On role (Refusing why client (drop n rest))
-  rest_refuses role why client rest n (inl r) = inl (r.0, record {
-    place = r.1.place;
-    fault = r.1.fault;
-    cause = r.1.cause;
-    text = less_text _ rest n r.1.text;
-  })
+  rest_refuses role why client rest n (inl r) = inl (
+    r.0,
+    record {
+      place = r.1.place;
+      fault = r.1.fault;
+      cause = r.1.cause;
+      text = less_text _ rest n r.1.text;
+    },
+  )
   rest_refuses role why client rest n (inr t) = inr (record {
     lost = t.lost;
     wanted = t.wanted;
@@ -127,13 +130,16 @@ module _ {S : Type 0} (rules : Rules S) (On : Leg → Type 0)
         stops end t stop (Some refusal) e same on is =
             let refused = is.refusal refusal e in
             let bad = refused.1 in
-            inl (on refused.0, record {
-              place = bad.place;
-              fault = bad.fault;
-              cause = bad.cause ∙ ap (λ (l : Leg). cause.BadHead l bad.place bad.fault) same;
-              text = subst (λ (r : Refusal). IsRestOf r (refusal_text refusal)) bad.answer
-                  (whole_text refusal);
-            })
+            inl (
+              on refused.0,
+              record {
+                place = bad.place;
+                fault = bad.fault;
+                cause = bad.cause ∙ ap (λ (l : Leg). cause.BadHead l bad.place bad.fault) same;
+                text = subst (λ (r : Refusal). IsRestOf r (refusal_text refusal)) bad.answer
+                    (whole_text refusal);
+              },
+            )
 
         by_stop : (end : NearEnd) (t : Turn S) (o : Option Stop) → t.stop ≡ o
             → s.course ≡ Going → end.leg ≡ leg

@@ -1,13 +1,11 @@
 -- what the four roles refuse
-use Rattle.std.proofs.Common.{◌≡◌, ◌⊎◌, inl, inr, ℕ, List, [], ◌∷◌, ◌++◌, cond, Bool, true, false, Some, None, Ok, Err, refl, sym, ap, ◌∙◌, subst}
+use Rattle.std.proofs.Common.{◌≡◌, inl, inr, ℕ, List, ◌++◌, cond, Bool, true, false, Some, None, Ok, Err, refl, sym, ap, ◌∙◌, subst}
 use Rattle.std.specs.Prelude.{◌==◌, ◌&&◌, ◌||◌, nat_le}
-use Rattle.std.specs.declared.option.Option.{Option}
 use Rattle.std.specs.declared.result.Result.{Result}
 use Rattle.std.proofs.lemmas.Bool.{eq-eqb}
 use Rattle.rh_http.specs.declared.fault.HttpFault.{HttpFault}
 use Rattle.rh_http.specs.declared.response.Response.{Response}
 use Rattle.rh_heads.specs.Verdicts.{Asked, request_verdict, response_verdict}
-use Rattle.rh_line.specs.declared.cause.Cause.{Cause}
 use Rattle.rh_line.specs.declared.cause.Cause.TheVariants as cause
 use Rattle.rh_line.specs.declared.leg.Leg.{Leg}
 use Rattle.rh_line.specs.declared.leg.LegKind.{LegKind}
@@ -27,7 +25,7 @@ use Rattle.rh_shell.specs.Moving.{EndEvent, after_end_events, Follows}
 use Rattle.rh_shell.specs.NearEnds.{first_stage}
 use Rattle.rh_shell.specs.Rules.{Rules}
 use Rattle.rh_sig.specs.declared.name.Pipe.TheVariants.{CiU, IsD, CoU, OsD}
-use Rattle.rh_shell.specs.Shells.{Shell, kind_number, end_at, place}
+use Rattle.rh_shell.specs.Shells.{Shell, kind_number, place}
 use Rattle.rh_shell.proofs.Leading.{leads_keep}
 use Rattle.rh_nodes.specs.declared.event.Event.{Event}
 use Rattle.rh_client.specs.declared.state.ClientRole.{ClientRole}
@@ -46,9 +44,9 @@ use Rattle.rh_outproxy.specs.Machine as out_proxy
 use Rattle.rh_server.specs.States.{Server}
 use Rattle.rh_server.specs.Opening.{may_up_by}
 use Rattle.rh_server.specs.Servers as server
-use Rattle.rh_causes.specs.Closings.{ClosesWith, IsRefusal, IsResponse}
+use Rattle.rh_causes.specs.Closings.{ClosesWith, IsResponse}
 use Rattle.rh_causes.specs.Numbers.{AreNumbered}
-use Rattle.rh_causes.specs.Refusals.{IsRestOf, RefusesRequest, TellsUnreached, TellsClient, MayRefuseOn, RefusesNoStatus, IsRefusedBy}
+use Rattle.rh_causes.specs.Refusals.{MayRefuseOn, RefusesNoStatus, IsRefusedBy}
 use Rattle.rh_causes.proofs.Sorts.{both, leg_is, end_leg}
 use Rattle.rh_causes.proofs.ClosedBy.{from_event}
 use Rattle.rh_causes.proofs.NoHeads.{run_at_end, first_waits}
@@ -75,12 +73,10 @@ pub out_no_status : RefusesNoStatus out_proxy.rules
 out_no_status s leg text status = by (request_verdict false text)
   where
     by_length : (asked : Asked) (t : Bool)
-        → (cond {A = OutProxy × Result HeadTaken HeadRefused} t
-        (
+        → (cond {A = OutProxy × Result HeadTaken HeadRefused} t (
           record s { answer = answers.EchoDue },
           Ok (record { behind = behinds.PassedOver; length = asked.length }),
-        )
-        (
+        ) (
           record s { request = Some asked },
           Ok (record { behind = behinds.Frames; length = asked.length }),
         )).1 ≡ Err (Status status) → ⊥

@@ -1,17 +1,16 @@
 -- the moment at which each leg of a node was last touched
 use Rattle.std.proofs.Common.{◌≡◌, ◌⊎◌, inl, inr, ℕ, List, [], ◌∷◌, cond, Bool, true, false, Some, None, refl, sym, ap, ◌∙◌, subst}
-use Rattle.std.specs.Prelude.{◌&&◌, slice_get, slice_set}
+use Rattle.std.specs.Prelude.{◌&&◌, slice_get}
 use Rattle.std.specs.declared.option.Option.{Option}
 use Rattle.rh_line.specs.declared.leg.Leg.{Leg}
 use Rattle.rh_shell.specs.declared.rooms.Rooms.{Rooms}
 use Rattle.rh_shell.specs.Ends.{cause_of}
 use Rattle.rh_shell.specs.NearEnds.{NearEnd, new_end}
 use Rattle.rh_shell.specs.Rules.{Rules, Acts}
-use Rattle.rh_shell.specs.Moving.{Event, ComesUp, Hears, Ends, Breaks, Draws, Ticks, after_event, after_events, EndEvent, Happens, IsGiven, IsTaken, IsClosed, IsRecycled, after_end_event, after_end_events}
-use Rattle.rh_shell.specs.Shells.{Shell, begun, state_of, same_leg, is_at, place, free_place, end_at, may_up, seated_at}
-use Rattle.rh_causes.specs.Reasons.{StandsIn}
+use Rattle.rh_shell.specs.Moving.{Event, ComesUp, after_event, after_events, EndEvent, Happens, IsGiven, IsTaken, IsClosed, IsRecycled, after_end_event, after_end_events}
+use Rattle.rh_shell.specs.Shells.{Shell, begun, state_of, same_leg, is_at, place, free_place, end_at, may_up}
 use Rattle.rh_causes.specs.Once.{IsNewLeg, AreNewLegs, AreNewLegsAtEnd}
-use Rattle.rh_causes.specs.Moments.{touches, touches_at_end, moment_if, last_touched, last_touched_at_end}
+use Rattle.rh_causes.specs.Moments.{touches, moment_if, last_touched, last_touched_at_end}
 use Rattle.rh_causes.proofs.Sorts.{leg_is, end_leg}
 use Rattle.rh_causes.proofs.Places.{IsSet, WasThere, set_cases, seat_cases, seat, found, leg_itself, same_is}
 use Rattle.rh_causes.proofs.LegChanges.{Stay, Changes, Comes, Makes, makes, given_legs, taken_legs, closed_legs, recycled_legs}

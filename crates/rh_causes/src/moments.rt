@@ -20,8 +20,10 @@ ghost use Rattle.rh_causes.specs.Moments.{hears_bytes, last_touched, last_touche
 ghost use Rattle.rh_causes.specs.Moments.{moment_after};
 ghost use Rattle.rh_causes.specs.Once.{AreNewLegs, AreNewLegsAtEnd};
 
-use crate::once_each::{a_clients_leg_comes_up_once, a_servers_leg_comes_up_once};
-use crate::once_each::{an_in_proxys_leg_comes_up_once, an_out_proxys_leg_comes_up_once};
+use crate::once_each::{
+    a_clients_leg_comes_up_once, a_servers_leg_comes_up_once, an_in_proxys_leg_comes_up_once,
+    an_out_proxys_leg_comes_up_once,
+};
 use rh_shell::{EndRole, Role};
 
 /// The moment since which a leg is silent is the last one at which it came up or at least one byte
