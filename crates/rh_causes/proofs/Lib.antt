@@ -17,3 +17,4 @@ mod ClientLegs
 mod ClientTimes
 mod ClosedBy
 mod RoleRefusals
+mod SilentLegs

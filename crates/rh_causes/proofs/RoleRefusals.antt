@@ -25,7 +25,7 @@ use Rattle.rh_shell.specs.Moving.{EndEvent, after_end_events, Follows}
 use Rattle.rh_shell.specs.NearEnds.{first_stage}
 use Rattle.rh_shell.specs.Rules.{Rules}
 use Rattle.rh_sig.specs.declared.name.Pipe.TheVariants.{CiU, IsD, CoU, OsD}
-use Rattle.rh_shell.specs.Shells.{Shell, kind_number, place}
+use Rattle.rh_shell.specs.Shells.{Shell, place}
 use Rattle.rh_shell.proofs.Leading.{leads_keep}
 use Rattle.rh_nodes.specs.declared.event.Event.{Event}
 use Rattle.rh_client.specs.declared.state.ClientRole.{ClientRole}
@@ -47,7 +47,7 @@ use Rattle.rh_server.specs.Servers as server
 use Rattle.rh_causes.specs.Closings.{ClosesWith, IsResponse}
 use Rattle.rh_causes.specs.Numbers.{AreNumbered}
 use Rattle.rh_causes.specs.Refusals.{MayRefuseOn, RefusesNoStatus, IsRefusedBy}
-use Rattle.rh_causes.proofs.Sorts.{both, leg_is, end_leg}
+use Rattle.rh_causes.proofs.Sorts.{both, leg_is, of_kind, end_leg}
 use Rattle.rh_causes.proofs.ClosedBy.{from_event}
 use Rattle.rh_causes.proofs.NoHeads.{run_at_end, first_waits}
 use Rattle.rh_causes.proofs.Refusing.{MayRefuseAt}
@@ -213,10 +213,6 @@ out_config config s f =
 
 -- ---- on a client's leg alone a head comes first
 
-kind_is : (k l : LegKind) → (kind_number k == kind_number l) ≡ true → l ≡ k
-kind_is k l h = ap (λ (x : Leg). x.kind) (sym (leg_is (record { kind = k; number = 0 })
-    (record { kind = l; number = 0 }) (rw h refl)))
-
 pub in_heads : (s : InProxy) (leg : Leg) → in_proxy.rules.may_up s leg ≡ true
     → first_stage (in_proxy.rules.pipe s leg) ≡ stage.Head → leg.kind ≡ ClientIn
 in_heads s leg may = by (is_client_leg leg) (is_server_leg s leg) refl refl may
@@ -225,7 +221,7 @@ in_heads s leg may = by (is_client_leg leg) (is_server_leg s leg) refl refl may
         → ((o && wants_server s.opening) || (c && accepts s s.opening leg.number)) ≡ true
         → first_stage (cond c (Some CiU) (cond o (Some IsD) None)) ≡ stage.Head
         → leg.kind ≡ ClientIn
-    by true o e f may is = kind_is ClientIn leg.kind e
+    by true o e f may is = of_kind ClientIn leg.kind e
     by false true e f may is = absurd cc
     by false false e f may is = absurd cc
 

@@ -1,5 +1,5 @@
 -- legs: when two are the same, and their order
-use Rattle.std.proofs.Common.{◌≡◌, ℕ, suc, ◌+◌, List, [], ◌∷◌, cond, Bool, true, false, nat_lt, Some, arith, refl, ap, ◌∙◌, subst}
+use Rattle.std.proofs.Common.{◌≡◌, ℕ, suc, ◌+◌, List, [], ◌∷◌, cond, Bool, true, false, nat_lt, Some, arith, refl, sym, ap, ◌∙◌, subst}
 use Rattle.std.specs.Prelude.{◌==◌, ◌&&◌, ◌||◌, slice_get}
 use Rattle.std.proofs.lemmas.Bool.{eqb-true}
 use Rattle.std.proofs.lemmas.Bool.Decides.{nat_tests}
@@ -44,6 +44,9 @@ kind_is InServer ClientOut h = absurd cc
 kind_is InServer OutServer h = absurd cc
 kind_is InServer ClientIn h = absurd cc
 kind_is InServer InServer h = refl
+
+pub of_kind : (k l : LegKind) → (kind_number k == kind_number l) ≡ true → l ≡ k
+of_kind k l h = sym (kind_is k l h)
 
 pub leg_is : (a b : Leg) → same_leg a b ≡ true → a ≡ b
 leg_is a b h =

@@ -9,6 +9,7 @@ use Rattle.rh_shell.specs.NearEnds.{NearEnd, new_end}
 use Rattle.rh_shell.specs.Rules.{Rules, Acts}
 use Rattle.rh_shell.specs.Moving.{Event, ComesUp, after_event, after_events, EndEvent, Happens, IsGiven, IsTaken, IsClosed, IsRecycled, after_end_event, after_end_events}
 use Rattle.rh_shell.specs.Shells.{Shell, begun, state_of, same_leg, is_at, place, free_place, end_at, may_up}
+use Rattle.rh_causes.specs.Reasons.{StandsIn}
 use Rattle.rh_causes.specs.Once.{IsNewLeg, AreNewLegs, AreNewLegsAtEnd}
 use Rattle.rh_causes.specs.Moments.{touches, moment_if, last_touched, last_touched_at_end}
 use Rattle.rh_causes.proofs.Sorts.{leg_is, end_leg}
@@ -200,6 +201,13 @@ module _ {S : Type 0} (rules : Rules S) where
   since_at s last leg end are at =
       ap last (sym (end_leg leg s.legs end at)) ∙ are.since (place leg s.legs) end at
 
+  pub since_there : (role : S) (rooms : Rooms) (events : List Event) (end : NearEnd)
+      → AreNewLegs rules (begun role rooms) events
+      → StandsIn (after_events rules (begun role rooms) events).legs end
+      → last_touched rules end.leg (begun role rooms) events None ≡ Some end.since
+  since_there role rooms events end is there =
+      (run (begun role rooms) events (λ l. None) none_touched is).since there.place end there.at
+
   pub since_is : (role : S) (rooms : Rooms) (events : List Event) (leg : Leg) (end : NearEnd)
       → AreNewLegs rules (begun role rooms) events
       → end_at (after_events rules (begun role rooms) events) leg ≡ Some end
@@ -245,6 +253,14 @@ module _ {S : Type 0} (rules : Rules S) where
         let t = after_end_event rules acts s IsRecycled in
         run_at_end t events last
         (by_legs s t last (recycled_legs rules s acts (state_of rules s)) are) is.1
+
+    pub since_there_at_end : (role : S) (rooms : Rooms) (events : List EndEvent) (end : NearEnd)
+        → AreNewLegsAtEnd rules acts (begun role rooms) events
+        → StandsIn (after_end_events rules acts (begun role rooms) events).legs end
+        → last_touched_at_end rules acts end.leg (begun role rooms) events None ≡ Some end.since
+    since_there_at_end role rooms events end is there =
+        (run_at_end (begun role rooms) events (λ l. None) none_touched is).since there.place end
+        there.at
 
     pub since_is_at_end : (role : S) (rooms : Rooms) (events : List EndEvent) (leg : Leg)
         (end : NearEnd) → AreNewLegsAtEnd rules acts (begun role rooms) events

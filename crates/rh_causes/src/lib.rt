@@ -22,4 +22,7 @@ pub use refusals::{
     a_node_refuses_for_a_reason, a_proxy_refuses_for_a_reason,
     only_a_client_closes_with_http_refused,
 };
-pub use watching::{a_client_watches_by_what_was_told, a_proxy_watches_its_client};
+pub use watching::{
+    a_client_watches_by_what_was_told, a_node_falls_silent_since_it_was_heard,
+    a_proxy_watches_its_client,
+};
