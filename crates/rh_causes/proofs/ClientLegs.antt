@@ -231,7 +231,8 @@ timed s n count packet sound = record {
 
 later_move : (p : Passage ClientRole) (move : Move) → Sound p.role
     → Later p.role (moved client.rules p move).role
-later_move p (Up leg cookie) sound = up_later AreSound AllGrow growing p.role leg.number cookie leg.kind sound
+later_move p (Up leg cookie) sound =
+    up_later AreSound AllGrow growing p.role leg.number cookie leg.kind sound
 later_move p (HeadCame leg text) sound = later_self AreSound AllGrow growing p.role sound
 later_move p (PduCame leg count bytes) sound =
     by_row (Later p.role) p leg (Pdu bytes) (pdu p.role leg count bytes)
@@ -245,10 +246,12 @@ later_move p (Puts leg) sound =
     (pick_later AreSound AllGrow growing p.role (put_by p.role leg.number leg.kind) sound
     (put_by_later AreSound AllGrow growing p.role leg.number leg.kind sound))
 later_move p (IsDrawn leg) sound =
-    later_same AreSound AllGrow growing p.role (drawn p.role leg) sound (drawn_same AreSound AllGrow growing p.role leg.number leg.kind)
+    later_same AreSound AllGrow growing p.role (drawn p.role leg) sound
+    (drawn_same AreSound AllGrow growing p.role leg.number leg.kind)
 later_move p (Marks leg) sound = later_self AreSound AllGrow growing p.role sound
 later_move p (Pings leg) sound =
-    later_same AreSound AllGrow growing p.role (ping p.role leg) sound (ping_same AreSound AllGrow growing p.role leg.number leg.kind)
+    later_same AreSound AllGrow growing p.role (ping p.role leg) sound
+    (ping_same AreSound AllGrow growing p.role leg.number leg.kind)
 
 later_call : (p : EndPassage ClientRole) (move : EndMove) → Sound p.passage.role
     → Later p.passage.role (end_moved client.rules client.acts p move).passage.role
@@ -262,7 +265,8 @@ later_call p Takes sound =
     p.passage.role.line.current.pdus (take_later AreSound AllGrow growing p.passage.role sound)
 later_call p Closes sound =
     later_same AreSound AllGrow growing p.passage.role (close p.passage.role) sound refl
-later_call p Recycles sound = recycle_later AreSound AllGrow growing p.passage.role p.passage.role.replacement sound
+later_call p Recycles sound =
+    recycle_later AreSound AllGrow growing p.passage.role p.passage.role.replacement sound
 
 -- ---- what was up
 

@@ -49,8 +49,8 @@ use Rattle.rh_client.specs.Client.{pdu, packet, packet_by, packet_on, on_packet}
 use Rattle.rh_client.specs.Client as client
 use Rattle.rh_causes.proofs.MoveRoles.{behind_put}
 
--- the channels of a direction: the one in use, whether its leg is up, and how long it may be silent;
--- and its successor's, where a replacement is under way
+-- the channels of a direction: the one in use, whether its leg is up, and how long that may be
+-- silent; and its successor's, where a replacement is under way
 pub record Side : Type 0 where
   pub now : ℕ
   pub now_up : Bool
@@ -215,7 +215,8 @@ module _ (Good : Sides → Type 0) (Step : Sides → Sides → Type 0) (law : St
     ended_later : (s : ClientRole) (w : Waits) → Sound (with_replacement s NoneUnderWay)
         → Later (with_replacement s NoneUnderWay) (ended_or (with_replacement s NoneUnderWay) w)
     ended_later s w sound =
-        by_test (Later (with_replacement s NoneUnderWay)) (is_over (with_replacement s NoneUnderWay))
+        by_test (Later (with_replacement s NoneUnderWay))
+        (is_over (with_replacement s NoneUnderWay))
         (record s { phase = phase.Ended; replacement = NoneUnderWay })
         (after_out (with_replacement s NoneUnderWay) w)
         (λ e. later_same (with_replacement s NoneUnderWay)
@@ -246,7 +247,8 @@ module _ (Good : Sides → Type 0) (Step : Sides → Sides → Type 0) (law : St
         → Later (with_replacement s r) (a2_by (with_replacement s r) n r).0
     a2_later s n NoneUnderWay sound = begin_out_later s waits.Nothing sound
     a2_later s n (In stage false) sound =
-        later_same (with_replacement s (In stage false)) (with_replacement s (In stage true)) sound refl
+        later_same (with_replacement s (In stage false)) (with_replacement s (In stage true)) sound
+        refl
     a2_later s n (In stage true) sound = later_self (with_replacement s (In stage true)) sound
     a2_later s n (Out stage w) sound =
         let now : ClientRole = with_replacement s (Out stage w) in
@@ -353,7 +355,8 @@ module _ (Good : Sides → Type 0) (Step : Sides → Sides → Type 0) (law : St
         (λ e. law.in_now (sides s) sound)
         (λ e. law.in_next (sides s) sound)
 
-    up_out_later : (s : ClientRole) (n : ℕ) (cookie : Cookie) → Sound s → Later s (up_out s n cookie)
+    up_out_later : (s : ClientRole) (n : ℕ) (cookie : Cookie) → Sound s
+        → Later s (up_out s n cookie)
     up_out_later s n cookie sound =
         by_test (Later s) (is_current s n) (record s { current = out_up s.current cookie })
         (record s { out_successor = out_up s.out_successor cookie; line = with_next s.line })
@@ -551,7 +554,8 @@ module _ (Good : Sides → Type 0) (Step : Sides → Sides → Type 0) (law : St
     writing_later s Second sound = later_self s sound
     writing_later s Put sound = put_next_later s sound
 
-    in_successor_later : (s : ClientRole) (o : Opening) → Sound s → LaterPick s (put_in_successor s o)
+    in_successor_later : (s : ClientRole) (o : Opening) → Sound s
+        → LaterPick s (put_in_successor s o)
     unfolding put_in_successor
     in_successor_later s NotUp sound = later_self s sound
     in_successor_later s Request sound =

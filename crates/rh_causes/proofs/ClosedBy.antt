@@ -166,7 +166,8 @@ module _ {S : Type 0} (rules : Rules S) (s : Shell S) (why : Cause) where
 
     -- ---- bytes
 
-    comes_is : (leg : Leg) (piece : List ℕ) → ClosedWith why (bytes_by rules s leg piece s.course).course
+    comes_is : (leg : Leg) (piece : List ℕ)
+        → ClosedWith why (bytes_by rules s leg piece s.course).course
         → ComesAmiss rules s leg piece why
     comes_is leg piece h =
         by (end_at s leg) refl

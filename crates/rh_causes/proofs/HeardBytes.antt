@@ -155,7 +155,7 @@ pub record IsBadRequest (leg : Leg) (why : Cause) (refusal : Refusal) : Type 0 w
   pub cause : why ≡ cause.BadHead leg place fault
   pub answer : refusal ≡ refusal_of fault
 
--- a cause that what came on a leg may have, and a refusal only of a request, for which the leg waits
+-- a cause that what came on a leg may have, and a refusal only of a request for which it waits
 pub record IsStop (leg : Leg) (Waits : Type 0) (Refuses : ℕ → Type 0) (stop : Stop)
     : Type 0 where
   pub cause : IsOfPiece leg Refuses stop.cause

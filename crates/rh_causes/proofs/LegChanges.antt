@@ -193,7 +193,8 @@ module _ {S : Type 0} (rules : Rules S) where
             let next = take_next rules first role (on_byte end.intake b) in
             let one = next_like first role b in
             let all = rest_like next bs one.since in
-            subst (λ (u : Turn S). HeardEnd end u.end true) (sym (hear_first rules now end role b bs e))
+            subst (λ (u : Turn S). HeardEnd end u.end true)
+            (sym (hear_first rules now end role b bs e))
             (record {
               leg = all.leg ∙ one.leg;
               since = all.since ∙ one.since;

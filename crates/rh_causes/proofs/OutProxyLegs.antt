@@ -250,7 +250,8 @@ put_later s leg =
 pub later_move : (p : Passage OutProxy) (move : Move)
     → Later p.role (moved proxy_rules p move).role
 later_move p (Up leg cookie) = later_up p.role leg cookie
-later_move p (HeadCame leg text) = later_same p.role (head p.role leg text).0 (same_head p.role leg text)
+later_move p (HeadCame leg text) =
+    later_same p.role (head p.role leg text).0 (same_head p.role leg text)
 later_move p (PduCame leg count bytes) =
     by_row (Later p.role) p leg (Pdu bytes) (pdu p.role leg count bytes)
     (later_same p.role (pdu p.role leg count bytes).0 (same_pdu p.role leg count bytes))

@@ -242,7 +242,8 @@ pub in_refuses : (config : InProxyConfig) (s : InProxy) (course : Course) → s.
     (record { kind = InServer; number = config.number }) course
 in_refuses config s Going same may = tt
 in_refuses config s (Closed why) same may = tt
-in_refuses config s (Refusing why leg rest) same (inl r) = inl (record { kind = r.0; request = r.1 })
+in_refuses config s (Refusing why leg rest) same (inl r) =
+    inl (record { kind = r.0; request = r.1 })
 in_refuses config s (Refusing why leg rest) same (inr t) =
     let server : t.lost ≡ record { kind = InServer; number = config.number } =
     sym (leg_is (record { kind = InServer; number = s.config.number }) t.lost
@@ -262,7 +263,8 @@ pub out_refuses : (config : OutProxyConfig) (s : OutProxy) (course : Course) →
     (record { kind = OutServer; number = config.number }) course
 out_refuses config s Going same may = tt
 out_refuses config s (Closed why) same may = tt
-out_refuses config s (Refusing why leg rest) same (inl r) = inl (record { kind = r.0; request = r.1 })
+out_refuses config s (Refusing why leg rest) same (inl r) =
+    inl (record { kind = r.0; request = r.1 })
 out_refuses config s (Refusing why leg rest) same (inr t) =
     let server : t.lost ≡ record { kind = OutServer; number = config.number } =
     sym (leg_is (record { kind = OutServer; number = s.config.number }) t.lost

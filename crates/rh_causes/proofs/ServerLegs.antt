@@ -134,7 +134,8 @@ later_in_r2_a2 s n count a =
     by (Some Current) = record { ins = omega arith; outs = omega arith }
     by (Some Next) = record { ins = omega arith; outs = omega arith }
 
-later_is : (s : Server) (n : ℕ) (count : Count) (packet : Named) → Later s (on_is s n count packet).0
+later_is : (s : Server) (n : ℕ) (count : Count) (packet : Named)
+    → Later s (on_is s n count packet).0
 later_is s n count (named.ConnB2 v1 v2 v3 v4 v5 v6 v7 v8) =
     later_same s (on_conn_b2 s n count v2 v3 v4 v5).0 (same_conn_b2 s n count v2 v3 v4 v5)
 later_is s n count (named.InR1A2 v1 v2 v3 v4 v5 v6) =
@@ -151,7 +152,8 @@ later_is s n count (named.AckTo v1 v2 v3 v4) =
     later_same s (on_ack_to s count v1 v2 v3 v4).0 (same_ack_to s count v1 v2 v3 v4)
 later_is s n count packet = grows_self (newest s)
 
-later_os : (s : Server) (n : ℕ) (count : Count) (packet : Named) → Later s (on_os s n count packet).0
+later_os : (s : Server) (n : ℕ) (count : Count) (packet : Named)
+    → Later s (on_os s n count packet).0
 later_os s n count (named.ConnA2 v1 v2 v3 v4 v5) =
     later_same s (on_conn_a2 s n count v2 v3 v4 v5).0 (same_conn_a2 s n count v2 v3 v4 v5)
 later_os s n count (named.OutR1A4 v1 v2 v3 v4 v5 v6 v7) =
@@ -369,7 +371,8 @@ later_move p (Pings leg) = grows_self (newest p.role)
 same_give : (s : Server) (bytes : List ℕ) → Same s (give s bytes).0
 same_give s bytes =
     by_test (λ (x : Server × Result (Unit {0}) GiveRefused). Same s x.0) (is_closing s.giving)
-    (s, Err give_refused.Closing) (give_by s bytes (pdu_fault bytes)) (λ e. refl) (λ e. by (pdu_fault bytes))
+    (s, Err give_refused.Closing) (give_by s bytes (pdu_fault bytes)) (λ e. refl)
+    (λ e. by (pdu_fault bytes))
   where
     by : (o : Option PduFault) → Same s (give_by s bytes o).0
     by (Some fault) = refl

@@ -1,7 +1,6 @@
 -- which legs fall silent, since when, and for how long
 use Rattle.std.proofs.Common.{◌≡◌, ℕ, ◌≤◌, ◌-◌, List, cond, Bool, true, false, Some, None, refl, sym, ap, ◌∙◌, subst}
 use Rattle.std.specs.Prelude.{◌&&◌, not}
-use Rattle.std.specs.declared.option.Option.{Option}
 use Rattle.rh_http.specs.declared.config.ClientConfig.{ClientConfig}
 use Rattle.rh_line.specs.declared.cause.Cause.TheVariants as cause
 use Rattle.rh_line.specs.declared.leg.Leg.{Leg}
@@ -16,7 +15,7 @@ use Rattle.rh_nodes.specs.declared.event.Event.TheVariants as happened
 use Rattle.rh_client.specs.Client as client
 use Rattle.rh_client.specs.State as clients
 use Rattle.rh_inproxy.specs.declared.state.InProxyConfig.{InProxyConfig}
-use Rattle.rh_inproxy.specs.State.{InProxy, first, channel_of, is_client_leg}
+use Rattle.rh_inproxy.specs.State.{first, channel_of, is_client_leg}
 use Rattle.rh_inproxy.specs.Time.{a5_came}
 use Rattle.rh_inproxy.specs.Machine as in_proxy
 use Rattle.rh_causes.specs.Closings.{ClosesWith}

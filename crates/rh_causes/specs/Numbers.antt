@@ -17,8 +17,8 @@ pub record AreNumbered (s : InProxy) : Type 0 where
   pub first : s.config.number ≤ s.current.number
   pub behind : IsAbove s.current.number s.successor
 
--- the numbers of a client's channels in one direction begin with 1, and where a replacement is under
--- way its successor's is higher
+-- the numbers of a client's channels in one direction begin with 1, and where a replacement is
+-- under way the successor's is higher
 pub record AreNumberedBy (now next : ℕ) (under_way : Bool) : Type 0 where
   pub first : 0 < now
   pub behind : under_way ≡ true → now < next
