@@ -1,5 +1,4 @@
--- since when a leg was not heard (MS-RPCH 3.2: a leg is watched by its connection timeout; what
--- counts as heard is this profile's)
+-- since when a leg was not heard, and what is heard at all (profile)
 use Rattle.std.specs.Prelude.{ℕ, ◌&&◌, List, [], ◌∷◌, Bool, false, not, if◌then◌else◌, nat_le, Some, None}
 use Rattle.std.specs.declared.option.Option.{Option}
 use Rattle.rh_line.specs.declared.leg.Leg.{Leg}

@@ -1,5 +1,5 @@
--- which heads a node that closed draws, and on which leg (MS-RPCH 2.1.2 and RFC 9112 section 15;
--- which cause is told the client is this profile's)
+-- which heads a node that closed draws, and on which leg; and for which response a client closes
+-- (MS-RPCH 2.1.2; which fault has which refusal, and what is told the client, is this profile's)
 use Rattle.std.specs.Prelude.{ℕ, ◌≡◌, ◌⊎◌, List, drop, true, Some, Ok, Err}
 use Rattle.rh_http.specs.declared.fault.HttpFault.{HttpFault}
 use Rattle.rh_http.specs.declared.response.Response.{Response}
