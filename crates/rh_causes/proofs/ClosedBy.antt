@@ -48,7 +48,7 @@ closed_is (Closed first) f why h = cc
 closed_is (Refusing first leg rest) f why h = cc
 
 module _ {S : Type 0} (rules : Rules S) (s : Shell S) (why : Cause) where
-  told_is : (t : Shell S)
+  pub told_is : (t : Shell S)
       → closing (state_of rules s) (verdict_by (state_of rules t)) ≡ Some why
       → (s.course ≡ Going) × ClosedWith why t.course
   told_is t h =

@@ -8,14 +8,10 @@ use Rattle.rh_shell.specs.NearEnds.{NearEnd, is_finished}
 use Rattle.rh_shell.specs.Rules.{Rules}
 use Rattle.rh_shell.specs.Shells.{is_before, is_silent_by, is_silent, earlier, silent_one, first_silent}
 use Rattle.rh_causes.specs.Reasons.{WasSilent, StandsIn, IsFirstSilent}
-use Rattle.rh_causes.proofs.Sorts.{both, before_trans, before_self}
+use Rattle.rh_causes.proofs.Sorts.{both, not_so, before_trans, before_self}
 
 module _ {S : Type 0} (rules : Rules S) (role : S) (now : ℕ) where
   -- ---- the test is what it says
-
-  not_true : (b : Bool) → not b ≡ true → b ≡ false
-  not_true true h = absurd cc
-  not_true false h = refl
 
   silent_so : (end : NearEnd) → is_silent rules role now end ≡ true → WasSilent rules role now end
   silent_so end h =
@@ -24,7 +20,7 @@ module _ {S : Type 0} (rules : Rules S) (role : S) (now : ℕ) where
       by (rules.silence role end.leg) refl parts.1
     where
       unfinished : is_finished rules role end ≡ false
-      unfinished = not_true (is_finished rules role end)
+      unfinished = not_so (is_finished rules role end)
           (both (not (is_finished rules role end))
           (is_silent_by (rules.silence role end.leg) end.since now) h).0
 

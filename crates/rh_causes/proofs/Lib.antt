@@ -18,3 +18,4 @@ mod ClientTimes
 mod ClosedBy
 mod RoleRefusals
 mod SilentLegs
+mod StaysClosed

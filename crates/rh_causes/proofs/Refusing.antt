@@ -39,7 +39,7 @@ less_text refusal rest n is = record {
 }
 
 -- a node that closed is not at work
-not_working : (c : Course) (f : Phase) → is_working_by (state_by c f) ≡ true → c ≡ Going
+pub not_working : (c : Course) (f : Phase) → is_working_by (state_by c f) ≡ true → c ≡ Going
 not_working Going f h = refl
 not_working (Closed why) f h = absurd cc
 not_working (Refusing why leg rest) f h = absurd cc

@@ -23,7 +23,7 @@ use Rattle.rh_causes.specs.Moments.{last_touched, last_touched_at_end}
 use Rattle.rh_causes.specs.Once.{AreNewLegs, AreNewLegsAtEnd}
 use Rattle.rh_causes.specs.Reasons.{StandsIn, FallsSilent}
 use Rattle.rh_causes.specs.Watching.{in_proxy_limit, InProxyFellSilent, ClientFellSilent}
-use Rattle.rh_causes.proofs.Sorts.{both, of_kind}
+use Rattle.rh_causes.proofs.Sorts.{both, not_so, of_kind}
 use Rattle.rh_causes.proofs.ClientTimes.{watches}
 use Rattle.rh_causes.proofs.ClosedBy.{closes, from_event}
 use Rattle.rh_causes.proofs.RoleRefusals.{in_config}
@@ -75,13 +75,15 @@ module _ {S : Type 0} (rules : Rules S) (node : Shell S) (event : told.Event) (l
 
 in_watched : (config : InProxyConfig) (leg : Leg) (handed_over : Bool) (limit : ℕ)
     → in_proxy_limit config leg handed_over ≡ Some limit
-    → (leg.kind ≡ ClientIn) × (config.timeout ≡ limit)
+    → (leg.kind ≡ ClientIn) × (config.timeout ≡ limit) × (handed_over ≡ false)
 in_watched config leg handed_over limit = by (is_client_leg leg && not handed_over) refl
   where
     by : (t : Bool) → (is_client_leg leg && not handed_over) ≡ t
         → cond t (Some config.timeout) None ≡ Some limit
-        → (leg.kind ≡ ClientIn) × (config.timeout ≡ limit)
-    by true e h = (of_kind ClientIn leg.kind (both (is_client_leg leg) (not handed_over) e).0, cc)
+        → (leg.kind ≡ ClientIn) × (config.timeout ≡ limit) × (handed_over ≡ false)
+    by true e h =
+        let parts = both (is_client_leg leg) (not handed_over) e in
+        (of_kind ClientIn leg.kind parts.0, (cc), not_so handed_over parts.1)
     by false e h = absurd cc
 
 pub in_silent : (config : InProxyConfig) (events : List Event)
@@ -103,6 +105,7 @@ in_silent config events new f event leg since now h =
     record {
       moment = moment in_proxy.rules node event leg since now h;
       kind = watched.0;
+      before = watched.2;
       long = subst (λ (n : ℕ). n ≤ now - since) (sym watched.1) s.long;
       last = ap (λ (l : Leg).
           last_touched in_proxy.rules l (in_proxy.first_node config) events None) (sym s.of_leg)

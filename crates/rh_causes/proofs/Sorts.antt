@@ -1,6 +1,6 @@
 -- legs: when two are the same, and their order
 use Rattle.std.proofs.Common.{◌≡◌, ℕ, suc, ◌+◌, List, [], ◌∷◌, cond, Bool, true, false, nat_lt, Some, arith, refl, sym, ap, ◌∙◌, subst}
-use Rattle.std.specs.Prelude.{◌==◌, ◌&&◌, ◌||◌, slice_get}
+use Rattle.std.specs.Prelude.{◌==◌, ◌&&◌, ◌||◌, not, slice_get}
 use Rattle.std.proofs.lemmas.Bool.{eqb-true}
 use Rattle.std.proofs.lemmas.Bool.Decides.{nat_tests}
 use Rattle.rh_line.specs.declared.leg.Leg.{Leg}
@@ -12,6 +12,10 @@ use Rattle.rh_shell.specs.Shells.{kind_number, is_of, same_leg, is_before, first
 pub both : (a b : Bool) → (a && b) ≡ true → (a ≡ true) × (b ≡ true)
 both true b h = (refl, h)
 both false b h = absurd cc
+
+pub not_so : (t : Bool) → not t ≡ true → t ≡ false
+not_so true h = absurd cc
+not_so false h = refl
 
 pub and_false : (t : Bool) → (t && false) ≡ false
 and_false true = refl

@@ -1,7 +1,7 @@
 -- how long a role lets a leg be silent, in milliseconds: of a client MS-RPCH 3.2.2.6, of the others
 -- MS-RPCH 3.2; which legs of a proxy are watched is this profile's. A server and an out proxy watch
 -- none
-use Rattle.std.specs.Prelude.{ℕ, ◌≡◌, ◌⊎◌, ◌<◌, ◌≤◌, ◌-◌, ◌&&◌, List, [], ◌∷◌, Bool, not, if◌then◌else◌, Some, None}
+use Rattle.std.specs.Prelude.{ℕ, ◌≡◌, ◌⊎◌, ◌<◌, ◌≤◌, ◌-◌, ◌&&◌, List, [], ◌∷◌, Bool, false, not, if◌then◌else◌, Some, None}
 use Rattle.std.specs.declared.option.Option.{Option}
 use Rattle.rh_http.specs.declared.config.ClientConfig.{ClientConfig}
 use Rattle.rh_sig.specs.declared.named.Named.{Named}
@@ -10,12 +10,13 @@ use Rattle.rh_line.specs.declared.leg.Leg.{Leg}
 use Rattle.rh_line.specs.declared.leg.LegKind.TheVariants.{ClientIn, ClientOut}
 use Rattle.rh_shell.specs.Rules.{Message, Text, Pdu, Packet}
 use Rattle.rh_shell.specs.Moves.{OnLeg, EndPassage, end_started}
-use Rattle.rh_shell.specs.Moving.{EndEvent, EndLeads, Event, after_end_events}
+use Rattle.rh_shell.specs.Moving.{EndEvent, EndLeads, Event, after_end_events, after_events}
 use Rattle.rh_nodes.specs.declared.event.Event as told
 use Rattle.rh_nodes.specs.declared.event.Event.TheVariants as happened
 use Rattle.rh_shell.specs.Shells.{Shell}
 use Rattle.rh_inproxy.specs.declared.state.InProxyConfig.{InProxyConfig}
-use Rattle.rh_inproxy.specs.State.{is_client_leg}
+use Rattle.rh_inproxy.specs.State.{InProxy, channel_of, is_client_leg}
+use Rattle.rh_inproxy.specs.Time.{a5_came}
 use Rattle.rh_inproxy.specs.Machine as in_proxy
 use Rattle.rh_client.specs.declared.state.ClientRole.{ClientRole}
 use Rattle.rh_client.specs.Client.{rules, acts, first_client}
@@ -63,12 +64,17 @@ pub record Watches (config : ClientConfig) (node : Shell ClientRole) : Type 0 wh
 
 -- ---- a leg falls silent
 
+-- no IN_R1/A5 came on the leg
+abbrev pub IsBeforeA5 : InProxy → Leg → Type 0
+IsBeforeA5 s leg = a5_came s (channel_of s leg.number) ≡ false
+
 -- the moment closed an in proxy: no byte was heard on a ci leg for the timeout, since the last one
 -- or since the leg came up
 pub record InProxyFellSilent (config : InProxyConfig) (events : List Event) (event : told.Event)
     (leg : Leg) (since now : ℕ) : Type 0 where
   pub moment : event ≡ happened.Passes now
   pub kind : leg.kind ≡ ClientIn
+  pub before : IsBeforeA5 (after_events in_proxy.rules (in_proxy.first_node config) events).role leg
   pub long : config.timeout ≤ now - since
   pub last : last_touched in_proxy.rules leg (in_proxy.first_node config) events None ≡ Some since
 

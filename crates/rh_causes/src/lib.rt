@@ -8,7 +8,10 @@ pub mod once_each;
 pub mod refusals;
 pub mod watching;
 
-pub use closings::{causes_come_from_their_events, events_close_with_their_causes};
+pub use closings::{
+    a_node_closes_once, an_end_closes_once, causes_come_from_their_events,
+    events_close_with_their_causes,
+};
 pub use moments::{
     a_leg_is_silent_since_it_was_heard, an_ends_leg_is_silent_since_it_was_heard,
     each_roles_legs_are_silent_since_they_were_heard,

@@ -50,9 +50,9 @@ pub fn a_client_watches_by_what_was_told()
 }
 
 /// A node closes with `Silent` only at the moment that this names, and since the last one at which
-/// bytes were heard on the leg or it came up: an in proxy only of a ci leg, once the timeout that
-/// it was made with has passed; a client only of a co leg, once the timeout that was told for it
-/// has passed; an out proxy and a server never.
+/// bytes were heard on the leg or it came up: an in proxy only of a ci leg, before IN_R1/A5 came
+/// there, once the timeout that it was made with has passed; a client only of a co leg, once the
+/// timeout that was told for it has passed; an out proxy and a server never.
 pub fn a_node_falls_silent_since_it_was_heard()
     ensures client { (config : ClientConfig) (events : List EndEvent) (event : told.Event)
         (leg : Leg) (since now : ℕ)
