@@ -1,0 +1,8 @@
+//! The bytes of RPC PDUs that are held for a channel never pass the receive window that was
+//! advertised for it (MS-RPCH 3.2), whatever comes from any peer. Its functions do nothing: their
+//! contracts are the laws.
+#![tactic(auto)]
+
+pub mod out_proxy;
+
+pub use out_proxy::what_an_out_proxy_holds;
