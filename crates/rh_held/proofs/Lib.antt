@@ -1,3 +1,4 @@
 mod Lines
 mod Roles
+mod ClientLine
 mod OutProxyLine

@@ -3,6 +3,8 @@
 //! contracts are the laws.
 #![tactic(auto)]
 
+pub mod client;
 pub mod out_proxy;
 
+pub use client::what_a_client_holds;
 pub use out_proxy::what_an_out_proxy_holds;
