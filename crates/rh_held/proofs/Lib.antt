@@ -1,4 +1,5 @@
 mod Lines
 mod Roles
 mod ClientLine
+mod InProxyLine
 mod OutProxyLine

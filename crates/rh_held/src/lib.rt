@@ -4,7 +4,9 @@
 #![tactic(auto)]
 
 pub mod client;
+pub mod in_proxy;
 pub mod out_proxy;
 
 pub use client::what_a_client_holds;
+pub use in_proxy::what_an_in_proxy_holds;
 pub use out_proxy::what_an_out_proxy_holds;
