@@ -3,3 +3,4 @@ mod Roles
 mod ClientLine
 mod InProxyLine
 mod OutProxyLine
+mod ServerLine

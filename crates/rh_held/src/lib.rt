@@ -6,7 +6,9 @@
 pub mod client;
 pub mod in_proxy;
 pub mod out_proxy;
+pub mod server;
 
 pub use client::what_a_client_holds;
 pub use in_proxy::what_an_in_proxy_holds;
 pub use out_proxy::what_an_out_proxy_holds;
+pub use server::what_a_server_holds;
