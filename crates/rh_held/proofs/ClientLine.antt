@@ -1,5 +1,6 @@
 -- a client holds no more than its window of each OUT channel
-use Rattle.std.proofs.Common.{◌≡◌, ℕ, List, Bool, true, false, ◌&&◌, ◌||◌, not, Some, None, refl, sym, ap, ◌∙◌, subst, rules}
+use Rattle.std.proofs.Common.{◌≡◌, ℕ, List, Bool, true, false, ◌&&◌, ◌||◌, not, Some, None, refl, sym, subst, rules}
+use Rattle.std.proofs.lemmas.Bool.{and_parts}
 use Rattle.std.specs.Prelude.{if◌then◌else◌, nat_eq, IfSome}
 use Rattle.std.specs.declared.option.Option.{Option}
 use Rattle.rh_pdu.specs.Frames.{IsPdu}
@@ -27,21 +28,20 @@ use Rattle.rh_client.specs.declared.replacement.Replacement.{Replacement}
 use Rattle.rh_client.specs.declared.replacement.Replacement.TheVariants.{NoneUnderWay, In, Out}
 use Rattle.rh_client.specs.declared.replacement.InStage.TheVariants as in_stage
 use Rattle.rh_client.specs.declared.replacement.OutStage.TheVariants as out_stage
-use Rattle.rh_client.specs.declared.replacement.OutStage.{OutStage}
 use Rattle.rh_client.specs.declared.replacement.Waits.{Waits}
 use Rattle.rh_client.specs.declared.state.ClientRole.{ClientRole}
 use Rattle.rh_client.specs.State.{Done, unexpected, taken, settled, is_open, is_writing, is_in_successor, is_current, is_out_successor}
-use Rattle.rh_client.specs.Opening.{with_next, up, up_by, on_conn_a3, on_conn_c2}
+use Rattle.rh_client.specs.Opening.{with_next, up_by, on_conn_a3, on_conn_c2}
 use Rattle.rh_client.specs.Channels.{is_named, out_up}
 use Rattle.rh_client.specs.Acknowledging.{is_switched, pdu_channel, pdu_on, ack_named, on_ack_to, may_ack, ack_due}
 use Rattle.rh_client.specs.Ending.{give, take, end_channel, end_on, on_end_b2, drawn}
-use Rattle.rh_client.specs.InReplacement.{recycle, on_in_r1_a4, on_in_r2_a4, handed_over, wished}
-use Rattle.rh_client.specs.OutReplacement.{on_out_r1_a2, on_out_r1_a6, on_out_r1_a10, a10_by, a10_at, passed}
+use Rattle.rh_client.specs.InReplacement.{recycle, on_in_r1_a4, on_in_r2_a4, handed_over}
+use Rattle.rh_client.specs.OutReplacement.{on_out_r1_a2, on_out_r1_a6, a10_by, a10_at, passed}
 use Rattle.rh_client.specs.Time.{ping}
-use Rattle.rh_client.specs.Putting.{Pick, or_else, put_in_r1_a5, put_out_r1_a7, due_by, in_due, out_due, put_due, ack_by, put_ack_of, put_ack, lets_pdu, pdu_by as put_pdu_by, put_pdu, is_end_due, put_end, put_ping, put_next, put_conn_b1, put_in_r1_a1, put_current, put_out_successor, put_out, put_successor_ping, put_writing, put_in_successor, put_in, settled_or_wished, settled_pick, put_by, put}
-use Rattle.rh_client.specs.Client.{pdu, pdu_by, packet, packet_on, packet_by, on_packet, acts as client_acts}
+use Rattle.rh_client.specs.Putting.{Pick, or_else, due_by, put_due, ack_by, put_ack_of, put_ack, lets_pdu, pdu_by as put_pdu_by, put_pdu, is_end_due, put_end, put_ping, put_next, put_conn_b1, put_in_r1_a1, put_current, put_out_successor, put_out, put_successor_ping, put_writing, put_in_successor, put_in, settled_or_wished, settled_pick, put_by}
+use Rattle.rh_client.specs.Client.{pdu_by, packet, packet_by, on_packet, acts as client_acts}
 use Rattle.rh_client.specs.Client.{rules as client_rules}
-use Rattle.rh_held.proofs.Lines.{IsKept, call_kept, due_then}
+use Rattle.rh_held.proofs.Lines.{IsKept, call_kept}
 use Rattle.rh_held.proofs.Roles.{RulesKeep, ActsKeep}
 
 abbrev pub Kept : ℕ → ClientRole → Type 0
@@ -98,7 +98,8 @@ same_ack_to s to received available of =
     (λ h. refl))))
     (λ e. refl)
 
-same_in_r1_a4 : (s : ClientRole) (to window timeout : ℕ) → Same s (on_in_r1_a4 s to window timeout).0
+same_in_r1_a4 : (s : ClientRole) (to window timeout : ℕ)
+    → Same s (on_in_r1_a4 s to window timeout).0
 same_in_r1_a4 s to window timeout = search rules
 
 same_in_r2_a4 : (s : ClientRole) (to : ℕ) → Same s (on_in_r2_a4 s to).0
@@ -109,10 +110,6 @@ same_out_r1_a2 s n to = search rules
 
 same_out_r1_a6 : (s : ClientRole) (n to timeout : ℕ) → Same s (on_out_r1_a6 s n to timeout).0
 same_out_r1_a6 s n to timeout = search rules
-
-both : (a b : Bool) → a && b ≡ true → (a ≡ true) × (b ≡ true)
-both true b e = (refl, e)
-both false b e = absurd cc
 
 module _ (window : ℕ) where
   -- ---- what comes
@@ -126,7 +123,7 @@ module _ (window : ℕ) where
       (Some Current) _ (λ f. tt)
       (λ f. by_test (λ (o : Option Which). IfSome o (IsThere s.line))
       (is_switched s && is_out_successor s n) (Some Next) None
-      (λ g. (both _ s.line.has_next (both (is_switched s) (is_out_successor s n) g).0).1)
+      (λ g. (and_parts _ s.line.has_next (and_parts (is_switched s) (is_out_successor s n) g).0).1)
       (λ g. tt)))
 
   admit_kept : (s : ClientRole) (bytes : List ℕ) (o : Option Which) → IsPdu bytes
@@ -149,7 +146,7 @@ module _ (window : ℕ) where
       (λ e. tt)
       (λ e. by_test (λ (o : Option Which). IfSome o (IsThere s.line))
       (s.line.has_next && is_out_successor s n) (Some Next) None
-      (λ f. (both s.line.has_next (is_out_successor s n) f).0) (λ f. tt))
+      (λ f. (and_parts s.line.has_next (is_out_successor s n) f).0) (λ f. tt))
 
   end_kept : (s : ClientRole) (o : Option Which) → IfSome o (IsThere s.line) → Kept window s
       → Kept window (end_on s o).0
@@ -177,7 +174,7 @@ module _ (window : ℕ) where
       by_test (λ (d : Done). Kept window d.0) (s.line.has_next && is_current s n) (taken (passed t))
       (unexpected s)
       (λ e. same_kept window t (passed t) (same_passed t)
-      (call_kept window s.line Finishes (both s.line.has_next (is_current s n) e).0 k))
+      (call_kept window s.line Finishes (and_parts s.line.has_next (is_current s n) e).0 k))
       (λ e. k)
 
   out_r1_a10_kept : (s : ClientRole) (n : ℕ) (r : Replacement) → Kept window s
@@ -260,7 +257,7 @@ module _ (window : ℕ) where
 
   may_ack_there : (s : ClientRole) (which : Which) → may_ack s which ≡ true → IsThere s.line which
   may_ack_there s Current e = tt
-  may_ack_there s Next e = (both s.line.has_next (not s.line.next.ended) e).0
+  may_ack_there s Next e = (and_parts s.line.has_next (not s.line.next.ended) e).0
 
   ack_kept : (s : ClientRole) (which : Which) (o : Option Ack)
       → IfSome o (λ (ack : Ack). IsThere s.line which × (due s.line which ≡ Some ack))

@@ -1,13 +1,13 @@
 -- an in proxy holds no more than its window of each ci leg
-use Rattle.std.proofs.Common.{◌≡◌, ℕ, ◌+◌, ◌==◌, List, [], ◌∷◌, length, Bool, true, false, ◌&&◌, ◌||◌, not, Some, None, Ok, Err, refl, sym, ap, ◌∙◌, subst, rules}
-use Rattle.std.specs.Prelude.{if◌then◌else◌, nat_eq, nat_le, IfSome}
+use Rattle.std.proofs.Common.{◌≡◌, ℕ, ◌+◌, ◌==◌, List, [], ◌∷◌, length, Bool, true, false, ◌&&◌, ◌||◌, not, Some, None, Ok, Err, refl, sym, ◌∙◌, subst, rules}
+use Rattle.std.proofs.lemmas.Bool.{and_parts}
+use Rattle.std.specs.Prelude.{if◌then◌else◌, nat_le, IfSome}
 use Rattle.std.specs.declared.option.Option.{Option}
 use Rattle.std.specs.declared.result.Result.{Result}
 use Rattle.rh_pdu.specs.Frames.{IsPdu}
 use Rattle.rh_rts.specs.declared.command.Cookie.{Cookie}
 use Rattle.rh_sig.specs.declared.named.Named.{Named}
-use Rattle.rh_sig.specs.declared.named.Named.TheVariants.{ConnB1, ConnB3, InR1A1, InR1A5, InR1B1, InR1B2, OutR1A7, EndA1, Ack, AckTo, KeepAlive}
-use Rattle.rh_window.specs.Sides.{IsWindow}
+use Rattle.rh_sig.specs.declared.named.Named.TheVariants.{ConnB1, InR1A1, InR1A5, OutR1A7, EndA1, AckTo, KeepAlive}
 use Rattle.rh_window.specs.Sending.{may_send}
 use Rattle.rh_window.specs.declared.recv_window.Ack as told
 use Rattle.rh_line.specs.Lines as line
@@ -27,7 +27,6 @@ use Rattle.rh_inproxy.specs.declared.opening.TheConstants.{GREATEST_LENGTHS}
 use Rattle.rh_inproxy.specs.declared.state.ClientLeg.{ClientLeg}
 use Rattle.rh_inproxy.specs.declared.state.Handover.{Handover}
 use Rattle.rh_inproxy.specs.declared.state.Handover.TheVariants.{Before, Came, Passed}
-use Rattle.rh_inproxy.specs.declared.state.Joining.{Joining}
 use Rattle.rh_inproxy.specs.declared.state.Joining.TheVariants.{TellsServer, Told, Follows}
 use Rattle.rh_inproxy.specs.declared.state.Opener.{Opener}
 use Rattle.rh_inproxy.specs.declared.state.Opening.{Opening}
@@ -39,10 +38,10 @@ use Rattle.rh_inproxy.specs.declared.state.Work.{Work}
 use Rattle.rh_inproxy.specs.declared.state.Work.TheVariants as works
 use Rattle.rh_inproxy.specs.Answers.{Done, Pick, or_else, taken, refuse, unexpected}
 use Rattle.rh_inproxy.specs.State.{InProxy, is_joined, next_of, has_opened, channel_of, has_come, has_a5, follows, is_client_leg, is_server_leg, same_cookie}
-use Rattle.rh_inproxy.specs.Opening.{is_absent, accepts, accepts_later, may_accept, accepted, connected, up, wants, head, drawn, leg_of, is_first, opener_of, on_first_in_r1_a1, on_conn_b1, on_conn_b3, first_by, put_first, echo_by, put_echo}
-use Rattle.rh_inproxy.specs.Acknowledging.{on_ack_to, on_ack, ack_due, ack_by, current_ack, next_ack, put_acks}
-use Rattle.rh_inproxy.specs.Ending.{has_later, is_newest, on_end_a1, mark, put_end, is_over, settled, settled_pick}
-use Rattle.rh_inproxy.specs.InReplacement.{is_newcomer, joined, join, on_later_in_r1_a1, on_in_r1_a1, on_in_r1_a5, on_in_r1_b1, on_in_r1_b2, told_by, put_in_r2_a2, one_less, finished, finish_by, hand_over, handed_over, mark_by, put_in_r1_a6}
+use Rattle.rh_inproxy.specs.Opening.{is_absent, accepts, accepts_later, may_accept, accepted, connected, up, wants, head, drawn, is_first, opener_of, on_first_in_r1_a1, on_conn_b1, first_by, put_first, echo_by, put_echo}
+use Rattle.rh_inproxy.specs.Acknowledging.{on_ack_to, ack_due, ack_by, current_ack, next_ack, put_acks}
+use Rattle.rh_inproxy.specs.Ending.{has_later, is_newest, on_end_a1, mark, put_end, settled, settled_pick}
+use Rattle.rh_inproxy.specs.InReplacement.{is_newcomer, joined, join, on_later_in_r1_a1, on_in_r1_a1, on_in_r1_a5, told_by, put_in_r2_a2, one_less, finished, finish_by, hand_over, mark_by, put_in_r1_a6}
 use Rattle.rh_inproxy.specs.OutReplacement.{on_out_r1_a7}
 use Rattle.rh_inproxy.specs.Passing.{on_pdu, pdu_by, next_pdu, put_pdu}
 use Rattle.rh_inproxy.specs.Putting.{put, next, waiting_by, put_waiting, put_control, put_early, put_stream, put_behind, put_mark}
@@ -75,10 +74,6 @@ Same s t = seen t ≡ seen s
 same_kept : (window : ℕ) (s t : InProxy) → Same s t → Kept window s → Kept window t
 same_kept window s t same k =
     subst (λ (x : Seen). AreKept window x.line x.successor) (sym same) k
-
-both : (a b : Bool) → a && b ≡ true → (a ≡ true) × (b ≡ true)
-both true b e = (refl, e)
-both false b e = absurd cc
 
 second : (a b c d : Bool) → a && b && c && d ≡ true → b ≡ true
 second true true c d e = refl
@@ -343,7 +338,7 @@ module _ (window : ℕ) where
       by_test (λ (t : InProxy). Kept window t) (may_accept s leg)
       (accepted s s.opening leg.number) (if wants s leg then connected s s.opening else s)
       (λ e. accepted_kept s s.opening leg.number
-      (both (is_client_leg leg) (accepts s s.opening leg.number) e).1 k)
+      (and_parts (is_client_leg leg) (accepts s s.opening leg.number) e).1 k)
       (λ e. by_test (λ (t : InProxy). Kept window t) (wants s leg) (connected s s.opening) s
       (λ f. connected_kept s s.opening k) (λ f. k))
 

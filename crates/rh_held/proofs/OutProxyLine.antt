@@ -1,12 +1,9 @@
 -- an out proxy holds no more than its window
-use Rattle.std.proofs.Common.{◌≡◌, ℕ, ◌+◌, List, [], ◌∷◌, length, Bool, true, false, ◌&&◌, ◌||◌, not, Some, None, Ok, Err, refl, sym, subst, rules}
-use Rattle.std.specs.Prelude.{if◌then◌else◌, IfSome, nat_le, nat_eq}
+use Rattle.std.proofs.Common.{◌≡◌, ℕ, ◌+◌, List, [], ◌∷◌, length, ◌&&◌, ◌||◌, Some, None, sym, subst, rules}
+use Rattle.std.specs.Prelude.{if◌then◌else◌, IfSome, nat_le}
 use Rattle.std.specs.declared.option.Option.{Option}
-use Rattle.std.specs.declared.result.Result.{Result}
 use Rattle.rh_pdu.specs.Frames.{IsPdu}
 use Rattle.rh_rts.specs.declared.command.Cookie.{Cookie}
-use Rattle.rh_http.specs.declared.fault.HttpFault.{HttpFault}
-use Rattle.rh_heads.specs.Verdicts.{Asked, request_verdict}
 use Rattle.rh_sig.specs.declared.named.Named.{Named}
 use Rattle.rh_window.specs.declared.recv_window.Ack.{Ack}
 use Rattle.rh_window.specs.Sending.{may_send}
@@ -20,14 +17,11 @@ use Rattle.rh_shell.specs.declared.due.Due.{Due}
 use Rattle.rh_shell.specs.Rules.{Message}
 use Rattle.rh_outproxy.specs.declared.state.Answer.{Answer}
 use Rattle.rh_outproxy.specs.declared.state.Answer.TheVariants as answers
-use Rattle.rh_outproxy.specs.declared.state.Channel.{Channel}
-use Rattle.rh_outproxy.specs.declared.state.Channel.TheVariants as channels
 use Rattle.rh_outproxy.specs.OutProxy.{OutProxy, has_come, joined, is_server_first, is_due, is_ping_due, is_echo_put}
 use Rattle.rh_outproxy.specs.Rows.{Done, is_co, is_os, unexpected, takes_pdus}
 use Rattle.rh_outproxy.specs.Opening.{up, head, first_packet}
 use Rattle.rh_outproxy.specs.Acknowledging.{admitted, on_pdu, ack_due}
 use Rattle.rh_outproxy.specs.Ending.{drawn, mark}
-use Rattle.rh_outproxy.specs.Time.{ping}
 use Rattle.rh_outproxy.specs.Putting.{Pick, ping_room, or_else, answer_by, put_answer, waiting_by, put_waiting, pdu_by, put_pdu, put_end, put_handover, put_mark, put_ping, next_co, first_by, put_first, ack_by, put_ack, next_os, put}
 use Rattle.rh_outproxy.specs.Machine.{packet, pdu, on_co, on_os}
 use Rattle.rh_outproxy.specs.Machine.{rules as proxy_rules}

@@ -1,7 +1,7 @@
 -- a server holds no more than its window of each IN channel
-use Rattle.std.proofs.Common.{◌≡◌, ℕ, ◌+◌, ◌-◌, ◌*◌, ◌^◌, ◌==◌, List, [], ◌∷◌, length, Bool, true, false, ◌&&◌, ◌||◌, not, Some, None, Ok, Err, refl, sym, ap, ◌∙◌, subst, rules}
-use Rattle.std.proofs.lemmas.Bool.{false≢true}
-use Rattle.std.specs.Prelude.{if◌then◌else◌, nat_eq, nat_le, nat_lt, is_ok, slice_get, IfSome}
+use Rattle.std.proofs.Common.{◌≡◌, ℕ, ◌-◌, ◌*◌, ◌^◌, ◌==◌, List, [], ◌∷◌, length, Bool, true, false, ◌&&◌, ◌||◌, not, Some, None, Ok, Err, refl, sym, ◌∙◌, subst, rules}
+use Rattle.std.proofs.lemmas.Bool.{false≢true, and_parts, or_parts}
+use Rattle.std.specs.Prelude.{if◌then◌else◌, nat_le, nat_lt, is_ok, slice_get, IfSome}
 use Rattle.std.specs.declared.option.Option.{Option}
 use Rattle.std.specs.declared.result.Result.{Result}
 use Rattle.rh_pdu.specs.Frames.{IsPdu}
@@ -42,14 +42,14 @@ use Rattle.rh_server.specs.declared.state.Stage.{Stage}
 use Rattle.rh_server.specs.declared.state.Stage.TheVariants as stages
 use Rattle.rh_server.specs.declared.state.Tells.{Tells}
 use Rattle.rh_server.specs.declared.state.Tells.TheVariants as tells
-use Rattle.rh_server.specs.States.{Server, is_open, is_due, is_shut, is_fresh, is_waiting, stays, same_cookie, in_leg, with_in, without_in, without_out, out_place, out_cookie}
+use Rattle.rh_server.specs.States.{Server, is_open, is_due, is_shut, is_fresh, is_waiting, stays, same_cookie, in_leg, with_in, without_in, without_out, out_place}
 use Rattle.rh_server.specs.OutLines.{waits, Gate, lets}
 use Rattle.rh_server.specs.Opening.{Done, took, refuse, unexpected, is_first, up, on_conn_a2, on_conn_b2}
-use Rattle.rh_server.specs.Acknowledging.{channel_at, admitted_by, admitted_on, on_pdu, on_ack_to, on_ack, on_ping_traffic}
+use Rattle.rh_server.specs.Acknowledging.{channel_at, admitted_by, admitted_on, on_ack_to, on_ack}
 use Rattle.rh_server.specs.InReplacement.{ended_if, opens_next, opens_leg, first_waiting, next_opened, becomes_current, moved_if, take, has_fresh_below, announced, in_r1_a2_by, in_r1_a2_at, on_in_r1_a2, leaves_by, hands_over, on_in_r1_a6, on_in_r2_a2}
 use Rattle.rh_server.specs.OutReplacement.{recycle, on_out_r1_a4, on_out_r1_a8}
 use Rattle.rh_server.specs.Ending.{give, is_over_on, end_a2_waiting, end_a2_at, on_end_a2, settled, in_is_drawn, drawn_by, with_ack_dropped, lost_in, mark_by}
-use Rattle.rh_server.specs.Putting.{Pick, or_else, put_in_greeting, told_by, was_current, put_tells_by, put_tells, put_b1_by, put_b1, ack_due, put_ack_by, put_ack, next_in, put_in_by, put_in, out_greeting_at, put_out_greeting, gate_at, counts, was_put, waiting_by, waiting_at, put_waiting, may_go_at, pdu_by as put_pdu_by, put_pdu, is_end_due, may_end_at, put_end, put_pdu_or_end, next_out, settled_pick, put_open, put_out_place, put_out_at, put_out, put_by}
+use Rattle.rh_server.specs.Putting.{Pick, or_else, put_in_greeting, told_by, was_current, put_tells_by, put_tells, put_b1_by, put_b1, ack_due, put_ack_by, put_ack, next_in, put_in_by, out_greeting_at, put_out_greeting, gate_at, counts, was_put, waiting_by, waiting_at, put_waiting, may_go_at, pdu_by as put_pdu_by, put_pdu, is_end_due, may_end_at, put_end, put_pdu_or_end, next_out, settled_pick, put_open, put_out_at, put_by}
 use Rattle.rh_server.specs.Servers.{on_is, on_os, packet_by, pdu_by, acts as server_acts}
 use Rattle.rh_server.specs.Servers.{rules as server_rules}
 use Rattle.rh_held.proofs.Lines.{IsKept, call_kept, due_then}
@@ -77,14 +77,6 @@ Same s t = seen t ≡ seen s
 
 same_kept : (window : ℕ) (s t : Server) → Same s t → Kept window s → Kept window t
 same_kept window s t same k = subst (λ (x : Seen). AreKept window x.edge x.line) (sym same) k
-
-both : (a b : Bool) → a && b ≡ true → (a ≡ true) × (b ≡ true)
-both true b e = (refl, e)
-both false b e = absurd cc
-
-neither : (a b : Bool) → a || b ≡ false → (a ≡ false) × (b ≡ false)
-neither true b e = absurd cc
-neither false b e = (refl, e)
 
 -- ---- what leaves both as they are
 
@@ -226,7 +218,7 @@ module _ (window : ℕ) where
       ((n == s.current.leg) && not s.line.finished) (Some Current) _ (λ e. tt)
       (λ e. by_test (λ (o : Option Which). IfSome o (IsThere s.line))
       (s.line.has_next && (n == s.next.leg)) (Some Next) None
-      (λ f. (both s.line.has_next (n == s.next.leg) f).0) (λ f. tt))
+      (λ f. (and_parts s.line.has_next (n == s.next.leg) f).0) (λ f. tt))
 
   pdu_kept : (s : Server) (n : ℕ) (bytes : List ℕ) (kind : LegKind) → IsPdu bytes
       → Kept window s → Kept window (pdu_by s n bytes kind).0
@@ -303,7 +295,7 @@ module _ (window : ℕ) where
       by_test (λ (t : Server). Kept window t) (s.line.has_next || waits kind.InR1A3 s.waiting) s
       (opens_leg s (first_waiting s.ins)) (λ e. k)
       (λ e. opens_kept s (first_waiting s.ins)
-      (neither s.line.has_next (waits kind.InR1A3 s.waiting) e).0 k)
+      (or_parts s.line.has_next (waits kind.InR1A3 s.waiting) e).0 k)
 
   -- the channel that becomes current has a window that is shut
   current_kept : (s : Server) → IsKept window s.line → s.line.current.window.told ≡ 0
@@ -331,7 +323,7 @@ module _ (window : ℕ) where
       → Kept window (moved_if l.has_next (record s { line = settled_line l }))
   settles_kept s l finished k shut next =
       by (l.finished && is_empty l.current.pdus)
-      (λ e. finished (both l.finished (is_empty l.current.pdus) e).0) k
+      (λ e. finished (and_parts l.finished (is_empty l.current.pdus) e).0) k
     where
       moves : (had : Bool) → had ≡ true → IsKept window (moved_on l)
           → Kept window (moved_if had (record s { line = moved_on l }))
@@ -432,8 +424,8 @@ module _ (window : ℕ) where
           && (not s.line.finished && (s.line.has_next && not (waits kind.InR1A3 s.waiting))) ≡ true
           → s.line.has_next ≡ true
       there e =
-          (both s.line.has_next (not (waits kind.InR1A3 s.waiting))
-          (both (not s.line.finished) _ (both (n == s.current.leg) _ e).1).1).0
+          (and_parts s.line.has_next (not (waits kind.InR1A3 s.waiting))
+          (and_parts (not s.line.finished) _ (and_parts (n == s.current.leg) _ e).1).1).0
 
   -- ---- packets
 
@@ -491,7 +483,7 @@ module _ (window : ℕ) where
       (record s { line = after_tell s.line Current; edge = edges.Told }) s
       (λ e. record {
         kept = call_kept window s.line (calls.Tells Current)
-            (tt, k.shut (both (n == s.current.leg) (is_shut s.edge) e).1) k.kept;
+            (tt, k.shut (and_parts (n == s.current.leg) (is_shut s.edge) e).1) k.kept;
         shut = λ f. absurd (false≢true f);
         next = k.next;
       })
