@@ -1,0 +1,6 @@
+mod Lines
+mod Roles
+mod ClientLine
+mod InProxyLine
+mod OutProxyLine
+mod ServerLine
