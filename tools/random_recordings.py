@@ -1,20 +1,23 @@
 #!/usr/bin/env python3
-"""Makes recordings of roles at random, replays them, and walks each report by the rules of walking.py.
+"""Makes recordings of roles at random, replays them, and walks each report by tools/walking.py.
 
-The program is crates/rh_cli/out/rh_cli, as ./rh_cli --version leaves it. A recording opens, sends, moves,
-gives, takes, settles and ticks, replaces channels in all three forms, breaks and ends legs, closes ends, and
-has small windows and lifetimes; which of these, and how often, is drawn for each recording.
+The program is crates/rh_cli/out/rh_cli, as ./rh_cli --version leaves it. A recording opens legs,
+sends, moves, gives, takes, settles and ticks, replaces channels in all three forms, breaks and ends
+legs, closes ends, and has small windows and lifetimes. Which of these, and how often, is drawn for
+each recording.
 
     tools/random_recordings.py              makes 300 recordings, and says what was seen in them
     tools/random_recordings.py --count N    makes so many
-    tools/random_recordings.py --seed N     makes others (default 1); the same seed makes the same ones
+    tools/random_recordings.py --seed N     makes others (default 1); each seed has its own
     tools/random_recordings.py --program P  runs another program
     tools/random_recordings.py --keep F     writes each recording and its report to the folder F
 
-A calm recording has no break, no end of a leg and no tick that a silent leg could reach; it closes both ends
-and settles. Of these it is checked besides that no node closes, that both ends end, and that all was taken.
+A calm recording has no break, no end of a leg, no tick by which a leg is silent for too long and no
+small lifetime; it closes both ends and settles. Of these it is checked besides that no node closes,
+that both ends end, and that all was taken.
 
-Ends with status 1 where a run doesn't end with status 0 or a rule is broken; the recording is then kept.
+Ends with status 1 where a run doesn't end with status 0 or a rule is broken; such recordings are
+kept, in random_recordings of the folder for temporary files where no other is named.
 """
 import argparse
 import collections
@@ -30,26 +33,31 @@ TOP = pathlib.Path(__file__).resolve().parent.parent
 PROGRAM = TOP / "crates/rh_cli/out/rh_cli"
 KINDS = ["co", "os", "ci", "is"]
 SILENT_AFTER = 120_000
-CALM_LAST = ["close c", "close s", "settle 1000", "take c", "take s"]
-ROUGH_LAST = ["settle 3", "take c", "take s", "give c 05", "close c", "settle 1000", "take s", "close s",
-              "settle 1000", "take c", "take c", "take s"]
-# How often a line is drawn in each manner of recording. A pass carries on all legs in a drawn order.
+WINDOWS = ["cwin", "iwin", "owin", "swin"]
+LIFETIMES = ["ilife", "olife"]
+# What stands at the end of each recording.
+LAST = ["settle 3", "take c", "take s", "close c", "settle 1000", "close s", "settle 1000"]
+LAST += ["give c 05", "give s 05", "take c", "take s"]
+# How often a line is drawn in each manner of recording; one pass carries on all legs.
+VERBS = ["give", "take", "carry", "open", "settle", "recycle", "pass", "tick"]
+VERBS += ["break", "end", "close"]
 MANNERS = {
-    "calm": {"give": 6, "take": 4, "carry": 8, "open": 6, "settle": 4, "recycle": 3, "pass": 3},
-    "timed": {"give": 4, "take": 3, "carry": 6, "open": 4, "settle": 4, "recycle": 2, "pass": 2, "tick": 4},
-    "rough": {"give": 6, "take": 4, "carry": 8, "open": 5, "settle": 3, "recycle": 4, "pass": 4, "tick": 1,
-              "break": 0.4, "end": 0.4, "close": 0.4},
-    "heavy": {"give": 10, "take": 1, "carry": 2, "open": 2, "settle": 6, "recycle": 1, "pass": 1},
+    "calm": [6, 4, 8, 6, 4, 3, 3, 0, 0, 0, 0],
+    "timed": [4, 3, 6, 4, 4, 2, 2, 4, 0, 0, 0],
+    "rough": [6, 4, 8, 5, 3, 4, 4, 1, 0.3, 0.3, 0.1],
+    "heavy": [10, 1, 2, 2, 6, 1, 1, 0, 0, 0, 0],
 }
+# Bytes that are no PDU: too few, another version, an RTS PDU.
+NO_PDUS = ["05", "0400" * 8, "05001403100000001400000000000000" + "00" * 4]
 
 
 def drawn_settings(draw, manner):
     """Settings, most often of small windows, and of small lifetimes where much is given."""
-    chances = {key: 0.4 for key in ("cwin", "iwin", "owin", "swin")}
-    chances |= {key: 0.8 if manner == "heavy" else 0.1 for key in ("ilife", "olife")}
+    chances = {key: 0.4 for key in WINDOWS}
+    chances |= {key: 0.8 if manner == "heavy" else 0.1 for key in LIFETIMES}
     chances |= {"itime": 0.1, "otime": 0.1, "keep": 0.2, "same": 0.5}
-    values = {key: [8_192, 8_193, 12_000, 20_000, 262_144] for key in ("cwin", "iwin", "owin", "swin")}
-    values |= {key: [131_072, 131_073, 150_000, 200_000] for key in ("ilife", "olife")}
+    values = {key: [8_192, 8_193, 12_000, 20_000, 262_144] for key in WINDOWS}
+    values |= {key: [131_072, 131_073, 150_000, 200_000] for key in LIFETIMES}
     values |= {"itime": [120_001, 14_400_000], "otime": [120_001, 14_400_000]}
     values |= {"keep": [0, 60_000, 4_294_967_295], "same": [1]}
     for key, chance in chances.items():
@@ -82,12 +90,13 @@ class Maker:
     def pdu(self):
         """A PDU of which no other has the call, as hex; at times bytes that are none."""
         if self.chance(0.03):
-            return self.draw.choice(["05", "0400" * 8, "05001403100000001400000000000000" + "00000000"])
+            return self.draw.choice(NO_PDUS)
         self.calls += 1
         sizes = [16, 17, 24, 100, 1_000] + ([4_000, 8_191, 8_192] if self.manner == "heavy" else [])
         size = self.draw.choice([*sizes, self.draw.randint(16, 3_000)])
         header = bytes([5, 0, 0, 3, 16, 0, 0, 0]) + size.to_bytes(2, "little") + bytes(2)
-        return (header + self.calls.to_bytes(4, "little") + bytes([self.calls % 256]) * (size - 16)).hex()
+        header += self.calls.to_bytes(4, "little")
+        return (header + bytes([self.calls % 256]) * (size - len(header))).hex()
 
     def carry(self, leg, way):
         self.lines.append(f"send {leg} {way} {self.bytes_count()}")
@@ -148,10 +157,9 @@ class Maker:
         """The recording."""
         if self.chance(0.7):
             self.lines.append(f"settle {self.draw.choice([1, 2, 3, 100])}")
-        verbs = MANNERS[self.manner]
-        for verb in self.draw.choices(list(verbs), list(verbs.values()), k=self.count):
+        for verb in self.draw.choices(VERBS, MANNERS[self.manner], k=self.count):
             self.one(verb)
-        self.lines += ROUGH_LAST if self.manner == "rough" else CALM_LAST
+        self.lines += LAST
         return "".join(line + "\n" for line in self.lines)
 
 
@@ -166,9 +174,9 @@ def is_calm(text):
     """Whether nothing in the recording can close a node, and no lifetime is small."""
     lines = text.split("\n")
     moments = [int(line.split(" ")[1]) for line in lines if line.startswith("tick")]
-    rough = any(line.split(" ")[0] in ("break", "end") for line in lines)
-    small = any(line.startswith(("set ilife", "set olife")) for line in lines)
-    return not rough and not small and max(moments, default=0) < SILENT_AFTER
+    starts = ("break", "end", *(f"set {key}" for key in LIFETIMES))
+    other = any(line.startswith(starts) for line in lines)
+    return not other and max(moments, default=0) < SILENT_AFTER
 
 
 def faults_of(text, walked):
@@ -177,9 +185,8 @@ def faults_of(text, walked):
     if is_calm(text):
         if walked.causes:
             faults.append(("calm", len(walked.report), f"{' '.join(walked.causes)} closed"))
-        elif set(walked.states.values()) != {"ended"} or walked.taken["c"] != walked.given["s"] \
-                or walked.taken["s"] != walked.given["c"]:
-            faults.append(("calm", len(walked.report), "the connection did not end with all taken"))
+        elif set(walked.states.values()) != {"ended"} or walked.untaken():
+            faults.append(("calm", len(walked.report), "not all ended, or not all was taken"))
     return faults
 
 
@@ -206,7 +213,8 @@ def count(seen, text, walked):
 
 def replay(program, text):
     """The status and the report."""
-    done = subprocess.run([program, "replay"], input=text.encode(), capture_output=True, check=False)
+    how = {"input": text.encode(), "capture_output": True, "check": False}
+    done = subprocess.run([program, "replay"], **how)
     return done.returncode, done.stdout.decode()
 
 
@@ -242,7 +250,9 @@ def run(options):
 
 
 if __name__ == "__main__":
-    parser = argparse.ArgumentParser(description=__doc__, formatter_class=argparse.RawDescriptionHelpFormatter)
+    parser = argparse.ArgumentParser(
+        description=__doc__, formatter_class=argparse.RawDescriptionHelpFormatter
+    )
     parser.add_argument("--count", type=int, default=300)
     parser.add_argument("--seed", type=int, default=1)
     parser.add_argument("--program", type=pathlib.Path, default=PROGRAM)

@@ -1,7 +1,7 @@
 """Walks a report with two lists of PDUs for each direction, apart from the program that wrote it.
 
-Nothing is known here of legs' bytes, channels, windows or packets: only what each end gave and took,
-when it stopped, and why a node closed.
+Nothing is known here of legs' bytes, channels, windows or packets: only what each end gave and
+took, when it stopped, and why a node closed.
 """
 import re
 
@@ -34,18 +34,18 @@ SHAPE = re.compile(
     |(?:client|server)\ (?:{OPEN}|{CLOSED})""",
     re.ASCII | re.VERBOSE,
 )
-# What each rule says. A fault names its rule by the word before the colon.
+# The rules, each with the word by which a fault names it.
 RULES = """
-answers: each line but the first and the settings has its answer, and nothing else stands between them
-rounds: a settling tells no more rounds than it was given, and is spent only where it was given as many
+answers: each line but the first and the settings has its answer, and nothing else is answered
+rounds: a settling tells at most the rounds that it was given, and is spent where it did as many
 order: what an end took is a front of what the other end gave, each PDU once and in order
 taken: an end takes nothing once it has closed, or a take there was answered ended
 given: an end gives nothing once it has closed, or was told to give no more
-ended: where a take is answered ended, the other end was told to give no more, and all that it gave was taken
+ended: where a take is ended, the other end was told to give no more, and all it gave was taken
 counts: the last lines count what was given and taken
 once: a node closes at most once, and the nodes that a line closed stand in their order
-causes: an end that closed answers gives and takes, and is told in the last lines, with the same cause
-reasons: a node closes for a break, an end of a leg, a refused request or silence, by a line that says so
+causes: an end that closed tells the same cause in each give and take, and in the last lines
+reasons: a node closes for a break, an end, a refused request or silence that its line tells
 """
 
 
@@ -55,12 +55,12 @@ def node_order(node):
 
 
 def node_at(leg, way):
-    """The letter of the node that puts what goes this way on the leg, which is named after its two."""
+    """The letter of the node that puts what goes this way on the leg; a leg has those of both."""
     return leg[0] if way == "u" else leg[1]
 
 
 class Walk:
-    """What a report said so far. `faults` has each rule broken: rule, line number, what is wrong."""
+    """What a report said so far. A fault is a rule, the number of a line and what is wrong."""
 
     def __init__(self, recording, report):
         self.lines = recording.removesuffix("\n").split("\n")
@@ -78,7 +78,7 @@ class Walk:
         self.faults.append((rule, max(self.place, 1), what))
 
     def next(self):
-        """The next line of the report, as words; none where it is over, or is no line of a report."""
+        """The words of the next line; none where the report is over, or has no such line."""
         if self.place == len(self.report):
             self.fault("answers", "the report is over")
             return []
@@ -126,6 +126,10 @@ class Walk:
         if given[at : at + 1] != [pdu]:
             self.fault("order", f"the PDU is not number {at + 1} of those that {OTHER[end]} gave")
         self.taken[end].append(pdu)
+
+    def untaken(self):
+        """How many PDUs were given and not taken."""
+        return sum(len(self.given[OTHER[end]]) - len(self.taken[end]) for end in OTHER)
 
     def caused(self, end, words):
         """The words `closed` and a cause, which is the one for which the end closed."""
