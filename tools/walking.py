@@ -70,7 +70,7 @@ class Walk:
         self.given = {"c": [], "s": []}
         self.taken = {"c": [], "s": []}
         self.told_to_stop, self.ended, self.causes = set(), set(), {}
-        self.states, self.opened, self.rounds = {}, 0, 0
+        self.states = {}
         if not report.endswith("\n"):
             self.fault("answers", "the last line has no LF")
 
@@ -161,8 +161,6 @@ class Walk:
             self.take(words[1], words[2:])
         elif words[0] == "close":
             self.told_to_stop.add(words[1])
-        elif words[0] == "open" and words[-1] == "ok":
-            self.opened += 1
 
     def settle(self, most):
         """The answers of a settling: what its rounds report, and how many they were."""
@@ -175,7 +173,6 @@ class Walk:
             self.fault("answers", "a settling ends with quiet or spent")
             return
         rounds = int(words[1])
-        self.rounds += rounds
         if rounds > most or (rounds == most) != (words[0] == "spent"):
             self.fault("rounds", f"at most {most} rounds were asked for")
 
