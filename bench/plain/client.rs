@@ -5,7 +5,7 @@ use crate::intake::Stage;
 use crate::leg::{Cause, Leg, LegKind};
 use crate::node::{Base, HeadOf, Port, Role, State};
 use crate::rts::{Chain, Cookie, Packet, TO_CLIENT, TO_OUT_PROXY, TO_SERVER};
-use crate::window::{Meter, Queue, RecvLine, Refused, Row, SendWindow, Take, expect};
+use crate::window::{expect, Meter, Queue, RecvLine, Refused, Row, SendWindow, Take};
 use std::collections::VecDeque;
 
 /// Half of this is the time after which a Ping becomes due where no timeout was told.
@@ -123,7 +123,11 @@ impl Client {
             if leg.number == 1 {
                 opening.push_back(Opening::Packet(Packet::ConnA1 { connection, cookie, window }));
             } else {
-                let chain = Chain { connection, predecessor: self.out_cookie(leg.number - 1), successor: cookie };
+                let chain = Chain {
+                    connection,
+                    predecessor: self.out_cookie(leg.number - 1),
+                    successor: cookie,
+                };
                 opening.push_back(Opening::Packet(Packet::OutR1A3 { chain, window }));
                 opening.push_back(Opening::Packet(Packet::OutR2C1));
                 self.line.open_next(leg.number, false);
@@ -134,14 +138,29 @@ impl Client {
             return;
         }
         let Config { lifetime, keepalive, group, .. } = self.config;
-        opening.push_back(Opening::Packet(match self.ins.iter().find(|leg| leg.port.leg.number == self.writing) {
-            Some(writing) => Packet::InR1A1(Chain { connection, predecessor: writing.cookie, successor: cookie }),
-            None => Packet::ConnB1 { connection, cookie, lifetime, keepalive, group },
-        }));
+        opening.push_back(Opening::Packet(
+            match self.ins.iter().find(|leg| leg.port.leg.number == self.writing) {
+                Some(writing) => Packet::InR1A1(Chain {
+                    connection,
+                    predecessor: writing.cookie,
+                    successor: cookie,
+                }),
+                None => Packet::ConnB1 { connection, cookie, lifetime, keepalive, group },
+            },
+        ));
         self.newest_in = leg.number;
         let meter = Meter::new(lifetime, 0);
         let window = SendWindow::default();
-        let mut leg = InLeg { port, cookie, opening, window, meter, told_window: 0, timeout: None, end_put: false };
+        let mut leg = InLeg {
+            port,
+            cookie,
+            opening,
+            window,
+            meter,
+            told_window: 0,
+            timeout: None,
+            end_put: false,
+        };
         if let Some((window, timeout)) = self.first_in.take() {
             leg.tell(window, timeout);
         }
@@ -150,7 +169,10 @@ impl Client {
     }
 
     fn out_cookie(&self, number: u32) -> Cookie {
-        self.outs.iter().find(|leg| leg.port.leg.number == number).map_or(Cookie::default(), |leg| leg.cookie)
+        self.outs
+            .iter()
+            .find(|leg| leg.port.leg.number == number)
+            .map_or(Cookie::default(), |leg| leg.cookie)
     }
 
     fn out_leg(&mut self, number: u32) -> Option<&mut OutLeg> {
@@ -240,10 +262,13 @@ impl Client {
 
     /// OUT_R1/A6.
     fn answer_out(&mut self, number: u32, told: u32) -> Row {
-        let UnderWay::Out { to, answered: false, a7_put } = self.under_way else { return Err(Refused::Unexpected) };
+        let UnderWay::Out { to, answered: false, a7_put } = self.under_way else {
+            return Err(Refused::Unexpected);
+        };
         expect(number == self.line.current.number)?;
         let leg = self.out_leg(to).ok_or(Refused::Unexpected)?;
-        let a3_put = !leg.opening.iter().any(|put| matches!(put, Opening::Packet(Packet::OutR1A3 { .. })));
+        let a3_put =
+            !leg.opening.iter().any(|put| matches!(put, Opening::Packet(Packet::OutR1A3 { .. })));
         expect(a3_put)?;
         leg.timeout = Some(told);
         let successor = leg.cookie;
@@ -264,7 +289,8 @@ impl Client {
     }
 
     fn open(&mut self, number: u32, window: u32, timeout: u32) -> Row {
-        let came = number == 1 && self.outs.iter().any(|leg| leg.port.leg == co(1) && leg.timeout.is_some());
+        let came = number == 1
+            && self.outs.iter().any(|leg| leg.port.leg == co(1) && leg.timeout.is_some());
         expect(came && self.base.state == State::Opening)?;
         match self.in_leg(1) {
             Some(leg) => leg.tell(window, timeout),
@@ -306,7 +332,9 @@ impl Client {
         let next = self.line.next.as_ref().map(|next| next.number);
         for number in [current, next].into_iter().flatten() {
             let cookie = self.out_cookie(number);
-            let Some(channel) = self.line.channel(number).filter(|channel| !channel.ended) else { continue };
+            let Some(channel) = self.line.channel(number).filter(|channel| !channel.ended) else {
+                continue;
+            };
             let Some(ack) = channel.due(cookie) else { continue };
             Packet::AckTo { to: TO_OUT_PROXY, ack }.write(out);
             let writing = self.writing;
@@ -327,7 +355,9 @@ impl Client {
     fn put_pdu(&mut self, out: &mut Vec<u8>) -> bool {
         let (writing, front) = (self.writing, self.queue.front_len());
         let ends = self.closing && self.queue.is_empty();
-        let Some(leg) = self.ins.iter_mut().find(|leg| leg.port.leg.number == writing) else { return false };
+        let Some(leg) = self.ins.iter_mut().find(|leg| leg.port.leg.number == writing) else {
+            return false;
+        };
         if let Some(len) = front.filter(|&len| leg.window.may_send(len) && leg.meter.may_put(len)) {
             leg.window.sent(len);
             leg.meter.put(len);
@@ -351,7 +381,9 @@ impl Client {
         if matches!(self.under_way, UnderWay::Out { to, .. } if to == self.line.current.number) {
             self.under_way = UnderWay::None;
         }
-        let Some(leg) = self.ins.iter().find(|leg| leg.port.leg.number == self.writing) else { return };
+        let Some(leg) = self.ins.iter().find(|leg| leg.port.leg.number == self.writing) else {
+            return;
+        };
         let both_ended = leg.end_put && self.line.current.ended;
         if self.closing && both_ended && self.under_way == UnderWay::None {
             self.waiting.clear();
@@ -359,7 +391,8 @@ impl Client {
             self.end();
             return;
         }
-        let has_wish = matches!(self.under_way, UnderWay::In { .. }) || self.waiting.contains(&Wish::In);
+        let has_wish =
+            matches!(self.under_way, UnderWay::In { .. }) || self.waiting.contains(&Wish::In);
         if leg.meter.wanted() && !has_wish && self.writing < u32::MAX {
             self.waiting.push_back(Wish::In);
         }
@@ -367,9 +400,11 @@ impl Client {
             self.under_way = match self.waiting.pop_front() {
                 None => UnderWay::None,
                 Some(Wish::In) => UnderWay::In { to: self.writing + 1, answered: false },
-                Some(Wish::Out) => {
-                    UnderWay::Out { to: self.line.current.number + 1, answered: false, a7_put: false }
-                }
+                Some(Wish::Out) => UnderWay::Out {
+                    to: self.line.current.number + 1,
+                    answered: false,
+                    a7_put: false,
+                },
             };
         }
     }
@@ -405,7 +440,12 @@ impl Role for Client {
     }
 
     fn ports(&mut self) -> Box<dyn Iterator<Item = &mut Port> + '_> {
-        Box::new(self.outs.iter_mut().map(|leg| &mut leg.port).chain(self.ins.iter_mut().map(|leg| &mut leg.port)))
+        Box::new(
+            self.outs
+                .iter_mut()
+                .map(|leg| &mut leg.port)
+                .chain(self.ins.iter_mut().map(|leg| &mut leg.port)),
+        )
     }
 
     fn hears_up(&self, _: Leg) -> bool {
@@ -420,10 +460,14 @@ impl Role for Client {
             (LegKind::ClientOut, _) if leg.number == 1 => self.newest_out == 0,
             (LegKind::ClientIn, _) if leg.number == 1 => self.newest_in == 0,
             (LegKind::ClientOut, UnderWay::Out { to, .. }) => {
-                leg.number == to && self.newest_out < to && unfinished(self.outs.iter().map(|leg| &leg.port)) < MOST_LEGS
+                leg.number == to
+                    && self.newest_out < to
+                    && unfinished(self.outs.iter().map(|leg| &leg.port)) < MOST_LEGS
             }
             (LegKind::ClientIn, UnderWay::In { to, .. }) => {
-                leg.number == to && self.newest_in < to && unfinished(self.ins.iter().map(|leg| &leg.port)) < MOST_LEGS
+                leg.number == to
+                    && self.newest_in < to
+                    && unfinished(self.ins.iter().map(|leg| &leg.port)) < MOST_LEGS
             }
             _ => false,
         }
@@ -435,7 +479,9 @@ impl Role for Client {
 
     fn head(&mut self, leg: Leg, head: HeadOf) -> Result<(), Cause> {
         match head {
-            HeadOf::Response(response) if response.status != 200 || leg.kind == LegKind::ClientIn => {
+            HeadOf::Response(response)
+                if response.status != 200 || leg.kind == LegKind::ClientIn =>
+            {
                 Err(Cause::HttpRefused { leg, status: response.status })
             }
             _ => Ok(()),
@@ -455,9 +501,12 @@ impl Role for Client {
             Packet::AckTo { to: TO_CLIENT, ack } => {
                 expect(self.is_open())?;
                 let mut legs = self.ins.iter_mut().filter(|leg| !leg.port.is_finished());
-                legs.find(|leg| leg.cookie == ack.cookie).map_or(Ok(()), |leg| leg.window.acked(&ack))
+                legs.find(|leg| leg.cookie == ack.cookie)
+                    .map_or(Ok(()), |leg| leg.window.acked(&ack))
             }
-            Packet::InR1A3 { to: TO_CLIENT, window, timeout } => self.answer_in(window, Some(timeout)),
+            Packet::InR1A3 { to: TO_CLIENT, window, timeout } => {
+                self.answer_in(window, Some(timeout))
+            }
             Packet::InR2A3 { to: TO_CLIENT } => {
                 let writing = self.writing;
                 let told = self.in_leg(writing).map(|leg| (leg.told_window, leg.timeout));
@@ -469,7 +518,10 @@ impl Role for Client {
             Packet::OutR1A9 => self.finish_out(number),
             Packet::End => {
                 let open = self.is_open();
-                let leg = self.out_leg(number).filter(|leg| open && !leg.ended).ok_or(Refused::Unexpected)?;
+                let leg = self
+                    .out_leg(number)
+                    .filter(|leg| open && !leg.ended)
+                    .ok_or(Refused::Unexpected)?;
                 leg.ended = true;
                 self.line.end(number);
                 Ok(())
@@ -488,7 +540,8 @@ impl Role for Client {
 
     fn put(&mut self, leg: Leg, out: &mut Vec<u8>) -> bool {
         if leg.kind == LegKind::ClientOut {
-            let length = if leg.number == 1 { http::OUT_LENGTH } else { http::OUT_SUCCESSOR_LENGTH };
+            let length =
+                if leg.number == 1 { http::OUT_LENGTH } else { http::OUT_SUCCESSOR_LENGTH };
             let opening = self.out_leg(leg.number).and_then(|leg| leg.opening.pop_front());
             match opening {
                 Some(Opening::Head) => http::write_out_request(out, length),

@@ -34,13 +34,16 @@ pub fn write(out: &mut Vec<u8>, bytes: &[u8]) {
     }
 }
 
-/// Whether all of these are digits and their number is even.
+/// Whether all of these are digits.
 pub fn is_hex(text: &[u8]) -> bool {
-    text.len() % 2 == 0 && text.iter().fold(0, |all, &digit| all | VALUES[usize::from(digit)]) != NO_DIGIT
+    text.iter().fold(0, |all, &digit| all | VALUES[usize::from(digit)]) != NO_DIGIT
 }
 
 /// Reads digits, of which all are known to be some, into `bytes`.
 pub fn read(text: &[u8], bytes: &mut Vec<u8>) {
     bytes.clear();
-    bytes.extend(text.chunks_exact(2).map(|two| VALUES[usize::from(two[0])] << 4 | VALUES[usize::from(two[1])]));
+    bytes.extend(
+        text.chunks_exact(2)
+            .map(|two| VALUES[usize::from(two[0])] << 4 | VALUES[usize::from(two[1])]),
+    );
 }

@@ -48,7 +48,9 @@ fn write_request(out: &mut Vec<u8>, method: &str, length: u32) {
 }
 
 pub fn write_response(out: &mut Vec<u8>, length: u64) {
-    let head = format!("HTTP/1.1 200 Success\r\nContent-Type: application/rpc\r\nContent-Length: {length}\r\n\r\n");
+    let head = format!(
+        "HTTP/1.1 200 Success\r\nContent-Type: application/rpc\r\nContent-Length: {length}\r\n\r\n"
+    );
     out.extend_from_slice(head.as_bytes());
 }
 
@@ -78,7 +80,9 @@ fn is_token(byte: u8) -> bool {
 }
 
 fn split(head: &[u8]) -> Option<Head<'_>> {
-    let mut lines = head[..head.len() - 4].split(|&byte| byte == b'\n').map(|line| line.strip_suffix(b"\r").unwrap_or(line));
+    let mut lines = head[..head.len() - 4]
+        .split(|&byte| byte == b'\n')
+        .map(|line| line.strip_suffix(b"\r").unwrap_or(line));
     let first = lines.next()?;
     let mut lengths = Vec::new();
     let mut count = 0;
@@ -129,7 +133,11 @@ pub fn read_request(bytes: &[u8], inbound: bool) -> Result<Request, HttpFault> {
     let words: Vec<&[u8]> = head.first.split(|&byte| byte == b' ').collect();
     let &[method, target, version] = &words[..] else { return Err(HttpFault::Syntax) };
     let is_line = !method.is_empty() && method.iter().all(|&byte| is_token(byte));
-    if !is_line || target.is_empty() || !target.iter().all(|byte| (0x21..0x7f).contains(byte)) || !is_version(version) {
+    if !is_line
+        || target.is_empty()
+        || !target.iter().all(|byte| (0x21..0x7f).contains(byte))
+        || !is_version(version)
+    {
         return Err(HttpFault::Syntax);
     }
     let wanted: &[u8] = if inbound { b"RPC_IN_DATA" } else { b"RPC_OUT_DATA" };
@@ -162,7 +170,9 @@ pub fn read_response(bytes: &[u8]) -> Result<Response, HttpFault> {
     let head = split(bytes).ok_or(HttpFault::Syntax)?;
     let (version, rest) = head.first.split_at_checked(8).ok_or(HttpFault::Syntax)?;
     let status = match rest {
-        &[b' ', a, b, c] | &[b' ', a, b, c, b' ', ..] if [a, b, c].iter().all(u8::is_ascii_digit) => {
+        &[b' ', a, b, c] | &[b' ', a, b, c, b' ', ..]
+            if [a, b, c].iter().all(u8::is_ascii_digit) =>
+        {
             u16::from(a - b'0') * 100 + u16::from(b - b'0') * 10 + u16::from(c - b'0')
         }
         _ => return Err(HttpFault::Syntax),

@@ -2,9 +2,9 @@
 
 use crate::intake::Stage;
 use crate::leg::{Cause, Leg, LegKind};
-use crate::node::{Base, HeadOf, Port, Role, State, forward};
+use crate::node::{forward, Base, HeadOf, Port, Role, State};
 use crate::rts::{Chain, Cookie, Packet, TO_CLIENT, TO_OUT_PROXY, TO_SERVER};
-use crate::window::{RecvLine, Refused, Row, SendWindow, agree, expect};
+use crate::window::{agree, expect, RecvLine, Refused, Row, SendWindow};
 use std::collections::VecDeque;
 
 const DEFAULT_KEEPALIVE: u32 = 300_000;
@@ -105,7 +105,14 @@ impl InProxy {
         self.ins.retain(|leg| !leg.port.lost || leg.port.leg.number == before);
         let port = Port::new(leg, Stage::Request { inbound: true }, now);
         let cookie = Cookie::default();
-        self.ins.push(InLeg { port, cookie, a5_came: false, ended: false, pdu_came: false, announced: false });
+        self.ins.push(InLeg {
+            port,
+            cookie,
+            a5_came: false,
+            ended: false,
+            pdu_came: false,
+            announced: false,
+        });
     }
 
     fn in_leg(&mut self, number: u32) -> Option<&mut InLeg> {
@@ -124,7 +131,8 @@ impl InProxy {
             Packet::ConnB1 { connection, cookie, keepalive, group, .. } if is_first_leg => {
                 self.form = Form::Conn;
                 self.keepalive = if keepalive == 0 { DEFAULT_KEEPALIVE } else { keepalive };
-                self.opening = Some(Packet::ConnB2 { connection, cookie, window, timeout, group, address });
+                self.opening =
+                    Some(Packet::ConnB2 { connection, cookie, window, timeout, group, address });
                 (connection, cookie)
             }
             Packet::InR1A1(chain) if is_first_leg => {
@@ -196,7 +204,9 @@ impl InProxy {
     fn from_server(&mut self, packet: Packet) -> Row {
         match packet {
             Packet::ConnB3 { window } if self.form == Form::Conn && !self.told => self.tell(window),
-            Packet::InR1B2 { window } if self.form == Form::Successor && !self.told => self.tell(window),
+            Packet::InR1B2 { window } if self.form == Form::Successor && !self.told => {
+                self.tell(window)
+            }
             Packet::Ack(ack) if self.told => {
                 agree(self.own, ack.cookie)?;
                 self.window.acked(&ack)
@@ -252,16 +262,25 @@ impl InProxy {
 
     /// Whether the newest client leg was ended behind its END/A1 and nothing is left to put on the server leg.
     fn is_over(&self) -> bool {
-        let Some(newest) = self.ins.last().filter(|leg| leg.port.leg.number == self.newest) else { return false };
+        let Some(newest) = self.ins.last().filter(|leg| leg.port.leg.number == self.newest) else {
+            return false;
+        };
         let Some(is) = &self.is else { return false };
         let ended = newest.port.lost && newest.ended && !newest.a5_came;
-        let empty = self.line.current.is_empty() && self.line.next.as_ref().is_none_or(|next| next.is_empty());
+        let empty = self.line.current.is_empty()
+            && self.line.next.as_ref().is_none_or(|next| next.is_empty());
         let acks = self.ins.iter().any(|leg| {
             let line = [Some(&self.line.current), self.line.next.as_ref()].into_iter().flatten();
             let mut channel = line.filter(|channel| channel.number == leg.port.leg.number);
             !leg.ended && !leg.a5_came && channel.any(|channel| channel.due(leg.cookie).is_some())
         });
-        ended && empty && !acks && self.end_put && self.opening.is_none() && self.waiting.is_empty() && !is.ping
+        ended
+            && empty
+            && !acks
+            && self.end_put
+            && self.opening.is_none()
+            && self.waiting.is_empty()
+            && !is.ping
     }
 }
 
@@ -333,7 +352,8 @@ impl Role for InProxy {
 
     fn pdu(&mut self, leg: Leg, pdu: &[u8], first: bool) -> Row {
         expect(leg.kind == LegKind::ClientIn && !first)?;
-        let earlier_end = self.ins.iter().any(|other| other.port.leg.number < leg.number && other.ended);
+        let earlier_end =
+            self.ins.iter().any(|other| other.port.leg.number < leg.number && other.ended);
         let number = leg.number;
         let leg = self.in_leg(number).filter(|leg| !leg.a5_came && !leg.ended && !earlier_end);
         leg.ok_or(Refused::Unexpected)?.pdu_came = true;

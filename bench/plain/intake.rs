@@ -1,13 +1,15 @@
 //! The bytes that come on a leg: a head or a greeting, then frames.
 
-use crate::http::{self, GREATEST_HEAD, HttpFault, Request, Response};
-use crate::pdu::{self, HEADER_LEN, HeadFault};
+use crate::http::{self, HttpFault, Request, Response, GREATEST_HEAD};
+use crate::pdu::{self, HeadFault, HEADER_LEN};
 
 pub const GREETING: &[u8; 14] = b"ncacn_http/1.0";
 
 #[derive(Clone, Copy, PartialEq, Eq, Default)]
 pub enum Stage {
-    Request { inbound: bool },
+    Request {
+        inbound: bool,
+    },
     Response,
     Greeting,
     #[default]
@@ -50,10 +52,13 @@ impl Intake {
         Intake { stage, ..Intake::default() }
     }
 
-
     /// The bytes of an unfinished head, greeting or frame.
     pub fn partial(&self) -> usize {
-        if self.whole { 0 } else { self.held.len() }
+        if self.whole {
+            0
+        } else {
+            self.held.len()
+        }
     }
 
     /// Takes the next item from the front of `rest`.
@@ -139,7 +144,11 @@ impl Intake {
         let fits = self.held == GREETING;
         self.held.clear();
         self.stage = Stage::Frames;
-        if fits { Item::Greeting } else { Item::BadGreeting }
+        if fits {
+            Item::Greeting
+        } else {
+            Item::BadGreeting
+        }
     }
 
     fn frame<'a, 'p: 'a>(&'a mut self, rest: &mut &'p [u8]) -> Item<'a> {
@@ -149,7 +158,9 @@ impl Intake {
             // A frame that is whole in the piece isn't copied.
             match pdu::frame_len(rest) {
                 Err(fault) => return Item::BadFrame { place, fault },
-                Ok(len) if len <= there => return Item::Frame { place, bytes: self.take(rest, len) },
+                Ok(len) if len <= there => {
+                    return Item::Frame { place, bytes: self.take(rest, len) }
+                }
                 Ok(len) => self.frame = Some(len),
             }
         }

@@ -26,15 +26,20 @@ impl Leg {
     }
 }
 
-impl fmt::Display for Leg {
-    fn fmt(&self, f: &mut fmt::Formatter) -> fmt::Result {
-        let kind = match self.kind {
+impl LegKind {
+    pub fn text(self) -> &'static str {
+        match self {
             LegKind::ClientOut => "co",
             LegKind::OutServer => "os",
             LegKind::ClientIn => "ci",
             LegKind::InServer => "is",
-        };
-        write!(f, "{kind}{}", self.number)
+        }
+    }
+}
+
+impl fmt::Display for Leg {
+    fn fmt(&self, f: &mut fmt::Formatter) -> fmt::Result {
+        write!(f, "{}{}", self.kind.text(), self.number)
     }
 }
 
@@ -85,14 +90,22 @@ impl fmt::Display for Cause {
                 write!(f, "4 BadPacket {leg} {place} {:?} {}", fault.kind, fault.place)
             }
             Cause::Unexpected { leg, place } => write!(f, "5 Unexpected {leg} {place}"),
-            Cause::CookieMismatch { leg, expected, got } => write!(f, "6 CookieMismatch {leg} {expected} {got}"),
-            Cause::WindowExceeded { leg, reached, edge } => write!(f, "7 WindowExceeded {leg} {reached} {edge}"),
-            Cause::OutOfRange { leg, command, value } => write!(f, "8 OutOfRange {leg} {command} {value}"),
+            Cause::CookieMismatch { leg, expected, got } => {
+                write!(f, "6 CookieMismatch {leg} {expected} {got}")
+            }
+            Cause::WindowExceeded { leg, reached, edge } => {
+                write!(f, "7 WindowExceeded {leg} {reached} {edge}")
+            }
+            Cause::OutOfRange { leg, command, value } => {
+                write!(f, "8 OutOfRange {leg} {command} {value}")
+            }
             Cause::HttpRefused { leg, status } => write!(f, "9 HttpRefused {leg} {status}"),
             Cause::BadHead { leg, place, fault } => write!(f, "10 BadHead {leg} {place} {fault:?}"),
             Cause::Silent { leg, since, now } => write!(f, "11 Silent {leg} {since} {now}"),
             Cause::ControlFull { leg } => write!(f, "12 ControlFull {leg}"),
-            Cause::BodyOver { leg, count, length } => write!(f, "13 BodyOver {leg} {count} {length}"),
+            Cause::BodyOver { leg, count, length } => {
+                write!(f, "13 BodyOver {leg} {count} {length}")
+            }
         }
     }
 }

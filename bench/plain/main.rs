@@ -55,12 +55,14 @@ fn replay() -> Result<(), Fault> {
 
 fn make(word: &str) -> Result<(), Fault> {
     let plain = word.bytes().all(|byte| byte.is_ascii_digit()) && !word.starts_with('0');
-    let n = word.parse().ok().filter(|n| plain && (1..=MOST_MADE).contains(n)).ok_or(Fault::Usage)?;
+    let n =
+        word.parse().ok().filter(|n| plain && (1..=MOST_MADE).contains(n)).ok_or(Fault::Usage)?;
     make::run(n, &mut io::stdout().lock()).map_err(|_| Fault::Write)
 }
 
 fn run() -> Result<(), Fault> {
-    let words: Vec<String> = std::env::args_os().skip(1).map(|word| word.to_string_lossy().into_owned()).collect();
+    let words: Vec<String> =
+        std::env::args_os().skip(1).map(|word| word.to_string_lossy().into_owned()).collect();
     match words.iter().map(String::as_str).collect::<Vec<_>>()[..] {
         ["replay"] => replay(),
         ["make", n] => make(n),

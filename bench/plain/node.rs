@@ -190,7 +190,9 @@ pub trait Role {
         }
         let Err(cause) = heard else { return };
         match cause {
-            Cause::BadHead { fault, .. } if self.hears_up(leg) => self.refuse(leg, http::refusal_of(fault)),
+            Cause::BadHead { fault, .. } if self.hears_up(leg) => {
+                self.refuse(leg, http::refusal_of(fault))
+            }
             _ => {}
         }
         self.close(cause);
@@ -208,9 +210,13 @@ pub trait Role {
                 Item::Response(response) => self.head(leg, HeadOf::Response(response))?,
                 Item::Frame { place, bytes } => is_first = self.frame(leg, place, bytes, first)?,
                 Item::BadGreeting => return Err(Cause::Unexpected { leg, place: 0 }),
-                Item::BadFrame { place, fault } => return Err(Cause::BadFrame { leg, place, fault }),
+                Item::BadFrame { place, fault } => {
+                    return Err(Cause::BadFrame { leg, place, fault })
+                }
                 Item::BadHead { place, fault } => return Err(Cause::BadHead { leg, place, fault }),
-                Item::BodyOver { length } => return Err(Cause::BodyOver { leg, count: length + 1, length }),
+                Item::BodyOver { length } => {
+                    return Err(Cause::BodyOver { leg, count: length + 1, length })
+                }
             }
             intake.first_came |= is_first;
             self.after();
@@ -233,7 +239,9 @@ pub trait Role {
                 Ok(packet) => self.packet(leg, packet, first),
                 Err(Unreadable::Rts(fault)) => return Err(Cause::BadPacket { leg, place, fault }),
                 Err(Unreadable::Unknown) => Err(Refused::Unexpected),
-                Err(Unreadable::OutOfRange { command, value }) => Err(Refused::Range { command, value }),
+                Err(Unreadable::OutOfRange { command, value }) => {
+                    Err(Refused::Range { command, value })
+                }
             }
         };
         row.map(|()| true).map_err(|refused| match refused {

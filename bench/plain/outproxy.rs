@@ -3,9 +3,9 @@
 use crate::http;
 use crate::intake::Stage;
 use crate::leg::{Cause, Leg, LegKind};
-use crate::node::{Base, HeadOf, Port, Role, State, forward};
+use crate::node::{forward, Base, HeadOf, Port, Role, State};
 use crate::rts::{Cookie, Packet, TO_CLIENT, TO_OUT_PROXY};
-use crate::window::{RecvLine, Refused, Row, SendWindow, agree, expect};
+use crate::window::{agree, expect, RecvLine, Refused, Row, SendWindow};
 use std::collections::VecDeque;
 
 pub struct Config {
@@ -101,14 +101,16 @@ impl OutProxy {
                 self.stage = Stages::ConnA1;
                 self.cookie = cookie;
                 self.window.set_edge(window);
-                self.opening = Some(Packet::ConnA2 { connection, cookie, lifetime, window: own_window });
+                self.opening =
+                    Some(Packet::ConnA2 { connection, cookie, lifetime, window: own_window });
             }
             Packet::OutR1A3 { chain, window } => {
                 expect(first && self.length == http::OUT_SUCCESSOR_LENGTH)?;
                 self.stage = Stages::OutR1A3;
                 self.cookie = chain.successor;
                 self.window.set_edge(window);
-                self.opening = Some(Packet::OutR1A4 { chain, lifetime, window: own_window, timeout });
+                self.opening =
+                    Some(Packet::OutR1A4 { chain, lifetime, window: own_window, timeout });
             }
             Packet::OutR2C1 => {
                 expect(self.stage == Stages::OutR1A3)?;
@@ -168,8 +170,15 @@ impl OutProxy {
         let is_conn = matches!(self.stage, Stages::ConnA1 | Stages::ConnC1);
         self.response = match self.response {
             Response::Head => {
-                http::write_response(out, u64::from(self.config.lifetime) + u64::from(http::ABOVE_LIFETIME));
-                if is_conn { Response::ConnA3 } else { Response::Put }
+                http::write_response(
+                    out,
+                    u64::from(self.config.lifetime) + u64::from(http::ABOVE_LIFETIME),
+                );
+                if is_conn {
+                    Response::ConnA3
+                } else {
+                    Response::Put
+                }
             }
             Response::ConnA3 => {
                 Packet::ConnA3 { timeout: self.config.timeout }.write(out);
@@ -259,12 +268,17 @@ impl Role for OutProxy {
     }
 
     fn wants(&self, leg: Leg) -> bool {
-        leg == self.leg(LegKind::OutServer) && self.is_live() && self.opening.is_some() && self.os.is_none()
+        leg == self.leg(LegKind::OutServer)
+            && self.is_live()
+            && self.opening.is_some()
+            && self.os.is_none()
     }
 
     fn may_up(&self, leg: Leg) -> bool {
         match leg.kind {
-            LegKind::ClientOut => self.is_live() && self.co.is_none() && leg.number == self.config.number,
+            LegKind::ClientOut => {
+                self.is_live() && self.co.is_none() && leg.number == self.config.number
+            }
             _ => self.wants(leg),
         }
     }

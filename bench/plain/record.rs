@@ -2,6 +2,7 @@
 
 use crate::hex;
 use crate::leg::{Leg, LegKind};
+use std::io::BufRead;
 
 #[derive(Clone, Copy, PartialEq, Eq)]
 pub enum Side {
@@ -53,8 +54,13 @@ pub enum Line<'a> {
 const MOST_BYTES: usize = 65_536;
 
 fn number(word: &[u8]) -> Option<u64> {
-    let fits = word.iter().all(u8::is_ascii_digit) && (word.len() == 1 || !word.starts_with(b"0"));
-    std::str::from_utf8(word).ok().filter(|_| fits)?.parse().ok()
+    if word.is_empty() || (word.len() > 1 && word.starts_with(b"0")) {
+        return None;
+    }
+    word.iter().try_fold(0u64, |number, digit| {
+        let digit = digit.is_ascii_digit().then_some(digit - b'0')?;
+        number.checked_mul(10)?.checked_add(u64::from(digit))
+    })
 }
 
 fn side(word: &[u8]) -> Option<Side> {
@@ -87,7 +93,11 @@ fn leg(word: &[u8]) -> Option<Leg> {
 }
 
 fn leg_of(word: &[u8], roles: bool) -> Option<Option<Leg>> {
-    if roles { leg(word).map(Some) } else { (word == b"cs").then_some(None) }
+    if roles {
+        leg(word).map(Some)
+    } else {
+        (word == b"cs").then_some(None)
+    }
 }
 
 fn count(word: &[u8]) -> Option<usize> {
@@ -107,8 +117,15 @@ fn set<'a>(key: &'a [u8], value: &[u8]) -> Option<Line<'a>> {
     fits.then_some(Line::Set { key, value })
 }
 
-/// Reads a line behind the first one, or None where it is outside the grammar.
-pub fn read_line(text: &[u8], roles: bool) -> Option<Line<'_>> {
+/// Reads a line behind the first one, or None where it is outside the grammar. The digits of a give are left to
+/// the caller.
+fn read_line(text: &[u8], roles: bool) -> Option<Line<'_>> {
+    if let Some(rest) = text.strip_prefix(b"give ") {
+        let (end, hex) = rest.split_at_checked(2)?;
+        let side = side(end.strip_suffix(b" ")?)?;
+        let fits = !hex.is_empty() && hex.len() % 2 == 0 && hex.len() <= 2 * MOST_BYTES;
+        return fits.then_some(Line::Give { side, hex });
+    }
     let mut words: [&[u8]; 5] = [&[]; 5];
     let mut len = 0;
     for word in text.split(|&byte| byte == b' ') {
@@ -119,13 +136,13 @@ pub fn read_line(text: &[u8], roles: bool) -> Option<Line<'_>> {
         len += 1;
     }
     match &words[..len] {
-        &[b"give", end, digits] => {
-            let fits = !digits.is_empty() && digits.len() <= 2 * MOST_BYTES && hex::is_hex(digits);
-            Some(Line::Give { side: side(end)?, hex: fits.then_some(digits)? })
-        }
         &[b"take", end] => Some(Line::Take { side: side(end)? }),
-        &[b"send", leg, way, n] => Some(Line::Send { leg: leg_of(leg, roles)?, dir: dir(way)?, count: count(n)? }),
-        &[b"move", leg, way, n] => Some(Line::Move { leg: leg_of(leg, roles)?, dir: dir(way)?, count: count(n)? }),
+        &[b"send", leg, way, n] => {
+            Some(Line::Send { leg: leg_of(leg, roles)?, dir: dir(way)?, count: count(n)? })
+        }
+        &[b"move", leg, way, n] => {
+            Some(Line::Move { leg: leg_of(leg, roles)?, dir: dir(way)?, count: count(n)? })
+        }
         words if roles => read_roles_line(words),
         _ => None,
     }
@@ -161,14 +178,13 @@ pub struct Recording<'a> {
     lines: &'a [u8],
 }
 
+/// The first line, without its LF, and the rest.
 fn split_line(text: &[u8]) -> Option<(&[u8], &[u8])> {
-    if text.is_empty() {
-        return None;
-    }
-    match text.iter().position(|&byte| byte == b'\n') {
-        Some(end) => Some((&text[..end], &text[end + 1..])),
-        None => Some((text, &[])),
-    }
+    let mut rest = text;
+    // A slice reads without a fault, and finds the LF many bytes at a time.
+    let len = rest.skip_until(b'\n').ok().filter(|&len| len > 0)?;
+    let line = &text[..len];
+    Some((line.strip_suffix(b"\n").unwrap_or(line), rest))
 }
 
 impl<'a> Recording<'a> {
@@ -189,6 +205,7 @@ impl<'a> Recording<'a> {
             rest = further;
             match read_line(text, roles).ok_or(count)? {
                 Line::Set { key, .. } if others || keys.contains(&key) => return Err(count),
+                Line::Give { hex, .. } if !hex::is_hex(hex) => return Err(count),
                 Line::Set { key, .. } => keys.push(key),
                 _ => others = true,
             }

@@ -26,7 +26,13 @@ pub enum GiveFault {
 
 impl<'a> Report<'a> {
     pub fn new(sink: &'a mut dyn Write) -> Report<'a> {
-        Report { sink: Some(sink), text: Vec::with_capacity(4 * PIECE), failed: Ok(()), moved: 0, rounds: 0 }
+        Report {
+            sink: Some(sink),
+            text: Vec::with_capacity(4 * PIECE),
+            failed: Ok(()),
+            moved: 0,
+            rounds: 0,
+        }
     }
 
     /// A report that keeps nothing but its sums and what is written behind `keep`.
@@ -35,7 +41,13 @@ impl<'a> Report<'a> {
     }
 
     pub fn keep(self, sink: &mut dyn Write) -> Report<'_> {
-        Report { sink: Some(sink), text: Vec::new(), failed: Ok(()), moved: self.moved, rounds: self.rounds }
+        Report {
+            sink: Some(sink),
+            text: Vec::new(),
+            failed: Ok(()),
+            moved: self.moved,
+            rounds: self.rounds,
+        }
     }
 
     pub fn has_failed(&self) -> bool {
@@ -74,7 +86,9 @@ impl<'a> Report<'a> {
         let side = side.letter();
         match answer {
             Ok(len) => self.line(format_args!("give {side} ok {len}")),
-            Err(GiveFault::Full { held, len }) => self.line(format_args!("give {side} full {held} {len}")),
+            Err(GiveFault::Full { held, len }) => {
+                self.line(format_args!("give {side} full {held} {len}"))
+            }
             Err(GiveFault::Bad(fault)) => self.line(format_args!("give {side} bad {fault}")),
             Err(GiveFault::Closing) => self.line(format_args!("give {side} closing")),
             Err(GiveFault::Closed(cause)) => self.line(format_args!("give {side} closed {cause}")),
@@ -83,23 +97,31 @@ impl<'a> Report<'a> {
 
     pub fn taken(&mut self, side: Side, pdu: &[u8]) {
         if self.sink.is_some() {
-            self.text.extend_from_slice(if side == Side::Client { b"take c pdu " } else { b"take s pdu " });
+            self.text.extend_from_slice(if side == Side::Client {
+                b"take c pdu "
+            } else {
+                b"take s pdu "
+            });
             hex::write(&mut self.text, pdu);
             self.end_line();
         }
     }
 
-    fn leg_words(&mut self, word: &str, leg: Option<Leg>, dir: Dir) {
-        let dir = dir.letter();
-        let _ = match leg {
-            Some(leg) => write!(self.text, "{word} {leg} {dir} "),
-            None => write!(self.text, "{word} cs {dir} "),
-        };
+    fn leg_words(&mut self, word: &[u8], leg: Option<Leg>, dir: Dir) {
+        self.text.extend_from_slice(word);
+        match leg {
+            Some(leg) => {
+                self.text.extend_from_slice(leg.kind.text().as_bytes());
+                self.number(u64::from(leg.number));
+            }
+            None => self.text.extend_from_slice(b"cs"),
+        }
+        self.text.extend_from_slice(if dir == Dir::Up { b" u " } else { b" d " });
     }
 
     pub fn sent(&mut self, leg: Option<Leg>, dir: Dir, count: Option<usize>) {
         if self.sink.is_some() {
-            self.leg_words("send", leg, dir);
+            self.leg_words(b"send ", leg, dir);
             self.count(count);
             self.end_line();
         }
@@ -107,9 +129,23 @@ impl<'a> Report<'a> {
 
     fn count(&mut self, count: Option<usize>) {
         match count {
-            Some(count) => drop(write!(self.text, "{count}")),
+            Some(count) => self.number(count as u64),
             None => self.text.extend_from_slice(b"no"),
         }
+    }
+
+    fn number(&mut self, mut number: u64) {
+        let mut digits = [0; 20];
+        let mut first = digits.len();
+        loop {
+            first -= 1;
+            digits[first] = b'0' + (number % 10) as u8;
+            number /= 10;
+            if number == 0 {
+                break;
+            }
+        }
+        self.text.extend_from_slice(&digits[first..]);
     }
 
     /// The bytes moved, in up to two pieces.
@@ -119,7 +155,7 @@ impl<'a> Report<'a> {
         if self.sink.is_none() {
             return;
         }
-        self.leg_words("move", leg, dir);
+        self.leg_words(b"move ", leg, dir);
         self.count(count);
         if let Some((front, back)) = bytes.filter(|_| count != Some(0)) {
             self.text.push(b' ');

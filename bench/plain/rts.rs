@@ -207,39 +207,103 @@ fn command_at(bytes: &[u8], place: usize) -> Result<(Option<Command>, usize), Rt
 /// The named packets. A packet that is forwarded under another name has one variant for both.
 #[derive(Clone, Copy, PartialEq, Eq, Debug)]
 pub enum Packet {
-    ConnA1 { connection: Cookie, cookie: Cookie, window: u32 },
-    ConnA2 { connection: Cookie, cookie: Cookie, lifetime: u32, window: u32 },
-    ConnA3 { timeout: u32 },
-    ConnB1 { connection: Cookie, cookie: Cookie, lifetime: u32, keepalive: u32, group: Cookie },
-    ConnB2 { connection: Cookie, cookie: Cookie, window: u32, timeout: u32, group: Cookie, address: [u8; 4] },
-    ConnB3 { window: u32 },
+    ConnA1 {
+        connection: Cookie,
+        cookie: Cookie,
+        window: u32,
+    },
+    ConnA2 {
+        connection: Cookie,
+        cookie: Cookie,
+        lifetime: u32,
+        window: u32,
+    },
+    ConnA3 {
+        timeout: u32,
+    },
+    ConnB1 {
+        connection: Cookie,
+        cookie: Cookie,
+        lifetime: u32,
+        keepalive: u32,
+        group: Cookie,
+    },
+    ConnB2 {
+        connection: Cookie,
+        cookie: Cookie,
+        window: u32,
+        timeout: u32,
+        group: Cookie,
+        address: [u8; 4],
+    },
+    ConnB3 {
+        window: u32,
+    },
     /// CONN/C1 and C2.
-    ConnC { window: u32, timeout: u32 },
+    ConnC {
+        window: u32,
+        timeout: u32,
+    },
     InR1A1(Chain),
-    InR1A2 { chain: Chain, window: u32, timeout: u32 },
+    InR1A2 {
+        chain: Chain,
+        window: u32,
+        timeout: u32,
+    },
     /// IN_R1/A3 and A4.
-    InR1A3 { to: u32, window: u32, timeout: u32 },
+    InR1A3 {
+        to: u32,
+        window: u32,
+        timeout: u32,
+    },
     /// IN_R1/A5 and A6.
-    InR1A5 { successor: Cookie },
+    InR1A5 {
+        successor: Cookie,
+    },
     InR1B1,
-    InR1B2 { window: u32 },
-    InR2A2 { successor: Cookie },
+    InR1B2 {
+        window: u32,
+    },
+    InR2A2 {
+        successor: Cookie,
+    },
     /// IN_R2/A3 and A4.
-    InR2A3 { to: u32 },
+    InR2A3 {
+        to: u32,
+    },
     /// OUT_R1/A1 and A2.
-    OutR1A1 { to: u32 },
-    OutR1A3 { chain: Chain, window: u32 },
+    OutR1A1 {
+        to: u32,
+    },
+    OutR1A3 {
+        chain: Chain,
+        window: u32,
+    },
     OutR2C1,
-    OutR1A4 { chain: Chain, lifetime: u32, window: u32, timeout: u32 },
+    OutR1A4 {
+        chain: Chain,
+        lifetime: u32,
+        window: u32,
+        timeout: u32,
+    },
     /// OUT_R1/A5 and A6.
-    OutR1A5 { to: u32, timeout: u32 },
+    OutR1A5 {
+        to: u32,
+        timeout: u32,
+    },
     /// OUT_R1/A7 and A8.
-    OutR1A7 { to: u32, successor: Cookie },
+    OutR1A7 {
+        to: u32,
+        successor: Cookie,
+    },
     /// OUT_R1/A9 and A10.
     OutR1A9,
     End,
     Ack(Ack),
-    AckTo { to: u32, ack: Ack },
+    AckTo {
+        to: u32,
+        ack: Ack,
+    },
     KeepAlive(u32),
     PingTraffic,
     Ping,
@@ -309,9 +373,10 @@ fn on_co_up(flags: u16, commands: &[Command]) -> Option<Packet> {
         (0, &[Version(_), Cookie(connection), Cookie(cookie), Window(window)]) => {
             Packet::ConnA1 { connection, cookie, window }
         }
-        (RECYCLE, &[Version(_), Cookie(connection), Cookie(predecessor), Cookie(successor), Window(window)]) => {
-            Packet::OutR1A3 { chain: Chain { connection, predecessor, successor }, window }
-        }
+        (
+            RECYCLE,
+            &[Version(_), Cookie(connection), Cookie(predecessor), Cookie(successor), Window(window)],
+        ) => Packet::OutR1A3 { chain: Chain { connection, predecessor, successor }, window },
         (PING, [Empty]) => Packet::OutR2C1,
         _ => return None,
     })
@@ -321,10 +386,14 @@ fn on_os_up(flags: u16, commands: &[Command]) -> Option<Packet> {
     use Command::*;
     const R1: u16 = OUT_CHANNEL | RECYCLE;
     Some(match (flags, commands) {
-        (OUT_CHANNEL, &[Version(_), Cookie(connection), Cookie(cookie), Lifetime(lifetime), Window(window)]) => {
-            Packet::ConnA2 { connection, cookie, lifetime, window }
-        }
-        (R1, &[Version(_), Cookie(a), Cookie(b), Cookie(c), Lifetime(lifetime), Window(window), Timeout(timeout)]) => {
+        (
+            OUT_CHANNEL,
+            &[Version(_), Cookie(connection), Cookie(cookie), Lifetime(lifetime), Window(window)],
+        ) => Packet::ConnA2 { connection, cookie, lifetime, window },
+        (
+            R1,
+            &[Version(_), Cookie(a), Cookie(b), Cookie(c), Lifetime(lifetime), Window(window), Timeout(timeout)],
+        ) => {
             let chain = Chain { connection: a, predecessor: b, successor: c };
             Packet::OutR1A4 { chain, lifetime, window, timeout }
         }
@@ -341,10 +410,14 @@ fn on_out_down(flags: u16, commands: &[Command], near: bool) -> Option<Packet> {
     Some(match (flags, commands) {
         (0, &[Timeout(timeout)]) if near => Packet::ConnA3 { timeout },
         (0, &[Version(_), Window(window), Timeout(timeout)]) => Packet::ConnC { window, timeout },
-        (0, &[Destination(to), Version(_), Window(window), Timeout(timeout)]) => Packet::InR1A3 { to, window, timeout },
+        (0, &[Destination(to), Version(_), Window(window), Timeout(timeout)]) => {
+            Packet::InR1A3 { to, window, timeout }
+        }
         (0, &[Destination(to)]) => Packet::InR2A3 { to },
         (RECYCLE, &[Destination(to)]) => Packet::OutR1A1 { to },
-        (OUT_CHANNEL, &[Destination(to), Version(_), Timeout(timeout)]) => Packet::OutR1A5 { to, timeout },
+        (OUT_CHANNEL, &[Destination(to), Version(_), Timeout(timeout)]) => {
+            Packet::OutR1A5 { to, timeout }
+        }
         (0, [Ance]) => Packet::OutR1A9,
         (EOF, [Empty]) => Packet::End,
         (OTHER_CMD, &[Destination(to), Command::Ack(ack)]) => Packet::AckTo { to, ack },
@@ -484,7 +557,12 @@ impl Packet {
                 Writer::new(out, 0).version().cookie(connection).cookie(cookie).window(*window)
             }
             Packet::ConnA2 { connection, cookie, lifetime, window } => {
-                Writer::new(out, OUT_CHANNEL).version().cookie(connection).cookie(cookie).number(4, *lifetime).window(*window)
+                Writer::new(out, OUT_CHANNEL)
+                    .version()
+                    .cookie(connection)
+                    .cookie(cookie)
+                    .number(4, *lifetime)
+                    .window(*window)
             }
             Packet::ConnA3 { timeout } => Writer::new(out, 0).timeout(*timeout),
             Packet::ConnB1 { connection, cookie, lifetime, keepalive, group } => {
@@ -492,31 +570,46 @@ impl Packet {
                 opened.number(4, *lifetime).number(5, *keepalive).kind(12).bytes(&group.0)
             }
             Packet::ConnB2 { connection, cookie, window, timeout, group, address } => {
-                let opened = Writer::new(out, IN_CHANNEL).version().cookie(connection).cookie(cookie);
+                let opened =
+                    Writer::new(out, IN_CHANNEL).version().cookie(connection).cookie(cookie);
                 let told = opened.window(*window).timeout(*timeout).kind(12).bytes(&group.0);
                 told.number(11, 0).bytes(address).bytes(&[0; 12])
             }
             Packet::ConnB3 { window } => Writer::new(out, 0).window(*window).version(),
-            Packet::ConnC { window, timeout } => Writer::new(out, 0).version().window(*window).timeout(*timeout),
-            Packet::InR1A1(chain) => Writer::new(out, RECYCLE).version().chain(chain),
-            Packet::InR1A2 { chain, window, timeout } => {
-                Writer::new(out, IN_CHANNEL | RECYCLE).version().chain(chain).window(*window).timeout(*timeout)
+            Packet::ConnC { window, timeout } => {
+                Writer::new(out, 0).version().window(*window).timeout(*timeout)
             }
-            Packet::InR1A3 { to, window, timeout } => Writer::new(out, 0).to(*to).version().window(*window).timeout(*timeout),
+            Packet::InR1A1(chain) => Writer::new(out, RECYCLE).version().chain(chain),
+            Packet::InR1A2 { chain, window, timeout } => Writer::new(out, IN_CHANNEL | RECYCLE)
+                .version()
+                .chain(chain)
+                .window(*window)
+                .timeout(*timeout),
+            Packet::InR1A3 { to, window, timeout } => {
+                Writer::new(out, 0).to(*to).version().window(*window).timeout(*timeout)
+            }
             Packet::InR1A5 { successor } => Writer::new(out, 0).cookie(successor),
             Packet::InR1B1 => Writer::new(out, 0).kind(7),
             Packet::InR1B2 { window } => Writer::new(out, 0).window(*window),
-            Packet::InR2A2 { successor } => Writer::new(out, IN_CHANNEL | RECYCLE).cookie(successor),
+            Packet::InR2A2 { successor } => {
+                Writer::new(out, IN_CHANNEL | RECYCLE).cookie(successor)
+            }
             Packet::InR2A3 { to } => Writer::new(out, 0).to(*to),
             Packet::OutR1A1 { to } => Writer::new(out, RECYCLE).to(*to),
-            Packet::OutR1A3 { chain, window } => Writer::new(out, RECYCLE).version().chain(chain).window(*window),
+            Packet::OutR1A3 { chain, window } => {
+                Writer::new(out, RECYCLE).version().chain(chain).window(*window)
+            }
             Packet::OutR2C1 => Writer::new(out, PING).kind(7),
             Packet::OutR1A4 { chain, lifetime, window, timeout } => {
                 let opened = Writer::new(out, OUT_CHANNEL | RECYCLE).version().chain(chain);
                 opened.number(4, *lifetime).window(*window).timeout(*timeout)
             }
-            Packet::OutR1A5 { to, timeout } => Writer::new(out, OUT_CHANNEL).to(*to).version().timeout(*timeout),
-            Packet::OutR1A7 { to, successor } => Writer::new(out, OUT_CHANNEL).to(*to).cookie(successor),
+            Packet::OutR1A5 { to, timeout } => {
+                Writer::new(out, OUT_CHANNEL).to(*to).version().timeout(*timeout)
+            }
+            Packet::OutR1A7 { to, successor } => {
+                Writer::new(out, OUT_CHANNEL).to(*to).cookie(successor)
+            }
             Packet::OutR1A9 => Writer::new(out, 0).kind(10),
             Packet::End => Writer::new(out, EOF).kind(7),
             Packet::Ack(ack) => Writer::new(out, OTHER_CMD).ack(ack),

@@ -1,11 +1,11 @@
 //! The server.
 
 use crate::client::RecycleFault;
-use crate::intake::{GREETING, Stage};
+use crate::intake::{Stage, GREETING};
 use crate::leg::{Cause, Leg, LegKind};
-use crate::node::{Base, HeadOf, MOST_FORWARDED, Port, Role, State, merge};
+use crate::node::{merge, Base, HeadOf, Port, Role, State, MOST_FORWARDED};
 use crate::rts::{Ack, Chain, Cookie, Packet, TO_CLIENT, TO_OUT_PROXY, TO_SERVER};
-use crate::window::{Meter, Queue, RecvLine, Refused, Row, SendWindow, Take, agree, expect};
+use crate::window::{agree, expect, Meter, Queue, RecvLine, Refused, Row, SendWindow, Take};
 use std::collections::VecDeque;
 
 const MOST_LEGS: usize = 4;
@@ -119,7 +119,9 @@ impl Server {
         // The leg before stays: the first packet here names its cookie.
         let (current, before) = (self.line.current.number, self.ins.last().map(|leg| leg.port.leg));
         self.ins.retain(|leg| {
-            !leg.port.is_finished() || leg.port.leg.number >= current || Some(leg.port.leg) == before
+            !leg.port.is_finished()
+                || leg.port.leg.number >= current
+                || Some(leg.port.leg) == before
         });
         self.newest_in = number;
         self.ins.push(InLeg {
@@ -219,7 +221,8 @@ impl Server {
                 let follows = writing.checked_add(1) == Some(number);
                 expect(follows && self.replacement == Replacement::A1Put)?;
                 self.agree_connection(chain.connection)?;
-                let predecessor = self.out_leg(writing).and_then(|leg| leg.cookie).unwrap_or_default();
+                let predecessor =
+                    self.out_leg(writing).and_then(|leg| leg.cookie).unwrap_or_default();
                 agree(predecessor, chain.predecessor)?;
                 if let Some(leg) = self.out_leg(number) {
                     leg.cookie = Some(chain.successor);
@@ -259,7 +262,9 @@ impl Server {
                 self.open();
                 Ok(())
             }
-            Packet::InR1A2 { chain, window, timeout } => self.in_successor(number, chain, window, timeout),
+            Packet::InR1A2 { chain, window, timeout } => {
+                self.in_successor(number, chain, window, timeout)
+            }
             _ => Err(Refused::Unexpected),
         }
     }
@@ -291,7 +296,9 @@ impl Server {
             return;
         }
         let current = self.line.current.number;
-        let Some(leg) = self.ins.iter_mut().find(|leg| leg.port.leg.number > current) else { return };
+        let Some(leg) = self.ins.iter_mut().find(|leg| leg.port.leg.number > current) else {
+            return;
+        };
         let Some((window, timeout)) = leg.asked.take() else { return };
         leg.listed = true;
         let (number, ended) = (leg.port.leg.number, leg.ended);
@@ -321,7 +328,9 @@ impl Server {
             Packet::AckTo { to: TO_CLIENT, .. } => return self.forward_down(packet),
             Packet::AckTo { to: TO_OUT_PROXY, ack } => return self.forward_ack(ack),
             Packet::OutR1A7 { to: TO_SERVER, successor } => {
-                let Replacement::A5Put(expected) = self.replacement else { return Err(Refused::Unexpected) };
+                let Replacement::A5Put(expected) = self.replacement else {
+                    return Err(Refused::Unexpected);
+                };
                 agree(expected, successor)?;
                 self.replacement = Replacement::A9Due;
                 self.due_out(Packet::OutR1A9);
@@ -406,7 +415,9 @@ impl Server {
     }
 
     fn put_in(&mut self, number: u32, out: &mut Vec<u8>) -> bool {
-        let Some(leg) = self.ins.iter_mut().find(|leg| leg.port.leg.number == number) else { return false };
+        let Some(leg) = self.ins.iter_mut().find(|leg| leg.port.leg.number == number) else {
+            return false;
+        };
         if !leg.greeted {
             leg.greeted = true;
             out.extend_from_slice(GREETING);
@@ -461,7 +472,8 @@ impl Server {
         if !writes {
             return false;
         }
-        (0..self.out_line.len()).any(|place| self.put_line(place, out)) || (self.is_open() && self.put_pdu(out))
+        (0..self.out_line.len()).any(|place| self.put_line(place, out))
+            || (self.is_open() && self.put_pdu(out))
     }
 
     /// Puts a packet of the OUT line, where the writing channel's meter lets it pass.
@@ -505,7 +517,9 @@ impl Server {
     fn put_pdu(&mut self, out: &mut Vec<u8>) -> bool {
         let (writing, front) = (self.writing, self.queue.front_len());
         let ends = self.closing && self.queue.is_empty();
-        let Some(leg) = self.outs.iter_mut().find(|leg| leg.port.leg.number == writing) else { return false };
+        let Some(leg) = self.outs.iter_mut().find(|leg| leg.port.leg.number == writing) else {
+            return false;
+        };
         if let Some(len) = front.filter(|&len| leg.window.may_send(len) && leg.meter.may_put(len)) {
             leg.window.sent(len);
             leg.meter.put(len);
@@ -547,7 +561,12 @@ impl Role for Server {
     }
 
     fn ports(&mut self) -> Box<dyn Iterator<Item = &mut Port> + '_> {
-        Box::new(self.outs.iter_mut().map(|leg| &mut leg.port).chain(self.ins.iter_mut().map(|leg| &mut leg.port)))
+        Box::new(
+            self.outs
+                .iter_mut()
+                .map(|leg| &mut leg.port)
+                .chain(self.ins.iter_mut().map(|leg| &mut leg.port)),
+        )
     }
 
     fn hears_up(&self, _: Leg) -> bool {
@@ -591,7 +610,10 @@ impl Role for Server {
 
     fn pdu(&mut self, leg: Leg, pdu: &[u8], _: bool) -> Row {
         let own = self.ins.iter().find(|own| own.port.leg == leg);
-        expect(self.is_open() && own.is_some_and(|own| own.opened.is_some() && !own.a6_came && !own.ended))?;
+        expect(
+            self.is_open()
+                && own.is_some_and(|own| own.opened.is_some() && !own.a6_came && !own.ended),
+        )?;
         self.line.channel(leg.number).ok_or(Refused::Unexpected)?.admit(pdu)
     }
 

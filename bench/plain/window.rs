@@ -54,12 +54,20 @@ pub type Row = Result<(), Refused>;
 
 /// A row's condition.
 pub fn expect(condition: bool) -> Row {
-    if condition { Ok(()) } else { Err(Refused::Unexpected) }
+    if condition {
+        Ok(())
+    } else {
+        Err(Refused::Unexpected)
+    }
 }
 
 /// A row's cookie condition.
 pub fn agree(expected: Cookie, got: Cookie) -> Row {
-    if expected == got { Ok(()) } else { Err(Refused::Cookie { expected, got }) }
+    if expected == got {
+        Ok(())
+    } else {
+        Err(Refused::Cookie { expected, got })
+    }
 }
 
 /// What a channel may still carry.
@@ -105,7 +113,15 @@ impl Channel {
     fn new(number: u32, size: u32, shut: bool) -> Channel {
         let size = u64::from(size);
         let told = if shut { 0 } else { size };
-        Channel { number, list: VecDeque::new(), ended: false, size, received: 0, released: 0, told }
+        Channel {
+            number,
+            list: VecDeque::new(),
+            ended: false,
+            size,
+            received: 0,
+            released: 0,
+            told,
+        }
     }
 
     pub fn is_empty(&self) -> bool {
@@ -164,7 +180,13 @@ pub struct RecvLine {
 
 impl RecvLine {
     pub fn new(number: u32, size: u32) -> RecvLine {
-        RecvLine { size, current: Channel::new(number, size, false), next: None, finished: false, over: false }
+        RecvLine {
+            size,
+            current: Channel::new(number, size, false),
+            next: None,
+            finished: false,
+            over: false,
+        }
     }
 
     pub fn channel(&mut self, number: u32) -> Option<&mut Channel> {

@@ -209,8 +209,12 @@ impl World {
     pub fn give(&mut self, side: Side, pdu: &[u8], report: &mut Report) {
         let state = self.state(side);
         let (closing, queue, count) = match side {
-            Side::Client => (self.nodes.client.is_closing(), self.nodes.client.queue(), &mut self.up),
-            Side::Server => (self.nodes.server.is_closing(), self.nodes.server.queue(), &mut self.down),
+            Side::Client => {
+                (self.nodes.client.is_closing(), self.nodes.client.queue(), &mut self.up)
+            }
+            Side::Server => {
+                (self.nodes.server.is_closing(), self.nodes.server.queue(), &mut self.down)
+            }
         };
         let answer = if let State::Closed(cause) = state {
             Err(GiveFault::Closed(cause))
@@ -286,7 +290,14 @@ impl World {
     }
 
     /// Feeds up to `most` bytes; answers how many, and reports them unless there are none in settling.
-    fn feed(&mut self, place: usize, dir: Dir, most: usize, settling: bool, report: &mut Report) -> usize {
+    fn feed(
+        &mut self,
+        place: usize,
+        dir: Dir,
+        most: usize,
+        settling: bool,
+        report: &mut Report,
+    ) -> usize {
         let link = &mut self.links[place];
         let leg = link.leg;
         let (_, receiver) = link.ends(dir);
@@ -320,7 +331,9 @@ impl World {
         let (near, mut far) = self.ends_of(leg);
         if same {
             let before = (leg.number as usize).checked_sub(2);
-            let Some(&reader) = before.and_then(|before| self.readers.get(before)) else { return false };
+            let Some(&reader) = before.and_then(|before| self.readers.get(before)) else {
+                return false;
+            };
             far = Who::In(reader);
         }
         if !self.nodes.wants(near, leg) {
@@ -339,7 +352,8 @@ impl World {
         }
         self.tell_up(near, leg);
         self.tell_up(far, leg);
-        self.links.insert(place, Link { leg, near, far, up: VecDeque::new(), down: VecDeque::new() });
+        self.links
+            .insert(place, Link { leg, near, far, up: VecDeque::new(), down: VecDeque::new() });
         true
     }
 
@@ -347,12 +361,18 @@ impl World {
         let Config { iwin, owin, olife, itime, otime, .. } = self.config;
         match who {
             Who::In(number) => {
-                let config = inproxy::Config { number, window: iwin, timeout: itime, address: CLIENT_ADDRESS };
+                let config = inproxy::Config {
+                    number,
+                    window: iwin,
+                    timeout: itime,
+                    address: CLIENT_ADDRESS,
+                };
                 self.nodes.ins.resize_with(number as usize - 1, || None);
                 self.nodes.ins.push(Some(Box::new(InProxy::new(config, self.now))));
             }
             Who::Out(number) => {
-                let config = outproxy::Config { number, window: owin, lifetime: olife, timeout: otime };
+                let config =
+                    outproxy::Config { number, window: owin, lifetime: olife, timeout: otime };
                 self.nodes.outs.push(Some(Box::new(OutProxy::new(config, self.now))));
             }
             _ => {}
@@ -602,11 +622,27 @@ impl World {
     pub fn last(&self, report: &mut Report) {
         report.line(format_args!("up given {} taken {}", self.up.given, self.up.taken));
         report.line(format_args!("down given {} taken {}", self.down.given, self.down.taken));
-        self.last_state("client", self.nodes.client.base().state, self.nodes.client.channels(), report);
-        self.last_state("server", self.nodes.server.base().state, self.nodes.server.channels(), report);
+        self.last_state(
+            "client",
+            self.nodes.client.base().state,
+            self.nodes.client.channels(),
+            report,
+        );
+        self.last_state(
+            "server",
+            self.nodes.server.base().state,
+            self.nodes.server.channels(),
+            report,
+        );
     }
 
-    fn last_state(&self, end: &str, state: State, (inbound, outbound): (u32, u32), report: &mut Report) {
+    fn last_state(
+        &self,
+        end: &str,
+        state: State,
+        (inbound, outbound): (u32, u32),
+        report: &mut Report,
+    ) {
         let word = match state {
             State::Opening => "opening",
             State::Open => "open",
