@@ -13,6 +13,7 @@ const UNTOLD_TIMEOUT: u32 = 120_000;
 /// The unfinished legs of a kind while which no successor is wanted.
 const MOST_LEGS: usize = 2;
 
+#[derive(Clone, Copy)]
 pub struct Config {
     pub connection: Cookie,
     pub group: Cookie,
@@ -116,47 +117,45 @@ impl Client {
 
     pub fn up(&mut self, leg: Leg, cookie: Cookie) {
         let port = Port::new(leg, Stage::Response, self.base.now);
-        let connection = self.config.connection;
-        let mut opening = VecDeque::from([Opening::Head]);
-        if leg.kind == LegKind::ClientOut {
-            let window = self.config.window;
-            if leg.number == 1 {
-                opening.push_back(Opening::Packet(Packet::ConnA1 { connection, cookie, window }));
-            } else {
-                let chain = Chain {
-                    connection,
-                    predecessor: self.out_cookie(leg.number - 1),
-                    successor: cookie,
-                };
-                opening.push_back(Opening::Packet(Packet::OutR1A3 { chain, window }));
-                opening.push_back(Opening::Packet(Packet::OutR2C1));
-                self.line.open_next(leg.number, false);
-            }
-            self.newest_out = leg.number;
-            self.outs.retain(|out| !out.port.lost);
-            self.outs.push(OutLeg { port, cookie, opening, timeout: None, ended: false });
-            return;
+        match leg.kind {
+            LegKind::ClientOut => self.up_out(port, cookie),
+            _ => self.up_in(port, cookie),
         }
-        let Config { lifetime, keepalive, group, .. } = self.config;
-        opening.push_back(Opening::Packet(
-            match self.ins.iter().find(|leg| leg.port.leg.number == self.writing) {
-                Some(writing) => Packet::InR1A1(Chain {
-                    connection,
-                    predecessor: writing.cookie,
-                    successor: cookie,
-                }),
-                None => Packet::ConnB1 { connection, cookie, lifetime, keepalive, group },
-            },
-        ));
-        self.newest_in = leg.number;
-        let meter = Meter::new(lifetime, 0);
-        let window = SendWindow::default();
+    }
+
+    fn up_out(&mut self, port: Port, cookie: Cookie) {
+        let (number, Config { connection, window, .. }) = (port.leg.number, self.config);
+        let mut opening = VecDeque::from([Opening::Head]);
+        if number == 1 {
+            opening.push_back(Opening::Packet(Packet::ConnA1 { connection, cookie, window }));
+        } else {
+            let predecessor = self.out_cookie(number - 1);
+            let chain = Chain { connection, predecessor, successor: cookie };
+            opening.push_back(Opening::Packet(Packet::OutR1A3 { chain, window }));
+            opening.push_back(Opening::Packet(Packet::OutR2C1));
+            self.line.open_next(number, false);
+        }
+        self.newest_out = number;
+        self.outs.retain(|out| !out.port.lost);
+        self.outs.push(OutLeg { port, cookie, opening, timeout: None, ended: false });
+    }
+
+    fn up_in(&mut self, port: Port, cookie: Cookie) {
+        let Config { connection, lifetime, keepalive, group, .. } = self.config;
+        let predecessor = self.ins.iter().find(|leg| leg.port.leg.number == self.writing);
+        let packet = match predecessor.map(|leg| leg.cookie) {
+            None => Packet::ConnB1 { connection, cookie, lifetime, keepalive, group },
+            Some(predecessor) => {
+                Packet::InR1A1(Chain { connection, predecessor, successor: cookie })
+            }
+        };
+        self.newest_in = port.leg.number;
         let mut leg = InLeg {
             port,
             cookie,
-            opening,
-            window,
-            meter,
+            opening: VecDeque::from([Opening::Head, Opening::Packet(packet)]),
+            window: SendWindow::default(),
+            meter: Meter::new(lifetime, 0),
             told_window: 0,
             timeout: None,
             end_put: false,
@@ -231,7 +230,7 @@ impl Client {
         Ok(())
     }
 
-    /// The leg whose handing over is at the stage where its first packet was put and no answer came.
+    /// The IN successor, where its first packet was put and not answered yet.
     fn in_successor(&mut self) -> Option<&mut InLeg> {
         let UnderWay::In { to, answered: false } = self.under_way else { return None };
         self.in_leg(to).filter(|leg| leg.opening.is_empty())
@@ -298,6 +297,43 @@ impl Client {
         }
         self.base.state = State::Open;
         Ok(())
+    }
+
+    fn put_out(&mut self, number: u32, out: &mut Vec<u8>) -> bool {
+        let opening = self.out_leg(number).and_then(|leg| leg.opening.pop_front());
+        match opening {
+            None => return false,
+            Some(Opening::Packet(packet)) => packet.write(out),
+            Some(Opening::Head) if number == 1 => http::write_out_request(out, http::OUT_LENGTH),
+            Some(Opening::Head) => http::write_out_request(out, http::OUT_SUCCESSOR_LENGTH),
+        }
+        true
+    }
+
+    fn put_opening(&mut self, number: u32, out: &mut Vec<u8>) -> bool {
+        let lifetime = self.config.lifetime;
+        let Some(leg) = self.in_leg(number) else { return false };
+        match leg.opening.pop_front() {
+            None => return false,
+            Some(Opening::Head) => http::write_in_request(out, lifetime),
+            Some(Opening::Packet(packet)) => {
+                packet.write(out);
+                leg.meter.put(out.len());
+            }
+        }
+        true
+    }
+
+    fn put_ping(&mut self, number: u32, out: &mut Vec<u8>) -> bool {
+        let Some(leg) = self.in_leg(number).filter(|leg| leg.port.ping) else { return false };
+        Packet::Ping.write(out);
+        if !leg.meter.may_put(out.len()) {
+            out.clear();
+            return false;
+        }
+        leg.meter.put(out.len());
+        leg.port.ping = false;
+        true
     }
 
     /// Puts a packet that is due on the writing channel and that its meter lets pass.
@@ -376,7 +412,8 @@ impl Client {
         false
     }
 
-    /// Looks whether this is the clean end, whether a meter wishes for a replacement, and which one is under way.
+    /// Looks whether this is the clean end, whether a meter wishes for a replacement, and which one
+    /// is under way.
     fn moved(&mut self) {
         if matches!(self.under_way, UnderWay::Out { to, .. } if to == self.line.current.number) {
             self.under_way = UnderWay::None;
@@ -540,49 +577,17 @@ impl Role for Client {
 
     fn put(&mut self, leg: Leg, out: &mut Vec<u8>) -> bool {
         if leg.kind == LegKind::ClientOut {
-            let length =
-                if leg.number == 1 { http::OUT_LENGTH } else { http::OUT_SUCCESSOR_LENGTH };
-            let opening = self.out_leg(leg.number).and_then(|leg| leg.opening.pop_front());
-            match opening {
-                Some(Opening::Head) => http::write_out_request(out, length),
-                Some(Opening::Packet(packet)) => packet.write(out),
-                None => {}
-            }
-            return opening.is_some();
+            return self.put_out(leg.number, out);
         }
-        let lifetime = self.config.lifetime;
-        let Some(own) = self.in_leg(leg.number) else { return false };
-        match own.opening.pop_front() {
-            Some(Opening::Head) => {
-                http::write_in_request(out, lifetime);
-                return true;
-            }
-            Some(Opening::Packet(packet)) => {
-                packet.write(out);
-                own.meter.put(out.len());
-                return true;
-            }
-            None => {}
+        if self.put_opening(leg.number, out) {
+            return true;
         }
-        if leg.number == self.writing && self.is_open() {
-            for place in 0..self.due.len() {
-                if self.put_due(place, out) {
-                    return true;
-                }
-            }
-            if self.put_ack(out) || self.put_pdu(out) {
-                return true;
-            }
-        }
-        let Some(own) = self.in_leg(leg.number).filter(|own| own.port.ping) else { return false };
-        Packet::Ping.write(out);
-        if !own.meter.may_put(out.len()) {
-            out.clear();
-            return false;
-        }
-        own.meter.put(out.len());
-        own.port.ping = false;
-        true
+        let writes = leg.number == self.writing && self.is_open();
+        let put = writes
+            && ((0..self.due.len()).any(|place| self.put_due(place, out))
+                || self.put_ack(out)
+                || self.put_pdu(out));
+        put || self.put_ping(leg.number, out)
     }
 
     fn after(&mut self) {

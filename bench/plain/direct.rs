@@ -8,7 +8,7 @@ use crate::report::{GiveFault, Report};
 use crate::window::Queue;
 use std::collections::VecDeque;
 
-/// One direction: the queue of the end that gives, the bytes in flight, the PDUs that weren't taken.
+/// One direction: the queue of the end that gives, the bytes in flight, the PDUs not taken yet.
 #[derive(Default)]
 struct Half {
     queue: Queue,

@@ -40,8 +40,9 @@ pub fn write_out_request(out: &mut Vec<u8>, length: u32) {
 
 fn write_request(out: &mut Vec<u8>, method: &str, length: u32) {
     let head = format!(
-        "{method} /rpc/rpcproxy.dll?server:593 HTTP/1.1\r\nAccept: application/rpc\r\nUser-Agent: MSRPC\r\n\
-         Host: proxy\r\nContent-Length: {length}\r\nConnection: Keep-Alive\r\nCache-Control: no-cache\r\n\
+        "{method} /rpc/rpcproxy.dll?server:593 HTTP/1.1\r\nAccept: application/rpc\r\n\
+         User-Agent: MSRPC\r\nHost: proxy\r\nContent-Length: {length}\r\n\
+         Connection: Keep-Alive\r\nCache-Control: no-cache\r\n\
          Pragma: no-cache\r\n\r\n"
     );
     out.extend_from_slice(head.as_bytes());

@@ -260,7 +260,8 @@ impl InProxy {
         }
     }
 
-    /// Whether the newest client leg was ended behind its END/A1 and nothing is left to put on the server leg.
+    /// Whether the newest client leg was ended behind its END/A1 and nothing is left to put on the
+    /// server leg.
     fn is_over(&self) -> bool {
         let Some(newest) = self.ins.last().filter(|leg| leg.port.leg.number == self.newest) else {
             return false;

@@ -23,7 +23,7 @@ pub struct Intake {
     stage: Stage,
     /// All bytes that came.
     fed: u64,
-    /// Those of an unfinished head, greeting or frame, or of the frame that was given last where `whole`.
+    /// Those of an unfinished head, greeting or frame; where `whole`, of the frame given last.
     held: Vec<u8>,
     whole: bool,
     /// How long the unfinished frame is, where that is known.

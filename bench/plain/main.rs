@@ -1,4 +1,4 @@
-//! RPC over HTTP version 2, replayed without proofs: a plain program to measure the proved one against.
+//! RPC over HTTP version 2, replayed without proofs: a program to measure the proved one against.
 //!
 //!     rustc -O --edition 2021 bench/plain/main.rs
 //!

@@ -126,7 +126,7 @@ pub trait Role {
     fn ports(&mut self) -> Box<dyn Iterator<Item = &mut Port> + '_>;
     fn wants(&self, leg: Leg) -> bool;
     fn may_up(&self, leg: Leg) -> bool;
-    /// The rows of a head, a packet and a PDU. `first` tells whether it is the first one of the leg.
+    /// The rows of a head, a packet and a PDU. `first`: it is the first one of the leg.
     fn head(&mut self, leg: Leg, head: HeadOf) -> Result<(), Cause>;
     fn packet(&mut self, leg: Leg, packet: Packet, first: bool) -> Row;
     fn pdu(&mut self, leg: Leg, pdu: &[u8], first: bool) -> Row;
@@ -233,7 +233,7 @@ pub trait Role {
         } else {
             let up = self.hears_up(leg);
             match rts::read(bytes, leg.kind, up) {
-                // On the pipes towards the client a head or a greeting stands before a Ping already.
+                // Towards the client a head or a greeting stands before a Ping already.
                 Ok(Packet::Ping) if !first || !up => return Ok(false),
                 Ok(Packet::Ping) => Err(Refused::Unexpected),
                 Ok(packet) => self.packet(leg, packet, first),
@@ -337,7 +337,7 @@ pub trait Role {
     }
 }
 
-/// Pushes a packet that is to be forwarded on `leg` behind those that wait there, of which `pending` count.
+/// Pushes a packet that is to be forwarded on `leg` behind those that wait there.
 pub fn forward(waiting: &mut VecDeque<Packet>, packet: Packet, leg: Leg) -> Row {
     if let Packet::AckTo { to, ack } = packet {
         for waits in waiting.iter_mut() {
@@ -360,7 +360,7 @@ fn is_forwarded(packet: &Packet) -> bool {
     !matches!(packet, Packet::InR2A2 { .. })
 }
 
-/// Merges an acknowledgement with a packet that waits, where they have the same destination and cookie.
+/// Merges an acknowledgement with a packet that waits, where destination and cookie are the same.
 pub fn merge(waits: &mut Packet, to: u32, newer: &rts::Ack) -> bool {
     match waits {
         Packet::AckTo { to: older_to, ack } if *older_to == to && ack.cookie == newer.cookie => {

@@ -1,4 +1,4 @@
-//! RPC PDUs: the common header of connection-oriented RPC (C706 chapter 12) and which PDUs an end may give.
+//! RPC PDUs: the common header of connection-oriented RPC (C706 chapter 12), and what an end gives.
 
 use std::fmt;
 

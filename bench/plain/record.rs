@@ -117,8 +117,8 @@ fn set<'a>(key: &'a [u8], value: &[u8]) -> Option<Line<'a>> {
     fits.then_some(Line::Set { key, value })
 }
 
-/// Reads a line behind the first one, or None where it is outside the grammar. The digits of a give are left to
-/// the caller.
+/// Reads a line behind the first one, or None where it is outside the grammar. The digits of a give
+/// are left to the caller.
 fn read_line(text: &[u8], roles: bool) -> Option<Line<'_>> {
     if let Some(rest) = text.strip_prefix(b"give ") {
         let (end, hex) = rest.split_at_checked(2)?;

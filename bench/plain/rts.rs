@@ -1,4 +1,4 @@
-//! RTS packets (MS-RPCH 2.2.3 and 2.2.4): their bytes, and the named packets that the four roles exchange.
+//! RTS packets (MS-RPCH 2.2.3 and 2.2.4): their bytes, and the named packets of the four roles.
 
 use crate::leg::LegKind;
 use std::fmt;
@@ -97,7 +97,7 @@ impl Ack {
 /// What the signature of a packet in the table of names can have at most, and one more.
 const MOST_COMMANDS: usize = 8;
 
-/// A packet's flags and its commands without Padding; `count` goes on counting where there is no room.
+/// A packet's flags and its commands without Padding; `count` goes on where there is no room.
 struct View {
     flags: u16,
     commands: [Command; MOST_COMMANDS],
@@ -152,6 +152,35 @@ fn view(bytes: &[u8]) -> Result<View, RtsFault> {
 
 /// The command that begins at a place, None for Padding, and its length.
 fn command_at(bytes: &[u8], place: usize) -> Result<(Option<Command>, usize), RtsFault> {
+    let len = command_len(bytes, place)?;
+    let number = || u32_at(bytes, place + 4);
+    let cookie = || cookie_at(bytes, place + 4);
+    let command = match u32_at(bytes, place) {
+        0 => Command::Window(number()),
+        1 => Command::Ack(Ack {
+            received: number(),
+            window: u32_at(bytes, place + 8),
+            cookie: cookie_at(bytes, place + 12),
+        }),
+        2 => Command::Timeout(number()),
+        3 => Command::Cookie(cookie()),
+        4 => Command::Lifetime(number()),
+        5 => Command::Keepalive(number()),
+        6 => Command::Version(number()),
+        7 => Command::Empty,
+        8 => return Ok((None, len)),
+        9 => Command::NegativeAnce,
+        10 => Command::Ance,
+        11 => Command::Address,
+        12 => Command::Group(cookie()),
+        13 => Command::Destination(number()),
+        _ => Command::PingTraffic(number()),
+    };
+    Ok((Some(command), len))
+}
+
+/// The length of the command that begins at a place, where all of it is there and in order.
+fn command_len(bytes: &[u8], place: usize) -> Result<usize, RtsFault> {
     let left = bytes.len() - place;
     if left < 4 {
         return fault(RtsKind::CutShort, place);
@@ -178,30 +207,10 @@ fn command_at(bytes: &[u8], place: usize) -> Result<(Option<Command>, usize), Rt
         _ => fixed,
     };
     if left < len {
-        return fault(RtsKind::CutShort, place);
+        fault(RtsKind::CutShort, place)
+    } else {
+        Ok(len)
     }
-    let command = match kind {
-        0 => Command::Window(number),
-        1 => Command::Ack(Ack {
-            received: number,
-            window: u32_at(bytes, place + 8),
-            cookie: cookie_at(bytes, place + 12),
-        }),
-        2 => Command::Timeout(number),
-        3 => Command::Cookie(cookie_at(bytes, place + 4)),
-        4 => Command::Lifetime(number),
-        5 => Command::Keepalive(number),
-        6 => Command::Version(number),
-        7 => Command::Empty,
-        8 => return Ok((None, len)),
-        9 => Command::NegativeAnce,
-        10 => Command::Ance,
-        11 => Command::Address,
-        12 => Command::Group(cookie_at(bytes, place + 4)),
-        13 => Command::Destination(number),
-        _ => Command::PingTraffic(number),
-    };
-    Ok((Some(command), len))
 }
 
 /// The named packets. A packet that is forwarded under another name has one variant for both.
@@ -319,6 +328,12 @@ pub struct Chain {
     pub successor: Cookie,
 }
 
+impl Chain {
+    fn of(connection: Cookie, predecessor: Cookie, successor: Cookie) -> Chain {
+        Chain { connection, predecessor, successor }
+    }
+}
+
 pub const TO_CLIENT: u32 = 0;
 pub const TO_SERVER: u32 = 2;
 pub const TO_OUT_PROXY: u32 = 3;
@@ -373,10 +388,9 @@ fn on_co_up(flags: u16, commands: &[Command]) -> Option<Packet> {
         (0, &[Version(_), Cookie(connection), Cookie(cookie), Window(window)]) => {
             Packet::ConnA1 { connection, cookie, window }
         }
-        (
-            RECYCLE,
-            &[Version(_), Cookie(connection), Cookie(predecessor), Cookie(successor), Window(window)],
-        ) => Packet::OutR1A3 { chain: Chain { connection, predecessor, successor }, window },
+        (RECYCLE, &[Version(_), Cookie(a), Cookie(b), Cookie(c), Window(window)]) => {
+            Packet::OutR1A3 { chain: Chain::of(a, b, c), window }
+        }
         (PING, [Empty]) => Packet::OutR2C1,
         _ => return None,
     })
@@ -392,10 +406,10 @@ fn on_os_up(flags: u16, commands: &[Command]) -> Option<Packet> {
         ) => Packet::ConnA2 { connection, cookie, lifetime, window },
         (
             R1,
-            &[Version(_), Cookie(a), Cookie(b), Cookie(c), Lifetime(lifetime), Window(window), Timeout(timeout)],
+            &[Version(_), Cookie(a), Cookie(b), Cookie(c), Lifetime(n), Window(w), Timeout(t)],
         ) => {
-            let chain = Chain { connection: a, predecessor: b, successor: c };
-            Packet::OutR1A4 { chain, lifetime, window, timeout }
+            let chain = Chain::of(a, b, c);
+            Packet::OutR1A4 { chain, lifetime: n, window: w, timeout: t }
         }
         (OTHER_CMD, &[Command::Ack(ack)]) => Packet::Ack(ack),
         (OTHER_CMD, [PingTraffic(_)]) => Packet::PingTraffic,
@@ -429,12 +443,11 @@ fn on_out_down(flags: u16, commands: &[Command], near: bool) -> Option<Packet> {
 fn on_ci_up(flags: u16, commands: &[Command]) -> Option<Packet> {
     use Command::*;
     Some(match (flags, commands) {
-        (
-            0,
-            &[Version(_), Cookie(connection), Cookie(cookie), Lifetime(lifetime), Keepalive(keepalive), Group(group)],
-        ) => Packet::ConnB1 { connection, cookie, lifetime, keepalive, group },
-        (RECYCLE, &[Version(_), Cookie(connection), Cookie(predecessor), Cookie(successor)]) => {
-            Packet::InR1A1(Chain { connection, predecessor, successor })
+        (0, &[Version(_), Cookie(a), Cookie(b), Lifetime(n), Keepalive(time), Group(group)]) => {
+            Packet::ConnB1 { connection: a, cookie: b, lifetime: n, keepalive: time, group }
+        }
+        (RECYCLE, &[Version(_), Cookie(a), Cookie(b), Cookie(c)]) => {
+            Packet::InR1A1(Chain::of(a, b, c))
         }
         (OTHER_CMD, &[Keepalive(keepalive)]) => Packet::KeepAlive(keepalive),
         _ => return on_in_up(flags, commands),
@@ -447,11 +460,12 @@ fn on_is_up(flags: u16, commands: &[Command]) -> Option<Packet> {
     Some(match (flags, commands) {
         (
             IN_CHANNEL,
-            &[Version(_), Cookie(connection), Cookie(cookie), Window(window), Timeout(timeout), Group(group), Address],
-        ) => Packet::ConnB2 { connection, cookie, window, timeout, group, address: [0; 4] },
+            &[Version(_), Cookie(a), Cookie(b), Window(window), Timeout(n), Group(group), Address],
+        ) => {
+            Packet::ConnB2 { connection: a, cookie: b, window, timeout: n, group, address: [0; 4] }
+        }
         (R1, &[Version(_), Cookie(a), Cookie(b), Cookie(c), Window(window), Timeout(timeout)]) => {
-            let chain = Chain { connection: a, predecessor: b, successor: c };
-            Packet::InR1A2 { chain, window, timeout }
+            Packet::InR1A2 { chain: Chain::of(a, b, c), window, timeout }
         }
         (R1, &[Cookie(successor)]) => Packet::InR2A2 { successor },
         _ => return on_in_up(flags, commands),

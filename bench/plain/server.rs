@@ -25,7 +25,7 @@ pub struct Server {
     newest_out: u32,
     connection: Option<Cookie>,
     writing: u32,
-    /// What waits for the writing OUT channel, each with its place in the order in which packets became due.
+    /// What waits for the writing OUT channel, each with its place in the order of becoming due.
     out_line: VecDeque<(u64, Packet)>,
     order: u64,
     replacement: Replacement,

@@ -169,7 +169,8 @@ pub enum Take {
     Ended,
 }
 
-/// The current channel and the next one: the next gives nothing before the current one is finished and empty.
+/// The current channel and the next one, which gives nothing before the current one is finished
+/// and empty.
 pub struct RecvLine {
     size: u32,
     pub current: Channel,

@@ -238,7 +238,8 @@ impl World {
         }
     }
 
-    /// Takes at an end. In settling only a PDU and the first Ended are reported; answers whether one was.
+    /// Takes at an end. In settling only a PDU and the first Ended are reported; answers whether
+    /// one was.
     fn take(&mut self, side: Side, settling: bool, report: &mut Report) -> bool {
         let letter = side.letter();
         if let State::Closed(cause) = self.state(side) {
@@ -289,7 +290,7 @@ impl World {
         Some(node.map_or(0, |node| node.draw(leg, count, link.flight(dir))))
     }
 
-    /// Feeds up to `most` bytes; answers how many, and reports them unless there are none in settling.
+    /// Feeds up to `most` bytes, and answers how many. In settling none are not reported.
     fn feed(
         &mut self,
         place: usize,
