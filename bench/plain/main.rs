@@ -19,6 +19,8 @@ mod record;
 mod report;
 mod rts;
 mod server;
+#[cfg(test)]
+mod tests;
 mod window;
 mod world;
 
