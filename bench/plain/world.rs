@@ -13,7 +13,7 @@ use crate::report::{GiveFault, Report};
 use crate::rts::Cookie;
 use crate::server::Server;
 use crate::window::Take;
-use std::collections::VecDeque;
+use std::collections::{BTreeMap, VecDeque};
 
 /// What one draw and one move of a settling round carry at most.
 const PIECE: usize = 65_536;
@@ -97,17 +97,26 @@ impl Link {
 struct Nodes {
     client: Client,
     server: Server,
-    ins: Vec<Option<Box<InProxy>>>,
-    outs: Vec<Option<Box<OutProxy>>>,
+    ins: BTreeMap<u32, Box<InProxy>>,
+    outs: BTreeMap<u32, Box<OutProxy>>,
 }
 
 impl Nodes {
     fn in_proxy(&mut self, number: u32) -> Option<&mut InProxy> {
-        self.ins.get_mut(number as usize - 1)?.as_deref_mut()
+        self.ins.get_mut(&number).map(Box::as_mut)
     }
 
     fn out_proxy(&mut self, number: u32) -> Option<&mut OutProxy> {
-        self.outs.get_mut(number as usize - 1)?.as_deref_mut()
+        self.outs.get_mut(&number).map(Box::as_mut)
+    }
+
+    /// The proxy of a kind with the next number.
+    fn next_in(&self, after: u32) -> Option<u32> {
+        self.ins.range(after + 1..).next().map(|(&number, _)| number)
+    }
+
+    fn next_out(&self, after: u32) -> Option<u32> {
+        self.outs.range(after + 1..).next().map(|(&number, _)| number)
     }
 
     fn get(&mut self, who: Who) -> Option<&mut dyn Role> {
@@ -168,7 +177,7 @@ impl World {
         let server = Server::new(config.swin);
         World {
             config,
-            nodes: Nodes { client, server, ins: Vec::new(), outs: Vec::new() },
+            nodes: Nodes { client, server, ins: BTreeMap::new(), outs: BTreeMap::new() },
             links: Vec::new(),
             readers: Vec::new(),
             now: 0,
@@ -368,13 +377,12 @@ impl World {
                     timeout: itime,
                     address: CLIENT_ADDRESS,
                 };
-                self.nodes.ins.resize_with(number as usize - 1, || None);
-                self.nodes.ins.push(Some(Box::new(InProxy::new(config, self.now))));
+                self.nodes.ins.insert(number, Box::new(InProxy::new(config, self.now)));
             }
             Who::Out(number) => {
                 let config =
                     outproxy::Config { number, window: owin, lifetime: olife, timeout: otime };
-                self.nodes.outs.push(Some(Box::new(OutProxy::new(config, self.now))));
+                self.nodes.outs.insert(number, Box::new(OutProxy::new(config, self.now)));
             }
             _ => {}
         }
@@ -409,8 +417,8 @@ impl World {
                 continue;
             }
             match who {
-                Who::In(number) => self.nodes.ins[number as usize - 1] = None,
-                Who::Out(number) => self.nodes.outs[number as usize - 1] = None,
+                Who::In(number) => drop(self.nodes.ins.remove(&number)),
+                Who::Out(number) => drop(self.nodes.outs.remove(&number)),
                 _ => {}
             }
         }
@@ -459,11 +467,15 @@ impl World {
         self.now = now;
         self.act(Who::Client, |node| node.tick(now));
         self.act(Who::Server, |node| node.tick(now));
-        for number in 1..=self.nodes.ins.len() as u32 {
+        let mut last = 0;
+        while let Some(number) = self.nodes.next_in(last) {
             self.act(Who::In(number), |node| node.tick(now));
+            last = number;
         }
-        for number in 1..=self.nodes.outs.len() as u32 {
+        last = 0;
+        while let Some(number) = self.nodes.next_out(last) {
             self.act(Who::Out(number), |node| node.tick(now));
+            last = number;
         }
         true
     }
@@ -506,14 +518,20 @@ impl World {
         if let Some(leg) = out {
             any |= self.open_reported(leg, report);
         }
-        for number in 1..=self.nodes.outs.len() as u32 {
-            any |= self.open_wanted(Who::Out(number), Leg::new(LegKind::OutServer, number), report);
+        let mut last = 0;
+        while let Some(number) = self.nodes.next_out(last) {
+            let leg = Leg::new(LegKind::OutServer, number);
+            any |= self.open_wanted(Who::Out(number), leg, report);
+            last = number;
         }
         if let Some(leg) = inbound {
             any |= self.open_reported(leg, report);
         }
-        for number in 1..=self.nodes.ins.len() as u32 {
-            any |= self.open_wanted(Who::In(number), Leg::new(LegKind::InServer, number), report);
+        last = 0;
+        while let Some(number) = self.nodes.next_in(last) {
+            let leg = Leg::new(LegKind::InServer, number);
+            any |= self.open_wanted(Who::In(number), leg, report);
+            last = number;
         }
         any
     }
