@@ -8,13 +8,14 @@ short that the meters ask for one replacement after the other. `pieces` moves mo
 of up to 64, and asks for replacements by `recycle`. Both have random PDUs of 24 to 8,192 bytes.
 `make` is the word with 10,000 PDUs; a program that lacks it is named.
 
-The last column is the ratio of the seconds of the processor, the program's to the other's. The
-target is at most 1.5 in each case.
+The ratio is that of the seconds of the processor, the program's to the other's. The target is at
+most 1.5 in each case.
 """
 import argparse
 import functools
 import pathlib
 import random
+import shutil
 import subprocess
 import sys
 import tempfile
@@ -111,6 +112,8 @@ CASES = (
 
 def build_plain(folder):
     """Builds bench/plain; answers where it is."""
+    if not shutil.which("rustc"):
+        sys.exit("no rustc on the PATH: it builds bench/plain; name another program by --against")
     program = folder / "plain"
     source = TOP / "bench" / "plain" / "main.rs"
     subprocess.run(["rustc", "-O", "--edition", "2021", "-o", program, source], check=True)
