@@ -5,7 +5,7 @@ use crate::intake::Stage;
 use crate::leg::{Cause, Leg, LegKind};
 use crate::node::{Base, HeadOf, Port, Role, State};
 use crate::rts::{Chain, Cookie, Packet, TO_CLIENT, TO_OUT_PROXY, TO_SERVER};
-use crate::window::{expect, Meter, Queue, RecvLine, Refused, Row, SendWindow, Take};
+use crate::window::{expect, Giving, Keeps, Meter, Queue, RecvLine, Refused, Row, Take};
 use std::collections::VecDeque;
 
 /// Half of this is the time after which a Ping becomes due where no timeout was told.
@@ -26,7 +26,6 @@ pub struct Client {
     base: Base,
     config: Config,
     queue: Queue,
-    closing: bool,
     line: RecvLine,
     outs: Vec<OutLeg>,
     ins: Vec<InLeg>,
@@ -54,11 +53,9 @@ struct InLeg {
     port: Port,
     cookie: Cookie,
     opening: VecDeque<Opening>,
-    window: SendWindow,
-    meter: Meter,
+    giving: Giving,
     told_window: u32,
     timeout: Option<u32>,
-    end_put: bool,
 }
 
 #[derive(Clone, Copy)]
@@ -102,7 +99,6 @@ impl Client {
             line: RecvLine::new(1, config.window),
             config,
             queue: Queue::default(),
-            closing: false,
             outs: Vec::new(),
             ins: Vec::new(),
             newest_out: 0,
@@ -154,11 +150,9 @@ impl Client {
             port,
             cookie,
             opening: VecDeque::from([Opening::Head, Opening::Packet(packet)]),
-            window: SendWindow::default(),
-            meter: Meter::new(lifetime, 0),
+            giving: Giving::new(Meter::new(lifetime, 0)),
             told_window: 0,
             timeout: None,
-            end_put: false,
         };
         if let Some((window, timeout)) = self.first_in.take() {
             leg.tell(window, timeout);
@@ -202,12 +196,8 @@ impl Client {
         taken
     }
 
-    pub fn is_closing(&self) -> bool {
-        self.closing
-    }
-
     pub fn close_giving(&mut self) {
-        self.closing = true;
+        self.queue.close();
         self.after();
     }
 
@@ -238,7 +228,7 @@ impl Client {
 
     fn answer_in(&mut self, window: u32, timeout: Option<u32>) -> Row {
         let leg = self.in_successor().ok_or(Refused::Unexpected)?;
-        leg.window.set_edge(window);
+        leg.giving.window.set_edge(window);
         leg.told_window = window;
         leg.timeout = timeout;
         let successor = leg.cookie;
@@ -318,7 +308,7 @@ impl Client {
             Some(Opening::Head) => http::write_in_request(out, lifetime),
             Some(Opening::Packet(packet)) => {
                 packet.write(out);
-                leg.meter.put(out.len());
+                leg.giving.meter.put(out.len());
             }
         }
         true
@@ -327,13 +317,8 @@ impl Client {
     fn put_ping(&mut self, number: u32, out: &mut Vec<u8>) -> bool {
         let Some(leg) = self.in_leg(number).filter(|leg| leg.port.ping) else { return false };
         Packet::Ping.write(out);
-        if !leg.meter.may_put(out.len()) {
-            out.clear();
-            return false;
-        }
-        leg.meter.put(out.len());
-        leg.port.ping = false;
-        true
+        leg.port.ping = !leg.giving.meter.lets(Keeps::Reserve, out);
+        !leg.port.ping
     }
 
     /// Puts a packet that is due on the writing channel and that its meter lets pass.
@@ -341,11 +326,10 @@ impl Client {
         let writing = self.writing;
         let packet = self.due[place];
         packet.write(out);
-        let Some(leg) = self.in_leg(writing).filter(|leg| leg.meter.fits(out.len())) else {
-            out.clear();
+        let Some(leg) = self.in_leg(writing) else { return false };
+        if !leg.giving.meter.lets(Keeps::Nothing, out) {
             return false;
-        };
-        leg.meter.put(out.len());
+        }
         match packet {
             Packet::InR1A5 { .. } => {
                 leg.port.done = true;
@@ -374,42 +358,20 @@ impl Client {
             let Some(ack) = channel.due(cookie) else { continue };
             Packet::AckTo { to: TO_OUT_PROXY, ack }.write(out);
             let writing = self.writing;
-            let Some(leg) = self.in_leg(writing).filter(|leg| leg.meter.may_put(out.len())) else {
-                out.clear();
-                return false;
-            };
-            leg.meter.put(out.len());
-            if let Some(channel) = self.line.channel(number) {
+            let leg = self.ins.iter_mut().find(|leg| leg.port.leg.number == writing);
+            let put = leg.is_some_and(|leg| leg.giving.meter.lets(Keeps::Reserve, out));
+            if put {
                 channel.acknowledged(&ack);
             }
-            return true;
+            return put;
         }
         false
     }
 
-    /// Puts the front PDU, or END behind the last one.
     fn put_pdu(&mut self, out: &mut Vec<u8>) -> bool {
-        let (writing, front) = (self.writing, self.queue.front_len());
-        let ends = self.closing && self.queue.is_empty();
-        let Some(leg) = self.ins.iter_mut().find(|leg| leg.port.leg.number == writing) else {
-            return false;
-        };
-        if let Some(len) = front.filter(|&len| leg.window.may_send(len) && leg.meter.may_put(len)) {
-            leg.window.sent(len);
-            leg.meter.put(len);
-            *out = self.queue.pop().unwrap_or_default();
-            return true;
-        }
-        if ends && !leg.end_put {
-            Packet::End.write(out);
-            if leg.meter.fits(out.len()) {
-                leg.meter.put(out.len());
-                leg.end_put = true;
-                return true;
-            }
-            out.clear();
-        }
-        false
+        let writing = self.writing;
+        let leg = self.ins.iter_mut().find(|leg| leg.port.leg.number == writing);
+        leg.is_some_and(|leg| self.queue.put(&mut leg.giving, out))
     }
 
     /// Looks whether this is the clean end, whether a meter wishes for a replacement, and which one
@@ -421,8 +383,8 @@ impl Client {
         let Some(leg) = self.ins.iter().find(|leg| leg.port.leg.number == self.writing) else {
             return;
         };
-        let both_ended = leg.end_put && self.line.current.ended;
-        if self.closing && both_ended && self.under_way == UnderWay::None {
+        let both_ended = leg.giving.end_put && self.line.current.ended;
+        if self.queue.is_closing() && both_ended && self.under_way == UnderWay::None {
             self.waiting.clear();
             self.due.clear();
             self.end();
@@ -430,7 +392,7 @@ impl Client {
         }
         let has_wish =
             matches!(self.under_way, UnderWay::In { .. }) || self.waiting.contains(&Wish::In);
-        if leg.meter.wanted() && !has_wish && self.writing < u32::MAX {
+        if leg.giving.meter.wanted() && !has_wish && self.writing < u32::MAX {
             self.waiting.push_back(Wish::In);
         }
         if self.under_way == UnderWay::None {
@@ -449,7 +411,7 @@ impl Client {
 
 impl InLeg {
     fn tell(&mut self, window: u32, timeout: u32) {
-        self.window.set_edge(window);
+        self.giving.window.set_edge(window);
         self.told_window = window;
         self.timeout = Some(timeout);
     }
@@ -539,7 +501,7 @@ impl Role for Client {
                 expect(self.is_open())?;
                 let mut legs = self.ins.iter_mut().filter(|leg| !leg.port.is_finished());
                 legs.find(|leg| leg.cookie == ack.cookie)
-                    .map_or(Ok(()), |leg| leg.window.acked(&ack))
+                    .map_or(Ok(()), |leg| leg.giving.window.acked(&ack))
             }
             Packet::InR1A3 { to: TO_CLIENT, window, timeout } => {
                 self.answer_in(window, Some(timeout))

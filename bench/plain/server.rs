@@ -5,7 +5,7 @@ use crate::intake::{Stage, GREETING};
 use crate::leg::{Cause, Leg, LegKind};
 use crate::node::{merge, Base, HeadOf, Port, Role, State, MOST_FORWARDED};
 use crate::rts::{Ack, Chain, Cookie, Packet, TO_CLIENT, TO_OUT_PROXY, TO_SERVER};
-use crate::window::{agree, expect, Meter, Queue, RecvLine, Refused, Row, SendWindow, Take};
+use crate::window::{agree, expect, Giving, Keeps, Meter, Queue, RecvLine, Refused, Row, Take};
 use std::collections::VecDeque;
 
 const MOST_LEGS: usize = 4;
@@ -16,7 +16,6 @@ pub struct Server {
     base: Base,
     window: u32,
     queue: Queue,
-    closing: bool,
     /// The lists of the current IN leg and the next one.
     line: RecvLine,
     ins: Vec<InLeg>,
@@ -54,11 +53,9 @@ struct OutLeg {
     port: Port,
     cookie: Option<Cookie>,
     greeted: bool,
-    window: SendWindow,
-    meter: Meter,
+    giving: Giving,
     /// AckTo 3 for this leg's out proxy.
     acks: VecDeque<(u64, Packet)>,
-    end_put: bool,
     a9_put: bool,
 }
 
@@ -82,7 +79,6 @@ impl Server {
             base: Base::new(),
             window,
             queue: Queue::default(),
-            closing: false,
             line: RecvLine::new(1, window),
             ins: Vec::new(),
             outs: Vec::new(),
@@ -108,10 +104,8 @@ impl Server {
                 port,
                 cookie: None,
                 greeted: false,
-                window: SendWindow::default(),
-                meter: Meter::new(0, 0),
+                giving: Giving::new(Meter::new(0, 0)),
                 acks: VecDeque::new(),
-                end_put: false,
                 a9_put: false,
             });
             return;
@@ -163,12 +157,8 @@ impl Server {
         taken
     }
 
-    pub fn is_closing(&self) -> bool {
-        self.closing
-    }
-
     pub fn close_giving(&mut self) {
-        self.closing = true;
+        self.queue.close();
         self.after();
     }
 
@@ -210,8 +200,8 @@ impl Server {
                 self.agree_connection(connection)?;
                 if let Some(leg) = self.out_leg(1) {
                     leg.cookie = Some(cookie);
-                    leg.meter = Meter::new(lifetime, FIRST_START);
-                    leg.window.set_edge(window);
+                    leg.giving.meter = Meter::new(lifetime, FIRST_START);
+                    leg.giving.window.set_edge(window);
                 }
                 self.open();
                 Ok(())
@@ -226,8 +216,8 @@ impl Server {
                 agree(predecessor, chain.predecessor)?;
                 if let Some(leg) = self.out_leg(number) {
                     leg.cookie = Some(chain.successor);
-                    leg.meter = Meter::new(lifetime, 0);
-                    leg.window.set_edge(window);
+                    leg.giving.meter = Meter::new(lifetime, 0);
+                    leg.giving.window.set_edge(window);
                 }
                 self.replacement = Replacement::A5Due(chain.successor);
                 self.due_out(Packet::OutR1A5 { to: TO_CLIENT, timeout });
@@ -481,13 +471,14 @@ impl Server {
         let writing = self.writing;
         let (_, packet) = self.out_line[place];
         packet.write(out);
-        let by_rest = !matches!(packet, Packet::AckTo { .. } | Packet::ConnC { .. });
-        let lets = |meter: &Meter, len| if by_rest { meter.fits(len) } else { meter.may_put(len) };
-        let Some(leg) = self.out_leg(writing).filter(|leg| lets(&leg.meter, out.len())) else {
-            out.clear();
-            return false;
+        let keeps = match packet {
+            Packet::AckTo { .. } | Packet::ConnC { .. } => Keeps::Reserve,
+            _ => Keeps::Nothing,
         };
-        leg.meter.put(out.len());
+        let Some(leg) = self.out_leg(writing) else { return false };
+        if !leg.giving.meter.lets(keeps, out) {
+            return false;
+        }
         leg.a9_put |= matches!(packet, Packet::OutR1A9);
         self.out_line.remove(place);
         match packet {
@@ -513,33 +504,14 @@ impl Server {
         true
     }
 
-    /// Puts the front PDU, or END behind the last one.
     fn put_pdu(&mut self, out: &mut Vec<u8>) -> bool {
-        let (writing, front) = (self.writing, self.queue.front_len());
-        let ends = self.closing && self.queue.is_empty();
-        let Some(leg) = self.outs.iter_mut().find(|leg| leg.port.leg.number == writing) else {
-            return false;
-        };
-        if let Some(len) = front.filter(|&len| leg.window.may_send(len) && leg.meter.may_put(len)) {
-            leg.window.sent(len);
-            leg.meter.put(len);
-            *out = self.queue.pop().unwrap_or_default();
-            return true;
-        }
-        if ends && !leg.end_put {
-            Packet::End.write(out);
-            if leg.meter.fits(out.len()) {
-                leg.meter.put(out.len());
-                leg.end_put = true;
-                return true;
-            }
-            out.clear();
-        }
-        false
+        let writing = self.writing;
+        let leg = self.outs.iter_mut().find(|leg| leg.port.leg.number == writing);
+        leg.is_some_and(|leg| self.queue.put(&mut leg.giving, out))
     }
 
     fn end_was_put(&self) -> bool {
-        self.outs.iter().any(|leg| leg.port.leg.number == self.writing && leg.end_put)
+        self.outs.iter().any(|leg| leg.port.leg.number == self.writing && leg.giving.end_put)
     }
 }
 
@@ -598,7 +570,7 @@ impl Role for Server {
                 Packet::Ack(ack) => {
                     let own = self.out_leg(leg.number).ok_or(Refused::Unexpected)?;
                     agree(own.cookie.unwrap_or_default(), ack.cookie)?;
-                    own.window.acked(&ack)
+                    own.giving.window.acked(&ack)
                 }
                 Packet::PingTraffic => Ok(()),
                 _ => Err(Refused::Unexpected),
@@ -633,7 +605,8 @@ impl Role for Server {
             return;
         }
         let mut legs = self.outs.iter();
-        let wanted = legs.any(|leg| leg.port.leg.number == self.writing && leg.meter.wanted());
+        let wanted =
+            legs.any(|leg| leg.port.leg.number == self.writing && leg.giving.meter.wanted());
         if wanted && self.replacement == Replacement::None && self.writing < u32::MAX {
             self.wish();
         }

@@ -1,4 +1,5 @@
-//! Bytes that no honest role puts, each case whole and byte by byte, and what a refused request is told.
+//! Bytes that no honest role puts, each case whole and byte by byte, and what a refused request is
+//! told.
 //!
 //!     rustc --test --edition 2021 -o tests bench/plain/main.rs && ./tests
 
@@ -170,7 +171,8 @@ fn cause(node: &dyn Role) -> String {
     }
 }
 
-/// Feeds the bytes whole and byte by byte, to a node of each; both are to close with the cause, and to stay so.
+/// Feeds the bytes whole to one node and byte by byte to another: each is to close with the cause,
+/// and to stay closed.
 fn refuses<R: Role>(make: fn() -> R, leg: Leg, bytes: &[u8], want: &str) {
     for size in [bytes.len(), 1] {
         let mut node = make();

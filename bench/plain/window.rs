@@ -1,6 +1,6 @@
 //! Windows of RPC bytes, lifetimes, and the lists of PDUs of a channel's receiver.
 
-use crate::rts::{Ack, Cookie};
+use crate::rts::{Ack, Cookie, Packet};
 use std::collections::VecDeque;
 
 const GREATEST_WINDOW: u32 = 262_144;
@@ -70,6 +70,13 @@ pub fn agree(expected: Cookie, got: Cookie) -> Row {
     }
 }
 
+/// Whether a packet leaves the end of a lifetime to those that hand over.
+#[derive(Clone, Copy)]
+pub enum Keeps {
+    Reserve,
+    Nothing,
+}
+
 /// What a channel may still carry.
 pub struct Meter {
     length: u64,
@@ -95,6 +102,20 @@ impl Meter {
 
     pub fn wanted(&self) -> bool {
         self.count + 65_536 >= self.length
+    }
+
+    /// Counts a packet that was written, where it may go: within the lifetime, or with the bytes
+    /// left that are kept for the packets that hand over. Else takes it back.
+    pub fn lets(&mut self, keeps: Keeps, out: &mut Vec<u8>) -> bool {
+        let lets = match keeps {
+            Keeps::Reserve => self.may_put(out.len()),
+            Keeps::Nothing => self.fits(out.len()),
+        };
+        match lets {
+            true => self.put(out.len()),
+            false => out.clear(),
+        }
+        lets
     }
 }
 
@@ -249,6 +270,7 @@ impl RecvLine {
 pub struct Queue {
     list: VecDeque<Vec<u8>>,
     held: usize,
+    closing: bool,
 }
 
 impl Queue {
@@ -266,17 +288,48 @@ impl Queue {
         fits
     }
 
-    pub fn front_len(&self) -> Option<usize> {
-        self.list.front().map(Vec::len)
-    }
-
     pub fn pop(&mut self) -> Option<Vec<u8>> {
         let pdu = self.list.pop_front()?;
         self.held -= pdu.len();
         Some(pdu)
     }
 
-    pub fn is_empty(&self) -> bool {
-        self.list.is_empty()
+    /// No PDU will be given any more.
+    pub fn close(&mut self) {
+        self.closing = true;
+    }
+
+    pub fn is_closing(&self) -> bool {
+        self.closing
+    }
+
+    /// Puts the front PDU on the writing channel, or END behind the last one.
+    pub fn put(&mut self, to: &mut Giving, out: &mut Vec<u8>) -> bool {
+        let front = self.list.front().map(Vec::len);
+        if let Some(len) = front.filter(|&len| to.window.may_send(len) && to.meter.may_put(len)) {
+            to.window.sent(len);
+            to.meter.put(len);
+            *out = self.pop().unwrap_or_default();
+            return true;
+        }
+        if front.is_some() || !self.closing || to.end_put {
+            return false;
+        }
+        Packet::End.write(out);
+        to.end_put = to.meter.lets(Keeps::Nothing, out);
+        to.end_put
+    }
+}
+
+/// A channel at the end that gives on it.
+pub struct Giving {
+    pub window: SendWindow,
+    pub meter: Meter,
+    pub end_put: bool,
+}
+
+impl Giving {
+    pub fn new(meter: Meter) -> Giving {
+        Giving { window: SendWindow::default(), meter, end_put: false }
     }
 }

@@ -217,17 +217,13 @@ impl World {
 
     pub fn give(&mut self, side: Side, pdu: &[u8], report: &mut Report) {
         let state = self.state(side);
-        let (closing, queue, count) = match side {
-            Side::Client => {
-                (self.nodes.client.is_closing(), self.nodes.client.queue(), &mut self.up)
-            }
-            Side::Server => {
-                (self.nodes.server.is_closing(), self.nodes.server.queue(), &mut self.down)
-            }
+        let (queue, count) = match side {
+            Side::Client => (self.nodes.client.queue(), &mut self.up),
+            Side::Server => (self.nodes.server.queue(), &mut self.down),
         };
         let answer = if let State::Closed(cause) = state {
             Err(GiveFault::Closed(cause))
-        } else if closing {
+        } else if queue.is_closing() {
             Err(GiveFault::Closing)
         } else if let Err(fault) = pdu::check(pdu) {
             Err(GiveFault::Bad(fault))
