@@ -1,5 +1,5 @@
 -- the numbers of a world are in the ranges of what is made by them
-use Rattle.std.proofs.Common.{◌≡◌, ℕ, ◌≤◌, IsTrue, arith}
+use Rattle.std.proofs.Common.{ℕ, ◌≤◌, IsTrue, arith}
 use Rattle.std.proofs.lemmas.Bool.Decides.{nat_tests}
 use Rattle.rh_record.specs.Words.{within}
 use Rattle.rh_sig.specs.Values.{IsTimeout}

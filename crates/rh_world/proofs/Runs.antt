@@ -1,5 +1,5 @@
 -- what whole recordings carry, direction by direction
-use Rattle.std.proofs.Common.{◌≡◌, ℕ, zero, suc, List, [], ◌∷◌, ◌++◌, take, length, map}
+use Rattle.std.proofs.Common.{◌≡◌, ℕ, zero, suc, List, [], ◌∷◌, ◌++◌, take, length}
 use Rattle.std.proofs.Common.{Some, None, Ok, Err, inl, inr, ◌⊎◌, sym, ◌∙◌, ap, refl, append_assoc, subst}
 use Rattle.std.proofs.lemmas.List.{append-nil, map-append}
 use Rattle.std.specs.declared.option.Option.{Option}

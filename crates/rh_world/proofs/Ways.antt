@@ -2,7 +2,7 @@
 use Rattle.std.proofs.Common.{◌≡◌, ℕ, ◌+◌, ◌-◌, ◌≤◌, List, [], ◌∷◌, ◌++◌, take, drop, length, min, Ok, None, false, nat_lt}
 use Rattle.std.proofs.Common.{arith, sym, ◌∙◌, ap, refl, append_assoc}
 use Rattle.std.proofs.lemmas.Bool.Decides.{nat_tests}
-use Rattle.std.proofs.lemmas.List.{append-nil, take-append-drop, length-append, length-take-le, drop_all, length_push}
+use Rattle.std.proofs.lemmas.List.{append-nil, take-append-drop, length-append, length_push}
 use Rattle.std.specs.List.{concat}
 use Rattle.rh_pdu.specs.Checking.{pdu_fault}
 use Rattle.rh_pdu.specs.Frames.{IsFrame, IsBad}

@@ -3,6 +3,7 @@ use Rattle.std.specs.Prelude.{ℕ, ◌+◌, List, [], ◌∷◌, ◌++◌, Bool,
 use Rattle.rh_record.specs.declared.answer.Answer.{Answer}
 use Rattle.rh_record.specs.declared.line.Line.{Line}
 use Rattle.rh_record.specs.declared.line.Line.TheVariants.{First, Set}
+use Rattle.rh_nodes.specs.declared.half.Half.{Half}
 use Rattle.rh_world.specs.declared.any_world.AnyWorld.{AnyWorld}
 use Rattle.rh_world.specs.declared.any_world.AnyWorld.TheVariants.{Before, Direct, Settings, Roles}
 use Rattle.rh_world.specs.declared.config.WorldConfig.{WorldConfig}
@@ -62,6 +63,19 @@ round world = (world, [])
 abbrev pub end_line : AnyWorld → AnyWorld × List Answer
 end_line (Roles world) = as_roles (roles.tell_closed world)
 end_line world = (world, [])
+
+-- ---- half steps
+
+abbrev pub halved : roles.World × Bool → AnyWorld × Bool
+halved did = (Roles did.0, did.1)
+
+-- only in a world of roles is a node told something by itself
+abbrev pub half_at : AnyWorld → Half → AnyWorld × Bool
+half_at (Roles world) one = halved (roles.half world one)
+half_at world one = (world, false)
+
+abbrev pub half : AnyWorld → Half → AnyWorld × Bool
+half world one = half_at (begun world) one
 
 -- ---- reports
 

@@ -1,5 +1,5 @@
 -- the numbers of a world (profile)
-use Rattle.std.specs.Prelude.{ℕ, Bool, true, false, IsTrue, if◌then◌else◌, ◌==◌}
+use Rattle.std.specs.Prelude.{ℕ, true, false, IsTrue, if◌then◌else◌, ◌==◌}
 use Rattle.rh_record.specs.declared.line.Key.{Key}
 use Rattle.rh_record.specs.declared.line.Key.TheVariants.{Cwin, Iwin, Owin, Swin, Ilife, Olife, Itime, Otime, Keep, Same}
 use Rattle.rh_record.specs.Words.{takes}

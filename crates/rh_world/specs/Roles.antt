@@ -1,5 +1,5 @@
 -- the world of the real roles (profile)
-use Rattle.std.specs.Prelude.{ℕ, List, [], ◌∷◌}
+use Rattle.std.specs.Prelude.{ℕ, List, [], ◌∷◌, Bool}
 use Rattle.rh_record.specs.declared.answer.Answer.{Answer}
 use Rattle.rh_record.specs.declared.line.Line.{Line}
 use Rattle.rh_rts.specs.declared.command.Cookie.{Cookie}
@@ -20,6 +20,8 @@ use Rattle.rh_outproxy.specs.Machine as out_proxies
 use Rattle.rh_nodes.specs.Company.{Rulebook, rules_of}
 use Rattle.rh_nodes.specs.Giving.{Deeds, deeds_of}
 use Rattle.rh_nodes.specs.Opening.{Makers, makers_of}
+use Rattle.rh_nodes.specs.declared.half.Half.{Half}
+use Rattle.rh_nodes.specs.Halves as halves
 use Rattle.rh_nodes.specs.Settling as settling
 use Rattle.rh_nodes.specs.Steps as steps
 use Rattle.rh_nodes.specs.World as nodes
@@ -98,6 +100,10 @@ round world = settling.round rules makers deeds world
 
 abbrev pub tell_closed : World → World × List Answer
 tell_closed world = steps.tell_closed world
+
+-- one node alone is told something, or may not be told it
+abbrev pub half : World → Half → World × Bool
+half world one = halves.half rules makers world one
 
 abbrev pub last : World → List Answer
 last world = steps.last rules deeds world

@@ -7,6 +7,7 @@ use crate::config::WorldConfig;
 use crate::roles::Roles;
 use crate::roles_world::RolesWorld;
 use crate::world::World;
+use rh_nodes::Half;
 use rh_record::{Line, Report};
 use std::alloc::{AllocError, Global};
 
@@ -23,6 +24,7 @@ pub enum AnyWorld {
 
 impl AnyWorld {
     ghost use Rattle.rh_world.specs.declared.world.TheConstants.{MOST_PDUS};
+    ghost use Rattle.rh_record.specs.declared.line.Line.TheVariants.{Settle};
     ghost use Rattle.rh_world.specs.Any as seen;
 
     /// A world of roles that has had all its settings.
@@ -74,11 +76,11 @@ impl AnyWorld {
         }
     }
 
-    /// Makes ready for a settling that is done a round at a time, and answers whether this world
-    /// settles: one of roles does.
+    /// Makes the nodes of a world of roles, where no more settings come, and answers whether it is
+    /// one: only such a world settles.
     ///
     /// Fails where there is no memory.
-    pub fn begin_settling(&mut self, alloc: Global) -> Result<bool, AllocError>
+    pub fn begin(&mut self, alloc: Global) -> Result<bool, AllocError>
         ensures world { OnOk result (self.new ≡ seen.begun self.old) }
         ensures answer { IfOk result (λ settles. settles ≡ seen.settles self.old) }
     {
@@ -102,6 +104,38 @@ impl AnyWorld {
         }
     }
 
+    /// Does up to so many rounds of settling, and adds what they do and what stands behind them to
+    /// the report, as a line says it. A direct world doesn't settle.
+    ///
+    /// Fails where there is no memory.
+    pub fn settle(
+        &mut self,
+        alloc: Global,
+        rounds: u32,
+        report: &mut Report,
+    ) -> Result<(), AllocError>
+        requires { seen.given self.old < MOST_PDUS }
+        ensures world { OnOk result (self.new ≡ (seen.step self.old (Settle rounds)).0) }
+        ensures report { OnOk result
+            (report.new ≡ report.old ++ (seen.step self.old (Settle rounds)).1) }
+    {
+        self.step(alloc, &Line::Settle { rounds }, report)
+    }
+
+    /// Tells one node alone something, and answers true; answers false where that node may not be
+    /// told it, and in a direct world: then nothing changes but that the nodes were made.
+    ///
+    /// Fails where there is no memory.
+    pub fn half(&mut self, alloc: Global, half: &Half) -> Result<bool, AllocError>
+        ensures { IfOk result (λ told. (self.new, told) ≡ seen.half self.old half.now) }
+    {
+        self.begin(alloc)?;
+        match self {
+            AnyWorld::Roles(world) => world.half(alloc, half),
+            _ => Ok(false),
+        }
+    }
+
     /// Adds what stands behind a line's own answers: which nodes closed.
     ///
     /// Fails where there is no memory.
@@ -121,7 +155,7 @@ impl AnyWorld {
     pub fn last(&mut self, alloc: Global, report: &mut Report) -> Result<(), AllocError>
         ensures { Writes (seen.last self.old) result report.old report.new }
     {
-        self.begin_settling(alloc)?;
+        self.begin(alloc)?;
         match self {
             AnyWorld::Before | AnyWorld::Settings(_) => Ok(()),
             AnyWorld::Direct(world) => world.last(report),

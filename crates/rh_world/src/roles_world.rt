@@ -6,7 +6,7 @@ ghost use Rattle.rh_nodes.specs.Reports.{Tells};
 ghost use Rattle.rh_world.specs.Roles as seen;
 
 use crate::roles::Roles;
-use rh_nodes::Nodes;
+use rh_nodes::{Half, Nodes};
 use rh_record::{Line, Report};
 use std::alloc::{AllocError, Global};
 use std::marker::Model;
@@ -69,6 +69,16 @@ impl RolesWorld {
         ensures { Tells (seen.tell_closed self.old) result self.new report.old report.new }
     {
         self.nodes.tell_closed(report)
+    }
+
+    /// Tells one node alone something, and answers true; answers false, and changes nothing, where
+    /// that node may not be told it. No line of a report tells of a node that this closes.
+    ///
+    /// Fails where there is no memory.
+    pub fn half(&mut self, alloc: Global, half: &Half) -> Result<bool, AllocError>
+        ensures { IfOk result (λ told. (self.new, told) ≡ seen.half self.old half.now) }
+    {
+        self.nodes.half(alloc, half)
     }
 
     /// Adds the last lines of a report.

@@ -1,5 +1,5 @@
 -- the room is full of what is drawn
-use Rattle.std.proofs.Common.{◌≡◌, ◌++◌, ◌+◌, ◌≤◌, List, ℕ, [], take, drop, length, arith, ap, ◌∙◌, sym}
+use Rattle.std.proofs.Common.{◌≡◌, ◌++◌, List, ℕ, [], take, drop, length, arith, ap, ◌∙◌}
 use Rattle.std.proofs.lemmas.List.{append-nil, drop_all, length-take-le}
 use Rattle.std.specs.List.{concat}
 use Rattle.rh_world.proofs.Rings.{filled}

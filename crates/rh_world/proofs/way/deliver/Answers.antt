@@ -1,5 +1,5 @@
 -- each frame that was answered is the first of those left
-use Rattle.std.proofs.Common.{◌≡◌, ℕ, ◌++◌, ◌∷◌, [], List, drop, length, arith, sym, ap, ◌∙◌, append_assoc, refl}
+use Rattle.std.proofs.Common.{◌≡◌, ℕ, ◌++◌, ◌∷◌, [], List, drop, length, arith, sym, ap, ◌∙◌, append_assoc}
 use Rattle.rh_pdu.specs.Cut.{frames_of}
 use Rattle.rh_pdu.proofs.Pdus.{frame_bounds}
 use Rattle.rh_world.proofs.Frames.{frame_taken}

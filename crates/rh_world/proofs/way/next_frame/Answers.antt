@@ -1,6 +1,5 @@
 -- what the framer answered, in the words of all bytes
-use Rattle.std.proofs.Common.{◌++◌, take, drop, sym, ap, ◌∙◌, append_assoc, subst}
-use Rattle.std.proofs.lemmas.List.{take-append-drop}
+use Rattle.std.proofs.Common.{sym, subst}
 use Rattle.rh_pdu.specs.Frames.{IsBad}
 use Rattle.rh_pdu.proofs.Fed.{none_taken, fault_taken}
 use Rattle.rh_world.proofs.Frames.{frame_in_front}

@@ -1,8 +1,8 @@
 -- what is drawn stays on its way
-use Rattle.std.proofs.Common.{◌≡◌, ℕ, ◌+◌, ◌-◌, ◌≤◌, List, ◌++◌, take, drop, length, min, arith, refl, sym, ap, ◌∙◌, subst}
+use Rattle.std.proofs.Common.{◌≡◌, ℕ, ◌+◌, ◌-◌, List, ◌++◌, take, drop, length, min, arith, refl, sym, ap, ◌∙◌, subst}
 use Rattle.std.specs.List.{concat}
 use Rattle.rh_line.specs.Queue.{total, untouched}
-use Rattle.rh_world.specs.Carrying.{IsCarrying, way_with}
+use Rattle.rh_world.specs.Carrying.{way_with}
 use Rattle.rh_world.specs.Direct.{Way, send}
 use Rattle.rh_world.proofs.Ways.{length-undrawn, drawn_carried, send_done}
 use Rattle.rh_world.proofs.way.Way.send.Goals as goal
