@@ -5,3 +5,4 @@ mod Frames
 pub mod Ways
 pub mod Runs
 pub mod Either
+pub mod Settling
