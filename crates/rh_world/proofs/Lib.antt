@@ -1,6 +1,8 @@
 pub mod Rings
 pub mod PieceLaws
+pub mod Ranges
 mod Frames
 pub mod Ways
 pub mod Runs
 pub mod Either
+pub mod Settling

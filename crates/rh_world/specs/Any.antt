@@ -1,5 +1,5 @@
 -- the world of a recording of either form (profile)
-use Rattle.std.specs.Prelude.{ℕ, ◌+◌, List, [], ◌∷◌, ◌++◌, true, false}
+use Rattle.std.specs.Prelude.{ℕ, ◌+◌, List, [], ◌∷◌, ◌++◌, Bool, true, false}
 use Rattle.rh_record.specs.declared.answer.Answer.{Answer}
 use Rattle.rh_record.specs.declared.line.Line.{Line}
 use Rattle.rh_record.specs.declared.line.Line.TheVariants.{First, Set}
@@ -37,6 +37,33 @@ act world line = (world, [])
 
 abbrev pub step : AnyWorld → Line → AnyWorld × List Answer
 step world line = act (prepared world line) line
+
+-- ---- a settling, a round at a time
+
+-- the world that a line is done to which is no first line and no setting
+abbrev pub begun : AnyWorld → AnyWorld
+begun Before = Before
+begun (Direct world) = Direct world
+begun (Settings config) = of_roles config
+begun (Roles world) = Roles world
+
+-- a world of roles settles
+abbrev pub settles : AnyWorld → Bool
+settles Before = false
+settles (Direct world) = false
+settles (Settings config) = true
+settles (Roles world) = true
+
+abbrev pub round : AnyWorld → AnyWorld × List Answer
+round (Roles world) = as_roles (roles.round world)
+round world = (world, [])
+
+-- what is told behind a line's own answers
+abbrev pub end_line : AnyWorld → AnyWorld × List Answer
+end_line (Roles world) = as_roles (roles.tell_closed world)
+end_line world = (world, [])
+
+-- ---- reports
 
 -- the last lines of a report
 abbrev pub last : AnyWorld → List Answer

@@ -17,10 +17,10 @@ pub record AreInRange (config : WorldConfig) : Type 0 where
   pub otime : IsTrue (takes Otime config.otime)
   pub keep : IsTrue (takes Keep config.keep)
 
--- a world of roles where no line sets a number
-abbrev pub roles_config : WorldConfig
-roles_config = record {
-  direct = false;
+-- a direct world, and the numbers that stand where no line sets them
+abbrev pub direct_config : WorldConfig
+direct_config = record {
+  direct = true;
   cwin = 65536;
   iwin = 65536;
   owin = 65536;
@@ -32,6 +32,10 @@ roles_config = record {
   keep = 300000;
   same = false;
 }
+
+-- a world of roles, and the same numbers
+abbrev pub roles_config : WorldConfig
+roles_config = record direct_config { direct = false }
 
 -- the number of a key is this value
 abbrev pub setting : WorldConfig → Key → ℕ → WorldConfig

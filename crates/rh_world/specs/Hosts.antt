@@ -1,5 +1,5 @@
 -- the hosts of a world of roles (profile)
-use Rattle.std.proofs.Common.{ℕ, ◌-◌, ◌≤◌, List, ◌++◌, length, replicate, refl, arith}
+use Rattle.std.proofs.Common.{ℕ, ◌-◌, List, ◌++◌, length, replicate, refl, lit≤}
 use Rattle.std.specs.Prelude.{codes}
 use Rattle.rh_http.specs.declared.host.Host.{Host}
 use Rattle.rh_http.specs.Hosts.{IsHost, greatest_host}
@@ -10,16 +10,10 @@ padded text = text ++ replicate (greatest_host - length text) 0
 
 -- the server, and the proxy of the client
 pub server_is_host : IsHost (codes "server")
-server_is_host =
-    let some : 1 ≤ 6 = omega arith in
-    let most : 6 ≤ 255 = omega arith in
-    record { some = some; most = most; characters = refl }
+server_is_host = record { some = lit≤ tt; most = lit≤ tt; characters = refl }
 
 pub proxy_is_host : IsHost (codes "proxy")
-proxy_is_host =
-    let some : 1 ≤ 5 = omega arith in
-    let most : 5 ≤ 255 = omega arith in
-    record { some = some; most = most; characters = refl }
+proxy_is_host = record { some = lit≤ tt; most = lit≤ tt; characters = refl }
 
 abbrev pub server_host : Host
 server_host = record {

@@ -20,6 +20,7 @@ use Rattle.rh_outproxy.specs.Machine as out_proxies
 use Rattle.rh_nodes.specs.Company.{Rulebook, rules_of}
 use Rattle.rh_nodes.specs.Giving.{Deeds, deeds_of}
 use Rattle.rh_nodes.specs.Opening.{Makers, makers_of}
+use Rattle.rh_nodes.specs.Settling as settling
 use Rattle.rh_nodes.specs.Steps as steps
 use Rattle.rh_nodes.specs.World as nodes
 use Rattle.rh_world.specs.declared.config.WorldConfig.{WorldConfig}
@@ -90,6 +91,13 @@ begun config = nodes.started client server config 0 config.same
 
 abbrev pub step : Line → World → World × List Answer
 step line world = steps.step rules makers deeds line world
+
+-- a round of settling, and what is told of the nodes that closed
+abbrev pub round : World → World × List Answer
+round world = settling.round rules makers deeds world
+
+abbrev pub tell_closed : World → World × List Answer
+tell_closed world = steps.tell_closed world
 
 abbrev pub last : World → List Answer
 last world = steps.last rules deeds world

@@ -5,8 +5,8 @@ ghost use Rattle.rh_text.specs.Writing.{Writes};
 
 use crate::config::WorldConfig;
 use crate::roles::Roles;
+use crate::roles_world::RolesWorld;
 use crate::world::World;
-use rh_nodes::Nodes;
 use rh_record::{Line, Report};
 use std::alloc::{AllocError, Global};
 
@@ -18,7 +18,7 @@ pub enum AnyWorld {
     Direct(World),
     /// A world of roles, made of these where no more settings come.
     Settings(Roles),
-    Roles(Nodes<Roles>),
+    Roles(RolesWorld),
 }
 
 impl AnyWorld {
@@ -29,9 +29,7 @@ impl AnyWorld {
     fn of_roles(alloc: Global, roles: &Roles) -> Result<AnyWorld, AllocError>
         ensures { IfOk result (λ world. world ≡ seen.of_roles roles.now) }
     {
-        let config = roles.config();
-        let nodes = Nodes::new(alloc, Roles::new(config), 0, config.same)?;
-        Ok(AnyWorld::Roles(nodes))
+        Ok(AnyWorld::Roles(RolesWorld::new(alloc, roles)?))
     }
 
     /// A first line, a setting, and the first line that is no setting make the world other than it
@@ -72,7 +70,48 @@ impl AnyWorld {
         match self {
             AnyWorld::Before | AnyWorld::Settings(_) => Ok(()),
             AnyWorld::Direct(world) => world.step(alloc, line, report),
-            AnyWorld::Roles(nodes) => nodes.step(alloc, line, report),
+            AnyWorld::Roles(world) => world.step(alloc, line, report),
+        }
+    }
+
+    /// Makes ready for a settling that is done a round at a time, and answers whether this world
+    /// settles: one of roles does.
+    ///
+    /// Fails where there is no memory.
+    pub fn begin_settling(&mut self, alloc: Global) -> Result<bool, AllocError>
+        ensures world { OnOk result (self.new ≡ seen.begun self.old) }
+        ensures answer { IfOk result (λ settles. settles ≡ seen.settles self.old) }
+    {
+        if let AnyWorld::Settings(roles) = self {
+            *self = AnyWorld::of_roles(alloc, roles)?;
+        }
+        Ok(matches!(self, AnyWorld::Roles(_)))
+    }
+
+    /// Does a round of settling, and adds what it does to the report. A round that adds nothing is
+    /// quiet, and ends a settling. Only a world that settles does any.
+    ///
+    /// Fails where there is no memory.
+    pub fn round(&mut self, alloc: Global, report: &mut Report) -> Result<(), AllocError>
+        ensures world { OnOk result (self.new ≡ (seen.round self.old).0) }
+        ensures report { OnOk result (report.new ≡ report.old ++ (seen.round self.old).1) }
+    {
+        match self {
+            AnyWorld::Roles(world) => world.round(alloc, report),
+            _ => Ok(()),
+        }
+    }
+
+    /// Adds what stands behind a line's own answers: which nodes closed.
+    ///
+    /// Fails where there is no memory.
+    pub fn end_line(&mut self, report: &mut Report) -> Result<(), AllocError>
+        ensures world { OnOk result (self.new ≡ (seen.end_line self.old).0) }
+        ensures report { OnOk result (report.new ≡ report.old ++ (seen.end_line self.old).1) }
+    {
+        match self {
+            AnyWorld::Roles(world) => world.tell_closed(report),
+            _ => Ok(()),
         }
     }
 
@@ -82,13 +121,11 @@ impl AnyWorld {
     pub fn last(&mut self, alloc: Global, report: &mut Report) -> Result<(), AllocError>
         ensures { Writes (seen.last self.old) result report.old report.new }
     {
-        if let AnyWorld::Settings(roles) = self {
-            *self = AnyWorld::of_roles(alloc, roles)?;
-        }
+        self.begin_settling(alloc)?;
         match self {
             AnyWorld::Before | AnyWorld::Settings(_) => Ok(()),
             AnyWorld::Direct(world) => world.last(report),
-            AnyWorld::Roles(nodes) => nodes.last(report),
+            AnyWorld::Roles(world) => world.last(report),
         }
     }
 }

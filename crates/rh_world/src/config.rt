@@ -31,12 +31,12 @@ pub struct WorldConfig {
 }
 
 impl WorldConfig {
-    ghost use Rattle.std.specs.Prelude.{◌≡◌, true};
-    ghost use Rattle.rh_world.specs.Config.{AreInRange, roles_config, with_number};
+    ghost use Rattle.std.specs.Prelude.{◌≡◌};
+    ghost use Rattle.rh_world.specs.Config.{AreInRange, direct_config, roles_config, with_number};
 
     /// A direct world, and the numbers that stand where no line sets them.
     pub fn direct() -> WorldConfig
-        ensures direct { result.direct ≡ true }
+        ensures numbers { result ≡ direct_config }
         ensures in_range { AreInRange result }
     {
         WorldConfig {

@@ -7,12 +7,14 @@ pub mod config;
 mod received;
 mod ring;
 pub mod roles;
+pub mod roles_world;
 mod way;
 pub mod world;
 
 pub use any_world::AnyWorld;
 pub use config::WorldConfig;
 pub use roles::Roles;
+pub use roles_world::RolesWorld;
 pub use world::World;
 
 #[cfg(test)]

@@ -81,7 +81,8 @@ impl Roles {
 
     /// The numbers.
     pub fn config(&self) -> WorldConfig
-        ensures { result ≡ self.now }
+        ensures numbers { result ≡ self.now }
+        ensures in_range { AreInRange result }
     {
         self.config
     }
