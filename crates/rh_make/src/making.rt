@@ -119,12 +119,11 @@ impl Making {
     }
 
     /// What the lines so far come to, as if they were all.
-    fn summary(self, alloc: Global) -> Result<Summary, AllocError>
-        ensures { IfOk result (λ made. made ≡ summary_of self) }
+    fn summary(&mut self, alloc: Global) -> Result<Summary, AllocError>
+        ensures { IfOk result (λ made. made ≡ summary_of self.old) }
     {
-        let mut world = self.world;
         let mut last = Report::new(alloc);
-        world.last(alloc, &mut last)?;
+        self.world.last(alloc, &mut last)?;
         Ok(Summary {
             last,
             moved: self.tally.moved,
