@@ -1,9 +1,5 @@
 -- a settling is its rounds, one after the other, and what is told behind them
-<<<<<<< HEAD
 use Rattle.std.proofs.Common.{◌≡◌, ℕ, zero, suc, ◌+◌, List, [], ◌∷◌, ◌++◌, true, refl, sym, ap}
-=======
-use Rattle.std.proofs.Common.{◌≡◌, ℕ, zero, suc, ◌+◌, List, [], ◌∷◌, ◌++◌, true, false, refl, sym, ◌∙◌, ap}
->>>>>>> d4974df87d9af4cc86465514e1b724af9ff2d9ec
 use Rattle.rh_record.specs.declared.answer.Answer.{Answer}
 use Rattle.rh_record.specs.declared.line.Line.TheVariants.{Settle}
 use Rattle.rh_nodes.specs.Reports.{and_then}

@@ -64,7 +64,6 @@ abbrev pub end_line : AnyWorld → AnyWorld × List Answer
 end_line (Roles world) = as_roles (roles.tell_closed world)
 end_line world = (world, [])
 
-<<<<<<< HEAD
 -- ---- half steps
 
 abbrev pub halved : roles.World × Bool → AnyWorld × Bool
@@ -78,8 +77,6 @@ half_at world one = (world, false)
 abbrev pub half : AnyWorld → Half → AnyWorld × Bool
 half world one = half_at (begun world) one
 
-=======
->>>>>>> d4974df87d9af4cc86465514e1b724af9ff2d9ec
 -- ---- reports
 
 -- the last lines of a report

@@ -20,11 +20,8 @@ use Rattle.rh_outproxy.specs.Machine as out_proxies
 use Rattle.rh_nodes.specs.Company.{Rulebook, rules_of}
 use Rattle.rh_nodes.specs.Giving.{Deeds, deeds_of}
 use Rattle.rh_nodes.specs.Opening.{Makers, makers_of}
-<<<<<<< HEAD
 use Rattle.rh_nodes.specs.declared.half.Half.{Half}
 use Rattle.rh_nodes.specs.Halves as halves
-=======
->>>>>>> d4974df87d9af4cc86465514e1b724af9ff2d9ec
 use Rattle.rh_nodes.specs.Settling as settling
 use Rattle.rh_nodes.specs.Steps as steps
 use Rattle.rh_nodes.specs.World as nodes
@@ -104,12 +101,9 @@ round world = settling.round rules makers deeds world
 abbrev pub tell_closed : World → World × List Answer
 tell_closed world = steps.tell_closed world
 
-<<<<<<< HEAD
 -- one node alone is told something, or may not be told it
 abbrev pub half : World → Half → World × Bool
 half world one = halves.half rules makers world one
 
-=======
->>>>>>> d4974df87d9af4cc86465514e1b724af9ff2d9ec
 abbrev pub last : World → List Answer
 last world = steps.last rules deeds world

@@ -7,10 +7,7 @@ use crate::config::WorldConfig;
 use crate::roles::Roles;
 use crate::roles_world::RolesWorld;
 use crate::world::World;
-<<<<<<< HEAD
 use rh_nodes::Half;
-=======
->>>>>>> d4974df87d9af4cc86465514e1b724af9ff2d9ec
 use rh_record::{Line, Report};
 use std::alloc::{AllocError, Global};
 
@@ -79,19 +76,11 @@ impl AnyWorld {
         }
     }
 
-<<<<<<< HEAD
     /// Makes the nodes of a world of roles, where no more settings come, and answers whether it is
     /// one: only such a world settles.
     ///
     /// Fails where there is no memory.
     pub fn begin(&mut self, alloc: Global) -> Result<bool, AllocError>
-=======
-    /// Makes ready for a settling that is done a round at a time, and answers whether this world
-    /// settles: one of roles does.
-    ///
-    /// Fails where there is no memory.
-    pub fn begin_settling(&mut self, alloc: Global) -> Result<bool, AllocError>
->>>>>>> d4974df87d9af4cc86465514e1b724af9ff2d9ec
         ensures world { OnOk result (self.new ≡ seen.begun self.old) }
         ensures answer { IfOk result (λ settles. settles ≡ seen.settles self.old) }
     {
@@ -115,7 +104,6 @@ impl AnyWorld {
         }
     }
 
-<<<<<<< HEAD
     /// Does up to so many rounds of settling, and adds what they do and what stands behind them to
     /// the report, as a line says it. A direct world doesn't settle.
     ///
@@ -148,8 +136,6 @@ impl AnyWorld {
         }
     }
 
-=======
->>>>>>> d4974df87d9af4cc86465514e1b724af9ff2d9ec
     /// Adds what stands behind a line's own answers: which nodes closed.
     ///
     /// Fails where there is no memory.
@@ -169,11 +155,7 @@ impl AnyWorld {
     pub fn last(&mut self, alloc: Global, report: &mut Report) -> Result<(), AllocError>
         ensures { Writes (seen.last self.old) result report.old report.new }
     {
-<<<<<<< HEAD
         self.begin(alloc)?;
-=======
-        self.begin_settling(alloc)?;
->>>>>>> d4974df87d9af4cc86465514e1b724af9ff2d9ec
         match self {
             AnyWorld::Before | AnyWorld::Settings(_) => Ok(()),
             AnyWorld::Direct(world) => world.last(report),

@@ -6,11 +6,7 @@ ghost use Rattle.rh_nodes.specs.Reports.{Tells};
 ghost use Rattle.rh_world.specs.Roles as seen;
 
 use crate::roles::Roles;
-<<<<<<< HEAD
 use rh_nodes::{Half, Nodes};
-=======
-use rh_nodes::Nodes;
->>>>>>> d4974df87d9af4cc86465514e1b724af9ff2d9ec
 use rh_record::{Line, Report};
 use std::alloc::{AllocError, Global};
 use std::marker::Model;
@@ -75,7 +71,6 @@ impl RolesWorld {
         self.nodes.tell_closed(report)
     }
 
-<<<<<<< HEAD
     /// Tells one node alone something, and answers true; answers false, and changes nothing, where
     /// that node may not be told it. No line of a report tells of a node that this closes.
     ///
@@ -86,8 +81,6 @@ impl RolesWorld {
         self.nodes.half(alloc, half)
     }
 
-=======
->>>>>>> d4974df87d9af4cc86465514e1b724af9ff2d9ec
     /// Adds the last lines of a report.
     ///
     /// Fails where there is no memory; a front of these lines may be added then.
