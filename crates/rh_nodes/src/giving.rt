@@ -38,13 +38,16 @@ fn first_pdu(alloc: Global, room: &[u8], len: u16) -> Result<Bytes, AllocError>
     Ok(Bytes::new(Vec::from_slice(alloc, pdu)?))
 }
 
-/// The next PDU is taken at an end, where one is there.
-fn take_from<R: EndRole>(alloc: Global, node: &mut Shell<R>) -> Result<TakeAnswer, AllocError>
+/// The next PDU is taken at an end, where one is there, by way of the room.
+fn take_from<R: EndRole>(
+    alloc: Global,
+    node: &mut Shell<R>,
+    room: &mut [u8; 8192],
+) -> Result<TakeAnswer, AllocError>
     ensures { IfOk result (λ answer. (node.new, answer) ≡ seen.take_from R.acts node.old) }
 {
-    let mut room = [0; 8192];
-    match node.take(&mut room) {
-        Take::Pdu(len) => Ok(TakeAnswer::Pdu(first_pdu(alloc, &room, len)?)),
+    match node.take(room) {
+        Take::Pdu(len) => Ok(TakeAnswer::Pdu(first_pdu(alloc, room, len)?)),
         Take::Empty => Ok(TakeAnswer::Empty),
         Take::Ended => Ok(TakeAnswer::Ended),
         Take::Closed(cause) => Ok(TakeAnswer::Closed(cause)),
@@ -91,7 +94,7 @@ impl<K: Cast> Nodes<K> {
         ensures { IfOk result (λ answer.
             (self.new, answer) ≡ seen.take_client K.Client.acts self.old) }
     {
-        let answer = take_from(alloc, &mut self.company.client)?;
+        let answer = take_from(alloc, &mut self.company.client, &mut self.taken)?;
         match &answer {
             TakeAnswer::Pdu(_) => self.down.take(),
             TakeAnswer::Ended => self.client_ended = true,
@@ -104,7 +107,7 @@ impl<K: Cast> Nodes<K> {
         ensures { IfOk result (λ answer.
             (self.new, answer) ≡ seen.take_server K.Server.acts self.old) }
     {
-        let answer = take_from(alloc, &mut self.company.server)?;
+        let answer = take_from(alloc, &mut self.company.server, &mut self.taken)?;
         match &answer {
             TakeAnswer::Pdu(_) => self.up.take(),
             TakeAnswer::Ended => self.server_ended = true,

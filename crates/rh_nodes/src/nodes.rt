@@ -55,6 +55,8 @@ pub struct Nodes<K: Cast> {
     pub(crate) closed: Closings,
     /// Where bytes are drawn before they go into flight.
     pub(crate) room: Vec<u8>,
+    /// Where a PDU is put that is taken.
+    pub(crate) taken: [u8; 8192],
 }
 
 impl<K: Cast> Model for Nodes<K> {
@@ -124,6 +126,7 @@ impl<K: Cast> Nodes<K> {
             same,
             closed: Closings::new(alloc),
             room: Vec::new(alloc),
+            taken: [0; 8192],
         })
     }
 
