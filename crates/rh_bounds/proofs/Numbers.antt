@@ -1,5 +1,5 @@
 -- settings keep the numbers of a world in their ranges
-use Rattle.std.proofs.Common.{◌≡◌, ℕ, Bool, true, false, IsTrue, if◌then◌else◌, refl, sym, subst, rules}
+use Rattle.std.proofs.Common.{◌≡◌, ℕ, Bool, true, false, IsTrue, if◌then◌else◌, refl, rules}
 use Rattle.rh_record.specs.declared.line.Key.{Key}
 use Rattle.rh_record.specs.declared.line.Key.TheVariants.{Cwin, Iwin, Owin, Swin, Ilife, Olife, Itime, Otime, Keep, Same}
 use Rattle.rh_record.specs.Words.{takes}

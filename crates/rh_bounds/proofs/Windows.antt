@@ -1,5 +1,5 @@
--- the nodes of a world of roles hold at most their windows, since each is what its events made of it
-use Rattle.std.proofs.Common.{◌≡◌, ℕ, List, [], ◌∷◌, refl, sym, ap, ◌∙◌, subst}
+-- each node of a world of roles holds at most its window, whatever happened there
+use Rattle.std.proofs.Common.{◌≡◌, ℕ, List, refl, sym, ◌∙◌, subst}
 use Rattle.rh_window.specs.Sides.{IsWindow}
 use Rattle.rh_http.specs.declared.config.ClientConfig.{ClientConfig}
 use Rattle.rh_line.specs.Lines as lines
@@ -23,9 +23,10 @@ use Rattle.rh_nodes.specs.declared.place.Place.{Place}
 use Rattle.rh_nodes.specs.declared.place.Place.TheVariants.{Absent, Here, Gone}
 use Rattle.rh_nodes.specs.Cookies.{cookie_of}
 use Rattle.rh_text.specs.declared.ends.Side.TheVariants.{Client, Server}
-use Rattle.rh_history.specs.Changes.{Change, IsTold, IsFed, IsDrawn, GoesUp, GoesDown, OpensIn, OpensOut, OpensSame, Gives, Takes, Closes, RecyclesIn, RecyclesOut, MovesTo, Draws, Reports, MayChange, changed, Leads}
+use Rattle.rh_history.specs.Changes.{Change, IsTold, IsFed, IsDrawn, GoesUp, GoesDown, OpensIn, OpensOut, OpensSame, Gives, Takes, Closes, RecyclesIn, RecyclesOut, MovesTo, Draws, Reports, MayChange, changed, Leads, Turn, after_turns}
 use Rattle.rh_history.specs.Histories.{History, AreRuns, IsRun, all_noted, nothing, in_place, out_place}
 use Rattle.rh_history.proofs.Leading.{leads_keep}
+use Rattle.rh_history.proofs.Lines.{leads_turns}
 use Rattle.rh_history.proofs.Noting.{begins, changes_are_noted}
 use Rattle.rh_world.specs.declared.any_world.AnyWorld.{AnyWorld}
 use Rattle.rh_world.specs.declared.any_world.AnyWorld.TheVariants.{Before, Direct, Settings, Roles}
@@ -119,7 +120,8 @@ module _ (law : RolesHold) where
         server = subst (λ (x : WorldConfig). Holds x.swin world.company.server.role.line)
             (sym cast)
             (subst (λ (x : Shell states.Server). Holds config.swin x.role.line)
-            (sym runs.server) (law.server config.swin h.server (in_window config.swin ranges.swin)));
+            (sym runs.server)
+            (law.server config.swin h.server (in_window config.swin ranges.swin)));
         ins = λ n. place_holds in_proxies.rules (λ (x : InProxy). x.line) world.cast.iwin
             (roles.in_proxy world.cast n) (h.ins n) (in_place world.company n)
             (law.in_proxy (roles.in_config world.cast n) (h.ins n)
@@ -143,6 +145,14 @@ module _ (law : RolesHold) where
       leads
       (begins roles.rules roles.makers roles.deeds first
       (record { ins = refl; outs = refl; low = refl; unread = refl })))
+
+  pub turns_hold : (config : WorldConfig) (turns : List Turn) → AreInRange config
+      → HoldWindows
+      (after_turns roles.rules roles.makers roles.deeds (roles.begun config) turns)
+  turns_hold config turns ranges =
+      reached_hold config
+      (after_turns roles.rules roles.makers roles.deeds (roles.begun config) turns) ranges
+      (leads_turns roles.rules roles.makers roles.deeds turns (roles.begun config))
 
 -- ---- recordings
 

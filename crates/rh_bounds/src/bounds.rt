@@ -2,7 +2,7 @@
 
 ghost use Rattle.std.specs.Prelude.{◌≡◌, List};
 ghost use Rattle.rh_record.specs.declared.line.Line.{Line};
-ghost use Rattle.rh_history.specs.Changes.{Leads};
+ghost use Rattle.rh_history.specs.Changes.{Leads, Turn, after_turns};
 ghost use Rattle.rh_world.specs.declared.any_world.AnyWorld.TheVariants.{Before, Settings};
 ghost use Rattle.rh_world.specs.declared.config.WorldConfig.{WorldConfig};
 ghost use Rattle.rh_world.specs.Config.{AreInRange};
@@ -14,9 +14,9 @@ use rh_held::{
     what_a_client_holds, what_a_server_holds, what_an_in_proxy_holds, what_an_out_proxy_holds,
 };
 
-/// Whatever happens in a world of roles, change by change, each node holds at most its window: so
-/// it is behind each line and each half step, and in the midst of a line or of a settling. The
-/// windows are those that the world began with.
+/// Whatever happens in a world of roles, change by change, each node holds at most its window: in
+/// the midst of a line, of a settling or of a half step too, and so behind lines and half steps in
+/// any order. The windows are those that the world began with.
 pub fn windows_hold_in_a_world_of_roles()
     ensures cast { (config : WorldConfig) (world : roles.World)
         → Leads roles.rules roles.makers roles.deeds (roles.begun config) world
@@ -24,6 +24,9 @@ pub fn windows_hold_in_a_world_of_roles()
     ensures windows { (config : WorldConfig) (world : roles.World) → AreInRange config
         → Leads roles.rules roles.makers roles.deeds (roles.begun config) world
         → HoldWindows world }
+    ensures turns { (config : WorldConfig) (turns : List Turn) → AreInRange config
+        → HoldWindows
+        (after_turns roles.rules roles.makers roles.deeds (roles.begun config) turns) }
 {
     what_a_client_holds();
     what_a_server_holds();

@@ -1,6 +1,6 @@
-//! In a recording of roles, the bytes of RPC PDUs that are held for a channel never pass the receive
-//! window that was advertised for it (MS-RPCH 3.2). Its functions do nothing: their contracts are
-//! the laws.
+//! In a recording of roles, the bytes of RPC PDUs that are held for a channel never pass the
+//! receive window that was advertised for it (MS-RPCH 3.2). Its functions do nothing: their
+//! contracts are the laws.
 #![tactic(auto)]
 
 pub mod bounds;

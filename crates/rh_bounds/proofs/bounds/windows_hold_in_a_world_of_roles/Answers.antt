@@ -1,4 +1,4 @@
-use Rattle.rh_bounds.proofs.Windows.{RolesHold, same_cast, reached_hold}
+use Rattle.rh_bounds.proofs.Windows.{RolesHold, same_cast, reached_hold, turns_hold}
 use Rattle.rh_bounds.proofs.bounds.windows_hold_in_a_world_of_roles.Goals as goal
 
 pub returns : goal.returns
@@ -9,4 +9,4 @@ returns c =
       in_proxy = c.what_an_in_proxy_holds.ensures.events;
       out_proxy = c.what_an_out_proxy_holds.ensures.events;
     } in
-    record { cast = same_cast; windows = reached_hold law }
+    record { cast = same_cast; windows = reached_hold law; turns = turns_hold law }
