@@ -1,0 +1,3 @@
+mod Numbers
+pub mod Reached
+pub mod Windows
