@@ -7,3 +7,4 @@ pub mod Lines
 pub mod Licensed
 pub mod Recorded
 pub mod Once
+pub mod Refused

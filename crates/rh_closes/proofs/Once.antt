@@ -27,10 +27,10 @@ module _ (node : Who) where
   -- a direct one tells of none
   one_none : (w : direct.World) (done : Deed) (more : List Answer)
       → closings_of node ((direct.act w done).1 ++ more) ≡ closings_of node more
-  one_none w (Offers side pdu) more = refl
-  one_none w (Asks side) more = refl
-  one_none w (Draws dir count) more = refl
-  one_none w (Feeds dir count) more = refl
+  one_none w (Offers side pdu) more = omega arith
+  one_none w (Asks side) more = omega arith
+  one_none w (Draws dir count) more = omega arith
+  one_none w (Feeds dir count) more = omega arith
   one_none w Nothing more = refl
 
   direct_none : (lines : List Line) (w : direct.World)

@@ -1,7 +1,9 @@
 //! Each close that a recording reports. These functions do nothing: their contracts are the laws.
 
-ghost use Rattle.std.specs.Prelude.{◌≤◌, List};
+ghost use Rattle.std.specs.Prelude.{◌≤◌, List, ℕ};
 ghost use Rattle.rh_line.specs.declared.cause.Cause.{Cause};
+ghost use Rattle.rh_line.specs.declared.cause.Cause.TheVariants.{HttpRefused};
+ghost use Rattle.rh_line.specs.declared.leg.Leg.{Leg};
 ghost use Rattle.rh_record.specs.declared.answer.Answer.TheVariants.{NodeClosed};
 ghost use Rattle.rh_record.specs.declared.answer.Who.{Who};
 ghost use Rattle.rh_record.specs.declared.line.Line.{Line};
@@ -9,9 +11,10 @@ ghost use Rattle.rh_history.specs.Closes.{IsOneOf, closings_of};
 ghost use Rattle.rh_world.specs.declared.any_world.AnyWorld.TheVariants.{Before};
 ghost use Rattle.rh_world.specs.Any.{prepared, run, step};
 ghost use Rattle.rh_make.specs.Steps.{after};
-ghost use Rattle.rh_closes.specs.Recordings.{IsLicensedIn};
+ghost use Rattle.rh_closes.specs.Recordings.{IsLicensedIn, IsRefusedIn};
 
 use crate::licences::each_close_shows;
+use rh_causes::only_a_client_closes_with_http_refused;
 use rh_client::ClientRole;
 use rh_inproxy::InProxyRole;
 use rh_outproxy::OutProxyRole;
@@ -27,6 +30,17 @@ pub fn each_close_of_a_recording_shows()
         → IsLicensedIn (prepared (after Before before) line) line node why }
 {
     each_close_shows::<WorldConfig, ClientRole, ServerRole, InProxyRole, OutProxyRole>();
+}
+
+/// In every recording only the client is reported as closed with `HttpRefused`, and for a response on
+/// that leg: bytes that the line moved towards the client there made it whole.
+pub fn only_a_client_of_a_recording_is_refused()
+    ensures { (before : List Line) (line : Line) (node : Who) (leg : Leg) (status : ℕ)
+        → IsOneOf (NodeClosed node (HttpRefused leg status)) (step (after Before before) line).1
+        → IsRefusedIn (prepared (after Before before) line) line node leg status }
+{
+    each_close_of_a_recording_shows();
+    only_a_client_closes_with_http_refused();
 }
 
 /// Over a whole recording a node is reported as closed once at most.
