@@ -8,3 +8,4 @@ pub mod Licensed
 pub mod Recorded
 pub mod Once
 pub mod Refused
+pub mod Silent

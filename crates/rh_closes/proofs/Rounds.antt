@@ -44,7 +44,7 @@ module _ {K C S I O : Type 0} (r : Rulebook C S I O) (m : Makers K I O) (d : Dee
   opened_same_goes w leg (v, false) a = λ all are_in. a all
 
   next_goes : (leg : Leg) (w : World K C S I O) → Goes r m d w (open_next r m leg w)
-  next_goes leg w = 
+  next_goes leg w =
       opened_goes w leg (open_leg r m w leg) (λ all. shown_open_leg r m d all w leg)
 
   next_in_goes : (leg : Leg) (w : World K C S I O) → Goes r m d w (open_next_in r m leg w)
@@ -52,7 +52,7 @@ module _ {K C S I O : Type 0} (r : Rulebook C S I O) (m : Makers K I O) (d : Dee
     where
       by : (t : Bool) → Goes r m d w (if t then opened_same leg (open_same r w leg)
           else open_next r m leg w)
-      by true = 
+      by true =
           opened_same_goes w leg (open_same r w leg) (λ all. shown_open_same r m d all w leg)
       by false = next_goes leg w
 

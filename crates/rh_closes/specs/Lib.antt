@@ -1,3 +1,4 @@
 pub mod Shows
 pub mod Licences
 pub mod Recordings
+pub mod Silences

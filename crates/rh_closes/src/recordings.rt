@@ -2,7 +2,7 @@
 
 ghost use Rattle.std.specs.Prelude.{◌≤◌, List, ℕ};
 ghost use Rattle.rh_line.specs.declared.cause.Cause.{Cause};
-ghost use Rattle.rh_line.specs.declared.cause.Cause.TheVariants.{HttpRefused};
+ghost use Rattle.rh_line.specs.declared.cause.Cause.TheVariants.{HttpRefused, Silent};
 ghost use Rattle.rh_line.specs.declared.leg.Leg.{Leg};
 ghost use Rattle.rh_record.specs.declared.answer.Answer.TheVariants.{NodeClosed};
 ghost use Rattle.rh_record.specs.declared.answer.Who.{Who};
@@ -12,9 +12,10 @@ ghost use Rattle.rh_world.specs.declared.any_world.AnyWorld.TheVariants.{Before}
 ghost use Rattle.rh_world.specs.Any.{prepared, run, step};
 ghost use Rattle.rh_make.specs.Steps.{after};
 ghost use Rattle.rh_closes.specs.Recordings.{IsLicensedIn, IsRefusedIn};
+ghost use Rattle.rh_closes.specs.Silences.{IsSilentIn};
 
 use crate::licences::each_close_shows;
-use rh_causes::only_a_client_closes_with_http_refused;
+use rh_causes::{a_node_falls_silent_since_it_was_heard, only_a_client_closes_with_http_refused};
 use rh_client::ClientRole;
 use rh_inproxy::InProxyRole;
 use rh_outproxy::OutProxyRole;
@@ -41,6 +42,20 @@ pub fn only_a_client_of_a_recording_is_refused()
 {
     each_close_of_a_recording_shows();
     only_a_client_closes_with_http_refused();
+}
+
+/// In every recording only the client and in proxies are reported as closed with `Silent`, by a line
+/// that told the moment which this names, and for what happened at them since the recording began:
+/// the client of a co leg, once the timeout that was told for it has passed, and an in proxy of a ci
+/// leg before IN_R1/A5 came there, once the timeout of the recording's configuration has; both since
+/// the last moment at which bytes were heard there or the leg came up.
+pub fn a_node_of_a_recording_falls_silent()
+    ensures { (before : List Line) (line : Line) (node : Who) (leg : Leg) (since now : ℕ)
+        → IsOneOf (NodeClosed node (Silent leg since now)) (step (after Before before) line).1
+        → IsSilentIn (prepared (after Before before) line) line node leg since now }
+{
+    each_close_of_a_recording_shows();
+    a_node_falls_silent_since_it_was_heard();
 }
 
 /// Over a whole recording a node is reported as closed once at most.
