@@ -110,7 +110,8 @@ module _ {K C S I O : Type 0} (r : Rulebook C S I O) (m : Makers K I O) (d : Dee
         ∙ ap (places.may_up r.out_proxy out_leg)
         (put_here Absent w.company.outs n (Here new_out 0)) ∙ f in
         shown_more r m d all w v (GoesUp (who.Out n) out_leg side.Server drawn.1)
-        (shown_more r m d all w x (OpensOut n drawn.1) (shown_one r m d all w (Draws drawn.0) tt refl tt)
+        (shown_more r m d all w x (OpensOut n drawn.1)
+        (shown_one r m d all w (Draws drawn.0) tt refl tt)
         (may_parts (ask is_absent true w.company.outs n) out_leg e) refl tt) (
           or_left (company.may_up r v.company (who.Out n) out_leg)
               (company.wants r v.company (who.Out n) out_leg) up,
@@ -132,7 +133,8 @@ module _ {K C S I O : Type 0} (r : Rulebook C S I O) (m : Makers K I O) (d : Dee
         ∙ ap (places.may_up r.in_proxy in_leg)
         (put_here Absent w.company.ins n (Here new_in 0)) ∙ f in
         shown_more r m d all w v (GoesUp reader in_leg side.Server drawn.1)
-        (shown_more r m d all w x (OpensIn n drawn.1) (shown_one r m d all w (Draws drawn.0) tt refl tt)
+        (shown_more r m d all w x (OpensIn n drawn.1)
+        (shown_one r m d all w (Draws drawn.0) tt refl tt)
         (may_parts (ask is_absent true w.company.ins n) in_leg e) refl tt) (
           or_left (company.may_up r v.company reader in_leg)
               (company.wants r v.company reader in_leg)
@@ -186,14 +188,17 @@ module _ {K C S I O : Type 0} (r : Rulebook C S I O) (m : Makers K I O) (d : Dee
         (company.wants r w.company (who.In before) in_leg) f in
         let is : reader_of v.readers n ≡ before =
         asked 0 (λ k. k) v.readers n ∙ put_here 0 w.readers n before in
-        shown_more r m d all w v (GoesUp (who.In (reader_of v.readers n)) in_leg side.Server drawn.1)
-        (shown_more r m d all w x (OpensSame n drawn.1) (shown_one r m d all w (Draws drawn.0) tt refl tt)
+        shown_more r m d all w v
+        (GoesUp (who.In (reader_of v.readers n)) in_leg side.Server drawn.1)
+        (shown_more r m d all w x (OpensSame n drawn.1)
+        (shown_one r m d all w (Draws drawn.0) tt refl tt)
         (client, server) refl tt)
         (ap (λ k. may_have r w (who.In k) in_leg) is ∙ server, inl refl) refl tt
 
   -- ---- a leg of the server
 
-  shown_open_server : (w : World K C S I O) (leg : Leg) → ShownWorks r m d all w (open_server r w leg).0
+  shown_open_server : (w : World K C S I O) (leg : Leg)
+      → ShownWorks r m d all w (open_server r w leg).0
   shown_open_server w leg = by (nat_lt 0 leg.number && is_wanted r w leg) refl
     where
       by : (t : Bool) → (nat_lt 0 leg.number && is_wanted r w leg) ≡ t
@@ -217,7 +222,8 @@ module _ {K C S I O : Type 0} (r : Rulebook C S I O) (m : Makers K I O) (d : Dee
   shown_open_by w ClientIn n = shown_open_in w n
   shown_open_by w InServer n = shown_open_server w (leg_at InServer n)
 
-  pub shown_open_leg : (w : World K C S I O) (leg : Leg) → ShownWorks r m d all w (open_leg r m w leg).0
+  pub shown_open_leg : (w : World K C S I O) (leg : Leg)
+      → ShownWorks r m d all w (open_leg r m w leg).0
   shown_open_leg w leg = shown_open_by w leg.kind leg.number
 
   shown_same_by : (w : World K C S I O) (kind : LegKind) (n : ℕ)
@@ -239,5 +245,6 @@ module _ {K C S I O : Type 0} (r : Rulebook C S I O) (m : Makers K I O) (d : Dee
           same_proxy w n may.0 may.1
       by false e = shown_none r m d all w
 
-  pub shown_open_same : (w : World K C S I O) (leg : Leg) → ShownWorks r m d all w (open_same r w leg).0
+  pub shown_open_same : (w : World K C S I O) (leg : Leg)
+      → ShownWorks r m d all w (open_same r w leg).0
   shown_open_same w leg = shown_same_by w leg.kind leg.number

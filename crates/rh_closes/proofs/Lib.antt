@@ -9,3 +9,4 @@ pub mod Recorded
 pub mod Once
 pub mod Refused
 pub mod Silent
+pub mod Reported

@@ -6,6 +6,7 @@ use Rattle.std.specs.declared.option.Option.{Option}
 use Rattle.rh_line.specs.declared.cause.Cause.{Cause}
 use Rattle.rh_line.specs.declared.cause.Cause.TheVariants as cause
 use Rattle.rh_line.specs.declared.leg.Leg.{Leg}
+use Rattle.rh_line.specs.Texts.{cause_leg}
 use Rattle.rh_record.specs.declared.answer.Answer.{Answer}
 use Rattle.rh_record.specs.declared.answer.Answer.TheVariants as answer
 use Rattle.rh_record.specs.declared.answer.Who.{Who}
@@ -130,13 +131,24 @@ module _ {S : Type 0} (rules : Rules S) where
       → IsEventOf event why
   event_of node (Comes leg piece) why h = by why h.cause
     where
+      on : (l : Leg) → l ≡ leg → IsPieceOn (Comes leg piece) l
+      on l same = (piece, ap (λ (k : Leg). Comes k piece) (sym same))
+
       by : (why : Cause) → IsOfPiece leg (RefusesHead rules node.role h.end piece) why
           → IsEventOf (Comes leg piece) why
       by (cause.LegBroken l) x = absurd x
       by (cause.LegEnded l partial) x = absurd x
       by (cause.Silent l since now) x = absurd x
-      by (cause.HttpRefused l status) x = (piece, ap (λ (k : Leg). Comes k piece) (sym x.0))
-      by why x = (leg, (piece, refl))
+      by (cause.BadFrame l place fault) x = on l x
+      by (cause.BadPacket l place fault) x = on l x
+      by (cause.Unexpected l place) x = on l x
+      by (cause.CookieMismatch l expected got) x = on l x
+      by (cause.WindowExceeded l reached edge) x = on l x
+      by (cause.OutOfRange l command value) x = on l x
+      by (cause.HttpRefused l status) x = on l x.0
+      by (cause.BadHead l place fault) x = on l x
+      by (cause.ControlFull l) x = (leg, (piece, refl))
+      by (cause.BodyOver l count most) x = on l x
   event_of node (Ends leg) why h =
       subst (λ c. IsEventOf (Ends leg) c) (sym h.cause) refl
   event_of node (Breaks leg) why h =
@@ -224,9 +236,9 @@ module _ {K C S I O : Type 0} (answers : List Answer) (w : World K C S I O) (nod
       subst (λ e. Shows answers w node e) is shows
   cause_shows event (cause.Silent leg since now) is filled shows =
       subst (λ e. Shows answers w node e) is shows
-  cause_shows event (cause.HttpRefused leg status) is filled shows =
-      move_of event leg filled shows is
-  cause_shows event why is filled shows = (is.0, move_of event is.0 filled shows is.1)
+  cause_shows event (cause.ControlFull leg) is filled shows =
+      (is.0, move_of event is.0 filled shows is.1)
+  cause_shows event why is filled shows = move_of event (cause_leg why) filled shows is
 
 -- ---- a line
 

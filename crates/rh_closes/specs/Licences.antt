@@ -4,6 +4,7 @@ use Rattle.rh_text.specs.declared.ends.Dir.{Dir}
 use Rattle.rh_line.specs.declared.cause.Cause.{Cause}
 use Rattle.rh_line.specs.declared.cause.Cause.TheVariants as cause
 use Rattle.rh_line.specs.declared.leg.Leg.{Leg}
+use Rattle.rh_line.specs.Texts.{cause_leg}
 use Rattle.rh_record.specs.declared.answer.Answer.{Answer}
 use Rattle.rh_record.specs.declared.answer.Answer.TheVariants as answer
 use Rattle.rh_record.specs.declared.answer.Who.{Who}
@@ -52,17 +53,18 @@ pub record ShowsMove {K C S I O : Type 0} (answers : List Answer) (w : World K C
   pub shown : IsOneOf (answer.Move (Some leg) dir (Some piece)) answers
 
 -- a broken leg shows as a break, or as an end in the direction in which the node puts; an ended one
--- as an end in the direction in which it reads; silence as the moment; a refusal as a move on that
--- leg; and each other cause, which may tell of another leg than the one that was heard, as a move
+-- as an end in the direction in which it reads; silence as the moment; and what was amiss in bytes
+-- as a move on the leg that the cause names, but where that was full for what came on another
 abbrev pub ShowsCause : {K C S I O : Type 0} → List Answer → World K C S I O → Who → Cause
     → Type 0
 ShowsCause answers w node (cause.LegBroken leg) = Shows answers w node (Breaks leg)
 ShowsCause answers w node (cause.LegEnded leg partial) = ShowsEnd answers w node leg
 ShowsCause answers w node (cause.Silent leg since now) = IsOneOf (answer.Tick now true) answers
-ShowsCause answers w node (cause.HttpRefused leg status) = ShowsMove answers w node leg
-ShowsCause answers w node why = (leg : Leg) × ShowsMove answers w node leg
+ShowsCause answers w node (cause.ControlFull leg) =
+    (heard : Leg) × ShowsMove answers w node heard
+ShowsCause answers w node why = ShowsMove answers w node (cause_leg why)
 
--- what a cause tells of the event: for a piece, that it came on the leg, or on some leg
+-- what a cause tells of the event
 abbrev pub IsPieceOn : Event → Leg → Type 0
 IsPieceOn event leg = (piece : List ℕ) × (event ≡ Comes leg piece)
 
@@ -70,8 +72,8 @@ abbrev pub IsEventOf : Event → Cause → Type 0
 IsEventOf event (cause.LegBroken leg) = event ≡ Breaks leg
 IsEventOf event (cause.LegEnded leg partial) = event ≡ Ends leg
 IsEventOf event (cause.Silent leg since now) = event ≡ Passes now
-IsEventOf event (cause.HttpRefused leg status) = IsPieceOn event leg
-IsEventOf event why = (leg : Leg) × IsPieceOn event leg
+IsEventOf event (cause.ControlFull leg) = (heard : Leg) × IsPieceOn event heard
+IsEventOf event why = IsPieceOn event (cause_leg why)
 
 -- ---- a close that a line reports
 

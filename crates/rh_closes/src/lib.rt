@@ -9,6 +9,7 @@ pub mod shows;
 pub use licences::{each_cause_shows, each_close_shows};
 pub use recordings::{
     a_node_of_a_recording_falls_silent, a_recording_reports_a_node_closed_once,
-    each_close_of_a_recording_shows, only_a_client_of_a_recording_is_refused,
+    each_cause_of_a_recording_shows, each_close_of_a_recording_shows,
+    only_a_client_of_a_recording_is_refused,
 };
 pub use shows::what_a_line_tells_shows;

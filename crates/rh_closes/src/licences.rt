@@ -43,12 +43,12 @@ pub fn each_close_shows<K, C: Role, S: Role, I: Role, O: Role>()
     events_close_with_their_causes::<O>();
 }
 
-/// So for each cause that names its event. A node that closed with `LegBroken` stands where the line
-/// broke that leg, or ended it in the direction in which the node puts there. One that closed with
-/// `LegEnded` stands where the line ended that leg in the direction in which it reads, and held that
-/// many bytes of what was unfinished there. One that closed with `Silent` was told that moment, and
-/// the leg was silent as long as its role allows. One that closed with `HttpRefused` stands where
-/// bytes moved to on that leg.
+/// So for each cause that names its event. A node that closed with `LegBroken` stands where the
+/// line broke that leg, or ended it in the direction in which the node puts there. One that closed
+/// with `LegEnded` stands where the line ended that leg in the direction in which it reads, and held
+/// that many bytes of what was unfinished there. One that closed with `Silent` was told that moment,
+/// and the leg was silent as long as its role allows. One that closed with `HttpRefused` stands
+/// where bytes moved to on that leg.
 pub fn each_cause_shows<K, C, S, I, O>()
     ensures broken { (r : Rulebook C S I O) (m : Makers K I O) (d : Deeds C S) (line : Line)
         (w : World K C S I O) (node : Who) (leg : Leg)
