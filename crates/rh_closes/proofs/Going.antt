@@ -1,5 +1,5 @@
 -- what is done, and answers that show what it tells
-use Rattle.std.proofs.Common.{◌≡◌, ℕ, zero, suc, List, [], ◌∷◌, ◌++◌, ◌⊎◌, inl, inr}
+use Rattle.std.proofs.Common.{ℕ, zero, suc, List, [], ◌∷◌, ◌++◌, inl, inr}
 use Rattle.rh_record.specs.declared.answer.Answer.{Answer}
 use Rattle.rh_nodes.specs.Company.{Rulebook}
 use Rattle.rh_nodes.specs.Giving.{Deeds}

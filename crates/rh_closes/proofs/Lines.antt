@@ -1,5 +1,5 @@
 -- what each line tells shows in its answers
-use Rattle.std.proofs.Common.{◌≡◌, List, [], ◌∷◌, true, Some, None, refl, ap, inl, inr}
+use Rattle.std.proofs.Common.{◌≡◌, List, true, Some, None, refl, ap, inl, inr}
 use Rattle.std.specs.declared.option.Option.{Option}
 use Rattle.rh_record.specs.declared.answer.Answer.{Answer}
 use Rattle.rh_record.specs.declared.answer.Answer.TheVariants as answer

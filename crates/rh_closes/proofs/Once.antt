@@ -1,5 +1,5 @@
 -- a recording reports a node as closed once at most
-use Rattle.std.proofs.Common.{◌≡◌, ℕ, ◌+◌, ◌≤◌, List, [], ◌∷◌, ◌++◌, true, false, refl, sym, ap, ◌∙◌, subst, arith}
+use Rattle.std.proofs.Common.{◌≡◌, ◌≤◌, List, [], ◌∷◌, ◌++◌, true, false, refl, sym, ap, ◌∙◌, subst, arith}
 use Rattle.rh_record.specs.declared.answer.Answer.{Answer}
 use Rattle.rh_record.specs.declared.answer.Who.{Who}
 use Rattle.rh_record.specs.declared.line.Line.{Line}
@@ -7,10 +7,9 @@ use Rattle.rh_record.specs.declared.line.Line.TheVariants.{First, Set}
 use Rattle.rh_nodes.specs.Steps as nodes
 use Rattle.rh_history.specs.Closes.{closings_of}
 use Rattle.rh_history.proofs.Counting.{told_once}
-use Rattle.rh_world.specs.declared.any_world.AnyWorld.{AnyWorld}
 use Rattle.rh_world.specs.declared.any_world.AnyWorld.TheVariants.{Before, Direct, Settings, Roles}
 use Rattle.rh_world.specs.declared.config.WorldConfig.{WorldConfig}
-use Rattle.rh_world.specs.Any.{run, step, told}
+use Rattle.rh_world.specs.Any.{run, told}
 use Rattle.rh_world.specs.Config.{roles_config, with_number}
 use Rattle.rh_world.specs.Direct as direct
 use Rattle.rh_world.specs.Direct.{Deed, Offers, Asks, Draws, Feeds, Nothing, deed}

@@ -1,5 +1,5 @@
 -- each line of a recording, whatever its form
-use Rattle.std.proofs.Common.{◌≡◌, ℕ, List, [], ◌∷◌, ◌++◌, Bool, true, false, Some, None, refl, sym, ap, ◌∙◌, subst, inl, inr}
+use Rattle.std.proofs.Common.{◌≡◌, List, [], ◌∷◌, true, false, refl, sym, ap, ◌∙◌, inl, inr}
 use Rattle.std.proofs.lemmas.Bool.{false≢true}
 use Rattle.rh_line.specs.declared.cause.Cause.{Cause}
 use Rattle.rh_record.specs.declared.answer.Answer.{Answer}
@@ -7,7 +7,6 @@ use Rattle.rh_record.specs.declared.answer.Answer.TheVariants as answer
 use Rattle.rh_record.specs.declared.answer.Who.{Who}
 use Rattle.rh_record.specs.declared.line.Line.{Line}
 use Rattle.rh_record.specs.declared.line.Line.TheVariants.{First, Set}
-use Rattle.rh_nodes.specs.Steps as nodes
 use Rattle.rh_history.specs.Changes.{Leads}
 use Rattle.rh_history.specs.Closes.{IsOneOf}
 use Rattle.rh_history.proofs.Answering.{is_other}

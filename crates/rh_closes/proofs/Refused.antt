@@ -1,5 +1,5 @@
 -- only a client is refused, by what moved towards it
-use Rattle.std.proofs.Common.{◌≡◌, ℕ, List, [], ◌∷◌, ◌++◌, Some, None, refl, sym, ap, ◌∙◌, subst}
+use Rattle.std.proofs.Common.{◌≡◌, ℕ, List, [], ◌∷◌, ◌++◌, Some, None, refl, sym, ◌∙◌, subst}
 use Rattle.rh_text.specs.declared.ends.Dir.{Dir}
 use Rattle.rh_text.specs.declared.ends.Dir.TheVariants.{U, D}
 use Rattle.rh_text.specs.declared.ends.Side.{Side}
@@ -28,8 +28,8 @@ use Rattle.rh_nodes.specs.Places as places
 use Rattle.rh_nodes.specs.Readers.{reader_of}
 use Rattle.rh_nodes.specs.Steps.{step_line}
 use Rattle.rh_nodes.specs.Wires.{receiver}
-use Rattle.rh_nodes.specs.World.{World, at, node_by}
-use Rattle.rh_history.specs.Changes.{Change, AreAllowed, Leads, all_changed, changed}
+use Rattle.rh_nodes.specs.World.{World, node_by}
+use Rattle.rh_history.specs.Changes.{Change, AreAllowed, Leads, changed}
 use Rattle.rh_history.specs.Closes.{IsOneOf}
 use Rattle.rh_history.specs.Histories.{AreRuns, all_noted, in_place, out_place, nothing}
 use Rattle.rh_history.proofs.Leading.{leads_then}

@@ -1,5 +1,5 @@
 -- each cause shows in the report
-use Rattle.std.proofs.Common.{◌≡◌, ℕ, List, true, Some, inl, inr, ⊎_elim}
+use Rattle.std.proofs.Common.{List, true, Some, inl, inr, ⊎_elim}
 use Rattle.rh_line.specs.declared.cause.Cause.{Cause}
 use Rattle.rh_line.specs.declared.cause.Cause.TheVariants as cause
 use Rattle.rh_line.specs.declared.leg.Leg.{Leg}
@@ -11,15 +11,14 @@ use Rattle.rh_record.specs.declared.line.Line.{Line}
 use Rattle.rh_nodes.specs.Closings.{lines}
 use Rattle.rh_nodes.specs.Steps.{step_line}
 use Rattle.rh_nodes.specs.World.{World}
-use Rattle.rh_history.specs.Closes.{IsOneOf}
 use Rattle.rh_world.specs.declared.any_world.AnyWorld.{AnyWorld}
 use Rattle.rh_world.specs.declared.any_world.AnyWorld.TheVariants.{Before, Direct, Settings, Roles}
 use Rattle.rh_world.specs.Any.{act}
 use Rattle.rh_world.specs.Roles as roles
 use Rattle.rh_closes.specs.Licences.{ShowsCause, ShowsMove, midst}
 use Rattle.rh_closes.specs.Recordings.{IsLicensedIn}
-use Rattle.rh_closes.specs.Reports.{Ended, Moved, ShowsIn}
-use Rattle.rh_closes.specs.Shows.{ShowsEnd, ShowsLoss}
+use Rattle.rh_closes.specs.Reports.{Moved, ShowsIn}
+use Rattle.rh_closes.specs.Shows.{ShowsLoss}
 use Rattle.rh_closes.proofs.Going.{AreIn, one_before}
 
 module _ {K C S I O : Type 0} (answers all : List Answer) (are_in : AreIn answers all)

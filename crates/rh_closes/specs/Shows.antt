@@ -6,13 +6,11 @@ use Rattle.rh_line.specs.declared.leg.Leg.{Leg}
 use Rattle.rh_record.specs.declared.answer.Answer.{Answer}
 use Rattle.rh_record.specs.declared.answer.Answer.TheVariants as answer
 use Rattle.rh_record.specs.declared.answer.Who.{Who}
-use Rattle.rh_record.specs.declared.line.Line.{Line}
 use Rattle.rh_nodes.specs.declared.event.Event.{Event}
 use Rattle.rh_nodes.specs.declared.event.Event.TheVariants.{Comes, Ends, Breaks, Passes}
 use Rattle.rh_nodes.specs.Company.{Rulebook}
 use Rattle.rh_nodes.specs.Giving.{Deeds}
 use Rattle.rh_nodes.specs.Opening.{Makers}
-use Rattle.rh_nodes.specs.Steps.{step_line}
 use Rattle.rh_nodes.specs.Wires.{sender, receiver}
 use Rattle.rh_nodes.specs.World.{World, at}
 use Rattle.rh_history.specs.Changes.{Change, Works, changed}
