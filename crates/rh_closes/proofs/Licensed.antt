@@ -208,12 +208,14 @@ module _ {C S I O : Type 0} (r : Rulebook C S I O) where
 -- ---- a cause shows where its event does
 
 module _ {K C S I O : Type 0} (answers : List Answer) (w : World K C S I O) (node : Who) where
-  moved : (leg : Leg) (piece : List ℕ) → ((piece ≡ []) → ⊥) → ShowsPiece answers w node leg piece
-      → ShowsMove answers w node leg
-  moved leg piece filled shows = record {
+  moved : (event : Event) (leg : Leg) (piece : List ℕ) → event ≡ Comes leg piece
+      → ((piece ≡ []) → ⊥) → ShowsPiece answers w node leg piece
+      → ShowsMove answers w node event leg
+  moved event leg piece came filled shows = record {
+    piece = piece;
+    came = came;
     dir = shows.dir;
     reads = shows.reads;
-    piece = piece;
     filled = filled;
     shown = ⊎_elim (λ empty. absurd (filled empty)) (λ there. there) shows.shown;
   }
@@ -223,13 +225,13 @@ module _ {K C S I O : Type 0} (answers : List Answer) (w : World K C S I O) (nod
   Filled event = (leg : Leg) → event ≡ Comes leg [] → ⊥
 
   move_of : (event : Event) (leg : Leg) → Filled event → Shows answers w node event
-      → IsPieceOn event leg → ShowsMove answers w node leg
+      → IsPieceOn event leg → ShowsMove answers w node event leg
   move_of event leg filled shows is =
-      moved leg is.0 (λ empty. filled leg (is.1 ∙ ap (λ p. Comes leg p) empty))
+      moved event leg is.0 is.1 (λ empty. filled leg (is.1 ∙ ap (λ p. Comes leg p) empty))
       (subst (λ e. Shows answers w node e) is.1 shows)
 
   cause_shows : (event : Event) (why : Cause) → IsEventOf event why → Filled event
-      → Shows answers w node event → ShowsCause answers w node why
+      → Shows answers w node event → ShowsCause answers w node event why
   cause_shows event (cause.LegBroken leg) is filled shows =
       subst (λ e. Shows answers w node e) is shows
   cause_shows event (cause.LegEnded leg partial) is filled shows =

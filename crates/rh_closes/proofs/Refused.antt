@@ -1,5 +1,5 @@
 -- only a client is refused, by what moved towards it
-use Rattle.std.proofs.Common.{◌≡◌, ℕ, List, [], ◌∷◌, ◌++◌, Some, None, refl, sym, ◌∙◌, subst}
+use Rattle.std.proofs.Common.{◌≡◌, ℕ, List, [], ◌∷◌, ◌++◌, Some, None, refl, ap, sym, ◌∙◌, subst}
 use Rattle.rh_text.specs.declared.ends.Dir.{Dir}
 use Rattle.rh_text.specs.declared.ends.Dir.TheVariants.{U, D}
 use Rattle.rh_text.specs.declared.ends.Side.{Side}
@@ -18,6 +18,7 @@ use Rattle.rh_shell.specs.Moving.{EndEvent, after_end_events}
 use Rattle.rh_shell.specs.Rules.{Rules}
 use Rattle.rh_shell.specs.Shells.{Shell}
 use Rattle.rh_nodes.specs.declared.event.Event.{Event}
+use Rattle.rh_nodes.specs.declared.event.Event.TheVariants.{Comes}
 use Rattle.rh_nodes.specs.declared.place.Place.{Place}
 use Rattle.rh_nodes.specs.declared.place.Place.TheVariants.{Absent, Here, Gone}
 use Rattle.rh_nodes.specs.Company as company
@@ -47,7 +48,7 @@ use Rattle.rh_outproxy.specs.OutProxy.{OutProxy}
 use Rattle.rh_outproxy.specs.Machine as out_proxies
 use Rattle.rh_causes.specs.Closings.{ClosesWith, IsResponse}
 use Rattle.rh_closes.specs.Licences.{IsLicensed, ShowsMove, midst}
-use Rattle.rh_closes.specs.Recordings.{IsLicensedAt, IsLicensedIn, MovesDown, RefusesClient, IsRefusedIn}
+use Rattle.rh_closes.specs.Recordings.{IsLicensedAt, IsLicensedIn, RefusesClient, IsRefusedIn}
 use Rattle.rh_closes.proofs.Recorded.{IsReached, Reached}
 
 -- ---- towards the client
@@ -68,15 +69,22 @@ down : (dir : Dir) → receiver dir ≡ side.Client → dir ≡ D
 down U e = absurd cc
 down D e = refl
 
-moves_down : {K C S I O : Type 0} (answers : List Answer) (w : World K C S I O) (leg : Leg)
-    → ShowsMove answers w Client leg → MovesDown answers leg
-moves_down answers w leg move = record {
-  piece = move.piece;
-  shown =
-      subst (λ dir. IsOneOf (answer.Move (Some leg) dir (Some move.piece)) answers)
-      (down move.dir (client_end (reader_of w.readers leg.number) leg.number leg.kind
-      (receiver move.dir) move.reads)) move.shown;
-}
+piece_of : List ℕ → Event → List ℕ
+piece_of other (Comes leg piece) = piece
+piece_of other event = other
+
+-- the piece that came moved down
+moves_down : {K C S I O : Type 0} (answers : List Answer) (w : World K C S I O) (event : Event)
+    (leg : Leg) (piece : List ℕ) → event ≡ Comes leg piece
+    → ShowsMove answers w Client event leg
+    → IsOneOf (answer.Move (Some leg) D (Some piece)) answers
+unfolding piece_of
+moves_down answers w event leg piece came move =
+    let same : move.piece ≡ piece = ap (piece_of []) (sym move.came ∙ came) in
+    let dir = down move.dir (client_end (reader_of w.readers leg.number) leg.number leg.kind
+    (receiver move.dir) move.reads) in
+    subst (λ p. IsOneOf (answer.Move (Some leg) D (Some p)) answers) same
+    (subst (λ d. IsOneOf (answer.Move (Some leg) d (Some move.piece)) answers) dir move.shown)
 
 -- ---- the world in the midst of a line comes from a new one
 
@@ -149,13 +157,16 @@ module _ (law : RefusedEach) (line : Line) (w : roles.World) (h : IsReached w) (
   refuses_by : (node : Who) (is : IsLicensedAt w line node why)
       → (company.tell roles.rules (mid node is).company node is.closed.closes.event).1 ≡ Some why
       → RefusesClient w line node leg status is
-  refuses_by Client is e = record {
-    client = refl;
-    response = law.client (mid Client is).company.client is.closed.closes.event leg status e;
-    moved =
-        moves_down (step_line roles.rules roles.makers roles.deeds line w).1 (mid Client is) leg
-        is.shows;
-  }
+  refuses_by Client is e =
+      let event = is.closed.closes.event in
+      let response = law.client (mid Client is).company.client event leg status e in
+      record {
+        client = refl;
+        response = response;
+        moved =
+            moves_down (step_line roles.rules roles.makers roles.deeds line w).1 (mid Client is)
+            event leg response.piece response.is is.shows;
+      }
   refuses_by Server is e =
       let runs = midst_runs line w Server why h is in
       absurd (law.server h.config.swin

@@ -8,6 +8,7 @@ use Rattle.rh_record.specs.declared.answer.Answer.{Answer}
 use Rattle.rh_record.specs.declared.answer.Answer.TheVariants as answer
 use Rattle.rh_record.specs.declared.answer.Who.{Who}
 use Rattle.rh_record.specs.declared.line.Line.{Line}
+use Rattle.rh_nodes.specs.declared.event.Event.{Event}
 use Rattle.rh_nodes.specs.Closings.{lines}
 use Rattle.rh_nodes.specs.Steps.{step_line}
 use Rattle.rh_nodes.specs.World.{World}
@@ -22,15 +23,15 @@ use Rattle.rh_closes.specs.Shows.{ShowsLoss}
 use Rattle.rh_closes.proofs.Going.{AreIn, one_before}
 
 module _ {K C S I O : Type 0} (answers all : List Answer) (are_in : AreIn answers all)
-    (w : World K C S I O) (node : Who) where
-  moved_in : (leg : Leg) → ShowsMove answers w node leg → Moved all leg
+    (w : World K C S I O) (node : Who) (event : Event) where
+  moved_in : (leg : Leg) → ShowsMove answers w node event leg → Moved all leg
   moved_in leg move = record {
     dir = move.dir;
     piece = move.piece;
     shown = are_in (answer.Move (Some leg) move.dir (Some move.piece)) move.shown;
   }
 
-  shows_in : (why : Cause) → ShowsCause answers w node why → ShowsIn all why
+  shows_in : (why : Cause) → ShowsCause answers w node event why → ShowsIn all why
   shows_in (cause.LegBroken leg) h =
       ⊎_elim (λ broken. inl (are_in (answer.BreakLeg leg true) broken))
       (λ (lost : ShowsLoss answers w node leg). inr (record {
@@ -51,4 +52,5 @@ report_shows (Settings config) line node why is = absurd is
 report_shows (Roles w) line node why is =
     let did = step_line roles.rules roles.makers roles.deeds line w in
     shows_in did.1 (roles.step line w).1 (λ x h. one_before x did.1 (lines did.0.closed) h)
-    (midst roles.rules roles.makers roles.deeds line w node why is) node why is.shows
+    (midst roles.rules roles.makers roles.deeds line w node why is) node is.closed.closes.event why
+    is.shows

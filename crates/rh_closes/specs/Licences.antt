@@ -43,26 +43,28 @@ MayCloseAt r c (Out n) event why = MayCloseThere r.out_proxy (out_place c n) eve
 
 -- ---- where a cause shows
 
--- a piece that is not empty moved to the node on the leg
+-- the piece that came moved to the node on the leg, and is not empty
 pub record ShowsMove {K C S I O : Type 0} (answers : List Answer) (w : World K C S I O)
-    (node : Who) (leg : Leg) : Type 0 where
+    (node : Who) (event : Event) (leg : Leg) : Type 0 where
+  pub piece : List ℕ
+  pub came : event ≡ Comes leg piece
   pub dir : Dir
   pub reads : at w leg (receiver dir) ≡ node
-  pub piece : List ℕ
   pub filled : piece ≡ [] → ⊥
   pub shown : IsOneOf (answer.Move (Some leg) dir (Some piece)) answers
 
 -- a broken leg shows as a break, or as an end in the direction in which the node puts; an ended one
 -- as an end in the direction in which it reads; silence as the moment; and what was amiss in bytes
 -- as a move on the leg that the cause names, but where that was full for what came on another
-abbrev pub ShowsCause : {K C S I O : Type 0} → List Answer → World K C S I O → Who → Cause
-    → Type 0
-ShowsCause answers w node (cause.LegBroken leg) = Shows answers w node (Breaks leg)
-ShowsCause answers w node (cause.LegEnded leg partial) = ShowsEnd answers w node leg
-ShowsCause answers w node (cause.Silent leg since now) = IsOneOf (answer.Tick now true) answers
-ShowsCause answers w node (cause.ControlFull leg) =
-    (heard : Leg) × ShowsMove answers w node heard
-ShowsCause answers w node why = ShowsMove answers w node (cause_leg why)
+abbrev pub ShowsCause : {K C S I O : Type 0} → List Answer → World K C S I O → Who → Event
+    → Cause → Type 0
+ShowsCause answers w node event (cause.LegBroken leg) = Shows answers w node (Breaks leg)
+ShowsCause answers w node event (cause.LegEnded leg partial) = ShowsEnd answers w node leg
+ShowsCause answers w node event (cause.Silent leg since now) =
+    IsOneOf (answer.Tick now true) answers
+ShowsCause answers w node event (cause.ControlFull leg) =
+    (heard : Leg) × ShowsMove answers w node event heard
+ShowsCause answers w node event why = ShowsMove answers w node event (cause_leg why)
 
 -- what a cause tells of the event
 abbrev pub IsPieceOn : Event → Leg → Type 0
@@ -86,7 +88,8 @@ pub record IsLicensed {K C S I O : Type 0} (r : Rulebook C S I O) (m : Makers K 
   pub closed : IsClosedBy r m d w shown.works.leads.changes node why
   pub event : IsEventOf closed.closes.event why
   pub may : MayCloseAt r (all_changed r m d w closed.before).company node closed.closes.event why
-  pub shows : ShowsCause (step_line r m d line w).1 (all_changed r m d w closed.before) node why
+  pub shows : ShowsCause (step_line r m d line w).1 (all_changed r m d w closed.before) node
+      closed.closes.event why
 
 -- the world in which the node was told what closed it
 abbrev pub midst : {K C S I O : Type 0} → (r : Rulebook C S I O) → (m : Makers K I O)

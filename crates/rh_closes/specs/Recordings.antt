@@ -1,10 +1,9 @@
 -- each close that a recording reports (profile)
-use Rattle.std.specs.Prelude.{◌≡◌, ℕ, List, Some}
+use Rattle.std.specs.Prelude.{◌≡◌, ℕ, Some}
 use Rattle.rh_text.specs.declared.ends.Dir.TheVariants.{D}
 use Rattle.rh_line.specs.declared.cause.Cause.{Cause}
 use Rattle.rh_line.specs.declared.cause.Cause.TheVariants as cause
 use Rattle.rh_line.specs.declared.leg.Leg.{Leg}
-use Rattle.rh_record.specs.declared.answer.Answer.{Answer}
 use Rattle.rh_record.specs.declared.answer.Answer.TheVariants as answer
 use Rattle.rh_record.specs.declared.answer.Who.{Who}
 use Rattle.rh_record.specs.declared.answer.Who.TheVariants.{Client}
@@ -29,19 +28,15 @@ IsLicensedIn (Direct w) line node why = ⊥
 IsLicensedIn (Settings config) line node why = ⊥
 IsLicensedIn (Roles w) line node why = IsLicensedAt w line node why
 
--- bytes moved on the leg towards the client
-pub record MovesDown (answers : List Answer) (leg : Leg) : Type 0 where
-  pub piece : List ℕ
-  pub shown : IsOneOf (answer.Move (Some leg) D (Some piece)) answers
-
--- the client was refused, for a response on the leg, in bytes that moved towards it
+-- the client was refused, for a response on the leg that bytes made whole which moved towards it
 pub record RefusesClient (w : roles.World) (line : Line) (node : Who) (leg : Leg) (status : ℕ)
     (is : IsLicensedAt w line node (cause.HttpRefused leg status)) : Type 0 where
   pub client : node ≡ Client
   pub response : IsResponse
       (midst roles.rules roles.makers roles.deeds line w node (cause.HttpRefused leg status)
       is).company.client is.closed.closes.event leg status
-  pub moved : MovesDown (step_line roles.rules roles.makers roles.deeds line w).1 leg
+  pub moved : IsOneOf (answer.Move (Some leg) D (Some response.piece))
+      (step_line roles.rules roles.makers roles.deeds line w).1
 
 abbrev pub IsRefusedIn : AnyWorld → Line → Who → Leg → ℕ → Type 0
 IsRefusedIn Before line node leg status = ⊥

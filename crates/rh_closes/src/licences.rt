@@ -28,8 +28,8 @@ use rh_shell::Role;
 /// there; `LegEnded` as its end in the direction in which the node reads, and it tells how much of
 /// an unfinished head, greeting or frame is held there; `Silent` as the moment that it names, at
 /// which an unfinished leg was silent as long as the role allows; `HttpRefused` as a move to the
-/// node on that leg of bytes in which the role refused a head; and each other cause as a move of
-/// bytes to the node.
+/// node on that leg of bytes in which the role refused a head; `ControlFull` as a move of bytes to
+/// the node on some leg, and each other cause on the leg that it names.
 pub fn each_close_shows<K, C: Role, S: Role, I: Role, O: Role>()
     ensures { (m : Makers K I O) (d : Deeds C S) (line : Line) (w : World K C S I O)
         (node : Who) (why : Cause) → w.closed ≡ []
@@ -73,5 +73,5 @@ pub fn each_cause_shows<K, C, S, I, O>()
         (w : World K C S I O) (node : Who) (leg : Leg) (status : ℕ)
         (is : IsLicensed r m d line w node (cause.HttpRefused leg status))
         → ShowsMove (step_line r m d line w).1
-        (midst r m d line w node (cause.HttpRefused leg status) is) node leg }
+        (midst r m d line w node (cause.HttpRefused leg status) is) node is.closed.closes.event leg }
 {}
