@@ -1,0 +1,12 @@
+pub mod Showing
+pub mod Connected
+pub mod Losing
+pub mod Going
+pub mod Rounds
+pub mod Lines
+pub mod Licensed
+pub mod Recorded
+pub mod Once
+pub mod Refused
+pub mod Silent
+pub mod Reported

@@ -1,0 +1,77 @@
+-- changes behind changes, whose tellings some answers show
+use Rattle.std.proofs.Common.{◌≡◌, ℕ, zero, suc, List, [], ◌∷◌, ◌++◌, Bool, true, refl, sym, ◌∙◌, subst}
+use Rattle.std.specs.List.{list_all}
+use Rattle.std.proofs.lemmas.Bool.{and_from}
+use Rattle.std.proofs.lemmas.List.Folds.{list_all-append}
+use Rattle.rh_record.specs.declared.answer.Answer.{Answer}
+use Rattle.rh_nodes.specs.Company.{Rulebook}
+use Rattle.rh_nodes.specs.Giving.{Deeds}
+use Rattle.rh_nodes.specs.Opening.{Makers}
+use Rattle.rh_nodes.specs.Time.{for_each}
+use Rattle.rh_nodes.specs.World.{World}
+use Rattle.rh_history.specs.Changes.{Change, MayChange, changed, all_changed, is_work}
+use Rattle.rh_history.specs.Closes.{told_by}
+use Rattle.rh_history.proofs.Leading.{leads_none, leads_one, leads_then}
+use Rattle.rh_closes.specs.Shows.{IsShown, AreShown, ShownWorks}
+
+module _ {K C S I O : Type 0} (r : Rulebook C S I O) (m : Makers K I O) (d : Deeds C S)
+    (all : List Answer) where
+  -- to the world behind something that was done or refused
+  abbrev pub ShownOk : World K C S I O → World K C S I O × Bool → Type 0
+  ShownOk w did = ShownWorks r m d all w did.0
+
+  pub shown_none : (w : World K C S I O) → ShownWorks r m d all w w
+  shown_none w = record {
+    works = record { leads = leads_none r m d w; work = refl };
+    shown = tt;
+  }
+
+  pub shown_one : (w : World K C S I O) (change : Change) → MayChange r w change
+      → is_work change ≡ true → IsShown all w (told_by w change)
+      → ShownWorks r m d all w (changed r m d w change)
+  shown_one w change may work shows = record {
+    works = record {
+      leads = leads_one r m d w change may;
+      work = and_from (is_work change) true work refl;
+    };
+    shown = (shows, tt);
+  }
+
+  shown_append : (w : World K C S I O) (cs ds : List Change) → AreShown r m d all w cs
+      → AreShown r m d all (all_changed r m d w cs) ds → AreShown r m d all w (cs ++ ds)
+  shown_append w [] ds a b = b
+  shown_append w (c ∷ cs) ds a b = (a.0, shown_append (changed r m d w c) cs ds a.1 b)
+
+  pub shown_then : (w v u : World K C S I O) → ShownWorks r m d all w v
+      → ShownWorks r m d all v u → ShownWorks r m d all w u
+  shown_then w v u a b =
+      let cs = a.works.leads.changes in
+      let ds = b.works.leads.changes in
+      record {
+        works = record {
+          leads = leads_then r m d w v u a.works.leads b.works.leads;
+          work =
+              list_all-append is_work cs ds
+              ∙ and_from (list_all is_work cs) (list_all is_work ds) a.works.work b.works.work;
+        };
+        shown =
+            shown_append w cs ds a.shown
+            (subst (λ x. AreShown r m d all x ds) (sym a.works.leads.reached) b.shown);
+      }
+
+  -- one more change
+  pub shown_more : (w v : World K C S I O) (change : Change) → ShownWorks r m d all w v
+      → MayChange r v change → is_work change ≡ true → IsShown all v (told_by v change)
+      → ShownWorks r m d all w (changed r m d v change)
+  shown_more w v change a may work shows =
+      shown_then w v (changed r m d v change) a (shown_one v change may work shows)
+
+  -- something is done for each number
+  pub shown_for_each : (n : ℕ) (act : ℕ → World K C S I O → World K C S I O)
+      (w : World K C S I O)
+      → ((k : ℕ) (v : World K C S I O) → ShownWorks r m d all v (act k v))
+      → ShownWorks r m d all w (for_each n act w)
+  shown_for_each zero act w a = shown_none w
+  shown_for_each (suc n) act w a =
+      shown_then w (for_each n act w) (act n (for_each n act w)) (shown_for_each n act w a)
+      (a n (for_each n act w))

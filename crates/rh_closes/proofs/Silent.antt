@@ -1,0 +1,166 @@
+-- only a client and an in proxy fall silent, by what happened at them
+use Rattle.std.proofs.Common.{◌≡◌, ℕ, List, Some, None, refl, sym, ◌∙◌, subst}
+use Rattle.rh_http.specs.declared.config.ClientConfig.{ClientConfig}
+use Rattle.rh_text.specs.declared.ends.Side.TheVariants as side
+use Rattle.rh_line.specs.declared.cause.Cause.{Cause}
+use Rattle.rh_line.specs.declared.cause.Cause.TheVariants as cause
+use Rattle.rh_line.specs.declared.leg.Leg.{Leg}
+use Rattle.rh_record.specs.declared.answer.Who.{Who}
+use Rattle.rh_record.specs.declared.answer.Who.TheVariants.{Client, Server, In, Out}
+use Rattle.rh_record.specs.declared.line.Line.{Line}
+use Rattle.rh_shell.specs.Moving as moving
+use Rattle.rh_shell.specs.Moving.{EndEvent, after_end_events, after_events}
+use Rattle.rh_shell.specs.Rules.{Rules}
+use Rattle.rh_shell.specs.Shells.{Shell}
+use Rattle.rh_nodes.specs.declared.event.Event.{Event}
+use Rattle.rh_nodes.specs.declared.place.Place.{Place}
+use Rattle.rh_nodes.specs.declared.place.Place.TheVariants.{Absent, Here, Gone}
+use Rattle.rh_nodes.specs.Company as company
+use Rattle.rh_nodes.specs.Company.{Rulebook}
+use Rattle.rh_nodes.specs.Cookies.{cookie_of}
+use Rattle.rh_nodes.specs.Giving.{Deeds}
+use Rattle.rh_nodes.specs.Opening.{Makers}
+use Rattle.rh_nodes.specs.Places as places
+use Rattle.rh_nodes.specs.World.{World}
+use Rattle.rh_history.specs.Changes.{Change, IsTold, IsFed, IsDrawn, GoesUp, GoesDown, OpensIn, OpensOut, OpensSame, Gives, Takes, Closes, RecyclesIn, RecyclesOut, MovesTo, Draws, Reports, Leads, changed}
+use Rattle.rh_history.specs.Histories.{IsRun, all_noted, in_place, out_place, nothing}
+use Rattle.rh_history.proofs.Leading.{leads_keep}
+use Rattle.rh_history.proofs.Numbers.{answered}
+use Rattle.rh_world.specs.declared.any_world.AnyWorld.{AnyWorld}
+use Rattle.rh_world.specs.declared.any_world.AnyWorld.TheVariants.{Before, Direct, Settings, Roles}
+use Rattle.rh_world.specs.Roles as roles
+use Rattle.rh_client.specs.Client as clients
+use Rattle.rh_server.specs.States as states
+use Rattle.rh_server.specs.Servers as servers
+use Rattle.rh_inproxy.specs.declared.state.InProxyConfig.{InProxyConfig}
+use Rattle.rh_inproxy.specs.Machine as in_proxies
+use Rattle.rh_outproxy.specs.OutProxy.{OutProxy}
+use Rattle.rh_outproxy.specs.Machine as out_proxies
+use Rattle.rh_causes.specs.Closings.{ClosesWith}
+use Rattle.rh_causes.specs.Watching.{ClientFellSilent, InProxyFellSilent}
+use Rattle.rh_closes.specs.Licences.{midst}
+use Rattle.rh_closes.specs.Recordings.{IsLicensedAt, IsLicensedIn}
+use Rattle.rh_closes.specs.Silences.{FellSilent, IsSilentAt, IsSilentIn}
+use Rattle.rh_closes.proofs.Recorded.{IsReached, Reached}
+use Rattle.rh_closes.proofs.Refused.{midst_runs, never_there}
+
+-- ---- the configuration stays
+
+module _ {K C S I O : Type 0} (r : Rulebook C S I O) (m : Makers K I O) (d : Deeds C S) where
+  cast_stays : (w : World K C S I O) (change : Change)
+      → (changed r m d w change).cast ≡ w.cast
+  cast_stays w (IsTold node event) = refl
+  cast_stays w (IsFed leg dir count) = refl
+  cast_stays w (IsDrawn leg dir count) = refl
+  cast_stays w (GoesUp node leg end cookie) = refl
+  cast_stays w (GoesDown node leg end) = refl
+  cast_stays w (OpensIn n cookie) = refl
+  cast_stays w (OpensOut n cookie) = refl
+  cast_stays w (OpensSame n cookie) = refl
+  cast_stays w (Gives side.Client pdu) = refl
+  cast_stays w (Gives side.Server pdu) = refl
+  cast_stays w (Takes side.Client) = refl
+  cast_stays w (Takes side.Server) = refl
+  cast_stays w (Closes side.Client) = refl
+  cast_stays w (Closes side.Server) = refl
+  cast_stays w RecyclesIn = refl
+  cast_stays w RecyclesOut = refl
+  cast_stays w (MovesTo now) = refl
+  cast_stays w (Draws cookies) = refl
+  cast_stays w Reports = refl
+
+  cast_kept : (w v : World K C S I O) → Leads r m d w v → v.cast ≡ w.cast
+  cast_kept w v leads =
+      leads_keep r m d (λ (u : World K C S I O). u.cast ≡ w.cast)
+      (λ u change same may. cast_stays u change ∙ same) w v leads refl
+
+-- ---- nodes
+
+-- a proxy is what happened at it
+run_closes : {S : Type 0} (rules : Rules S) (made : Shell S) (events : List moving.Event)
+    (event : Event) (why : Cause) (p : Place S) → IsRun rules made events p
+    → (places.tell rules event p).1 ≡ Some why
+    → ClosesWith rules (after_events rules made events) event why
+run_closes rules made events event why Absent run e = absurd cc
+run_closes rules made events event why (Here node legs) run e =
+    subst (λ s. ClosesWith rules s event why) run e
+run_closes rules made events event why (Gone now) run e = absurd cc
+
+-- what each role's rules say of it
+pub record SilentEach : Type 0 where
+  pub client : (config : ClientConfig) (events : List EndEvent) (event : Event) (leg : Leg)
+      (since now : ℕ)
+      → ClosesWith clients.rules
+      (after_end_events clients.rules clients.acts (clients.first_client config) events) event
+      (cause.Silent leg since now)
+      → ClientFellSilent config events event leg since now
+  pub in_proxy : (config : InProxyConfig) (events : List moving.Event) (event : Event) (leg : Leg)
+      (since now : ℕ)
+      → ClosesWith in_proxies.rules
+      (after_events in_proxies.rules (in_proxies.first_node config) events) event
+      (cause.Silent leg since now)
+      → InProxyFellSilent config events event leg since now
+  pub out_proxy : (node : Shell OutProxy) (event : Event) (leg : Leg) (since now : ℕ)
+      → ClosesWith out_proxies.rules node event (cause.Silent leg since now) → ⊥
+  pub server : (node : Shell states.Server) (event : Event) (leg : Leg) (since now : ℕ)
+      → ClosesWith servers.rules node event (cause.Silent leg since now) → ⊥
+
+module _ (law : SilentEach) (line : Line) (w : roles.World) (h : IsReached w) (leg : Leg)
+    (since now : ℕ) where
+  abbrev why : Cause
+  why = cause.Silent leg since now
+
+  fell_by : (node : Who) (is : IsLicensedAt w line node why)
+      → (company.tell roles.rules
+      (midst roles.rules roles.makers roles.deeds line w node why is).company node
+      is.closed.closes.event).1 ≡ Some why
+      → FellSilent h.config
+      (all_noted roles.rules roles.makers roles.deeds (roles.begun h.config) nothing
+      (midst_runs line w node why h is).0.changes) node is.closed.closes.event leg since now
+  fell_by Client is e =
+      let runs = midst_runs line w Client why h is in
+      law.client (roles.client_config h.config (cookie_of 1) (cookie_of 2))
+      (all_noted roles.rules roles.makers roles.deeds (roles.begun h.config) nothing
+      runs.0.changes).client is.closed.closes.event leg since now
+      (subst (λ s. ClosesWith clients.rules s is.closed.closes.event why) runs.1.client e)
+  fell_by Server is e =
+      let v = midst roles.rules roles.makers roles.deeds line w Server why is in
+      absurd (law.server v.company.server is.closed.closes.event leg since now e)
+  fell_by (In n) is e =
+      let event = is.closed.closes.event in
+      let v = midst roles.rules roles.makers roles.deeds line w (In n) why is in
+      let runs = midst_runs line w (In n) why h is in
+      let past = (all_noted roles.rules roles.makers roles.deeds (roles.begun h.config) nothing
+      runs.0.changes).ins n in
+      let cast : v.cast ≡ h.config = cast_kept roles.rules roles.makers roles.deeds (roles.begun h.config) v
+      runs.0 in
+      subst (λ config. InProxyFellSilent (roles.in_config config n) past event leg since now) cast
+      (law.in_proxy (roles.in_config v.cast n) past event leg since now
+      (run_closes in_proxies.rules (roles.in_proxy v.cast n) past event why (in_place v.company n)
+      (runs.1.ins n)
+      (sym (answered Absent (places.tell in_proxies.rules event) None refl v.company.ins n) ∙ e)))
+  fell_by (Out n) is e =
+      let event = is.closed.closes.event in
+      let c = (midst roles.rules roles.makers roles.deeds line w (Out n) why is).company in
+      absurd (never_there out_proxies.rules event why
+      (λ node. law.out_proxy node event leg since now) (out_place c n)
+      (sym (answered Absent (places.tell out_proxies.rules event) None refl c.outs n) ∙ e))
+
+  pub silent_at : (node : Who) (is : IsLicensedAt w line node why)
+      → IsSilentAt w line node leg since now is
+  silent_at node is = record {
+    told = is.shows;
+    config = h.config;
+    leads = (midst_runs line w node why h is).0;
+    fell = fell_by node is is.closed.closes.closes;
+  }
+
+-- in whatever recording
+pub silent_in : SilentEach → (world : AnyWorld) (line : Line) (node : Who) (leg : Leg)
+    (since now : ℕ) → Reached world → IsLicensedIn world line node (cause.Silent leg since now)
+    → IsSilentIn world line node leg since now
+silent_in law Before line node leg since now h is = absurd is
+silent_in law (Direct w) line node leg since now h is = absurd is
+silent_in law (Settings config) line node leg since now h is = absurd is
+silent_in law (Roles w) line node leg since now h is =
+    (is, silent_at law line w h leg since now node is)
