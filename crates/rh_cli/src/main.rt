@@ -1,6 +1,7 @@
 //! The program: replays a recording and writes its report, or shows packets.
 #![tactic(auto)]
 
+mod claims;
 mod form;
 mod laws;
 mod output;

@@ -1,11 +1,14 @@
 //! The top call.
 
-ghost use Rattle.std.specs.Prelude.{◌≡◌, ◌≢◌, ℕ, IfOk, string_bytes};
+ghost use Rattle.std.specs.Prelude.{◌≡◌, ◌≢◌, ℕ, List, IfOk, string_bytes};
 ghost use Rattle.rh_make.specs.Making.{IsCount};
 ghost use Rattle.rh_make.specs.Summaries.{summary, summary_text};
+ghost use Rattle.rh_record.specs.declared.line.Line.{Line};
+ghost use Rattle.rh_cli.specs.Claims.{Claims};
 ghost use Rattle.rh_cli.specs.declared.form.Form.{Form};
 ghost use Rattle.rh_cli.specs.Forms.{IsForm, Tells, Ran, outside};
 
+use crate::claims::recordings_keep_to_their_claims;
 use crate::form::{Form, form_of};
 use crate::replay::Replay;
 use crate::show::Show;
@@ -56,6 +59,9 @@ pub const VERSION: &str = "rh_cli 0.1.0\n";
 /// `make` with a number from 1 to 10,000 generates a recording of roles of so many PDUs and writes
 /// what its report comes to. `--help` and `--version` alone write a text. These three read nothing.
 /// Other words are `Usage`.
+///
+/// Of every recording, whatever the words are: no more is held for a channel than its window, and
+/// each node is reported as closed once at most, by a line whose answers show why.
 pub fn run<R: Source, W: Sink>(
     alloc: Global,
     words: &[String],
@@ -72,7 +78,9 @@ pub fn run<R: Source, W: Sink>(
         (form : Form) → IsForm form words.now
         → Ran HELP.now VERSION.now (R.unfailing input.old) form result
         (seen input.old output.old) (seen input.new output.new) }
+    ensures claims { (lines : List Line) → Claims lines }
 {
+    recordings_keep_to_their_claims();
     match form_of(words) {
         Some(Form::Replay) => Status::from(answer::<Recording, Replay, R, W>(alloc, input, output)),
         Some(Form::Show) => Status::from(answer::<Packets, Show, R, W>(alloc, input, output)),

@@ -1,0 +1,39 @@
+-- what holds of every recording, beside its report
+use Rattle.std.specs.Prelude.{◌≡◌, ◌≤◌, ◌++◌, ℕ, List, [], ◌∷◌}
+use Rattle.rh_line.specs.declared.cause.Cause.{Cause}
+use Rattle.rh_line.specs.declared.cause.Cause.TheVariants.{HttpRefused, Silent}
+use Rattle.rh_line.specs.declared.leg.Leg.{Leg}
+use Rattle.rh_record.specs.declared.answer.Answer.TheVariants.{NodeClosed}
+use Rattle.rh_record.specs.declared.answer.Who.{Who}
+use Rattle.rh_record.specs.declared.line.Line.{Line}
+use Rattle.rh_history.specs.Closes.{IsOneOf, closings_of}
+use Rattle.rh_world.specs.declared.any_world.AnyWorld.{AnyWorld}
+use Rattle.rh_world.specs.declared.any_world.AnyWorld.TheVariants.{Before}
+use Rattle.rh_world.specs.Any.{prepared, run, step}
+use Rattle.rh_make.specs.Steps.{after}
+use Rattle.rh_bounds.specs.Bounds.{WindowsHold}
+use Rattle.rh_closes.specs.Recordings.{IsLicensedIn, IsRefusedIn}
+use Rattle.rh_closes.specs.Reports.{ShowsIn}
+use Rattle.rh_closes.specs.Silences.{IsSilentIn}
+
+-- a line reports a node as closed only for what it told that node, and its answers show that
+pub record ClosesForReason (world : AnyWorld) (line : Line) : Type 0 where
+  pub licensed : (node : Who) (why : Cause) → IsOneOf (NodeClosed node why) (step world line).1
+      → IsLicensedIn (prepared world line) line node why
+  pub shown : (node : Who) (why : Cause) → IsOneOf (NodeClosed node why) (step world line).1
+      → ShowsIn (step world line).1 why
+  pub refused : (node : Who) (leg : Leg) (status : ℕ)
+      → IsOneOf (NodeClosed node (HttpRefused leg status)) (step world line).1
+      → IsRefusedIn (prepared world line) line node leg status
+  pub silent : (node : Who) (leg : Leg) (since now : ℕ)
+      → IsOneOf (NodeClosed node (Silent leg since now)) (step world line).1
+      → IsSilentIn (prepared world line) line node leg since now
+
+-- behind each front of the lines no more is held for a channel than its window, and each line
+-- closes nodes for a reason; in all of the report each node is closed once at most
+pub record Claims (lines : List Line) : Type 0 where
+  pub held : (before behind : List Line) → lines ≡ before ++ behind
+      → WindowsHold (after Before before)
+  pub reasons : (before behind : List Line) (line : Line) → lines ≡ before ++ line ∷ behind
+      → ClosesForReason (after Before before) line
+  pub once : (node : Who) → closings_of node (run lines) ≤ 1

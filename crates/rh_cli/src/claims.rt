@@ -1,0 +1,26 @@
+//! What holds of every recording beside its report. This function does nothing: its contract is
+//! the law.
+
+ghost use Rattle.std.specs.Prelude.{List};
+ghost use Rattle.rh_record.specs.declared.line.Line.{Line};
+ghost use Rattle.rh_cli.specs.Claims.{Claims};
+
+use rh_bounds::windows_hold_in_every_recording;
+use rh_closes::{
+    a_node_of_a_recording_falls_silent, a_recording_reports_a_node_closed_once,
+    each_cause_of_a_recording_shows, each_close_of_a_recording_shows,
+    only_a_client_of_a_recording_is_refused,
+};
+
+/// In every recording no more is held for a channel than its window, and each node is reported as
+/// closed once at most, by a line whose answers show why (MS-RPCH 3.2).
+pub fn recordings_keep_to_their_claims()
+    ensures { (lines : List Line) → Claims lines }
+{
+    windows_hold_in_every_recording();
+    each_close_of_a_recording_shows();
+    each_cause_of_a_recording_shows();
+    only_a_client_of_a_recording_is_refused();
+    a_node_of_a_recording_falls_silent();
+    a_recording_reports_a_node_closed_once();
+}
