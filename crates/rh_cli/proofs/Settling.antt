@@ -234,10 +234,10 @@ module _ {first : AnyWorld} {rounds count : ℕ} {now : AnyWorld} {before gather
     {start here : Out} where
   pub settling_more : {next : AnyWorld} {left : List ℕ} {later : Out} → count < rounds
       → (round now).1 ≢ [] → next ≡ (round now).0
-      → Gathers (gathered ++ report_text (round now).1) left here later
       → Settling first rounds count now before gathered start here
+      → Gathers (gathered ++ report_text (round now).1) left here later
       → Settling first rounds (count + 1) next before left start later
-  settling_more {next} {left} {later} below some moved k h = record {
+  settling_more {next} {left} {later} below some moved h k = record {
     told = h.told ++ (round now).1;
     done = settling_goes_on first rounds count now next h.told below some moved h.done;
     wrote = gathers_next before h.told (round now).1 h.wrote k;
@@ -245,10 +245,10 @@ module _ {first : AnyWorld} {rounds count : ℕ} {now : AnyWorld} {before gather
 
   -- a round could not be done or written
   pub settling_stops : {later : Option (List ℕ)} → settles first ≡ true → count < rounds
-      → Stops (gathered ++ report_text (round now).1) here.known later
       → Settling first rounds count now before gathered start here
+      → Stops (gathered ++ report_text (round now).1) here.known later
       → Stops (before ++ report_text (step first (Settle rounds)).1) start.known later
-  settling_stops {later} is below k h =
+  settling_stops {later} is below h k =
       let (rest, front) = settling_front first rounds count now h.told is below h.done in
       stops_next before h.told (step first (Settle rounds)).1 (round now).1 rest front h.wrote k
 
@@ -273,10 +273,10 @@ module _ {first : AnyWorld} {rounds count : ℕ} {now : AnyWorld} {before gather
     {start here : Out} where
   pub quiet_ends : {next : AnyWorld} {left : List ℕ} {later : Out} → settles first ≡ true
       → count < rounds → (round now).1 ≡ [] → next ≡ (round now).0
-      → Gathers (gathered ++ report_text (round now).1) left here later
       → Settling first rounds count now before gathered start here
+      → Gathers (gathered ++ report_text (round now).1) left here later
       → Ending first rounds next (Quiet count) before left start later
-  quiet_ends {next} {left} {later} is below none moved k h = record {
+  quiet_ends {next} {left} {later} is below none moved h k = record {
     told = h.told;
     is = settling_is_quiet first rounds count now next h.told is below none moved h.done;
     wrote = subst (λ (x : List Answer). Gathers (before ++ report_text x) left start later)
@@ -328,12 +328,12 @@ module _ {first : AnyWorld} {rounds : ℕ} {now : AnyWorld} {last : Answer}
       → Stops (gathered ++ report_text (last ∷ (end_line now).1)) here.known later
       → Stops (before ++ report_text (step first (Settle rounds)).1) start.known later
   ending_stops {later} h k =
-      stops_next before h.told (step first (Settle rounds)).1 (last ∷ (end_line now).1) [] (ending_report h)
-      h.wrote k
+      stops_next before h.told (step first (Settle rounds)).1 (last ∷ (end_line now).1) []
+      (ending_report h) h.wrote k
 
   pub ending_sure : Ending first rounds now last before gathered start here
       → length (before ++ report_text (step first (Settle rounds)).1) ≤ start.takes
       → length (gathered ++ report_text (last ∷ (end_line now).1)) ≤ here.takes
   ending_sure h fits =
-      sure_next before h.told (step first (Settle rounds)).1 (last ∷ (end_line now).1) [] (ending_report h)
-      h.wrote fits
+      sure_next before h.told (step first (Settle rounds)).1 (last ∷ (end_line now).1) []
+      (ending_report h) h.wrote fits
