@@ -13,6 +13,12 @@ fn words_in_no_form_are_usage(rt: HostRuntime) -> Result<(), Fail> {
         &["replay", "replay"],
         &["show", "-"],
         &["--help", "x"],
+        &["make"],
+        &["make", "0"],
+        &["make", "10001"],
+        &["make", "03"],
+        &["make", "x"],
+        &["make", "3", "4"],
     ] {
         let mut given = Vec::new(rt.alloc());
         for word in words {
@@ -43,5 +49,20 @@ fn the_program_tells_of_itself(rt: HostRuntime) -> Result<(), Fail> {
             assert_eq!(rt; whole, status == Status::Done, "{word}");
         }
     }
+    Ok(())
+}
+
+// What the report of a generated recording of 3 PDUs comes to.
+const THREE: &str = "up given 2 taken 2\ndown given 1 taken 1\nclient ended in 1 out 1\n\
+    server ended in 1 out 1\nmoved 8654\nrounds 8\n";
+
+#[test]
+fn a_generated_recording_is_summed_up(rt: HostRuntime) -> Result<(), Fail> {
+    let mut words = vec![in rt.alloc(); String::from_str(rt.alloc(), "make")?]?;
+    words.push(String::from_str(rt.alloc(), "3")?)?;
+    let mut input = MemSource::new(Vec::new(rt.alloc()), Vec::new(rt.alloc()));
+    let mut output = MemSink::new(rt.alloc(), ROOM, Vec::new(rt.alloc()))?;
+    assert_eq!(rt; run(rt.alloc(), &words, &mut input, &mut output), Status::Done);
+    assert!(rt; output.written() == THREE.as_bytes());
     Ok(())
 }
