@@ -4,7 +4,7 @@ use Rattle.std.proofs.lemmas.List.{append-nil, length-append}
 use Rattle.std.specs.declared.option.Option.{Option}
 use Rattle.std.specs.Io.KnownBytes.{Appends}
 use Rattle.std.proofs.KnownBytes.{Appends-nil, Appends-trans}
-use Rattle.rh_cli.specs.Outputs.{Out, Took, Gathers, Stops}
+use Rattle.rh_cli.specs.Outputs.{Out, Gathers, Stops}
 
 -- a piece was written, and the rest is gathered
 pub gathers : (before now : Out) (text piece left : List ℕ) → Appends before.known now.known piece

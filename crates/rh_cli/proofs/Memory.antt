@@ -112,16 +112,16 @@ ran_in_memory help version Unfailing Show status before after text (
     let s = spared packets IsShown Unfailing before after text ended reads sure left none room in
     rw is (record { none_failed = s.none_failed; whole = s.whole; done = s.done })
 ran_in_memory help version Unfailing (Make count) status before after text (
-  inl h
-) sure left none room =
+    inl h
+    ) sure left none room =
     rw h.0 (record {
       none_failed = tt;
       whole = λ e. absurd (cc);
       done = λ _. inr refl;
     })
 ran_in_memory help version Unfailing (Make count) status before after text (
-  inr h
-) sure left none room =
+    inr h
+    ) sure left none room =
     let t = told_whole (summary_text (summary count)) status before.written after.written _ _
     before.takes h none (room (summary_text (summary count)) refl) in
     rw t.0 (record { none_failed = tt; whole = λ _. t.1; done = λ _. inl refl })

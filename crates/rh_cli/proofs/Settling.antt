@@ -1,8 +1,7 @@
 -- a settling in the midst: what its rounds reported so far is a front of what its line is answered
-use Rattle.std.proofs.Common.{◌≡◌, ◌≢◌, ℕ, suc, ◌+◌, ◌-◌, ◌<◌, ◌≤◌, List, [], ◌∷◌, ◌++◌, Ok, Err, true, false, length, OnOk, OnErr, refl, sym, ◌∙◌, ap, subst, arith, append_assoc}
+use Rattle.std.proofs.Common.{◌≡◌, ◌≢◌, ℕ, suc, ◌+◌, ◌-◌, ◌<◌, ◌≤◌, List, [], ◌∷◌, ◌++◌, Ok, true, false, length, refl, sym, ◌∙◌, ap, subst, arith, append_assoc}
 use Rattle.std.proofs.lemmas.List.{append-nil}
 use Rattle.std.specs.declared.option.Option.{Option}
-use Rattle.std.specs.declared.result.Result.{Result}
 use Rattle.rh_record.specs.declared.answer.Answer.{Answer}
 use Rattle.rh_record.specs.declared.answer.Answer.TheVariants.{Quiet, Spent}
 use Rattle.rh_record.specs.declared.line.Line.TheVariants.{Settle}
@@ -10,7 +9,7 @@ use Rattle.rh_record.specs.Report.{report_text}
 use Rattle.rh_record.proofs.Reports.{report_text-append}
 use Rattle.rh_nodes.specs.Reports.{and_then}
 use Rattle.rh_nodes.specs.Settling.{behind_round, rounds_from}
-use Rattle.rh_nodes.proofs.Settles.{Settles, settles_first, settles_more, settles_quiet, settles_spent, some_added}
+use Rattle.rh_nodes.proofs.Settles.{Settles, settles_first, settles_more, settles_quiet, settles_spent}
 use Rattle.rh_world.specs.declared.any_world.AnyWorld.{AnyWorld}
 use Rattle.rh_world.specs.declared.any_world.AnyWorld.TheVariants.{Before, Direct, Settings, Roles}
 use Rattle.rh_world.specs.Any.{begun, end_line, given, round, settles, step}

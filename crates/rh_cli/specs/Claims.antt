@@ -1,5 +1,5 @@
 -- what holds of every recording, beside its report
-use Rattle.std.specs.Prelude.{◌≡◌, ◌≤◌, ◌++◌, ℕ, List, [], ◌∷◌}
+use Rattle.std.specs.Prelude.{◌≡◌, ◌≤◌, ◌++◌, ℕ, List, ◌∷◌}
 use Rattle.rh_line.specs.declared.cause.Cause.{Cause}
 use Rattle.rh_line.specs.declared.cause.Cause.TheVariants.{HttpRefused, Silent}
 use Rattle.rh_line.specs.declared.leg.Leg.{Leg}

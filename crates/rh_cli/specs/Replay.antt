@@ -1,5 +1,5 @@
 -- what the word `replay` does, and what it writes of the recording that came
-use Rattle.std.specs.Prelude.{◌≡◌, ℕ, List, [], ◌∷◌, false}
+use Rattle.std.specs.Prelude.{◌≡◌, ℕ, List, ◌∷◌, false}
 use Rattle.rh_text.specs.Lines.{TextOf}
 use Rattle.rh_record.specs.declared.line.Line.{Line}
 use Rattle.rh_record.specs.declared.line.Line.TheVariants.{First}

@@ -10,9 +10,7 @@ ghost use Rattle.rh_cli.specs.Outputs.{out, Gathers, Stops};
 use crate::output::{PIECE, Unfinished, pass_on};
 use crate::word::{MOST_INPUT, Word};
 use rh_io::Sink;
-use rh_record::{
-    Answer, Line, LineRefused, Place, Recording, Report, read_line, write_report,
-};
+use rh_record::{Answer, Line, LineRefused, Place, Recording, Report, read_line, write_report};
 use rh_world::AnyWorld;
 use std::alloc::{AllocError, Global};
 use std::marker::Model;
@@ -33,11 +31,7 @@ impl Model for Replay {
 }
 
 /// Gathers the text of a report, and writes what is gathered where that is a piece.
-fn gather<W: Sink>(
-    report: &Report,
-    gathered: &mut String,
-    output: &mut W,
-) -> Result<(), Unfinished>
+fn gather<W: Sink>(report: &Report, gathered: &mut String, output: &mut W) -> Result<(), Unfinished>
     ensures ok { OnOk result (Gathers
         (string_bytes gathered.old ++ report_text report.now)
         (string_bytes gathered.new)
@@ -49,8 +43,7 @@ fn gather<W: Sink>(
         → Rose (W.faults output.old) (W.faults output.new) }
     ensures no_failure { result ≢ Err Unfinished.WriteFault
         → W.faults output.new ≡ W.faults output.old }
-    ensures takes {
-        length (string_bytes gathered.old ++ report_text report.now)
+    ensures takes { length (string_bytes gathered.old ++ report_text report.now)
         ≤ W.takes output.old → result ≢ Err Unfinished.WriteFault }
 {
     write_report(report, gathered)?;
@@ -80,8 +73,7 @@ impl Replay {
             → Rose (W.faults output.old) (W.faults output.new) }
         ensures no_failure { result ≢ Err Unfinished.WriteFault
             → W.faults output.new ≡ W.faults output.old }
-        ensures takes {
-            length (string_bytes gathered.old ++ report_text (seen.step self.old line.now).1)
+        ensures takes { length (string_bytes gathered.old ++ report_text (seen.step self.old line.now).1)
             ≤ W.takes output.old → result ≢ Err Unfinished.WriteFault }
     {
         if let Line::Settle { rounds } = line {
@@ -114,8 +106,7 @@ impl Replay {
             → Rose (W.faults output.old) (W.faults output.new) }
         ensures no_failure { result ≢ Err Unfinished.WriteFault
             → W.faults output.new ≡ W.faults output.old }
-        ensures takes {
-            length (string_bytes gathered.old ++ report_text (seen.step self.old (Settle rounds)).1)
+        ensures takes { length (string_bytes gathered.old ++ report_text (seen.step self.old (Settle rounds)).1)
             ≤ W.takes output.old → result ≢ Err Unfinished.WriteFault }
     {
         if !self.world.begin(alloc)? {
@@ -149,8 +140,7 @@ impl Replay {
             → Rose (W.faults output.old) (W.faults output.new) }
         ensures no_failure { result ≢ Err Unfinished.WriteFault
             → W.faults output.new ≡ W.faults output.old }
-        ensures takes {
-            length (string_bytes gathered.old ++ report_text (seen.round self.old).1)
+        ensures takes { length (string_bytes gathered.old ++ report_text (seen.round self.old).1)
             ≤ W.takes output.old → result ≢ Err Unfinished.WriteFault }
     {
         self.report.clear();
@@ -178,8 +168,7 @@ impl Replay {
             → Rose (W.faults output.old) (W.faults output.new) }
         ensures no_failure { result ≢ Err Unfinished.WriteFault
             → W.faults output.new ≡ W.faults output.old }
-        ensures takes {
-            length (string_bytes gathered.old
+        ensures takes { length (string_bytes gathered.old
             ++ report_text (answer ∷ (seen.end_line self.old).1))
             ≤ W.takes output.old → result ≢ Err Unfinished.WriteFault }
     {

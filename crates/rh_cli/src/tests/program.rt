@@ -62,7 +62,10 @@ fn a_generated_recording_is_summed_up(rt: HostRuntime) -> Result<(), Fail> {
     words.push(String::from_str(rt.alloc(), "3")?)?;
     let mut input = MemSource::new(Vec::new(rt.alloc()), Vec::new(rt.alloc()));
     let mut output = MemSink::new(rt.alloc(), ROOM, Vec::new(rt.alloc()))?;
-    assert_eq!(rt; run(rt.alloc(), &words, &mut input, &mut output), Status::Done);
+    assert_eq!(rt;
+        run(rt.alloc(), &words, &mut input, &mut output),
+        Status::Done
+    );
     assert!(rt; output.written() == THREE.as_bytes());
     Ok(())
 }

@@ -1,6 +1,6 @@
 -- what was written and what was not are what was gathered
-use Rattle.std.proofs.Common.{[], ◌++◌, sym, ◌∙◌, ap, refl, take, drop, string_bytes, arith}
-use Rattle.std.proofs.lemmas.List.{take-append-drop, append-nil}
+use Rattle.std.proofs.Common.{sym, ◌∙◌, take, drop}
+use Rattle.std.proofs.lemmas.List.{take-append-drop}
 use Rattle.rh_cli.proofs.output.pass_on.Goals as goal
 
 pub returns-in-Err-clause-err : goal.returns-in-Err-clause-err

@@ -1,7 +1,6 @@
 -- a summary is written, or there was no memory for it
-use Rattle.std.proofs.Common.{◌≡◌, sym, ap, subst}
+use Rattle.std.proofs.Common.{sym, ap, subst}
 use Rattle.rh_cli.specs.declared.form.Form.{Form}
-use Rattle.rh_cli.specs.declared.form.Form.TheVariants.{Make}
 use Rattle.rh_cli.specs.Forms.{Ran, outside}
 use Rattle.rh_cli.specs.declared.run.TheConstants.{HELP, VERSION}
 use Rattle.rh_cli.proofs.FormLaws.{only_make, by_memory}

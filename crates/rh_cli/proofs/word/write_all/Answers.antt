@@ -1,7 +1,7 @@
 -- what was written and gathered is what the lines done say
-use Rattle.std.proofs.Common.{◌≡◌, ◌≢◌, ◌≤◌, List, ℕ, [], ◌++◌, length, string_bytes, Err, ap, subst, sym, ◌∙◌, refl, arith}
+use Rattle.std.proofs.Common.{◌≢◌, [], length, string_bytes, Err, ap, subst, sym, ◌∙◌, refl, arith}
 use Rattle.std.proofs.lemmas.Bool.Decides.{nat_tests}
-use Rattle.rh_cli.specs.Outputs.{Out, out}
+use Rattle.rh_cli.specs.Outputs.{out}
 use Rattle.rh_cli.proofs.Results.{at_error, ok_not_err, of_err}
 use Rattle.rh_cli.proofs.Writing.{Writing, writing_first, line_ahead, writing_line, writing_on, writing_so_far}
 use Rattle.rh_cli.proofs.Writing.{writing_stops, writing_sure, writing_whole, whole_all, whole_stops, whole_sure}

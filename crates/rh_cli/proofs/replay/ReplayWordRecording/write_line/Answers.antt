@@ -1,5 +1,5 @@
 -- the line that is read is the one that stands there, and what it is answered is told
-use Rattle.std.proofs.Common.{◌≡◌, List, ℕ, ◌++◌, Err, refl, sym, ap, subst, string_bytes}
+use Rattle.std.proofs.Common.{List, ℕ, ◌++◌, Err, refl, sym, ap, subst, string_bytes}
 use Rattle.rh_record.specs.declared.line.Line.{Line}
 use Rattle.rh_record.specs.declared.place.Place.{Place}
 use Rattle.rh_record.specs.Places.{Stands, kind_of}
@@ -23,10 +23,15 @@ stands place text line other h k =
 pub returns-in-Err-NoMemory-clause-err : goal.returns-in-Err-NoMemory-clause-err
 returns-in-Err-NoMemory-clause-err g c =
     let (line, spelled) = c.requires.line in
-    let (told, next, does) = goes_on c.args.self.now c.args.place c.args.line.now line spelled in
-    (line, told, next, spelled, does,
-    stops_now (string_bytes c.args.gathered.now ++ told)
-    (out g.W.Sink.written g.W.Sink.takes c.args.output.now))
+    let (told, next, does) = goes_on c.args.self.now c.args.place c.args.line.now line spelled in (
+      line,
+      told,
+      next,
+      spelled,
+      does,
+      stops_now (string_bytes c.args.gathered.now ++ told)
+          (out g.W.Sink.written g.W.Sink.takes c.args.output.now),
+    )
 
 pub returns-in_err-step-clause-err : goal.returns-in_err-step-clause-err
 returns-in_err-step-clause-err g c =
@@ -51,6 +56,11 @@ returns-clause-ok g c =
     let line = c.in-Ok.line in
     let read = subst (λ k. IsLine k c.args.line.now line) c.kind.ensures c.in-Ok.ensures.line in
     let there = stands c.args.place c.args.line.now line c.requires.line.0 read c.requires.line.1 in
-    let done = c.in_ok-step.ensures in
-    (line, report_text (seen.step c.args.self.now line).1, there, c.next.ensures,
-    (refl, done.world), done.ok)
+    let done = c.in_ok-step.ensures in (
+      line,
+      report_text (seen.step c.args.self.now line).1,
+      there,
+      c.next.ensures,
+      (refl, done.world),
+      done.ok,
+    )

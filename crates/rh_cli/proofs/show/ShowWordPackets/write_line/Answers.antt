@@ -1,5 +1,5 @@
 -- where there is no memory or no room, what would have been told
-use Rattle.std.proofs.Common.{List, ℕ, [], ◌∷◌, ◌++◌, refl, string_bytes}
+use Rattle.std.proofs.Common.{[], ◌∷◌, ◌++◌, refl, string_bytes}
 use Rattle.rh_cli.specs.Outputs.{out}
 use Rattle.rh_cli.specs.Shows.{goes_on}
 use Rattle.rh_cli.proofs.Results.{at_error, ok_no_err}
@@ -10,10 +10,15 @@ pub returns-in_err-show_packet-clause-err : goal.returns-in_err-show_packet-clau
 returns-in_err-show_packet-clause-err g c =
     let (bytes, spelled) = c.requires.line in
     let (told, next, does) = goes_on tt tt c.args.line.now bytes spelled in
-    at_error c.from_residual.result _
-    (bytes, told, c.args.self.now, spelled, does,
-    stops_now (string_bytes c.args.gathered.now ++ told)
-    (out g.W.Sink.written g.W.Sink.takes c.args.output.now))
+    at_error c.from_residual.result _ (
+      bytes,
+      told,
+      c.args.self.now,
+      spelled,
+      does,
+      stops_now (string_bytes c.args.gathered.now ++ told)
+          (out g.W.Sink.written g.W.Sink.takes c.args.output.now),
+    )
 
 pub returns-clause-takes : goal.returns-clause-takes
 returns-clause-takes g c = λ all said.

@@ -1,0 +1,14 @@
+-- each claim is a law
+use Rattle.rh_cli.proofs.claims.recordings_keep_to_their_claims.Goals as goal
+
+pub returns : goal.returns
+returns c = λ lines. record {
+  held = λ before behind is. c.windows_hold_in_every_recording.ensures.recording before;
+  reasons = λ before behind line is. record {
+    licensed = c.each_close_of_a_recording_shows.ensures before line;
+    shown = c.each_cause_of_a_recording_shows.ensures before line;
+    refused = c.only_a_client_of_a_recording_is_refused.ensures before line;
+    silent = c.a_node_of_a_recording_falls_silent.ensures before line;
+  };
+  once = c.a_recording_reports_a_node_closed_once.ensures lines;
+}
