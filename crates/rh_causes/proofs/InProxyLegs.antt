@@ -528,7 +528,7 @@ a6_later s are =
 end_later : (s : InProxy) → Holds s → LaterPick s (put_end s)
 end_later s are =
     by_test (LaterPick s)
-    (line.is_ended s.line && not s.end_put && line.is_empty s.line.current.pdus)
+    (s.line.current.ended && not s.end_put && line.is_empty s.line.current.pdus)
     (Some (record s { end_put = true }, Packet EndA2)) None (λ e. grows_self (legs s) are)
     (λ e. grows_self (legs s) are)
 

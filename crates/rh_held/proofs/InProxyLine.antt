@@ -432,7 +432,7 @@ module _ (window : ℕ) where
       or_kept (put_mark s) (put_ping s)
       (or_kept (put_end s) (put_in_r1_a6 s)
       (by_test PickKept
-      (line.is_ended s.line && not s.end_put && line.is_empty s.line.current.pdus) _ None
+      (s.line.current.ended && not s.end_put && line.is_empty s.line.current.pdus) _ None
       (λ e. k) (λ e. tt))
       (by_test PickKept (is_absent s.successor && line.is_empty s.line.current.pdus)
       (mark_by s s.handover) None (λ e. mark_put s s.handover k) (λ e. tt)))

@@ -245,7 +245,7 @@ mark_goes s (Came cookie) is k = (handover_is s Passed tt k, successor_named coo
 marks_go : (s : InProxy) → IsSound s → GoesOn (put_mark s)
 marks_go s k =
     by_test (λ (pick : Pick). GoesOn (or_else pick (put_in_r1_a6 s)))
-    (line.is_ended s.line && not s.end_put && line.is_empty s.line.current.pdus)
+    (s.line.current.ended && not s.end_put && line.is_empty s.line.current.pdus)
     (Some (record s { end_put = true }, Packet named.EndA2)) None
     (λ e. (k, end_named))
     (λ e. by_test GoesOn (is_absent s.successor && line.is_empty s.line.current.pdus)

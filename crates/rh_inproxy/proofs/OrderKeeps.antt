@@ -81,7 +81,7 @@ pub record Parts (has_next done over : Bool) (number : ℕ) (successor : Success
 
 abbrev pub IsSound : InProxy → Type 0
 IsSound s =
-    Parts s.line.has_next s.line.finished (line.is_ended s.line) s.current.number s.successor
+    Parts s.line.has_next s.line.finished s.line.current.ended s.current.number s.successor
     s.handover s.end_put s.waiting.due
 
 -- first: the number of the first ci leg

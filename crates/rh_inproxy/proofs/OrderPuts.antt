@@ -253,11 +253,15 @@ not_yet : (passed over end_put : Bool) → (passed ≡ true → over ≡ true �
 not_yet false over end_put m o e = refl
 not_yet true over end_put m o e = let t = m refl o in absurd cc
 
+ended_now : (before now : Bool) → now ≡ true → before || now ≡ true
+ended_now true now e = refl
+ended_now false now e = e
+
 end_passes : (first : ℕ) (came : Log) (put : List Item) (s : InProxy) → Kept first came put s
-    → line.is_ended s.line && not s.end_put && line.is_empty s.line.current.pdus ≡ true
+    → s.line.current.ended && not s.end_put && line.is_empty s.line.current.pdus ≡ true
     → Kept first came (put ++ Stop ∷ []) (record s { end_put = true })
 end_passes first came put s k e =
-    let is = three (line.is_ended s.line) (not s.end_put) (line.is_empty s.line.current.pdus) e in
+    let is = three s.line.current.ended (not s.end_put) (line.is_empty s.line.current.pdus) e in
     let unput = not_so s.end_put is.1 in
     record {
       sound = record {
@@ -269,17 +273,17 @@ end_passes first came put s k e =
         plain = k.sound.plain;
       };
       law = passer_step (passer_of s) first came put PassesEnd k.law (
-        is.0,
+        ended_now s.line.was_ended s.line.current.ended is.0,
         nothing_there s.line.current.pdus is.2,
         unput,
-        not_yet (has_passed s.handover) (line.is_ended s.line) s.end_put k.sound.marked
+        not_yet (has_passed s.handover) s.line.current.ended s.end_put k.sound.marked
             is.0 unput,
       );
     }
 
 mark_passes : (first : ℕ) (came : Log) (put : List Item) (s : InProxy) (successor : Successor)
     (handover : Handover) → is_absent successor ≡ true → s.line.current.pdus ≡ []
-    → (line.is_ended s.line ≡ true → s.end_put ≡ true)
+    → (s.line.current.ended ≡ true → s.end_put ≡ true)
     → Kept first came put (record s { successor = successor; handover = handover })
     → KeptPick first came put
     (mark_by (record s { successor = successor; handover = handover }) handover)
@@ -304,7 +308,7 @@ mark_keeps : (first : ℕ) (came : Log) (put : List Item) (s : InProxy) → Kept
     → KeptPick first came put (put_mark s)
 mark_keeps first came put s k =
     by_test (λ (pick : Pick). KeptPick first came put (or_else pick (put_in_r1_a6 s)))
-    (line.is_ended s.line && not s.end_put && line.is_empty s.line.current.pdus)
+    (s.line.current.ended && not s.end_put && line.is_empty s.line.current.pdus)
     (Some (record s { end_put = true }, Packet named.EndA2)) None
     (λ e. end_passes first came put s k e)
     (λ e. by_test (KeptPick first came put)
@@ -312,7 +316,7 @@ mark_keeps first came put s k =
     (λ f. let is = both (is_absent s.successor) (line.is_empty s.line.current.pdus) f in
     mark_passes first came put s s.successor s.handover is.0
     (nothing_there s.line.current.pdus is.1)
-    (put_already (line.is_ended s.line) s.end_put (line.is_empty s.line.current.pdus) e is.1) k)
+    (put_already s.line.current.ended s.end_put (line.is_empty s.line.current.pdus) e is.1) k)
     (λ f. tt))
 
 -- ---- the next message

@@ -31,11 +31,11 @@ on_end_a1 s which =
     then unexpected s
     else taken (record s { line = line.after_end s.line which })
 
--- 5. END/A2 is a mark where END came on the current channel or before it, and no PDU is left; it is
--- put once
+-- 5. END/A2 is a mark where END came on the current channel and no PDU is left there; it is put
+-- once. Where a successor by IN_R2 became current before, END that comes again there is its cause
 abbrev pub put_end : InProxy → Pick
 put_end s =
-    if line.is_ended s.line && not s.end_put && line.is_empty s.line.current.pdus
+    if s.line.current.ended && not s.end_put && line.is_empty s.line.current.pdus
     then Some (record s { end_put = true }, Packet EndA2)
     else None
 

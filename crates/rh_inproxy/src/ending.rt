@@ -36,13 +36,14 @@ impl InProxyRole {
         Ok(())
     }
 
-    /// Puts END/A2 once, where END came and no PDU is left.
+    /// Puts END/A2 once, where END came on the current channel and no PDU is left there.
     pub(crate) fn put_end(&mut self, begun: &mut Begun) -> bool
         requires { begun.old ≡ [] }
         ensures put { (self.new, begun.new) ≡ put_into self.old (seen.put_end self.old) }
         ensures told { result ≡ is_some (seen.put_end self.old) }
     {
-        if !self.line.is_ended() || self.end_put || !self.line.is_empty(Which::Current) {
+        let due = self.line.is_over(Which::Current) && self.line.is_empty(Which::Current);
+        if !due || self.end_put {
             return false;
         }
         self.end_put = true;

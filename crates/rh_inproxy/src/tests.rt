@@ -109,41 +109,29 @@ enum Cut {
     Bytes,
 }
 
-fn cookie(last: u8) -> Cookie {
-    let mut bytes = [0; 16];
-    bytes[15] = last;
-    Cookie(bytes)
-}
+/// The cookies of the connection, of its association group, of the OUT channel and the IN channel.
+const CONNECTION: Cookie = Cookie([0, 0, 0, 0, 0, 0, 0, 0, 0, 0, 0, 0, 0, 0, 0, 1]);
 
-/// The connection's cookie is 1, the group's 2, and that of the IN channel 4.
-fn conn_b1() -> Named {
-    Named::ConnB1(1, cookie(1), cookie(4), 1_073_741_824, 300_000, cookie(2))
-}
+const GROUP: Cookie = Cookie([0, 0, 0, 0, 0, 0, 0, 0, 0, 0, 0, 0, 0, 0, 0, 2]);
 
-/// IN_R1/A1 of a channel with the cookie 5, behind the one with this cookie.
-fn in_r1_a1(connection: u8, predecessor: u8) -> Named {
-    Named::InR1A1(1, cookie(connection), cookie(predecessor), cookie(5))
-}
+const OUT_CHANNEL: Cookie = Cookie([0, 0, 0, 0, 0, 0, 0, 0, 0, 0, 0, 0, 0, 0, 0, 3]);
 
-fn unexpected(leg: Leg, place: u64) -> Verdict {
-    Verdict::Closed(Cause::Unexpected { leg, place })
-}
+const CHANNEL: Cookie = Cookie([0, 0, 0, 0, 0, 0, 0, 0, 0, 0, 0, 0, 0, 0, 0, 4]);
 
-fn mismatch(leg: Leg, expected: u8, got: u8) -> Verdict {
-    Verdict::Closed(Cause::CookieMismatch {
-        leg,
-        expected: cookie(expected),
-        got: cookie(got),
-    })
-}
+/// The cookies of the successor of the IN channel, of another channel, and of none here.
+const SUCCESSOR: Cookie = Cookie([0, 0, 0, 0, 0, 0, 0, 0, 0, 0, 0, 0, 0, 0, 0, 5]);
 
-fn out_of_range(leg: Leg, command: u32, value: u32) -> Verdict {
-    Verdict::Closed(Cause::OutOfRange {
-        leg,
-        command,
-        value,
-    })
-}
+const OTHER: Cookie = Cookie([0, 0, 0, 0, 0, 0, 0, 0, 0, 0, 0, 0, 0, 0, 0, 6]);
+
+const STRANGE: Cookie = Cookie([0, 0, 0, 0, 0, 0, 0, 0, 0, 0, 0, 0, 0, 0, 0, 9]);
+
+const CONN_B1: Named = Named::ConnB1(1, CONNECTION, CHANNEL, 1_073_741_824, 300_000, GROUP);
+
+/// The successor joins.
+const IN_R1_A1: Named = Named::InR1A1(1, CONNECTION, CHANNEL, SUCCESSOR);
+
+/// The IN channel is handed over.
+const IN_R1_A5: Named = Named::InR1A5(SUCCESSOR);
 
 fn made(alloc: Global) -> Result<InProxy, AllocError> {
     InProxy::new(
@@ -261,10 +249,34 @@ fn is_met(alloc: Global, case: &Case<'_>, cut: Cut) -> Result<bool, AllocError> 
     Ok(verdict == Some(case.verdict) && stays(&mut proxy, case.verdict))
 }
 
+/// Whether a case is met, whole and byte by byte.
+fn is_met_in_both(alloc: Global, case: &Case<'_>) -> Result<bool, AllocError> {
+    Ok(is_met(alloc, case, Cut::Whole)? && is_met(alloc, case, Cut::Bytes)?)
+}
+
 /// The place of the first case that is not met, whole or byte by byte.
 fn first_unmet(alloc: Global, cases: &[Case<'_>]) -> Result<Option<usize>, AllocError> {
     for i in 0..cases.len() {
-        if !is_met(alloc, &cases[i], Cut::Whole)? || !is_met(alloc, &cases[i], Cut::Bytes)? {
+        if !is_met_in_both(alloc, &cases[i])? {
+            return Ok(Some(i));
+        }
+    }
+    Ok(None)
+}
+
+/// Steps, the first ones shared by several rows, and the leg and place of what is unexpected.
+type Unexpected<'a> = (&'a [Step], &'a [Step], Leg, u64);
+
+/// The place of the first row that is not refused so, whole or byte by byte.
+fn first_expected(alloc: Global, rows: &[Unexpected<'_>]) -> Result<Option<usize>, AllocError> {
+    for i in 0..rows.len() {
+        let (first, then, leg, place) = rows[i];
+        let case = Case {
+            first,
+            then,
+            verdict: Verdict::Closed(Cause::Unexpected { leg, place }),
+        };
+        if !is_met_in_both(alloc, &case)? {
             return Ok(Some(i));
         }
     }
@@ -272,35 +284,28 @@ fn first_unmet(alloc: Global, cases: &[Case<'_>]) -> Result<Option<usize>, Alloc
 }
 
 /// The request came on ci 1.
-fn requested() -> [Step; 2] {
-    [Step::Up(CI1), Step::Hears(CI1, Text::Request)]
-}
+const REQUESTED: &[Step] = &[Step::Up(CI1), Step::Hears(CI1, Text::Request)];
 
-/// The is leg is up and its window told, of so many bytes.
-fn served(window: u32) -> [Step; 7] {
-    [
-        Step::Up(CI1),
-        Step::Hears(CI1, Text::Request),
-        Step::Says(CI1, conn_b1()),
-        Step::Up(IS1),
-        Step::Draws(IS1, 128),
-        Step::Hears(IS1, Text::Greeting),
-        Step::Says(IS1, Named::ConnB3(window, 1)),
-    ]
-}
+/// The is leg is up and its window told.
+const SERVED: &[Step] = &[
+    Step::Up(CI1),
+    Step::Hears(CI1, Text::Request),
+    Step::Says(CI1, CONN_B1),
+    Step::Up(IS1),
+    Step::Draws(IS1, 128),
+    Step::Hears(IS1, Text::Greeting),
+    Step::Says(IS1, Named::ConnB3(65_536, 1)),
+];
 
 /// The same, with a later ci leg, whose request came.
-fn followed() -> [Step; 9] {
-    let [up, request, first, server, drawn, greeting, window] = served(65_536);
-    [
-        up,
-        request,
-        first,
-        server,
-        drawn,
-        greeting,
-        window,
-        Step::Up(CI2),
-        Step::Hears(CI2, Text::Request),
-    ]
-}
+const FOLLOWED: &[Step] = &[
+    Step::Up(CI1),
+    Step::Hears(CI1, Text::Request),
+    Step::Says(CI1, CONN_B1),
+    Step::Up(IS1),
+    Step::Draws(IS1, 128),
+    Step::Hears(IS1, Text::Greeting),
+    Step::Says(IS1, Named::ConnB3(65_536, 1)),
+    Step::Up(CI2),
+    Step::Hears(CI2, Text::Request),
+];

@@ -8,7 +8,7 @@ mod replacing;
 mod rows;
 
 use crate::{Server, ServerConfig};
-use rh_line::{Leg, LegKind, Verdict};
+use rh_line::{GiveFault, Leg, LegKind, RecycleFault, State, Take, Verdict};
 use rh_rts::{Address4or16, Cookie};
 use rh_sig::{Named, write_named};
 use std::alloc::{AllocError, Global};
@@ -120,8 +120,53 @@ fn raise(node: &mut Server, leg: Leg) -> bool {
     may
 }
 
+fn may(node: &Server, leg: Leg) -> bool {
+    node.may_up(leg)
+}
+
+fn state(node: &Server) -> State {
+    node.state()
+}
+
+fn channels(node: &Server) -> (u32, u32) {
+    node.channels()
+}
+
+fn is_finished(node: &Server, leg: Leg) -> bool {
+    node.finished(leg)
+}
+
 fn feed(node: &mut Server, leg: Leg, bytes: &[u8]) -> Verdict {
     node.bytes(leg, bytes)
+}
+
+fn end(node: &mut Server, leg: Leg) -> Verdict {
+    node.ended(leg)
+}
+
+fn give(node: &mut Server, bytes: &[u8]) -> Result<(), GiveFault> {
+    node.give(bytes)
+}
+
+fn take(node: &mut Server) -> Take {
+    let mut room = [0; 8192];
+    node.take(&mut room)
+}
+
+fn close(node: &mut Server) {
+    node.close();
+}
+
+fn recycle(node: &mut Server) -> Result<(), RecycleFault> {
+    node.recycle_out()
+}
+
+/// As many bytes are drawn as there is room for.
+fn draws(node: &mut Server, leg: Leg, len: u16) -> bool {
+    let len = usize::from(len);
+    let mut room = [0; 8192];
+    let (exact, _) = room.split_at_mut(len.min(8192));
+    node.draw(leg, exact) == len
 }
 
 /// A packet comes on a leg.

@@ -44,7 +44,7 @@ const ENDS: &[(Pipe, Name)] = &[
     (Pipe::CoD, Name::EndB2),
 ];
 
-const CASES: [Case; 40] = [
+static CASES: [Case; 40] = [
     (
         Named::ConnA1(1, A, B, 8_192),
         76,

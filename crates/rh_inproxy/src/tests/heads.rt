@@ -1,92 +1,111 @@
 //! Requests, and the answers to those that open no channel.
 
 use super::{
-    CI1, CI2, Case, IS1, Step, Text, bytes_of, conn_b1, first_unmet, followed, made, played,
-    requested,
+    CI1, CI2, CONN_B1, Case, IS1, REQUESTED, Step, Text, bytes_of, first_unmet, is_met_in_both,
+    made, played,
 };
 use crate::InProxy;
 use rh_http::{HttpFault, write_echo};
 use rh_line::{Cause, Leg, Verdict};
+use rh_sig::Named;
+use std::alloc::{AllocError, Global};
 use std::test::Fail;
 
-fn bad_head(leg: Leg, head: Text, fault: HttpFault) -> Verdict {
-    Verdict::Closed(Cause::BadHead {
-        leg,
-        place: u32::try_from(bytes_of(head).len()).unwrap_or(0),
-        fault,
-    })
+/// The is leg is up and its window told, and a later ci leg is up.
+const LATER: &[Step] = &[
+    Step::Up(CI1),
+    Step::Hears(CI1, Text::Request),
+    Step::Says(CI1, CONN_B1),
+    Step::Up(IS1),
+    Step::Draws(IS1, 128),
+    Step::Hears(IS1, Text::Greeting),
+    Step::Says(IS1, Named::ConnB3(65_536, 1)),
+    Step::Up(CI2),
+];
+
+static CASES: [Case<'static>; 4] = [
+    Case {
+        first: &[Step::Up(CI1)],
+        then: &[
+            Step::Hears(CI1, Text::EchoRequest),
+            Step::Draws(CI1, 95),
+            Step::Ticks(1),
+        ],
+        verdict: Verdict::Ended,
+    },
+    Case {
+        first: &[Step::Up(CI1)],
+        then: &[
+            Step::Hears(CI1, Text::EchoRequest),
+            Step::Hears(CI1, Text::NoFrame),
+        ],
+        verdict: Verdict::Closed(Cause::BodyOver {
+            leg: CI1,
+            count: 5,
+            length: 4,
+        }),
+    },
+    Case {
+        first: LATER,
+        then: &[
+            Step::Hears(CI2, Text::EchoRequest),
+            Step::Draws(CI2, 95),
+            Step::Ticks(1),
+        ],
+        verdict: Verdict::Ended,
+    },
+    Case {
+        first: REQUESTED,
+        then: &[
+            Step::Says(CI1, CONN_B1),
+            Step::Breaks(IS1),
+            Step::Draws(CI1, 50),
+        ],
+        verdict: Verdict::Closed(Cause::LegBroken { leg: IS1 }),
+    },
+];
+
+/// Whether a head is refused at its end, with an answer of so many bytes.
+fn is_refused(
+    alloc: Global,
+    first: &[Step],
+    (leg, head): (Leg, Text),
+    fault: HttpFault,
+    answer: usize,
+) -> Result<bool, AllocError> {
+    let place = u32::try_from(bytes_of(head).len()).unwrap_or(0);
+    let case = Case {
+        first,
+        then: &[Step::Hears(leg, head), Step::Draws(leg, answer)],
+        verdict: Verdict::Closed(Cause::BadHead { leg, place, fault }),
+    };
+    is_met_in_both(alloc, &case)
 }
 
 #[test]
 fn requests_are_answered_and_refused(rt: HostRuntime) -> Result<(), Fail> {
-    let (nothing, requested, followed) = ([Step::Up(CI1)], requested(), followed());
-    let later = [
-        followed[0],
-        followed[1],
-        followed[2],
-        followed[3],
-        followed[4],
-        followed[5],
-        followed[6],
-        followed[7],
-    ];
-    let echo = [
-        Step::Hears(CI1, Text::EchoRequest),
-        Step::Draws(CI1, 95),
-        Step::Ticks(1),
-    ];
-    let later_echo = [
-        Step::Hears(CI2, Text::EchoRequest),
-        Step::Draws(CI2, 95),
-        Step::Ticks(1),
-    ];
-    let unreached = [
-        Step::Says(CI1, conn_b1()),
-        Step::Breaks(IS1),
-        Step::Draws(CI1, 50),
-    ];
-    let cases = [
-        Case {
-            first: &nothing,
-            then: &echo,
-            verdict: Verdict::Ended,
-        },
-        Case {
-            first: &nothing,
-            then: &[
-                Step::Hears(CI1, Text::EchoRequest),
-                Step::Hears(CI1, Text::NoFrame),
-            ],
-            verdict: Verdict::Closed(Cause::BodyOver {
-                leg: CI1,
-                count: 5,
-                length: 4,
-            }),
-        },
-        Case {
-            first: &later,
-            then: &later_echo,
-            verdict: Verdict::Ended,
-        },
-        Case {
-            first: &nothing,
-            then: &[Step::Hears(CI1, Text::NoMethod), Step::Draws(CI1, 47)],
-            verdict: bad_head(CI1, Text::NoMethod, HttpFault::Method),
-        },
-        Case {
-            first: &later,
-            then: &[Step::Hears(CI2, Text::NoPath), Step::Draws(CI2, 45)],
-            verdict: bad_head(CI2, Text::NoPath, HttpFault::Path),
-        },
-        Case {
-            first: &requested,
-            then: &unreached,
-            verdict: Verdict::Closed(Cause::LegBroken { leg: IS1 }),
-        },
-    ];
-    assert_eq!(rt; first_unmet(rt.alloc(), &cases)?, None);
+    let alloc = rt.alloc();
+    let first = first_unmet(alloc, &CASES)?;
+    assert!(rt; first.is_none(), "{first:?}");
+    let up = [Step::Up(CI1)];
+    let method = (CI1, Text::NoMethod);
+    assert!(rt; is_refused(alloc, &up, method, HttpFault::Method, 47)?);
+    let path = (CI2, Text::NoPath);
+    assert!(rt; is_refused(alloc, LATER, path, HttpFault::Path, 45)?);
     Ok(())
 }
+
+/// Whether these bytes are the head of success, and behind it an echo.
+fn is_echo(bytes: &[u8; 95]) -> bool {
+    let mut head = [0; 75];
+    let written = write_echo(&mut head);
+    let (front, packet) = bytes.split_at(75);
+    matches!(written, Ok(75)) && front == head.as_slice() && packet == ECHO.as_slice()
+}
+
+const ECHO: [u8; 20] = [
+    5, 0, 20, 3, 16, 0, 0, 0, 20, 0, 0, 0, 0, 0, 0, 0, 64, 0, 0, 0,
+];
 
 #[test]
 fn the_answer_to_an_echo_request_has_the_head_of_success(rt: HostRuntime) -> Result<(), Fail> {
@@ -94,16 +113,7 @@ fn the_answer_to_an_echo_request_has_the_head_of_success(rt: HostRuntime) -> Res
     let asked = [Step::Up(CI1), Step::Hears(CI1, Text::EchoRequest)];
     assert!(rt; played(&mut proxy, &asked));
     let mut drawn = [0; 95];
-    assert_eq!(rt; proxy.draw(CI1, &mut drawn), 95);
-    let mut head = [0; 75];
-    let written = write_echo(&mut head);
-    assert!(rt; matches!(written, Ok(75)));
-    let (front, packet) = drawn.split_at(75);
-    assert!(rt; front == head.as_slice());
-    let echo = [
-        5, 0, 20, 3, 16, 0, 0, 0, 20, 0, 0, 0, 0, 0, 0, 0, 64, 0, 0, 0,
-    ];
-    assert!(rt; packet == echo.as_slice());
+    assert!(rt; proxy.draw(CI1, &mut drawn) == 95 && is_echo(&drawn));
     assert!(rt; proxy.target().is_none());
     Ok(())
 }

@@ -1,240 +1,189 @@
 //! Each row of the table refuses where its condition fails.
 
 use super::{
-    CI1, CI2, Case, IS1, Step, Text, conn_b1, cookie, first_unmet, followed, in_r1_a1, mismatch,
-    out_of_range, requested, served, unexpected,
+    CHANNEL, CI1, CI2, CONN_B1, CONNECTION, Case, FOLLOWED, IN_R1_A1, IN_R1_A5, IS1, OTHER,
+    OUT_CHANNEL, REQUESTED, SERVED, STRANGE, SUCCESSOR, Step, Text, Unexpected, first_expected,
+    first_unmet,
 };
 use rh_line::{Cause, Verdict};
 use rh_sig::Named;
 use std::test::Fail;
 
+const END: Step = Step::Says(CI1, Named::EndA1);
+
+const HANDED: Step = Step::Says(CI1, IN_R1_A5);
+
+const ACK: Step = Step::Says(CI1, Named::AckTo(3, 9, 8192, OUT_CHANNEL));
+
+const ACK_TO_CLIENT: Step = Step::Says(CI1, Named::AckTo(0, 9, 8192, OUT_CHANNEL));
+
+const KEPT: Step = Step::Says(CI1, Named::KeepAlive(0));
+
+static CLIENT_ROWS: [Unexpected<'static>; 13] = [
+    (SERVED, &[Step::Says(CI1, CONN_B1)], CI1, 309),
+    (SERVED, &[Step::Says(CI1, IN_R1_A1)], CI1, 309),
+    (REQUESTED, &[Step::Pdu(CI1, 16)], CI1, 205),
+    (SERVED, &[END, Step::Pdu(CI1, 16)], CI1, 333),
+    (SERVED, &[HANDED, Step::Pdu(CI1, 16)], CI1, 349),
+    (REQUESTED, &[ACK], CI1, 205),
+    (SERVED, &[HANDED, ACK], CI1, 349),
+    (SERVED, &[ACK_TO_CLIENT], CI1, 309),
+    (
+        SERVED,
+        &[Step::Says(CI1, Named::OutR1A7(0, OTHER))],
+        CI1,
+        309,
+    ),
+    (SERVED, &[HANDED, KEPT], CI1, 349),
+    (SERVED, &[END, END], CI1, 333),
+    (SERVED, &[HANDED, END], CI1, 349),
+    (SERVED, &[HANDED, HANDED], CI1, 349),
+];
+
 #[test]
 fn rows_of_the_client_are_refused(rt: HostRuntime) -> Result<(), Fail> {
-    let (requested, served, end) = (requested(), served(65_536), Step::Says(CI1, Named::EndA1));
-    let handed = Step::Says(CI1, Named::InR1A5(cookie(5)));
-    let ack = Named::AckTo(3, 9, 8192, cookie(3));
-    let cases = [
-        Case {
-            first: &served,
-            then: &[Step::Says(CI1, conn_b1())],
-            verdict: unexpected(CI1, 309),
-        },
-        Case {
-            first: &served,
-            then: &[Step::Says(CI1, in_r1_a1(1, 4))],
-            verdict: unexpected(CI1, 309),
-        },
-        Case {
-            first: &requested,
-            then: &[Step::Pdu(CI1, 16)],
-            verdict: unexpected(CI1, 205),
-        },
-        Case {
-            first: &served,
-            then: &[end, Step::Pdu(CI1, 16)],
-            verdict: unexpected(CI1, 333),
-        },
-        Case {
-            first: &served,
-            then: &[handed, Step::Pdu(CI1, 16)],
-            verdict: unexpected(CI1, 349),
-        },
-        Case {
-            first: &requested,
-            then: &[Step::Says(CI1, ack)],
-            verdict: unexpected(CI1, 205),
-        },
-        Case {
-            first: &served,
-            then: &[handed, Step::Says(CI1, ack)],
-            verdict: unexpected(CI1, 349),
-        },
-        Case {
-            first: &served,
-            then: &[Step::Says(CI1, Named::AckTo(0, 9, 8192, cookie(3)))],
-            verdict: unexpected(CI1, 309),
-        },
-        Case {
-            first: &served,
-            then: &[Step::Says(CI1, Named::OutR1A7(0, cookie(6)))],
-            verdict: unexpected(CI1, 309),
-        },
-        Case {
-            first: &served,
-            then: &[handed, Step::Says(CI1, Named::KeepAlive(0))],
-            verdict: unexpected(CI1, 349),
-        },
-        Case {
-            first: &served,
-            then: &[end, end],
-            verdict: unexpected(CI1, 333),
-        },
-        Case {
-            first: &served,
-            then: &[handed, end],
-            verdict: unexpected(CI1, 349),
-        },
-        Case {
-            first: &served,
-            then: &[handed, handed],
-            verdict: unexpected(CI1, 349),
-        },
-    ];
-    assert_eq!(rt; first_unmet(rt.alloc(), &cases)?, None);
+    let first = first_expected(rt.alloc(), &CLIENT_ROWS)?;
+    assert!(rt; first.is_none(), "{first:?}");
     Ok(())
 }
+
+const OUT_R1_A7: Named = Named::OutR1A7(2, OTHER);
+
+static PASSING: [Unexpected<'static>; 4] = [
+    // The first packet on ci 1 did not come, and then that on ci 2.
+    (REQUESTED, &[Step::Says(CI1, OUT_R1_A7)], CI1, 205),
+    (REQUESTED, &[KEPT], CI1, 205),
+    (FOLLOWED, &[Step::Says(CI2, OUT_R1_A7)], CI2, 205),
+    // IN_R1/A5 came there.
+    (SERVED, &[HANDED, Step::Says(CI1, OUT_R1_A7)], CI1, 349),
+];
 
 #[test]
 fn what_passes_a_channel_is_refused(rt: HostRuntime) -> Result<(), Fail> {
-    let (requested, served, followed) = (requested(), served(65_536), followed());
-    let (told, kept) = (Named::OutR1A7(2, cookie(6)), Named::KeepAlive(0));
-    let handed = Named::InR1A5(cookie(5));
-    let cases = [
-        // The first packet on ci 1 did not come, and then that on ci 2.
-        Case {
-            first: &requested,
-            then: &[Step::Says(CI1, told)],
-            verdict: unexpected(CI1, 205),
-        },
-        Case {
-            first: &requested,
-            then: &[Step::Says(CI1, kept)],
-            verdict: unexpected(CI1, 205),
-        },
-        Case {
-            first: &followed,
-            then: &[Step::Says(CI2, told)],
-            verdict: unexpected(CI2, 205),
-        },
-        // IN_R1/A5 came there.
-        Case {
-            first: &served,
-            then: &[Step::Says(CI1, handed), Step::Says(CI1, told)],
-            verdict: unexpected(CI1, 349),
-        },
-    ];
-    assert_eq!(rt; first_unmet(rt.alloc(), &cases)?, None);
+    let first = first_expected(rt.alloc(), &PASSING)?;
+    assert!(rt; first.is_none(), "{first:?}");
     Ok(())
 }
+
+const JOINS: Step = Step::Says(CI2, IN_R1_A1);
+
+static LATER_ROWS: [Unexpected<'static>; 5] = [
+    (FOLLOWED, &[Step::Says(CI2, CONN_B1)], CI2, 205),
+    (FOLLOWED, &[Step::Pdu(CI2, 16)], CI2, 205),
+    (FOLLOWED, &[JOINS, END, Step::Pdu(CI2, 16)], CI2, 293),
+    (FOLLOWED, &[JOINS, Step::Pdu(CI2, 16), END], CI1, 309),
+    // IN_R2/A2 was not put.
+    (FOLLOWED, &[JOINS, HANDED], CI1, 309),
+];
 
 #[test]
 fn rows_of_a_later_leg_are_refused(rt: HostRuntime) -> Result<(), Fail> {
-    let followed = followed();
-    let joins = Step::Says(CI2, in_r1_a1(1, 4));
-    let end = Step::Says(CI1, Named::EndA1);
-    let handed = Step::Says(CI1, Named::InR1A5(cookie(5)));
-    let cases = [
-        Case {
-            first: &followed,
-            then: &[Step::Says(CI2, conn_b1())],
-            verdict: unexpected(CI2, 205),
-        },
-        Case {
-            first: &followed,
-            then: &[Step::Says(CI2, in_r1_a1(9, 4))],
-            verdict: mismatch(CI2, 1, 9),
-        },
-        Case {
-            first: &followed,
-            then: &[Step::Says(CI2, in_r1_a1(1, 9))],
-            verdict: mismatch(CI2, 4, 9),
-        },
-        Case {
-            first: &followed,
-            then: &[Step::Pdu(CI2, 16)],
-            verdict: unexpected(CI2, 205),
-        },
-        Case {
-            first: &followed,
-            then: &[joins, end, Step::Pdu(CI2, 16)],
-            verdict: unexpected(CI2, 293),
-        },
-        Case {
-            first: &followed,
-            then: &[joins, Step::Pdu(CI2, 16), end],
-            verdict: unexpected(CI1, 309),
-        },
-        // IN_R2/A2 was not put.
-        Case {
-            first: &followed,
-            then: &[joins, handed],
-            verdict: unexpected(CI1, 309),
-        },
-        Case {
-            first: &followed,
-            then: &[
-                joins,
-                Step::Draws(IS1, 40),
-                Step::Says(CI1, Named::InR1A5(cookie(9))),
-            ],
-            verdict: mismatch(CI1, 5, 9),
-        },
-    ];
-    assert_eq!(rt; first_unmet(rt.alloc(), &cases)?, None);
+    let first = first_expected(rt.alloc(), &LATER_ROWS)?;
+    assert!(rt; first.is_none(), "{first:?}");
     Ok(())
 }
 
+static OTHER_COOKIES: [Case<'static>; 4] = [
+    Case {
+        first: FOLLOWED,
+        then: &[Step::Says(CI2, Named::InR1A1(1, STRANGE, CHANNEL, SUCCESSOR))],
+        verdict: Verdict::Closed(Cause::CookieMismatch {
+            leg: CI2,
+            expected: CONNECTION,
+            got: STRANGE,
+        }),
+    },
+    Case {
+        first: FOLLOWED,
+        then: &[Step::Says(CI2, Named::InR1A1(1, CONNECTION, STRANGE, SUCCESSOR))],
+        verdict: Verdict::Closed(Cause::CookieMismatch {
+            leg: CI2,
+            expected: CHANNEL,
+            got: STRANGE,
+        }),
+    },
+    Case {
+        first: FOLLOWED,
+        then: &[
+            JOINS,
+            Step::Draws(IS1, 40),
+            Step::Says(CI1, Named::InR1A5(STRANGE)),
+        ],
+        verdict: Verdict::Closed(Cause::CookieMismatch {
+            leg: CI1,
+            expected: SUCCESSOR,
+            got: STRANGE,
+        }),
+    },
+    Case {
+        first: SERVED,
+        then: &[Step::Says(IS1, Named::Ack(0, 8192, STRANGE))],
+        verdict: Verdict::Closed(Cause::CookieMismatch {
+            leg: IS1,
+            expected: CHANNEL,
+            got: STRANGE,
+        }),
+    },
+];
+
+#[test]
+fn another_cookie_is_refused(rt: HostRuntime) -> Result<(), Fail> {
+    let first = first_unmet(rt.alloc(), &OTHER_COOKIES)?;
+    assert!(rt; first.is_none(), "{first:?}");
+    Ok(())
+}
+
+const GREETED: &[Step] = &[
+    Step::Up(CI1),
+    Step::Hears(CI1, Text::Request),
+    Step::Says(CI1, CONN_B1),
+    Step::Up(IS1),
+    Step::Hears(IS1, Text::Greeting),
+];
+
+static SERVER_ROWS: [Unexpected<'static>; 5] = [
+    (SERVED, &[Step::Says(IS1, Named::ConnB3(8192, 1))], IS1, 50),
+    (GREETED, &[Step::Says(IS1, Named::InR1B2(8192))], IS1, 14),
+    (
+        GREETED,
+        &[Step::Says(IS1, Named::Ack(0, 8192, CHANNEL))],
+        IS1,
+        14,
+    ),
+    (SERVED, &[Step::Says(IS1, Named::InR1B1)], IS1, 50),
+    (SERVED, &[Step::Pdu(IS1, 16)], IS1, 50),
+];
+
+static LOST: [Case<'static>; 3] = [
+    Case {
+        first: SERVED,
+        then: &[Step::Says(IS1, Named::Ack(1, 8192, CHANNEL))],
+        verdict: Verdict::Closed(Cause::OutOfRange {
+            leg: IS1,
+            command: 1,
+            value: 1,
+        }),
+    },
+    Case {
+        first: SERVED,
+        then: &[Step::Ends(IS1)],
+        verdict: Verdict::Closed(Cause::LegEnded {
+            leg: IS1,
+            partial: 0,
+        }),
+    },
+    Case {
+        first: SERVED,
+        then: &[Step::Breaks(CI1)],
+        verdict: Verdict::Closed(Cause::LegBroken { leg: CI1 }),
+    },
+];
+
 #[test]
 fn rows_of_the_server_are_refused(rt: HostRuntime) -> Result<(), Fail> {
-    let served = served(65_536);
-    let greeted = [
-        Step::Up(CI1),
-        Step::Hears(CI1, Text::Request),
-        Step::Says(CI1, conn_b1()),
-        Step::Up(IS1),
-        Step::Hears(IS1, Text::Greeting),
-    ];
-    let ack = Step::Says(IS1, Named::Ack(0, 8192, cookie(4)));
-    let cases = [
-        Case {
-            first: &served,
-            then: &[Step::Says(IS1, Named::ConnB3(8192, 1))],
-            verdict: unexpected(IS1, 50),
-        },
-        Case {
-            first: &greeted,
-            then: &[Step::Says(IS1, Named::InR1B2(8192))],
-            verdict: unexpected(IS1, 14),
-        },
-        Case {
-            first: &greeted,
-            then: &[ack],
-            verdict: unexpected(IS1, 14),
-        },
-        Case {
-            first: &served,
-            then: &[Step::Says(IS1, Named::Ack(0, 8192, cookie(9)))],
-            verdict: mismatch(IS1, 4, 9),
-        },
-        Case {
-            first: &served,
-            then: &[Step::Says(IS1, Named::Ack(1, 8192, cookie(4)))],
-            verdict: out_of_range(IS1, 1, 1),
-        },
-        Case {
-            first: &served,
-            then: &[Step::Says(IS1, Named::InR1B1)],
-            verdict: unexpected(IS1, 50),
-        },
-        Case {
-            first: &served,
-            then: &[Step::Pdu(IS1, 16)],
-            verdict: unexpected(IS1, 50),
-        },
-        Case {
-            first: &served,
-            then: &[Step::Ends(IS1)],
-            verdict: Verdict::Closed(Cause::LegEnded {
-                leg: IS1,
-                partial: 0,
-            }),
-        },
-        Case {
-            first: &served,
-            then: &[Step::Breaks(CI1)],
-            verdict: Verdict::Closed(Cause::LegBroken { leg: CI1 }),
-        },
-    ];
-    assert_eq!(rt; first_unmet(rt.alloc(), &cases)?, None);
+    let first = first_expected(rt.alloc(), &SERVER_ROWS)?;
+    assert!(rt; first.is_none(), "{first:?}");
+    let first = first_unmet(rt.alloc(), &LOST)?;
+    assert!(rt; first.is_none(), "{first:?}");
     Ok(())
 }

@@ -1,63 +1,64 @@
 //! Idle times, and the keepalive.
 
-use super::{CI1, CI2, Case, IS1, Step, cookie, first_unmet, followed, in_r1_a1, served};
-use rh_line::{Cause, Leg, Verdict};
+use super::{
+    CI1, CI2, Case, FOLLOWED, IN_R1_A1, IN_R1_A5, IS1, SERVED, Step, first_unmet, is_met_in_both,
+};
+use rh_line::{Cause, Verdict};
 use rh_sig::Named;
 use std::test::Fail;
 
-fn silent(leg: Leg, since: u64, now: u64) -> Verdict {
-    Verdict::Closed(Cause::Silent { leg, since, now })
-}
+static SILENCES: [Case<'static>; 3] = [
+    Case {
+        first: SERVED,
+        then: &[Step::Ticks(120_000)],
+        verdict: Verdict::Closed(Cause::Silent {
+            leg: CI1,
+            since: 0,
+            now: 120_000,
+        }),
+    },
+    Case {
+        first: SERVED,
+        then: &[Step::Says(CI1, IN_R1_A5), Step::Ticks(120_000)],
+        verdict: Verdict::Going,
+    },
+    Case {
+        first: FOLLOWED,
+        then: &[
+            Step::Says(CI2, IN_R1_A1),
+            Step::Ticks(100_000),
+            Step::Says(CI1, Named::KeepAlive(0)),
+            Step::Ticks(120_000),
+        ],
+        verdict: Verdict::Closed(Cause::Silent {
+            leg: CI2,
+            since: 0,
+            now: 120_000,
+        }),
+    },
+];
 
 #[test]
 fn silent_legs_close_the_proxy(rt: HostRuntime) -> Result<(), Fail> {
-    let (served, followed) = (served(65_536), followed());
-    let handed = [
-        Step::Says(CI1, Named::InR1A5(cookie(5))),
-        Step::Ticks(120_000),
-    ];
-    let later = [
-        Step::Says(CI2, in_r1_a1(1, 4)),
-        Step::Ticks(100_000),
-        Step::Says(CI1, Named::KeepAlive(0)),
-        Step::Ticks(120_000),
-    ];
-    let cases = [
-        Case {
-            first: &served,
-            then: &[Step::Ticks(120_000)],
-            verdict: silent(CI1, 0, 120_000),
-        },
-        Case {
-            first: &served,
-            then: &handed,
-            verdict: Verdict::Going,
-        },
-        Case {
-            first: &followed,
-            then: &later,
-            verdict: silent(CI2, 0, 120_000),
-        },
-    ];
-    assert_eq!(rt; first_unmet(rt.alloc(), &cases)?, None);
+    let first = first_unmet(rt.alloc(), &SILENCES)?;
+    assert!(rt; first.is_none(), "{first:?}");
     Ok(())
 }
 
-#[test]
-fn a_ping_is_due_behind_the_keepalive(rt: HostRuntime) -> Result<(), Fail> {
-    let served = served(65_536);
-    let pings = [
+static PINGS: Case<'static> = Case {
+    first: SERVED,
+    then: &[
         Step::Says(CI1, Named::KeepAlive(60_000)),
         Step::Ticks(59_999),
         Step::Draws(IS1, 0),
         Step::Ticks(60_000),
         Step::Draws(IS1, 20),
-    ];
-    let cases = [Case {
-        first: &served,
-        then: &pings,
-        verdict: Verdict::Going,
-    }];
-    assert_eq!(rt; first_unmet(rt.alloc(), &cases)?, None);
+    ],
+    verdict: Verdict::Going,
+};
+
+#[test]
+fn a_ping_is_due_behind_the_keepalive(rt: HostRuntime) -> Result<(), Fail> {
+    assert!(rt; is_met_in_both(rt.alloc(), &PINGS)?);
     Ok(())
 }

@@ -10,7 +10,7 @@ use std::alloc::{AllocError, Global};
 use std::test::Fail;
 
 /// A client with the least window, and a PDU too much for it.
-const NARROW: [Step; 15] = [
+static NARROW: [Step; 15] = [
     Step::Up(CO1),
     Step::Bytes(CO1, ASKS_NEW),
     Step::Comes(CO1, Named::ConnA1(1, CONNECTION, CHANNEL, 8_192)),
@@ -30,7 +30,7 @@ const NARROW: [Step; 15] = [
 ];
 
 /// The proxy acknowledges what it put, once half its window is to be told.
-const ACKNOWLEDGES: [Step; 8] = [
+static ACKNOWLEDGES: [Step; 8] = [
     Step::Pdu(OS1, 8192),
     Step::Pdu(OS1, 8192),
     Step::Pdu(OS1, 8192),
@@ -42,7 +42,7 @@ const ACKNOWLEDGES: [Step; 8] = [
 ];
 
 /// None is due behind END.
-const ACKNOWLEDGES_NO_MORE: [Step; 8] = [
+static ACKNOWLEDGES_NO_MORE: [Step; 8] = [
     Step::Pdu(OS1, 8192),
     Step::Pdu(OS1, 8192),
     Step::Pdu(OS1, 8192),
@@ -54,7 +54,7 @@ const ACKNOWLEDGES_NO_MORE: [Step; 8] = [
 ];
 
 /// END, and then the handover mark, go behind the PDU: both legs are finished.
-const HANDS_OVER: [Step; 7] = [
+static HANDS_OVER: [Step; 7] = [
     Step::Pdu(OS1, 16),
     Step::Comes(OS1, Named::EndB1),
     Step::Comes(OS1, Named::OutR1A9),
@@ -65,7 +65,7 @@ const HANDS_OVER: [Step; 7] = [
 ];
 
 /// Behind END/B2 the proxy goes on without its client, and drops what is to be forwarded.
-const CLIENT_LOST: [Step; 5] = [
+static CLIENT_LOST: [Step; 5] = [
     Step::Comes(OS1, Named::EndB1),
     Step::Puts(CO1, Named::EndB2),
     Step::Broken(CO1),

@@ -19,7 +19,7 @@ type Case = (&'static [Step], &'static [Step], Cause);
 /// 16,384 bytes without a blank line.
 const NO_HEAD: &[u8] = &[b'a'; 16_384];
 
-const CASES: [Case; 14] = [
+static CASES: [Case; 14] = [
     // OUT_R2/C1 comes first.
     (
         &[Step::Up(CO1), Step::Bytes(CO1, ASKS_SUCCESSOR)],
@@ -190,10 +190,10 @@ fn closes(alloc: Global, (beginning, steps, cause): Case, cut: Cut) -> Result<bo
 
 #[test]
 fn the_first_fault_closes_the_proxy_for_good(rt: HostRuntime) -> Result<(), Fail> {
-    for case in CASES {
-        assert!(rt; closes(rt.alloc(), case, Cut::Whole)?, "{:?}", case.2);
+    for case in &CASES {
+        assert!(rt; closes(rt.alloc(), *case, Cut::Whole)?, "{:?}", case.2);
         assert!(rt;
-            closes(rt.alloc(), case, Cut::Bytes)?,
+            closes(rt.alloc(), *case, Cut::Bytes)?,
             "{:?} by bytes",
             case.2
         );

@@ -77,7 +77,7 @@ const END_B1: Step = Step::Comes(OS1, Named::EndB1);
 
 const PDU: Step = Step::Pdu(OS1, 16);
 
-const TAKEN: [Case; 17] = [
+static TAKEN: [Case; 17] = [
     (ASKED_NEW, Step::Comes(CO1, CONN_A1)),
     (ASKED_SUCCESSOR, Step::Comes(CO1, OUT_R1_A3)),
     (ASKED_TO_FOLLOW, Step::Comes(CO1, Named::OutR2C1)),
@@ -97,7 +97,7 @@ const TAKEN: [Case; 17] = [
     (CAME_END, OUT_R1_A9),
 ];
 
-const REFUSED: [Case; 23] = [
+static REFUSED: [Case; 23] = [
     (ASKED_SUCCESSOR, Step::Comes(CO1, CONN_A1)),
     (ASKED_SUCCESSOR, Step::Comes(CO1, Named::OutR2C1)),
     (FOLLOWS_AT_ONCE, Step::Comes(OS1, CONN_C1)),
@@ -153,7 +153,7 @@ fn each_row_takes_what_meets_its_condition_alone(rt: HostRuntime) -> Result<(), 
     Ok(())
 }
 
-const FORWARDS: [Step; 12] = [
+static FORWARDS: [Step; 12] = [
     ACK_TO_CLIENT,
     IN_R1_A3,
     IN_R2_A3,
@@ -169,7 +169,7 @@ const FORWARDS: [Step; 12] = [
     Step::Draws(CO1, 200, 0),
 ];
 
-const OPENS: [Step; 6] = [
+static OPENS: [Step; 6] = [
     Step::Draws(CO1, 83, 83),
     Step::Puts(CO1, Named::ConnA3(120_000)),
     Step::Comes(OS1, CONN_C1),
@@ -181,7 +181,7 @@ const OPENS: [Step; 6] = [
     Step::Draws(OS1, 200, 0),
 ];
 
-const FOLLOWS_BY: [Step; 4] = [
+static FOLLOWS_BY: [Step; 4] = [
     Step::Puts(
         OS1,
         Named::OutR1A4(

@@ -52,290 +52,208 @@ fn bytes(rt: &HostRuntime, hex: &str) -> Result<Bytes, Fail> {
     }
 }
 
-fn bad(fault: PduFault) -> Result<u16, GiveFault> {
-    Err(GiveFault::BadPdu(fault))
-}
+// An answer to a give, and its line.
+static GIVES: [(Result<u16, GiveFault>, &str); 8] = [
+    (Ok(24), "give c ok 24"),
+    (
+        Err(GiveFault::Full {
+            held: 262_144,
+            len: 8_192,
+        }),
+        "give c full 262144 8192",
+    ),
+    (Err(GiveFault::BadPdu(PduFault::Cut(1))), "give c bad Cut 1"),
+    (
+        Err(GiveFault::BadPdu(PduFault::Head(HeadFault::TooLong(8_193)))),
+        "give c bad TooLong 8193",
+    ),
+    (Err(GiveFault::BadPdu(PduFault::Rts)), "give c bad Rts"),
+    (
+        Err(GiveFault::BadPdu(PduFault::Length { frag: 24, len: 25 })),
+        "give c bad Length 24 25",
+    ),
+    (Err(GiveFault::Closing), "give c closing"),
+    (
+        Err(GiveFault::Closed(BROKEN)),
+        "give c closed 1 LegBroken is1",
+    ),
+];
 
 #[test]
 fn each_answer_to_a_give_is_written(rt: HostRuntime) -> Result<(), Fail> {
-    let (held, len) = (262_144, 8_192);
     let side = Side::Client;
-    for (answer, text) in [
-        (Ok(24), "give c ok 24"),
-        (
-            Err(GiveFault::Full { held, len }),
-            "give c full 262144 8192",
-        ),
-        (bad(PduFault::Cut(1)), "give c bad Cut 1"),
-        (
-            bad(PduFault::Head(HeadFault::TooLong(8_193))),
-            "give c bad TooLong 8193",
-        ),
-        (bad(PduFault::Rts), "give c bad Rts"),
-        (
-            bad(PduFault::Length { frag: 24, len: 25 }),
-            "give c bad Length 24 25",
-        ),
-        (Err(GiveFault::Closing), "give c closing"),
-        (
-            Err(GiveFault::Closed(BROKEN)),
-            "give c closed 1 LegBroken is1",
-        ),
-    ] {
-        let answer = Answer::Give { side, answer };
+    for (answer, text) in &GIVES {
+        let answer = Answer::Give {
+            side,
+            answer: *answer,
+        };
         assert!(rt; is_written(&rt, &answer, text)?, "{text}");
     }
     Ok(())
 }
 
+// Whether the answer to a take is written so.
+fn is_take(rt: &HostRuntime, side: Side, answer: TakeAnswer, text: &str) -> Result<bool, Fail> {
+    is_written(rt, &Answer::Take { side, answer }, text)
+}
+
 #[test]
-fn each_answer_of_bytes_is_written(rt: HostRuntime) -> Result<(), Fail> {
-    let (u, d) = (Dir::U, Dir::D);
+fn each_answer_to_a_take_is_written(rt: HostRuntime) -> Result<(), Fail> {
     let (client, server) = (Side::Client, Side::Server);
-    let (direct, first, second) = (None, Some(IS1), Some(CI2));
     let taken = TakeAnswer::Pdu(bytes(&rt, "05A0")?);
+    assert!(rt; is_take(&rt, server, taken, "take s pdu 05a0")?);
+    assert!(rt; is_take(&rt, server, TakeAnswer::Empty, "take s empty")?);
+    assert!(rt; is_take(&rt, client, TakeAnswer::Ended, "take c ended")?);
     let closed = TakeAnswer::Closed(BROKEN);
-    let piece = Some(bytes(&rt, "eeff0011")?);
-    let packet = Some(bytes(&rt, "050014031000000018000000000000000000010007000000")?);
-    let (none, empty) = (Some(bytes(&rt, "")?), Some(bytes(&rt, "")?));
-    for (answer, text) in [
-        (
-            Answer::Take {
-                side: server,
-                answer: taken,
-            },
-            "take s pdu 05a0",
-        ),
-        (
-            Answer::Take {
-                side: server,
-                answer: TakeAnswer::Empty,
-            },
-            "take s empty",
-        ),
-        (
-            Answer::Take {
-                side: client,
-                answer: TakeAnswer::Ended,
-            },
-            "take c ended",
-        ),
-        (
-            Answer::Take {
-                side: server,
-                answer: closed,
-            },
-            "take s closed 1 LegBroken is1",
-        ),
-        (
-            Answer::Send {
-                leg: direct,
-                dir: u,
-                count: Some(24),
-            },
-            "send cs u 24",
-        ),
-        (
-            Answer::Send {
-                leg: direct,
-                dir: u,
-                count: None,
-            },
-            "send cs u no",
-        ),
-        (
-            Answer::Send {
-                leg: second,
-                dir: u,
-                count: Some(8_000),
-            },
-            "send ci2 u 8000",
-        ),
-        (
-            Answer::Send {
-                leg: first,
-                dir: d,
-                count: Some(0),
-            },
-            "send is1 d 0",
-        ),
-        (
-            Answer::Send {
-                leg: first,
-                dir: u,
-                count: None,
-            },
-            "send is1 u no",
-        ),
-        (
-            Answer::Move {
-                leg: direct,
-                dir: u,
-                bytes: piece,
-            },
-            "move cs u 4 eeff0011",
-        ),
-        (
-            Answer::Move {
-                leg: direct,
-                dir: u,
-                bytes: none,
-            },
-            "move cs u 0",
-        ),
-        (
-            Answer::Move {
-                leg: direct,
-                dir: d,
-                bytes: None,
-            },
-            "move cs d no",
-        ),
-        (
-            Answer::Move {
-                leg: first,
-                dir: d,
-                bytes: packet,
-            },
-            "move is1 d 24 050014031000000018000000000000000000010007000000",
-        ),
-        (
-            Answer::Move {
-                leg: second,
-                dir: u,
-                bytes: empty,
-            },
-            "move ci2 u 0",
-        ),
-        (
-            Answer::Move {
-                leg: second,
-                dir: d,
-                bytes: None,
-            },
-            "move ci2 d no",
-        ),
-    ] {
+    assert!(rt; is_take(&rt, server, closed, "take s closed 1 LegBroken is1")?);
+    Ok(())
+}
+
+// A leg, a direction, the bytes that were drawn, and the line.
+static SENDS: [(Option<Leg>, Dir, Option<u32>, &str); 5] = [
+    (None, Dir::U, Some(24), "send cs u 24"),
+    (None, Dir::U, None, "send cs u no"),
+    (Some(CI2), Dir::U, Some(8_000), "send ci2 u 8000"),
+    (Some(IS1), Dir::D, Some(0), "send is1 d 0"),
+    (Some(IS1), Dir::U, None, "send is1 u no"),
+];
+
+#[test]
+fn each_answer_to_a_send_is_written(rt: HostRuntime) -> Result<(), Fail> {
+    for (leg, dir, count, text) in &SENDS {
+        let answer = Answer::Send {
+            leg: *leg,
+            dir: *dir,
+            count: *count,
+        };
         assert!(rt; is_written(&rt, &answer, text)?, "{text}");
     }
     Ok(())
 }
 
+// A leg, a direction, the hex of the bytes that were fed, and the line.
+static MOVES: [(Option<Leg>, Dir, Option<&str>, &str); 6] = [
+    (None, Dir::U, Some("eeff0011"), "move cs u 4 eeff0011"),
+    (None, Dir::U, Some(""), "move cs u 0"),
+    (None, Dir::D, None, "move cs d no"),
+    (
+        Some(IS1),
+        Dir::D,
+        Some("050014031000000018000000000000000000010007000000"),
+        "move is1 d 24 050014031000000018000000000000000000010007000000",
+    ),
+    (Some(CI2), Dir::U, Some(""), "move ci2 u 0"),
+    (Some(CI2), Dir::D, None, "move ci2 d no"),
+];
+
+// The answer to a move.
+fn moved(rt: &HostRuntime, leg: Option<Leg>, dir: Dir, hex: Option<&str>) -> Result<Answer, Fail> {
+    let bytes = match hex {
+        Some(hex) => Some(bytes(rt, hex)?),
+        None => None,
+    };
+    Ok(Answer::Move { leg, dir, bytes })
+}
+
 #[test]
-fn each_other_answer_is_written(rt: HostRuntime) -> Result<(), Fail> {
-    let silent = Cause::Silent {
-        leg: CO1,
-        since: 0,
-        now: 120_000,
-    };
-    let refused = Cause::HttpRefused {
-        leg: CI2,
-        status: 503,
-    };
-    let ended = Cause::LegEnded {
-        leg: IS1,
-        partial: 0,
-    };
-    for (answer, text) in [
-        (Answer::Close { side: Side::Client }, "close c ok"),
-        (Answer::OpenLeg { leg: CO1, ok: true }, "open co1 ok"),
-        (
-            Answer::OpenLeg {
-                leg: OS2,
-                ok: false,
-            },
-            "open os2 no",
-        ),
-        (Answer::OpenSame { leg: CI2, ok: true }, "open ci2 same ok"),
-        (
-            Answer::OpenSame {
-                leg: CI2,
-                ok: false,
-            },
-            "open ci2 same no",
-        ),
-        (Answer::BreakLeg { leg: IS1, ok: true }, "break is1 ok"),
-        (
-            Answer::BreakLeg {
-                leg: IS1,
-                ok: false,
-            },
-            "break is1 no",
-        ),
-        (
-            Answer::EndLeg {
-                leg: IS1,
-                dir: Dir::U,
-                ok: true,
-            },
-            "end is1 u ok",
-        ),
-        (
-            Answer::EndLeg {
-                leg: CI2,
-                dir: Dir::D,
-                ok: false,
-            },
-            "end ci2 d no",
-        ),
-        (
-            Answer::Tick {
-                now: 120_000,
-                ok: true,
-            },
-            "tick 120000 ok",
-        ),
-        (Answer::Tick { now: 5, ok: false }, "tick 5 no"),
-        (Answer::RecycleIn(Ok(())), "recycle in ok"),
-        (
-            Answer::RecycleIn(Err(RecycleFault::Busy { under_way: CI2 })),
-            "recycle in busy ci2",
-        ),
-        (
-            Answer::RecycleIn(Err(RecycleFault::NotOpen)),
-            "recycle in notopen",
-        ),
-        (
-            Answer::RecycleIn(Err(RecycleFault::Last)),
-            "recycle in last",
-        ),
-        (Answer::RecycleOut(Ok(())), "recycle out ok"),
-        (
-            Answer::RecycleOut(Err(RecycleFault::Busy { under_way: OS2 })),
-            "recycle out busy os2",
-        ),
-        (Answer::Quiet(4), "quiet 4"),
-        (Answer::Spent(1), "spent 1"),
-        (
-            Answer::NodeClosed {
-                who: Who::Client,
-                cause: silent,
-            },
-            "closed c 11 Silent co1 0 120000",
-        ),
-        (
-            Answer::NodeClosed {
-                who: Who::Server,
-                cause: ended,
-            },
-            "closed s 2 LegEnded is1 0",
-        ),
-        (
-            Answer::NodeClosed {
-                who: Who::In(1),
-                cause: BROKEN,
-            },
-            "closed i1 1 LegBroken is1",
-        ),
-        (
-            Answer::NodeClosed {
-                who: Who::Out(12),
-                cause: refused,
-            },
-            "closed o12 9 HttpRefused ci2 503",
-        ),
-    ] {
+fn each_answer_to_a_move_is_written(rt: HostRuntime) -> Result<(), Fail> {
+    for (leg, dir, hex, text) in &MOVES {
+        let answer = moved(&rt, *leg, *dir, *hex)?;
         assert!(rt; is_written(&rt, &answer, text)?, "{text}");
+    }
+    Ok(())
+}
+
+// Whether an answer is written so.
+fn says(rt: &HostRuntime, answer: Answer, text: &str) -> Result<bool, Fail> {
+    is_written(rt, &answer, text)
+}
+
+#[test]
+fn each_answer_of_a_leg_is_written(rt: HostRuntime) -> Result<(), Fail> {
+    let (ok, no) = (true, false);
+    assert!(rt; says(&rt, Answer::OpenLeg { leg: CO1, ok }, "open co1 ok")?);
+    assert!(rt; says(&rt, Answer::OpenLeg { leg: OS2, ok: no }, "open os2 no")?);
+    assert!(rt; says(&rt, Answer::OpenSame { leg: CI2, ok }, "open ci2 same ok")?);
+    let same = Answer::OpenSame { leg: CI2, ok: no };
+    assert!(rt; says(&rt, same, "open ci2 same no")?);
+    assert!(rt; says(&rt, Answer::BreakLeg { leg: IS1, ok }, "break is1 ok")?);
+    assert!(rt; says(&rt, Answer::BreakLeg { leg: IS1, ok: no }, "break is1 no")?);
+    let (leg, dir) = (IS1, Dir::U);
+    assert!(rt; says(&rt, Answer::EndLeg { leg, dir, ok }, "end is1 u ok")?);
+    let (leg, dir) = (CI2, Dir::D);
+    assert!(rt; says(&rt, Answer::EndLeg { leg, dir, ok: no }, "end ci2 d no")?);
+    Ok(())
+}
+
+#[test]
+fn each_answer_of_a_moment_is_written(rt: HostRuntime) -> Result<(), Fail> {
+    let later = Answer::Tick {
+        now: 120_000,
+        ok: true,
+    };
+    assert!(rt; says(&rt, later, "tick 120000 ok")?);
+    assert!(rt; says(&rt, Answer::Tick { now: 5, ok: false }, "tick 5 no")?);
+    assert!(rt; says(&rt, Answer::Quiet(4), "quiet 4")?);
+    assert!(rt; says(&rt, Answer::Spent(1), "spent 1")?);
+    assert!(rt; says(&rt, Answer::Close { side: Side::Client }, "close c ok")?);
+    Ok(())
+}
+
+// What a recycling of the IN channel answers, and the line.
+static IN_RECYCLES: [(Result<(), RecycleFault>, &str); 4] = [
+    (Ok(()), "recycle in ok"),
+    (
+        Err(RecycleFault::Busy { under_way: CI2 }),
+        "recycle in busy ci2",
+    ),
+    (Err(RecycleFault::NotOpen), "recycle in notopen"),
+    (Err(RecycleFault::Last), "recycle in last"),
+];
+
+#[test]
+fn each_answer_to_a_recycling_is_written(rt: HostRuntime) -> Result<(), Fail> {
+    for (answer, text) in &IN_RECYCLES {
+        assert!(rt; says(&rt, Answer::RecycleIn(*answer), text)?, "{text}");
+    }
+    let busy = Err(RecycleFault::Busy { under_way: OS2 });
+    assert!(rt; says(&rt, Answer::RecycleOut(Ok(())), "recycle out ok")?);
+    assert!(rt; says(&rt, Answer::RecycleOut(busy), "recycle out busy os2")?);
+    Ok(())
+}
+
+const SILENT: Cause = Cause::Silent {
+    leg: CO1,
+    since: 0,
+    now: 120_000,
+};
+
+const REFUSED: Cause = Cause::HttpRefused {
+    leg: CI2,
+    status: 503,
+};
+
+const ENDED: Cause = Cause::LegEnded {
+    leg: IS1,
+    partial: 0,
+};
+
+// A node, why it closed, and the line.
+static CLOSED: [(Who, Cause, &str); 4] = [
+    (Who::Client, SILENT, "closed c 11 Silent co1 0 120000"),
+    (Who::Server, ENDED, "closed s 2 LegEnded is1 0"),
+    (Who::In(1), BROKEN, "closed i1 1 LegBroken is1"),
+    (Who::Out(12), REFUSED, "closed o12 9 HttpRefused ci2 503"),
+];
+
+#[test]
+fn each_node_that_closed_is_written(rt: HostRuntime) -> Result<(), Fail> {
+    for (who, cause, text) in &CLOSED {
+        let answer = Answer::NodeClosed {
+            who: *who,
+            cause: *cause,
+        };
+        assert!(rt; says(&rt, answer, text)?, "{text}");
     }
     Ok(())
 }

@@ -306,35 +306,37 @@ fn full_queue(rt: &HostRuntime) -> Result<String, Fail> {
     with_pdus(rt, text.as_str())
 }
 
+static RECORDINGS: [&str; 22] = [
+    "rh 1 roles",
+    "rh 1 roles\nsettle 1",
+    "rh 1 roles\nrecycle in\n",
+    "rh 1 roles\nset same 1\nset cwin 8192\nset keep 0\n",
+    "rh 1 direct\ntake s",
+    IN_PIECES,
+    BYTE_BY_BYTE,
+    SIZES,
+    USUAL_OPENING,
+    INBOUND_REPLACEMENT,
+    A_BREAK_IN_MID_REPLACEMENT,
+    OUTBOUND_REPLACEMENT,
+    BOTH_WANTED,
+    A_CLEAN_END,
+    SILENCE,
+    A_SMALL_WINDOW,
+    AN_END,
+    CLOSED_ENDS,
+    PINGS,
+    A_REFUSED_CHANNEL,
+    A_SHORT_LIFETIME,
+    THE_SAME_PROXY,
+];
+
 #[test]
 fn recordings_are_read(rt: HostRuntime) -> Result<(), Fail> {
-    for text in [
-        "rh 1 roles",
-        "rh 1 roles\nsettle 1",
-        "rh 1 roles\nrecycle in\n",
-        "rh 1 roles\nset same 1\nset cwin 8192\nset keep 0\n",
-        "rh 1 direct\ntake s",
-        IN_PIECES,
-        BYTE_BY_BYTE,
-        SIZES,
-        USUAL_OPENING,
-        INBOUND_REPLACEMENT,
-        A_BREAK_IN_MID_REPLACEMENT,
-        OUTBOUND_REPLACEMENT,
-        BOTH_WANTED,
-        A_CLEAN_END,
-        SILENCE,
-        A_SMALL_WINDOW,
-        AN_END,
-        CLOSED_ENDS,
-        PINGS,
-        A_REFUSED_CHANNEL,
-        A_SHORT_LIFETIME,
-        THE_SAME_PROXY,
-    ] {
+    for text in &RECORDINGS {
         let recording = with_pdus(&rt, text)?;
         let bad = first_bad_line::<Recording>(recording.as_bytes());
-        assert_eq!(rt; bad, None, "{text}");
+        assert!(rt; bad.is_none(), "{text}");
     }
     let direct = full_queue(&rt)?;
     assert_eq!(rt; first_bad_line::<Recording>(direct.as_bytes()), None);
@@ -342,48 +344,48 @@ fn recordings_are_read(rt: HostRuntime) -> Result<(), Fail> {
     Ok(())
 }
 
+// A text that is no recording, and the number of its first bad line.
+static NO_RECORDINGS: [(&str, u64); 19] = [
+    ("", 1),
+    ("\n", 1),
+    ("rh 1 direct\n\n", 2),
+    ("rh 1 direct\r\ntake c\n", 1),
+    ("rh 1 direct\nrh 1 direct\n", 2),
+    ("rh 1 direct\nset cwin 8192\n", 2),
+    ("rh 1 direct\ntake c\ntake x\n", 3),
+    ("rh 1 direct\ntake c\nsettle 1\n", 3),
+    ("take c\nrh 1 direct\n", 1),
+    ("set cwin 8192\nrh 1 roles\n", 1),
+    ("rh 1 roles\nrh 1 roles\n", 2),
+    ("rh 1 roles\ntake c\nset cwin 8192\n", 3),
+    ("rh 1 roles\ngive c 05\nset cwin 8192\n", 3),
+    ("rh 1 roles\nset cwin 8192\nset cwin 8192\n", 3),
+    (
+        "rh 1 roles\nset iwin 8192\nset cwin 8192\nset iwin 9000\n",
+        4,
+    ),
+    ("rh 1 roles\nset same 1\nset same 1\n", 3),
+    ("rh 1 roles\nset keep 0\nsettle 1\nset same 1\n", 4),
+    ("rh 1 roles\nsend cs u 1\n", 2),
+    ("rh 1 roles\ngive c 0\n", 2),
+];
+
+// The same of direct recordings.
+static NO_DIRECT_RECORDINGS: [(&str, u64); 4] = [
+    ("rh 1 roles\n", 1),
+    ("rh 1 direct\nset cwin 8192\n", 2),
+    ("rh 1 direct\ngive c 0\n", 2),
+    ("rh 1 direct\ntake c\nsend co1 u 1\n", 3),
+];
+
 #[test]
 fn the_first_line_that_may_not_stand_there_is_told(rt: HostRuntime) {
-    for (text, number) in [
-        ("", 1),
-        ("\n", 1),
-        ("rh 1 direct\n\n", 2),
-        ("rh 1 direct\r\ntake c\n", 1),
-        ("rh 1 direct\nrh 1 direct\n", 2),
-        ("rh 1 direct\nset cwin 8192\n", 2),
-        ("rh 1 direct\ntake c\ntake x\n", 3),
-        ("rh 1 direct\ntake c\nsettle 1\n", 3),
-        ("take c\nrh 1 direct\n", 1),
-        ("set cwin 8192\nrh 1 roles\n", 1),
-        ("rh 1 roles\nrh 1 roles\n", 2),
-        ("rh 1 roles\ntake c\nset cwin 8192\n", 3),
-        ("rh 1 roles\ngive c 05\nset cwin 8192\n", 3),
-        ("rh 1 roles\nset cwin 8192\nset cwin 8192\n", 3),
-        (
-            "rh 1 roles\nset iwin 8192\nset cwin 8192\nset iwin 9000\n",
-            4,
-        ),
-        ("rh 1 roles\nset same 1\nset same 1\n", 3),
-        ("rh 1 roles\nset keep 0\nsettle 1\nset same 1\n", 4),
-        ("rh 1 roles\nsend cs u 1\n", 2),
-        ("rh 1 roles\ngive c 0\n", 2),
-    ] {
-        assert_eq!(rt;
-            first_bad_line::<Recording>(text.as_bytes()),
-            Some(number),
-            "{text}"
-        );
+    for (text, number) in &NO_RECORDINGS {
+        let bad = first_bad_line::<Recording>(text.as_bytes());
+        assert!(rt; bad == Some(*number), "{text}");
     }
-    for (text, number) in [
-        ("rh 1 roles\n", 1),
-        ("rh 1 direct\nset cwin 8192\n", 2),
-        ("rh 1 direct\ngive c 0\n", 2),
-        ("rh 1 direct\ntake c\nsend co1 u 1\n", 3),
-    ] {
-        assert_eq!(rt;
-            first_bad_line::<DirectRecording>(text.as_bytes()),
-            Some(number),
-            "{text}"
-        );
+    for (text, number) in &NO_DIRECT_RECORDINGS {
+        let bad = first_bad_line::<DirectRecording>(text.as_bytes());
+        assert!(rt; bad == Some(*number), "{text}");
     }
 }

@@ -1,6 +1,9 @@
 //! A connection ends in order.
 
-use super::{feed, front, is, is_quiet, opened, os, pdu, puts, takes};
+use super::{
+    close, draws, end, feed, front, give, is, is_finished, is_quiet, opened, os, pdu, puts, state,
+    take, takes,
+};
 use rh_line::{GiveFault, State, Take, Verdict};
 use rh_sig::Named;
 use std::test::Fail;
@@ -8,17 +11,16 @@ use std::test::Fail;
 #[test]
 fn a_server_ends_behind_all_it_gave(rt: HostRuntime) -> Result<(), Fail> {
     let mut node = opened(rt.alloc(), 131_072)?;
-    let (sent, mut room) = (pdu(16, 1), [0; 16]);
-    assert!(rt; node.give(front(&sent, 16)) == Ok(()));
-    node.close();
-    assert!(rt; node.give(front(&sent, 16)) == Err(GiveFault::Closing));
-    assert!(rt; node.draw(os(1), &mut room) == 16 && puts(&mut node, os(1), &Named::EndB1));
-    assert!(rt; is_quiet(&mut node, os(1)) && node.state() == State::Open);
+    let sent = pdu(16, 1);
+    assert!(rt; give(&mut node, front(&sent, 16)) == Ok(()));
+    close(&mut node);
+    assert!(rt; give(&mut node, front(&sent, 16)) == Err(GiveFault::Closing));
+    assert!(rt; draws(&mut node, os(1), 16) && puts(&mut node, os(1), &Named::EndB1));
+    assert!(rt; is_quiet(&mut node, os(1)) && state(&node) == State::Open);
     assert!(rt; feed(&mut node, is(1), front(&sent, 16)) == Verdict::Going);
     assert!(rt; takes(&mut node, is(1), &Named::EndA2));
-    assert!(rt; node.ended(is(1)) == Verdict::Ended && node.finished(os(1)));
-    let mut taken = [0; 8192];
-    assert!(rt; node.take(&mut taken) == Take::Pdu(16) && node.take(&mut taken) == Take::Ended);
+    assert!(rt; end(&mut node, is(1)) == Verdict::Ended && is_finished(&node, os(1)));
+    assert!(rt; take(&mut node) == Take::Pdu(16) && take(&mut node) == Take::Ended);
     Ok(())
 }
 
@@ -26,7 +28,7 @@ fn a_server_ends_behind_all_it_gave(rt: HostRuntime) -> Result<(), Fail> {
 fn a_lost_leg_closes_the_server(rt: HostRuntime) -> Result<(), Fail> {
     let mut node = opened(rt.alloc(), 131_072)?;
     assert!(rt; takes(&mut node, is(1), &Named::EndA2));
-    assert!(rt; matches!(node.ended(is(1)), Verdict::Closed(_)));
-    assert!(rt; node.finished(os(1)));
+    assert!(rt; matches!(end(&mut node, is(1)), Verdict::Closed(_)));
+    assert!(rt; is_finished(&node, os(1)));
     Ok(())
 }

@@ -1,7 +1,7 @@
 //! A connection is opened.
 
 use super::{
-    CONNECTION, conn_a2, conn_b2, greets, hear, is, is_quiet, made, os, puts, raise, takes,
+    CONNECTION, conn_a2, conn_b2, greets, hear, is, is_quiet, made, os, puts, raise, state, takes,
 };
 use rh_line::State;
 use rh_sig::Named;
@@ -20,7 +20,7 @@ fn a_server_opens_in_either_order(rt: HostRuntime) -> Result<(), Fail> {
         if !out_first {
             assert!(rt; takes(&mut node, os(1), &conn_a2(131_072)));
         }
-        assert!(rt; node.state() == State::Open);
+        assert!(rt; state(&node) == State::Open);
         assert!(rt; greets(&mut node, is(1)));
         assert!(rt; puts(&mut node, is(1), &Named::ConnB3(8192, 1)));
         assert!(rt; puts(&mut node, os(1), &Named::ConnC1(1, 65_536, 120_000)));

@@ -1,8 +1,8 @@
 //! Channels are replaced.
 
 use super::{
-    IN_2, OUT_2, cookie, feed, front, greets, in_r1_a2, is, is_quiet, opened, os, out_r1_a4, pdu,
-    puts, raise, takes,
+    IN_2, OUT_2, channels, close, cookie, draws, end, feed, front, give, greets, in_r1_a2, is,
+    is_finished, is_quiet, may, opened, os, out_r1_a4, pdu, puts, raise, recycle, take, takes,
 };
 use crate::Server;
 use rh_line::{Leg, RecycleFault, Take, Verdict};
@@ -12,9 +12,7 @@ use std::test::Fail;
 /// A PDU of so many bytes is given, and is the next that is drawn.
 fn gives(node: &mut Server, leg: Leg, len: u16) -> bool {
     let wanted = pdu(len, 1);
-    let mut room = [0; 8192];
-    let (exact, _) = room.split_at_mut(usize::from(len).min(8192));
-    node.give(front(&wanted, usize::from(len))).is_ok() && node.draw(leg, exact) == usize::from(len)
+    give(node, front(&wanted, usize::from(len))).is_ok() && draws(node, leg, len)
 }
 
 #[test]
@@ -25,10 +23,9 @@ fn another_in_proxy_takes_over(rt: HostRuntime) -> Result<(), Fail> {
     assert!(rt; puts(&mut node, os(1), &Named::InR1A3(0, 1, 65_536, 120_000)));
     assert!(rt; takes(&mut node, is(1), &Named::InR1A6(cookie(IN_2))));
     assert!(rt; greets(&mut node, is(2)) && is_quiet(&mut node, is(2)));
-    assert!(rt; puts(&mut node, is(1), &Named::InR1B1) && node.finished(is(1)));
-    let mut room = [0; 8192];
-    assert!(rt; node.channels() == (1, 1) && node.take(&mut room) == Take::Pdu(16));
-    assert!(rt; node.channels() == (2, 1));
+    assert!(rt; puts(&mut node, is(1), &Named::InR1B1) && is_finished(&node, is(1)));
+    assert!(rt; channels(&node) == (1, 1) && take(&mut node) == Take::Pdu(16));
+    assert!(rt; channels(&node) == (2, 1));
     assert!(rt; puts(&mut node, is(2), &Named::InR1B2(8192)));
     Ok(())
 }
@@ -41,14 +38,13 @@ fn a_leg_may_be_lost_while_its_channel_waits(rt: HostRuntime) -> Result<(), Fail
     assert!(rt; puts(&mut node, os(1), &Named::InR1A3(0, 1, 65_536, 120_000)));
     assert!(rt; raise(&mut node, is(3)) && takes(&mut node, is(3), &third));
     assert!(rt; takes(&mut node, is(3), &Named::EndA2));
-    node.close();
+    close(&mut node);
     assert!(rt; puts(&mut node, os(1), &Named::EndB1));
-    assert!(rt; node.ended(is(3)) == Verdict::Going && node.finished(is(3)));
+    assert!(rt; end(&mut node, is(3)) == Verdict::Going && is_finished(&node, is(3)));
     assert!(rt; takes(&mut node, is(1), &Named::InR1A6(cookie(IN_2))));
     assert!(rt; puts(&mut node, os(1), &Named::InR1A3(0, 1, 8192, 120_000)));
     assert!(rt; takes(&mut node, is(2), &Named::InR1A6(cookie(9))));
-    let mut room = [0; 8192];
-    assert!(rt; node.channels() == (3, 1) && node.take(&mut room) == Take::Ended);
+    assert!(rt; channels(&node) == (3, 1) && take(&mut node) == Take::Ended);
     Ok(())
 }
 
@@ -56,7 +52,7 @@ fn a_leg_may_be_lost_while_its_channel_waits(rt: HostRuntime) -> Result<(), Fail
 fn the_same_in_proxy_goes_on(rt: HostRuntime) -> Result<(), Fail> {
     let mut node = opened(rt.alloc(), 131_072)?;
     assert!(rt; takes(&mut node, is(1), &Named::InR2A2(cookie(IN_2))));
-    assert!(rt; node.channels() == (2, 1) && !node.may_up(is(2)) && node.may_up(is(3)));
+    assert!(rt; channels(&node) == (2, 1) && !may(&node, is(2)) && may(&node, is(3)));
     assert!(rt; puts(&mut node, os(1), &Named::InR2A3(0)));
     assert!(rt; feed(&mut node, is(1), front(&pdu(16, 1), 16)) == Verdict::Going);
     Ok(())
@@ -65,15 +61,15 @@ fn the_same_in_proxy_goes_on(rt: HostRuntime) -> Result<(), Fail> {
 #[test]
 fn the_out_channel_is_replaced(rt: HostRuntime) -> Result<(), Fail> {
     let mut node = opened(rt.alloc(), 131_072)?;
-    assert!(rt; node.recycle_out() == Ok(()));
-    assert!(rt; node.recycle_out() == Err(RecycleFault::Busy { under_way: os(2) }));
+    assert!(rt; recycle(&mut node) == Ok(()));
+    assert!(rt; recycle(&mut node) == Err(RecycleFault::Busy { under_way: os(2) }));
     assert!(rt; puts(&mut node, os(1), &Named::OutR1A1(0)) && raise(&mut node, os(2)));
     assert!(rt; greets(&mut node, os(2)) && takes(&mut node, os(2), &out_r1_a4()));
     assert!(rt; puts(&mut node, os(1), &Named::OutR1A5(0, 1, 120_000)));
     assert!(rt; takes(&mut node, is(1), &Named::OutR1A8(2, cookie(OUT_2))));
     assert!(rt; gives(&mut node, os(2), 16) || puts(&mut node, os(1), &Named::OutR1A9));
-    assert!(rt; node.channels() == (1, 2) && is_quiet(&mut node, os(1)));
-    assert!(rt; node.ended(os(1)) == Verdict::Going && node.finished(os(1)));
+    assert!(rt; channels(&node) == (1, 2) && is_quiet(&mut node, os(1)));
+    assert!(rt; end(&mut node, os(1)) == Verdict::Going && is_finished(&node, os(1)));
     Ok(())
 }
 
@@ -84,12 +80,12 @@ fn the_meter_wishes_for_a_successor(rt: HostRuntime) -> Result<(), Fail> {
     for _ in 0..7 {
         assert!(rt; gives(&mut node, os(1), 8192));
     }
-    assert!(rt; gives(&mut node, os(1), 8119) && node.recycle_out() == Ok(()));
+    assert!(rt; gives(&mut node, os(1), 8119) && recycle(&mut node) == Ok(()));
     let mut other = opened(rt.alloc(), 131_072)?;
     for _ in 0..7 {
         assert!(rt; gives(&mut other, os(1), 8192));
     }
     assert!(rt; gives(&mut other, os(1), 8120));
-    assert!(rt; other.recycle_out() == Err(RecycleFault::Busy { under_way: os(2) }));
+    assert!(rt; recycle(&mut other) == Err(RecycleFault::Busy { under_way: os(2) }));
     Ok(())
 }

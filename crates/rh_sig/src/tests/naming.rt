@@ -22,8 +22,8 @@ fn is_written((named, bytes, names): Case) -> bool {
 
 #[test]
 fn each_row_is_written_and_is_read_on_its_pipes_alone(rt: HostRuntime) {
-    for case in CASES {
-        assert!(rt; is_written(case), "{:?}", case.0);
+    for case in &CASES {
+        assert!(rt; is_written(*case), "{:?}", case.0);
     }
 }
 

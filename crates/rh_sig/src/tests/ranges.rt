@@ -5,7 +5,7 @@ use crate::{Named, Pipe, SigFault, name_of, read_named};
 use rh_rts::view;
 
 // A packet, a pipe that carries it, and the type and value of its first command out of range.
-const VALUES: [(Named, Pipe, Option<(u32, u32)>); 30] = [
+static VALUES: [(Named, Pipe, Option<(u32, u32)>); 30] = [
     (Named::InR1B2(8_191), Pipe::IsD, Some((0, 8_191))),
     (Named::InR1B2(8_192), Pipe::IsD, None),
     (Named::InR1B2(262_144), Pipe::IsD, None),
@@ -81,7 +81,7 @@ fn has_value(named: Named, pipe: Pipe, wrong: Option<(u32, u32)>) -> bool {
 
 #[test]
 fn each_range_has_its_two_ends_and_the_first_value_out_of_it_is_told(rt: HostRuntime) {
-    for (named, pipe, wrong) in VALUES {
-        assert!(rt; has_value(named, pipe, wrong), "{:?}", named);
+    for (named, pipe, wrong) in &VALUES {
+        assert!(rt; has_value(*named, *pipe, *wrong), "{:?}", named);
     }
 }

@@ -19,8 +19,8 @@ fn needs_all_its_bytes((named, bytes, _): Case) -> bool {
 
 #[test]
 fn a_room_one_byte_too_short_stays_as_it_was(rt: HostRuntime) {
-    for case in CASES {
-        assert!(rt; needs_all_its_bytes(case), "{:?}", case.0);
+    for case in &CASES {
+        assert!(rt; needs_all_its_bytes(*case), "{:?}", case.0);
     }
 }
 
