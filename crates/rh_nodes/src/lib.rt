@@ -19,7 +19,7 @@ pub mod opening;
 pub mod place;
 pub mod places;
 pub mod readers;
-mod ring;
+pub mod ring;
 pub mod settling;
 pub mod step;
 pub mod telling;

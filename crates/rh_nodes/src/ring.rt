@@ -7,7 +7,10 @@ use rh_text::Bytes;
 use std::alloc::{AllocError, Global};
 
 /// Makes room for `count` items more. The room at least doubles where it doesn't suffice.
-pub(crate) fn make_room<T: Copy>(
+///
+/// # Errors
+/// `AllocError`: there was no memory, or the count of items would pass 2^64; nothing has changed.
+pub fn make_room<T: Copy>(
     alloc: Global,
     ring: &mut HeapCircularBuffer<T>,
     count: usize,
@@ -52,8 +55,11 @@ fn front_of(
 
 /// Takes the first bytes out: `count` of them, or all where there are fewer. The others stay where
 /// they are.
+///
+/// # Errors
+/// `AllocError`: there was no memory for a list of them; nothing has changed.
 #[inline(always)]
-pub(crate) fn take_front(
+pub fn take_front(
     alloc: Global,
     ring: &mut HeapCircularBuffer<u8>,
     count: usize,

@@ -6,22 +6,16 @@ use Rattle.rh_text.specs.Ends.{side_word}
 use Rattle.rh_text.specs.Digits.{IsHex}
 use Rattle.rh_record.specs.declared.line.Line.{Line}
 use Rattle.rh_record.specs.declared.line.Line.TheVariants.{Give}
-use Rattle.rh_record.specs.declared.line.RecordKind.{RecordKind}
-use Rattle.rh_record.specs.declared.line.RecordKind.TheVariants as kinds
 use Rattle.rh_record.specs.declared.place.Place.{Place}
 use Rattle.rh_record.specs.Words.{Is, Word}
-use Rattle.rh_record.specs.Recording.{LineText, MayFollowDirect}
-use Rattle.rh_record.specs.Places.{MayFollow, Stands, StandsDirect, next}
+use Rattle.rh_record.specs.Recording.{LineText}
+use Rattle.rh_record.specs.Places.{MayFollow, Stands, next}
 use Rattle.rh_record.specs.Readings.{one_line}
 
 -- what is answered of a line at a place
 abbrev pub Judged : Place → List ℕ → Option Place → Type 0
 Judged place text found = MatchOption found ((line : Line) → Stands place text line → ⊥)
     (λ behind. (line : Line) × Stands place text line × (behind ≡ next place line))
-
-abbrev pub JudgedDirect : RecordKind → List ℕ → Option RecordKind → Type 0
-JudgedDirect kind text found = MatchOption found ((line : Line) → StandsDirect kind text line → ⊥)
-    (λ behind. (line : Line) × StandsDirect kind text line × (behind ≡ kinds.Direct))
 
 -- a text is judged as the line that it spells
 pub judged : (place : Place) (text : List ℕ) (line : Line) (found : Option Place)
@@ -35,21 +29,6 @@ judged place text line None spelled none = λ other stands.
 judged place text line (Some behind) spelled h = (
   line,
   record { line_of = record { fitting = h.0.0; spelled = spelled }; standing = h.0.1 },
-  h.1,
-)
-
-pub judged_direct : (kind : RecordKind) (text : List ℕ) (line : Line) (found : Option RecordKind)
-    → LineText line text
-    → MatchOption found (MayFollowDirect kind line → ⊥)
-    (λ behind. MayFollowDirect kind line × (behind ≡ kinds.Direct))
-    → JudgedDirect kind text found
-judged_direct kind text line None spelled none = λ other stands.
-    none (subst (λ l. MayFollowDirect kind l) (one_line text other line stands.line_of.spelled
-    spelled)
-    (stands.line_of.fitting, stands.direct))
-judged_direct kind text line (Some behind) spelled h = (
-  line,
-  record { line_of = record { fitting = h.0.0; spelled = spelled }; direct = h.0.1 },
   h.1,
 )
 

@@ -10,7 +10,7 @@ use Rattle.rh_record.specs.declared.place.Keys.{Keys}
 use Rattle.rh_record.specs.declared.place.Place.{Place}
 use Rattle.rh_record.specs.declared.place.Place.TheVariants.{Header, Direct, Settings, Roles}
 use Rattle.rh_text.specs.Lines.{Rules}
-use Rattle.rh_record.specs.Recording.{IsLine, fits, is_direct}
+use Rattle.rh_record.specs.Recording.{IsLine, fits}
 
 -- ---- the keys that were set
 
@@ -82,25 +82,3 @@ MayEnd _ = Unit {0}
 -- a recording of either form: a first line, in a recording of roles settings, and then other lines
 abbrev pub recording : Rules Place Line
 recording = record { Spells = Stands; next = next; first = Header; MayEnd = MayEnd }
-
--- ---- direct recordings alone
-
--- the text is this line, at a place for lines of this kind of a direct recording
-pub record StandsDirect (kind : RecordKind) (text : List ℕ) (line : Line) : Type 0 where
-  pub line_of : IsLine kind text line
-  pub direct : IsTrue (is_direct line)
-
--- a direct recording may end behind its first line
-abbrev pub MayEndDirect : RecordKind → Type 0
-MayEndDirect kinds.Header = ⊥
-MayEndDirect _ = Unit {0}
-
--- a direct recording: a first line, and then lines of a direct recording
-abbrev pub direct_recording : Rules RecordKind Line
-direct_recording =
-    record {
-      Spells = StandsDirect;
-      next = λ _ _. kinds.Direct;
-      first = kinds.Header;
-      MayEnd = MayEndDirect;
-    }

@@ -15,7 +15,7 @@ use Rattle.rh_record.specs.Words.{Cut, Then, Word, IsCount, IsRoute}
 use Rattle.rh_record.specs.Recording.{LineText, form_word}
 use Rattle.rh_record.specs.declared.line.RecordKind.{RecordKind}
 use Rattle.rh_record.specs.declared.place.Place.{Place}
-use Rattle.rh_record.specs.Places.{Stands, StandsDirect}
+use Rattle.rh_record.specs.Places.{Stands}
 use Rattle.rh_record.specs.WordLaws.{both, one_cut, one_dir, one_hex, one_key, one_leg, one_number, one_route, one_side}
 
 -- ---- verbs
@@ -168,10 +168,3 @@ one_line_at place text a b h k = one_line text a b h.line_of.spelled k.line_of.s
 
 pub no_empty : (place : Place) (line : Line) → Stands place [] line → ⊥
 no_empty place line h = no_line_of_nothing line h.line_of.spelled
-
-pub one_direct_line : (kind : RecordKind) (text : List ℕ) (a b : Line) → StandsDirect kind text a
-    → StandsDirect kind text b → a ≡ b
-one_direct_line kind text a b h k = one_line text a b h.line_of.spelled k.line_of.spelled
-
-pub no_empty_direct : (kind : RecordKind) (line : Line) → StandsDirect kind [] line → ⊥
-no_empty_direct kind line h = no_line_of_nothing line h.line_of.spelled

@@ -52,12 +52,3 @@ fits _ _ = false
 pub record IsLine (kind : RecordKind) (text : List ℕ) (line : Line) : Type 0 where
   pub fitting : IsTrue (fits kind line)
   pub spelled : LineText line text
-
--- whether a line is one of a direct recording
-abbrev pub is_direct : Line → Bool
-is_direct (First roles) = not roles
-is_direct line = fits Direct line
-
--- a line may stand at a place for lines of this kind of a direct recording
-abbrev pub MayFollowDirect : RecordKind → Line → Type 0
-MayFollowDirect kind line = IsTrue (fits kind line) × IsTrue (is_direct line)

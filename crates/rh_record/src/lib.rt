@@ -18,7 +18,7 @@ pub use answer::{Answer, TakeAnswer, Who};
 pub use line::{Key, Line, RecordKind};
 pub use place::{Keys, Place};
 pub use reading::{LineRefused, read_line};
-pub use recording::{DirectRecording, Recording, one_direct_recording, one_reading, one_recording};
+pub use recording::{Recording, one_reading, one_recording};
 pub use report::Report;
 pub use rh_line::{Dir, GiveFault, Side};
 pub use rh_text::Bytes;

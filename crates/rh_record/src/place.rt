@@ -3,8 +3,6 @@
 ghost use Rattle.std.specs.Prelude.{◌≡◌, MatchOption, List, ℕ};
 ghost use Rattle.rh_text.specs.declared.ends.Side.{Side};
 ghost use Rattle.rh_record.specs.declared.line.Line.TheVariants.{Give};
-ghost use Rattle.rh_record.specs.declared.line.RecordKind.TheVariants as kinds;
-ghost use Rattle.rh_record.specs.Recording.{MayFollowDirect};
 
 use crate::line::{Key, Line, RecordKind};
 
@@ -140,30 +138,5 @@ impl Place {
             Place::Direct => Some(Place::Direct),
             Place::Settings(_) | Place::Roles => Some(Place::Roles),
         }
-    }
-}
-
-/// The kind of line behind a line of a direct recording; `None` exactly where the line may not
-/// stand there.
-pub(crate) fn behind_direct(kind: RecordKind, line: &Line) -> Option<RecordKind>
-    ensures { MatchOption result (¬ MayFollowDirect kind line.now)
-        (λ next. MayFollowDirect kind line.now × (next ≡ kinds.Direct)) }
-{
-    if line.fits(kind) && line.is_direct() {
-        Some(RecordKind::Direct)
-    } else {
-        None
-    }
-}
-
-/// The kind of line behind a give of a direct recording; `None` exactly where none may stand.
-pub(crate) fn behind_direct_give(kind: RecordKind) -> Option<RecordKind>
-    ensures { (side : Side) (pdu : List ℕ)
-        → MatchOption result (¬ MayFollowDirect kind (Give side pdu))
-        (λ next. MayFollowDirect kind (Give side pdu) × (next ≡ kinds.Direct)) }
-{
-    match kind {
-        RecordKind::Header => None,
-        RecordKind::Direct | RecordKind::Roles => Some(RecordKind::Direct),
     }
 }

@@ -296,7 +296,7 @@ pub(crate) fn parse(text: &[u8]) -> Option<Parsed<'_>>
 
 impl Line {
     ghost use Rattle.std.specs.Prelude.{◌≡◌};
-    ghost use Rattle.rh_record.specs.Recording.{fits, is_direct};
+    ghost use Rattle.rh_record.specs.Recording.{fits};
 
     /// Whether the line may stand at a place for lines of this kind.
     pub fn fits(&self, kind: RecordKind) -> bool
@@ -311,16 +311,6 @@ impl Line {
             (RecordKind::Roles, Line::First { .. }) => false,
             (RecordKind::Roles, Line::Send { leg, .. } | Line::Move { leg, .. }) => leg.is_some(),
             (RecordKind::Roles, _) => true,
-        }
-    }
-
-    /// Whether the line is one of a direct recording.
-    pub fn is_direct(&self) -> bool
-        ensures { result ≡ is_direct self.now }
-    {
-        match self {
-            Line::First { roles } => !*roles,
-            _ => self.fits(RecordKind::Direct),
         }
     }
 }

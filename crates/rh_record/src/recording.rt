@@ -4,10 +4,10 @@ ghost use Rattle.std.specs.Prelude.{◌≡◌, ℕ, List};
 ghost use Rattle.rh_text.specs.Lines.{TextOf, IsText, FirstBad};
 ghost use Rattle.rh_record.specs.declared.line.Line.{Line};
 ghost use Rattle.rh_record.specs.Recording.{LineText};
-ghost use Rattle.rh_record.specs.Places.{direct_recording, recording};
+ghost use Rattle.rh_record.specs.Places.{recording};
 
-use crate::line::{Line, RecordKind};
-use crate::place::{Place, behind_direct, behind_direct_give};
+use crate::line::Line;
+use crate::place::Place;
 use crate::reading::{MOST_BYTES, Parsed, parse};
 use rh_text::{Grammar, is_hex, one_text};
 
@@ -52,47 +52,6 @@ impl Grammar for Recording {
     ghost some = { no_empty };
 }
 
-/// The grammar of direct recordings alone.
-#[derive(Clone, Copy, Debug)]
-pub struct DirectRecording;
-
-impl Grammar for DirectRecording {
-    ghost use Rattle.rh_record.specs.Places.{direct_recording};
-    ghost use Rattle.rh_record.specs.Readings.{one_direct_line, no_empty_direct};
-
-    type Place = RecordKind;
-
-    type Line = Line;
-
-    ghost rules = { direct_recording };
-
-    fn first_place() -> RecordKind {
-        RecordKind::Header
-    }
-
-    fn may_end(place: RecordKind) -> bool {
-        place != RecordKind::Header
-    }
-
-    /// Reads no bytes of a give, and takes no memory.
-    fn judge_line(text: &[u8], place: RecordKind) -> Option<RecordKind> {
-        match parse(text)? {
-            Parsed::Plain(line) => behind_direct(place, &line),
-            Parsed::Give { hex, .. } => {
-                if is_hex(hex, MOST_BYTES) {
-                    behind_direct_give(place)
-                } else {
-                    None
-                }
-            }
-        }
-    }
-
-    ghost one = { one_direct_line };
-
-    ghost some = { no_empty_direct };
-}
-
 /// A text spells one line at most: this function does nothing, and its contract is that law.
 pub fn one_reading()
     ensures { (text : List ℕ) (a b : Line) → LineText a text → LineText b text → a ≡ b }
@@ -109,16 +68,4 @@ pub fn one_recording()
         → ¬ FirstBad recording text n }
 {
     one_text::<Recording>();
-}
-
-/// The same of direct recordings alone: `first_bad_line::<DirectRecording>` tells which.
-pub fn one_direct_recording()
-    ensures lines { (text : List ℕ) (a b : List Line)
-        → TextOf direct_recording text a → TextOf direct_recording text b → a ≡ b }
-    ensures bad { (text : List ℕ) (n m : ℕ)
-        → FirstBad direct_recording text n → FirstBad direct_recording text m → n ≡ m }
-    ensures never_both { (text : List ℕ) (n : ℕ) → IsText direct_recording text
-        → ¬ FirstBad direct_recording text n }
-{
-    one_text::<DirectRecording>();
 }

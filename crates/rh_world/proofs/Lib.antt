@@ -1,4 +1,3 @@
-pub mod Rings
 pub mod PieceLaws
 pub mod Ranges
 mod Frames

@@ -5,7 +5,6 @@
 pub mod any_world;
 pub mod config;
 mod received;
-mod ring;
 pub mod roles;
 pub mod roles_world;
 mod way;

@@ -2,8 +2,8 @@
 
 ghost use Rattle.std.specs.Prelude.{◌≡◌, ◌+◌, ◌-◌, ◌≤◌, ◌<◌, ◌^◌, ◌++◌, [], ◌∷◌, IfOk, OnOk, OnErr, MatchOption, length};
 
-use crate::ring::{make_room, take_front};
 use circular_buffer::HeapCircularBuffer;
+use rh_nodes::ring::{make_room, take_front};
 use rh_text::Bytes;
 use std::alloc::{AllocError, Global};
 use std::marker::Model;

@@ -9,9 +9,9 @@ ghost use Rattle.rh_pdu.specs.Cut.{frames_of, rest_of};
 ghost use Rattle.rh_world.specs.Direct as seen;
 
 use crate::received::Received;
-use crate::ring::{make_room, take_front};
 use circular_buffer::HeapCircularBuffer;
 use rh_line::{Begun, GiveFault, SendLine, draw};
+use rh_nodes::ring::{make_room, take_front};
 use rh_pdu::{Feed, Framer, check};
 use rh_record::TakeAnswer;
 use rh_text::Bytes;

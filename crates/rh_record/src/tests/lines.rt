@@ -2,7 +2,7 @@
 
 use crate::line::RecordKind;
 use crate::reading::{LineRefused, read_line};
-use crate::recording::{one_direct_recording, one_reading, one_recording};
+use crate::recording::{one_reading, one_recording};
 use crate::words::one_word;
 use std::test::Fail;
 
@@ -169,7 +169,6 @@ fn each_form_of_a_line_is_read(rt: HostRuntime) -> Result<(), Fail> {
     one_word();
     one_reading();
     one_recording();
-    one_direct_recording();
     Ok(())
 }
 

@@ -1,6 +1,6 @@
 //! Whole recordings.
 
-use crate::recording::{DirectRecording, Recording};
+use crate::recording::Recording;
 use rh_text::{first_bad_line, write_hex};
 use std::test::Fail;
 
@@ -340,12 +340,11 @@ fn recordings_are_read(rt: HostRuntime) -> Result<(), Fail> {
     }
     let direct = full_queue(&rt)?;
     assert_eq!(rt; first_bad_line::<Recording>(direct.as_bytes()), None);
-    assert_eq!(rt; first_bad_line::<DirectRecording>(direct.as_bytes()), None);
     Ok(())
 }
 
 // A text that is no recording, and the number of its first bad line.
-static NO_RECORDINGS: [(&str, u64); 19] = [
+static NO_RECORDINGS: [(&str, u64); 21] = [
     ("", 1),
     ("\n", 1),
     ("rh 1 direct\n\n", 2),
@@ -354,6 +353,8 @@ static NO_RECORDINGS: [(&str, u64); 19] = [
     ("rh 1 direct\nset cwin 8192\n", 2),
     ("rh 1 direct\ntake c\ntake x\n", 3),
     ("rh 1 direct\ntake c\nsettle 1\n", 3),
+    ("rh 1 direct\ngive c 0\n", 2),
+    ("rh 1 direct\ntake c\nsend co1 u 1\n", 3),
     ("take c\nrh 1 direct\n", 1),
     ("set cwin 8192\nrh 1 roles\n", 1),
     ("rh 1 roles\nrh 1 roles\n", 2),
@@ -370,22 +371,10 @@ static NO_RECORDINGS: [(&str, u64); 19] = [
     ("rh 1 roles\ngive c 0\n", 2),
 ];
 
-// The same of direct recordings.
-static NO_DIRECT_RECORDINGS: [(&str, u64); 4] = [
-    ("rh 1 roles\n", 1),
-    ("rh 1 direct\nset cwin 8192\n", 2),
-    ("rh 1 direct\ngive c 0\n", 2),
-    ("rh 1 direct\ntake c\nsend co1 u 1\n", 3),
-];
-
 #[test]
 fn the_first_line_that_may_not_stand_there_is_told(rt: HostRuntime) {
     for (text, number) in &NO_RECORDINGS {
         let bad = first_bad_line::<Recording>(text.as_bytes());
-        assert!(rt; bad == Some(*number), "{text}");
-    }
-    for (text, number) in &NO_DIRECT_RECORDINGS {
-        let bad = first_bad_line::<DirectRecording>(text.as_bytes());
         assert!(rt; bad == Some(*number), "{text}");
     }
 }
