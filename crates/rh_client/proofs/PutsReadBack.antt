@@ -23,7 +23,7 @@ use Rattle.rh_shell.specs.NearEnds.{first_of}
 use Rattle.rh_shell.specs.Rules.{Row, Message, Pdu, Packet}
 use Rattle.rh_shell.specs.Moves as moves
 use Rattle.rh_shell.specs.Moves.{OnLeg, Passage, EndPassage, EndMove, Up, HeadCame, PduCame, PacketCame, Puts, IsDrawn, Marks, Pings, Moves, Gives, Takes, Closes, Recycles, taken_by, given_by, with_first, end_moved, all_end_moved}
-use Rattle.rh_legible.specs.Legible.{MayGo, MayGoOn, AllMayGo, AllReadBack}
+use Rattle.rh_legible.specs.Legible.{MayGo, MayGoOn, AllMayGo, AllReadBack, AreLegible}
 use Rattle.rh_client.specs.declared.channels.Opening.{Opening}
 use Rattle.rh_client.specs.declared.channels.Opening.TheVariants.{NotUp, Request, First, Second, Put}
 use Rattle.rh_client.specs.declared.replacement.Replacement.{Replacement}
@@ -410,7 +410,10 @@ all_hold p (move ∷ all) h l =
 pub puts_read_back : ((pipe : Leg → Option Pipe) (log : List OnLeg) → AllMayGo pipe log
     → AllReadBack pipe log) → (config : ClientConfig) (all : List EndMove)
     → IsConfig config → HasCookies config → HaveCookies all
-    → AllReadBack pipe_put (client_moved config all).passage.put
+    → AreLegible pipe_put (client_moved config all).passage.put
 puts_read_back law config all fine sized cookies =
-    law pipe_put (client_moved config all).passage.put
-    (all_hold (client_started config) all cookies (first_sound config fine sized, tt)).1
+    let holds = all_hold (client_started config) all cookies (first_sound config fine sized, tt) in
+    record {
+      may_go = holds.1;
+      read_back = law pipe_put (client_moved config all).passage.put holds.1;
+    }

@@ -3,7 +3,7 @@
 ghost use Rattle.std.specs.Prelude.{List};
 ghost use Rattle.rh_http.specs.declared.config.ClientConfig.{ClientConfig};
 ghost use Rattle.rh_shell.specs.Moves.{EndMove};
-ghost use Rattle.rh_legible.specs.Legible.{AllReadBack};
+ghost use Rattle.rh_legible.specs.Legible.{AreLegible};
 ghost use Rattle.rh_client.specs.Legible.{IsConfig, HasCookies, HaveCookies, pipe_put};
 ghost use Rattle.rh_client.specs.Order.{client_moved};
 
@@ -15,7 +15,7 @@ use rh_legible::what_may_go_reads_back;
 pub fn what_a_client_puts_reads_back()
     ensures { (config : ClientConfig) (moves : List EndMove) → IsConfig config
         → HasCookies config → HaveCookies moves
-        → AllReadBack pipe_put (client_moved config moves).passage.put }
+        → AreLegible pipe_put (client_moved config moves).passage.put }
 {
     what_may_go_reads_back();
 }

@@ -546,4 +546,7 @@ pub all_reads_back : ((pipe : Leg → Option Pipe) (log : List OnLeg) → AllMay
 all_reads_back reads config ranges sizes all =
     let start = started (first config) in
     let kept = moves_keep start all (λ fine. (first_is config ranges sizes, tt)) in
-    λ fine. reads pipe_put (all_moved rules start all).put (kept fine).1
+    λ fine. record {
+      may_go = (kept fine).1;
+      read_back = reads pipe_put (all_moved rules start all).put (kept fine).1;
+    }

@@ -71,6 +71,11 @@ AreFine log = AllByRecursion (λ (one : OnLeg). IsFineMessage one.1) log
 abbrev pub AllReadBack : (Leg → Option Pipe) → List OnLeg → Type 0
 AllReadBack pipe log = AllByRecursion (λ (one : OnLeg). ReadsBack (pipe one.0) one.1) log
 
--- where all that came is fine, all that was put reads back
+-- all that was put may go on its pipe, and so reads back there
+pub record AreLegible (pipe : Leg → Option Pipe) (log : List OnLeg) : Type 0 where
+  pub may_go : AllMayGo pipe log
+  pub read_back : AllReadBack pipe log
+
+-- so it is where all that came is fine
 abbrev pub IsLegible : {S : Type 0} → (Leg → Option Pipe) → Passage S → Type 0
-IsLegible pipe p = AreFine p.came → AllReadBack pipe p.put
+IsLegible pipe p = AreFine p.came → AreLegible pipe p.put

@@ -124,4 +124,5 @@ pub kept_reads : (p : Passage OutProxy)
     → ((pipe : Leg → Option Pipe) (log : List OnLeg) → AllMayGo pipe log
     → AllReadBack pipe log)
     → Kept p → IsLegible pipe_put p
-kept_reads p reads kept = λ fine. reads pipe_put p.put (kept fine).1
+kept_reads p reads kept = λ fine.
+    record { may_go = (kept fine).1; read_back = reads pipe_put p.put (kept fine).1 }

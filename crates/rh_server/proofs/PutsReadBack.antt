@@ -154,5 +154,10 @@ pub puts_read_back : ((pipe : Leg → Option Pipe) (log : List OnLeg) → AllMay
     → AllReadBack pipe log) → (window : ℕ) (moves : List EndMove) → IsWindow window
     → IsLegible pipe_put (all_end_moved rules acts (end_started (first window)) moves).passage
 puts_read_back back window moves is = λ f.
-    back pipe_put (all_end_moved rules acts (end_started (first window)) moves).passage.put
-    (all_kept moves (end_started (first window)) (starts window is) f).1
+    let kept = all_kept moves (end_started (first window)) (starts window is) f in
+    record {
+      may_go = kept.1;
+      read_back =
+          back pipe_put (all_end_moved rules acts (end_started (first window)) moves).passage.put
+          kept.1;
+    }
