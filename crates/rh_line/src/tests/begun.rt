@@ -7,37 +7,20 @@ use std::test::Fail;
 /// Four bytes of a room into which nothing was drawn.
 const UNTOUCHED: [u8; 4] = [0x77; 4];
 
-// These have no clauses, so that the goals of a test don't carry the queue.
-
-/// Whether so many bytes are drawn, and then so many are begun, and so many queued.
-fn draws(
-    queue: &mut SendLine,
-    begun: &mut Begun,
-    room: &mut [u8],
-    (drawn, left, held): (usize, usize, usize),
-) -> bool {
-    draw(queue, begun, room) == drawn && begun.len() == left && queue.held() == held
-}
-
-/// Whether this PDU is the first of the queue.
-fn is_first(queue: &SendLine, len: Option<u16>) -> bool {
-    queue.front() == len
-}
-
-/// Whether the bytes are these two parts.
-fn are(bytes: &[u8], front: &[u8], behind: &[u8]) -> bool {
-    let (first, second) = bytes.split_at(front.len().min(bytes.len()));
-    first == front && second == behind
-}
-
 #[test]
 fn a_pdu_that_does_not_fit_goes_on_in_the_next_room(rt: HostRuntime) -> Result<(), Fail> {
     let (mut queue, mut begun) = (queue_of_two(&rt, rt.alloc())?, Begun::new());
-    let (mut room, mut next) = ([0x77; 10], [0x77; 10]);
-    assert!(rt; draws(&mut queue, &mut begun, &mut room, (10, 6, 20)));
-    assert!(rt; are(&room, &FIRST[..10], &[]));
-    assert!(rt; draws(&mut queue, &mut begun, &mut next, (10, 16, 0)));
-    assert!(rt; are(&next, &FIRST[10..], &SECOND[..4]));
+    let mut room = [0x77; 10];
+    assert_eq!(rt; draw(&mut queue, &mut begun, &mut room), 10);
+    assert!(rt; &room[..] == &FIRST[..10]);
+    assert_eq!(rt; begun.len(), 6);
+    assert_eq!(rt; queue.held(), 20);
+    let mut next = [0x77; 10];
+    assert_eq!(rt; draw(&mut queue, &mut begun, &mut next), 10);
+    assert!(rt; &next[..6] == &FIRST[10..]);
+    assert!(rt; &next[6..] == &SECOND[..4]);
+    assert_eq!(rt; begun.len(), 16);
+    assert_eq!(rt; queue.held(), 0);
     Ok(())
 }
 
@@ -45,9 +28,11 @@ fn a_pdu_that_does_not_fit_goes_on_in_the_next_room(rt: HostRuntime) -> Result<(
 fn a_pdu_that_ends_with_the_room_leaves_the_next_one_queued(rt: HostRuntime) -> Result<(), Fail> {
     let (mut queue, mut begun) = (queue_of_two(&rt, rt.alloc())?, Begun::new());
     let mut room = [0x77; 16];
-    assert!(rt; draws(&mut queue, &mut begun, &mut room, (16, 0, 20)));
-    assert!(rt; are(&room, &FIRST, &[]));
-    assert!(rt; is_first(&queue, Some(20)));
+    assert_eq!(rt; draw(&mut queue, &mut begun, &mut room), 16);
+    assert!(rt; &room[..] == &FIRST[..]);
+    assert_eq!(rt; begun.len(), 0);
+    assert_eq!(rt; queue.front(), Some(20));
+    assert_eq!(rt; queue.held(), 20);
     Ok(())
 }
 
@@ -55,10 +40,12 @@ fn a_pdu_that_ends_with_the_room_leaves_the_next_one_queued(rt: HostRuntime) -> 
 fn a_room_takes_all_pdus_that_fit(rt: HostRuntime) -> Result<(), Fail> {
     let (mut queue, mut begun) = (queue_of_two(&rt, rt.alloc())?, Begun::new());
     let mut room = [0x77; 40];
-    assert!(rt; draws(&mut queue, &mut begun, &mut room, (36, 0, 0)));
-    assert!(rt; are(&room[..36], &FIRST, &SECOND));
-    assert!(rt; are(&room[36..], &UNTOUCHED, &[]));
-    assert!(rt; is_first(&queue, None));
+    assert_eq!(rt; draw(&mut queue, &mut begun, &mut room), 36);
+    assert!(rt; &room[..16] == &FIRST[..]);
+    assert!(rt; &room[16..36] == &SECOND[..]);
+    assert!(rt; &room[36..] == &UNTOUCHED[..]);
+    assert_eq!(rt; begun.len(), 0);
+    assert_eq!(rt; queue.front(), None);
     Ok(())
 }
 
@@ -66,14 +53,18 @@ fn a_room_takes_all_pdus_that_fit(rt: HostRuntime) -> Result<(), Fail> {
 fn an_empty_queue_leaves_the_room(rt: HostRuntime) -> Result<(), Fail> {
     let (mut queue, mut begun) = (SendLine::new(rt.alloc())?, Begun::new());
     let mut room = [0x77; 4];
-    assert!(rt; draws(&mut queue, &mut begun, &mut room, (0, 0, 0)));
-    assert!(rt; are(&room, &UNTOUCHED, &[]));
+    assert_eq!(rt; draw(&mut queue, &mut begun, &mut room), 0);
+    assert!(rt; &room[..] == &UNTOUCHED[..]);
+    assert_eq!(rt; begun.len(), 0);
     Ok(())
 }
 
 #[test]
 fn a_room_of_no_byte_begins_nothing(rt: HostRuntime) -> Result<(), Fail> {
     let (mut queue, mut begun) = (queue_of_two(&rt, rt.alloc())?, Begun::new());
-    assert!(rt; draws(&mut queue, &mut begun, &mut [], (0, 0, 36)));
+    let mut room = [0; 0];
+    assert_eq!(rt; draw(&mut queue, &mut begun, &mut room), 0);
+    assert_eq!(rt; begun.len(), 0);
+    assert_eq!(rt; queue.held(), 36);
     Ok(())
 }

@@ -60,23 +60,6 @@ fn admit(
     line.admit(channel, pdu)
 }
 
-/// A next channel is opened, where there is none.
-fn open_next(rt: &impl Abort, line: &mut RecvLine, shut: bool) {
-    assert!(rt; !line.has_next());
-    line.open_next(shut);
-}
-
-/// Whether nothing is due on the next channel, which is there.
-fn is_quiet(line: &RecvLine) -> bool {
-    line.has_next() && line.due(Next).is_none()
-}
-
-/// The current channel is finished, where there is a next one.
-fn finish(rt: &impl Abort, line: &mut RecvLine) {
-    assert!(rt; line.has_next());
-    line.finish();
-}
-
 /// Whether a PDU is taken, and stands alone at the front of the room.
 fn gives(line: &mut RecvLine, pdu: &[u8]) -> bool {
     let mut room = [0x77; 8192];
@@ -102,11 +85,13 @@ fn answers(rt: &impl Abort, line: &mut RecvLine, step: Step) -> bool {
             true
         }
         OpenNext => {
-            open_next(rt, line, false);
+            assert!(rt; !line.has_next());
+            line.open_next(false);
             line.has_next()
         }
         Finish => {
-            finish(rt, line);
+            assert!(rt; line.has_next());
+            line.finish();
             true
         }
         Take(pdu) => gives(line, bytes_of(pdu)),
@@ -249,43 +234,33 @@ fn two_channels_give_what_came_in_order(rt: HostRuntime) -> Result<(), Fail> {
     Ok(())
 }
 
-/// Whether a PDU that comes on a channel, which is to be there, is admitted.
-fn admits(rt: &impl Abort, line: &mut RecvLine, channel: Which, pdu: &[u8]) -> bool {
-    admit(rt, line, channel, pdu) == Ok(())
-}
-
-/// Whether it is refused, since it ends past the edge of the window.
-fn exceeds(
-    rt: &impl Abort,
-    line: &mut RecvLine,
-    channel: Which,
-    pdu: &[u8],
-    (reached, edge): (u64, u64),
-) -> bool {
-    let past = WindowExceeded { reached, edge };
-    admit(rt, line, channel, pdu) == Err(LineFault::Window(past))
-}
-
 #[test]
 fn a_shut_window_admits_nothing_until_it_is_told(rt: HostRuntime) -> Result<(), Fail> {
     let mut line = RecvLine::new(rt.alloc(), LEAST_WINDOW)?;
-    open_next(&rt, &mut line, true);
-    assert!(rt; exceeds(&rt, &mut line, Next, &FIRST, (16, 0)));
-    assert!(rt; is_quiet(&line) && admits(&rt, &mut line, Current, &FIRST));
-    finish(&rt, &mut line);
-    assert!(rt; gives(&mut line, &FIRST) && !line.has_next());
-    assert!(rt; exceeds(&rt, &mut line, Current, &FIRST, (16, 0)));
+    line.open_next(true);
+    let shut = LineFault::Window(WindowExceeded {
+        reached: 16,
+        edge: 0,
+    });
+    assert!(rt; rh_pdu::check(&FIRST).is_ok());
+    assert_eq!(rt; line.admit(Next, &FIRST), Err(shut));
+    assert_eq!(rt; line.due(Next), None);
+    assert_eq!(rt; line.admit(Current, &FIRST), Ok(()));
+    line.finish();
+    assert!(rt; gives(&mut line, &FIRST));
+    assert!(rt; !line.has_next());
+    assert_eq!(rt; line.admit(Current, &FIRST), Err(shut));
     Ok(())
 }
 
 #[test]
 fn a_told_window_admits(rt: HostRuntime) -> Result<(), Fail> {
     let mut line = RecvLine::new(rt.alloc(), LEAST_WINDOW)?;
-    open_next(&rt, &mut line, true);
-    assert!(rt; line.has_next());
+    line.open_next(true);
     line.tell(Next);
-    assert!(rt; admits(&rt, &mut line, Next, &SECOND));
-    finish(&rt, &mut line);
+    assert!(rt; rh_pdu::check(&SECOND).is_ok());
+    assert_eq!(rt; line.admit(Next, &SECOND), Ok(()));
+    line.finish();
     assert!(rt; gives(&mut line, &SECOND));
     Ok(())
 }
@@ -315,45 +290,44 @@ fn tell_due(line: &mut RecvLine) -> Option<Ack> {
 
 #[test]
 fn a_window_is_acknowledged_when_pdus_were_taken(rt: HostRuntime) -> Result<(), Fail> {
-    let long = counting(rt.alloc(), 8_192, true)?;
     let mut line = RecvLine::new(rt.alloc(), LEAST_WINDOW)?;
-    assert!(rt; admits(&rt, &mut line, Current, &long));
-    assert!(rt; exceeds(&rt, &mut line, Current, &FIRST, (8_208, 8_192)));
-    assert!(rt; tell_due(&mut line).is_none() && gives(&mut line, &long));
-    assert!(rt; exceeds(&rt, &mut line, Current, &FIRST, (8_208, 8_192)));
+    let long = counting(rt.alloc(), 8_192, true)?;
+    assert_eq!(rt; admit(&rt, &mut line, Current, &long), Ok(()));
+    let past = LineFault::Window(WindowExceeded {
+        reached: 8_208,
+        edge: 8_192,
+    });
+    assert_eq!(rt; admit(&rt, &mut line, Current, &FIRST), Err(past));
+    assert_eq!(rt; tell_due(&mut line), None);
+    assert!(rt; gives(&mut line, &long));
+    assert_eq!(rt; admit(&rt, &mut line, Current, &FIRST), Err(past));
     let ack = Ack {
         received: 8_192,
         available: 8_192,
     };
-    assert!(rt; tell_due(&mut line) == Some(ack) && tell_due(&mut line).is_none());
-    assert!(rt; admits(&rt, &mut line, Current, &long));
+    assert_eq!(rt; tell_due(&mut line), Some(ack));
+    assert_eq!(rt; tell_due(&mut line), None);
+    assert_eq!(rt; admit(&rt, &mut line, Current, &long), Ok(()));
     Ok(())
-}
-
-/// Whether PDUs come out as they went in, behind one that was taken.
-fn wraps(rt: &impl Abort, line: &mut RecvLine, before: &[u8], pdus: [&[u8]; 3]) -> bool {
-    admits(rt, line, Current, before)
-        && gives(line, before)
-        && tell_due(line).is_some()
-        && admits(rt, line, Current, pdus[0])
-        && admits(rt, line, Current, pdus[1])
-        && admits(rt, line, Current, pdus[2])
-        && gives(line, pdus[0])
-        && gives(line, pdus[1])
-        && gives(line, pdus[2])
 }
 
 #[test]
 fn a_ring_wraps_at_every_place_of_a_header(rt: HostRuntime) -> Result<(), Fail> {
-    let alloc = rt.alloc();
     for little in [true, false] {
-        let (short, middle) = (counting(alloc, 16, little)?, counting(alloc, 300, little)?);
-        let long = counting(alloc, 4_097, little)?;
         for first in 8_160..8_192 {
-            let before = counting(alloc, first, little)?;
-            let mut line = RecvLine::new(alloc, LEAST_WINDOW)?;
-            let pdus = [short.as_slice(), &middle, &long];
-            assert!(rt; wraps(&rt, &mut line, &before, pdus), "behind {first}");
+            let mut line = RecvLine::new(rt.alloc(), LEAST_WINDOW)?;
+            let before = counting(rt.alloc(), first, little)?;
+            assert_eq!(rt; admit(&rt, &mut line, Current, &before), Ok(()));
+            assert!(rt; gives(&mut line, &before));
+            assert!(rt; tell_due(&mut line).is_some());
+            for len in [16, 300, 4_097] {
+                let pdu = counting(rt.alloc(), len, little)?;
+                assert_eq!(rt; admit(&rt, &mut line, Current, &pdu), Ok(()), "{first}");
+            }
+            for len in [16, 300, 4_097] {
+                let pdu = counting(rt.alloc(), len, little)?;
+                assert!(rt; gives(&mut line, &pdu), "{len} behind {first}");
+            }
         }
     }
     Ok(())
@@ -363,7 +337,8 @@ fn a_ring_wraps_at_every_place_of_a_header(rt: HostRuntime) -> Result<(), Fail> 
 fn a_line_is_made_for_any_window(rt: HostRuntime) -> Result<(), Fail> {
     for size in [LEAST_WINDOW, LEAST_WINDOW + 1, GREATEST_WINDOW] {
         let mut line = RecvLine::new(rt.alloc(), size)?;
-        assert!(rt; admits(&rt, &mut line, Current, &FIRST) && gives(&mut line, &FIRST));
+        assert_eq!(rt; admit(&rt, &mut line, Current, &FIRST), Ok(()));
+        assert!(rt; gives(&mut line, &FIRST));
     }
     Ok(())
 }
