@@ -9,10 +9,9 @@ use Rattle.rh_history.proofs.Lines.{leads_step}
 use Rattle.rh_world.specs.declared.any_world.AnyWorld.{AnyWorld}
 use Rattle.rh_world.specs.declared.any_world.AnyWorld.TheVariants.{Before, Direct, Settings, Roles}
 use Rattle.rh_world.specs.declared.config.WorldConfig.{WorldConfig}
-use Rattle.rh_world.specs.Any.{prepared, act, step}
+use Rattle.rh_world.specs.Any.{act, after, prepared, step}
 use Rattle.rh_world.specs.Config.{AreInRange}
 use Rattle.rh_world.specs.Roles as roles
-use Rattle.rh_make.specs.Steps.{after}
 use Rattle.rh_bounds.proofs.Numbers.{first_in_range, number_in_range}
 
 pub record IsReached (world : roles.World) : Type 0 where

@@ -34,7 +34,7 @@ use Rattle.rh_world.specs.declared.config.WorldConfig.{WorldConfig}
 use Rattle.rh_world.specs.Config.{AreInRange}
 use Rattle.rh_world.specs.Roles as roles
 use Rattle.rh_world.proofs.Ranges.{in_window}
-use Rattle.rh_make.specs.Steps.{after}
+use Rattle.rh_world.specs.Any.{after}
 use Rattle.rh_held.specs.Holding.{Holds}
 use Rattle.rh_bounds.specs.Bounds.{HoldsHere, HoldWindows, WindowsHold}
 use Rattle.rh_bounds.proofs.Reached.{IsRecorded, behind_lines}

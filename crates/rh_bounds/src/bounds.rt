@@ -7,7 +7,7 @@ ghost use Rattle.rh_world.specs.declared.any_world.AnyWorld.TheVariants.{Before,
 ghost use Rattle.rh_world.specs.declared.config.WorldConfig.{WorldConfig};
 ghost use Rattle.rh_world.specs.Config.{AreInRange};
 ghost use Rattle.rh_world.specs.Roles as roles;
-ghost use Rattle.rh_make.specs.Steps.{after};
+ghost use Rattle.rh_world.specs.Any.{after};
 ghost use Rattle.rh_bounds.specs.Bounds.{HoldWindows, WindowsHold};
 
 use rh_held::{

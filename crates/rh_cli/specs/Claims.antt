@@ -9,8 +9,7 @@ use Rattle.rh_record.specs.declared.line.Line.{Line}
 use Rattle.rh_history.specs.Closes.{IsOneOf, closings_of}
 use Rattle.rh_world.specs.declared.any_world.AnyWorld.{AnyWorld}
 use Rattle.rh_world.specs.declared.any_world.AnyWorld.TheVariants.{Before}
-use Rattle.rh_world.specs.Any.{prepared, run, step}
-use Rattle.rh_make.specs.Steps.{after}
+use Rattle.rh_world.specs.Any.{after, prepared, run, step}
 use Rattle.rh_bounds.specs.Bounds.{WindowsHold}
 use Rattle.rh_closes.specs.Recordings.{IsLicensedIn, IsRefusedIn}
 use Rattle.rh_closes.specs.Reports.{ShowsIn}

@@ -15,11 +15,10 @@ use Rattle.rh_history.proofs.Lines.{leads_step}
 use Rattle.rh_world.specs.declared.any_world.AnyWorld.{AnyWorld}
 use Rattle.rh_world.specs.declared.any_world.AnyWorld.TheVariants.{Before, Direct, Settings, Roles}
 use Rattle.rh_world.specs.declared.config.WorldConfig.{WorldConfig}
-use Rattle.rh_world.specs.Any.{act, prepared, step}
+use Rattle.rh_world.specs.Any.{act, after, prepared, step}
 use Rattle.rh_world.specs.Direct as direct
 use Rattle.rh_world.specs.Direct.{Deed, Offers, Asks, Draws, Feeds, Nothing, deed}
 use Rattle.rh_world.specs.Roles as roles
-use Rattle.rh_make.specs.Steps.{after}
 use Rattle.rh_closes.specs.Recordings.{IsLicensedAt, IsLicensedIn}
 
 -- ---- worlds of roles come from new ones

@@ -11,10 +11,10 @@ use Rattle.rh_record.specs.declared.line.Line.{Line}
 use Rattle.rh_record.specs.declared.line.Line.TheVariants.{Set}
 use Rattle.rh_world.specs.declared.any_world.AnyWorld.{AnyWorld}
 use Rattle.rh_world.specs.declared.any_world.AnyWorld.TheVariants.{Before, Direct, Settings, Roles}
-use Rattle.rh_world.specs.Any.{act, given, last, prepared, run, step, told}
+use Rattle.rh_world.specs.Any.{act, after, answers, given, last, prepared, run, step, told}
 use Rattle.rh_make.specs.Sums.{bytes_of, moved, rounds, rounds_of}
 use Rattle.rh_make.specs.Tallies.{tally_of, with}
-use Rattle.rh_make.specs.Steps.{IsOfRoles, Made, after, answers, do_all, does, made_by}
+use Rattle.rh_make.specs.Steps.{IsOfRoles, Made, do_all, does, made_by}
 
 -- ---- worlds of roles
 

@@ -1,22 +1,11 @@
 -- what lines make of a world, and come to (profile)
-use Rattle.std.specs.Prelude.{List, [], ◌∷◌, ◌++◌}
-use Rattle.rh_record.specs.declared.answer.Answer.{Answer}
+use Rattle.std.specs.Prelude.{List, [], ◌∷◌}
 use Rattle.rh_record.specs.declared.line.Line.{Line}
 use Rattle.rh_world.specs.declared.any_world.AnyWorld.{AnyWorld}
 use Rattle.rh_world.specs.declared.any_world.AnyWorld.TheVariants.{Before, Direct, Settings, Roles}
-use Rattle.rh_world.specs.Any.{step}
+use Rattle.rh_world.specs.Any.{after, answers, step}
 use Rattle.rh_make.specs.declared.tally.Tally.{Tally}
 use Rattle.rh_make.specs.Tallies.{with, tally_of}
-
--- the world behind lines
-abbrev pub after : AnyWorld → List Line → AnyWorld
-after world [] = world
-after world (line ∷ lines) = after (step world line).0 lines
-
--- what lines are answered, one after the other
-abbrev pub answers : AnyWorld → List Line → List Answer
-answers world [] = []
-answers world (line ∷ lines) = (step world line).1 ++ answers (step world line).0 lines
 
 -- the world behind lines, and what their answers come to
 pub record Made : Type 0 where

@@ -3,11 +3,11 @@ use Rattle.std.specs.Prelude.{ℕ, List, ◌++◌, codes}
 use Rattle.std.specs.Fmt.{decimal}
 use Rattle.rh_record.specs.Report.{report_text}
 use Rattle.rh_world.specs.declared.any_world.AnyWorld.TheVariants.{Before}
-use Rattle.rh_world.specs.Any.{last}
+use Rattle.rh_world.specs.Any.{after, answers, last}
 use Rattle.rh_make.specs.declared.summary.Summary.{Summary}
 use Rattle.rh_make.specs.Making.{lines}
 use Rattle.rh_make.specs.Sums.{moved, rounds}
-use Rattle.rh_make.specs.Steps.{Made, after, answers}
+use Rattle.rh_make.specs.Steps.{Made}
 
 -- of the recording of n PDUs
 abbrev pub summary : ℕ → Summary

@@ -5,11 +5,10 @@ ghost use Rattle.rh_pdu.specs.Checking.{pdu_fault};
 ghost use Rattle.rh_pdu.specs.Frames.{IsPdu};
 ghost use Rattle.rh_record.specs.declared.place.Place.TheVariants.{Header};
 ghost use Rattle.rh_world.specs.declared.any_world.AnyWorld.TheVariants.{Before};
-ghost use Rattle.rh_world.specs.Any.{run};
+ghost use Rattle.rh_world.specs.Any.{answers, run};
 ghost use Rattle.rh_make.specs.Making.{lines};
 ghost use Rattle.rh_make.specs.Requests.{pdu, size};
 ghost use Rattle.rh_make.specs.Standing.{MayStand};
-ghost use Rattle.rh_make.specs.Steps.{answers};
 ghost use Rattle.rh_make.specs.Summaries.{summary};
 ghost use Rattle.rh_make.specs.Sums.{moved, rounds};
 

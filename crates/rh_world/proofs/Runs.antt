@@ -25,9 +25,9 @@ use Rattle.rh_world.specs.Direct.{deed, act, giving, taking}
 use Rattle.rh_world.specs.Direct.{empty, step, last, after, told, run}
 use Rattle.rh_world.specs.Direct.{refusal, refusal_by, give, give_by, take_pdu, take_from}
 use Rattle.rh_world.specs.Direct.{send, move, way_of, with_way}
-use Rattle.rh_world.specs.Order.{Event, Gives, Refuses, Takes, Ends, Closes, Stops, Silent}
-use Rattle.rh_world.specs.Order.{event, events, other, of_end, offer, offered, given, taken}
-use Rattle.rh_world.specs.Order.{IsPrefix, Counts, InOrder}
+use Rattle.rh_events.specs.Events.{Event, Gives, Refuses, Takes, Ends, Closes, Stops, Silent}
+use Rattle.rh_events.specs.Events.{event, events, other, of_end, offer, offered, given, taken}
+use Rattle.rh_events.specs.Order.{IsPrefix, Counts, InOrder}
 use Rattle.rh_world.proofs.Ways.{Carries, give_carries, send_carries, move_carries}
 use Rattle.rh_world.proofs.Ways.{take_carries, empty_carries}
 
@@ -410,13 +410,15 @@ run_in_order lines =
     λ front behind stop is. plain_at (events (run lines)) front behind stop is
     (all_plain lines empty) in
     record {
-      in_order = ordered_end lines;
-      none_taken_after = λ end front behind stop is stops.
-          absurd (neither stop (Closes end) (Ends end) (plain front behind stop is) (λ n. n)
-          (λ n. n) stops);
-      none_given_after = λ end front behind stop is stops.
-          absurd (neither stop (Closes end) (Stops end) (plain front behind stop is) (λ n. n)
-          (λ n. n) stops);
-      all_at_clean_end = λ end front behind is. absurd (plain front behind (Ends end) is);
+      order = record {
+        in_order = ordered_end lines;
+        none_taken_after = λ end front behind stop is stops.
+            absurd (neither stop (Closes end) (Ends end) (plain front behind stop is) (λ n. n)
+            (λ n. n) stops);
+        none_given_after = λ end front behind stop is stops.
+            absurd (neither stop (Closes end) (Stops end) (plain front behind stop is) (λ n. n)
+            (λ n. n) stops);
+        all_at_clean_end = λ end front behind is. absurd (plain front behind (Ends end) is);
+      };
       counted = run_counts lines;
     }

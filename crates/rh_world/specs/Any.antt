@@ -93,6 +93,16 @@ given _ = 0
 
 -- ---- recordings
 
+-- the world behind lines
+abbrev pub after : AnyWorld → List Line → AnyWorld
+after world [] = world
+after world (line ∷ lines) = after (step world line).0 lines
+
+-- what lines are answered, one after the other
+abbrev pub answers : AnyWorld → List Line → List Answer
+answers world [] = []
+answers world (line ∷ lines) = (step world line).1 ++ answers (step world line).0 lines
+
 -- what lines are answered, one after the other, and the last lines of the report
 abbrev pub told : AnyWorld → List Line → List Answer
 told world [] = last world

@@ -5,4 +5,3 @@ pub mod Any
 pub mod Direct
 pub mod Pieces
 pub mod Carrying
-pub mod Order

@@ -1,7 +1,6 @@
 use Rattle.rh_line.specs.declared.cause.Cause.TheVariants.{Silent}
 use Rattle.rh_world.specs.declared.any_world.AnyWorld.TheVariants.{Before}
-use Rattle.rh_world.specs.Any.{prepared}
-use Rattle.rh_make.specs.Steps.{after}
+use Rattle.rh_world.specs.Any.{after, prepared}
 use Rattle.rh_closes.proofs.Recorded.{reached_in}
 use Rattle.rh_closes.proofs.Silent.{silent_in}
 use Rattle.rh_closes.proofs.recordings.a_node_of_a_recording_falls_silent.Goals as goal

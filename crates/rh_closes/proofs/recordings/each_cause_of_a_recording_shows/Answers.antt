@@ -1,6 +1,5 @@
 use Rattle.rh_world.specs.declared.any_world.AnyWorld.TheVariants.{Before}
-use Rattle.rh_world.specs.Any.{prepared}
-use Rattle.rh_make.specs.Steps.{after}
+use Rattle.rh_world.specs.Any.{after, prepared}
 use Rattle.rh_closes.proofs.Reported.{report_shows}
 use Rattle.rh_closes.proofs.recordings.each_cause_of_a_recording_shows.Goals as goal
 

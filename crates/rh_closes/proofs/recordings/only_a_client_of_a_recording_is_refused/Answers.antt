@@ -1,7 +1,6 @@
 use Rattle.rh_line.specs.declared.cause.Cause.TheVariants.{HttpRefused}
 use Rattle.rh_world.specs.declared.any_world.AnyWorld.TheVariants.{Before}
-use Rattle.rh_world.specs.Any.{prepared}
-use Rattle.rh_make.specs.Steps.{after}
+use Rattle.rh_world.specs.Any.{after, prepared}
 use Rattle.rh_closes.proofs.Recorded.{reached_in}
 use Rattle.rh_closes.proofs.Refused.{refused_in}
 use Rattle.rh_closes.proofs.recordings.only_a_client_of_a_recording_is_refused.Goals as goal
