@@ -1,6 +1,6 @@
 -- each message that an in proxy puts keeps its law of order
 use Rattle.std.proofs.Common.{◌≡◌, ℕ, Bool, true, false, not, ◌&&◌, List, [], ◌∷◌, ◌++◌, length, refl}
-use Rattle.std.specs.Prelude.{Some, None, nat_eq}
+use Rattle.std.specs.Prelude.{Some, None, nat_eq, ◌||◌}
 use Rattle.std.specs.declared.option.Option.{Option}
 use Rattle.rh_rts.specs.declared.command.Cookie.{Cookie}
 use Rattle.rh_sig.specs.declared.named.Named.TheVariants as named
