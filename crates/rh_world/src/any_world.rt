@@ -25,13 +25,31 @@ pub enum AnyWorld {
 impl AnyWorld {
     ghost use Rattle.rh_world.specs.declared.world.TheConstants.{MOST_PDUS};
     ghost use Rattle.rh_record.specs.declared.line.Line.TheVariants.{Settle};
+    ghost use Rattle.rh_world.specs.declared.any_world.AnyWorld.TheVariants.{Direct};
     ghost use Rattle.rh_world.specs.Any as seen;
+    ghost use Rattle.rh_world.specs.Direct as direct;
 
-    /// A world of roles that has had all its settings.
-    fn of_roles(alloc: Global, roles: &Roles) -> Result<AnyWorld, AllocError>
-        ensures { IfOk result (λ world. world ≡ seen.of_roles roles.now) }
+    // Worlds pass through the stack where they are made. Inlined into what is done for each line,
+    // that would clear their room there each time.
+
+    /// Becomes a direct world.
+    #[inline(never)]
+    fn make_direct(&mut self, alloc: Global) -> Result<(), AllocError>
+        ensures { OnOk result (self.new ≡ Direct direct.empty) }
     {
-        Ok(AnyWorld::Roles(RolesWorld::new(alloc, roles)?))
+        *self = AnyWorld::Direct(World::new(alloc, &WorldConfig::direct())?);
+        Ok(())
+    }
+
+    /// Settings become a world of roles that has had all of them.
+    #[inline(never)]
+    fn make_roles(&mut self, alloc: Global) -> Result<(), AllocError>
+        ensures { OnOk result (self.new ≡ seen.begun self.old) }
+    {
+        if let AnyWorld::Settings(roles) = self {
+            *self = AnyWorld::Roles(RolesWorld::new(alloc, roles)?);
+        }
+        Ok(())
     }
 
     /// A first line, a setting, and the first line that is no setting make the world other than it
@@ -41,14 +59,12 @@ impl AnyWorld {
         ensures given { OnOk result (seen.given self.new ≤ seen.given self.old) }
     {
         match (&mut *self, line) {
-            (AnyWorld::Before, Line::First { roles: false }) => {
-                *self = AnyWorld::Direct(World::new(alloc, &WorldConfig::direct())?);
-            }
+            (AnyWorld::Before, Line::First { roles: false }) => self.make_direct(alloc)?,
             (AnyWorld::Before, Line::First { roles: true }) => {
                 *self = AnyWorld::Settings(Roles::new(WorldConfig::roles()));
             }
             (AnyWorld::Settings(roles), Line::Set { key, value }) => roles.set(*key, *value),
-            (AnyWorld::Settings(roles), _) => *self = AnyWorld::of_roles(alloc, roles)?,
+            (AnyWorld::Settings(_), _) => self.make_roles(alloc)?,
             _ => {}
         }
         Ok(())
@@ -84,9 +100,7 @@ impl AnyWorld {
         ensures world { OnOk result (self.new ≡ seen.begun self.old) }
         ensures answer { IfOk result (λ settles. settles ≡ seen.settles self.old) }
     {
-        if let AnyWorld::Settings(roles) = self {
-            *self = AnyWorld::of_roles(alloc, roles)?;
-        }
+        self.make_roles(alloc)?;
         Ok(matches!(self, AnyWorld::Roles(_)))
     }
 

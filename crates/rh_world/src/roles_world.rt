@@ -28,9 +28,6 @@ impl Model for RolesWorld {
 
 impl RolesWorld {
     /// A world with no legs. Fails where there is no memory.
-    //
-    // The nodes pass through the stack here: inlined, each line would clear their room there.
-    #[inline(never)]
     pub fn new(alloc: Global, roles: &Roles) -> Result<RolesWorld, AllocError>
         ensures { IfOk result (λ world. world ≡ seen.begun roles.now) }
     {
