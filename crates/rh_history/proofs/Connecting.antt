@@ -24,8 +24,8 @@ use Rattle.rh_nodes.specs.Places.{is_absent}
 use Rattle.rh_nodes.specs.Readers.{reader_of}
 use Rattle.rh_nodes.specs.Settling.{leg_at}
 use Rattle.rh_nodes.specs.World.{World, at}
-use Rattle.rh_history.specs.Changes.{GoesUp, OpensIn, OpensOut, OpensSame, Draws, may_have, changed, Works}
-use Rattle.rh_history.proofs.Working.{WorksOk, works_none, works_one, works_more}
+use Rattle.rh_history.specs.Changes.{GoesUp, OpensIn, OpensOut, OpensSame, Draws, may_have, changed, Quietly}
+use Rattle.rh_history.proofs.Working.{QuietlyOk, works_none, works_one, works_more}
 use Rattle.rh_history.proofs.Numbers.{put_here, asked}
 
 -- ---- tests
@@ -66,12 +66,12 @@ module _ {K C S I O : Type 0} (r : Rulebook C S I O) (m : Makers K I O) (d : Dee
   works_connect : (w : World K C S I O) (leg : Leg) (cookie : Cookie)
       → IsTrue (may_have r w (at w leg side.Client) leg)
       → IsTrue (may_have r w (at w leg side.Server) leg)
-      → Works r m d w (connect r w leg cookie)
+      → Quietly r m d w (connect r w leg cookie)
   works_connect w leg cookie client server =
       let v = up_at r w (at w leg side.Client) leg side.Client cookie in
       works_more r m d w v (GoesUp (at w leg side.Server) leg side.Server cookie)
-      (works_one r m d w (GoesUp (at w leg side.Client) leg side.Client cookie) (client, inl refl))
-      (untouched leg.kind leg.number w cookie ∙ server, inl refl)
+      (works_one r m d w (GoesUp (at w leg side.Client) leg side.Client cookie) (client, inl refl)
+      refl) (untouched leg.kind leg.number w cookie ∙ server, inl refl) refl
 
   -- ---- a leg of the client, to a proxy of its own
 
@@ -103,7 +103,7 @@ module _ {K C S I O : Type 0} (r : Rulebook C S I O) (m : Makers K I O) (d : Dee
 
     out_made : may_make r w w.company.outs out_leg ≡ true
         → shell.may_up r.out_proxy new_out out_leg ≡ true
-        → Works r m d w (connect_client r (with_out w n new_out) out_leg)
+        → Quietly r m d w (connect_client r (with_out w n new_out) out_leg)
     out_made e f =
         let drawn = draw w.cookies in
         let x = record w { cookies = drawn.0 } in
@@ -113,16 +113,16 @@ module _ {K C S I O : Type 0} (r : Rulebook C S I O) (m : Makers K I O) (d : Dee
         ∙ ap (places.may_up r.out_proxy out_leg)
         (put_here Absent w.company.outs n (Here new_out 0)) ∙ f in
         works_more r m d w v (GoesUp (who.Out n) out_leg side.Server drawn.1)
-        (works_more r m d w x (OpensOut n drawn.1) (works_one r m d w (Draws drawn.0) tt)
-        (may_parts (ask is_absent true w.company.outs n) out_leg e)) (
+        (works_more r m d w x (OpensOut n drawn.1) (works_one r m d w (Draws drawn.0) tt refl)
+        (may_parts (ask is_absent true w.company.outs n) out_leg e) refl) (
           or_left (company.may_up r v.company (who.Out n) out_leg)
               (company.wants r v.company (who.Out n) out_leg) up,
           inl refl,
-        )
+        ) refl
 
     in_made : may_make r w w.company.ins in_leg ≡ true
         → shell.may_up r.in_proxy new_in in_leg ≡ true
-        → Works r m d w (connect_client r (with_in w n new_in) in_leg)
+        → Quietly r m d w (connect_client r (with_in w n new_in) in_leg)
     in_made e f =
         let drawn = draw w.cookies in
         let x = record w { cookies = drawn.0 } in
@@ -135,41 +135,41 @@ module _ {K C S I O : Type 0} (r : Rulebook C S I O) (m : Makers K I O) (d : Dee
         ∙ ap (places.may_up r.in_proxy in_leg)
         (put_here Absent w.company.ins n (Here new_in 0)) ∙ f in
         works_more r m d w v (GoesUp reader in_leg side.Server drawn.1)
-        (works_more r m d w x (OpensIn n drawn.1) (works_one r m d w (Draws drawn.0) tt)
-        (may_parts (ask is_absent true w.company.ins n) in_leg e)) (
+        (works_more r m d w x (OpensIn n drawn.1) (works_one r m d w (Draws drawn.0) tt refl)
+        (may_parts (ask is_absent true w.company.ins n) in_leg e) refl) (
           or_left (company.may_up r v.company reader in_leg)
               (company.wants r v.company reader in_leg)
               (ap (λ k. company.may_up r v.company (who.In k) in_leg) is ∙ up),
           inl refl,
-        )
+        ) refl
 
-    works_open_out : Works r m d w (open_leg r m w out_leg).0
+    works_open_out : Quietly r m d w (open_leg r m w out_leg).0
     works_open_out = by_make (may_make r w w.company.outs out_leg) refl
       where
         by_up : (t : Bool) → may_make r w w.company.outs out_leg ≡ true
             → shell.may_up r.out_proxy new_out out_leg ≡ t
-            → WorksOk r m d w (if t then (connect_client r (with_out w n new_out) out_leg, true)
+            → QuietlyOk r m d w (if t then (connect_client r (with_out w n new_out) out_leg, true)
             else (w, false))
         by_up true e f = out_made e f
         by_up false e f = works_none r m d w
 
         by_make : (t : Bool) → may_make r w w.company.outs out_leg ≡ t
-            → Works r m d w (if t then open_out_to r w out_leg new_out else (w, false)).0
+            → Quietly r m d w (if t then open_out_to r w out_leg new_out else (w, false)).0
         by_make true e = by_up (shell.may_up r.out_proxy new_out out_leg) e refl
         by_make false e = works_none r m d w
 
-    works_open_in : Works r m d w (open_leg r m w in_leg).0
+    works_open_in : Quietly r m d w (open_leg r m w in_leg).0
     works_open_in = by_make (may_make r w w.company.ins in_leg) refl
       where
         by_up : (t : Bool) → may_make r w w.company.ins in_leg ≡ true
             → shell.may_up r.in_proxy new_in in_leg ≡ t
-            → WorksOk r m d w (if t then (connect_client r (with_in w n new_in) in_leg, true)
+            → QuietlyOk r m d w (if t then (connect_client r (with_in w n new_in) in_leg, true)
             else (w, false))
         by_up true e f = in_made e f
         by_up false e f = works_none r m d w
 
         by_make : (t : Bool) → may_make r w w.company.ins in_leg ≡ t
-            → Works r m d w (if t then open_in_to r w in_leg new_in else (w, false)).0
+            → Quietly r m d w (if t then open_in_to r w in_leg new_in else (w, false)).0
         by_make true e = by_up (shell.may_up r.in_proxy new_in in_leg) e refl
         by_make false e = works_none r m d w
 
@@ -177,7 +177,7 @@ module _ {K C S I O : Type 0} (r : Rulebook C S I O) (m : Makers K I O) (d : Dee
 
     same_proxy : company.wants r w.company who.Client in_leg ≡ true
         → may_open_same r w in_leg ≡ true
-        → Works r m d w (connect_client r (read_on w n) in_leg)
+        → Quietly r m d w (connect_client r (read_on w n) in_leg)
     same_proxy e f =
         let drawn = draw w.cookies in
         let x = record w { cookies = drawn.0 } in
@@ -190,17 +190,17 @@ module _ {K C S I O : Type 0} (r : Rulebook C S I O) (m : Makers K I O) (d : Dee
         let is : reader_of v.readers n ≡ before =
         asked 0 (λ k. k) v.readers n ∙ put_here 0 w.readers n before in
         works_more r m d w v (GoesUp (who.In (reader_of v.readers n)) in_leg side.Server drawn.1)
-        (works_more r m d w x (OpensSame n drawn.1) (works_one r m d w (Draws drawn.0) tt)
-        (client, server))
-        (ap (λ k. may_have r w (who.In k) in_leg) is ∙ server, inl refl)
+        (works_more r m d w x (OpensSame n drawn.1) (works_one r m d w (Draws drawn.0) tt refl)
+        (client, server) refl)
+        (ap (λ k. may_have r w (who.In k) in_leg) is ∙ server, inl refl) refl
 
   -- ---- a leg of the server
 
-  works_open_server : (w : World K C S I O) (leg : Leg) → Works r m d w (open_server r w leg).0
+  works_open_server : (w : World K C S I O) (leg : Leg) → Quietly r m d w (open_server r w leg).0
   works_open_server w leg = by (nat_lt 0 leg.number && is_wanted r w leg) refl
     where
       by : (t : Bool) → (nat_lt 0 leg.number && is_wanted r w leg) ≡ t
-          → WorksOk r m d w (if t then (connect r w leg NO_COOKIE, true) else (w, false))
+          → QuietlyOk r m d w (if t then (connect r w leg NO_COOKIE, true) else (w, false))
       by true e =
           let client = at w leg side.Client in
           let server = at w leg side.Server in
@@ -214,17 +214,17 @@ module _ {K C S I O : Type 0} (r : Rulebook C S I O) (m : Makers K I O) (d : Dee
   -- ---- the lines
 
   works_open_by : (w : World K C S I O) (kind : LegKind) (n : ℕ)
-      → Works r m d w (open_leg r m w (leg_at kind n)).0
+      → Quietly r m d w (open_leg r m w (leg_at kind n)).0
   works_open_by w ClientOut n = works_open_out w n
   works_open_by w OutServer n = works_open_server w (leg_at OutServer n)
   works_open_by w ClientIn n = works_open_in w n
   works_open_by w InServer n = works_open_server w (leg_at InServer n)
 
-  pub works_open_leg : (w : World K C S I O) (leg : Leg) → Works r m d w (open_leg r m w leg).0
+  pub works_open_leg : (w : World K C S I O) (leg : Leg) → Quietly r m d w (open_leg r m w leg).0
   works_open_leg w leg = works_open_by w leg.kind leg.number
 
   works_same_by : (w : World K C S I O) (kind : LegKind) (n : ℕ)
-      → Works r m d w (open_same r w (leg_at kind n)).0
+      → Quietly r m d w (open_same r w (leg_at kind n)).0
   works_same_by w ClientOut n = works_none r m d w
   works_same_by w OutServer n = works_none r m d w
   works_same_by w InServer n = works_none r m d w
@@ -234,7 +234,7 @@ module _ {K C S I O : Type 0} (r : Rulebook C S I O) (m : Makers K I O) (d : Dee
       by : (t : Bool)
           → (company.wants r w.company who.Client (in_leg w n) && may_open_same r w (in_leg w n))
           ≡ t
-          → WorksOk r m d w (if t then (connect_client r (read_on w n) (in_leg w n), true)
+          → QuietlyOk r m d w (if t then (connect_client r (read_on w n) (in_leg w n), true)
           else (w, false))
       by true e =
           let may = and_parts (company.wants r w.company who.Client (in_leg w n))
@@ -242,5 +242,5 @@ module _ {K C S I O : Type 0} (r : Rulebook C S I O) (m : Makers K I O) (d : Dee
           same_proxy w n may.0 may.1
       by false e = works_none r m d w
 
-  pub works_open_same : (w : World K C S I O) (leg : Leg) → Works r m d w (open_same r w leg).0
+  pub works_open_same : (w : World K C S I O) (leg : Leg) → Quietly r m d w (open_same r w leg).0
   works_open_same w leg = works_same_by w leg.kind leg.number

@@ -23,3 +23,4 @@ pub mod Recordings
 pub mod Once
 pub mod Counting
 pub mod Reported
+pub mod ToReport

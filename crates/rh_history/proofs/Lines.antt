@@ -30,12 +30,12 @@ use Rattle.rh_nodes.specs.Places.{is_absent}
 use Rattle.rh_nodes.specs.Settling.{leg_at}
 use Rattle.rh_nodes.specs.Steps.{reported, ending_answer, leg_answer, answer_of, step_line, step}
 use Rattle.rh_nodes.specs.World.{World, at, tell}
-use Rattle.rh_history.specs.Changes.{IsTold, GoesUp, OpensIn, OpensOut, Gives, Takes, Closes, RecyclesIn, RecyclesOut, Draws, Reports, may_have, Works, Turn, IsLine, IsHalf, after_turn, after_turns, Leads}
+use Rattle.rh_history.specs.Changes.{IsTold, GoesUp, OpensIn, OpensOut, Gives, Takes, Closes, RecyclesIn, RecyclesOut, Draws, Reports, may_have, is_silent, Change, WorksBy, Works, Quietly, GoesBy, GoesQuietly, Turn, IsLine, IsHalf, after_turn, after_turns, Leads}
 use Rattle.rh_history.proofs.Leading.{leads_none, leads_then, leads_more}
-use Rattle.rh_history.proofs.Working.{WorksOk, works_none, works_one, works_then}
+use Rattle.rh_history.proofs.Working.{QuietlyOk, works_none, works_one, works_then, works_quietly}
 use Rattle.rh_history.proofs.Losing.{works_broken, works_ended, works_break_leg, works_end_leg, works_send, works_feed, works_tick}
 use Rattle.rh_history.proofs.Connecting.{or_left, works_open_leg, works_open_same}
-use Rattle.rh_history.proofs.Answering.{is_other, Goes, goes_quiet, goes_one}
+use Rattle.rh_history.proofs.Answering.{is_other, silent_other, Goes, goes_quiet, goes_one}
 use Rattle.rh_history.proofs.Rounds.{goes_settle}
 
 -- two nodes that are the same
@@ -61,13 +61,13 @@ module _ {K C S I O : Type 0} (r : Rulebook C S I O) (m : Makers K I O) (d : Dee
   -- ---- lines
 
   ending_works : (w : World K C S I O) (one : Line)
-      → Works r m d w (ending_answer r w one).0
+      → Quietly r m d w (ending_answer r w one).0
   ending_works w (line.BreakLeg leg) = works_break_leg r m d w leg
   ending_works w (line.EndLeg leg dir) = works_end_leg r m d w leg dir
   ending_works w (line.Tick now) = works_tick r m d w now
   ending_works w one = works_none r m d w
 
-  leg_works : (w : World K C S I O) (one : Line) → Works r m d w (leg_answer r m w one).0
+  leg_works : (w : World K C S I O) (one : Line) → Quietly r m d w (leg_answer r m w one).0
   leg_works w (line.Send (Some leg) dir count) = works_send r m d w leg dir count
   leg_works w (line.Move (Some leg) dir count) = works_feed r m d w leg dir count
   leg_works w (line.OpenLeg leg) = works_open_leg r m d w leg
@@ -75,35 +75,40 @@ module _ {K C S I O : Type 0} (r : Rulebook C S I O) (m : Makers K I O) (d : Dee
   leg_works w one = ending_works w one
 
   answer_works : (w : World K C S I O) (one : Line) → Works r m d w (answer_of r m d w one).0
-  answer_works w (line.Give end pdu) = works_one r m d w (Gives end pdu) tt
-  answer_works w (line.Take end) = works_one r m d w (Takes end) tt
-  answer_works w (line.Close end) = works_one r m d w (Closes end) tt
-  answer_works w line.RecycleIn = works_one r m d w RecyclesIn tt
-  answer_works w line.RecycleOut = works_one r m d w RecyclesOut tt
-  answer_works w one = leg_works w one
+  answer_works w (line.Give end pdu) = works_one r m d w (Gives end pdu) tt refl
+  answer_works w (line.Take end) = works_one r m d w (Takes end) tt refl
+  answer_works w (line.Close end) = works_one r m d w (Closes end) tt refl
+  answer_works w line.RecycleIn = works_one r m d w RecyclesIn tt refl
+  answer_works w line.RecycleOut = works_one r m d w RecyclesOut tt refl
+  answer_works w one =
+      works_quietly r m d w (leg_answer r m w one).0 (leg_works w one)
 
   -- the answer of a line, where it has one
-  abbrev is_other_answer : Option Answer → Bool
-  is_other_answer None = true
-  is_other_answer (Some one) = is_other one
+  abbrev where_any : (Answer → Bool) → Option Answer → Bool
+  where_any tells None = true
+  where_any tells (Some one) = tells one
 
-  ending_others : (w : World K C S I O) (one : Line)
-      → is_other_answer (ending_answer r w one).1 ≡ true
-  ending_others w (line.BreakLeg leg) = refl
-  ending_others w (line.EndLeg leg dir) = refl
-  ending_others w (line.Tick now) = refl
-  ending_others w one = refl
+  ending_silent : (w : World K C S I O) (one : Line)
+      → where_any is_silent (ending_answer r w one).1 ≡ true
+  ending_silent w (line.BreakLeg leg) = refl
+  ending_silent w (line.EndLeg leg dir) = refl
+  ending_silent w (line.Tick now) = refl
+  ending_silent w one = refl
 
-  leg_others : (w : World K C S I O) (one : Line)
-      → is_other_answer (leg_answer r m w one).1 ≡ true
-  leg_others w (line.Send (Some leg) dir count) = refl
-  leg_others w (line.Move (Some leg) dir count) = refl
-  leg_others w (line.OpenLeg leg) = refl
-  leg_others w (line.OpenSame leg) = refl
-  leg_others w one = ending_others w one
+  leg_silent : (w : World K C S I O) (one : Line)
+      → where_any is_silent (leg_answer r m w one).1 ≡ true
+  leg_silent w (line.Send (Some leg) dir count) = refl
+  leg_silent w (line.Move (Some leg) dir count) = refl
+  leg_silent w (line.OpenLeg leg) = refl
+  leg_silent w (line.OpenSame leg) = refl
+  leg_silent w one = ending_silent w one
+
+  any_other : (o : Option Answer) → where_any is_silent o ≡ true → where_any is_other o ≡ true
+  any_other None silent = refl
+  any_other (Some one) silent = silent_other one silent
 
   answer_others : (w : World K C S I O) (one : Line)
-      → is_other_answer (answer_of r m d w one).1 ≡ true
+      → where_any is_other (answer_of r m d w one).1 ≡ true
   answer_others w (line.Give side.Client pdu) = refl
   answer_others w (line.Give side.Server pdu) = refl
   answer_others w (line.Take end) = refl
@@ -111,18 +116,24 @@ module _ {K C S I O : Type 0} (r : Rulebook C S I O) (m : Makers K I O) (d : Dee
   answer_others w (line.Close side.Server) = refl
   answer_others w line.RecycleIn = refl
   answer_others w line.RecycleOut = refl
-  answer_others w one = leg_others w one
+  answer_others w one = any_other (leg_answer r m w one).1 (leg_silent w one)
 
-  reported_goes : (w : World K C S I O) (did : World K C S I O × Option Answer)
-      → Works r m d w did.0 → is_other_answer did.1 ≡ true → Goes r m d w (reported did)
-  reported_goes w (v, None) a other = goes_quiet r m d w v a
-  reported_goes w (v, Some one) a other = goes_one r m d w v one a other
+  reported_goes : {kind : Change → Bool} (tells : Answer → Bool) (w : World K C S I O)
+      (did : World K C S I O × Option Answer) → WorksBy kind r m d w did.0
+      → where_any tells did.1 ≡ true → GoesBy kind tells r m d w (reported did)
+  reported_goes tells w (v, None) a other = goes_quiet r m d w v a
+  reported_goes tells w (v, Some one) a other = goes_one r m d w v one a other
+
+  pub leg_goes : (one : Line) (w : World K C S I O)
+      → GoesQuietly r m d w (reported (leg_answer r m w one))
+  leg_goes one w =
+      reported_goes is_silent w (leg_answer r m w one) (leg_works w one) (leg_silent w one)
 
   pub goes_step_line : (one : Line) (w : World K C S I O)
       → Goes r m d w (step_line r m d one w)
   goes_step_line (line.Settle rounds) w = goes_settle r m d rounds w
   goes_step_line one w =
-      reported_goes w (answer_of r m d w one) (answer_works w one) (answer_others w one)
+      reported_goes is_other w (answer_of r m d w one) (answer_works w one) (answer_others w one)
 
   pub leads_step : (one : Line) (w : World K C S I O) → Leads r m d w (step r m d one w).0
   leads_step one w =
@@ -133,49 +144,49 @@ module _ {K C S I O : Type 0} (r : Rulebook C S I O) (m : Makers K I O) (d : Dee
   -- the client's leg, to a proxy that is made where none was
   make_works : (w : World K C S I O) (kind : LegKind) (n : ℕ) (cookie : Cookie)
       → IsTrue (may_have r w Client (leg_at kind n))
-      → Works r m d w
+      → Quietly r m d w
       (up_at r (make_by r m w n kind) Client (leg_at kind n) side.Client cookie)
   make_works w OutServer n cookie may =
       works_one r m d w (GoesUp Client (leg_at OutServer n) side.Client cookie)
-      (may, inr (refl, refl))
+      (may, inr (refl, refl)) refl
   make_works w InServer n cookie may =
       works_one r m d w (GoesUp Client (leg_at InServer n) side.Client cookie)
-      (may, inr (refl, refl))
+      (may, inr (refl, refl)) refl
   make_works w ClientOut n cookie may =
       by (nat_lt 0 n && ask is_absent true w.company.outs n) refl
     where
       by : (t : Bool) → (nat_lt 0 n && ask is_absent true w.company.outs n) ≡ t
-          → Works r m d w (up_at r (if t
+          → Quietly r m d w (up_at r (if t
           then with_out w n (at_moment r.out_proxy (m.out_proxy w.cast n) w.now) else w)
           Client (leg_at ClientOut n) side.Client cookie)
       by true e =
           let parts = and_parts (nat_lt 0 n) (ask is_absent true w.company.outs n) e in
-          works_one r m d w (OpensOut n cookie) (parts.0, parts.1, may)
+          works_one r m d w (OpensOut n cookie) (parts.0, parts.1, may) refl
       by false e =
           works_one r m d w (GoesUp Client (leg_at ClientOut n) side.Client cookie)
-          (may, inr (refl, refl))
+          (may, inr (refl, refl)) refl
   make_works w ClientIn n cookie may =
       by (nat_lt 0 n && ask is_absent true w.company.ins n) refl
     where
       by : (t : Bool) → (nat_lt 0 n && ask is_absent true w.company.ins n) ≡ t
-          → Works r m d w (up_at r (if t
+          → Quietly r m d w (up_at r (if t
           then with_in w n (at_moment r.in_proxy (m.in_proxy w.cast n) w.now) else w)
           Client (leg_at ClientIn n) side.Client cookie)
       by true e =
           let parts = and_parts (nat_lt 0 n) (ask is_absent true w.company.ins n) e in
-          works_one r m d w (OpensIn n cookie) (parts.0, parts.1, may)
+          works_one r m d w (OpensIn n cookie) (parts.0, parts.1, may) refl
       by false e =
           works_one r m d w (GoesUp Client (leg_at ClientIn n) side.Client cookie)
-          (may, inr (refl, refl))
+          (may, inr (refl, refl)) refl
 
   up_client_works : (w : World K C S I O) (leg : Leg) (cookie : Cookie)
-      → Works r m d w (up_client r m w leg cookie).0
+      → Quietly r m d w (up_client r m w leg cookie).0
   up_client_works w leg cookie =
       by (not (was_had w.cookies cookie) && company.may_up r w.company Client leg) refl
     where
       by : (t : Bool)
           → (not (was_had w.cookies cookie) && company.may_up r w.company Client leg) ≡ t
-          → WorksOk r m d w (if t then (
+          → QuietlyOk r m d w (if t then (
             up_at r (make_proxy r m (with_cookie w cookie) leg) Client leg side.Client cookie,
             true,
           ) else (w, false))
@@ -188,31 +199,31 @@ module _ {K C S I O : Type 0} (r : Rulebook C S I O) (m : Makers K I O) (d : Dee
           (company.wants r w.company Client leg) up in
           works_then r m d w v
           (up_at r (make_proxy r m v leg) Client leg side.Client cookie)
-          (works_one r m d w (Draws (with_other w.cookies cookie)) tt)
+          (works_one r m d w (Draws (with_other w.cookies cookie)) tt refl)
           (make_works v leg.kind leg.number cookie may)
 
   -- what is done at the end at which a node stands
   at_end : (w : World K C S I O) (node : Who) (leg : Leg)
       (does : Option Side → World K C S I O × Bool)
-      → ((end : Side) → at w leg end ≡ node → Works r m d w (does (Some end)).0)
-      → Works r m d w (does None).0 → Works r m d w (does (end_of w node leg)).0
+      → ((end : Side) → at w leg end ≡ node → Quietly r m d w (does (Some end)).0)
+      → Quietly r m d w (does None).0 → Quietly r m d w (does (end_of w node leg)).0
   at_end w node leg does some none = by_client (is_same node (at w leg side.Client)) refl
     where
       by_server : (t : Bool) → is_same node (at w leg side.Server) ≡ t
-          → Works r m d w (does (if t then Some side.Server else None)).0
+          → Quietly r m d w (does (if t then Some side.Server else None)).0
       by_server true e =
           some side.Server (sym (same_who node (at w leg side.Server) e))
       by_server false e = none
 
       by_client : (t : Bool) → is_same node (at w leg side.Client) ≡ t
-          → Works r m d w (does (if t then Some side.Client
+          → Quietly r m d w (does (if t then Some side.Client
           else (if is_same node (at w leg side.Server) then Some side.Server else None))).0
       by_client true e =
           some side.Client (sym (same_who node (at w leg side.Client) e))
       by_client false e = by_server (is_same node (at w leg side.Server)) refl
 
   up_other_works : (w : World K C S I O) (node : Who) (leg : Leg) (cookie : Cookie)
-      → Works r m d w (up_end r w node leg cookie (end_of w node leg)).0
+      → Quietly r m d w (up_end r w node leg cookie (end_of w node leg)).0
   up_other_works w node leg cookie =
       at_end w node leg (up_end r w node leg cookie)
       (λ end stands. by end stands (company.may_up r w.company node leg) refl)
@@ -220,61 +231,61 @@ module _ {K C S I O : Type 0} (r : Rulebook C S I O) (m : Makers K I O) (d : Dee
     where
       by : (end : Side) → at w leg end ≡ node → (t : Bool)
           → company.may_up r w.company node leg ≡ t
-          → WorksOk r m d w (if t then (up_at r w node leg end cookie, true) else (w, false))
+          → QuietlyOk r m d w (if t then (up_at r w node leg end cookie, true) else (w, false))
       by end stands true e =
           works_one r m d w (GoesUp node leg end cookie) (
             or_left (company.may_up r w.company node leg) (company.wants r w.company node leg) e,
             inl stands,
-          )
+          ) refl
       by end stands false e = works_none r m d w
 
   up_works : (w : World K C S I O) (node : Who) (leg : Leg) (cookie : Cookie)
-      → Works r m d w (up_half r m w node leg cookie).0
+      → Quietly r m d w (up_half r m w node leg cookie).0
   up_works w Client leg cookie = up_client_works w leg cookie
   up_works w Server leg cookie = up_other_works w Server leg cookie
   up_works w (In n) leg cookie = up_other_works w (In n) leg cookie
   up_works w (Out n) leg cookie = up_other_works w (Out n) leg cookie
 
   refused_works : (w : World K C S I O) (node : Who) (leg : Leg)
-      → Works r m d w (refused_half r w node leg).0
+      → Quietly r m d w (refused_half r w node leg).0
   refused_works w node leg = by (company.wants r w.company node leg) refl
     where
       by : (t : Bool) → company.wants r w.company node leg ≡ t
-          → WorksOk r m d w (if t then (tell r w node (Breaks leg), true) else (w, false))
-      by true e = works_one r m d w (IsTold node (Breaks leg)) (inr e)
+          → QuietlyOk r m d w (if t then (tell r w node (Breaks leg), true) else (w, false))
+      by true e = works_one r m d w (IsTold node (Breaks leg)) (inr e) refl
       by false e = works_none r m d w
 
   broken_works : (w : World K C S I O) (node : Who) (leg : Leg) (o : Option Side)
-      → Works r m d w (broken_end r w node leg o).0
+      → Quietly r m d w (broken_end r w node leg o).0
   broken_works w node leg None = refused_works w node leg
   broken_works w node leg (Some end) = by (legs.is_up leg end w.legs)
     where
-      by : (t : Bool) → WorksOk r m d w (if t then (lose r w leg end (Breaks leg), true)
+      by : (t : Bool) → QuietlyOk r m d w (if t then (lose r w leg end (Breaks leg), true)
           else refused_half r w node leg)
       by true = works_broken r m d w leg end
       by false = refused_works w node leg
 
   ended_works : (w : World K C S I O) (leg : Leg) (o : Option Side)
-      → Works r m d w (ended_end r w leg o).0
+      → Quietly r m d w (ended_end r w leg o).0
   ended_works w leg None = works_none r m d w
   ended_works w leg (Some end) = by (legs.is_up leg end w.legs)
     where
-      by : (t : Bool) → WorksOk r m d w (if t then (lose r w leg end (Ends leg), true)
+      by : (t : Bool) → QuietlyOk r m d w (if t then (lose r w leg end (Ends leg), true)
           else (w, false))
       by true = works_ended r m d w leg end
       by false = works_none r m d w
 
   tick_works : (w : World K C S I O) (node : Who) (now : ℕ) (o : Option ℕ)
-      → Works r m d w (tick_from r w node now o).0
+      → Quietly r m d w (tick_from r w node now o).0
   tick_works w node now None = works_none r m d w
   tick_works w node now (Some last) = by (nat_le last now)
     where
-      by : (t : Bool) → WorksOk r m d w (if t then (tell r w node (Passes now), true)
+      by : (t : Bool) → QuietlyOk r m d w (if t then (tell r w node (Passes now), true)
           else (w, false))
-      by true = works_one r m d w (IsTold node (Passes now)) tt
+      by true = works_one r m d w (IsTold node (Passes now)) tt refl
       by false = works_none r m d w
 
-  half_works : (w : World K C S I O) (one : Half) → Works r m d w (half_by r m w one).0
+  half_works : (w : World K C S I O) (one : Half) → Quietly r m d w (half_by r m w one).0
   half_works w (halves.Up node leg cookie) = up_works w node leg cookie
   half_works w (halves.Broken node leg) = broken_works w node leg (end_of w node leg)
   half_works w (halves.Ended node leg) = ended_works w leg (end_of w node leg)

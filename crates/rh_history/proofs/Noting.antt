@@ -139,22 +139,22 @@ module _ {S : Type 0} (rules : Rules S) where
 
 module _ {K C S I O : Type 0} (r : Rulebook C S I O) (m : Makers K I O) (d : Deeds C S) where
   -- what a change does to each node is what the history notes of it
-  record Does (w v : World K C S I O) (change : Change) : Type 0 where
-    client : v.company.client
+  pub record Does (w v : World K C S I O) (change : Change) : Type 0 where
+    pub client : v.company.client
         ≡ after_end_events r.client d.client
         (after_events r.client w.company.client (told_to w change Client))
         (acts_by change side.Client)
-    server : v.company.server
+    pub server : v.company.server
         ≡ after_end_events r.server d.server
         (after_events r.server w.company.server (told_to w change Server))
         (acts_by change side.Server)
-    ins : (n : ℕ) (events : List moving.Event)
+    pub ins : (n : ℕ) (events : List moving.Event)
         → IsRun r.in_proxy (m.in_proxy w.cast n) events (in_place w.company n)
         → IsRun r.in_proxy (m.in_proxy v.cast n)
         (events ++ at_place (in_place w.company n) (told_to w change (In n))
         (made_by w change (In n)))
         (in_place v.company n)
-    outs : (n : ℕ) (events : List moving.Event)
+    pub outs : (n : ℕ) (events : List moving.Event)
         → IsRun r.out_proxy (m.out_proxy w.cast n) events (out_place w.company n)
         → IsRun r.out_proxy (m.out_proxy v.cast n)
         (events ++ at_place (out_place w.company n) (told_to w change (Out n))
@@ -311,7 +311,7 @@ module _ {K C S I O : Type 0} (r : Rulebook C S I O) (m : Makers K I O) (d : Dee
   does_close w side.Server =
       record { client = refl; server = refl; ins = quiet_ins w; outs = quiet_outs w }
 
-  does : (w : World K C S I O) (change : Change) → MayChange r w change
+  pub does : (w : World K C S I O) (change : Change) → MayChange r w change
       → Does w (changed r m d w change) change
   does w (IsTold node event) may = does_told w node event
   does w (IsFed leg dir count) may = does_fed w leg dir count
@@ -338,7 +338,7 @@ module _ {K C S I O : Type 0} (r : Rulebook C S I O) (m : Makers K I O) (d : Dee
 
   -- ---- histories
 
-  end_on : {T : Type 0} (rules : Rules T) (acts : Acts T) (first before after : Shell T)
+  pub end_on : {T : Type 0} (rules : Rules T) (acts : Acts T) (first before after : Shell T)
       (h : List EndEvent) (told : List moving.Event) (more : List EndEvent)
       → before ≡ after_end_events rules acts first h
       → after ≡ after_end_events rules acts (after_events rules before told) more

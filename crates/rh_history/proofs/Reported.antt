@@ -105,11 +105,11 @@ module _ {K C S I O : Type 0} (r : Rulebook C S I O) (m : Makers K I O) (d : Dee
   some_of other (Some x) = x
   some_of other None = other
 
-  told_is : (a b : Who × Event) → Some a ≡ Some b → a ≡ b
+  pub told_is : (a b : Who × Event) → Some a ≡ Some b → a ≡ b
   unfolding some_of
   told_is a b e = ap (some_of a) e
 
-  none_told : {A : Type 0} (x : A) → None ≡ Some x → ⊥
+  pub none_told : {A : Type 0} (x : A) → None ≡ Some x → ⊥
   none_told x e = absurd cc
 
   -- by what a node was told

@@ -92,10 +92,10 @@ none_of_others node why (one ∷ list) others (inr behind) =
 module _ {K C S I O : Type 0} (r : Rulebook C S I O) (m : Makers K I O) (d : Deeds C S) where
   -- ---- a change
 
-  abbrev Found : World K C S I O → Change → Closing → Type 0
+  abbrev pub Found : World K C S I O → Change → Closing → Type 0
   Found w change x = IsOneOf x w.closed ⊎ ClosesNode r w change x.who x.cause
 
-  change_closes : (w : World K C S I O) (change : Change) (x : Closing)
+  pub change_closes : (w : World K C S I O) (change : Change) (x : Closing)
       → IsOneOf x (changed r m d w change).closed → Found w change x
   change_closes w (IsTold node event) x h =
       ⊎_elim (λ old. inl old) (λ (new : (node ≡ x.who)

@@ -22,9 +22,9 @@ use Rattle.rh_nodes.specs.Opening.{Makers, open_leg, open_same, may_open_same}
 use Rattle.rh_nodes.specs.Reports.{and_then}
 use Rattle.rh_nodes.specs.Settling.{leg_at, opened, opened_same, open_next, open_next_in, next_number, open_client_outs, open_client_ins, open_out_servers, open_in_servers, open_all, most_bytes, carry_bytes, carried, carry, carry_both, carry_kind, carry_all, took, take_one, take_both, ends_now, ended, end_where, end_one, end_kind, end_all, round, behind_round, rounds_from, settle}
 use Rattle.rh_nodes.specs.World.{World}
-use Rattle.rh_history.specs.Changes.{Takes, Works}
+use Rattle.rh_history.specs.Changes.{Takes, Works, Quietly, GoesQuietly}
 use Rattle.rh_history.proofs.Working.{works_none, works_one, works_then}
-use Rattle.rh_history.proofs.Answering.{Goes, goes_none, goes_quiet, goes_one, goes_and_then, goes_each}
+use Rattle.rh_history.proofs.Answering.{Goes, goes_quietly, goes_none, goes_quiet, goes_one, goes_and_then, goes_each}
 use Rattle.rh_history.proofs.Losing.{works_end_leg, works_send, works_feed}
 use Rattle.rh_history.proofs.Connecting.{works_open_leg, works_open_same}
 
@@ -32,45 +32,45 @@ module _ {K C S I O : Type 0} (r : Rulebook C S I O) (m : Makers K I O) (d : Dee
   -- ---- part 1
 
   opened_goes : (w : World K C S I O) (leg : Leg) (did : World K C S I O × Bool)
-      → Works r m d w did.0 → Goes r m d w (opened leg did)
+      → Quietly r m d w did.0 → GoesQuietly r m d w (opened leg did)
   opened_goes w leg (v, true) a = goes_one r m d w v (answer.OpenLeg leg true) a refl
   opened_goes w leg (v, false) a = goes_quiet r m d w v a
 
   opened_same_goes : (w : World K C S I O) (leg : Leg) (did : World K C S I O × Bool)
-      → Works r m d w did.0 → Goes r m d w (opened_same leg did)
+      → Quietly r m d w did.0 → GoesQuietly r m d w (opened_same leg did)
   opened_same_goes w leg (v, true) a = goes_one r m d w v (answer.OpenSame leg true) a refl
   opened_same_goes w leg (v, false) a = goes_quiet r m d w v a
 
-  next_goes : (leg : Leg) (w : World K C S I O) → Goes r m d w (open_next r m leg w)
+  next_goes : (leg : Leg) (w : World K C S I O) → GoesQuietly r m d w (open_next r m leg w)
   next_goes leg w = opened_goes w leg (open_leg r m w leg) (works_open_leg r m d w leg)
 
-  next_in_goes : (leg : Leg) (w : World K C S I O) → Goes r m d w (open_next_in r m leg w)
+  next_in_goes : (leg : Leg) (w : World K C S I O) → GoesQuietly r m d w (open_next_in r m leg w)
   next_in_goes leg w = by (w.same && may_open_same r w leg)
     where
-      by : (t : Bool) → Goes r m d w (if t then opened_same leg (open_same r w leg)
+      by : (t : Bool) → GoesQuietly r m d w (if t then opened_same leg (open_same r w leg)
           else open_next r m leg w)
       by true = opened_same_goes w leg (open_same r w leg) (works_open_same r m d w leg)
       by false = next_goes leg w
 
-  client_outs_go : (w : World K C S I O) → Goes r m d w (open_client_outs r m w)
+  client_outs_go : (w : World K C S I O) → GoesQuietly r m d w (open_client_outs r m w)
   client_outs_go w = by (nat_le (next_number (length w.legs.client_out)) 4294967295)
     where
-      by : (t : Bool) → Goes r m d w (if t
+      by : (t : Bool) → GoesQuietly r m d w (if t
           then open_next r m (leg_at ClientOut (next_number (length w.legs.client_out))) w
           else (w, []))
       by true = next_goes (leg_at ClientOut (next_number (length w.legs.client_out))) w
       by false = goes_none r m d w
 
-  client_ins_go : (w : World K C S I O) → Goes r m d w (open_client_ins r m w)
+  client_ins_go : (w : World K C S I O) → GoesQuietly r m d w (open_client_ins r m w)
   client_ins_go w = by (nat_le (next_number (length w.legs.client_in)) 4294967295)
     where
-      by : (t : Bool) → Goes r m d w (if t
+      by : (t : Bool) → GoesQuietly r m d w (if t
           then open_next_in r m (leg_at ClientIn (next_number (length w.legs.client_in))) w
           else (w, []))
       by true = next_in_goes (leg_at ClientIn (next_number (length w.legs.client_in))) w
       by false = goes_none r m d w
 
-  open_goes : (w : World K C S I O) → Goes r m d w (open_all r m w)
+  pub open_goes : (w : World K C S I O) → GoesQuietly r m d w (open_all r m w)
   open_goes w =
       goes_and_then r m d w
       (and_then (and_then (open_client_outs r m w) (open_out_servers r m)) (open_client_ins r m))
@@ -90,32 +90,32 @@ module _ {K C S I O : Type 0} (r : Rulebook C S I O) (m : Makers K I O) (d : Dee
   -- ---- part 2
 
   carried_goes : (w : World K C S I O) (leg : Leg) (dir : Dir)
-      (did : World K C S I O × Option (List ℕ)) → Works r m d w did.0
-      → Goes r m d w (carried leg dir did)
+      (did : World K C S I O × Option (List ℕ)) → Quietly r m d w did.0
+      → GoesQuietly r m d w (carried leg dir did)
   carried_goes w leg dir (v, None) a = goes_quiet r m d w v a
   carried_goes w leg dir (v, Some []) a = goes_quiet r m d w v a
   carried_goes w leg dir (v, Some (b ∷ bytes)) a =
       goes_one r m d w v (answer.Move (Some leg) dir (Some (b ∷ bytes))) a refl
 
   carry_goes : (leg : Leg) (dir : Dir) (w : World K C S I O)
-      → Goes r m d w (carry r leg dir w)
+      → GoesQuietly r m d w (carry r leg dir w)
   carry_goes leg dir w =
       let v = (send r w leg dir most_bytes).0 in
       carried_goes w leg dir (carry_bytes r leg dir w)
       (works_then r m d w v (feed r v leg dir most_bytes).0
       (works_send r m d w leg dir most_bytes) (works_feed r m d v leg dir most_bytes))
 
-  both_go : (leg : Leg) (w : World K C S I O) → Goes r m d w (carry_both r leg w)
+  both_go : (leg : Leg) (w : World K C S I O) → GoesQuietly r m d w (carry_both r leg w)
   both_go leg w =
       goes_and_then r m d w (carry r leg U w) (carry r leg D) (carry_goes leg U w)
       (carry_goes leg D)
 
-  kind_carries : (kind : LegKind) (w : World K C S I O) → Goes r m d w (carry_kind r kind w)
+  kind_carries : (kind : LegKind) (w : World K C S I O) → GoesQuietly r m d w (carry_kind r kind w)
   kind_carries kind w =
       goes_each r m d (length (legs.of kind w.legs))
       (λ number. carry_both r (leg_at kind number)) w (λ number. both_go (leg_at kind number))
 
-  carry_all_goes : (w : World K C S I O) → Goes r m d w (carry_all r w)
+  pub carry_all_goes : (w : World K C S I O) → GoesQuietly r m d w (carry_all r w)
   carry_all_goes w =
       goes_and_then r m d w
       (and_then (and_then (carry_kind r ClientOut w) (carry_kind r OutServer))
@@ -141,7 +141,7 @@ module _ {K C S I O : Type 0} (r : Rulebook C S I O) (m : Makers K I O) (d : Dee
 
   take_goes : (end : Side) (w : World K C S I O) → Goes r m d w (take_one d end w)
   take_goes end w =
-      took_goes w end (has_ended w end) (take d w end) (works_one r m d w (Takes end) tt)
+      took_goes w end (has_ended w end) (take d w end) (works_one r m d w (Takes end) tt refl)
 
   take_both_goes : (w : World K C S I O) → Goes r m d w (take_both d w)
   take_both_goes w =
@@ -151,18 +151,18 @@ module _ {K C S I O : Type 0} (r : Rulebook C S I O) (m : Makers K I O) (d : Dee
   -- ---- part 4
 
   where_goes : (leg : Leg) (w : World K C S I O) (o : Option Dir)
-      → Goes r m d w (end_where r leg w o)
+      → GoesQuietly r m d w (end_where r leg w o)
   where_goes leg w None = goes_none r m d w
   where_goes leg w (Some dir) =
       let did = end_leg r w leg dir in
       goes_one r m d w did.0 (answer.EndLeg leg dir did.1) (works_end_leg r m d w leg dir) refl
 
-  kind_ends : (kind : LegKind) (w : World K C S I O) → Goes r m d w (end_kind r kind w)
+  kind_ends : (kind : LegKind) (w : World K C S I O) → GoesQuietly r m d w (end_kind r kind w)
   kind_ends kind w =
       goes_each r m d (length (legs.of kind w.legs)) (λ number. end_one r (leg_at kind number)) w
       (λ number v. where_goes (leg_at kind number) v (ends_now r (leg_at kind number) v))
 
-  end_all_goes : (w : World K C S I O) → Goes r m d w (end_all r w)
+  pub end_all_goes : (w : World K C S I O) → GoesQuietly r m d w (end_all r w)
   end_all_goes w =
       goes_and_then r m d w
       (and_then (and_then (end_kind r ClientOut w) (end_kind r OutServer)) (end_kind r ClientIn))
@@ -180,8 +180,9 @@ module _ {K C S I O : Type 0} (r : Rulebook C S I O) (m : Makers K I O) (d : Dee
       goes_and_then r m d w
       (and_then (and_then (open_all r m w) (carry_all r)) (take_both d)) (end_all r)
       (goes_and_then r m d w (and_then (open_all r m w) (carry_all r)) (take_both d)
-      (goes_and_then r m d w (open_all r m w) (carry_all r) (open_goes w) carry_all_goes)
-      take_both_goes) end_all_goes
+      (goes_quietly r m d w (and_then (open_all r m w) (carry_all r))
+      (goes_and_then r m d w (open_all r m w) (carry_all r) (open_goes w) carry_all_goes))
+      take_both_goes) (λ v. goes_quietly r m d v (end_all r v) (end_all_goes v))
 
   behind_goes : (w : World K C S I O) (count : ℕ) (did : World K C S I O × List Answer)
       (rest : World K C S I O → World K C S I O × List Answer) → Goes r m d w did

@@ -8,6 +8,8 @@ use Rattle.rh_text.specs.declared.ends.Side.{Side}
 use Rattle.rh_text.specs.declared.ends.Side.TheVariants as side
 use Rattle.rh_line.specs.declared.leg.Leg.{Leg}
 use Rattle.rh_line.specs.declared.leg.LegKind.TheVariants.{ClientIn, ClientOut}
+use Rattle.rh_record.specs.declared.answer.Answer.{Answer}
+use Rattle.rh_record.specs.declared.answer.Answer.TheVariants as answer
 use Rattle.rh_record.specs.declared.answer.Who.{Who}
 use Rattle.rh_record.specs.declared.answer.Who.TheVariants as who
 use Rattle.rh_record.specs.declared.line.Line.{Line}
@@ -169,11 +171,52 @@ abbrev pub is_work : Change → Bool
 is_work Reports = false
 is_work change = true
 
--- none of them is
-pub record Works {K C S I O : Type 0} (r : Rulebook C S I O) (m : Makers K I O) (d : Deeds C S)
-    (w v : World K C S I O) : Type 0 where
+-- a change that isn't an act at an end either
+abbrev pub is_quiet : Change → Bool
+is_quiet (Gives end pdu) = false
+is_quiet (Takes end) = false
+is_quiet (Closes end) = false
+is_quiet RecyclesIn = false
+is_quiet RecyclesOut = false
+is_quiet Reports = false
+is_quiet change = true
+
+-- changes of one kind
+pub record WorksBy {K C S I O : Type 0} (kind : Change → Bool) (r : Rulebook C S I O)
+    (m : Makers K I O) (d : Deeds C S) (w v : World K C S I O) : Type 0 where
   pub leads : Leads r m d w v
-  pub work : list_all is_work leads.changes ≡ true
+  pub work : list_all kind leads.changes ≡ true
+
+-- none of them is a report
+abbrev pub Works : {K C S I O : Type 0} → Rulebook C S I O → Makers K I O → Deeds C S
+    → World K C S I O → World K C S I O → Type 0
+Works r m d w v = WorksBy is_work r m d w v
+
+-- nor an act at an end
+abbrev pub Quietly : {K C S I O : Type 0} → Rulebook C S I O → Makers K I O → Deeds C S
+    → World K C S I O → World K C S I O → Type 0
+Quietly r m d w v = WorksBy is_quiet r m d w v
+
+-- ---- what is answered meanwhile
+
+-- an answer that tells of no act at an end, and of no node that closed
+abbrev pub is_silent : Answer → Bool
+is_silent (answer.Give end given) = false
+is_silent (answer.Take end taken) = false
+is_silent (answer.Close end) = false
+is_silent (answer.NodeClosed node why) = false
+is_silent one = true
+
+-- changes of one kind lead to what was done, and its answers are of one kind
+pub record GoesBy {K C S I O : Type 0} (kind : Change → Bool) (tells : Answer → Bool)
+    (r : Rulebook C S I O) (m : Makers K I O) (d : Deeds C S) (w : World K C S I O)
+    (did : World K C S I O × List Answer) : Type 0 where
+  pub works : WorksBy kind r m d w did.0
+  pub others : list_all tells did.1 ≡ true
+
+abbrev pub GoesQuietly : {K C S I O : Type 0} → Rulebook C S I O → Makers K I O → Deeds C S
+    → World K C S I O → World K C S I O × List Answer → Type 0
+GoesQuietly r m d w did = GoesBy is_quiet is_silent r m d w did
 
 -- ---- lines and half steps in any order
 

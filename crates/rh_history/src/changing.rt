@@ -8,10 +8,10 @@ ghost use Rattle.rh_nodes.specs.Company.{Rulebook};
 ghost use Rattle.rh_nodes.specs.Giving.{Deeds};
 ghost use Rattle.rh_nodes.specs.Halves.{half};
 ghost use Rattle.rh_nodes.specs.Opening.{Makers};
-ghost use Rattle.rh_nodes.specs.Settling.{round};
-ghost use Rattle.rh_nodes.specs.Steps.{step, step_line};
+ghost use Rattle.rh_nodes.specs.Settling.{carry_all, end_all, open_all, round};
+ghost use Rattle.rh_nodes.specs.Steps.{leg_answer, reported, step, step_line};
 ghost use Rattle.rh_nodes.specs.World.{World};
-ghost use Rattle.rh_history.specs.Changes.{Leads, Turn, Works, after_turns};
+ghost use Rattle.rh_history.specs.Changes.{GoesQuietly, Leads, Turn, Works, after_turns};
 
 /// Each line of a recording is a list of small changes, each allowed where it is made: a node is
 /// told something, bytes are drawn into flight or fed, an end of a leg goes up or down, a proxy is
@@ -24,6 +24,21 @@ pub fn a_line_is_changes<K, C, S, I, O>()
         (w : World K C S I O) → Works r m d w (step_line r m d line w).0 }
     ensures round { (r : Rulebook C S I O) (m : Makers K I O) (d : Deeds C S)
         (w : World K C S I O) → Works r m d w (round r m d w).0 }
+{}
+
+/// What carries bytes, opens, ends and breaks legs and tells the time makes quiet changes alone: no
+/// end acts, and nothing is reported; and its answers tell of no act, and of no node that closed.
+/// So it is with each line but those at the ends and the one that settles, and with each part of a
+/// round of settling but the one in which the ends take.
+pub fn what_carries_is_quiet<K, C, S, I, O>()
+    ensures opens { (r : Rulebook C S I O) (m : Makers K I O) (d : Deeds C S)
+        (w : World K C S I O) → GoesQuietly r m d w (open_all r m w) }
+    ensures carries { (r : Rulebook C S I O) (m : Makers K I O) (d : Deeds C S)
+        (w : World K C S I O) → GoesQuietly r m d w (carry_all r w) }
+    ensures ends { (r : Rulebook C S I O) (m : Makers K I O) (d : Deeds C S)
+        (w : World K C S I O) → GoesQuietly r m d w (end_all r w) }
+    ensures line { (r : Rulebook C S I O) (m : Makers K I O) (d : Deeds C S) (line : Line)
+        (w : World K C S I O) → GoesQuietly r m d w (reported (leg_answer r m w line)) }
 {}
 
 /// So is each half step, where one node alone is told something.

@@ -9,6 +9,7 @@ ghost use Rattle.rh_line.specs.declared.state.State.TheVariants.{Closed};
 ghost use Rattle.rh_record.specs.declared.answer.Who.TheVariants.{Client, In, Out, Server};
 ghost use Rattle.rh_record.specs.declared.line.Line.{Line};
 ghost use Rattle.rh_shell.specs.Shells.{Shell, state_of};
+ghost use Rattle.rh_nodes.specs.declared.closing.Closing.{Closing};
 ghost use Rattle.rh_nodes.specs.declared.event.Event.{Event};
 ghost use Rattle.rh_nodes.specs.declared.half.Half.{Half};
 ghost use Rattle.rh_nodes.specs.declared.place.Place.TheVariants.{Here};
@@ -40,6 +41,14 @@ pub fn what_is_reported_closed_was_closed<K, C, S, I, O>()
         (w : World K C S I O) → (step r m d line w).0.closed ≡ [] }
     ensures half { (r : Rulebook C S I O) (m : Makers K I O) (one : Half) (w : World K C S I O)
         → (half r m w one).0.closed ≡ [] }
+{}
+
+/// So what is still to be reported at any moment of a run are nodes that are closed, with the cause
+/// that is told.
+pub fn what_is_to_be_reported_has_closed<K, C, S, I, O>()
+    ensures { (r : Rulebook C S I O) (m : Makers K I O) (d : Deeds C S) (w v : World K C S I O)
+        → w.closed ≡ [] → Leads r m d w v → (x : Closing) → IsOneOf x v.closed
+        → HasClosed v.company x.who x.cause }
 {}
 
 /// A node closes at most once: what closes it leaves it closed with that cause, whatever changes it

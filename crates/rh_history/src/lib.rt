@@ -7,10 +7,13 @@ pub mod closes;
 pub mod histories;
 pub mod legs;
 
-pub use changing::{a_half_step_is_changes, a_line_is_changes, lines_are_changes};
+pub use changing::{
+    a_half_step_is_changes, a_line_is_changes, lines_are_changes, what_carries_is_quiet,
+};
 pub use closes::{
     a_closed_end_tells_its_cause, a_closed_proxy_names_its_cause, a_node_closes_once,
     a_node_is_reported_closed_once, what_is_reported_closed_was_closed,
+    what_is_to_be_reported_has_closed,
 };
 pub use histories::{a_recording_begins_new, each_node_is_what_its_history_made};
 pub use legs::{
