@@ -23,7 +23,7 @@ use Rattle.rh_nodes.specs.declared.place.Place.{Place}
 use Rattle.rh_nodes.specs.declared.place.Place.TheVariants.{Absent, Here, Gone}
 use Rattle.rh_nodes.specs.Cookies.{cookie_of}
 use Rattle.rh_text.specs.declared.ends.Side.TheVariants.{Client, Server}
-use Rattle.rh_history.specs.Changes.{Change, IsTold, IsFed, IsDrawn, GoesUp, GoesDown, OpensIn, OpensOut, OpensSame, Gives, Takes, Closes, RecyclesIn, RecyclesOut, MovesTo, Draws, Reports, MayChange, changed, Leads, Turn, after_turns}
+use Rattle.rh_history.specs.Changes.{Change, IsTold, IsFed, IsDrawn, GoesUp, RaisesAlone, GoesDown, OpensIn, OpensOut, OpensSame, Gives, Takes, Closes, RecyclesIn, RecyclesOut, MovesTo, Draws, Reports, MayChange, changed, Leads, Turn, after_turns}
 use Rattle.rh_history.specs.Histories.{History, AreRuns, IsRun, all_noted, nothing, in_place, out_place}
 use Rattle.rh_history.proofs.Leading.{leads_keep}
 use Rattle.rh_history.proofs.Lines.{leads_turns}
@@ -66,6 +66,7 @@ cast_of world (IsTold node event) = refl
 cast_of world (IsFed leg dir count) = refl
 cast_of world (IsDrawn leg dir count) = refl
 cast_of world (GoesUp node leg end cookie) = refl
+cast_of world (RaisesAlone node leg end cookie) = refl
 cast_of world (GoesDown node leg end) = refl
 cast_of world (OpensIn number cookie) = refl
 cast_of world (OpensOut number cookie) = refl

@@ -1,5 +1,5 @@
 -- the lines that connect a leg are changes that tell no node anything
-use Rattle.std.proofs.Common.{◌≡◌, ℕ, List, Bool, true, false, ◌&&◌, ◌||◌, if◌then◌else◌, IsTrue, refl, ap, ◌∙◌, inl}
+use Rattle.std.proofs.Common.{◌≡◌, ℕ, List, Bool, true, false, ◌&&◌, ◌||◌, if◌then◌else◌, IsTrue, refl, sym, subst, ap, ◌∙◌, inl}
 use Rattle.std.specs.Prelude.{nat_lt}
 use Rattle.std.proofs.lemmas.Bool.{and_parts}
 use Rattle.rh_rts.specs.declared.command.Cookie.{Cookie}
@@ -19,14 +19,14 @@ use Rattle.rh_nodes.specs.Cookies.{draw}
 use Rattle.rh_nodes.specs.Giving.{Deeds}
 use Rattle.rh_nodes.specs.Halves.{up_at}
 use Rattle.rh_nodes.specs.Numbered.{ask}
-use Rattle.rh_nodes.specs.Opening.{Makers, at_moment, with_in, with_out, connect, connect_client, may_make, open_out_to, open_in_to, is_wanted, open_server, open_leg, reader_before, may_open_same, read_on, open_same}
+use Rattle.rh_nodes.specs.Opening.{Makers, at_moment, with_in, with_out, connect, up_at_both, connect_client, may_make, open_out_to, open_in_to, is_wanted, open_server, open_leg, reader_before, may_open_same, read_on, open_same}
 use Rattle.rh_nodes.specs.Places as places
 use Rattle.rh_nodes.specs.Places.{is_absent}
-use Rattle.rh_nodes.specs.Readers.{reader_of}
+use Rattle.rh_nodes.specs.Readers.{reader_of, with_reader}
 use Rattle.rh_nodes.specs.Settling.{leg_at}
 use Rattle.rh_nodes.specs.World.{World, at}
-use Rattle.rh_history.specs.Changes.{GoesUp, OpensIn, OpensOut, OpensSame, Draws, may_have, changed}
-use Rattle.rh_history.proofs.Connecting.{or_left, or_right}
+use Rattle.rh_history.specs.Changes.{GoesUp, OpensIn, OpensOut, OpensSame, Draws, may_have, is_led, is_whole, changed}
+use Rattle.rh_history.proofs.Connecting.{or_left, or_right, server_led}
 use Rattle.rh_history.proofs.Numbers.{put_here, asked}
 use Rattle.rh_closes.specs.Shows.{ShownWorks}
 use Rattle.rh_closes.proofs.Showing.{ShownOk, shown_none, shown_one, shown_more}
@@ -62,13 +62,17 @@ module _ {K C S I O : Type 0} (r : Rulebook C S I O) (m : Makers K I O) (d : Dee
   shown_connect : (w : World K C S I O) (leg : Leg) (cookie : Cookie)
       → IsTrue (may_have r w (at w leg side.Client) leg)
       → IsTrue (may_have r w (at w leg side.Server) leg)
+      → IsTrue (is_led w (at w leg side.Client) leg) → is_whole cookie ≡ true
       → ShownWorks r m d all w (connect r w leg cookie)
-  shown_connect w leg cookie client server =
+  shown_connect w leg cookie client server led whole =
       let v = up_at r w (at w leg side.Client) leg side.Client cookie in
       shown_more r m d all w v (GoesUp (at w leg side.Server) leg side.Server cookie)
       (shown_one r m d all w (GoesUp (at w leg side.Client) leg side.Client cookie)
-      (client, inl refl) refl tt)
-      (untouched leg.kind leg.number w cookie ∙ server, inl refl) refl tt
+      (client, inl refl, led) whole tt) (
+        untouched leg.kind leg.number w cookie ∙ server,
+        inl refl,
+        server_led r m d w leg.kind leg.number cookie client,
+      ) whole tt
 
   -- ---- a leg of the client, to a proxy of its own
 
@@ -116,6 +120,7 @@ module _ {K C S I O : Type 0} (r : Rulebook C S I O) (m : Makers K I O) (d : Dee
           or_left (company.may_up r v.company (who.Out n) out_leg)
               (company.wants r v.company (who.Out n) out_leg) up,
           inl refl,
+          refl,
         ) refl tt
 
     in_made : may_make r w w.company.ins in_leg ≡ true
@@ -140,6 +145,7 @@ module _ {K C S I O : Type 0} (r : Rulebook C S I O) (m : Makers K I O) (d : Dee
               (company.wants r v.company reader in_leg)
               (ap (λ k. company.may_up r v.company (who.In k) in_leg) is ∙ up),
           inl refl,
+          refl,
         ) refl tt
 
     shown_open_out : ShownWorks r m d all w (open_leg r m w out_leg).0
@@ -180,26 +186,25 @@ module _ {K C S I O : Type 0} (r : Rulebook C S I O) (m : Makers K I O) (d : Dee
     same_proxy e f =
         let drawn = draw w.cookies in
         let x = record w { cookies = drawn.0 } in
-        let v = changed r m d x (OpensSame n drawn.1) in
         let before = reader_before w n in
+        let readers = with_reader w.readers n before in
         let client = or_right (company.may_up r w.company who.Client in_leg)
         (company.wants r w.company who.Client in_leg) e in
         let server = or_left (company.may_up r w.company (who.In before) in_leg)
         (company.wants r w.company (who.In before) in_leg) f in
-        let is : reader_of v.readers n ≡ before =
-        asked 0 (λ k. k) v.readers n ∙ put_here 0 w.readers n before in
-        shown_more r m d all w v
-        (GoesUp (who.In (reader_of v.readers n)) in_leg side.Server drawn.1)
+        let is : reader_of readers n ≡ before =
+        asked 0 (λ k. k) readers n ∙ put_here 0 w.readers n before in
+        subst (λ k. ShownWorks r m d all w (up_at_both r (read_on x n) in_leg drawn.1 who.Client
+        (who.In k))) (sym is)
         (shown_more r m d all w x (OpensSame n drawn.1)
-        (shown_one r m d all w (Draws drawn.0) tt refl tt)
-        (client, server) refl tt)
-        (ap (λ k. may_have r w (who.In k) in_leg) is ∙ server, inl refl) refl tt
+        (shown_one r m d all w (Draws drawn.0) tt refl tt) (client, server) refl tt)
 
   -- ---- a leg of the server
 
   shown_open_server : (w : World K C S I O) (leg : Leg)
+      → IsTrue (is_led w (at w leg side.Client) leg)
       → ShownWorks r m d all w (open_server r w leg).0
-  shown_open_server w leg = by (nat_lt 0 leg.number && is_wanted r w leg) refl
+  shown_open_server w leg led = by (nat_lt 0 leg.number && is_wanted r w leg) refl
     where
       by : (t : Bool) → (nat_lt 0 leg.number && is_wanted r w leg) ≡ t
           → ShownOk r m d all w (if t then (connect r w leg NO_COOKIE, true) else (w, false))
@@ -210,7 +215,7 @@ module _ {K C S I O : Type 0} (r : Rulebook C S I O) (m : Makers K I O) (d : Dee
           (company.may_up r w.company server leg) (company.wants r w.company server leg)
           (company.may_up r w.company client leg)
           (and_parts (nat_lt 0 leg.number) (is_wanted r w leg) e).1 in
-          shown_connect w leg NO_COOKIE may.0 may.1
+          shown_connect w leg NO_COOKIE may.0 may.1 led refl
       by false e = shown_none r m d all w
 
   -- ---- the lines
@@ -218,9 +223,9 @@ module _ {K C S I O : Type 0} (r : Rulebook C S I O) (m : Makers K I O) (d : Dee
   shown_open_by : (w : World K C S I O) (kind : LegKind) (n : ℕ)
       → ShownWorks r m d all w (open_leg r m w (leg_at kind n)).0
   shown_open_by w ClientOut n = shown_open_out w n
-  shown_open_by w OutServer n = shown_open_server w (leg_at OutServer n)
+  shown_open_by w OutServer n = shown_open_server w (leg_at OutServer n) refl
   shown_open_by w ClientIn n = shown_open_in w n
-  shown_open_by w InServer n = shown_open_server w (leg_at InServer n)
+  shown_open_by w InServer n = shown_open_server w (leg_at InServer n) refl
 
   pub shown_open_leg : (w : World K C S I O) (leg : Leg)
       → ShownWorks r m d all w (open_leg r m w leg).0

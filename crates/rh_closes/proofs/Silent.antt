@@ -22,7 +22,7 @@ use Rattle.rh_nodes.specs.Giving.{Deeds}
 use Rattle.rh_nodes.specs.Opening.{Makers}
 use Rattle.rh_nodes.specs.Places as places
 use Rattle.rh_nodes.specs.World.{World}
-use Rattle.rh_history.specs.Changes.{Change, IsTold, IsFed, IsDrawn, GoesUp, GoesDown, OpensIn, OpensOut, OpensSame, Gives, Takes, Closes, RecyclesIn, RecyclesOut, MovesTo, Draws, Reports, Leads, changed}
+use Rattle.rh_history.specs.Changes.{Change, IsTold, IsFed, IsDrawn, GoesUp, RaisesAlone, GoesDown, OpensIn, OpensOut, OpensSame, Gives, Takes, Closes, RecyclesIn, RecyclesOut, MovesTo, Draws, Reports, Leads, changed}
 use Rattle.rh_history.specs.Histories.{IsRun, all_noted, in_place, out_place, nothing}
 use Rattle.rh_history.proofs.Leading.{leads_keep}
 use Rattle.rh_history.proofs.Numbers.{answered}
@@ -53,6 +53,7 @@ module _ {K C S I O : Type 0} (r : Rulebook C S I O) (m : Makers K I O) (d : Dee
   cast_stays w (IsFed leg dir count) = refl
   cast_stays w (IsDrawn leg dir count) = refl
   cast_stays w (GoesUp node leg end cookie) = refl
+  cast_stays w (RaisesAlone node leg end cookie) = refl
   cast_stays w (GoesDown node leg end) = refl
   cast_stays w (OpensIn n cookie) = refl
   cast_stays w (OpensOut n cookie) = refl

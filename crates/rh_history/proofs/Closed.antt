@@ -17,6 +17,7 @@ use Rattle.rh_line.specs.declared.state.State.TheVariants as state
 use Rattle.rh_line.specs.declared.state.Take.TheVariants as taken
 use Rattle.rh_line.specs.declared.state.Verdict.{Verdict}
 use Rattle.rh_record.specs.declared.answer.Answer.TheVariants as answer
+use Rattle.rh_line.specs.declared.leg.Leg.{Leg}
 use Rattle.rh_record.specs.declared.answer.Who.{Who}
 use Rattle.rh_record.specs.declared.answer.Who.TheVariants.{Client, Server, In, Out}
 use Rattle.rh_shell.specs.declared.answers.Phase.{Phase}
@@ -39,7 +40,7 @@ use Rattle.rh_nodes.specs.Company.{Company, Rulebook}
 use Rattle.rh_nodes.specs.Giving.{Deeds, give_answer, take_answer}
 use Rattle.rh_nodes.specs.Legs as legs
 use Rattle.rh_nodes.specs.Numbered.{change, put_at}
-use Rattle.rh_nodes.specs.Opening.{Makers}
+use Rattle.rh_nodes.specs.Opening.{Makers, reader_before}
 use Rattle.rh_nodes.specs.Places as places
 use Rattle.rh_nodes.specs.Places.{is_absent, is_working}
 use Rattle.rh_nodes.specs.Settling.{leg_at}
@@ -48,7 +49,7 @@ use Rattle.rh_nodes.specs.Telling as telling
 use Rattle.rh_nodes.specs.Telling.{closing, happens}
 use Rattle.rh_nodes.specs.Wires.{sender, receiver}
 use Rattle.rh_nodes.specs.World.{World, at}
-use Rattle.rh_history.specs.Changes.{Change, IsTold, IsFed, IsDrawn, GoesUp, GoesDown, OpensIn, OpensOut, OpensSame, Gives, Takes, Closes, RecyclesIn, RecyclesOut, MovesTo, Draws, Reports, MayChange, changed, Leads}
+use Rattle.rh_history.specs.Changes.{Change, IsTold, IsFed, IsDrawn, GoesUp, RaisesAlone, GoesDown, OpensIn, OpensOut, OpensSame, Gives, Takes, Closes, RecyclesIn, RecyclesOut, MovesTo, Draws, Reports, MayChange, changed, Leads}
 use Rattle.rh_history.specs.Closes.{ClosedPlace, HasClosed, ClientTells, ServerTells}
 use Rattle.rh_history.specs.Histories.{heard, to_node, in_place, out_place}
 use Rattle.rh_history.proofs.Leading.{leads_keep}
@@ -414,8 +415,20 @@ module _ {K C S I O : Type 0} (r : Rulebook C S I O) (m : Makers K I O) (d : Dee
       stays_closed r.client why w.company.client h
       (moving.ComesUp (leg_at ClientIn k) cookie ∷ [])
   open_same_stays why w k cookie Server h = h
-  open_same_stays why w k cookie (In n) h = h
+  open_same_stays why w k cookie (In n) h =
+      let leg = leg_at ClientIn k in
+      let c = company.up r w.company Client leg cookie in
+      let node = In (reader_before w k) in
+      meets_stay r why c (company.up r c node leg cookie) node (moving.ComesUp leg cookie)
+      (up_meets r c node leg cookie) (In n) h
   open_same_stays why w k cookie (Out n) h = h
+
+  up_stays : (why : Cause) (w : World K C S I O) (other : Who) (leg : Leg) (cookie : Cookie)
+      (node : Who) → HasClosed w.company node why
+      → HasClosed (company.up r w.company other leg cookie) node why
+  up_stays why w other leg cookie node h =
+      meets_stay r why w.company (company.up r w.company other leg cookie) other
+      (moving.ComesUp leg cookie) (up_meets r w.company other leg cookie) node h
 
   pub closed_stays : (why : Cause) (node : Who) (w : World K C S I O) (change : Change)
       → HasClosed w.company node why → MayChange r w change
@@ -433,8 +446,9 @@ module _ {K C S I O : Type 0} (r : Rulebook C S I O) (m : Makers K I O) (d : Dee
       meets_stay r why w.company (company.draw r w.company other leg count).0 other
       (moving.Draws leg count) (draw_meets r w.company other leg count) node h
   closed_stays why node w (GoesUp other leg end cookie) h may =
-      meets_stay r why w.company (company.up r w.company other leg cookie) other
-      (moving.ComesUp leg cookie) (up_meets r w.company other leg cookie) node h
+      up_stays why w other leg cookie node h
+  closed_stays why node w (RaisesAlone other leg end cookie) h may =
+      up_stays why w other leg cookie node h
   closed_stays why node w (GoesDown other leg end) h may =
       leaving_stays r why w.company other node h
   closed_stays why node w (OpensIn k cookie) h may =

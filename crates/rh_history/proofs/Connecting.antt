@@ -1,5 +1,5 @@
 -- the lines and half steps that connect a leg are changes
-use Rattle.std.proofs.Common.{◌≡◌, ℕ, Bool, true, false, ◌&&◌, ◌||◌, if◌then◌else◌, IsTrue, refl, ap, ◌∙◌, inl}
+use Rattle.std.proofs.Common.{◌≡◌, ℕ, Bool, true, false, ◌&&◌, ◌||◌, not, if◌then◌else◌, get_or, IsTrue, refl, sym, subst, ap, ◌∙◌, inl}
 use Rattle.std.specs.Prelude.{nat_lt}
 use Rattle.std.proofs.lemmas.Bool.{and_parts}
 use Rattle.rh_rts.specs.declared.command.Cookie.{Cookie}
@@ -8,25 +8,27 @@ use Rattle.rh_line.specs.declared.leg.Leg.{Leg}
 use Rattle.rh_line.specs.declared.leg.LegKind.{LegKind}
 use Rattle.rh_line.specs.declared.leg.LegKind.TheVariants.{ClientOut, OutServer, ClientIn, InServer}
 use Rattle.rh_record.specs.declared.answer.Who.TheVariants as who
+use Rattle.rh_shell.specs.Rules.{Rules}
 use Rattle.rh_shell.specs.Shells as shell
 use Rattle.rh_shell.specs.Shells.{Shell}
 use Rattle.rh_nodes.specs.declared.opening.TheConstants.{NO_COOKIE}
-use Rattle.rh_nodes.specs.declared.place.Place.TheVariants.{Absent, Here}
+use Rattle.rh_nodes.specs.declared.place.Place.{Place}
+use Rattle.rh_nodes.specs.declared.place.Place.TheVariants.{Absent, Here, Gone}
 use Rattle.rh_nodes.specs.Company as company
 use Rattle.rh_nodes.specs.Company.{Rulebook}
 use Rattle.rh_nodes.specs.Cookies.{draw}
 use Rattle.rh_nodes.specs.Giving.{Deeds}
 use Rattle.rh_nodes.specs.Halves.{up_at}
-use Rattle.rh_nodes.specs.Numbered.{ask}
-use Rattle.rh_nodes.specs.Opening.{Makers, at_moment, with_in, with_out, connect, connect_client, may_make, open_out_to, open_in_to, is_wanted, open_server, open_leg, reader_before, may_open_same, read_on, open_same}
+use Rattle.rh_nodes.specs.Numbered.{ask, change}
+use Rattle.rh_nodes.specs.Opening.{Makers, at_moment, with_in, with_out, connect, up_at_both, connect_client, may_make, open_out_to, open_in_to, is_wanted, open_server, open_leg, reader_before, may_open_same, read_on, open_same}
 use Rattle.rh_nodes.specs.Places as places
 use Rattle.rh_nodes.specs.Places.{is_absent}
-use Rattle.rh_nodes.specs.Readers.{reader_of}
+use Rattle.rh_nodes.specs.Readers.{reader_of, with_reader}
 use Rattle.rh_nodes.specs.Settling.{leg_at}
 use Rattle.rh_nodes.specs.World.{World, at}
-use Rattle.rh_history.specs.Changes.{GoesUp, OpensIn, OpensOut, OpensSame, Draws, may_have, changed, Quietly}
+use Rattle.rh_history.specs.Changes.{GoesUp, OpensIn, OpensOut, OpensSame, Draws, may_have, is_led, is_whole, changed, Quietly}
 use Rattle.rh_history.proofs.Working.{QuietlyOk, works_none, works_one, works_more}
-use Rattle.rh_history.proofs.Numbers.{put_here, asked}
+use Rattle.rh_history.proofs.Numbers.{put_here, asked, changed_here}
 
 -- ---- tests
 
@@ -50,6 +52,13 @@ wanted false b true true h = (refl, or_right b true refl)
 wanted false b true false h = absurd cc
 wanted false b false d h = absurd cc
 
+there : {S : Type 0} (rules : Rules S) (leg : Leg) (cookie : Cookie) (place : Place S)
+    → (places.may_up rules leg place || places.wants rules leg place) ≡ true
+    → is_absent (places.up rules leg cookie place) ≡ false
+there rules leg cookie Absent may = absurd cc
+there rules leg cookie (Here node legs) may = refl
+there rules leg cookie (Gone now) may = absurd cc
+
 module _ {K C S I O : Type 0} (r : Rulebook C S I O) (m : Makers K I O) (d : Deeds C S) where
   -- ---- a leg is up at both ends
 
@@ -63,15 +72,46 @@ module _ {K C S I O : Type 0} (r : Rulebook C S I O) (m : Makers K I O) (d : Dee
   untouched ClientIn n w cookie = refl
   untouched InServer n w cookie = refl
 
+  -- an in proxy that may have a leg, or asks for one, is there, and stays so as that comes up
+  in_there : (w : World K C S I O) (n : ℕ) (leg : Leg) (cookie : Cookie)
+      → IsTrue (may_have r w (who.In n) leg)
+      → ask is_absent true (company.up r w.company (who.In n) leg cookie).ins n ≡ false
+  in_there w n leg cookie may =
+      let ins = w.company.ins in
+      let to = places.up r.in_proxy leg cookie in
+      let asks = ask (places.wants r.in_proxy leg) false ins n in
+      asked Absent is_absent (change to ins n) n
+      ∙ ap is_absent (changed_here Absent to refl ins n)
+      ∙ there r.in_proxy leg cookie (get_or ins n Absent)
+      (sym (ap (λ b. b || asks) (asked Absent (places.may_up r.in_proxy leg) ins n)
+      ∙ ap (λ b. places.may_up r.in_proxy leg (get_or ins n Absent) || b)
+      (asked Absent (places.wants r.in_proxy leg) ins n)) ∙ may)
+
+  -- a leg leads to no client as to a server, and where it leads from an in proxy, that is there
+  pub server_led : (w : World K C S I O) (kind : LegKind) (n : ℕ) (cookie : Cookie)
+      → IsTrue (may_have r w (at w (leg_at kind n) side.Client) (leg_at kind n))
+      → IsTrue (is_led (up_at r w (at w (leg_at kind n) side.Client) (leg_at kind n) side.Client
+      cookie) (at w (leg_at kind n) side.Server) (leg_at kind n))
+  server_led w ClientOut n cookie may = refl
+  server_led w OutServer n cookie may = refl
+  server_led w ClientIn n cookie may = refl
+  server_led w InServer n cookie may =
+      ap (λ b. not b) (in_there w n (leg_at InServer n) cookie may)
+
   works_connect : (w : World K C S I O) (leg : Leg) (cookie : Cookie)
       → IsTrue (may_have r w (at w leg side.Client) leg)
       → IsTrue (may_have r w (at w leg side.Server) leg)
+      → IsTrue (is_led w (at w leg side.Client) leg) → is_whole cookie ≡ true
       → Quietly r m d w (connect r w leg cookie)
-  works_connect w leg cookie client server =
+  works_connect w leg cookie client server led whole =
       let v = up_at r w (at w leg side.Client) leg side.Client cookie in
       works_more r m d w v (GoesUp (at w leg side.Server) leg side.Server cookie)
-      (works_one r m d w (GoesUp (at w leg side.Client) leg side.Client cookie) (client, inl refl)
-      refl) (untouched leg.kind leg.number w cookie ∙ server, inl refl) refl
+      (works_one r m d w (GoesUp (at w leg side.Client) leg side.Client cookie)
+      (client, inl refl, led) whole) (
+        untouched leg.kind leg.number w cookie ∙ server,
+        inl refl,
+        server_led w leg.kind leg.number cookie client,
+      ) whole
 
   -- ---- a leg of the client, to a proxy of its own
 
@@ -118,6 +158,7 @@ module _ {K C S I O : Type 0} (r : Rulebook C S I O) (m : Makers K I O) (d : Dee
           or_left (company.may_up r v.company (who.Out n) out_leg)
               (company.wants r v.company (who.Out n) out_leg) up,
           inl refl,
+          refl,
         ) refl
 
     in_made : may_make r w w.company.ins in_leg ≡ true
@@ -141,6 +182,7 @@ module _ {K C S I O : Type 0} (r : Rulebook C S I O) (m : Makers K I O) (d : Dee
               (company.wants r v.company reader in_leg)
               (ap (λ k. company.may_up r v.company (who.In k) in_leg) is ∙ up),
           inl refl,
+          refl,
         ) refl
 
     works_open_out : Quietly r m d w (open_leg r m w out_leg).0
@@ -181,23 +223,25 @@ module _ {K C S I O : Type 0} (r : Rulebook C S I O) (m : Makers K I O) (d : Dee
     same_proxy e f =
         let drawn = draw w.cookies in
         let x = record w { cookies = drawn.0 } in
-        let v = changed r m d x (OpensSame n drawn.1) in
         let before = reader_before w n in
+        let readers = with_reader w.readers n before in
         let client = or_right (company.may_up r w.company who.Client in_leg)
         (company.wants r w.company who.Client in_leg) e in
         let server = or_left (company.may_up r w.company (who.In before) in_leg)
         (company.wants r w.company (who.In before) in_leg) f in
-        let is : reader_of v.readers n ≡ before =
-        asked 0 (λ k. k) v.readers n ∙ put_here 0 w.readers n before in
-        works_more r m d w v (GoesUp (who.In (reader_of v.readers n)) in_leg side.Server drawn.1)
+        let is : reader_of readers n ≡ before =
+        asked 0 (λ k. k) readers n ∙ put_here 0 w.readers n before in
+        subst (λ k. Quietly r m d w (up_at_both r (read_on x n) in_leg drawn.1 who.Client
+        (who.In k))) (sym is)
         (works_more r m d w x (OpensSame n drawn.1) (works_one r m d w (Draws drawn.0) tt refl)
         (client, server) refl)
-        (ap (λ k. may_have r w (who.In k) in_leg) is ∙ server, inl refl) refl
 
   -- ---- a leg of the server
 
-  works_open_server : (w : World K C S I O) (leg : Leg) → Quietly r m d w (open_server r w leg).0
-  works_open_server w leg = by (nat_lt 0 leg.number && is_wanted r w leg) refl
+  works_open_server : (w : World K C S I O) (leg : Leg)
+      → IsTrue (is_led w (at w leg side.Client) leg)
+      → Quietly r m d w (open_server r w leg).0
+  works_open_server w leg led = by (nat_lt 0 leg.number && is_wanted r w leg) refl
     where
       by : (t : Bool) → (nat_lt 0 leg.number && is_wanted r w leg) ≡ t
           → QuietlyOk r m d w (if t then (connect r w leg NO_COOKIE, true) else (w, false))
@@ -208,7 +252,7 @@ module _ {K C S I O : Type 0} (r : Rulebook C S I O) (m : Makers K I O) (d : Dee
           (company.may_up r w.company server leg) (company.wants r w.company server leg)
           (company.may_up r w.company client leg)
           (and_parts (nat_lt 0 leg.number) (is_wanted r w leg) e).1 in
-          works_connect w leg NO_COOKIE may.0 may.1
+          works_connect w leg NO_COOKIE may.0 may.1 led refl
       by false e = works_none r m d w
 
   -- ---- the lines
@@ -216,9 +260,9 @@ module _ {K C S I O : Type 0} (r : Rulebook C S I O) (m : Makers K I O) (d : Dee
   works_open_by : (w : World K C S I O) (kind : LegKind) (n : ℕ)
       → Quietly r m d w (open_leg r m w (leg_at kind n)).0
   works_open_by w ClientOut n = works_open_out w n
-  works_open_by w OutServer n = works_open_server w (leg_at OutServer n)
+  works_open_by w OutServer n = works_open_server w (leg_at OutServer n) refl
   works_open_by w ClientIn n = works_open_in w n
-  works_open_by w InServer n = works_open_server w (leg_at InServer n)
+  works_open_by w InServer n = works_open_server w (leg_at InServer n) refl
 
   pub works_open_leg : (w : World K C S I O) (leg : Leg) → Quietly r m d w (open_leg r m w leg).0
   works_open_leg w leg = works_open_by w leg.kind leg.number

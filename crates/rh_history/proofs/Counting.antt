@@ -22,7 +22,7 @@ use Rattle.rh_nodes.specs.Opening.{Makers}
 use Rattle.rh_nodes.specs.Steps.{step, step_line, told}
 use Rattle.rh_nodes.specs.Wires.{receiver}
 use Rattle.rh_nodes.specs.World.{World, at}
-use Rattle.rh_history.specs.Changes.{Change, IsTold, IsFed, IsDrawn, GoesUp, GoesDown, OpensIn, OpensOut, OpensSame, Gives, Takes, Closes, RecyclesIn, RecyclesOut, MovesTo, Draws, Reports, MayChange, changed}
+use Rattle.rh_history.specs.Changes.{Change, IsTold, IsFed, IsDrawn, GoesUp, RaisesAlone, GoesDown, OpensIn, OpensOut, OpensSame, Gives, Takes, Closes, RecyclesIn, RecyclesOut, MovesTo, Draws, Reports, MayChange, changed}
 use Rattle.rh_history.specs.Closes.{HasClosed, closing_of, closings_of}
 use Rattle.rh_history.proofs.Answering.{is_other}
 use Rattle.rh_history.proofs.Closed.{tell_closes, tell_silent, closed_stays}
@@ -169,6 +169,8 @@ module _ {K C S I O : Type 0} (r : Rulebook C S I O) (m : Makers K I O) (d : Dee
       (k.0, closed_on w (IsDrawn leg dir count) may k.1)
   stands_on n w (GoesUp other leg end cookie) k may =
       (k.0, closed_on w (GoesUp other leg end cookie) may k.1)
+  stands_on n w (RaisesAlone other leg end cookie) k may =
+      (k.0, closed_on w (RaisesAlone other leg end cookie) may k.1)
   stands_on n w (GoesDown other leg end) k may =
       (k.0, closed_on w (GoesDown other leg end) may k.1)
   stands_on n w (OpensIn i cookie) k may = (k.0, closed_on w (OpensIn i cookie) may k.1)
@@ -208,6 +210,8 @@ module _ {K C S I O : Type 0} (r : Rulebook C S I O) (m : Makers K I O) (d : Dee
       counted_as w (IsDrawn leg dir count) k may refl
   counted_on w (GoesUp other leg end cookie) k may =
       counted_as w (GoesUp other leg end cookie) k may refl
+  counted_on w (RaisesAlone other leg end cookie) k may =
+      counted_as w (RaisesAlone other leg end cookie) k may refl
   counted_on w (GoesDown other leg end) k may =
       counted_as w (GoesDown other leg end) k may refl
   counted_on w (OpensIn i cookie) k may = counted_as w (OpensIn i cookie) k may refl

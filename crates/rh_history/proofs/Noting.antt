@@ -7,6 +7,7 @@ use Rattle.rh_text.specs.declared.ends.Side.{Side}
 use Rattle.rh_text.specs.declared.ends.Side.TheVariants as side
 use Rattle.rh_text.specs.declared.ends.Dir.{Dir}
 use Rattle.rh_line.specs.declared.leg.Leg.{Leg}
+use Rattle.rh_line.specs.declared.leg.LegKind.TheVariants.{ClientIn}
 use Rattle.rh_record.specs.declared.answer.Who.{Who}
 use Rattle.rh_record.specs.declared.answer.Who.TheVariants.{Client, Server, In, Out}
 use Rattle.rh_shell.specs.Moving as moving
@@ -18,16 +19,18 @@ use Rattle.rh_nodes.specs.declared.event.Event.{Event}
 use Rattle.rh_nodes.specs.declared.event.Event.TheVariants.{Comes}
 use Rattle.rh_nodes.specs.declared.place.Place.{Place}
 use Rattle.rh_nodes.specs.declared.place.Place.TheVariants.{Absent, Here, Gone}
+use Rattle.rh_nodes.specs.Company as company
 use Rattle.rh_nodes.specs.Company.{Company, Rulebook}
 use Rattle.rh_nodes.specs.Giving.{Deeds}
 use Rattle.rh_nodes.specs.Legs as legs
 use Rattle.rh_nodes.specs.Numbered.{ask, put_at, change}
-use Rattle.rh_nodes.specs.Opening.{Makers}
+use Rattle.rh_nodes.specs.Opening.{Makers, reader_before}
 use Rattle.rh_nodes.specs.Places as places
 use Rattle.rh_nodes.specs.Places.{is_absent, is_working}
+use Rattle.rh_nodes.specs.Settling.{leg_at}
 use Rattle.rh_nodes.specs.Wires.{sender, receiver}
 use Rattle.rh_nodes.specs.World.{World, at}
-use Rattle.rh_history.specs.Changes.{Change, IsTold, IsFed, IsDrawn, GoesUp, GoesDown, OpensIn, OpensOut, OpensSame, Gives, Takes, Closes, RecyclesIn, RecyclesOut, MovesTo, Draws, Reports, MayChange, AreAllowed, changed, all_changed, Leads}
+use Rattle.rh_history.specs.Changes.{Change, IsTold, IsFed, IsDrawn, GoesUp, RaisesAlone, GoesDown, OpensIn, OpensOut, OpensSame, Gives, Takes, Closes, RecyclesIn, RecyclesOut, MovesTo, Draws, Reports, MayChange, AreAllowed, changed, all_changed, Leads}
 use Rattle.rh_history.specs.Histories.{History, nothing, heard, to_node, told_to, made_by, at_place, acts_by, in_place, out_place, noted, all_noted, IsRun, AreRuns, IsNew}
 use Rattle.rh_history.proofs.Numbers.{asked, put_here, put_elsewhere, changed_here, changes_elsewhere}
 use Rattle.rh_history.proofs.Runs.{end_events_append, end_events_happen, runs_none, run_on, tell_meets, draw_meets, up_meets}
@@ -290,6 +293,21 @@ module _ {K C S I O : Type 0} (r : Rulebook C S I O) (m : Makers K I O) (d : Dee
         (sym (asked Absent is_absent w.company.outs k) ∙ absent));
   }
 
+  does_open_same : (w : World K C S I O) (k : ℕ) (cookie : Cookie)
+      → Does w (changed r m d w (OpensSame k cookie)) (OpensSame k cookie)
+  does_open_same w k cookie =
+      let leg = leg_at ClientIn k in
+      let v = changed r m d w (OpensSame k cookie) in
+      let node = In (reader_before w k) in
+      let me = up_meets r (company.up r w.company Client leg cookie) node leg cookie in
+      record {
+        client = refl;
+        server = refl;
+        ins = λ n events run. run_on r.in_proxy (m.in_proxy w.cast n) events (in_place w.company n)
+            (in_place v.company n) (to_node node (In n) (moving.ComesUp leg cookie)) run (me.ins n);
+        outs = quiet_outs w;
+      }
+
   does_give : (w : World K C S I O) (end : Side) (pdu : List ℕ)
       → Does w (changed r m d w (Gives end pdu)) (Gives end pdu)
   does_give w side.Client pdu =
@@ -317,11 +335,13 @@ module _ {K C S I O : Type 0} (r : Rulebook C S I O) (m : Makers K I O) (d : Dee
   does w (IsFed leg dir count) may = does_fed w leg dir count
   does w (IsDrawn leg dir count) may = does_drawn w leg dir count
   does w (GoesUp node leg end cookie) may = does_up w node leg end cookie
+  does w (RaisesAlone node leg end cookie) may =
+      let did = does_up w node leg end cookie in
+      record { client = did.client; server = did.server; ins = did.ins; outs = did.outs }
   does w (GoesDown node leg end) may = does_down w node leg end
   does w (OpensIn k cookie) may = does_open_in w k cookie may.1
   does w (OpensOut k cookie) may = does_open_out w k cookie may.1
-  does w (OpensSame k cookie) may =
-      record { client = refl; server = refl; ins = quiet_ins w; outs = quiet_outs w }
+  does w (OpensSame k cookie) may = does_open_same w k cookie
   does w (Gives end pdu) may = does_give w end pdu
   does w (Takes end) may = does_take w end
   does w (Closes end) may = does_close w end

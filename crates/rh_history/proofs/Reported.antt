@@ -21,7 +21,7 @@ use Rattle.rh_nodes.specs.Opening.{Makers}
 use Rattle.rh_nodes.specs.Steps.{step, step_line}
 use Rattle.rh_nodes.specs.Wires.{receiver}
 use Rattle.rh_nodes.specs.World.{World, at}
-use Rattle.rh_history.specs.Changes.{Change, IsTold, IsFed, IsDrawn, GoesUp, GoesDown, OpensIn, OpensOut, OpensSame, Gives, Takes, Closes, RecyclesIn, RecyclesOut, MovesTo, Draws, Reports, changed, all_changed, is_work, Works}
+use Rattle.rh_history.specs.Changes.{Change, IsTold, IsFed, IsDrawn, GoesUp, RaisesAlone, GoesDown, OpensIn, OpensOut, OpensSame, Gives, Takes, Closes, RecyclesIn, RecyclesOut, MovesTo, Draws, Reports, changed, all_changed, is_work, Works}
 use Rattle.rh_history.specs.Closes.{IsOneOf, ClosesNode, IsClosedBy}
 use Rattle.rh_history.proofs.Leading.{changed_append}
 
@@ -75,6 +75,7 @@ module _ {K C S I O : Type 0} (r : Rulebook C S I O) (m : Makers K I O) (d : Dee
       still_noted x w.closed node (company.tell r w.company node event).1 h
   kept_on w (IsDrawn leg dir count) x work h = h
   kept_on w (GoesUp node leg end cookie) x work h = h
+  kept_on w (RaisesAlone node leg end cookie) x work h = h
   kept_on w (GoesDown node leg end) x work h = h
   kept_on w (OpensIn k cookie) x work h = h
   kept_on w (OpensOut k cookie) x work h = h

@@ -21,7 +21,7 @@ use Rattle.rh_nodes.specs.Opening.{Makers}
 use Rattle.rh_nodes.specs.Steps.{step, step_line}
 use Rattle.rh_nodes.specs.Wires.{receiver}
 use Rattle.rh_nodes.specs.World.{World, at}
-use Rattle.rh_history.specs.Changes.{Change, IsTold, IsFed, IsDrawn, GoesUp, GoesDown, OpensIn, OpensOut, OpensSame, Gives, Takes, Closes, RecyclesIn, RecyclesOut, MovesTo, Draws, Reports, changed, all_changed}
+use Rattle.rh_history.specs.Changes.{Change, IsTold, IsFed, IsDrawn, GoesUp, RaisesAlone, GoesDown, OpensIn, OpensOut, OpensSame, Gives, Takes, Closes, RecyclesIn, RecyclesOut, MovesTo, Draws, Reports, changed, all_changed}
 use Rattle.rh_history.specs.Closes.{IsOneOf, ClosesNode, IsClosedBy, LineCloses}
 use Rattle.rh_history.proofs.Answering.{is_other}
 use Rattle.rh_history.proofs.Lines.{goes_step_line}
@@ -115,6 +115,7 @@ module _ {K C S I O : Type 0} (r : Rulebook C S I O) (m : Makers K I O) (d : Dee
       })) (one_of_noted x w.closed node (company.tell r w.company node event).1 h)
   change_closes w (IsDrawn leg dir count) x h = inl h
   change_closes w (GoesUp node leg end cookie) x h = inl h
+  change_closes w (RaisesAlone node leg end cookie) x h = inl h
   change_closes w (GoesDown node leg end) x h = inl h
   change_closes w (OpensIn k cookie) x h = inl h
   change_closes w (OpensOut k cookie) x h = inl h

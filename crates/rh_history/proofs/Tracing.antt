@@ -1,5 +1,5 @@
 -- every change keeps the legs carried, and notes all that was heard
-use Rattle.std.proofs.Common.{◌≡◌, ℕ, List, [], ◌++◌, true, false, ◌&&◌, ◌||◌, if◌then◌else◌, IsTrue, get_or, refl, sym, ap, ap₂, ◌∙◌, subst, inl, inr, ⊎_elim, arith}
+use Rattle.std.proofs.Common.{◌≡◌, ℕ, List, [], ◌++◌, Bool, true, false, ◌&&◌, ◌||◌, if◌then◌else◌, IsTrue, get_or, refl, sym, ap, ap₂, ◌∙◌, subst, inl, inr, ⊎_elim, arith}
 use Rattle.std.specs.Prelude.{◌<◌}
 use Rattle.std.proofs.lemmas.Bool.{true≢false, false≢true, cases_eq, cases_Bool, ltb-true, and_parts}
 use Rattle.std.proofs.lemmas.List.{append-nil}
@@ -29,21 +29,22 @@ use Rattle.rh_nodes.specs.Numbered.{change}
 use Rattle.rh_nodes.specs.Opening.{Makers, reader_before}
 use Rattle.rh_nodes.specs.Places as places
 use Rattle.rh_nodes.specs.Places.{is_absent}
+use Rattle.rh_nodes.specs.Readers.{with_reader}
 use Rattle.rh_nodes.specs.Settling.{leg_at}
 use Rattle.rh_nodes.specs.Wires as wires
 use Rattle.rh_nodes.specs.Wires.{sender, receiver}
 use Rattle.rh_nodes.specs.World.{World, at}
-use Rattle.rh_history.specs.Changes.{Change, may_have, IsTold, IsFed, IsDrawn, GoesUp, GoesDown, OpensIn, OpensOut, OpensSame, Gives, Takes, Closes, RecyclesIn, RecyclesOut, MovesTo, Draws, Reports, MayChange, StandsAt, changed}
+use Rattle.rh_history.specs.Changes.{Change, may_have, IsTold, IsFed, IsDrawn, GoesUp, RaisesAlone, GoesDown, OpensIn, OpensOut, OpensSame, Gives, Takes, Closes, RecyclesIn, RecyclesOut, MovesTo, Draws, Reports, MayChange, StandsAt, changed}
 use Rattle.rh_history.specs.Histories.{History, heard, to_node, told_to, made_by, at_place, fed_by, in_place, out_place, noted, IsRun}
 use Rattle.rh_history.specs.Carried.{Ledger, ledger, heard_on, came_up, happened, wire_at, end_node, AreCarried, IsHeard, AreHeard, LegsComeUpOnce, AllAccepted, IsTraced, is_of_client}
 use Rattle.rh_history.proofs.Appended.{heard_append, happened_more}
 use Rattle.rh_history.proofs.HeardAll.{is_hears, unheard, heard_piece, hear_on, hear_none, hear_leaving, hear_made}
-use Rattle.rh_history.proofs.Ledgers.{is_here, or_false}
+use Rattle.rh_history.proofs.Ledgers.{is_here, not_other, or_false}
 use Rattle.rh_history.proofs.Lines.{same_who}
 use Rattle.rh_history.proofs.LegsKept.{kept_quiet, kept_drawn, kept_fed, kept_raised, kept_lowered, kept_opened}
 use Rattle.rh_history.proofs.NodeTraces.{is_draws, is_comes, drawn_of, up_of, AllAccept, silent_drawn, silent_up, silent_accepts, none_drawn, none_up, none_accepts, drawn_there, up_there, up_accepts, drawn_more, up_more, accepted_more, never_up, may_come, in_may}
 use Rattle.rh_history.proofs.Noting.{absent_is, change_is_noted}
-use Rattle.rh_history.proofs.Numbers.{asked, put_elsewhere, changed_here, changes_elsewhere}
+use Rattle.rh_history.proofs.Numbers.{asked, put_here, put_elsewhere, changed_here, changes_elsewhere}
 use Rattle.rh_history.proofs.Runs.{Runs, Meets, tell_meets, draw_meets, up_meets}
 use Rattle.rh_history.proofs.Wired as wired
 
@@ -60,6 +61,10 @@ told_comes (Comes leg piece) = refl
 told_comes (Ends leg) = refl
 told_comes (Breaks leg) = refl
 told_comes (Passes now) = refl
+
+or_assoc : (a b c : Bool) → (a || (b || c)) ≡ ((a || b) || c)
+or_assoc true b c = refl
+or_assoc false b c = refl
 
 -- ---- where no proxy is, none comes but by being made
 
@@ -349,7 +354,7 @@ module _ {K C S I O : Type 0} (r : Rulebook C S I O) (m : Makers K I O) (d : Dee
       ∙ sym is.0
 
   traces_up : (node : Who) (leg : Leg) (end : Side) (cookie : Cookie)
-      → MayChange r w (GoesUp node leg end cookie)
+      → MayChange r w (RaisesAlone node leg end cookie)
       → Traces (GoesUp node leg end cookie) (changed r m d w (GoesUp node leg end cookie))
   traces_up node leg end cookie may =
       let c = GoesUp node leg end cookie in
@@ -501,29 +506,115 @@ module _ {K C S I O : Type 0} (r : Rulebook C S I O) (m : Makers K I O) (d : Dee
         zero = t.zero;
       }
 
-  traces_open_same : (n : ℕ) (cookie : Cookie) → MayChange r w (OpensSame n cookie)
-      → Traces (OpensSame n cookie) (changed r m d w (OpensSame n cookie))
-  traces_open_same n cookie may =
-      let c = OpensSame n cookie in
-      let leg = leg_at ClientIn n in
-      let e = moving.ComesUp leg cookie in
-      let up = client_up leg may.0 in
-      record {
-        accepts = up_accepts r w.company Client leg cookie up;
-        carried = kept_opened old (new c) w.legs w.readers t.carried
-            (same_drawn c (none_drawn r w.company Client e refl))
-            (same_fed c (λ other beside. refl)) n (reader_before w n) (client_never leg may.0)
-            (λ other beside. up_more r m d first w h t.runs c other beside
-            ∙ ap (λ b. old.was_up other beside || b)
-            (up_there r w.company Client leg cookie up other beside));
-        hears = record {
-          client = λ other. refl;
-          server = λ other. refl;
-          ins = quiet_in;
-          outs = quiet_out;
-        };
-        zero = t.zero;
-      }
+  module _ (n : ℕ) (cookie : Cookie) (may : MayChange r w (OpensSame n cookie)) where
+    abbrev same_leg_up : Leg
+    same_leg_up = leg_at ClientIn n
+
+    abbrev same_reader : Who
+    same_reader = In (reader_before w n)
+
+    abbrev same_change : Change
+    same_change = OpensSame n cookie
+
+    reader_up : company.may_up r w.company same_reader same_leg_up ≡ true
+    reader_up = may_come r m d first w h t.runs t.accepted once same_reader same_leg_up may.1
+
+    -- it comes up for the client, and for the proxy
+    same_up_of : (node : Who) (beside : Leg)
+        → up_of r w.company (told_to w same_change) node beside
+        ≡ (is_here Client same_leg_up node beside || is_here same_reader same_leg_up node beside)
+    same_up_of Client beside =
+        up_there r w.company Client same_leg_up cookie (client_up same_leg_up may.0) Client beside
+        ∙ sym (or_false (is_here Client same_leg_up Client beside)
+        (is_here same_reader same_leg_up Client beside)
+        (not_other same_reader same_leg_up Client beside refl))
+    same_up_of Server beside =
+        sym (or_false (is_here Client same_leg_up Server beside)
+        (is_here same_reader same_leg_up Server beside)
+        (not_other same_reader same_leg_up Server beside refl)
+        ∙ not_other Client same_leg_up Server beside refl)
+    same_up_of (In k) beside =
+        up_there r w.company same_reader same_leg_up cookie reader_up (In k) beside
+        ∙ ap (λ b. b || is_here same_reader same_leg_up (In k) beside)
+        (sym (not_other Client same_leg_up (In k) beside refl))
+    same_up_of (Out k) beside =
+        silent_up r w.company (Out k) beside
+        ∙ sym (or_false (is_here Client same_leg_up (Out k) beside)
+        (is_here same_reader same_leg_up (Out k) beside)
+        (not_other same_reader same_leg_up (Out k) beside refl)
+        ∙ not_other Client same_leg_up (Out k) beside refl)
+
+    same_undrawn : (node : Who) (leg : Leg)
+        → drawn_of r w.company (told_to w same_change) node leg ≡ []
+    same_undrawn Client leg =
+        none_drawn r w.company Client (moving.ComesUp same_leg_up cookie) refl Client leg
+    same_undrawn Server leg = silent_drawn r w.company Server leg
+    same_undrawn (In k) leg =
+        none_drawn r w.company same_reader (moving.ComesUp same_leg_up cookie) refl (In k) leg
+    same_undrawn (Out k) leg = silent_drawn r w.company (Out k) leg
+
+    -- where it is up for the client alone
+    abbrev half_way : Ledger
+    half_way = record {
+      drawn = old.drawn;
+      fed = old.fed;
+      was_up = λ node leg. old.was_up node leg || is_here Client same_leg_up node leg;
+    }
+
+    abbrev same_readers : List ℕ
+    same_readers = with_reader w.readers n (reader_before w n)
+
+    same_carried : AreCarried (new same_change)
+        (legs.raise same_leg_up side.Server (legs.raise same_leg_up side.Client w.legs))
+        same_readers
+    same_carried =
+        let half = kept_opened old half_way w.legs w.readers t.carried (λ node leg. refl)
+        (λ node leg. refl) n (reader_before w n) (client_never same_leg_up may.0)
+        (λ node leg. refl) in
+        let is : end_node same_readers same_leg_up side.Server ≡ same_reader =
+        ap In (asked 0 (λ k. k) same_readers n ∙ put_here 0 w.readers n (reader_before w n)) in
+        kept_raised half_way (new same_change) (legs.raise same_leg_up side.Client w.legs)
+        same_readers half (same_drawn same_change same_undrawn)
+        (same_fed same_change (λ node leg. refl)) same_leg_up side.Server
+        (ap (λ x. half_way.was_up x same_leg_up) is
+        ∙ or_false (old.was_up same_reader same_leg_up)
+        (is_here Client same_leg_up same_reader same_leg_up)
+        (not_other Client same_leg_up same_reader same_leg_up refl)
+        ∙ never_up r m d first w h t.runs t.accepted once same_reader same_leg_up reader_up)
+        (ap (λ x. is_same x (In 0)) is ∙ not_zero same_reader same_leg_up reader_up)
+        (λ node leg. up_more r m d first w h t.runs same_change node leg
+        ∙ ap (λ b. old.was_up node leg || b) (same_up_of node leg)
+        ∙ or_assoc (old.was_up node leg) (is_here Client same_leg_up node leg)
+        (is_here same_reader same_leg_up node leg)
+        ∙ ap (λ x. half_way.was_up node leg || is_here x same_leg_up node leg) (sym is))
+
+    traces_open_same : Traces (OpensSame n cookie) (changed r m d w (OpensSame n cookie))
+    traces_open_same =
+        let e = moving.ComesUp same_leg_up cookie in
+        let client = company.up r w.company Client same_leg_up cookie in
+        let after = company.up r client same_reader same_leg_up cookie in
+        let me = up_meets r client same_reader same_leg_up cookie in
+        record {
+          accepts = record {
+            client = (up_accepts r w.company Client same_leg_up cookie
+                (client_up same_leg_up may.0)).client;
+            server = tt;
+            ins = (up_accepts r w.company same_reader same_leg_up cookie reader_up).ins;
+            outs = (silent_accepts r w.company).outs;
+          };
+          carried = same_carried;
+          hears = record {
+            client = λ other. refl;
+            server = λ other. refl;
+            ins = λ k other. hear_on r.in_proxy other (in_place w.company k) (in_place after k)
+                (h.ins k) (to_node same_reader (In k) e) (h.fed (In k) other) [] (me.ins k)
+                (unheard other e refl (is_same same_reader (In k))) (λ absent. refl)
+                (t.heard.ins k other);
+            outs = quiet_out;
+          };
+          zero = absent_stays r.in_proxy (in_place w.company 0) (in_place after 0)
+              (to_node same_reader (In 0) e) (me.ins 0) t.zero;
+        }
 
   -- ---- the acts of an end, and what is noted
 
@@ -541,7 +632,20 @@ module _ {K C S I O : Type 0} (r : Rulebook C S I O) (m : Makers K I O) (d : Dee
   traces (IsTold node event) may = traces_told node event may
   traces (IsFed leg dir count) may = traces_fed leg dir count may
   traces (IsDrawn leg dir count) may = traces_drawn leg dir count may
-  traces (GoesUp node leg end cookie) may = traces_up node leg end cookie may
+  traces (GoesUp node leg end cookie) may = traces_up node leg end cookie (may.0, may.1)
+  traces (RaisesAlone node leg end cookie) may =
+      let k = traces_up node leg end cookie may in
+      record {
+        accepts = k.accepts;
+        carried = k.carried;
+        hears = record {
+          client = k.hears.client;
+          server = k.hears.server;
+          ins = k.hears.ins;
+          outs = k.hears.outs;
+        };
+        zero = k.zero;
+      }
   traces (GoesDown node leg end) may = traces_down node leg end may
   traces (OpensIn n cookie) may = traces_open_in n cookie may
   traces (OpensOut n cookie) may = traces_open_out n cookie may
@@ -686,6 +790,7 @@ module _ {K C S I O : Type 0} (r : Rulebook C S I O) (m : Makers K I O) (d : Dee
   cast_stays (IsFed leg dir count) = refl
   cast_stays (IsDrawn leg dir count) = refl
   cast_stays (GoesUp node leg end cookie) = refl
+  cast_stays (RaisesAlone node leg end cookie) = refl
   cast_stays (GoesDown node leg end) = refl
   cast_stays (OpensIn n cookie) = refl
   cast_stays (OpensOut n cookie) = refl

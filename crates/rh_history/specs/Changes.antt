@@ -1,13 +1,14 @@
 -- what really happens to a world of roles: small changes, of which each line, each round of
 -- settling and each half step is a list (profile)
-use Rattle.std.specs.Prelude.{◌≡◌, ◌≤◌, ◌||◌, ◌⊎◌, ℕ, List, [], ◌∷◌, Bool, true, false, IsTrue, nat_lt}
+use Rattle.std.specs.Prelude.{◌&&◌, not, ◌≡◌, ◌==◌, ◌≤◌, ◌||◌, ◌⊎◌, ℕ, List, [], ◌∷◌, length, Bool, true, false, IsTrue, nat_lt}
 use Rattle.std.specs.List.{list_all}
 use Rattle.rh_rts.specs.declared.command.Cookie.{Cookie}
 use Rattle.rh_text.specs.declared.ends.Dir.{Dir}
 use Rattle.rh_text.specs.declared.ends.Side.{Side}
 use Rattle.rh_text.specs.declared.ends.Side.TheVariants as side
 use Rattle.rh_line.specs.declared.leg.Leg.{Leg}
-use Rattle.rh_line.specs.declared.leg.LegKind.TheVariants.{ClientIn, ClientOut}
+use Rattle.rh_line.specs.declared.leg.LegKind.{LegKind}
+use Rattle.rh_line.specs.declared.leg.LegKind.TheVariants.{ClientOut, OutServer, ClientIn, InServer}
 use Rattle.rh_record.specs.declared.answer.Answer.{Answer}
 use Rattle.rh_record.specs.declared.answer.Answer.TheVariants as answer
 use Rattle.rh_record.specs.declared.answer.Who.{Who}
@@ -42,11 +43,13 @@ pub data Change : Type 0 where
   IsDrawn : Leg → Dir → ℕ → Change
   -- a leg is up for the node at an end, or down
   GoesUp : Who → Leg → Side → Cookie → Change
+  -- or by a half step up, where the node at the other end may not be there
+  RaisesAlone : Who → Leg → Side → Cookie → Change
   GoesDown : Who → Leg → Side → Change
   -- a leg of the client is up for it, to a proxy that is made for it and is told the moment
   OpensIn : ℕ → Cookie → Change
   OpensOut : ℕ → Cookie → Change
-  -- or to the in proxy that reads the channel before
+  -- or to the in proxy that reads the channel before, for which it is up as well
   OpensSame : ℕ → Cookie → Change
   -- an end is given a PDU, is asked for one, or is told that none will be given any more
   Gives : Side → List ℕ → Change
@@ -70,6 +73,7 @@ changed r m d w (IsFed leg dir count) =
 changed r m d w (IsDrawn leg dir count) =
     (sent w (draw_into r w.company w.legs (at w leg (sender dir)) leg dir count)).0
 changed r m d w (GoesUp node leg end cookie) = up_at r w node leg end cookie
+changed r m d w (RaisesAlone node leg end cookie) = up_at r w node leg end cookie
 changed r m d w (GoesDown node leg end) = without r w node leg end
 changed r m d w (OpensIn number cookie) =
     up_at r (with_in w number (at_moment r.in_proxy (m.in_proxy w.cast number) w.now))
@@ -78,7 +82,8 @@ changed r m d w (OpensOut number cookie) =
     up_at r (with_out w number (at_moment r.out_proxy (m.out_proxy w.cast number) w.now))
     who.Client (leg_at ClientOut number) side.Client cookie
 changed r m d w (OpensSame number cookie) =
-    up_at r (read_on w number) who.Client (leg_at ClientIn number) side.Client cookie
+    up_at r (up_at r (read_on w number) who.Client (leg_at ClientIn number) side.Client cookie)
+    (who.In (reader_before w number)) (leg_at ClientIn number) side.Server cookie
 changed r m d w (Gives end pdu) = (give d w end pdu).0
 changed r m d w (Takes end) = (take d w end).0
 changed r m d w (Closes end) = (close d w end).0
@@ -105,6 +110,27 @@ may_have r w node leg = company.may_up r w.company node leg || company.wants r w
 abbrev pub StandsAt : {K C S I O : Type 0} → World K C S I O → Who → Leg → Side → Type 0
 StandsAt w node leg end = (at w leg end ≡ node) ⊎ ((node ≡ who.Client) × (end ≡ side.Client))
 
+-- an IN leg of the client comes up for it as its proxy is made, or as the proxy of the channel
+-- before has it up; by itself only where its proxy was made before, and there is no in proxy 0
+abbrev pub is_led_by : {K C S I O : Type 0} → World K C S I O → ℕ → LegKind → Bool
+is_led_by w number ClientIn =
+    not (nat_lt 0 number && ask is_absent true w.company.ins number)
+is_led_by w number ClientOut = true
+is_led_by w number OutServer = true
+is_led_by w number InServer = true
+
+-- and an IN leg of a proxy for the server where that proxy was made before
+abbrev pub is_joined_by : {K C S I O : Type 0} → World K C S I O → ℕ → LegKind → Bool
+is_joined_by w number InServer = not (ask is_absent true w.company.ins number)
+is_joined_by w number ClientOut = true
+is_joined_by w number OutServer = true
+is_joined_by w number ClientIn = true
+
+abbrev pub is_led : {K C S I O : Type 0} → World K C S I O → Who → Leg → Bool
+is_led w who.Client leg = is_led_by w leg.number leg.kind
+is_led w who.Server leg = is_joined_by w leg.number leg.kind
+is_led w node leg = true
+
 -- bytes come from flight alone; a leg ends or breaks for a node that has it up, or breaks for one
 -- that wants it; time passes for all
 abbrev pub MayBeTold : {K C S I O : Type 0} → Rulebook C S I O → World K C S I O → Who → Event
@@ -127,6 +153,8 @@ MayChange r w (IsTold node event) = MayBeTold r w node event
 MayChange r w (IsFed leg dir count) = IsTrue (legs.is_up leg (receiver dir) w.legs)
 MayChange r w (IsDrawn leg dir count) = IsTrue (legs.is_up leg (sender dir) w.legs)
 MayChange r w (GoesUp node leg end cookie) =
+    IsTrue (may_have r w node leg) × StandsAt w node leg end × IsTrue (is_led w node leg)
+MayChange r w (RaisesAlone node leg end cookie) =
     IsTrue (may_have r w node leg) × StandsAt w node leg end
 MayChange r w (GoesDown node leg end) = HasUp w node leg end
 MayChange r w (OpensIn number cookie) =
@@ -166,12 +194,25 @@ pub record Leads {K C S I O : Type 0} (r : Rulebook C S I O) (m : Makers K I O) 
   pub allowed : AreAllowed r m d w changes
   pub reached : all_changed r m d w changes ≡ v
 
--- a change that isn't the report of the nodes that closed
+-- a cookie of 16 bytes (MS-RPCH 2.2.3.1)
+abbrev pub is_whole : Cookie → Bool
+is_whole cookie = length cookie.0 == 16
+
+-- a change that lines make, which have legs up with whole cookies; half steps may make others
+abbrev pub of_line : Change → Bool
+of_line (RaisesAlone node leg end cookie) = false
+of_line (GoesUp node leg end cookie) = is_whole cookie
+of_line (OpensIn number cookie) = is_whole cookie
+of_line (OpensOut number cookie) = is_whole cookie
+of_line (OpensSame number cookie) = is_whole cookie
+of_line change = true
+
+-- one that isn't the report of the nodes that closed
 abbrev pub is_work : Change → Bool
 is_work Reports = false
-is_work change = true
+is_work change = of_line change
 
--- a change that isn't an act at an end either
+-- nor an act at an end
 abbrev pub is_quiet : Change → Bool
 is_quiet (Gives end pdu) = false
 is_quiet (Takes end) = false
@@ -179,7 +220,7 @@ is_quiet (Closes end) = false
 is_quiet RecyclesIn = false
 is_quiet RecyclesOut = false
 is_quiet Reports = false
-is_quiet change = true
+is_quiet change = of_line change
 
 -- changes of one kind
 pub record WorksBy {K C S I O : Type 0} (kind : Change → Bool) (r : Rulebook C S I O)
@@ -187,7 +228,12 @@ pub record WorksBy {K C S I O : Type 0} (kind : Change → Bool) (r : Rulebook C
   pub leads : Leads r m d w v
   pub work : list_all kind leads.changes ≡ true
 
--- none of them is a report
+-- all of them are changes that lines make
+abbrev pub ByLines : {K C S I O : Type 0} → Rulebook C S I O → Makers K I O → Deeds C S
+    → World K C S I O → World K C S I O → Type 0
+ByLines r m d w v = WorksBy of_line r m d w v
+
+-- and none of them is a report
 abbrev pub Works : {K C S I O : Type 0} → Rulebook C S I O → Makers K I O → Deeds C S
     → World K C S I O → World K C S I O → Type 0
 Works r m d w v = WorksBy is_work r m d w v

@@ -18,12 +18,12 @@ use Rattle.rh_nodes.specs.Company.{Company, Rulebook}
 use Rattle.rh_nodes.specs.Giving.{Deeds}
 use Rattle.rh_nodes.specs.Halves.{is_same}
 use Rattle.rh_nodes.specs.Legs as legs
-use Rattle.rh_nodes.specs.Opening.{Makers}
+use Rattle.rh_nodes.specs.Opening.{Makers, reader_before}
 use Rattle.rh_nodes.specs.Places.{is_working}
 use Rattle.rh_nodes.specs.Settling.{leg_at}
 use Rattle.rh_nodes.specs.Wires.{sender, receiver}
 use Rattle.rh_nodes.specs.World.{World, at}
-use Rattle.rh_history.specs.Changes.{Change, IsTold, IsFed, IsDrawn, GoesUp, OpensIn, OpensOut, OpensSame, Gives, Takes, Closes, RecyclesIn, RecyclesOut, changed}
+use Rattle.rh_history.specs.Changes.{Change, IsTold, IsFed, IsDrawn, GoesUp, RaisesAlone, OpensIn, OpensOut, OpensSame, Gives, Takes, Closes, RecyclesIn, RecyclesOut, changed}
 
 -- what happened at the two ends, and at the proxies by their numbers; and the bytes that were fed
 -- to each on each leg
@@ -59,12 +59,16 @@ told_to w (IsFed leg dir count) other =
 told_to w (IsDrawn leg dir count) other =
     to_node (at w leg (sender dir)) other (moving.Draws leg count)
 told_to w (GoesUp node leg end cookie) other = to_node node other (moving.ComesUp leg cookie)
+told_to w (RaisesAlone node leg end cookie) other =
+    to_node node other (moving.ComesUp leg cookie)
 told_to w (OpensIn number cookie) other =
     to_node who.Client other (moving.ComesUp (leg_at ClientIn number) cookie)
 told_to w (OpensOut number cookie) other =
     to_node who.Client other (moving.ComesUp (leg_at ClientOut number) cookie)
 told_to w (OpensSame number cookie) other =
     to_node who.Client other (moving.ComesUp (leg_at ClientIn number) cookie)
+    ++ to_node (who.In (reader_before w number)) other
+    (moving.ComesUp (leg_at ClientIn number) cookie)
 told_to w change other = []
 
 -- a proxy that is made is told the moment

@@ -11,7 +11,7 @@ ghost use Rattle.rh_nodes.specs.Opening.{Makers};
 ghost use Rattle.rh_nodes.specs.Settling.{carry_all, end_all, open_all, round};
 ghost use Rattle.rh_nodes.specs.Steps.{leg_answer, reported, step, step_line};
 ghost use Rattle.rh_nodes.specs.World.{World};
-ghost use Rattle.rh_history.specs.Changes.{GoesQuietly, Leads, Turn, Works, after_turns};
+ghost use Rattle.rh_history.specs.Changes.{ByLines, GoesQuietly, Leads, Quietly, Turn, Works, after_turns};
 
 /// Each line of a recording is a list of small changes, each allowed where it is made: a node is
 /// told something, bytes are drawn into flight or fed, an end of a leg goes up or down, a proxy is
@@ -39,6 +39,23 @@ pub fn what_carries_is_quiet<K, C, S, I, O>()
         (w : World K C S I O) → GoesQuietly r m d w (end_all r w) }
     ensures line { (r : Rulebook C S I O) (m : Makers K I O) (d : Deeds C S) (line : Line)
         (w : World K C S I O) → GoesQuietly r m d w (reported (leg_answer r m w line)) }
+{}
+
+/// Lines make changes of lines: they have each leg up with a cookie of 16 bytes, an IN leg of the
+/// client with a proxy that reads it, and one of the server to a proxy that is there. So it is with
+/// each line before it reports the nodes that it closed, and with each round of settling; and all
+/// work is of that kind, so what is quiet is.
+pub fn lines_make_changes_of_lines<K, C, S, I, O>()
+    ensures line { (r : Rulebook C S I O) (m : Makers K I O) (d : Deeds C S) (line : Line)
+        (w : World K C S I O) → ByLines r m d w (step r m d line w).0 }
+    ensures unreported { (r : Rulebook C S I O) (m : Makers K I O) (d : Deeds C S) (line : Line)
+        (w : World K C S I O) → ByLines r m d w (step_line r m d line w).0 }
+    ensures round { (r : Rulebook C S I O) (m : Makers K I O) (d : Deeds C S)
+        (w : World K C S I O) → ByLines r m d w (round r m d w).0 }
+    ensures work { (r : Rulebook C S I O) (m : Makers K I O) (d : Deeds C S)
+        (w v : World K C S I O) → Works r m d w v → ByLines r m d w v }
+    ensures quiet { (r : Rulebook C S I O) (m : Makers K I O) (d : Deeds C S)
+        (w v : World K C S I O) → Quietly r m d w v → ByLines r m d w v }
 {}
 
 /// So is each half step, where one node alone is told something.

@@ -8,7 +8,8 @@ pub mod histories;
 pub mod legs;
 
 pub use changing::{
-    a_half_step_is_changes, a_line_is_changes, lines_are_changes, what_carries_is_quiet,
+    a_half_step_is_changes, a_line_is_changes, lines_are_changes, lines_make_changes_of_lines,
+    what_carries_is_quiet,
 };
 pub use closes::{
     a_closed_end_tells_its_cause, a_closed_proxy_names_its_cause, a_node_closes_once,

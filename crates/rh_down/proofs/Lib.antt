@@ -1,0 +1,5 @@
+mod LegLogs
+mod Sides
+mod ClientNumbers
+mod ClientLegs
+mod Routing

@@ -1,0 +1,10 @@
+mod Stands
+mod Moves
+mod Fronts
+mod KeptLegs
+mod ServerRows
+mod ServerPuts
+mod ServerMoves
+mod ClientFronts
+mod ClientPuts
+mod ClientMoves

@@ -1,0 +1,92 @@
+-- what a server put first, whatever moves came
+use Rattle.std.proofs.Common.{◌≡◌, ℕ, List, [], Some, None, inl, arith, refl}
+use Rattle.rh_rts.specs.declared.command.Cookie.{Cookie}
+use Rattle.rh_sig.specs.declared.name.Pipe.TheVariants.{IsD, OsD}
+use Rattle.rh_line.specs.declared.leg.Leg.{Leg}
+use Rattle.rh_line.specs.declared.leg.LegKind.{LegKind}
+use Rattle.rh_line.specs.declared.leg.LegKind.TheVariants.{ClientOut, OutServer, ClientIn, InServer}
+use Rattle.rh_order.proofs.ByNumber.{by_test}
+use Rattle.rh_shell.specs.Hearing.{greeting as greeting_text}
+use Rattle.rh_shell.specs.Intakes.{is_whole_head, is_whole_greeting}
+use Rattle.rh_shell.specs.Wires.{of_leg}
+use Rattle.rh_shell.specs.Moves.{OnLeg, EndMove, AreAllowedAtEnd, end_started, all_end_moved}
+use Rattle.rh_server.specs.Legible.{pipe_to, pipe_put}
+use Rattle.rh_server.specs.States.{Server}
+use Rattle.rh_server.specs.Opening.{may_up_by, up_by, up}
+use Rattle.rh_server.specs.Servers.{rules, acts, first}
+use Rattle.rh_reading.specs.Reading.{IsWholeText, Begins}
+use Rattle.rh_ends_begin.specs.Begins.{BeginsLegs}
+use Rattle.rh_ends_begin.proofs.Stands.{Logs, logs_of, begins}
+use Rattle.rh_ends_begin.proofs.Moves.{StepsKeep, moves_keep}
+use Rattle.rh_ends_begin.proofs.KeptLegs.{AreBegun}
+use Rattle.rh_ends_begin.proofs.ServerRows.{Keeps, is_leg, os_leg, packet_keeps, pdu_keeps, up_keeps, drawn_keeps, mark_keeps, give_keeps, take_keeps, recycle_keeps}
+use Rattle.rh_ends_begin.proofs.ServerPuts.{puts}
+
+-- the steps of a server keep what stands on its legs
+module _ (IsFirst : List ℕ → Type 0) (greets : IsFirst greeting_text) where
+  ups : (logs : Logs) (s : Server) (leg : Leg) (cookie : Cookie) → Keeps IsFirst logs s
+      → Keeps IsFirst logs (up s leg cookie)
+  ups logs s leg cookie k =
+      by_test (Keeps IsFirst logs) (may_up_by s leg.number leg.kind)
+      (up_by s leg.number leg.kind) s
+      (λ may. up_keeps IsFirst logs s leg.number leg.kind may k) (λ e. k)
+
+  steps : StepsKeep rules acts (Keeps IsFirst) (λ leg. Unit {0})
+  steps = record {
+    up = λ logs s leg cookie may came k. ups logs s leg cookie k;
+    head = λ logs s leg text k. k;
+    pdu = λ logs s leg count bytes k. pdu_keeps IsFirst logs s leg.number bytes leg.kind k;
+    packet = λ logs s leg count named k.
+        packet_keeps IsFirst logs s leg.number count named leg.kind k;
+    put = λ logs s leg k. puts IsFirst greets logs s leg k;
+    drawn = λ logs s leg k. drawn_keeps IsFirst logs s leg.number leg.kind k;
+    mark = λ logs s leg k. mark_keeps IsFirst logs s leg.number leg.kind k;
+    ping = λ logs s leg k. k;
+    give = λ logs s bytes k. give_keeps IsFirst logs s bytes k;
+    take = λ logs s k. take_keeps IsFirst logs s k;
+    close = λ logs s k. k;
+    recycle = λ logs s k. recycle_keeps IsFirst logs s k;
+  }
+
+  starts : (window : ℕ) → Keeps IsFirst (logs_of []) (first window)
+  starts window = record { ins = none; outs = none; apart = λ n. (refl, refl) }
+    where
+      none : AreBegun IsFirst 0 [] (λ n. [])
+      none = record { rising = omega arith; last = λ k above. refl; each = λ k. inl refl }
+
+-- ---- the law
+
+begins_by : (put : List OnLeg) (s : Server)
+    → Keeps (IsWholeText is_whole_greeting) (logs_of put) s → (n : ℕ) (kind : LegKind)
+    → Begins (pipe_to kind) (of_leg (record { kind = kind; number = n }) put)
+begins_by put s k n InServer =
+    begins (Some IsD) is_whole_greeting (of_leg (is_leg n) put) (k.ins.each n)
+begins_by put s k n OutServer =
+    begins (Some OsD) is_whole_greeting (of_leg (os_leg n) put) (k.outs.each n)
+begins_by put s k n ClientIn =
+    begins None is_whole_head (of_leg (record { kind = ClientIn; number = n }) put)
+    (inl (k.apart n).1)
+begins_by put s k n ClientOut =
+    begins None is_whole_head (of_leg (record { kind = ClientOut; number = n }) put)
+    (inl (k.apart n).0)
+
+nothing_by : (put : List OnLeg) (s : Server)
+    → Keeps (IsWholeText is_whole_greeting) (logs_of put) s → (n : ℕ) (kind : LegKind)
+    → pipe_to kind ≡ None → of_leg (record { kind = kind; number = n }) put ≡ []
+nothing_by put s k n InServer e = absurd (cc)
+nothing_by put s k n OutServer e = absurd (cc)
+nothing_by put s k n ClientIn e = (k.apart n).1
+nothing_by put s k n ClientOut e = (k.apart n).0
+
+pub server_begins : IsWholeText is_whole_greeting greeting_text → (window : ℕ)
+    (moves : List EndMove) → AreAllowedAtEnd rules acts (end_started (first window)) moves
+    → BeginsLegs pipe_put (all_end_moved rules acts (end_started (first window)) moves).passage.put
+server_begins whole window moves allowed =
+    let p = (all_end_moved rules acts (end_started (first window)) moves).passage in
+    let IsFirst : List ℕ → Type 0 = IsWholeText is_whole_greeting in
+    let k = moves_keep rules acts (Keeps IsFirst) (λ leg. Unit {0}) (steps IsFirst whole)
+    (end_started (first window)) moves allowed (λ leg e. tt) (starts IsFirst whole window) in
+    record {
+      begins = λ leg. begins_by p.put p.role k leg.number leg.kind;
+      nothing = λ leg e. nothing_by p.put p.role k leg.number leg.kind e;
+    }

@@ -1,0 +1,41 @@
+-- what an end puts first on each leg, what it reads there, and which legs came up at it (profile)
+use Rattle.std.specs.Prelude.{ℕ, ◌≡◌, ◌⊎◌, ◌<◌, ◌≤◌, List, [], Bool, true, None}
+use Rattle.std.specs.List.{list_any}
+use Rattle.std.specs.declared.option.Option.{Option}
+use Rattle.rh_sig.specs.declared.name.Pipe.{Pipe}
+use Rattle.rh_line.specs.declared.leg.Leg.{Leg}
+use Rattle.rh_shell.specs.Wires.{of_leg}
+use Rattle.rh_shell.specs.Moves.{OnLeg, EndMove, EndPassage}
+use Rattle.rh_client.specs.declared.state.ClientRole.{ClientRole}
+use Rattle.rh_client.specs.State.{ci}
+use Rattle.rh_client.specs.Opening.{pipe_by}
+use Rattle.rh_server.specs.Servers.{pipe_of}
+use Rattle.rh_reading.specs.Reading.{Begins}
+use Rattle.rh_streams.specs.Streams.{is_end_up_on}
+
+-- what was put on each leg begins as its end reads it, by the pipe that is read there; and nothing
+-- was put on a leg that has none
+pub record BeginsLegs (pipe : Leg → Option Pipe) (put : List OnLeg) : Type 0 where
+  pub begins : (leg : Leg) → Begins (pipe leg) (of_leg leg put)
+  pub nothing : (leg : Leg) → pipe leg ≡ None → of_leg leg put ≡ []
+
+-- the leg came up by one of the moves
+abbrev pub came_up : Leg → List EndMove → Bool
+came_up leg moves = list_any (is_end_up_on leg) moves
+
+-- ---- the ends
+
+-- what a client reads on a leg, and what a server reads (MS-RPCH 2.2.4)
+abbrev pub client_reads : Leg → Option Pipe
+client_reads leg = pipe_by leg.kind
+
+abbrev pub server_reads : Leg → Option Pipe
+server_reads leg = pipe_of leg.kind
+
+-- a client writes on a leg that came up; and once it writes on another channel than the first, the
+-- legs of all up to that one came up
+pub record WritesOnUp (moves : List EndMove) (p : EndPassage ClientRole) : Type 0 where
+  pub put : (n : ℕ)
+      → (of_leg (ci n) p.passage.put ≡ []) ⊎ (came_up (ci n) moves ≡ true)
+  pub writing : (n : ℕ) → 0 < n → n ≤ p.passage.role.writing.number
+      → 1 < p.passage.role.writing.number → came_up (ci n) moves ≡ true

@@ -1,0 +1,28 @@
+//! What a client puts first, and on which legs it writes. These functions do nothing: their
+//! contracts are the laws.
+
+ghost use Rattle.std.specs.Prelude.{List};
+ghost use Rattle.rh_http.specs.declared.config.ClientConfig.{ClientConfig};
+ghost use Rattle.rh_shell.specs.Moves.{EndMove};
+ghost use Rattle.rh_client.specs.Legible.{pipe_put};
+ghost use Rattle.rh_client.specs.Order.{AreAllowedMoves, client_moved};
+ghost use Rattle.rh_ends_begin.specs.Begins.{BeginsLegs, WritesOnUp};
+
+use rh_reading::texts_are_whole;
+
+/// Whatever happens to a client: what it put on the leg of a channel begins with the request of
+/// that channel, whole at its end and not before, and no other text is behind it (MS-RPCH 2.1.2).
+/// It puts nothing on legs of the servers.
+pub fn a_client_begins_with_a_request()
+    ensures { (config : ClientConfig) (moves : List EndMove) → AreAllowedMoves config moves
+        → BeginsLegs pipe_put (client_moved config moves).passage.put }
+{
+    texts_are_whole();
+}
+
+/// It puts messages only on the leg of an IN channel that came up; and once it writes on another
+/// channel than the first, the legs of that one and of all before it came up.
+pub fn a_client_writes_on_a_leg_that_came_up()
+    ensures { (config : ClientConfig) (moves : List EndMove) → AreAllowedMoves config moves
+        → WritesOnUp moves (client_moved config moves) }
+{}

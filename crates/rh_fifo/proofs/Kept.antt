@@ -1,0 +1,97 @@
+-- what was taken and given at each moment is in the order that reports are told in
+use Rattle.std.proofs.Common.{◌≡◌, ℕ, List, sym, ◌∙◌, ap, subst}
+use mathlib.Core.List as lists
+use Rattle.rh_text.specs.declared.ends.Side.{Side}
+use Rattle.rh_text.specs.declared.ends.Side.TheVariants as side
+use Rattle.rh_line.specs.declared.state.Take.TheVariants as takes
+use Rattle.rh_shell.specs.Moving.{after_end_events}
+use Rattle.rh_shell.specs.Shells.{Shell}
+use Rattle.rh_nodes.specs.Opening.{Makers}
+use Rattle.rh_nodes.specs.World.{World}
+use Rattle.rh_client.specs.declared.state.ClientRole.{ClientRole}
+use Rattle.rh_client.specs.Client as client
+use Rattle.rh_inproxy.specs.State.{InProxy}
+use Rattle.rh_outproxy.specs.OutProxy.{OutProxy}
+use Rattle.rh_server.specs.States.{Server, is_closing}
+use Rattle.rh_server.specs.Servers as server
+use Rattle.rh_history.specs.Changes.{ByLines}
+use Rattle.rh_history.specs.Histories.{AreRuns}
+use Rattle.rh_streams.specs.Streams.{all_given, all_taken}
+use Rattle.rh_events.specs.Events.{other}
+use Rattle.rh_events.specs.Order.{IsPrefix}
+use Rattle.rh_told.specs.Moments.{end_given, end_taken, next_take}
+use Rattle.rh_traced.specs.Ours.{AreOurs, deeds, rules}
+use Rattle.rh_ordered.specs.Premises.{HasAll, KeepsOrder, history_at}
+use Rattle.rh_fifo.proofs.Moments.{IsInOrder}
+
+front_of : (front all : List (List ℕ)) → lists.IsPrefix front all → IsPrefix front all
+front_of front all p = (p.0, sym p.1)
+
+module _ {K : Type 0} (m : Makers K InProxy OutProxy)
+    (w : World K ClientRole Server InProxy OutProxy) (ours : AreOurs m w.company w.cast)
+    (in_order : (v : World K ClientRole Server InProxy OutProxy)
+    (lines : ByLines rules m deeds w v)
+    → IsInOrder ours.config ours.window (history_at m w v lines).client
+    (history_at m w v lines).server)
+    (runs : (v : World K ClientRole Server InProxy OutProxy)
+    (lines : ByLines rules m deeds w v)
+    → AreRuns rules m deeds w.company v (history_at m w v lines)) where
+  -- what holds by the first client and the first server
+  at_ends : (P : Shell ClientRole → Shell Server → Type 0)
+      → P (client.first_client ours.config) (server.new_server ours.window)
+      → P w.company.client w.company.server
+  at_ends P p =
+      subst (λ (c : Shell ClientRole). P c w.company.server) (sym ours.client)
+      (subst (λ (s : Shell Server). P (client.first_client ours.config) s)
+      (sym ours.server) p)
+
+  front : (v : World K ClientRole Server InProxy OutProxy) (lines : ByLines rules m deeds w v)
+      (end : Side)
+      → IsPrefix (end_taken rules deeds w.company (history_at m w v lines) end)
+      (end_given rules deeds w.company (history_at m w v lines) (other end))
+  front v lines side.Client =
+      let h = history_at m w v lines in
+      at_ends (λ (c : Shell ClientRole) (s : Shell Server).
+      IsPrefix (all_taken rules.client deeds.client c h.client)
+      (all_given rules.server deeds.server s h.server))
+      (front_of _ _ (in_order v lines).down)
+  front v lines side.Server =
+      let h = history_at m w v lines in
+      at_ends (λ (c : Shell ClientRole) (s : Shell Server).
+      IsPrefix (all_taken rules.server deeds.server s h.server)
+      (all_given rules.client deeds.client c h.client))
+      (front_of _ _ (in_order v lines).up)
+
+  clean : (v : World K ClientRole Server InProxy OutProxy) (lines : ByLines rules m deeds w v)
+      (end : Side) → next_take deeds v end ≡ takes.Ended → HasAll m w v lines end
+  clean v lines side.Client ended =
+      let h = history_at m w v lines in
+      let is = (runs v lines) in
+      let all = (in_order v lines).down_ended v.company.client
+      (is.client ∙ ap (λ (c : Shell ClientRole).
+      after_end_events rules.client deeds.client c h.client) ours.client) ended in
+      record {
+        all = at_ends (λ (c : Shell ClientRole) (s : Shell Server).
+            all_taken rules.client deeds.client c h.client
+            ≡ all_given rules.server deeds.server s h.server) all.0;
+        closing = ap (λ (s : Shell Server). is_closing s.role.giving)
+            (is.server ∙ ap (λ (s : Shell Server).
+            after_end_events rules.server deeds.server s h.server) ours.server) ∙ all.1;
+      }
+  clean v lines side.Server ended =
+      let h = history_at m w v lines in
+      let is = (runs v lines) in
+      let all = (in_order v lines).up_ended v.company.server
+      (is.server ∙ ap (λ (s : Shell Server).
+      after_end_events rules.server deeds.server s h.server) ours.server) ended in
+      record {
+        all = at_ends (λ (c : Shell ClientRole) (s : Shell Server).
+            all_taken rules.server deeds.server s h.server
+            ≡ all_given rules.client deeds.client c h.client) all.0;
+        closing = ap (λ (c : Shell ClientRole). c.role.is_closing)
+            (is.client ∙ ap (λ (c : Shell ClientRole).
+            after_end_events rules.client deeds.client c h.client) ours.client) ∙ all.1;
+      }
+
+  pub keeps_order : KeepsOrder m w
+  keeps_order = record { front = front; clean = clean }

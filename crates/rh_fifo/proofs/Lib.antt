@@ -1,0 +1,12 @@
+mod Legs
+mod Fine
+mod Heard
+mod Flowing
+mod Starting
+mod Legal
+mod Reaching
+mod Routing
+mod Moments
+mod Unread
+mod Kept
+mod Recorded

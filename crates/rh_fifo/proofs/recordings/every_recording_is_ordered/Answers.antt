@@ -1,0 +1,9 @@
+use Rattle.rh_world.specs.Roles as roles
+use Rattle.rh_fifo.proofs.Recorded.{in_range, new, ours}
+use Rattle.rh_fifo.proofs.recordings.every_recording_is_ordered.Goals as goal
+
+pub returns : goal.returns
+returns c =
+    c.a_recording_is_ordered.ensures
+    (λ config range. c.roles_keep_order.ensures roles.makers (roles.begun config) (new config)
+    (ours config) (in_range config range))

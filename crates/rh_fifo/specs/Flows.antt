@@ -1,0 +1,94 @@
+-- what passed the nodes of a recording by its history (profile)
+use Rattle.std.specs.Prelude.{ℕ, Some, None}
+use Rattle.rh_http.specs.declared.config.ClientConfig.{ClientConfig}
+use Rattle.rh_sig.specs.declared.name.Pipe.TheVariants.{CiU, IsU, IsD, CoU, CoD, OsU, OsD}
+use Rattle.rh_line.specs.declared.leg.LegKind.TheVariants.{ClientOut, OutServer, ClientIn, InServer}
+use Rattle.rh_shell.specs.Shells.{begun}
+use Rattle.rh_shell.specs.Wires.{of_leg}
+use Rattle.rh_legible.specs.Legible.{AreFine}
+use Rattle.rh_nodes.specs.Settling.{leg_at}
+use Rattle.rh_nodes.specs.Company.{Company}
+use Rattle.rh_nodes.specs.Opening.{Makers}
+use Rattle.rh_client.specs.declared.state.ClientRole.{ClientRole}
+use Rattle.rh_client.specs.Client as client
+use Rattle.rh_client.specs.State as client_state
+use Rattle.rh_inproxy.specs.declared.state.InProxyConfig.{InProxyConfig}
+use Rattle.rh_inproxy.specs.Machine as in_proxy
+use Rattle.rh_inproxy.specs.State.{InProxy}
+use Rattle.rh_inproxy.specs.State as in_state
+use Rattle.rh_outproxy.specs.declared.out_proxy.TheConstants.{ROOMS}
+use Rattle.rh_outproxy.specs.declared.state.OutProxyConfig.{OutProxyConfig}
+use Rattle.rh_outproxy.specs.Machine as out_proxy
+use Rattle.rh_outproxy.specs.OutProxy.{OutProxy, new_proxy}
+use Rattle.rh_server.specs.Servers as server
+use Rattle.rh_server.specs.States.{Server}
+use Rattle.rh_traced.specs.Ours.{AreOurs}
+use Rattle.rh_history.specs.Carried.{drawn_on}
+use Rattle.rh_history.specs.Histories.{History}
+use Rattle.rh_reading.specs.Reading.{Begins}
+use Rattle.rh_streams.specs.Streams.{Stream, EndStream, IsDrawn}
+use Rattle.rh_down.specs.Down as down
+use Rattle.rh_proxies_begin.specs.Pipes as pipes
+
+-- the numbers with which the roles were made
+pub record Numbers : Type 0 where
+  pub client : ClientConfig
+  pub window : ℕ
+  pub ins : ℕ → InProxyConfig
+  pub outs : ℕ → OutProxyConfig
+
+-- those of a world of roles
+abbrev pub numbers_of : {K : Type 0} {m : Makers K InProxy OutProxy}
+    {first : Company ClientRole Server InProxy OutProxy} {cast : K} → AreOurs m first cast → Numbers
+numbers_of ours = record {
+  client = ours.config;
+  window = ours.window;
+  ins = ours.in_config;
+  outs = ours.out_config;
+}
+
+-- each node's stream
+pub record Flows (numbers : Numbers) (h : History) : Type 0 where
+  pub client : EndStream client.rules client.acts (client_state.first numbers.client) client.rooms
+      down.client_reads h.client
+  pub server : EndStream server.rules server.acts (server.first numbers.window) server.rooms
+      down.server_reads h.server
+  pub ins : (n : ℕ) → Stream in_proxy.rules (in_state.first (numbers.ins n)) in_proxy.rooms
+      (pipes.in_pipe (numbers.ins n)) (h.ins n)
+  pub outs : (n : ℕ) → Stream out_proxy.rules (new_proxy (numbers.outs n)) ROOMS
+      (down.proxy_reads (numbers.outs n)) (h.outs n)
+
+-- what was put on each leg begins as it is read at the other end, and spells what was drawn there
+pub record AreBegun (numbers : Numbers) (h : History) (f : Flows numbers h) : Type 0 where
+  pub client_in : (n : ℕ)
+      → Begins (Some CiU) (of_leg (leg_at ClientIn n) f.client.passage.passage.put)
+  pub client_out : (n : ℕ)
+      → Begins (Some CoU) (of_leg (leg_at ClientOut n) f.client.passage.passage.put)
+  pub server_in : (n : ℕ)
+      → Begins (Some IsD) (of_leg (leg_at InServer n) f.server.passage.passage.put)
+  pub server_out : (n : ℕ)
+      → Begins (Some OsD) (of_leg (leg_at OutServer n) f.server.passage.passage.put)
+  pub in_client : (m n : ℕ) → Begins None (of_leg (leg_at ClientIn n) (f.ins m).passage.put)
+  pub in_server : (m : ℕ)
+      → Begins (Some IsU) (of_leg (leg_at InServer m) (f.ins m).passage.put)
+  pub out_client : (m : ℕ)
+      → Begins (Some CoD) (of_leg (leg_at ClientOut m) (f.outs m).passage.put)
+  pub out_server : (m : ℕ)
+      → Begins (Some OsU) (of_leg (leg_at OutServer m) (f.outs m).passage.put)
+  pub in_client_drew : (m n : ℕ) → IsDrawn (of_leg (leg_at ClientIn n) (f.ins m).passage.put)
+      (drawn_on in_proxy.rules (in_proxy.first_node (numbers.ins m)) (leg_at ClientIn n) (h.ins m))
+  pub in_server_drew : (m : ℕ) → IsDrawn (of_leg (leg_at InServer m) (f.ins m).passage.put)
+      (drawn_on in_proxy.rules (in_proxy.first_node (numbers.ins m)) (leg_at InServer m) (h.ins m))
+  pub out_client_drew : (m : ℕ) → IsDrawn (of_leg (leg_at ClientOut m) (f.outs m).passage.put)
+      (drawn_on out_proxy.rules (begun (new_proxy (numbers.outs m)) ROOMS) (leg_at ClientOut m)
+      (h.outs m))
+  pub out_server_drew : (m : ℕ) → IsDrawn (of_leg (leg_at OutServer m) (f.outs m).passage.put)
+      (drawn_on out_proxy.rules (begun (new_proxy (numbers.outs m)) ROOMS) (leg_at OutServer m)
+      (h.outs m))
+
+-- what came to each node has its sizes and ranges
+pub record AllFine (numbers : Numbers) (h : History) (f : Flows numbers h) : Type 0 where
+  pub client : AreFine f.client.passage.passage.came
+  pub server : AreFine f.server.passage.passage.came
+  pub ins : (n : ℕ) → AreFine (f.ins n).passage.came
+  pub outs : (n : ℕ) → AreFine (f.outs n).passage.came

@@ -1,0 +1,10 @@
+//! Whatever becomes of the legs, at each moment of a recording of roles what an end took is a
+//! front of what the other end gave: each PDU once and in order. Its functions do nothing: their
+//! contracts are the laws.
+#![tactic(auto)]
+
+pub mod recordings;
+pub mod worlds;
+
+pub use recordings::every_recording_is_ordered;
+pub use worlds::roles_keep_order;

@@ -1,0 +1,7 @@
+mod UntilClosing
+mod Ordering
+mod Recorded
+mod Passing
+mod GivesAndTakes
+mod Counting
+mod Capping

@@ -1,0 +1,4 @@
+pub mod Ends
+pub mod Premises
+pub mod Recordings
+pub mod Counted

@@ -1,0 +1,169 @@
+-- what an in proxy puts, reads and refuses, from its start
+use Rattle.std.proofs.Common.{◌≡◌, ◌⊎◌, inl, inr, ℕ, List, [], ◌∷◌, Bool, true, false, Some, None, refl, sym, ap, ◌∙◌, subst}
+use Rattle.std.specs.Prelude.{if◌then◌else◌}
+use Rattle.std.specs.List.{list_any}
+use Rattle.std.specs.declared.option.Option.{Option}
+use Rattle.std.proofs.lemmas.Bool.{and_parts}
+use Rattle.rh_sig.specs.declared.name.Pipe.TheVariants.{CiU, IsD}
+use Rattle.rh_line.specs.declared.leg.Leg.{Leg}
+use Rattle.rh_shell.specs.declared.stage.Stage.{Stage}
+use Rattle.rh_shell.specs.declared.stage.Stage.TheVariants as stage
+use Rattle.rh_shell.specs.Moves.{Move, OnLeg, Passage, started, all_moved, AreAllowed}
+use Rattle.rh_shell.specs.NearEnds.{first_stage}
+use Rattle.rh_shell.specs.Rules.{Message, Text}
+use Rattle.rh_shell.specs.Shells.{same_leg}
+use Rattle.rh_shell.specs.Wires.{of_leg}
+use Rattle.rh_inproxy.specs.declared.state.InProxyConfig.{InProxyConfig}
+use Rattle.rh_inproxy.specs.declared.state.Opening.{Opening}
+use Rattle.rh_inproxy.specs.declared.state.Opening.TheVariants.{AwaitsClient, AwaitsPacket, WantsServer, Announces, Announced}
+use Rattle.rh_inproxy.specs.Machine.{rules}
+use Rattle.rh_inproxy.specs.Opening.{echo_answer, pipe, wants_server}
+use Rattle.rh_inproxy.specs.State.{InProxy, first, has_opened, is_client_leg, is_server_leg}
+use Rattle.rh_reading.specs.Reading.{Begins, AreNoTexts, IsNoText, ReadsNothing}
+use Rattle.rh_proxies_begin.specs.Pipes.{ci, is, in_pipe}
+use Rattle.rh_streams.specs.Streams.{HasPipes, RefusesFirst, is_head_on}
+use Rattle.rh_streams.specs.Turns.{Stages, none_up, AreInTurn, RefusesInTurn}
+use Rattle.rh_proxies_begin.proofs.Legs.{leg_is, none_of, each_of}
+use Rattle.rh_proxies_begin.proofs.Turning.{IsUnheard, all_keep, all_stages, all_turns_keep, unheard}
+use Rattle.rh_proxies_begin.proofs.InTurns.{AsksAt, IsAnswered, framed, in_starts, in_turns_keep}
+use Rattle.rh_proxies_begin.proofs.InReached.{MayPut, ReachedAt, in_moves_keep, in_reaches}
+
+module _ (config : InProxyConfig) (moves : List Move)
+    (allowed : AreAllowed rules (started (first config)) moves) where
+  abbrev pub run : Passage InProxy
+  run = all_moved rules (started (first config)) moves
+
+  pub reached : ReachedAt config moves run.role run.put
+  reached =
+      all_keep rules (ReachedAt config) (in_moves_keep config) (first config) moves allowed
+      (in_reaches config)
+
+  pub pipes : (leg : Leg) → pipe run.role leg ≡ in_pipe config leg
+  pipes leg = ap (λ (c : InProxyConfig). in_pipe c leg) reached.0.number
+
+  -- on the is leg of its number no texts
+  server_texts : (one : OnLeg) → MayPut config one → same_leg one.0 (is config.number) ≡ true
+      → IsNoText one.1
+  server_texts one (inr may) same = may.1
+  server_texts one (inl client) same =
+      let no = ap is_client_leg (sym (leg_is one.0 (is config.number) same)) ∙ client in absurd cc
+
+  pub on_server : AreNoTexts (of_leg (is config.number) run.put)
+  on_server =
+      each_of (MayPut config) (is config.number) IsNoText run.put reached.1 server_texts
+
+  -- on any other leg nothing
+  pub elsewhere : (leg : Leg) → is_client_leg leg ≡ false
+      → same_leg (is config.number) leg ≡ false → of_leg leg run.put ≡ []
+  elsewhere leg client server =
+      none_of (MayPut config) leg run.put reached.1
+      (λ one may. elim (same_leg one.0 leg) as (λ t. same_leg one.0 leg ≡ t → t ≡ false) [
+        | true ↦ λ e. absurd (other one may (leg_is one.0 leg e))
+        | false ↦ λ e. refl
+      ] refl)
+    where
+      other : (one : OnLeg) → MayPut config one → one.0 ≡ leg → ⊥
+      other one (inl may) e = let no = sym (ap is_client_leg e) ∙ may in absurd cc
+      other one (inr may) e =
+          let no = sym (ap (same_leg (is config.number)) e) ∙ may.0 in absurd cc
+
+  -- ---- in their turn
+
+  module _ (turn : AreInTurn rules (first config) moves) where
+    abbrev stages : Stages
+    stages = all_stages rules (started (first config)) none_up moves
+
+    asks : AsksAt config stages run.role run.put
+    asks =
+        all_turns_keep rules (AsksAt config) (in_turns_keep config) (first config) moves
+        allowed turn (in_starts config)
+
+    pub on_client : (n : ℕ) → ReadsNothing None echo_answer → Begins None (of_leg (ci n) run.put)
+    on_client n nothing = by (stages (ci n)) (of_leg (ci n) run.put) (asks.answered n)
+      where
+        none : (put : List Message) → put ≡ [] → Begins None put
+        none put e = subst (Begins None) (sym e) tt
+
+        answered : (put : List Message) → (put ≡ []) ⊎ (put ≡ Text echo_answer ∷ [])
+            → Begins None put
+        answered put (inl e) = none put e
+        answered put (inr e) = subst (Begins None) (sym e) (inr (nothing, refl))
+
+        by : (o : Option Stage) (put : List Message) → IsAnswered o put → Begins None put
+        by None put e = none put e
+        by (Some stage.Head) put e = none put e
+        by (Some stage.Greeting) put e = none put e
+        by (Some stage.Frames) put e = none put e
+        by (Some stage.PassedOver) put e = answered put e
+        by (Some stage.Shut) put e = none put e
+
+    -- where no head came
+    pub unasked : (n : ℕ) → list_any (is_head_on (ci n)) moves ≡ false
+        → IsUnheard (Some CiU) (stages (ci n)) → of_leg (ci n) run.put ≡ []
+    unasked n none (inl e) =
+        subst (λ (o : Option Stage). IsAnswered o (of_leg (ci n) run.put)) e (asks.answered n)
+    unasked n none (inr e) =
+        subst (λ (o : Option Stage). IsAnswered o (of_leg (ci n) run.put)) e (asks.answered n)
+
+    -- where the is leg is wanted
+    pub unwanted : (n : ℕ) → n ≡ config.number → wants_server run.role.opening ≡ true
+        → of_leg (ci n) run.put ≡ []
+    unwanted n same wants =
+        subst (λ (i : ℕ). of_leg (ci i) run.put ≡ []) (sym same)
+        (framed (stages (ci config.number)) (of_leg (ci config.number) run.put)
+        (asks.opened (by run.role.opening wants)) (asks.answered config.number))
+      where
+        by : (o : Opening) → wants_server o ≡ true → has_opened o ≡ true
+        by AwaitsClient e = absurd cc
+        by AwaitsPacket e = absurd cc
+        by (WantsServer o) e = refl
+        by (Announces o) e = absurd cc
+        by (Announced o) e = absurd cc
+
+pub in_has_pipes : (config : InProxyConfig) → HasPipes rules (first config) (in_pipe config)
+in_has_pipes config moves leg allowed = pipes config moves allowed leg
+
+-- the client is told on the first ci leg
+told_on : (config : InProxyConfig) (moves : List Move)
+    → AreAllowed rules (started (first config)) moves → (leg : Leg)
+    → rules.answers_on (all_moved rules (started (first config)) moves).role ≡ Some leg
+    → leg ≡ ci config.number
+told_on config moves allowed leg e =
+    let told : ci (all_moved rules (started (first config)) moves).role.config.number ≡ leg = cc in
+    sym told ∙ ap (λ (c : InProxyConfig). ci c.number) (reached config moves allowed).0.number
+
+pub refuses_on_client : (config : InProxyConfig) (n : ℕ)
+    → RefusesInTurn rules (first config) (in_pipe config) (ci n)
+refuses_on_client config n = record {
+  asked = λ moves text fault allowed turn first_comes none refused.
+      unasked config moves allowed turn n none
+      (unheard rules (ci n) (Some CiU) (first config) moves
+      (λ more may. pipes config more may (ci n)) allowed none);
+  unreached = λ moves wanted allowed turn told wants.
+      unwanted config moves allowed turn n
+      (ap (λ (l : Leg). l.number) (told_on config moves allowed (ci n) told))
+      (and_parts (is_server_leg (run config moves allowed).role wanted)
+      (wants_server (run config moves allowed).role.opening) wants).1;
+}
+
+pub refuses_elsewhere : (config : InProxyConfig) (leg : Leg) → is_client_leg leg ≡ false
+    → RefusesFirst rules (first config) (in_pipe config) leg
+refuses_elsewhere config leg other = record {
+  asked = λ moves text fault allowed first_comes none refused.
+      elim (same_leg (is config.number) leg) as (λ t. same_leg (is config.number) leg ≡ t
+      → of_leg leg (all_moved rules (started (first config)) moves).put ≡ []) [
+        | true ↦ λ e. absurd (greeted (is_client_leg leg) (same_leg (is config.number) leg) other e
+            first_comes)
+        | false ↦ λ e. elsewhere config moves allowed leg other e
+      ] refl;
+  unreached = λ moves wanted allowed told wants.
+      let no = sym other ∙ ap is_client_leg (told_on config moves allowed leg told) in absurd cc;
+}
+  where
+    greeted : (client server : Bool) → client ≡ false → server ≡ true
+        → first_stage (if client then Some CiU else (if server then Some IsD else None))
+        ≡ stage.Head
+        → ⊥
+    greeted true server c s e = absurd cc
+    greeted false false c s e = absurd cc
+    greeted false true c s e = absurd cc

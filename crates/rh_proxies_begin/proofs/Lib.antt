@@ -1,0 +1,13 @@
+mod Legs
+mod Turning
+mod Echoes
+mod InGoes
+mod InTurns
+mod InReached
+mod InLaws
+mod OutGoes
+mod OutTurns
+mod OutRole
+mod OutPuts
+mod OutMoves
+mod OutLaws

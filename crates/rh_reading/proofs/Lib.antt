@@ -1,0 +1,10 @@
+mod Parting
+mod Taking
+mod Frames
+mod WholeTexts
+mod Puts
+mod Seen
+mod Lines
+mod Written
+mod Heads
+mod Fine

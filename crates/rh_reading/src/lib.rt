@@ -1,0 +1,11 @@
+//! What a leg's bytes are read as at its end, whatever role it has: what was put on a leg is read
+//! there as what was put. Its functions do nothing: their contracts are the laws.
+#![tactic(auto)]
+
+mod coming;
+mod reading;
+mod texts;
+
+pub use coming::{of_a_refusal_nothing_comes, what_comes_was_put};
+pub use reading::{a_front_is_read_first, what_is_read_is_fine, what_was_put_is_read};
+pub use texts::{heads_have_no_messages, texts_are_whole};

@@ -1,0 +1,4 @@
+mod Silent
+mod Stays
+mod ClientStays
+mod ServerStays

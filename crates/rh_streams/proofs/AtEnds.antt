@@ -1,0 +1,491 @@
+-- the stream of an end, event by event
+use Rattle.std.proofs.Common.{◌≡◌, ◌⊎◌, inl, inr, ℕ, List, [], ◌∷◌, ◌++◌, append_assoc, Bool, false, ◌||◌, Some, None, Err, refl, sym, ap, ◌∙◌, subst}
+use Rattle.std.specs.declared.option.Option.{Option}
+use Rattle.std.specs.List.{AllByRecursion, list_any}
+use Rattle.std.proofs.lemmas.List.{append-nil}
+use Rattle.std.proofs.lemmas.List.Folds.{list_any-append}
+use mathlib.Core.List.{IsPrefix}
+use Rattle.rh_http.specs.declared.fault.HttpFault.{HttpFault}
+use Rattle.rh_sig.specs.declared.name.Pipe.{Pipe}
+use Rattle.rh_line.specs.declared.cause.Cause.{Cause}
+use Rattle.rh_line.specs.declared.leg.Leg.{Leg}
+use Rattle.rh_line.specs.declared.state.State.{State}
+use Rattle.rh_line.specs.declared.state.State.TheVariants as state
+use Rattle.rh_shell.specs.declared.answers.HeadRefused.TheVariants as head
+use Rattle.rh_shell.specs.declared.answers.Phase.{Phase}
+use Rattle.rh_shell.specs.declared.answers.Phase.TheVariants as phase
+use Rattle.rh_shell.specs.declared.course.Course.{Course}
+use Rattle.rh_shell.specs.declared.course.Course.TheVariants.{Going, Closed, Refusing}
+use Rattle.rh_shell.specs.declared.rooms.Rooms.{Rooms}
+use Rattle.rh_shell.specs.Carrying.{accepted, handed_by, spelled}
+use Rattle.rh_shell.specs.Ends.{cause_of, give_where, given_by as told_of, take_where, close_where, recycle_where, with_role}
+use Rattle.rh_shell.specs.Moves.{Move, Moves, EndMove, EndPassage, Gives, Takes, Closes, Recycles, Passage, MayEndMove, MayMove, end_moved, end_started, is_in_use, moved}
+use Rattle.rh_shell.specs.Moving.{EndEvent, EndLeads, Event, Happens, IsClosed, IsGiven, IsRecycled, IsTaken, after_end_event, after_end_events, after_event}
+use Rattle.rh_shell.specs.Rules.{Rules, Acts}
+use Rattle.rh_shell.specs.Shells.{Shell, begun, may_up, state_by, state_of}
+use Rattle.rh_shell.specs.Wires.{of_leg}
+use Rattle.rh_history.specs.Carried.{AreAcceptedAtEnd, ComesUpOnceAtEnd, IsAcceptedAtEnd, came_up, drawn_at_end, drawn_in, end_drawn_on, happened, heard_in, heard_on, is_up_of}
+use Rattle.rh_reading.specs.Reading.{messages_read}
+use Rattle.rh_history.proofs.Appended.{came_append, end_drawn_append, heard_append}
+use Rattle.rh_streams.specs.Streams as streams
+use Rattle.rh_streams.specs.Streams.{ComesUpWith, EndStream, IsCookie, RisesWith, HearsInTurn, NeverRefuses, StaysUnusedAtEnd, all_given, all_taken, is_end_up_on, is_head_on, is_up_on, taken_by}
+use Rattle.rh_streams.specs.Turns.{Stages, IsInTurn, stages_after}
+use Rattle.rh_streams.proofs.EndMoves.{Did, did_close, did_give, did_recycle, did_take, leads_one}
+use Rattle.rh_streams.proofs.Seats.{left_self, seat, silent_none, staged_on}
+use Rattle.rh_streams.proofs.Kept.{FrontOf}
+use Rattle.rh_streams.proofs.Runs.{IsFit, Ran, ran_as, ran_by, ran_event, ran_none}
+use Rattle.rh_streams.proofs.Turns.{Passes}
+use Rattle.rh_streams.proofs.Ways.{Lifts, each_joined, each_of, either, or_false}
+
+is_open : (c : Course) (f : Phase) → state_by c f ≡ state.Open → f ≡ phase.Open
+is_open Going phase.Opening e = absurd cc
+is_open Going phase.Open e = refl
+is_open Going phase.Ended e = absurd cc
+is_open (Closed why) f e = absurd cc
+is_open (Refusing why leg rest) f e = absurd cc
+
+happened_one : (es : List EndEvent) (e : EndEvent)
+    → happened (es ++ e ∷ []) ≡ happened es ++ happened (e ∷ [])
+happened_one [] e = refl
+happened_one (Happens x ∷ es) e = ap (λ l. x ∷ l) (happened_one es e)
+happened_one (IsGiven pdu ∷ es) e = happened_one es e
+happened_one (IsTaken ∷ es) e = happened_one es e
+happened_one (IsClosed ∷ es) e = happened_one es e
+happened_one (IsRecycled ∷ es) e = happened_one es e
+
+module _ {S : Type 0} (rules : Rules S) (acts : Acts S) (first : S) (rooms : Rooms)
+    (pipe : Leg → Option Pipe) (piped : (s : S) (leg : Leg) → rules.pipe s leg ≡ pipe leg)
+    (never : NeverRefuses rules) (unused : StaysUnusedAtEnd rules acts first)
+    (once : ComesUpOnceAtEnd rules acts (begun first rooms)) (all : List EndEvent) where
+  abbrev start : Shell S
+  start = begun first rooms
+
+  abbrev Sound : Leg → Type 0
+  Sound leg = Unit {0}
+
+  -- the legs come up with cookies by events
+  abbrev HaveCookies : List EndEvent → Type 0
+  HaveCookies events = AllByRecursion (ComesUpWith IsCookie) (happened events)
+
+  -- moves of the end lead to it, by which these PDUs were given and taken
+  pub record IsReached (given taken : List (List ℕ)) (p : Passage S) (ms : List Move)
+      (g : Stages) : Type 0 where
+    pub end : EndPassage S
+    pub leads : EndLeads rules acts (end_started first) end
+    pub is : end.passage ≡ p
+    pub ups : (leg : Leg)
+        → list_any (is_end_up_on leg) leads.moves ≡ list_any (is_up_on leg) ms
+    pub cookies : AllByRecursion Lifts ms → AllByRecursion (RisesWith IsCookie) leads.moves
+    pub given_is : end.given ≡ given
+    pub taken_is : end.taken ≡ taken
+
+  end_stays : (end : EndPassage S) (move : EndMove) (leg : Leg)
+      → EndLeads rules acts (end_started first) end → MayEndMove rules end.passage.role move
+      → is_end_up_on leg move ≡ false → is_in_use rules end.passage.role leg ≡ false
+      → is_in_use rules (end_moved rules acts end move).passage.role leg ≡ false
+  end_stays end move leg leads may up not_used =
+      subst (λ (x : EndPassage S).
+      is_in_use rules (end_moved rules acts x move).passage.role leg ≡ false) leads.reached
+      (unused leads.moves move leg leads.allowed
+      (subst (λ (x : EndPassage S). MayEndMove rules x.passage.role move) (sym leads.reached) may)
+      up
+      (subst (λ (x : EndPassage S). is_in_use rules x.passage.role leg ≡ false)
+      (sym leads.reached) not_used))
+
+  asked : (leg : Leg) (p : Passage S) (text : List ℕ) (fault : HttpFault)
+      → (rules.head p.role leg text).1 ≡ Err (head.Request fault)
+      → ⊥ × (of_leg leg p.put ≡ [])
+  asked leg p text fault refuses = absurd (never.heads p.role leg text fault refuses)
+
+  unreached : (leg : Leg) (p : Passage S) → rules.answers_on p.role ≡ Some leg
+      → ⊥ × (of_leg leg p.put ≡ [])
+  unreached leg p answers =
+      absurd (let bad : None ≡ Some leg = sym (never.unreached p.role) ∙ answers in cc)
+
+  abbrev RanBy : List (List ℕ) → List (List ℕ) → Shell S → (Leg → List ℕ) → (Leg → List ℕ)
+      → (Leg → Bool) → Type 0
+  RanBy given taken s heard drawn up =
+      Ran rules pipe Sound ⊥ (HaveCookies all) (IsReached given taken) s heard drawn up
+
+  module _ (given taken : List (List ℕ)) where
+    more : (p : Passage S) (ms : List Move) (g : Stages) (move : Move)
+        → IsReached given taken p ms g → MayMove rules p.role move
+        → IsInTurn rules p.role g move
+        → IsReached given taken (moved rules p move) (ms ++ move ∷ [])
+        (stages_after rules p.role g move)
+    more p ms g move at may turn = record {
+      end = end_moved rules acts at.end (Moves move);
+      leads = leads_one rules acts (end_started first) at.end (Moves move) at.leads
+          (subst (λ (x : Passage S). MayMove rules x.role move) (sym at.is) may);
+      is = ap (λ x. moved rules x move) at.is;
+      ups = λ leg.
+          list_any-append (is_end_up_on leg) at.leads.moves (Moves move ∷ [])
+          ∙ ap (λ b. b || (is_up_on leg move || false)) (at.ups leg)
+          ∙ sym (list_any-append (is_up_on leg) ms (move ∷ []));
+      cookies = λ have.
+          let two = each_of Lifts ms (move ∷ []) have in
+          each_joined (RisesWith IsCookie) at.leads.moves (Moves move ∷ []) (at.cookies two.0)
+          two.1;
+      given_is = at.given_is;
+      taken_is = at.taken_is;
+    }
+
+    stays : (p : Passage S) (ms : List Move) (g : Stages) (move : Move) (leg : Leg)
+        → IsReached given taken p ms g → MayMove rules p.role move → is_up_on leg move ≡ false
+        → is_in_use rules p.role leg ≡ false
+        → is_in_use rules (moved rules p move).role leg ≡ false
+    stays p ms g move leg at may up not_used =
+        subst (λ (x : Passage S). is_in_use rules (moved rules x move).role leg ≡ false) at.is
+        (end_stays at.end (Moves move) leg at.leads
+        (subst (λ (x : Passage S). MayMove rules x.role move) (sym at.is) may) up
+        (subst (λ (x : Passage S). is_in_use rules x.role leg ≡ false) (sym at.is) not_used))
+
+    module _ (s : Shell S) (heard drawn : Leg → List ℕ) (up : Leg → Bool)
+        (ran : RanBy given taken s heard drawn up) where
+      abbrev After : List (List ℕ) → List (List ℕ) → Shell S → Type 0
+      After more out t =
+          RanBy (given ++ more) (taken ++ out) t (λ leg. heard leg ++ [])
+          (λ leg. drawn leg ++ []) (λ leg. up leg || false)
+
+      aside : (next : List (List ℕ)) (out : List (List ℕ)) (role : S) (q : Passage S)
+          → IsReached (given ++ next) (taken ++ out) q (ran.moves ++ []) ran.stages
+          → q.role ≡ role → q.came ≡ ran.passage.came → q.put ≡ ran.passage.put
+          → ((leg : Leg) → is_in_use rules ran.passage.role leg ≡ false
+          → is_in_use rules q.role leg ≡ false)
+          → After next out (with_role s role)
+      aside next out role q at role_is came put unused_on =
+          ran_by rules pipe Sound ⊥ (HaveCookies all) (IsReached given taken)
+          (λ leg p ms g text fault sound at top headless refuses. asked leg p text fault refuses)
+          (λ leg p ms g wanted sound at answers wants. unreached leg p answers)
+          (IsReached (given ++ next) (taken ++ out)) s (with_role s role) heard drawn (λ leg. [])
+          (λ leg. []) up (λ leg. up leg || false) ran q [] ran.stages at role_is ran.held ran.apart
+          (λ leg. Passes (record {
+            quiet = record {
+              came = ap (of_leg leg) came;
+              put = ap (of_leg leg) put;
+              headless = refl;
+              out_is = refl;
+            };
+            left = left_self (seat leg s);
+            silent = silent_none (seat leg s);
+          }))
+          (λ leg.
+          staged_on (ran.stages leg) (ran.stages leg) (seat leg s) (seat leg s) (up leg) refl
+          (λ on. on) (ran.staged leg))
+          (λ leg. refl) (λ have. tt) (λ leg rose. unused_on leg)
+          (λ leg e. (either (up leg) false e).0) (λ leg e. refl)
+
+      -- no act
+      idle : After [] [] s
+      idle =
+          aside [] [] s.role ran.passage (record {
+            end = ran.at.end;
+            leads = ran.at.leads;
+            is = ran.at.is;
+            ups = λ leg.
+                ran.at.ups leg ∙ ap (list_any (is_up_on leg)) (sym (append-nil ran.moves));
+            cookies = λ have.
+                ran.at.cookies (subst (AllByRecursion Lifts) (append-nil ran.moves) have);
+            given_is = ran.at.given_is ∙ sym (append-nil given);
+            taken_is = ran.at.taken_is ∙ sym (append-nil taken);
+          }) ran.role refl refl (λ leg e. e)
+
+      role_is : ran.at.end.passage.role ≡ s.role
+      role_is = ap (λ (x : Passage S). x.role) ran.at.is ∙ ran.role
+
+      act : (move : EndMove) (role : S) (next out : List (List ℕ))
+          → MayEndMove rules s.role move → ((leg : Leg) → is_end_up_on leg move ≡ false)
+          → RisesWith IsCookie move
+          → Did ran.at.end (end_moved rules acts ran.at.end move) role next out
+          → After next out (with_role s role)
+      act move role next out may up_none with did =
+          let at = ran.at in
+          let moves_on = subst (λ (r : S). MayEndMove rules r move) (sym role_is) may in
+          let q = end_moved rules acts at.end move in
+          aside next out role q.passage (record {
+            end = q;
+            leads = leads_one rules acts (end_started first) at.end move at.leads moves_on;
+            is = refl;
+            ups = λ leg.
+                list_any-append (is_end_up_on leg) at.leads.moves (move ∷ [])
+                ∙ ap (λ b. list_any (is_end_up_on leg) at.leads.moves || (b || false))
+                (up_none leg)
+                ∙ or_false (list_any (is_end_up_on leg) at.leads.moves) ∙ at.ups leg
+                ∙ ap (list_any (is_up_on leg)) (sym (append-nil ran.moves));
+            cookies = λ have.
+                each_joined (RisesWith IsCookie) at.leads.moves (move ∷ [])
+                (at.cookies (subst (AllByRecursion Lifts) (append-nil ran.moves) have)) (with, tt);
+            given_is = did.given ∙ ap (λ x. x ++ next) at.given_is;
+            taken_is = did.taken ∙ ap (λ x. x ++ out) at.taken_is;
+          }) did.role
+          (did.came ∙ ap (λ (x : Passage S). x.came) at.is)
+          (did.put ∙ ap (λ (x : Passage S). x.put) at.is)
+          (λ leg e.
+          end_stays at.end move leg at.leads moves_on (up_none leg)
+          (subst (λ (x : Passage S). is_in_use rules x.role leg ≡ false) (sym at.is) e))
+
+      gives : (pdu : List ℕ) (o : Option Cause)
+          → After (accepted pdu (give_where acts s pdu o).1) [] (give_where acts s pdu o).0
+      gives pdu (Some why) = idle
+      gives pdu None =
+          act (Gives pdu) (acts.give s.role pdu).0
+          (accepted pdu (told_of (acts.give s.role pdu).1)) [] tt (λ leg. refl) tt
+          (did_give rules acts ran.at.end pdu (acts.give s.role pdu)
+          (ap (λ (r : S). acts.give r pdu) role_is))
+
+      takes : (o : Option Cause) → After [] (handed_by acts s o) (take_where acts s o)
+      takes (Some why) = idle
+      takes None =
+          act Takes (acts.take s.role) [] (handed_by acts s None) tt (λ leg. refl) tt
+          (did_take rules acts ran.at.end s.role role_is)
+
+      closes : (o : Option Cause) → After [] [] (close_where acts s o)
+      closes (Some why) = idle
+      closes None =
+          act Closes (acts.close s.role) [] [] tt (λ leg. refl) tt
+          (did_close rules acts ran.at.end s.role role_is)
+
+      recycles : (x : State) → state_of rules s ≡ x → After [] [] (recycle_where acts s x).0
+      recycles state.Open e =
+          act Recycles (acts.recycle s.role).0 [] [] (is_open s.course (rules.phase s.role) e)
+          (λ leg. refl) tt (did_recycle rules acts ran.at.end s.role role_is)
+      recycles state.Opening e = idle
+      recycles state.Ended e = idle
+      recycles (state.Closed why) e = idle
+
+  -- ---- all that happens at the end
+
+  abbrev RanTo : List (List ℕ) → List (List ℕ) → Shell S → List EndEvent → Type 0
+  RanTo given taken s events =
+      RanBy given taken s (λ leg. heard_on leg (happened events))
+      (λ leg. end_drawn_on rules acts start leg events) (λ leg. came_up leg (happened events))
+
+  -- what was kept, and then what an event brought
+  abbrev Next : List (List ℕ) → List (List ℕ) → Shell S → List EndEvent → EndEvent → Type 0
+  Next given taken s events event =
+      RanBy (given ++ streams.given_by acts s event) (taken ++ taken_by acts s event)
+      (after_end_event rules acts s event)
+      (λ leg. heard_on leg (happened events) ++ heard_on leg (happened (event ∷ [])))
+      (λ leg. end_drawn_on rules acts start leg events ++ drawn_at_end rules acts s leg event)
+      (λ leg. came_up leg (happened events) || came_up leg (happened (event ∷ [])))
+
+  abbrev FitsEnd : Shell S → List EndEvent → EndEvent → Type 0
+  FitsEnd s events (Happens event) =
+      IsFit rules (HaveCookies all) s (λ leg. came_up leg (happened events)) event
+  FitsEnd s events act = Unit {0}
+
+  happens : (given taken : List (List ℕ)) (s : Shell S) (events : List EndEvent) (event : Event)
+      → RanTo given taken s events
+      → IsFit rules (HaveCookies all) s (λ leg. came_up leg (happened events)) event
+      → Next given taken s events (Happens event)
+  happens given taken s events event ran fit =
+      subst (λ x. RanBy x (taken ++ []) (after_event rules s event)
+      (λ leg. heard_on leg (happened events) ++ (heard_in leg event ++ []))
+      (λ leg. end_drawn_on rules acts start leg events ++ drawn_in rules s leg event)
+      (λ leg. came_up leg (happened events) || (is_up_of leg event || false)))
+      (sym (append-nil given))
+      (subst (λ x. RanBy given x (after_event rules s event)
+      (λ leg. heard_on leg (happened events) ++ (heard_in leg event ++ []))
+      (λ leg. end_drawn_on rules acts start leg events ++ drawn_in rules s leg event)
+      (λ leg. came_up leg (happened events) || (is_up_of leg event || false)))
+      (sym (append-nil taken))
+      (ran_as rules pipe Sound ⊥ (HaveCookies all) (IsReached given taken)
+      (after_event rules s event)
+      (λ leg. heard_on leg (happened events) ++ heard_in leg event)
+      (λ leg. end_drawn_on rules acts start leg events ++ drawn_in rules s leg event)
+      (λ leg. heard_on leg (happened events) ++ (heard_in leg event ++ []))
+      (λ leg. end_drawn_on rules acts start leg events ++ drawn_in rules s leg event)
+      (λ leg. came_up leg (happened events) || is_up_of leg event)
+      (λ leg. came_up leg (happened events) || (is_up_of leg event || false))
+      (λ leg.
+      ap (λ x. heard_on leg (happened events) ++ x) (sym (append-nil (heard_in leg event))))
+      (λ leg. refl)
+      (λ leg.
+      ap (λ b. came_up leg (happened events) || b) (sym (or_false (is_up_of leg event))))
+      (ran_event rules pipe Sound ⊥ (HaveCookies all) (IsReached given taken)
+      (λ leg p ms g text fault sound at top headless refuses. asked leg p text fault refuses)
+      (λ leg p ms g wanted sound at answers wants. unreached leg p answers)
+      (more given taken) (stays given taken) (λ p ms g leg at. piped p.role leg) s event
+      (λ leg. heard_on leg (happened events)) (λ leg. end_drawn_on rules acts start leg events)
+      (λ leg. came_up leg (happened events)) ran fit)))
+
+  next_of : (given taken : List (List ℕ)) (s : Shell S) (events : List EndEvent)
+      (event : EndEvent) → RanTo given taken s events → FitsEnd s events event
+      → Next given taken s events event
+  next_of given taken s events (Happens event) ran fit =
+      happens given taken s events event ran fit
+  next_of given taken s events (IsGiven pdu) ran fit =
+      gives given taken s (λ leg. heard_on leg (happened events))
+      (λ leg. end_drawn_on rules acts start leg events) (λ leg. came_up leg (happened events)) ran
+      pdu (cause_of s.course)
+  next_of given taken s events IsTaken ran fit =
+      takes given taken s (λ leg. heard_on leg (happened events))
+      (λ leg. end_drawn_on rules acts start leg events) (λ leg. came_up leg (happened events)) ran
+      (cause_of s.course)
+  next_of given taken s events IsClosed ran fit =
+      closes given taken s (λ leg. heard_on leg (happened events))
+      (λ leg. end_drawn_on rules acts start leg events) (λ leg. came_up leg (happened events)) ran
+      (cause_of s.course)
+  next_of given taken s events IsRecycled ran fit =
+      recycles given taken s (λ leg. heard_on leg (happened events))
+      (λ leg. end_drawn_on rules acts start leg events) (λ leg. came_up leg (happened events)) ran
+      (state_of rules s) refl
+
+  one_more : (given taken : List (List ℕ)) (s : Shell S) (events : List EndEvent)
+      (event : EndEvent) → after_end_events rules acts start events ≡ s
+      → Next given taken s events event
+      → RanTo (given ++ streams.given_by acts s event) (taken ++ taken_by acts s event)
+      (after_end_event rules acts s event) (events ++ event ∷ [])
+  one_more given taken s events event is next =
+      ran_as rules pipe Sound ⊥ (HaveCookies all)
+      (IsReached (given ++ streams.given_by acts s event) (taken ++ taken_by acts s event))
+      (after_end_event rules acts s event)
+      (λ leg. heard_on leg (happened events) ++ heard_on leg (happened (event ∷ [])))
+      (λ leg. end_drawn_on rules acts start leg events ++ drawn_at_end rules acts s leg event)
+      (λ leg. heard_on leg (happened (events ++ event ∷ [])))
+      (λ leg. end_drawn_on rules acts start leg (events ++ event ∷ []))
+      (λ leg. came_up leg (happened events) || came_up leg (happened (event ∷ [])))
+      (λ leg. came_up leg (happened (events ++ event ∷ [])))
+      (λ leg.
+      sym (heard_append leg (happened events) (happened (event ∷ [])))
+      ∙ ap (heard_on leg) (sym (happened_one events event)))
+      (λ leg.
+      ap (λ x. end_drawn_on rules acts start leg events ++ x)
+      (ap (λ (x : Shell S). drawn_at_end rules acts x leg event) (sym is)
+      ∙ sym (append-nil (drawn_at_end rules acts (after_end_events rules acts start events) leg
+      event)))
+      ∙ sym (end_drawn_append rules acts leg start events (event ∷ [])))
+      (λ leg.
+      sym (came_append leg (happened events) (happened (event ∷ [])))
+      ∙ ap (came_up leg) (sym (happened_one events event)))
+      next
+
+  after_one : (s : Shell S) (events : List EndEvent) (event : EndEvent)
+      → after_end_events rules acts s (events ++ event ∷ [])
+      ≡ after_end_event rules acts (after_end_events rules acts s events) event
+  after_one s [] event = refl
+  after_one s (e ∷ events) event = after_one (after_end_event rules acts s e) events event
+
+  accepted_one : (s : Shell S) (events : List EndEvent) (event : EndEvent)
+      → AreAcceptedAtEnd rules acts s events
+      → IsAcceptedAtEnd rules (after_end_events rules acts s events) event
+      → AreAcceptedAtEnd rules acts s (events ++ event ∷ [])
+  accepted_one s [] event a b = (b, tt)
+  accepted_one s (e ∷ events) event a b =
+      (a.0, accepted_one (after_end_event rules acts s e) events event a.1 b)
+
+  happened_append : (es fs : List EndEvent) → happened (es ++ fs) ≡ happened es ++ happened fs
+  happened_append es [] =
+      ap happened (append-nil es) ∙ sym (append-nil (happened es))
+  happened_append es (f ∷ fs) =
+      ap happened (sym (append_assoc es (f ∷ []) fs))
+      ∙ happened_append (es ++ f ∷ []) fs
+      ∙ ap (λ l. l ++ happened fs) (happened_one es f)
+      ∙ append_assoc (happened es) (happened (f ∷ [])) (happened fs)
+      ∙ ap (λ l. happened es ++ l) (sym (front f))
+    where
+      front : (e : EndEvent) → happened (e ∷ fs) ≡ happened (e ∷ []) ++ happened fs
+      front (Happens x) = refl
+      front (IsGiven pdu) = refl
+      front IsTaken = refl
+      front IsClosed = refl
+      front IsRecycled = refl
+
+  fits : (s : Shell S) (events later : List EndEvent) (event : EndEvent)
+      → after_end_events rules acts start events ≡ s
+      → AreAcceptedAtEnd rules acts start events → IsAcceptedAtEnd rules s event
+      → HearsInTurn (happened (events ++ event ∷ later))
+      → (HaveCookies all → HaveCookies (events ++ event ∷ later)) → FitsEnd s events event
+  fits s events later (Happens event) is before accepted turn have = record {
+    accepted = accepted;
+    once = λ leg rose.
+        subst (λ (x : Shell S). may_up rules x leg ≡ false) is (once.once events leg before rose);
+    turn = λ leg piece e.
+        turn (happened events) (happened later) leg piece
+        (happened_append events (Happens event ∷ later)
+        ∙ ap (λ x. happened events ++ x ∷ happened later) e);
+    cookie = λ known.
+        (each_of (ComesUpWith IsCookie) (happened events) (event ∷ happened later)
+        (subst (AllByRecursion (ComesUpWith IsCookie))
+        (happened_append events (Happens event ∷ later)) (have known))).1.0;
+  }
+  fits s events later (IsGiven pdu) is before accepted turn have = tt
+  fits s events later IsTaken is before accepted turn have = tt
+  fits s events later IsClosed is before accepted turn have = tt
+  fits s events later IsRecycled is before accepted turn have = tt
+
+  run : (given taken : List (List ℕ)) (events later : List EndEvent) (s : Shell S)
+      → after_end_events rules acts start events ≡ s → AreAcceptedAtEnd rules acts start events
+      → RanTo given taken s events → AreAcceptedAtEnd rules acts s later
+      → HearsInTurn (happened (events ++ later)) → (HaveCookies all → HaveCookies (events ++ later))
+      → RanTo (given ++ all_given rules acts s later) (taken ++ all_taken rules acts s later)
+      (after_end_events rules acts s later) (events ++ later)
+  run given taken events [] s is before ran accepted turn have =
+      subst (λ x. RanTo x (taken ++ []) s (events ++ [])) (sym (append-nil given))
+      (subst (λ x. RanTo given x s (events ++ [])) (sym (append-nil taken))
+      (subst (RanTo given taken s) (sym (append-nil events)) ran))
+  run given taken events (event ∷ later) s is before ran accepted turn have =
+      let next = after_end_event rules acts s event in
+      let end = after_end_events rules acts next later in
+      let same = append_assoc events (event ∷ []) later in
+      let g = streams.given_by acts s event in
+      let k = taken_by acts s event in
+      subst (λ x. RanTo x (taken ++ (k ++ all_taken rules acts next later)) end
+      (events ++ event ∷ later)) (append_assoc given g (all_given rules acts next later))
+      (subst (λ x. RanTo ((given ++ g) ++ all_given rules acts next later) x end
+      (events ++ event ∷ later)) (append_assoc taken k (all_taken rules acts next later))
+      (subst (RanTo ((given ++ g) ++ all_given rules acts next later)
+      ((taken ++ k) ++ all_taken rules acts next later) end) same
+      (run (given ++ g) (taken ++ k) (events ++ event ∷ []) later next
+      (after_one start events event
+      ∙ ap (λ (x : Shell S). after_end_event rules acts x event) is)
+      (accepted_one start events event before
+      (subst (λ (x : Shell S). IsAcceptedAtEnd rules x event) (sym is) accepted.0))
+      (one_more given taken s events event is
+      (next_of given taken s events event ran
+      (fits s events later event is before accepted.0 turn have)))
+      accepted.1
+      (subst (λ x. HearsInTurn (happened x)) (sym same) turn)
+      (λ known. subst HaveCookies (sym same) (have known)))))
+
+  drawn_is : (leg : Leg) (p : Passage S) (bytes : List ℕ)
+      → IsPrefix bytes (spelled (of_leg leg p.put))
+      ⊎ FrontOf rules (pipe leg) leg (Sound leg) ⊥ p bytes
+      → IsPrefix bytes (spelled (of_leg leg p.put))
+  drawn_is leg p bytes (inl front) = front
+  drawn_is leg p bytes (inr front) = absurd front.answering.may
+
+  pub end_stream : AreAcceptedAtEnd rules acts start all → HearsInTurn (happened all)
+      → EndStream rules acts first rooms pipe all
+  end_stream accepted turn = record {
+    passage = ran.at.end;
+    leads = ran.at.leads;
+    role = ap (λ (x : Passage S). x.role) ran.at.is ∙ ran.role;
+    given = ran.at.given_is;
+    taken = ran.at.taken_is;
+    ups = λ leg. ran.at.ups leg ∙ ran.ups leg;
+    cookies = λ have. ran.at.cookies (ran.cookies have);
+    read = λ leg.
+        subst (λ (x : Passage S). IsPrefix (of_leg leg x.came)
+        (messages_read (pipe leg) (heard_on leg (happened all)))) (sym ran.at.is)
+        (ran.kept leg).front;
+    drawn = λ leg.
+        subst (λ (x : Passage S). IsPrefix (end_drawn_on rules acts start leg all)
+        (spelled (of_leg leg x.put))) (sym ran.at.is)
+        (drawn_is leg ran.passage (end_drawn_on rules acts start leg all)
+        ((ran.kept leg).spells tt));
+  }
+    where
+      ran : RanTo (all_given rules acts start all) (all_taken rules acts start all)
+          (after_end_events rules acts start all) all
+      ran =
+          run [] [] [] all start refl tt
+          (ran_none rules pipe Sound ⊥ (HaveCookies all) (IsReached [] []) first rooms (record {
+            end = end_started first;
+            leads = record { moves = []; allowed = tt; reached = refl };
+            is = refl;
+            ups = λ leg. refl;
+            cookies = λ have. tt;
+            given_is = refl;
+            taken_is = refl;
+          })) accepted turn (λ known. known)

@@ -1,0 +1,465 @@
+-- a piece that a node hears: what its role takes is what is read there
+use Rattle.std.proofs.Common.{◌≡◌, ◌≢◌, ◌⊎◌, inr, ℕ, List, [], ◌∷◌, ◌++◌, length, cond, Bool, true, false, ◌||◌, Some, None, Ok, Err, arith, refl, sym, ap, ◌∙◌, subst}
+use Rattle.std.specs.Prelude.{◌==◌, ◌&&◌, not, IsTrue, slice_index}
+use Rattle.std.specs.declared.option.Option.{Option}
+use Rattle.std.specs.declared.result.Result.{Result}
+use Rattle.std.proofs.lemmas.List.{append-nil}
+use Rattle.std.proofs.lemmas.Bool.Decides.{nat_tests}
+use mathlib.Core.List.{IsPrefix}
+use Rattle.rh_http.specs.declared.fault.HttpFault.{HttpFault}
+use Rattle.rh_http.specs.declared.refusal.Refusal.{Refusal}
+use Rattle.rh_pdu.specs.Header.{rts}
+use Rattle.rh_pdu.specs.Frames.{IsFrame, IsUnfinished}
+use Rattle.rh_sig.specs.declared.name.Pipe.{Pipe}
+use Rattle.rh_sig.specs.declared.named.Named.{Named}
+use Rattle.rh_line.specs.declared.cause.Cause.{Cause}
+use Rattle.rh_line.specs.declared.leg.Leg.{Leg}
+use Rattle.rh_shell.specs.declared.answers.Behind.{Behind}
+use Rattle.rh_shell.specs.declared.answers.Behind.TheVariants as passed
+use Rattle.rh_shell.specs.declared.answers.Count.{Count}
+use Rattle.rh_shell.specs.declared.answers.HeadRefused.{HeadRefused}
+use Rattle.rh_shell.specs.declared.answers.HeadRefused.TheVariants as head
+use Rattle.rh_shell.specs.declared.answers.HeadTaken.{HeadTaken}
+use Rattle.rh_shell.specs.declared.heading.Heading.{Heading}
+use Rattle.rh_shell.specs.declared.reading.PacketFault.{PacketFault}
+use Rattle.rh_shell.specs.declared.stage.Stage.{Stage}
+use Rattle.rh_shell.specs.declared.stage.Stage.TheVariants as stage
+use Rattle.rh_shell.specs.declared.stop.Stop.{Stop}
+use Rattle.rh_shell.specs.Carrying.{on_leg, message_in, named_messages, is_deaf}
+use Rattle.rh_shell.specs.Hearing.{Turn, goes, stops, stop_head, with_intake, touched, heading, take, take_next, take_frame, take_packet, take_ping, head_row, behind_head, behind_frame, begun_body, stage_of, close_row, is_ping, is_greeting, is_stopped, one_more, is_zero, is_upward}
+use Rattle.rh_shell.specs.Intakes.{Intake, Came, Nothing, Head, Greeting, Frame, Fault, Over, on_byte}
+use Rattle.rh_shell.specs.Moves.{Passage, OnLeg, HeadCame, PduCame, PacketCame, moved, taken_by, is_in_use}
+use Rattle.rh_shell.specs.Moving.{IsHeld}
+use Rattle.rh_shell.specs.NearEnds.{NearEnd, is_over, is_ended, is_marked}
+use Rattle.rh_shell.specs.Readings.{packet_of}
+use Rattle.rh_shell.specs.Rules.{Rules, Row, Message, Pdu, Packet}
+use Rattle.rh_shell.specs.Shells.{same_leg}
+use Rattle.rh_reading.specs.Reading.{Reading, reading, read_byte, reading_after, messages_from}
+use Rattle.rh_streams.proofs.Bytes.{ByteIs, byte_is, is_live}
+use Rattle.rh_streams.specs.Turns as turn
+use Rattle.rh_streams.specs.Turns.{Stages, AreInTurnFrom, takes_frames}
+use Rattle.rh_streams.proofs.Ends.{leg_itself}
+use Rattle.rh_streams.proofs.Staging.{IsNext, LeavesStages, all_stages, leaves_none}
+use Rattle.rh_streams.proofs.Ways.{Way, nowhere, way_none, way_one}
+
+pub on_leg_append : (leg : Leg) (xs ys : List Message)
+    → on_leg leg (xs ++ ys) ≡ on_leg leg xs ++ on_leg leg ys
+on_leg_append leg [] ys = refl
+on_leg_append leg (x ∷ xs) ys = ap (λ (l : List OnLeg). (leg, x) ∷ l) (on_leg_append leg xs ys)
+
+-- a request is refused by a head
+abbrev pub IsRefusal : Option Refusal → Type 0
+IsRefusal None = ⊥
+IsRefusal (Some refusal) = Unit {0}
+
+abbrev pub IsRefused : Option Stop → Type 0
+IsRefused None = ⊥
+IsRefused (Some why) = IsRefusal why.refusal
+
+-- what an end keeps while bytes come
+pub record IsSame (a b : NearEnd) : Type 0 where
+  pub leg : b.leg ≡ a.leg
+  pub pipe : b.pipe ≡ a.pipe
+  pub begun : b.begun ≡ a.begun
+  pub standing : b.standing ≡ a.standing
+
+-- all messages in the bytes, behind which the intake is what is read
+pub record IsExact (pipe : Option Pipe) (i j : Intake) (bytes : List ℕ) (messages : List Message)
+    : Type 0 where
+  pub live : is_live i.stage ≡ true
+  pub all : messages ≡ messages_from pipe (reading i.stage i.held) bytes
+  pub after : reading_after pipe (reading i.stage i.held) bytes ≡ reading j.stage j.held
+
+module _ {S : Type 0} (rules : Rules S) where
+  -- the role refuses a request on the leg
+  pub record Refuses (role : S) (leg : Leg) : Type 0 where
+    pub text : List ℕ
+    pub fault : HttpFault
+    pub refuses : (rules.head role leg text).1 ≡ Err (head.Request fault)
+
+  -- moves take a front of the messages in a piece, and all where the leg is heard
+  pub record Heard (p : Passage S) (end : NearEnd) (u : Turn S) (piece : List ℕ) : Type 0 where
+    pub passage : Passage S
+    pub way : Way rules (same_leg end.leg) nowhere p passage
+    pub role : passage.role ≡ u.role
+    pub put : passage.put ≡ p.put
+    pub messages : List Message
+    pub came : passage.came ≡ p.came ++ on_leg end.leg messages
+    pub front : IsPrefix messages
+        (messages_from end.pipe (reading end.intake.stage end.intake.held) piece)
+    pub exact : is_deaf rules u ≡ false → is_live u.end.intake.stage ≡ true
+        → IsExact end.pipe end.intake u.end.intake piece messages
+    pub heads : is_stopped u.stop ≡ false → u.end.intake.stage ≡ stage.Head
+        → (end.intake.stage ≡ stage.Head) × (way.moves ≡ [])
+    pub refused : IsRefused u.stop
+        → (end.intake.stage ≡ stage.Head) × Refuses p.role end.leg
+    pub turns : (g : Stages) → IsNext (g end.leg) end.intake.stage
+        → AreInTurnFrom rules p g way.moves
+        × (is_stopped u.stop ≡ false
+        → IsNext (all_stages rules p g way.moves end.leg) u.end.intake.stage)
+    pub on : ((messages ≡ []) × (is_deaf rules u ≡ true)) ⊎ (is_over rules end p.role ≡ false)
+    pub same : IsSame end u.end
+    pub held : IsHeld u.end
+
+-- ---- a frame is a packet or a PDU
+
+-- what a row took
+abbrev pub logged : List Message → Result Count Cause → List Message
+logged messages (Ok next) = messages
+logged messages (Err why) = []
+
+pub nothing_held : (held : List ℕ) → held ≡ [] → IsUnfinished held
+nothing_held held none long =
+    absurd (let size : length held ≡ 0 = ap (λ (x : List ℕ). length x) none in
+    omega (arith, size, long))
+
+module _ {S : Type 0} (rules : Rules S) (heads : Leg → Bool) (p : Passage S) (at : Heading)
+    (may : IsTrue (is_in_use rules p.role at.leg)) where
+  -- a frame may come
+  abbrev framed : Stages → Type 0
+  framed g = takes_frames (g at.leg) ≡ true
+
+  pub record FrameIs (frame : List ℕ) (x : S × Result Count Cause) : Type 0 where
+    pub passage : Passage S
+    pub way : Way rules heads nowhere p passage
+    pub role : passage.role ≡ x.0
+    pub put : passage.put ≡ p.put
+    pub came : passage.came ≡ p.came ++ on_leg at.leg (logged (message_in at.pipe frame) x.1)
+    pub leaves : LeavesStages rules framed p way.moves
+
+  -- no move is made
+  none_is : (frame : List ℕ) (r : Result Count Cause)
+      → logged (message_in at.pipe frame) r ≡ [] → FrameIs frame (p.role, r)
+  none_is frame r none = record {
+    passage = p;
+    way = way_none rules heads p;
+    role = refl;
+    put = refl;
+    came = rw none (sym (append-nil p.came));
+    leaves = leaves_none rules framed p;
+  }
+
+  ping_is : (frame : List ℕ) (t : Bool) (why : Cause) → message_in at.pipe frame ≡ []
+      → FrameIs frame (p.role, cond {A = Result Count Cause} t (Err why) (Ok at.count))
+  ping_is frame true why none = none_is frame (Err why) refl
+  ping_is frame false why none = none_is frame (Ok at.count) none
+
+  -- a row takes the message, or refuses it
+  row_is : (frame : List ℕ) (message : Message) (next : Count) (x : S × Row)
+      → (way : Way rules heads nowhere p (taken_by p at.leg message x))
+      → LeavesStages rules framed p way.moves → message_in at.pipe frame ≡ message ∷ []
+      → FrameIs frame (close_row at next x)
+  row_is frame message next (role, Ok taken) way leaves is = record {
+    passage = taken_by p at.leg message (role, Ok taken);
+    way = way;
+    role = refl;
+    put = refl;
+    came = rw is refl;
+    leaves = leaves;
+  }
+  row_is frame message next (role, Err why) way leaves is = record {
+    passage = taken_by p at.leg message (role, Err why);
+    way = way;
+    role = refl;
+    put = refl;
+    came = sym (append-nil p.came);
+    leaves = leaves;
+  }
+
+  named_is : (frame : List ℕ) (named : Named) (t : Bool)
+      → message_in at.pipe frame ≡ cond t [] (Packet named ∷ [])
+      → FrameIs frame (cond {A = S × Result Count Cause} t (p.role, take_ping at)
+      (close_row at (one_more at.count) (rules.packet p.role at.leg at.count named)))
+  named_is frame named true is =
+      ping_is frame (is_zero at.count && is_upward at.pipe) _ is
+  named_is frame named false is =
+      row_is frame (Packet named) (one_more at.count) (rules.packet p.role at.leg at.count named)
+      (way_one rules heads nowhere p (PacketCame at.leg at.count named) may
+      (λ leg. λ h. refl) (λ leg. refl))
+      (record { in_turn = λ g. λ a. (a, tt); stays = λ g. refl }) is
+
+  packet_is : (frame : List ℕ) (r : Result Named PacketFault)
+      → message_in at.pipe frame ≡ named_messages r → FrameIs frame (take_packet rules at p.role r)
+  packet_is frame (Ok named) is = named_is frame named (is_ping named) is
+  packet_is frame (Err fault) is = none_is frame _ refl
+
+  kind_is : (frame : List ℕ) (t : Bool) → (slice_index frame 2 == rts) ≡ t → IsFrame frame
+      → FrameIs frame (cond {A = S × Result Count Cause} t
+      (take_packet rules at p.role (packet_of frame at.pipe))
+      (close_row at at.count (rules.pdu p.role at.leg at.count frame)))
+  kind_is frame true is whole = packet_is frame (packet_of frame at.pipe) (rw is refl)
+  kind_is frame false is whole =
+      let apart : slice_index frame 2 ≢ rts = λ e. absurd (grind (arith, nat_tests)) in
+      row_is frame (Pdu frame) at.count (rules.pdu p.role at.leg at.count frame)
+      (way_one rules heads nowhere p (PduCame at.leg at.count frame)
+      (may, record { frame = whole; not_rts = apart }) (λ leg. λ h. refl) (λ leg. refl))
+      (record { in_turn = λ g. λ a. (a, tt); stays = λ g. refl }) (rw is refl)
+
+  pub frame_taken : (frame : List ℕ) → IsFrame frame
+      → FrameIs frame (take_frame rules at p.role frame)
+  unfolding take_frame
+  frame_taken frame whole = kind_is frame (slice_index frame 2 == rts) refl whole
+
+-- ---- a byte
+
+-- a leg that is heard is in use
+pub in_use : {S : Type 0} (rules : Rules S) (end : NearEnd) (role : S)
+    → is_over rules end role ≡ false → IsTrue (is_in_use rules role end.leg)
+in_use rules end role h =
+    by (is_marked end.standing) (rules.is_done role end.leg) (is_ended (rules.phase role)) h
+  where
+    by : (marked done ended : Bool) → (marked || (done || ended)) ≡ false
+        → IsTrue (not ended && not done)
+    by true done ended h = absurd cc
+    by false true ended h = absurd cc
+    by false false true h = absurd cc
+    by false false false h = refl
+
+module _ {S : Type 0} (rules : Rules S) (moment : ℕ) (p : Passage S) (end : NearEnd) (b : ℕ)
+    (on : is_over rules end p.role ≡ false) where
+  may : IsTrue (is_in_use rules p.role end.leg)
+  may = in_use rules end p.role on
+
+  abbrev now : Intake → NearEnd
+  now j = with_intake (touched end moment) j
+
+  abbrev start : Reading
+  start = reading end.intake.stage end.intake.held
+
+  abbrev next : Reading × List Message
+  next = read_byte end.pipe start b
+
+  abbrev heads : Leg → Bool
+  heads = same_leg end.leg
+
+  -- the node stops
+  stops_here : (q : Passage S) (j : Intake) (role : S) (why : Stop)
+      → (way : Way rules heads nowhere p q)
+      → ((g : Stages) → IsNext (g end.leg) end.intake.stage → AreInTurnFrom rules p g way.moves)
+      → q.role ≡ role → q.put ≡ p.put → q.came ≡ p.came → IsHeld (now j)
+      → (IsRefused (Some why)
+      → (end.intake.stage ≡ stage.Head) × Refuses rules p.role end.leg)
+      → Heard rules p end (stops (now j) role why) (b ∷ [])
+  stops_here q j role why way turns is put came held refused = record {
+    passage = q;
+    way = way;
+    role = is;
+    put = put;
+    messages = [];
+    came = came ∙ sym (append-nil p.came);
+    front = (messages_from end.pipe start (b ∷ []), refl);
+    exact = λ h. absurd cc;
+    heads = λ h. absurd cc;
+    refused = refused;
+    turns = λ g. λ n. (turns g n, λ h. absurd cc);
+    on = inr on;
+    same = record { leg = refl; pipe = refl; begun = refl; standing = refl };
+    held = held;
+  }
+
+  -- a head or greeting was taken, or nothing is whole
+  goes_on : (q : Passage S) (to : NearEnd) (role : S) → (way : Way rules heads nowhere p q)
+      → q.role ≡ role → q.put ≡ p.put → q.came ≡ p.came → IsHeld to
+      → IsSame end to
+      → (is_live to.intake.stage ≡ true → (is_live end.intake.stage ≡ true)
+      × (next ≡ (reading to.intake.stage to.intake.held, [])))
+      → (to.intake.stage ≡ stage.Head → (end.intake.stage ≡ stage.Head) × (way.moves ≡ []))
+      → ((g : Stages) → IsNext (g end.leg) end.intake.stage
+      → AreInTurnFrom rules p g way.moves
+      × IsNext (all_stages rules p g way.moves end.leg) to.intake.stage)
+      → Heard rules p end (goes to role) (b ∷ [])
+  goes_on q to role way is put came held same live top turns = record {
+    passage = q;
+    way = way;
+    role = is;
+    put = put;
+    messages = [];
+    came = came ∙ sym (append-nil p.came);
+    front = (messages_from end.pipe start (b ∷ []), refl);
+    exact = λ h. λ l. record {
+      live = (live l).0;
+      all = ap (λ (x : Reading × List Message). x.1 ++ []) (sym (live l).1);
+      after = ap (λ (x : Reading × List Message). x.0) (live l).1;
+    };
+    heads = λ h. top;
+    refused = λ h. absurd h;
+    turns = λ g. λ n. let both = turns g n in (both.0, λ h. both.1);
+    on = inr on;
+    same = same;
+    held = held;
+  }
+
+  nothing_is : (j : Intake) → ByteIs end.pipe end.intake.stage j Nothing next
+      → Heard rules p end (goes (now j) p.role) (b ∷ [])
+  nothing_is j is =
+      goes_on p (now j) p.role (way_none rules heads p) refl refl refl is.2
+      (record { leg = refl; pipe = refl; begun = refl; standing = refl })
+      (λ l.
+      let live : is_live end.intake.stage ≡ true =
+      subst (λ (s : Stage). is_live s ≡ true) is.0 l in
+      (live, is.1 live ∙ ap (λ (s : Stage). (reading s j.held, [])) (sym is.0)))
+      (λ h. (sym is.0 ∙ h, refl))
+      (λ g. λ n. (tt, subst (λ (s : Stage). IsNext (g end.leg) s) (sym is.0) n))
+
+  head_is : (j : Intake) (text : List ℕ) (x : S × Result HeadTaken HeadRefused)
+      → rules.head p.role end.leg text ≡ x
+      → end.intake.stage ≡ stage.Head → next ≡ (reading stage.Frames [], []) → j.held ≡ []
+      → Heard rules p end (behind_head (now j) (head_row end.leg (length text) x)) (b ∷ [])
+  head_is j text x e top is none = by x e
+    where
+      q : Passage S
+      q = moved rules p (HeadCame end.leg text)
+
+      way : Way rules heads nowhere p q
+      way = way_one rules heads nowhere p (HeadCame end.leg text) may (λ leg. λ h. h)
+          (λ leg. refl)
+
+      -- a head comes first
+      first : (g : Stages) → IsNext (g end.leg) end.intake.stage
+          → AreInTurnFrom rules p g (HeadCame end.leg text ∷ [])
+      first g n = (subst (λ (s : Stage). IsNext (g end.leg) s) top n, tt)
+
+      behind_is : (taken : HeadTaken) → (rules.head p.role end.leg text).1 ≡ Ok taken
+          → (g : Stages)
+          → all_stages rules p g (HeadCame end.leg text ∷ []) end.leg
+          ≡ Some (stage_of taken.behind)
+      behind_is taken ok g =
+          ap (λ t. cond t (Some (turn.behind_head (rules.head p.role end.leg text).1)) (g end.leg))
+          (leg_itself end.leg)
+          ∙ ap (λ (r : Result HeadTaken HeadRefused). Some (turn.behind_head r)) ok
+
+      by_behind : (role : S) (behind : Behind) (length : ℕ) → q.role ≡ role
+          → ((g : Stages)
+          → all_stages rules p g (HeadCame end.leg text ∷ []) end.leg ≡ Some (stage_of behind))
+          → Heard rules p end
+          (goes (begun_body (now j) (stage_of behind) (Some length)) role) (b ∷ [])
+      by_behind role passed.Frames length same next_is =
+          goes_on q (begun_body (now j) stage.Frames (Some length)) role way same refl refl
+          (λ fr. nothing_held j.held none)
+          (record { leg = refl; pipe = refl; begun = refl; standing = refl })
+          (λ l. (ap is_live top, is ∙ ap (λ (x : List ℕ). (reading stage.Frames x, [])) (sym none)))
+          (λ h. absurd cc) (λ g. λ n. (first g n, ap takes_frames (next_is g)))
+      by_behind role passed.PassedOver length same next_is =
+          goes_on q (begun_body (now j) stage.PassedOver (Some length)) role way same refl refl
+          (λ fr. nothing_held j.held none)
+          (record { leg = refl; pipe = refl; begun = refl; standing = refl })
+          (λ l. absurd cc) (λ h. absurd cc) (λ g. λ n. (first g n, tt))
+
+      by_why : (role : S) (why : HeadRefused) → rules.head p.role end.leg text ≡ (role, Err why)
+          → IsRefused (Some (stop_head end.leg (length text) why))
+          → (end.intake.stage ≡ stage.Head) × Refuses rules p.role end.leg
+      by_why role (head.Request fault) e r = (
+        top,
+        record {
+          text = text;
+          fault = fault;
+          refuses = ap (λ (y : S × Result HeadTaken HeadRefused). y.1) e;
+        },
+      )
+      by_why role (head.Response fault) e r = absurd r
+      by_why role (head.Status status) e r = absurd r
+
+      by : (y : S × Result HeadTaken HeadRefused) → rules.head p.role end.leg text ≡ y
+          → Heard rules p end (behind_head (now j) (head_row end.leg (length text) y)) (b ∷ [])
+      by (role, Ok taken) e =
+          by_behind role taken.behind taken.length
+          (ap (λ (y : S × Result HeadTaken HeadRefused). y.0) e)
+          (behind_is taken (ap (λ (y : S × Result HeadTaken HeadRefused). y.1) e))
+      by (role, Err why) e =
+          stops_here q j role (stop_head end.leg (length text) why) way first
+          (ap (λ (y : S × Result HeadTaken HeadRefused). y.0) e) refl refl
+          (λ fr. nothing_held j.held none) (by_why role why e)
+
+  greeting_is : (j : Intake) (t : Bool) (why : Cause) → end.intake.stage ≡ stage.Greeting
+      → next ≡ (reading stage.Frames [], []) → j.held ≡ []
+      → Heard rules p end
+      (cond t (goes (begun_body (now j) stage.Frames None) p.role)
+      (stops (now j) p.role (record { cause = why; refusal = None }))) (b ∷ [])
+  greeting_is j true why at is none =
+      goes_on p (begun_body (now j) stage.Frames None) p.role (way_none rules heads p)
+      refl refl refl (λ fr. nothing_held j.held none)
+      (record { leg = refl; pipe = refl; begun = refl; standing = refl })
+      (λ l. (ap is_live at, is ∙ ap (λ (x : List ℕ). (reading stage.Frames x, [])) (sym none)))
+      (λ h. absurd cc)
+      (λ g. λ n. (tt, subst (λ (s : Stage). IsNext (g end.leg) s) at n))
+  greeting_is j false why at is none =
+      stops_here p j p.role (record { cause = why; refusal = None })
+      (way_none rules heads p) (λ g. λ n. tt) refl refl refl
+      (λ fr. nothing_held j.held none) (λ r. absurd r)
+
+  frame_is : (j : Intake) (frame : List ℕ) (place : ℕ) (x : S × Result Count Cause)
+      → FrameIs rules heads p (heading (now j) place) may frame x
+      → end.intake.stage ≡ stage.Frames
+      → next ≡ (reading stage.Frames [], message_in end.pipe frame)
+      → j.held ≡ [] → j.stage ≡ stage.Frames
+      → Heard rules p end (behind_frame (now j) x) (b ∷ [])
+  frame_is j frame place (role, Ok count) f at is none st = record {
+    passage = f.passage;
+    way = f.way;
+    role = f.role;
+    put = f.put;
+    messages = message_in end.pipe frame;
+    came = f.came;
+    front = ([], ap (λ (x : Reading × List Message). x.1 ++ []) (sym is));
+    exact = λ h. λ l. record {
+      live = ap is_live at;
+      all =
+          sym (append-nil (message_in end.pipe frame))
+          ∙ ap (λ (x : Reading × List Message). x.1 ++ []) (sym is);
+      after =
+          ap (λ (x : Reading × List Message). x.0) is
+          ∙ ap (λ (y : Stage). reading y []) (sym st)
+          ∙ ap (reading j.stage) (sym none);
+    };
+    heads = λ h. λ e. absurd (apart (sym st ∙ e));
+    refused = λ r. absurd r;
+    turns = λ g. λ n.
+        let frames = subst (λ (s : Stage). IsNext (g end.leg) s) at n in (
+          f.leaves.in_turn g frames,
+          λ h.
+              subst (λ (s : Stage). IsNext (all_stages rules p g f.way.moves end.leg) s) (sym st)
+              (subst (λ (x : Stages). takes_frames (x end.leg) ≡ true) (sym (f.leaves.stays g))
+              frames),
+        );
+    on = inr on;
+    same = record { leg = refl; pipe = refl; begun = refl; standing = refl };
+    held = λ fr. nothing_held j.held none;
+  }
+    where
+      apart : stage.Frames ≡ stage.Head → ⊥
+      apart e = absurd cc
+  frame_is j frame place (role, Err why) f at is none st =
+      stops_here f.passage j role (record { cause = why; refusal = None }) f.way
+      (λ g. λ n. f.leaves.in_turn g (subst (λ (s : Stage). IsNext (g end.leg) s) at n))
+      f.role f.put
+      (f.came ∙ append-nil p.came) (λ fr. nothing_held j.held none) (λ r. absurd r)
+
+  by_came : (j : Intake) (c : Came) → ByteIs end.pipe end.intake.stage j c next
+      → Heard rules p end (take rules (now j) p.role c) (b ∷ [])
+  unfolding take
+  by_came j Nothing is = nothing_is j is
+  by_came j (Head text) is =
+      head_is j text (rules.head p.role end.leg text) refl is.0 is.1 is.2
+  by_came j (Greeting text) is = greeting_is j (is_greeting text) _ is.0 is.1 is.2
+  by_came j (Frame place frame) is =
+      frame_is j frame place (take_frame rules (heading (now j) place) p.role frame)
+      (frame_taken rules heads p (heading (now j) place) may frame is.4) is.0 is.1 is.2 is.3
+  by_came j (Fault place fault) is =
+      stops_here p j p.role _ (way_none rules heads p) (λ g. λ n. tt) refl refl refl
+      (λ fr. absurd (apart (sym is ∙ fr))) (λ r. absurd r)
+    where
+      apart : stage.Shut ≡ stage.Frames → ⊥
+      apart e = absurd cc
+  by_came j (Over length) is =
+      stops_here p j p.role _ (way_none rules heads p) (λ g. λ n. tt) refl refl refl
+      (λ fr. absurd (apart (sym is ∙ fr))) (λ r. absurd r)
+    where
+      apart : stage.Shut ≡ stage.Frames → ⊥
+      apart e = absurd cc
+
+  pub byte_heard : IsHeld end
+      → Heard rules p end
+      (take_next rules (touched end moment) p.role (on_byte end.intake b)) (b ∷ [])
+  byte_heard held =
+      by_came (on_byte end.intake b).0 (on_byte end.intake b).1
+      (byte_is end.pipe end.intake b held)

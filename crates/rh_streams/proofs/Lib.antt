@@ -1,0 +1,16 @@
+mod Ways
+mod Staging
+mod Bytes
+mod Hears
+mod Pieces
+mod Draws
+mod Ends
+mod Turns
+mod Kept
+mod Seats
+mod Pings
+mod Events
+mod Runs
+mod Nodes
+mod EndMoves
+mod AtEnds

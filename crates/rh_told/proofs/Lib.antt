@@ -1,0 +1,10 @@
+mod Passed
+mod Adding
+mod Parts
+mod Tales
+mod Acting
+mod Lines
+mod Splits
+mod Shut
+mod Behind
+mod GoingOn

@@ -1,0 +1,5 @@
+pub mod Turns
+pub mod Numbers
+pub mod Ours
+pub mod Refusals
+pub mod Recordings

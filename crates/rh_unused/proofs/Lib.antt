@@ -1,0 +1,11 @@
+mod Staying
+mod OutProxyStays
+mod Behind
+mod ClientStays
+mod InProxyStays
+mod Places
+mod ServerLists
+mod ServerLegs
+mod ServerRows
+mod ServerPuts
+mod ServerStays

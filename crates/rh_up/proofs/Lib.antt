@@ -1,0 +1,14 @@
+mod LegLogs
+mod Rising
+mod Counts
+mod Told
+mod Unread
+mod JoinedLegs
+mod ServerLegs
+mod ServerPuts
+mod ServerMoves
+mod InProxySteps
+mod InProxyMoves
+mod Laws
+mod Passed
+mod Numbered
