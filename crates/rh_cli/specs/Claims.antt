@@ -1,11 +1,12 @@
 -- what holds of every recording, beside its report
-use Rattle.std.specs.Prelude.{◌≡◌, ◌≤◌, ◌++◌, ℕ, List, ◌∷◌}
+use Rattle.std.specs.Prelude.{◌≡◌, ◌≤◌, ◌++◌, ℕ, List, ◌∷◌, true}
 use Rattle.rh_line.specs.declared.cause.Cause.{Cause}
 use Rattle.rh_line.specs.declared.cause.Cause.TheVariants.{HttpRefused, Silent}
 use Rattle.rh_line.specs.declared.leg.Leg.{Leg}
 use Rattle.rh_record.specs.declared.answer.Answer.TheVariants.{NodeClosed}
 use Rattle.rh_record.specs.declared.answer.Who.{Who}
 use Rattle.rh_record.specs.declared.line.Line.{Line}
+use Rattle.rh_record.specs.declared.line.Line.TheVariants.{First}
 use Rattle.rh_history.specs.Closes.{IsOneOf, closings_of}
 use Rattle.rh_world.specs.declared.any_world.AnyWorld.{AnyWorld}
 use Rattle.rh_world.specs.declared.any_world.AnyWorld.TheVariants.{Before}
@@ -14,6 +15,9 @@ use Rattle.rh_bounds.specs.Bounds.{WindowsHold}
 use Rattle.rh_closes.specs.Recordings.{IsLicensedIn, IsRefusedIn}
 use Rattle.rh_closes.specs.Reports.{ShowsIn}
 use Rattle.rh_closes.specs.Silences.{IsSilentIn}
+use Rattle.rh_events.specs.Order.{IsOrdered}
+use Rattle.rh_ordered.specs.Counted.{CountsCapped}
+use Rattle.rh_ordered.specs.Recordings.{OffersBehindFirst}
 
 -- a line reports a node as closed only for what it told that node, and its answers show that
 pub record ClosesForReason (world : AnyWorld) (line : Line) : Type 0 where
@@ -28,9 +32,14 @@ pub record ClosesForReason (world : AnyWorld) (line : Line) : Type 0 where
       → IsOneOf (NodeClosed node (Silent leg since now)) (step world line).1
       → IsSilentIn (prepared world line) line node leg since now
 
--- behind each front of the lines no more is held for a channel than its window, and each line
--- closes nodes for a reason; in all of the report each node is closed once at most
+-- at every line of the report what an end took is a front of what the other end gave, each PDU
+-- once and in order, and all of it at a clean end; and a report of roles counts what it tells.
+-- Behind each front of the lines no more is held for a channel than its window, and each line
+-- closes nodes for a reason; in all of the report each node is closed once at most.
 pub record Claims (lines : List Line) : Type 0 where
+  pub ordered : OffersBehindFirst lines → IsOrdered lines (run lines)
+  pub counted : (behind : List Line) → lines ≡ First true ∷ behind
+      → CountsCapped lines (run lines)
   pub held : (before behind : List Line) → lines ≡ before ++ behind
       → WindowsHold (after Before before)
   pub reasons : (before behind : List Line) (line : Line) → lines ≡ before ++ line ∷ behind

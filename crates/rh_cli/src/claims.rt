@@ -11,12 +11,18 @@ use rh_closes::{
     each_cause_of_a_recording_shows, each_close_of_a_recording_shows,
     only_a_client_of_a_recording_is_refused,
 };
+use rh_fifo::every_recording_is_ordered;
+use rh_ordered::a_recording_counts;
 
-/// In every recording no more is held for a channel than its window, and each node is reported as
-/// closed once at most, by a line whose answers show why (MS-RPCH 3.2).
+/// In every recording what each end takes is what the other end gave, each PDU once and in order,
+/// whatever its lines cut, delay, break and replace. No more is held for a channel than its window,
+/// and each node is reported as closed once at most, by a line whose answers show why
+/// (MS-RPCH 3.2).
 pub fn recordings_keep_to_their_claims()
     ensures { (lines : List Line) → Claims lines }
 {
+    every_recording_is_ordered();
+    a_recording_counts();
     windows_hold_in_every_recording();
     each_close_of_a_recording_shows();
     each_cause_of_a_recording_shows();

@@ -60,8 +60,11 @@ pub const VERSION: &str = "rh_cli 0.1.0\n";
 /// what its report comes to. `--help` and `--version` alone write a text. These three read nothing.
 /// Other words are `Usage`.
 ///
-/// Of every recording, whatever the words are: no more is held for a channel than its window, and
-/// each node is reported as closed once at most, by a line whose answers show why.
+/// Of every recording, whatever the words are: at every line of its report the PDUs that an end
+/// took are a front of those that the other end gave, each once and in order. An end takes none
+/// after it closed, and has taken all of them where it reports a clean end. No more is held for a
+/// channel than its window, and each node is reported as closed once at most, by a line whose
+/// answers show why.
 pub fn run<R: Source, W: Sink>(
     alloc: Global,
     words: &[String],

@@ -1,8 +1,16 @@
 -- each claim is a law
+use Rattle.std.proofs.Common.{List, subst, sym}
+use Rattle.rh_record.specs.declared.line.Line.{Line}
+use Rattle.rh_world.specs.Any.{run}
+use Rattle.rh_ordered.specs.Counted.{CountsCapped}
 use Rattle.rh_cli.proofs.claims.recordings_keep_to_their_claims.Goals as goal
 
 pub returns : goal.returns
 returns c = λ lines. record {
+  ordered = c.every_recording_is_ordered.ensures lines;
+  counted = λ behind is.
+      subst (λ (all : List Line). CountsCapped all (run all)) (sym is)
+      (c.a_recording_counts.ensures behind);
   held = λ before behind is. c.windows_hold_in_every_recording.ensures.recording before;
   reasons = λ before behind line is. record {
     licensed = c.each_close_of_a_recording_shows.ensures before line;
