@@ -22,20 +22,32 @@ use Rattle.rh_events.specs.Order.{IsPrefix}
 use Rattle.rh_told.specs.Moments.{end_given, end_taken, next_take}
 use Rattle.rh_traced.specs.Ours.{AreOurs, deeds, rules}
 use Rattle.rh_ordered.specs.Premises.{HasAll, KeepsOrder, history_at}
-use Rattle.rh_fifo.proofs.Moments.{IsInOrder}
+use Rattle.rh_nodes.specs.Readers.{reader_of}
+use Rattle.rh_traced.specs.Numbers.{is_made}
+use Rattle.rh_fifo.specs.Directions.{Directions}
+use Rattle.rh_fifo.specs.Flows.{numbers_of}
+use Rattle.rh_fifo.proofs.Fronts.{Ended, IsInOrder, in_order}
 
 front_of : (front all : List (List ℕ)) → lists.IsPrefix front all → IsPrefix front all
 front_of front all p = (p.0, sym p.1)
 
 module _ {K : Type 0} (m : Makers K InProxy OutProxy)
     (w : World K ClientRole Server InProxy OutProxy) (ours : AreOurs m w.company w.cast)
-    (in_order : (v : World K ClientRole Server InProxy OutProxy)
+    (law : Ended) (joined : (v : World K ClientRole Server InProxy OutProxy)
     (lines : ByLines rules m deeds w v)
-    → IsInOrder ours.config ours.window (history_at m w v lines).client
-    (history_at m w v lines).server)
+    → Directions (numbers_of ours) v (history_at m w v lines))
     (runs : (v : World K ClientRole Server InProxy OutProxy)
     (lines : ByLines rules m deeds w v)
     → AreRuns rules m deeds w.company v (history_at m w v lines)) where
+  moment : (v : World K ClientRole Server InProxy OutProxy) (lines : ByLines rules m deeds w v)
+      → IsInOrder ours.config ours.window (history_at m w v lines).client
+      (history_at m w v lines).server
+  moment v lines =
+      let h = history_at m w v lines in
+      let both = joined v lines in
+      in_order law ours.config ours.window ours.in_config ours.out_config h.client h.server h.ins
+      h.outs (is_made v.company) (reader_of v.readers) both.down both.up
+
   -- what holds by the first client and the first server
   at_ends : (P : Shell ClientRole → Shell Server → Type 0)
       → P (client.first_client ours.config) (server.new_server ours.window)
@@ -54,20 +66,20 @@ module _ {K : Type 0} (m : Makers K InProxy OutProxy)
       at_ends (λ (c : Shell ClientRole) (s : Shell Server).
       IsPrefix (all_taken rules.client deeds.client c h.client)
       (all_given rules.server deeds.server s h.server))
-      (front_of _ _ (in_order v lines).down)
+      (front_of _ _ (moment v lines).down)
   front v lines side.Server =
       let h = history_at m w v lines in
       at_ends (λ (c : Shell ClientRole) (s : Shell Server).
       IsPrefix (all_taken rules.server deeds.server s h.server)
       (all_given rules.client deeds.client c h.client))
-      (front_of _ _ (in_order v lines).up)
+      (front_of _ _ (moment v lines).up)
 
   clean : (v : World K ClientRole Server InProxy OutProxy) (lines : ByLines rules m deeds w v)
       (end : Side) → next_take deeds v end ≡ takes.Ended → HasAll m w v lines end
   clean v lines side.Client ended =
       let h = history_at m w v lines in
       let is = (runs v lines) in
-      let all = (in_order v lines).down_ended v.company.client
+      let all = (moment v lines).down_ended v.company.client
       (is.client ∙ ap (λ (c : Shell ClientRole).
       after_end_events rules.client deeds.client c h.client) ours.client) ended in
       record {
@@ -81,7 +93,7 @@ module _ {K : Type 0} (m : Makers K InProxy OutProxy)
   clean v lines side.Server ended =
       let h = history_at m w v lines in
       let is = (runs v lines) in
-      let all = (in_order v lines).up_ended v.company.server
+      let all = (moment v lines).up_ended v.company.server
       (is.server ∙ ap (λ (s : Shell Server).
       after_end_events rules.server deeds.server s h.server) ours.server) ended in
       record {

@@ -7,6 +7,8 @@ mod Legal
 mod Reaching
 mod Routing
 mod Moments
+mod Fronts
+mod Marked
 mod Unread
 mod Kept
 mod Recorded

@@ -3,8 +3,10 @@
 //! contracts are the laws.
 #![tactic(auto)]
 
+pub mod directions;
 pub mod recordings;
 pub mod worlds;
 
+pub use directions::{directions_are_joined, marks_are_last};
 pub use recordings::every_recording_is_ordered;
 pub use worlds::roles_keep_order;

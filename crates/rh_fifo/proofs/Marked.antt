@@ -1,0 +1,53 @@
+-- both directions are routes, on whose legs nothing stands behind a mark
+use Rattle.std.proofs.Common.{◌≡◌, ℕ, Bool, true, List}
+use Rattle.rh_http.specs.declared.config.ClientConfig.{ClientConfig}
+use Rattle.rh_order.specs.Items.{IsChannel}
+use Rattle.rh_order.specs.Routes.{IsRoute, Route}
+use Rattle.rh_shell.specs.Moving.{EndEvent, Event}
+use Rattle.rh_client.specs.declared.state.ClientRole.{ClientRole}
+use Rattle.rh_inproxy.specs.declared.state.InProxyConfig.{InProxyConfig}
+use Rattle.rh_inproxy.specs.State.{InProxy}
+use Rattle.rh_outproxy.specs.declared.state.OutProxyConfig.{OutProxyConfig}
+use Rattle.rh_outproxy.specs.OutProxy.{OutProxy}
+use Rattle.rh_server.specs.States.{Server}
+use Rattle.rh_nodes.specs.Readers.{reader_of}
+use Rattle.rh_nodes.specs.World.{World}
+use Rattle.rh_history.specs.Histories.{History}
+use Rattle.rh_traced.specs.Numbers.{is_made}
+use Rattle.rh_down.specs.Down.{GoesDown, route_of}
+use Rattle.rh_up.specs.Up.{GoesUp, up_route}
+use Rattle.rh_fifo.specs.Directions.{BothMark, Directions, MarksAreLast, down_route_of, up_route_of}
+use Rattle.rh_fifo.specs.Flows.{Numbers}
+
+pub record MarkLaw : Type 0 where
+  pub down : (config : ClientConfig) (window : ℕ) (out_config : ℕ → OutProxyConfig)
+      (client server : List EndEvent) (outs : ℕ → List Event)
+      (d : GoesDown config window out_config client server outs) → IsRoute (route_of d)
+  pub up : (config : ClientConfig) (window : ℕ) (in_config : ℕ → InProxyConfig)
+      (client_events server_events : List EndEvent) (ins : ℕ → List Event) (made : ℕ → Bool)
+      (reader : ℕ → ℕ)
+      (g : GoesUp config window in_config client_events server_events ins made reader)
+      → IsRoute (up_route made g.giver.passage (λ n. (g.proxies n).passage) g.taker.leads.moves
+      g.taker.passage)
+  pub near : (r : Route) (m n : ℕ) → IsRoute r → r.legs m ≡ true
+      → IsChannel (r.sent n) × IsChannel (r.came m n)
+  pub far : (r : Route) (m : ℕ) → IsRoute r → IsChannel (r.put m) × IsChannel (r.got m)
+
+marks : MarkLaw → (r : Route) → IsRoute r → MarksAreLast r
+marks law r is = record {
+  near = λ m n here. law.near r m n is here;
+  far = λ m. law.far r m is;
+}
+
+pub both_mark : {K : Type 0} {numbers : Numbers}
+    {v : World K ClientRole Server InProxy OutProxy} {h : History} → MarkLaw
+    → Directions numbers v h → BothMark numbers v h
+both_mark {K} {numbers} {v} {h} law directions = record {
+  directions = directions;
+  down = marks law (down_route_of directions)
+      (law.down numbers.client numbers.window numbers.outs h.client h.server h.outs
+      directions.down);
+  up = marks law (up_route_of directions)
+      (law.up numbers.client numbers.window numbers.ins h.client h.server h.ins
+      (is_made v.company) (reader_of v.readers) directions.up);
+}
