@@ -1,0 +1,5 @@
+mod Naming
+mod Speaking
+mod Standing
+mod Telling
+mod Recorded
