@@ -1,5 +1,5 @@
 -- answers that name a cause where they are of the end
-use Rattle.std.proofs.Common.{◌≡◌, ◌++◌, List, [], ◌∷◌, true, false, IsTrue, Some, sym, ap, ◌∙◌, subst, inl, inr}
+use Rattle.std.proofs.Common.{◌≡◌, ◌++◌, List, [], ◌∷◌, true, false, IsTrue, Some, refl, sym, ap, ◌∙◌, subst, inl, inr}
 use Rattle.std.specs.List.{list_all}
 use Rattle.std.proofs.lemmas.Bool.{and_parts, false≢true}
 use Rattle.rh_text.specs.declared.ends.Side.{Side}
@@ -29,8 +29,13 @@ module _ (end : Side) (why : Cause) where
   names_one one first = names_more one [] first names_none
 
   -- an answer that isn't of the end
+  pub names_past : (one : Answer) (more : List Answer) → tells_of end one ≡ false
+      → Names end why more → Names end why (one ∷ more)
+  names_past one more other =
+      names_more one more (λ tells. absurd (false≢true (sym other ∙ tells)))
+
   pub names_other : (one : Answer) → tells_of end one ≡ false → Names end why (one ∷ [])
-  names_other one other = names_one one (λ tells. absurd (false≢true (sym other ∙ tells)))
+  names_other one other = names_past one [] other names_none
 
   pub names_append : (xs ys : List Answer) → Names end why xs → Names end why ys
       → Names end why (xs ++ ys)
@@ -43,8 +48,7 @@ module _ (end : Side) (why : Cause) where
   pub names_closings : (list : List Closing) → Names end why (lines list)
   names_closings [] = names_none
   names_closings (x ∷ list) =
-      names_more (answer.NodeClosed x.who x.cause) (lines list) (λ tells. absurd cc)
-      (names_closings list)
+      names_past (answer.NodeClosed x.who x.cause) (lines list) refl (names_closings list)
 
 -- ---- behind each end that is reported as closed
 

@@ -28,7 +28,7 @@ use Rattle.rh_history.proofs.Answering.{is_other}
 use Rattle.rh_history.proofs.Lines.{goes_step_line}
 use Rattle.rh_told.specs.Moments.{node_of}
 use Rattle.rh_named.specs.Named.{Names, NamesIt, cause_told, tells_of}
-use Rattle.rh_named.proofs.Naming.{AllName, all_append, all_closings, all_name_it, all_others, names_append, names_closings, names_more, names_none, names_one, names_other}
+use Rattle.rh_named.proofs.Naming.{AllName, all_append, all_closings, all_name_it, all_others, names_append, names_closings, names_more, names_none, names_one, names_other, names_past}
 use Rattle.rh_named.proofs.Speaking.{carries_say, ends_say, leg_says, opens_say}
 use Rattle.rh_named.proofs.Standing.{Stands}
 
@@ -206,16 +206,13 @@ module _ {K C S I O : Type 0} (r : Rulebook C S I O) (m : Makers K I O) (d : Dee
 
     last_names : (w : World K C S I O) → IsClosed w → Names end why (last r d w)
     last_names w closed =
-        let at_server = names_one end why (last_of r d w Server)
-        (last_told end Server why w closed) in
-        let at_ends = names_more end why (last_of r d w Client) (last_of r d w Server ∷ [])
-        (last_told end Client why w closed) at_server in
-        let up = answer.Up w.up.given w.up.taken in
-        let down = answer.Down w.down.given w.down.taken in
-        names_append end why (up ∷ []) (down ∷ last_of r d w Client ∷ last_of r d w Server ∷ [])
-        (names_other end why up refl)
-        (names_append end why (down ∷ []) (last_of r d w Client ∷ last_of r d w Server ∷ [])
-        (names_other end why down refl) at_ends)
+        let at_client = last_of r d w Client in
+        let at_server = last_of r d w Server in
+        names_past end why (answer.Up w.up.given w.up.taken)
+        (answer.Down w.down.given w.down.taken ∷ at_client ∷ at_server ∷ []) refl
+        (names_past end why (answer.Down w.down.given w.down.taken) (at_client ∷ at_server ∷ [])
+        refl (names_more end why at_client (at_server ∷ []) (last_told end Client why w closed)
+        (names_one end why at_server (last_told end Server why w closed))))
 
     told_names : (list : List Line) (w : World K C S I O) → IsClosed w
         → Names end why (told r m d w list)

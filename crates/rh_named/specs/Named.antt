@@ -21,7 +21,7 @@ is_end Client Server = false
 is_end Server Client = false
 is_end Server Server = true
 
--- the answer to a give or a take at the end, or its last line
+-- the answer to a give or a take at the end, or its last line; that it closed is told once
 abbrev pub tells_of : Side → Answer → Bool
 tells_of end (answer.Give at given) = is_end end at
 tells_of end (answer.Take at taken) = is_end end at
