@@ -22,8 +22,8 @@ use rh_server::ServerRole;
 use rh_world::WorldConfig;
 
 /// Behind the answer that reports an end as closed, each answer of that end names the same cause:
-/// that of a give, which is refused, that of a take, and the end's last line. The takes of a
-/// settling are among them.
+/// that of a give, which is refused, that of a take, and the end's last line. So a settling, which
+/// reports of its takes only PDUs and that no more comes, reports none of that end.
 pub fn a_closed_end_names_its_cause<K, C, S, I, O>()
     ensures { (r : Rulebook C S I O) (m : Makers K I O) (d : Deeds C S) (lines : List Line)
         (w : World K C S I O) → w.closed ≡ [] → NamesIt (told r m d w lines) }
