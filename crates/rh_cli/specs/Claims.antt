@@ -16,6 +16,7 @@ use Rattle.rh_closes.specs.Recordings.{IsLicensedIn, IsRefusedIn}
 use Rattle.rh_closes.specs.Reports.{ShowsIn}
 use Rattle.rh_closes.specs.Silences.{IsSilentIn}
 use Rattle.rh_events.specs.Order.{IsOrdered}
+use Rattle.rh_named.specs.Named.{NamesIt}
 use Rattle.rh_ordered.specs.Counted.{CountsCapped}
 use Rattle.rh_ordered.specs.Recordings.{OffersBehindFirst}
 
@@ -35,7 +36,8 @@ pub record ClosesForReason (world : AnyWorld) (line : Line) : Type 0 where
 -- at every line of the report what an end took is a front of what the other end gave, each PDU
 -- once and in order, and all of it at a clean end; and a report of roles counts what it tells.
 -- Behind each front of the lines no more is held for a channel than its window, and each line
--- closes nodes for a reason; in all of the report each node is closed once at most.
+-- closes nodes for a reason; in all of the report each node is closed once at most, and each later
+-- answer of an end that closed names the same cause.
 pub record Claims (lines : List Line) : Type 0 where
   pub ordered : OffersBehindFirst lines → IsOrdered lines (run lines)
   pub counted : (behind : List Line) → lines ≡ First true ∷ behind
@@ -45,3 +47,4 @@ pub record Claims (lines : List Line) : Type 0 where
   pub reasons : (before behind : List Line) (line : Line) → lines ≡ before ++ line ∷ behind
       → ClosesForReason (after Before before) line
   pub once : (node : Who) → closings_of node (run lines) ≤ 1
+  pub named : NamesIt (run lines)

@@ -12,12 +12,13 @@ use rh_closes::{
     only_a_client_of_a_recording_is_refused,
 };
 use rh_fifo::every_recording_is_ordered;
+use rh_named::an_end_of_a_recording_names_its_cause;
 use rh_ordered::a_recording_counts;
 
 /// In every recording what each end takes is what the other end gave, each PDU once and in order,
 /// whatever its lines cut, delay, break and replace. No more is held for a channel than its window,
-/// and each node is reported as closed once at most, by a line whose answers show why
-/// (MS-RPCH 3.2).
+/// and each node is reported as closed once at most, by a line whose answers show why; each later
+/// answer of that end names the same cause (MS-RPCH 3.2).
 pub fn recordings_keep_to_their_claims()
     ensures { (lines : List Line) → Claims lines }
 {
@@ -29,4 +30,5 @@ pub fn recordings_keep_to_their_claims()
     only_a_client_of_a_recording_is_refused();
     a_node_of_a_recording_falls_silent();
     a_recording_reports_a_node_closed_once();
+    an_end_of_a_recording_names_its_cause();
 }

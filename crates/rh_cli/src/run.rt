@@ -64,7 +64,7 @@ pub const VERSION: &str = "rh_cli 0.1.0\n";
 /// took are a front of those that the other end gave, each once and in order. An end takes none
 /// after it closed, and has taken all of them where it reports a clean end. No more is held for a
 /// channel than its window, and each node is reported as closed once at most, by a line whose
-/// answers show why.
+/// answers show why; each later answer of that end names the same cause.
 pub fn run<R: Source, W: Sink>(
     alloc: Global,
     words: &[String],

@@ -19,4 +19,5 @@ returns c = λ lines. record {
     silent = c.a_node_of_a_recording_falls_silent.ensures before line;
   };
   once = c.a_recording_reports_a_node_closed_once.ensures lines;
+  named = c.an_end_of_a_recording_names_its_cause.ensures lines;
 }
