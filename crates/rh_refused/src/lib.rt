@@ -1,0 +1,7 @@
+//! Why a client closes with `HttpRefused`: what it heard is a refusal that the proxy drew. Its
+//! functions do nothing: their contracts are the laws.
+#![tactic(auto)]
+
+pub mod texts;
+
+pub use texts::{a_200_is_no_refusal, a_refusal_names_its_status};
