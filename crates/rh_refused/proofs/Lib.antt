@@ -1,3 +1,4 @@
 mod Told
 mod Ends
 mod Tracked
+mod HeldHeads

@@ -202,7 +202,7 @@ module _ {S : Type 0} (rules : Rules S) where
               role = refl;
               goes_on = e;
             }))) going
-        by_stop end at going (Some why) e on = by_refusal why.refusal on
+        by_stop end at going (Some why) e = by_refusal why.refusal
           where
             u : Turn S
             u = hear rules s.now (goes end s.role) piece
