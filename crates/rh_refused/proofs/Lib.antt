@@ -2,3 +2,4 @@ mod Told
 mod Ends
 mod Tracked
 mod HeldHeads
+mod EndHeads
