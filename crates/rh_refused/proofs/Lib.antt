@@ -3,3 +3,4 @@ mod Ends
 mod Tracked
 mod HeldHeads
 mod EndHeads
+mod Heard

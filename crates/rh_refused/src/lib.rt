@@ -2,6 +2,8 @@
 //! functions do nothing: their contracts are the laws.
 #![tactic(auto)]
 
+pub mod clients;
 pub mod texts;
 
+pub use clients::what_a_client_holds_of_a_head;
 pub use texts::{a_200_is_no_refusal, a_refusal_names_its_status};

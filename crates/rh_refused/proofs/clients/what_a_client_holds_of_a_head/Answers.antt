@@ -1,0 +1,47 @@
+use Rattle.std.proofs.Common.{[], ◌∷◌}
+use Rattle.rh_client.specs.Client.{rules, acts, first_client, rooms}
+use Rattle.rh_client.specs.State.{first}
+use Rattle.rh_history.proofs.Once.{once_remembered_at_end}
+use Rattle.rh_refused.proofs.Heard.{ClientLaws, first_numbered, heard_refusal, held}
+use Rattle.rh_refused.proofs.clients.what_a_client_holds_of_a_head.Goals as goal
+
+pub returns : goal.returns
+returns c =
+    let laws : ClientLaws = record {
+      ends = λ config. record {
+        carries = record {
+          takes = c.frames_are_taken_in_order.ensures;
+          puts = c.messages_are_drawn_in_order.ensures;
+        };
+        event = c.ends_move_by_their_rules.ensures.event;
+        run = λ events. c.ends_move_by_their_rules.ensures.run (first config) rooms events;
+        unused = c.a_leg_that_a_client_left_stays_unused.ensures.calls config;
+        moves = c.a_clients_leg_comes_up_once.ensures.moves;
+        calls = c.a_clients_leg_comes_up_once.ensures.calls;
+        holds = first_numbered config;
+        comes = c.a_clients_leg_comes_up_once.ensures.comes config;
+        once = c.a_clients_leg_comes_up_once.ensures.once config;
+        new = c.a_clients_leg_comes_up_once.ensures.new config;
+        rises = once_remembered_at_end rules acts (first_client config) (record {
+          comes = λ events leg cookie may.
+              (c.a_clients_leg_comes_up_once.ensures.comes config events leg cookie may).was_up;
+          stays = λ events later leg was.
+              (c.a_clients_leg_comes_up_once.ensures.once config events later leg was).was_up;
+          once = λ events leg was.
+              (c.a_clients_leg_comes_up_once.ensures.once config events [] leg was).not_again;
+          wanted = λ role leg e. e;
+        });
+        closed = λ s why e. c.an_end_closes_once.ensures s why (e ∷ []);
+      };
+      closed = c.a_node_closes_once.ensures.closed;
+      again = c.a_node_closes_once.ensures.again;
+      comes = c.causes_come_from_their_events.ensures;
+      response = c.only_a_client_closes_with_http_refused.ensures.client;
+      unheard = c.a_leg_is_silent_since_it_was_heard.ensures.unheard;
+    } in
+    record {
+      held = λ config events leg end accepted turns.
+          held laws config events accepted turns leg end;
+      refused = λ config events event leg status accepted turns.
+          heard_refusal laws config events accepted turns event leg status;
+    }

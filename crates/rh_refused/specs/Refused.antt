@@ -1,0 +1,16 @@
+-- what a client heard where its channel is refused (MS-RPCH 3.2.2)
+use Rattle.std.specs.Prelude.{◌≡◌, ◌++◌, ℕ, List}
+use mathlib.Core.List.{IsPrefix}
+use Rattle.rh_line.specs.declared.leg.Leg.{Leg}
+use Rattle.rh_nodes.specs.declared.event.Event.{Event}
+use Rattle.rh_nodes.specs.declared.event.Event.TheVariants.{Comes}
+use Rattle.rh_causes.specs.Refusals.{IsRefusedBy}
+
+-- a piece came on the leg, where this was heard before: all of it begins with a response that
+-- refuses the channel with this status
+pub record HeardRefusal (before : List ℕ) (event : Event) (leg : Leg) (status : ℕ) : Type 0 where
+  pub piece : List ℕ
+  pub is : event ≡ Comes leg piece
+  pub text : List ℕ
+  pub front : IsPrefix text (before ++ piece)
+  pub refused : IsRefusedBy leg text status
