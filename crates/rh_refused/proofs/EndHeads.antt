@@ -53,7 +53,7 @@ abbrev pub heard_at : Leg → EndEvent → List ℕ
 heard_at leg (Happens event) = heard_in leg event
 heard_at leg act = []
 
-happened_append : (es fs : List EndEvent) → happened (es ++ fs) ≡ happened es ++ happened fs
+pub happened_append : (es fs : List EndEvent) → happened (es ++ fs) ≡ happened es ++ happened fs
 happened_append [] fs = refl
 happened_append (Happens e ∷ es) fs =
     ap (λ (x : List Event). e ∷ x) (happened_append es fs)
@@ -250,7 +250,7 @@ module _ {S : Type 0} (rules : Rules S) (acts : Acts S) (first : S) (rooms : Roo
 
     -- ---- an event
 
-    after_more : (s : Shell S) (events : List EndEvent) (e : EndEvent)
+    pub after_more : (s : Shell S) (events : List EndEvent) (e : EndEvent)
         → after_end_events rules acts s (events ++ e ∷ [])
         ≡ after_end_event rules acts (after_end_events rules acts s events) e
     after_more s [] e = refl
@@ -264,7 +264,7 @@ module _ {S : Type 0} (rules : Rules S) (acts : Acts S) (first : S) (rooms : Roo
     new_at s (first ∷ events) e new =
         new_at (after_end_event rules acts s first) events e new.1
 
-    accepted_front : (s : Shell S) (es fs : List EndEvent) → AreAcceptedAtEnd rules acts s (es ++ fs)
+    pub accepted_front : (s : Shell S) (es fs : List EndEvent) → AreAcceptedAtEnd rules acts s (es ++ fs)
         → AreAcceptedAtEnd rules acts s es
     accepted_front s [] fs a = tt
     accepted_front s (e ∷ es) fs a =

@@ -46,6 +46,9 @@ pub record ClientLaws : Type 0 where
   pub response : (node : Shell ClientRole) (event : told.Event) (leg : Leg) (status : ℕ)
       → ClosesWith rules node event (cause.HttpRefused leg status)
       → IsResponse node event leg status
+  pub stays : (node : Shell ClientRole) (why : Cause) (later : List EndEvent)
+      → ClosedWith why node.course
+      → ClosedWith why (after_end_events rules acts node later).course
   pub unheard : (node : Shell ClientRole) (leg : Leg) (piece : List ℕ)
       → hears_bytes rules node leg piece ≡ false → after_event rules node (Hears leg piece) ≡ node
 
@@ -120,12 +123,14 @@ module _ (law : ClientLaws) (config : ClientConfig) (events : List EndEvent)
         record {
           piece = q.piece;
           is = q.is;
-          text = q.end.intake.held ++ q.front;
-          front = (
-            q.behind,
-            append_assoc q.end.intake.held q.front q.behind
-                ∙ ap (λ (x : List ℕ). q.end.intake.held ++ x) q.cut
-                ∙ ap (λ (x : List ℕ). x ++ q.piece) all,
-          );
-          refused = q.refused;
+          begins = record {
+            text = q.end.intake.held ++ q.front;
+            front = (
+              q.behind,
+              append_assoc q.end.intake.held q.front q.behind
+                  ∙ ap (λ (x : List ℕ). q.end.intake.held ++ x) q.cut
+                  ∙ ap (λ (x : List ℕ). x ++ q.piece) all,
+            );
+            refused = q.refused;
+          };
         }

@@ -4,3 +4,4 @@ mod Tracked
 mod HeldHeads
 mod EndHeads
 mod Heard
+mod ClosedClients

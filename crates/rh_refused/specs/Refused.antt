@@ -6,11 +6,14 @@ use Rattle.rh_nodes.specs.declared.event.Event.{Event}
 use Rattle.rh_nodes.specs.declared.event.Event.TheVariants.{Comes}
 use Rattle.rh_causes.specs.Refusals.{IsRefusedBy}
 
--- a piece came on the leg, where this was heard before: all of it begins with a response that
--- refuses the channel with this status
+-- the bytes of the leg begin with a response that refuses the channel with this status
+pub record BeginsRefused (bytes : List ℕ) (leg : Leg) (status : ℕ) : Type 0 where
+  pub text : List ℕ
+  pub front : IsPrefix text bytes
+  pub refused : IsRefusedBy leg text status
+
+-- a piece came on the leg, where this was heard before, and so they begin
 pub record HeardRefusal (before : List ℕ) (event : Event) (leg : Leg) (status : ℕ) : Type 0 where
   pub piece : List ℕ
   pub is : event ≡ Comes leg piece
-  pub text : List ℕ
-  pub front : IsPrefix text (before ++ piece)
-  pub refused : IsRefusedBy leg text status
+  pub begins : BeginsRefused (before ++ piece) leg status

@@ -7,6 +7,7 @@ ghost use Rattle.rh_line.specs.declared.cause.Cause.TheVariants as cause;
 ghost use Rattle.rh_line.specs.declared.leg.Leg.{Leg};
 ghost use Rattle.rh_shell.specs.declared.course.Course.TheVariants.{Going};
 ghost use Rattle.rh_shell.specs.declared.stage.Stage.TheVariants as stage;
+ghost use Rattle.rh_shell.specs.Laws.{ClosedWith};
 ghost use Rattle.rh_shell.specs.Moving.{EndEvent, after_end_events};
 ghost use Rattle.rh_shell.specs.NearEnds.{NearEnd, is_over};
 ghost use Rattle.rh_shell.specs.Shells.{end_at};
@@ -15,7 +16,7 @@ ghost use Rattle.rh_history.specs.Carried.{AreAcceptedAtEnd, happened, heard_on}
 ghost use Rattle.rh_client.specs.Client as client;
 ghost use Rattle.rh_causes.specs.Closings.{ClosesWith};
 ghost use Rattle.rh_streams.specs.Streams.{HearsInTurn};
-ghost use Rattle.rh_refused.specs.Refused.{HeardRefusal};
+ghost use Rattle.rh_refused.specs.Refused.{BeginsRefused, HeardRefusal};
 
 use rh_causes::{
     a_clients_leg_comes_up_once, a_leg_is_silent_since_it_was_heard, a_node_closes_once,
@@ -29,7 +30,8 @@ use rh_unused::a_leg_that_a_client_left_stays_unused;
 /// there, if its legs came up where they might and pieces came on legs that were up.
 ///
 /// So where a piece closes it with `HttpRefused`, a front of all bytes that came on that leg is the
-/// response that refuses the channel with that status.
+/// response that refuses the channel with that status; and what came there begins so wherever the
+/// client is closed with it.
 pub fn what_a_client_holds_of_a_head()
     ensures held { (config : ClientConfig) (events : List EndEvent) (leg : Leg) (end : NearEnd)
         → AreAcceptedAtEnd client.rules client.acts (client.first_client config) events
@@ -47,6 +49,12 @@ pub fn what_a_client_holds_of_a_head()
         (after_end_events client.rules client.acts (client.first_client config) events) event
         (cause.HttpRefused leg status)
         → HeardRefusal (heard_on leg (happened events)) event leg status }
+    ensures closed { (config : ClientConfig) (events : List EndEvent) (leg : Leg) (status : ℕ)
+        → AreAcceptedAtEnd client.rules client.acts (client.first_client config) events
+        → HearsInTurn (happened events)
+        → ClosedWith (cause.HttpRefused leg status)
+        (after_end_events client.rules client.acts (client.first_client config) events).course
+        → BeginsRefused (heard_on leg (happened events)) leg status }
 {
     frames_are_taken_in_order::<ClientRole>();
     messages_are_drawn_in_order::<ClientRole>();

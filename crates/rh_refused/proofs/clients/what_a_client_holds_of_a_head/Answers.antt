@@ -3,6 +3,7 @@ use Rattle.rh_client.specs.Client.{rules, acts, first_client, rooms}
 use Rattle.rh_client.specs.State.{first}
 use Rattle.rh_history.proofs.Once.{once_remembered_at_end}
 use Rattle.rh_refused.proofs.Heard.{ClientLaws, first_numbered, heard_refusal, held}
+use Rattle.rh_refused.proofs.ClosedClients.{closed_refused}
 use Rattle.rh_refused.proofs.clients.what_a_client_holds_of_a_head.Goals as goal
 
 pub returns : goal.returns
@@ -37,6 +38,7 @@ returns c =
       again = c.a_node_closes_once.ensures.again;
       comes = c.causes_come_from_their_events.ensures;
       response = c.only_a_client_closes_with_http_refused.ensures.client;
+      stays = c.an_end_closes_once.ensures;
       unheard = c.a_leg_is_silent_since_it_was_heard.ensures.unheard;
     } in
     record {
@@ -44,4 +46,6 @@ returns c =
           held laws config events accepted turns leg end;
       refused = λ config events event leg status accepted turns.
           heard_refusal laws config events accepted turns event leg status;
+      closed = λ config events leg status accepted turns.
+          closed_refused laws config leg status events accepted turns;
     }
