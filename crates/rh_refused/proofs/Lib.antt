@@ -5,3 +5,4 @@ mod HeldHeads
 mod EndHeads
 mod Heard
 mod ClosedClients
+mod Drawn

@@ -3,7 +3,9 @@
 #![tactic(auto)]
 
 pub mod clients;
+pub mod recordings;
 pub mod texts;
 
 pub use clients::what_a_client_holds_of_a_head;
+pub use recordings::a_refused_client_heard_what_was_drawn;
 pub use texts::{a_200_is_no_refusal, a_refusal_names_its_status};

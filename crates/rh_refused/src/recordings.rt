@@ -1,0 +1,53 @@
+//! What a proxy drew where a client closed for a response, in a world of roles. These functions do
+//! nothing: their contracts are the laws.
+
+ghost use Rattle.std.specs.Prelude.{ℕ};
+ghost use Rattle.rh_line.specs.declared.cause.Cause.TheVariants as cause;
+ghost use Rattle.rh_line.specs.declared.leg.LegKind.TheVariants.{ClientIn, ClientOut};
+ghost use Rattle.rh_record.specs.declared.answer.Who.TheVariants as who;
+ghost use Rattle.rh_shell.specs.Laws.{ClosedWith};
+ghost use Rattle.rh_nodes.specs.Opening.{Makers};
+ghost use Rattle.rh_nodes.specs.Readers.{reader_of};
+ghost use Rattle.rh_nodes.specs.Settling.{leg_at};
+ghost use Rattle.rh_nodes.specs.World.{World};
+ghost use Rattle.rh_client.specs.declared.state.ClientRole.{ClientRole};
+ghost use Rattle.rh_inproxy.specs.State.{InProxy};
+ghost use Rattle.rh_outproxy.specs.OutProxy.{OutProxy};
+ghost use Rattle.rh_server.specs.States.{Server};
+ghost use Rattle.rh_history.specs.Carried.{drawn_by};
+ghost use Rattle.rh_history.specs.Changes.{Leads};
+ghost use Rattle.rh_history.specs.Histories.{IsNew, all_noted, nothing};
+ghost use Rattle.rh_traced.specs.Ours.{AreOurs, deeds, rules};
+ghost use Rattle.rh_refused.specs.Refused.{BeginsRefused};
+
+use crate::clients::what_a_client_holds_of_a_head;
+use rh_client::ClientRole;
+use rh_history::what_is_heard_was_drawn;
+use rh_inproxy::InProxyRole;
+use rh_outproxy::OutProxyRole;
+use rh_server::ServerRole;
+use rh_traced::a_recording_of_roles_is_known;
+
+/// Whatever changes lead from a new world of roles: where the client is closed with `HttpRefused`,
+/// what the proxy at the other end of that leg drew there begins with the response that refuses the
+/// channel with that status.
+pub fn a_refused_client_heard_what_was_drawn<K>()
+    ensures out_leg { (m : Makers K InProxy OutProxy)
+        (w v : World K ClientRole Server InProxy OutProxy) → IsNew w → AreOurs m w.company w.cast
+        → (leads : Leads rules m deeds w v) → (n status : ℕ)
+        → ClosedWith (cause.HttpRefused (leg_at ClientOut n) status) v.company.client.course
+        → BeginsRefused (drawn_by rules m deeds w.company v.cast
+        (all_noted rules m deeds w nothing leads.changes) (who.Out n) (leg_at ClientOut n))
+        (leg_at ClientOut n) status }
+    ensures in_leg { (m : Makers K InProxy OutProxy)
+        (w v : World K ClientRole Server InProxy OutProxy) → IsNew w → AreOurs m w.company w.cast
+        → (leads : Leads rules m deeds w v) → (n status : ℕ)
+        → ClosedWith (cause.HttpRefused (leg_at ClientIn n) status) v.company.client.course
+        → BeginsRefused (drawn_by rules m deeds w.company v.cast
+        (all_noted rules m deeds w nothing leads.changes) (who.In (reader_of v.readers n))
+        (leg_at ClientIn n)) (leg_at ClientIn n) status }
+{
+    what_a_client_holds_of_a_head();
+    a_recording_of_roles_is_known::<K>();
+    what_is_heard_was_drawn::<K, ClientRole, ServerRole, InProxyRole, OutProxyRole>();
+}
