@@ -6,3 +6,4 @@ mod EndHeads
 mod Heard
 mod ClosedClients
 mod Drawn
+mod OutTexts
