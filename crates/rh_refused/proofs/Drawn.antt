@@ -54,13 +54,11 @@ module _ {K : Type 0}
     (drawn_by rules m deeds first w.cast h (end_node w.readers leg (sender D)) leg))
     (m : Makers K InProxy OutProxy) (w v : World K ClientRole Server InProxy OutProxy)
     (new : IsNew w) (ours : AreOurs m w.company w.cast) (leads : Leads rules m deeds w v) where
-  pub drawn_refused : (leg : Leg) (status : ℕ)
-      → end_node v.readers leg (receiver D) ≡ who.Client
+  pub heard_refused : (leg : Leg) (status : ℕ)
       → ClosedWith (cause.HttpRefused leg status) v.company.client.course
-      → BeginsRefused (drawn_by rules m deeds w.company v.cast
-      (all_noted rules m deeds w nothing leads.changes) (end_node v.readers leg (sender D)) leg)
-      leg status
-  drawn_refused leg status is h =
+      → BeginsRefused (heard_on leg
+      (happened (all_noted rules m deeds w nothing leads.changes).client)) leg status
+  heard_refused leg status h =
       let known_here = known m w v new ours leads in
       let events = (all_noted rules m deeds w nothing leads.changes).client in
       let node : v.company.client
@@ -68,17 +66,24 @@ module _ {K : Type 0}
       known_here.traced.runs.client
       ∙ ap (λ (s : Shell ClientRole). after_end_events client.rules client.acts s events)
       ours.client in
-      let heard = closed ours.config events leg status
+      closed ours.config events leg status
       (subst (λ (s : Shell ClientRole). AreAcceptedAtEnd client.rules client.acts s events)
       ours.client known_here.traced.accepted.client) known_here.in_turn.client
       (subst (λ (s : Shell ClientRole). ClosedWith (cause.HttpRefused leg status) s.course) node
-      h) in
-      refused_more (heard_on leg (happened events))
-      (drawn_by rules m deeds w.company v.cast (all_noted rules m deeds w nothing leads.changes)
-      (end_node v.readers leg (sender D)) leg) leg status
-      (subst (λ x. IsPrefix (heard_on leg
-      (events_of (all_noted rules m deeds w nothing leads.changes) x))
-      (drawn_by rules m deeds w.company v.cast (all_noted rules m deeds w nothing leads.changes)
-      (end_node v.readers leg (sender D)) leg)) is
-      (drew m w.company v (all_noted rules m deeds w nothing leads.changes) known_here.traced leg))
-      heard
+      h)
+
+  pub drawn_refused : (leg : Leg) (status : ℕ)
+      → end_node v.readers leg (receiver D) ≡ who.Client
+      → ClosedWith (cause.HttpRefused leg status) v.company.client.course
+      → BeginsRefused (drawn_by rules m deeds w.company v.cast
+      (all_noted rules m deeds w nothing leads.changes) (end_node v.readers leg (sender D)) leg)
+      leg status
+  drawn_refused leg status is h =
+      let here = all_noted rules m deeds w nothing leads.changes in
+      refused_more (heard_on leg (happened here.client))
+      (drawn_by rules m deeds w.company v.cast here (end_node v.readers leg (sender D)) leg) leg
+      status
+      (subst (λ x. IsPrefix (heard_on leg (events_of here x))
+      (drawn_by rules m deeds w.company v.cast here (end_node v.readers leg (sender D)) leg)) is
+      (drew m w.company v here (known m w v new ours leads).traced leg))
+      (heard_refused leg status h)

@@ -7,3 +7,4 @@ mod Heard
 mod ClosedClients
 mod Drawn
 mod OutTexts
+mod OutRefusals

@@ -20,7 +20,7 @@ use Rattle.rh_heads.proofs.EndLemmas.{whole_to}
 use Rattle.rh_heads.proofs.Judged.{whole_response}
 
 -- a text that is a response ends with its first blank line
-read_whole : (text : List ℕ) (response : Response) → response_verdict text ≡ Ok response
+pub read_whole : (text : List ℕ) (response : Response) → response_verdict text ≡ Ok response
     → is_whole text ≡ true
 unfolding response_verdict
 read_whole text response = by (is_whole text)

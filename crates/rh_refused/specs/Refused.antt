@@ -1,6 +1,8 @@
 -- what a client heard where its channel is refused (MS-RPCH 3.2.2)
 use Rattle.std.specs.Prelude.{◌≡◌, ◌++◌, ℕ, List}
 use mathlib.Core.List.{IsPrefix}
+use Rattle.rh_http.specs.declared.refusal.Refusal.{Refusal}
+use Rattle.rh_http.specs.Texts.{refusal_text, status_of}
 use Rattle.rh_line.specs.declared.leg.Leg.{Leg}
 use Rattle.rh_nodes.specs.declared.event.Event.{Event}
 use Rattle.rh_nodes.specs.declared.event.Event.TheVariants.{Comes}
@@ -17,3 +19,9 @@ pub record HeardRefusal (before : List ℕ) (event : Event) (leg : Leg) (status 
   pub piece : List ℕ
   pub is : event ≡ Comes leg piece
   pub begins : BeginsRefused (before ++ piece) leg status
+
+-- all that was drawn is one refusal, which has this status
+pub record DrewRefusal (drawn : List ℕ) (status : ℕ) : Type 0 where
+  pub refusal : Refusal
+  pub named : status_of refusal ≡ status
+  pub drew : drawn ≡ refusal_text refusal

@@ -6,22 +6,29 @@ ghost use Rattle.rh_line.specs.declared.cause.Cause.TheVariants as cause;
 ghost use Rattle.rh_line.specs.declared.leg.LegKind.TheVariants.{ClientIn, ClientOut};
 ghost use Rattle.rh_record.specs.declared.answer.Who.TheVariants as who;
 ghost use Rattle.rh_shell.specs.Laws.{ClosedWith};
+ghost use Rattle.rh_shell.specs.Shells.{begun};
 ghost use Rattle.rh_nodes.specs.Opening.{Makers};
 ghost use Rattle.rh_nodes.specs.Readers.{reader_of};
 ghost use Rattle.rh_nodes.specs.Settling.{leg_at};
 ghost use Rattle.rh_nodes.specs.World.{World};
 ghost use Rattle.rh_client.specs.declared.state.ClientRole.{ClientRole};
 ghost use Rattle.rh_inproxy.specs.State.{InProxy};
-ghost use Rattle.rh_outproxy.specs.OutProxy.{OutProxy};
+ghost use Rattle.rh_outproxy.specs.declared.out_proxy.TheConstants.{ROOMS};
+ghost use Rattle.rh_outproxy.specs.Machine as out_proxy;
+ghost use Rattle.rh_outproxy.specs.OutProxy.{OutProxy, new_proxy};
 ghost use Rattle.rh_server.specs.States.{Server};
-ghost use Rattle.rh_history.specs.Carried.{drawn_by};
-ghost use Rattle.rh_history.specs.Changes.{Leads};
+ghost use Rattle.rh_history.specs.Carried.{drawn_by, drawn_on};
+ghost use Rattle.rh_history.specs.Changes.{ByLines, Leads};
 ghost use Rattle.rh_history.specs.Histories.{IsNew, all_noted, nothing};
 ghost use Rattle.rh_traced.specs.Ours.{AreOurs, deeds, rules};
-ghost use Rattle.rh_refused.specs.Refused.{BeginsRefused};
+ghost use Rattle.rh_ordered.specs.Premises.{history_at};
+ghost use Rattle.rh_fifo.specs.Flows.{numbers_of};
+ghost use Rattle.rh_fifo.specs.Premises.{AreInRange};
+ghost use Rattle.rh_refused.specs.Refused.{BeginsRefused, DrewRefusal};
 
 use crate::clients::what_a_client_holds_of_a_head;
 use rh_client::ClientRole;
+use rh_fifo::directions_are_joined;
 use rh_history::what_is_heard_was_drawn;
 use rh_inproxy::InProxyRole;
 use rh_outproxy::OutProxyRole;
@@ -50,4 +57,22 @@ pub fn a_refused_client_heard_what_was_drawn<K>()
     what_a_client_holds_of_a_head();
     a_recording_of_roles_is_known::<K>();
     what_is_heard_was_drawn::<K, ClientRole, ServerRole, InProxyRole, OutProxyRole>();
+}
+
+/// In each world of new roles whose numbers are in their ranges, at every moment that lines reach:
+/// where the client is closed with `HttpRefused` of an OUT channel, all that the out proxy of its
+/// number drew there is one refusal, which has that status.
+pub fn a_refused_out_channel_was_refused_by_its_proxy<K>()
+    ensures { (m : Makers K InProxy OutProxy) (w : World K ClientRole Server InProxy OutProxy)
+        → IsNew w → (ours : AreOurs m w.company w.cast) → AreInRange (numbers_of ours)
+        → (v : World K ClientRole Server InProxy OutProxy) (lines : ByLines rules m deeds w v)
+        (n status : ℕ)
+        → ClosedWith (cause.HttpRefused (leg_at ClientOut n) status) v.company.client.course
+        → DrewRefusal (drawn_on out_proxy.rules (begun (new_proxy (ours.out_config n)) ROOMS)
+        (leg_at ClientOut n) ((history_at m w v lines).outs n)) status }
+{
+    what_a_client_holds_of_a_head();
+    a_recording_of_roles_is_known::<K>();
+    what_is_heard_was_drawn::<K, ClientRole, ServerRole, InProxyRole, OutProxyRole>();
+    directions_are_joined::<K>();
 }
