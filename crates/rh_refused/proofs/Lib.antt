@@ -8,3 +8,5 @@ mod ClosedClients
 mod Drawn
 mod OutTexts
 mod OutRefusals
+mod InTexts
+mod InRefusals

@@ -24,7 +24,7 @@ use Rattle.rh_refused.proofs.OutTexts.{IsSuccess, Succeeds}
 use Rattle.rh_refused.proofs.Told.{front_told, read_whole}
 
 -- no text is a front of nothing, and is a response
-none_refused : (leg : Leg) (status : ℕ) → BeginsRefused [] leg status → ⊥
+pub none_refused : (leg : Leg) (status : ℕ) → BeginsRefused [] leg status → ⊥
 none_refused leg status b = by b.text b.front.0 b.front.1 (read_whole b.text b.refused.response b.refused.read)
   where
     by : (text rest : List ℕ) → text ++ rest ≡ [] → is_whole text ≡ true → ⊥

@@ -8,6 +8,7 @@ pub mod texts;
 
 pub use clients::what_a_client_holds_of_a_head;
 pub use recordings::{
-    a_refused_client_heard_what_was_drawn, a_refused_out_channel_was_refused_by_its_proxy,
+    a_refused_client_heard_what_was_drawn, a_refused_in_channel_was_refused_by_its_proxy,
+    a_refused_out_channel_was_refused_by_its_proxy,
 };
 pub use texts::{a_200_is_no_refusal, a_refusal_names_its_status};

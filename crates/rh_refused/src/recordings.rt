@@ -1,7 +1,8 @@
 //! What a proxy drew where a client closed for a response, in a world of roles. These functions do
 //! nothing: their contracts are the laws.
 
-ghost use Rattle.std.specs.Prelude.{ℕ};
+ghost use Rattle.std.specs.Prelude.{◌≡◌, ◌⊎◌, ℕ};
+ghost use Rattle.rh_http.specs.Lengths.{success};
 ghost use Rattle.rh_line.specs.declared.cause.Cause.TheVariants as cause;
 ghost use Rattle.rh_line.specs.declared.leg.LegKind.TheVariants.{ClientIn, ClientOut};
 ghost use Rattle.rh_record.specs.declared.answer.Who.TheVariants as who;
@@ -12,6 +13,7 @@ ghost use Rattle.rh_nodes.specs.Readers.{reader_of};
 ghost use Rattle.rh_nodes.specs.Settling.{leg_at};
 ghost use Rattle.rh_nodes.specs.World.{World};
 ghost use Rattle.rh_client.specs.declared.state.ClientRole.{ClientRole};
+ghost use Rattle.rh_inproxy.specs.Machine as in_proxy;
 ghost use Rattle.rh_inproxy.specs.State.{InProxy};
 ghost use Rattle.rh_outproxy.specs.declared.out_proxy.TheConstants.{ROOMS};
 ghost use Rattle.rh_outproxy.specs.Machine as out_proxy;
@@ -32,8 +34,9 @@ use rh_fifo::directions_are_joined;
 use rh_history::what_is_heard_was_drawn;
 use rh_inproxy::InProxyRole;
 use rh_outproxy::OutProxyRole;
+use rh_proxies_begin::an_in_proxy_refuses_first;
 use rh_server::ServerRole;
-use rh_traced::a_recording_of_roles_is_known;
+use rh_traced::{a_recording_of_roles_is_known, legs_of_roles_come_up_once};
 
 /// Whatever changes lead from a new world of roles: where the client is closed with `HttpRefused`,
 /// what the proxy at the other end of that leg drew there begins with the response that refuses the
@@ -75,4 +78,23 @@ pub fn a_refused_out_channel_was_refused_by_its_proxy<K>()
     a_recording_of_roles_is_known::<K>();
     what_is_heard_was_drawn::<K, ClientRole, ServerRole, InProxyRole, OutProxyRole>();
     directions_are_joined::<K>();
+}
+
+/// The same of an IN channel: all that the in proxy that reads it drew there is one refusal of that
+/// status; or the status is 200, of the answer to an echo request.
+pub fn a_refused_in_channel_was_refused_by_its_proxy<K>()
+    ensures { (m : Makers K InProxy OutProxy) (w : World K ClientRole Server InProxy OutProxy)
+        → IsNew w → (ours : AreOurs m w.company w.cast) → AreInRange (numbers_of ours)
+        → (v : World K ClientRole Server InProxy OutProxy) (lines : ByLines rules m deeds w v)
+        (n status : ℕ)
+        → ClosedWith (cause.HttpRefused (leg_at ClientIn n) status) v.company.client.course
+        → (let reader = reader_of v.readers n in
+        (status ≡ success)
+        ⊎ DrewRefusal (drawn_on in_proxy.rules (in_proxy.first_node (ours.in_config reader))
+        (leg_at ClientIn n) ((history_at m w v lines).ins reader)) status) }
+{
+    a_refused_client_heard_what_was_drawn::<K>();
+    legs_of_roles_come_up_once::<K>();
+    directions_are_joined::<K>();
+    an_in_proxy_refuses_first();
 }
