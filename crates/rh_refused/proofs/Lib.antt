@@ -10,3 +10,4 @@ mod OutTexts
 mod OutRefusals
 mod InTexts
 mod InRefusals
+mod Unavailables
