@@ -2,7 +2,6 @@
 use Rattle.std.proofs.Common.{◌≡◌, ℕ, List, [], ◌∷◌, ◌++◌, append_assoc, cond, Bool, true, false, Some, None, refl, sym, ap, ◌∙◌, subst}
 use Rattle.std.specs.declared.option.Option.{Option}
 use Rattle.std.proofs.lemmas.List.{append-nil}
-use mathlib.Core.List.{IsPrefix}
 use Rattle.rh_http.specs.declared.config.ClientConfig.{ClientConfig}
 use Rattle.rh_rts.specs.declared.command.Cookie.{Cookie}
 use Rattle.rh_order.proofs.Prefixes.{prefix_trans}
@@ -23,7 +22,7 @@ use Rattle.rh_shell.specs.Laws.{ClosedWith}
 use Rattle.rh_shell.specs.Moving.{Event, ComesUp, Hears, Ends, Breaks, Draws, Ticks, EndEvent, Happens, IsGiven, IsTaken, IsClosed, IsRecycled, after_event, after_end_event, after_end_events}
 use Rattle.rh_shell.specs.NearEnds.{NearEnd, is_marked}
 use Rattle.rh_shell.specs.Rules.{Rules, Acts}
-use Rattle.rh_shell.specs.Shells.{Shell, state_by, state_of, verdict_by, with_verdict, may_up, with_leg, end_at, drawn_at, drawn_by, put_back, same_leg}
+use Rattle.rh_shell.specs.Shells.{Shell, state_by, state_of, verdict_by, with_verdict, may_up, with_leg, end_at, drawn_at, drawn_by, put_back}
 use Rattle.rh_nodes.specs.declared.event.Event as telling
 use Rattle.rh_nodes.specs.declared.event.Event.TheVariants as news
 use Rattle.rh_nodes.specs.Telling.{cause_in, closing, told}
@@ -38,7 +37,7 @@ use Rattle.rh_causes.specs.Numbers.{ClientIsNumbered}
 use Rattle.rh_streams.specs.Streams.{HearsInTurn}
 use Rattle.rh_refused.specs.Refused.{BeginsRefused, HeardRefusal}
 use Rattle.rh_refused.proofs.Ends.{leg_itself}
-use Rattle.rh_refused.proofs.EndHeads.{accepted_front, after_more, happened_append}
+use Rattle.rh_refused.proofs.EndHeads.{accepted_front, happened_append}
 use Rattle.rh_refused.proofs.Heard.{ClientLaws, heard_refusal}
 
 one_cause : (c : Course) (a b : Cause) → ClosedWith a c → ClosedWith b c → a ≡ b
@@ -205,10 +204,10 @@ module _ (law : ClientLaws) (config : ClientConfig) (leg : Leg) (status : ℕ) w
         let piece : heard_in leg event ≡ r.piece =
         ap (heard_in leg) hears ∙ ap (λ (t : Bool). cond t r.piece []) (leg_itself leg) in
         let bytes : (heard_on leg (happened events) ++ r.piece) ++ heard_on leg (happened later)
-            ≡ heard_on leg (happened all) =
+        ≡ heard_on leg (happened all) =
         append_assoc (heard_on leg (happened events)) r.piece (heard_on leg (happened later))
-        ∙ ap (λ (x : List ℕ). heard_on leg (happened events) ++ (x ++ heard_on leg (happened later)))
-        (sym piece)
+        ∙ ap (λ (x : List ℕ).
+        heard_on leg (happened events) ++ (x ++ heard_on leg (happened later))) (sym piece)
         ∙ sym (ap (heard_on leg) whole
         ∙ heard_append leg (happened events) (event ∷ happened later)) in
         record {
@@ -251,7 +250,8 @@ module _ (law : ClientLaws) (config : ClientConfig) (leg : Leg) (status : ℕ) w
         → BeginsRefused (heard_on leg (happened all)) leg status
     find events [] is going h =
         let same : all ≡ events = is ∙ append-nil events in
-        absurd (subst (ClosedWith why) (ap (λ (x : List EndEvent). (after x).course) same ∙ going) h)
+        absurd (subst (ClosedWith why)
+        (ap (λ (x : List EndEvent). (after x).course) same ∙ going) h)
     find events (e ∷ later) is going h =
         by (after_end_event client.rules client.acts (after events) e).course refl
         (λ next. find (events ++ e ∷ []) later (is ∙ sym (append_assoc events (e ∷ []) later))

@@ -62,7 +62,7 @@ module _ {K : Type 0}
       let known_here = known m w v new ours leads in
       let events = (all_noted rules m deeds w nothing leads.changes).client in
       let node : v.company.client
-          ≡ after_end_events client.rules client.acts (client.first_client ours.config) events =
+      ≡ after_end_events client.rules client.acts (client.first_client ours.config) events =
       known_here.traced.runs.client
       ∙ ap (λ (s : Shell ClientRole). after_end_events client.rules client.acts s events)
       ours.client in

@@ -12,12 +12,11 @@ use Rattle.rh_shell.specs.declared.course.Course.{Course}
 use Rattle.rh_shell.specs.declared.course.Course.TheVariants.{Going, Closed, Refusing}
 use Rattle.rh_shell.specs.Laws.{ClosedWith}
 use Rattle.rh_shell.specs.declared.rooms.Rooms.{Rooms}
-use Rattle.rh_shell.specs.declared.stage.Stage.{Stage}
 use Rattle.rh_shell.specs.declared.stage.Stage.TheVariants as stage
 use Rattle.rh_shell.specs.Ends.{cause_of, give_where, take_where, close_where, recycle_where}
-use Rattle.rh_shell.specs.Hearing.{Turn, goes, hear}
+use Rattle.rh_shell.specs.Hearing.{goes, hear}
 use Rattle.rh_shell.specs.Intakes.{Intake}
-use Rattle.rh_shell.specs.Moves.{Move, Up, HeadCame, PduCame, PacketCame, Puts, IsDrawn, Marks, Pings, EndMove, Moves, Gives, Takes, Closes, Recycles, EndPassage, end_started, end_moved, all_end_moved, AreAllowedAtEnd, MayEndMove, is_in_use}
+use Rattle.rh_shell.specs.Moves.{Up, HeadCame, PduCame, PacketCame, Puts, IsDrawn, Marks, Pings, EndMove, Moves, Gives, Takes, Closes, Recycles, EndPassage, end_started, end_moved, all_end_moved, AreAllowedAtEnd, MayEndMove, is_in_use}
 use Rattle.rh_shell.specs.Moving.{Event, ComesUp, Hears, Ends, Breaks, Draws, Ticks, EndEvent, Happens, IsGiven, IsTaken, IsClosed, IsRecycled, after_event, after_end_event, after_end_events, EndFollows, AreHeld}
 use Rattle.rh_shell.specs.NearEnds.{NearEnd, is_ended, is_marked, is_over}
 use Rattle.rh_shell.specs.Rules.{Rules, Acts}
@@ -264,8 +263,8 @@ module _ {S : Type 0} (rules : Rules S) (acts : Acts S) (first : S) (rooms : Roo
     new_at s (first ∷ events) e new =
         new_at (after_end_event rules acts s first) events e new.1
 
-    pub accepted_front : (s : Shell S) (es fs : List EndEvent) → AreAcceptedAtEnd rules acts s (es ++ fs)
-        → AreAcceptedAtEnd rules acts s es
+    pub accepted_front : (s : Shell S) (es fs : List EndEvent)
+        → AreAcceptedAtEnd rules acts s (es ++ fs) → AreAcceptedAtEnd rules acts s es
     accepted_front s [] fs a = tt
     accepted_front s (e ∷ es) fs a =
         (a.0, accepted_front (after_end_event rules acts s e) es fs a.1)

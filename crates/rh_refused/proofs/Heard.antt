@@ -1,7 +1,6 @@
 -- what a client heard where it closes for a response
-use Rattle.std.proofs.Common.{◌≡◌, ◌<◌, ℕ, List, [], ◌∷◌, ◌++◌, append_assoc, Bool, true, false, Some, None, Err, arith, refl, sym, ap, ◌∙◌, subst}
+use Rattle.std.proofs.Common.{◌≡◌, ℕ, List, ◌++◌, append_assoc, Bool, true, false, Some, None, arith, refl, sym, ap, ◌∙◌, subst}
 use Rattle.std.specs.Prelude.{◌&&◌, not}
-use Rattle.std.specs.declared.option.Option.{Option}
 use Rattle.rh_http.specs.declared.config.ClientConfig.{ClientConfig}
 use Rattle.rh_line.specs.declared.cause.Cause.{Cause}
 use Rattle.rh_line.specs.declared.cause.Cause.TheVariants as cause
@@ -10,7 +9,7 @@ use Rattle.rh_shell.specs.declared.course.Course.{Course}
 use Rattle.rh_shell.specs.declared.course.Course.TheVariants.{Going, Closed, Refusing}
 use Rattle.rh_shell.specs.declared.stage.Stage.TheVariants as stage
 use Rattle.rh_shell.specs.Laws.{ClosedWith}
-use Rattle.rh_shell.specs.Moving.{Event, Hears, EndEvent, after_event, after_end_events}
+use Rattle.rh_shell.specs.Moving.{Hears, EndEvent, after_event, after_end_events}
 use Rattle.rh_shell.specs.NearEnds.{NearEnd, is_empty, is_over}
 use Rattle.rh_shell.specs.Shells.{Shell, end_at}
 use Rattle.rh_nodes.specs.declared.event.Event as told
@@ -26,7 +25,7 @@ use Rattle.rh_causes.specs.Numbers.{ClientIsNumbered}
 use Rattle.rh_streams.specs.Streams.{HearsInTurn}
 use Rattle.rh_refused.specs.Refused.{HeardRefusal}
 use Rattle.rh_refused.proofs.Ends.{end_is}
-use Rattle.rh_refused.proofs.EndHeads.{EndLaws, Kept, kept}
+use Rattle.rh_refused.proofs.EndHeads.{EndLaws, kept}
 
 pub first_numbered : (config : ClientConfig) → ClientIsNumbered (first config)
 first_numbered config = record {

@@ -1,5 +1,5 @@
 -- the bytes that are held of a head are all that were heard
-use Rattle.std.proofs.Common.{◌≡◌, ℕ, List, [], ◌∷◌, ◌++◌, append_assoc, length, cond, Bool, true, false, ◌||◌, Some, None, Ok, Err, refl, sym, ap, ◌∙◌, subst}
+use Rattle.std.proofs.Common.{◌≡◌, ℕ, List, [], ◌∷◌, ◌++◌, append_assoc, length, cond, Bool, true, false, ◌||◌, Some, None, Ok, Err, refl, sym, ap, ◌∙◌}
 use Rattle.std.specs.Prelude.{nat_lt}
 use Rattle.std.specs.declared.option.Option.{Option}
 use Rattle.std.specs.declared.result.Result.{Result}
@@ -17,8 +17,8 @@ use Rattle.rh_shell.specs.declared.stage.Stage.{Stage}
 use Rattle.rh_shell.specs.declared.stage.Stage.TheVariants as stage
 use Rattle.rh_shell.specs.declared.stop.Stop.{Stop}
 use Rattle.rh_shell.specs.Hearing.{take as taken}
-use Rattle.rh_shell.specs.Hearing.{Turn, goes, stops, stop, hear, hear_byte, touched, with_intake, take_next, take_frame, take_greeting, begun_body, head_row, behind_head, behind_frame, stage_of, heading, is_greeting, is_stopped}
-use Rattle.rh_shell.specs.Intakes.{Intake, behind, holds, length_told, Came, Nothing, Head, Greeting, Frame, Fault, Over, byte_by, body_byte, counted, frame_by, frame_byte, is_full, is_whole_head, is_whole_greeting, on_byte, text_by}
+use Rattle.rh_shell.specs.Hearing.{Turn, goes, stops, stop, hear, hear_byte, touched, with_intake, take_next, take_frame, begun_body, head_row, behind_head, behind_frame, stage_of, heading, is_greeting, is_stopped}
+use Rattle.rh_shell.specs.Intakes.{Intake, behind, holds, length_told, Came, Nothing, Head, Greeting, Frame, Over, byte_by, counted, frame_by, frame_byte, is_full, is_whole_head, is_whole_greeting, on_byte, text_by}
 use Rattle.rh_shell.specs.NearEnds.{NearEnd, is_over}
 use Rattle.rh_shell.specs.Rules.{Rules}
 

@@ -1,5 +1,5 @@
 -- an in proxy that drew what refuses its client refused it, or answered an echo request
-use Rattle.std.proofs.Common.{◌≡◌, ℕ, ◌≤◌, ◌⊎◌, inl, inr, List, [], ◌∷◌, ◌++◌, append_assoc, None, Some, arith, refl, sym, ap, ◌∙◌, subst}
+use Rattle.std.proofs.Common.{◌≡◌, ℕ, ◌⊎◌, inl, inr, List, [], ◌∷◌, ◌++◌, append_assoc, arith, sym, ap, ◌∙◌, subst}
 use Rattle.std.specs.List.{AllByRecursion}
 use mathlib.Core.List.{IsPrefix}
 use Rattle.rh_http.specs.Texts.{response_text}
@@ -8,7 +8,7 @@ use Rattle.rh_order.proofs.Prefixes.{prefix_trans}
 use Rattle.rh_line.specs.declared.leg.Leg.{Leg}
 use Rattle.rh_shell.specs.Carrying.{spelled}
 use Rattle.rh_shell.specs.Rules.{Message, spell}
-use Rattle.rh_inproxy.specs.Opening.{echo_answer, echo_packet}
+use Rattle.rh_inproxy.specs.Opening.{echo_packet}
 use Rattle.rh_streams.specs.Streams.{IsDrawn}
 use Rattle.rh_refused.specs.Refused.{BeginsRefused, DrewRefusal}
 use Rattle.rh_refused.proofs.InTexts.{IsEcho, echo_is}

@@ -1,10 +1,9 @@
 -- an out proxy that drew what refuses its client refused it
-use Rattle.std.proofs.Common.{◌≡◌, ℕ, ◌+◌, ◌≤◌, ◌⊎◌, inl, inr, List, [], ◌∷◌, ◌++◌, append_assoc, length, true, false, Some, Ok, arith, refl, sym, ap, ◌∙◌, subst}
+use Rattle.std.proofs.Common.{◌≡◌, ℕ, ◌+◌, ◌≤◌, ◌⊎◌, inl, inr, List, [], ◌∷◌, ◌++◌, append_assoc, length, true, Some, arith, refl, sym, ap, ◌∙◌, subst}
 use Rattle.std.specs.List.{AllByRecursion}
 use Rattle.std.proofs.lemmas.List.{append-nil, length-append}
 use mathlib.Core.List.{IsPrefix}
 use Rattle.rh_http.specs.declared.refusal.Refusal.{Refusal}
-use Rattle.rh_http.specs.declared.response.Response.{Response}
 use Rattle.rh_http.specs.Texts.{refusal_text, response_text, status_of}
 use Rattle.rh_http.proofs.WrittenResponses.{refusal_told, response_told}
 use Rattle.rh_heads.specs.Ends.{is_whole}
@@ -25,7 +24,8 @@ use Rattle.rh_refused.proofs.Told.{front_told, read_whole}
 
 -- no text is a front of nothing, and is a response
 pub none_refused : (leg : Leg) (status : ℕ) → BeginsRefused [] leg status → ⊥
-none_refused leg status b = by b.text b.front.0 b.front.1 (read_whole b.text b.refused.response b.refused.read)
+none_refused leg status b =
+    by b.text b.front.0 b.front.1 (read_whole b.text b.refused.response b.refused.read)
   where
     by : (text rest : List ℕ) → text ++ rest ≡ [] → is_whole text ≡ true → ⊥
     by [] rest e w = absurd cc
@@ -39,8 +39,8 @@ success_none k behind bytes leg status most out is b =
     b.refused.response (subst (IsPrefix b.text) is b.front) b.refused.read in
     b.refused.failure out (sym b.refused.told ∙ told.1)
 
-module _ (config : OutProxyConfig) (range : IsConfig config) (leg : Leg) (out : leg.kind ≡ ClientOut)
-    (status : ℕ) where
+module _ (config : OutProxyConfig) (range : IsConfig config) (leg : Leg)
+    (out : leg.kind ≡ ClientOut) (status : ℕ) where
   in_range : (k : ℕ) → (k ≡ 20) ⊎ (k ≡ config.lifetime + ping_room) → k ≤ 2147549184
   in_range k (inl is) = omega (arith, is)
   in_range k (inr is) = omega (arith, is, range.lifetime.1)
@@ -75,8 +75,13 @@ refusal_drawn refusal drawn leg status front b =
       named = sym told.1 ∙ b.refused.told;
       drew = sym whole
           ∙ ap (λ (x : List ℕ). text ++ x)
-          (none b.front.0 (omega (arith, ap length whole, ap length front.1,
-          length-append text b.front.0, length-append drawn front.0)))
+          (none b.front.0 (omega (
+            arith,
+            ap length whole,
+            ap length front.1,
+            length-append text b.front.0,
+            length-append drawn front.0,
+          )))
           ∙ append-nil text;
     }
   where

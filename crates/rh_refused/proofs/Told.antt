@@ -55,8 +55,12 @@ module _ (status n : ℕ) (text : List ℕ) (told : IsToldAs status n text) (fro
 
   short : length text ≤ 16384
   short =
-      omega (arith, fits (take 16384 all) (length text - 4) first.ends.1, first.ends.0,
-      length-take 16384 all)
+      omega (
+        arith,
+        fits (take 16384 all) (length text - 4) first.ends.1,
+        first.ends.0,
+        length-take 16384 all,
+      )
 
   same_length : length front ≡ length text
   same_length = ⊎_elim below above (cases_lt (length front) (length text))

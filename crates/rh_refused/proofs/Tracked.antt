@@ -1,6 +1,6 @@
 -- the ends of legs at a node that goes on: what an event makes of each
-use Rattle.std.proofs.Common.{◌≡◌, ℕ, List, [], ◌∷◌, ◌++◌, length, take, drop, cond, Bool, true, false, Some, None, refl, sym, ap, ◌∙◌, subst}
-use Rattle.std.specs.Prelude.{All, ◌&&◌, ◌||◌, nat_le}
+use Rattle.std.proofs.Common.{◌≡◌, ℕ, List, [], length, take, drop, cond, Bool, true, false, Some, None, refl, sym, ap, ◌∙◌, subst}
+use Rattle.std.specs.Prelude.{◌&&◌, nat_le}
 use Rattle.std.specs.declared.option.Option.{Option}
 use Rattle.rh_rts.specs.declared.command.Cookie.{Cookie}
 use Rattle.rh_http.specs.declared.refusal.Refusal.{Refusal}
@@ -12,17 +12,16 @@ use Rattle.rh_shell.specs.declared.course.Course.{Course}
 use Rattle.rh_shell.specs.declared.course.Course.TheVariants.{Going, Closed, Refusing}
 use Rattle.rh_shell.specs.declared.stop.Stop.{Stop}
 use Rattle.rh_shell.specs.Carrying.{Puts, Takes}
-use Rattle.rh_shell.specs.Drawing.{Drawn, draw}
+use Rattle.rh_shell.specs.Drawing.{draw}
 use Rattle.rh_shell.specs.Hearing.{Turn, goes, hear}
-use Rattle.rh_shell.specs.Intakes.{Intake}
 use Rattle.rh_shell.specs.Moves.{Passage, started}
 use Rattle.rh_shell.specs.Moving.{Event, ComesUp, Hears, Ends, Breaks, Draws, Ticks, after_event, IsHeld, AreHeld}
 use Rattle.rh_shell.specs.NearEnds.{NearEnd, is_ended, is_finished, is_marked, marked, new_end}
 use Rattle.rh_shell.specs.Rules.{Rules}
-use Rattle.rh_shell.specs.Shells.{Shell, end_at, with_end, place, close, refuse, stop_by, stopped, bytes_at, bytes_by, may_up, with_leg, seated_at, free_place, up, lose, lost, ended_at, ended_by, wants, is_heard, unreached_by, unreached, broken_at, broken_by, put_back, drawn_at, drawn_by, same_leg, first_silent, passed_by, passed, ticked, is_working}
+use Rattle.rh_shell.specs.Shells.{Shell, end_at, with_end, close, refuse, stop_by, stopped, bytes_at, bytes_by, may_up, with_leg, seated_at, free_place, up, lose, lost, ended_at, ended_by, wants, is_heard, unreached_by, unreached, broken_at, broken_by, put_back, drawn_at, drawn_by, same_leg, first_silent, passed_by, passed, ticked, is_working}
 use Rattle.rh_history.specs.Carried.{heard_in}
 use Rattle.rh_causes.specs.Once.{IsNewLeg}
-use Rattle.rh_refused.proofs.Ends.{AreApart, IsLeftOf, end_has, end_is, end_leg, end_of, leg_is, leg_itself, same_apart, seated_apart, seated_new, seated_other, set_beside, set_here}
+use Rattle.rh_refused.proofs.Ends.{AreApart, IsLeftOf, end_has, end_is, end_of, leg_is, leg_itself, same_apart, seated_apart, seated_new, seated_other, set_beside, set_here}
 
 -- what is known of pieces and draws, whatever the role
 pub record Carries {S : Type 0} (rules : Rules S) : Type 0 where
@@ -382,7 +381,8 @@ module _ {S : Type 0} (rules : Rules S) where
         where
           by_silent : (o : Option (Leg × ℕ))
               → Known event (passed_by rules (record s { now = now }) o)
-          by_silent None on = same (passed_by rules (record s { now = now }) None) event none on refl on
+          by_silent None on =
+              same (passed_by rules (record s { now = now }) None) event none on refl on
           by_silent (Some silent) on = absurd cc
 
           by : (t : Bool) → Known event (cond t (passed rules (record s { now = now })) s)

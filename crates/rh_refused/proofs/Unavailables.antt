@@ -1,6 +1,6 @@
 -- a proxy that drew the refusal of status 503 was told that its server is lost, if it drew no part
 -- of that while it went on
-use Rattle.std.proofs.Common.{◌≡◌, ℕ, ◌⊎◌, inl, inr, List, [], ◌∷◌, ◌++◌, get_or, length, arith, refl, sym, ap, ◌∙◌, subst}
+use Rattle.std.proofs.Common.{◌≡◌, ℕ, inl, inr, List, [], ◌∷◌, ◌++◌, get_or, length, arith, refl, sym, ap, ◌∙◌, subst}
 use Rattle.std.proofs.lemmas.List.{append-nil}
 use mathlib.Core.List.{IsPrefix}
 use Rattle.rh_http.specs.declared.refusal.Refusal.{Refusal}
@@ -12,7 +12,7 @@ use Rattle.rh_shell.specs.Moving.{Event, Breaks, after_events}
 use Rattle.rh_shell.specs.Rules.{Rules}
 use Rattle.rh_shell.specs.Shells.{Shell}
 use Rattle.rh_history.specs.Carried.{drawn_on}
-use Rattle.rh_traced.specs.Refusals.{DrawsGoing, DrawsRefusal, DrawsRightly, IsAmong}
+use Rattle.rh_traced.specs.Refusals.{DrawsRightly, IsAmong}
 use Rattle.rh_refused.specs.Refused.{DrewRefusal}
 
 unavailable_by : (r : Refusal) → status_of r ≡ 503 → r ≡ Unavailable
