@@ -1,7 +1,10 @@
--- a proxy that drew the refusal of status 503 was told that its server is lost, if it drew no part
--- of that while it went on
-use Rattle.std.proofs.Common.{◌≡◌, ℕ, inl, inr, List, [], ◌∷◌, ◌++◌, get_or, length, arith, refl, sym, ap, ◌∙◌, subst}
+-- a proxy that drew the refusal of status 503 was told that its server is lost, if it did not draw
+-- all of that while it went on
+use Rattle.std.proofs.Common.{◌≡◌, ℕ, inl, inr, List, [], ◌∷◌, ◌++◌, Bool, true, false, ◌||◌, drop, get_or, arith, refl, sym, ap, ◌∙◌, subst}
+use Rattle.std.specs.Prelude.{◌==◌}
+use Rattle.std.specs.List.{list_any}
 use Rattle.std.proofs.lemmas.List.{append-nil}
+use Rattle.std.proofs.lemmas.List.Folds.{list_any-append}
 use mathlib.Core.List.{IsPrefix}
 use Rattle.rh_http.specs.declared.refusal.Refusal.{Refusal}
 use Rattle.rh_http.specs.declared.refusal.Refusal.TheVariants.{Bad, Missing, Unavailable}
@@ -29,35 +32,49 @@ unavailable_front Bad p =
 unavailable_front Missing p =
     let digit : 53 ≡ 52 = ap (λ (x : List ℕ). get_or x 9 0) p.1 in absurd (omega (arith, digit))
 
+-- no byte of it but the first is one with which a refusal begins
+begins_one : ℕ → Bool
+begins_one b = b == 72
+
+or_true : (b : Bool) → (b || true) ≡ false → ⊥
+or_true true e = absurd cc
+or_true false e = absurd cc
+
+no_second : (x : ℕ) (xs bs : List ℕ) → (x ∷ xs) ++ 72 ∷ bs ≡ refusal_text Unavailable → ⊥
+unfolding begins_one
+no_second x xs bs e =
+    let seen : (list_any begins_one xs || true) ≡ false =
+    sym (list_any-append begins_one xs (72 ∷ bs))
+    ∙ ap (λ (l : List ℕ). list_any begins_one (drop 1 l)) e in
+    or_true (list_any begins_one xs) seen
+
+first_byte : (r : Refusal) (b : ℕ) (bs : List ℕ) → IsPrefix (b ∷ bs) (refusal_text r) → b ≡ 72
+first_byte Bad b bs p = ap (λ (l : List ℕ). get_or l 0 0) p.1
+first_byte Missing b bs p = ap (λ (l : List ℕ). get_or l 0 0) p.1
+first_byte Unavailable b bs p = ap (λ (l : List ℕ). get_or l 0 0) p.1
+
+-- where not all of it came first, a front of a refusal behind that makes it that one whole
+split_text : (before rest : List ℕ) (r : Refusal) → (before ≡ refusal_text Unavailable → ⊥)
+    → before ++ rest ≡ refusal_text Unavailable → IsPrefix rest (refusal_text r)
+    → r ≡ Unavailable
+split_text [] rest r fair all front =
+    unavailable_front r (subst (λ (x : List ℕ). IsPrefix x (refusal_text r)) all front)
+split_text (x ∷ xs) [] r fair all front = absurd (fair (sym (append-nil (x ∷ xs)) ∙ all))
+split_text (x ∷ xs) (b ∷ bs) r fair all front =
+    absurd (no_second x xs bs
+    (ap (λ (c : ℕ). (x ∷ xs) ++ c ∷ bs) (sym (first_byte r b bs front)) ∙ all))
+
 module _ {S : Type 0} (rules : Rules S) (first : Shell S) (server leg : Leg) (events : List Event)
-    (undrawn : (before : List Event) → (after_events rules first before).course ≡ Going
-    → IsPrefix (drawn_on rules first leg before) (refusal_text Unavailable)
-    → drawn_on rules first leg before ≡ []) where
+    (fair : (before : List Event) → (after_events rules first before).course ≡ Going
+    → drawn_on rules first leg before ≡ refusal_text Unavailable → ⊥) where
   told_lost : DrawsRightly rules first server leg events
       → drawn_on rules first leg events ≡ refusal_text Unavailable → IsAmong (Breaks server) events
-  told_lost (inl going) whole =
-      let same : drawn_on rules first leg going.before ≡ refusal_text Unavailable =
-      sym going.drawn ∙ whole in
-      let none = undrawn going.before going.going
-      (subst (IsPrefix (drawn_on rules first leg going.before)) same ([], end)) in
-      let size : 0 ≡ length (refusal_text Unavailable) = ap length (sym none ∙ same) in
-      absurd (empty size)
-    where
-      end : drawn_on rules first leg going.before ++ [] ≡ drawn_on rules first leg going.before
-      end = append-nil (drawn_on rules first leg going.before)
-
-      empty : 0 ≡ length (refusal_text Unavailable) → ⊥
-      empty e = omega (arith, e)
+  told_lost (inl going) whole = absurd (fair going.before going.going (sym going.drawn ∙ whole))
   told_lost (inr refuses) whole =
       let draws = refuses.0 in
-      let all : drawn_on rules first leg draws.before ++ draws.rest ≡ refusal_text Unavailable =
-      sym draws.drawn ∙ whole in
-      let none = undrawn draws.before draws.going (draws.rest, all) in
-      let rest : draws.rest ≡ refusal_text Unavailable =
-      ap (λ (x : List ℕ). x ++ draws.rest) (sym none) ∙ all in
       let is : draws.event ≡ Breaks server =
-      refuses.1 (unavailable_front draws.refusal
-      (subst (λ (x : List ℕ). IsPrefix x (refusal_text draws.refusal)) rest draws.front)) in
+      refuses.1 (split_text (drawn_on rules first leg draws.before) draws.rest draws.refusal
+      (fair draws.before draws.going) (sym draws.drawn ∙ whole) draws.front) in
       record {
         before = draws.before;
         behind = draws.behind;
