@@ -15,7 +15,7 @@ use Rattle.rh_refused.proofs.InTexts.{IsEcho, echo_is}
 use Rattle.rh_refused.proofs.OutRefusals.{none_refused, refusal_drawn}
 use Rattle.rh_refused.proofs.Told.{front_told}
 
-echo_success : (put : List Message) (leg : Leg) (status : ℕ) → AllByRecursion IsEcho put
+pub echo_success : (put : List Message) (leg : Leg) (status : ℕ) → AllByRecursion IsEcho put
     → BeginsRefused (spelled put) leg status → status ≡ 200
 echo_success [] leg status all b = absurd (none_refused leg status b)
 echo_success (message ∷ put) leg status all b =
