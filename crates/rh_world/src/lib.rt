@@ -16,5 +16,3 @@ pub use roles::Roles;
 pub use roles_world::RolesWorld;
 pub use world::World;
 
-#[cfg(test)]
-mod tests;
