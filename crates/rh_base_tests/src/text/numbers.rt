@@ -34,6 +34,11 @@ fn a_number_is_decimal_with_no_leading_zero(rt: HostRuntime) -> Result<(), Fail>
     ] {
         assert!(rt; read_number(text.as_bytes(), 1, 65_536).is_none(), "{text}");
     }
+    Ok(())
+}
+
+#[test]
+fn a_number_is_within_its_bounds(rt: HostRuntime) -> Result<(), Fail> {
     let greatest = read_number(b"18446744073709551615", 0, u64::MAX);
     assert_eq!(rt; greatest, Some(u64::MAX));
     assert_eq!(rt; read_number(b"0", 0, 0), Some(0));

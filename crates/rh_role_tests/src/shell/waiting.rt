@@ -3,6 +3,7 @@
 use rh_rts::Cookie;
 use rh_shell::{Due, FORWARDED_ROOM, Gate, OWN_ROOM, Origin, Waiting};
 use rh_sig::Named;
+use std::alloc::Global;
 use std::process::Abort;
 use std::test::Fail;
 
@@ -49,70 +50,92 @@ fn add(rt: &impl Abort, waiting: &mut Waiting, packet: Named) {
     waiting.add(packet);
 }
 
-#[test]
-fn acknowledgements_are_merged_in_place(rt: HostRuntime) -> Result<(), Fail> {
-    let other = Named::OutR1A9;
-    let rows = [
-        (
-            "a greater edge",
-            [ack(0, 100, 50, 1), other, ack(0, 101, 50, 1)],
-            [Some(ack(0, 101, 50, 1)), Some(other), None],
-        ),
-        (
-            "a smaller edge",
-            [ack(0, 200, 0, 1), other, ack(0, 100, 99, 1)],
-            [Some(ack(0, 200, 0, 1)), Some(other), None],
-        ),
-        (
-            "the same edge",
-            [ack(0, 100, 50, 1), other, ack(0, 150, 0, 1)],
-            [Some(ack(0, 150, 0, 1)), Some(other), None],
-        ),
-        (
-            "an edge above 32 bits",
-            [ack(0, u32::MAX, 1, 1), other, ack(0, 5, 5, 1)],
-            [Some(ack(0, u32::MAX, 1, 1)), Some(other), None],
-        ),
-        (
-            "another destination",
-            [ack(0, 100, 50, 1), other, ack(2, 101, 50, 1)],
-            [
-                Some(ack(0, 100, 50, 1)),
-                Some(other),
-                Some(ack(2, 101, 50, 1)),
-            ],
-        ),
-        (
-            "another channel",
-            [ack(0, 100, 50, 1), other, ack(0, 101, 50, 2)],
-            [
-                Some(ack(0, 100, 50, 1)),
-                Some(other),
-                Some(ack(0, 101, 50, 2)),
-            ],
-        ),
-        (
-            "no acknowledgement",
-            [other, ack(0, 100, 50, 1), other],
-            [Some(other), Some(ack(0, 100, 50, 1)), Some(other)],
-        ),
-        (
-            "three of one",
-            [ack(3, 1, 0, 1), ack(3, 3, 0, 1), ack(3, 2, 0, 1)],
-            [Some(ack(3, 3, 0, 1)), None, None],
-        ),
-    ];
+// A name, three packets that are forwarded, and those that stand then.
+type Forwards = (&'static str, [Named; 3], [Option<Named>; 3]);
+
+// Each of these stands as its row says.
+fn they_stand(rt: &impl Abort, alloc: Global, rows: &[Forwards]) -> Result<(), Fail> {
     for (name, packets, stand) in rows {
-        let mut waiting = Waiting::new(rt.alloc(), 3)?;
-        for packet in packets {
-            assert!(rt; forward(&rt, &mut waiting, packet), "{name}");
+        let mut waiting = Waiting::new(alloc, 3)?;
+        for &packet in packets {
+            assert!(rt; forward(rt, &mut waiting, packet), "{name}");
         }
-        for one in stand {
+        for &one in stand {
             assert!(rt; waiting.take(&Free).map(|due| due.packet) == one, "{name}");
         }
         assert!(rt; waiting.is_empty(), "{name}");
     }
     Ok(())
+}
+
+#[test]
+fn acknowledgements_of_one_channel_are_merged_in_place(rt: HostRuntime) -> Result<(), Fail> {
+    let other = Named::OutR1A9;
+    they_stand(
+        &rt,
+        rt.alloc(),
+        &[
+            (
+                "a greater edge",
+                [ack(0, 100, 50, 1), other, ack(0, 101, 50, 1)],
+                [Some(ack(0, 101, 50, 1)), Some(other), None],
+            ),
+            (
+                "a smaller edge",
+                [ack(0, 200, 0, 1), other, ack(0, 100, 99, 1)],
+                [Some(ack(0, 200, 0, 1)), Some(other), None],
+            ),
+            (
+                "the same edge",
+                [ack(0, 100, 50, 1), other, ack(0, 150, 0, 1)],
+                [Some(ack(0, 150, 0, 1)), Some(other), None],
+            ),
+            (
+                "an edge above 32 bits",
+                [ack(0, u32::MAX, 1, 1), other, ack(0, 5, 5, 1)],
+                [Some(ack(0, u32::MAX, 1, 1)), Some(other), None],
+            ),
+            (
+                "three of one",
+                [ack(3, 1, 0, 1), ack(3, 3, 0, 1), ack(3, 2, 0, 1)],
+                [Some(ack(3, 3, 0, 1)), None, None],
+            ),
+        ],
+    )
+}
+
+#[test]
+fn other_packets_stand_apart(rt: HostRuntime) -> Result<(), Fail> {
+    let other = Named::OutR1A9;
+    they_stand(
+        &rt,
+        rt.alloc(),
+        &[
+            (
+                "another destination",
+                [ack(0, 100, 50, 1), other, ack(2, 101, 50, 1)],
+                [
+                    Some(ack(0, 100, 50, 1)),
+                    Some(other),
+                    Some(ack(2, 101, 50, 1)),
+                ],
+            ),
+            (
+                "another channel",
+                [ack(0, 100, 50, 1), other, ack(0, 101, 50, 2)],
+                [
+                    Some(ack(0, 100, 50, 1)),
+                    Some(other),
+                    Some(ack(0, 101, 50, 2)),
+                ],
+            ),
+            (
+                "no acknowledgement",
+                [other, ack(0, 100, 50, 1), other],
+                [Some(other), Some(ack(0, 100, 50, 1)), Some(other)],
+            ),
+        ],
+    )
 }
 
 #[test]
