@@ -1,5 +1,6 @@
 -- the client wants the leg, and its proxy was not made
-use Rattle.std.proofs.Common.{◌≡◌, ◌<◌, true, nat_lt, ap, arith}
+use Rattle.std.proofs.Common.{◌≡◌, ◌<◌, Bool, true, nat_lt, ap, subst, arith}
+use Rattle.std.specs.Prelude.{IfOk}
 use Rattle.std.proofs.lemmas.Bool.{lt-ltb}
 use Rattle.rh_record.specs.declared.answer.Who.TheVariants as who
 use Rattle.rh_nodes.specs.Company as company
@@ -27,8 +28,9 @@ returns g c =
     let none = c.if-not-is_absent.false in
     let place = ap (λ (v : World _ _ _ _ _). ask is_absent true v.company.outs leg.number) view in
     let absent : ask is_absent true w.company.outs leg.number ≡ true = cc in
-    let P = λ (d : World _ _ _ _ _ × Bool). IfOk c.result (λ ok. (c.open_out_to_new.new.self, ok) ≡ d) in
-    subst P (made_out r g.K.Cast.out_proxy w leg
-    (all_three (nat_lt 0 leg.number) (company.wants r w.company who.Client leg)
-    (ask is_absent true w.company.outs leg.number) (lt-ltb 0 leg.number numbered) wanted absent))
-    c.open_out_to_new.ensures
+    let may =
+    all_three (nat_lt 0 leg.number) (company.wants r w.company who.Client leg)
+    (ask is_absent true w.company.outs leg.number) (lt-ltb 0 leg.number numbered) wanted absent in
+    subst (λ (did : World _ _ _ _ _ × Bool). IfOk c.open_out_to_new.result
+    (λ ok. (c.open_out_to_new.new.self, ok) ≡ did))
+    (made_out r g.K.Cast.out_proxy w leg may) c.open_out_to_new.ensures
