@@ -109,7 +109,7 @@ module _ {K : Type 0} (m : Makers K InProxy OutProxy)
       own = order.own;
       reads = order.reads;
       opened = order.opened;
-      joined = order.joined;
+      unread = order.unread;
     };
     client_legible = legible.client;
     proxies_legible = legible.ins;
