@@ -93,6 +93,10 @@ still rules first rooms pipe events none = record {
   drawn = λ leg refuses.
       inl (subst (λ (e : List Event). IsPrefix (drawn_on rules (begun first rooms) leg e) [])
       (sym none) ([], refl));
+  heads = λ leg. tt;
+  refused = λ leg refuses.
+      inl (subst (λ (e : List Event). IsPrefix (drawn_on rules (begun first rooms) leg e) [])
+      (sym none) ([], refl));
   goes = λ leg going.
       subst (λ (e : List Event). IsPrefix (drawn_on rules (begun first rooms) leg e) []) (sym none)
       ([], refl);

@@ -450,12 +450,12 @@ module _ {S : Type 0} (rules : Rules S) (acts : Acts S) (first : S) (rooms : Roo
       (subst (λ x. HearsInTurn (happened x)) (sym same) turn)
       (λ known. subst HaveCookies (sym same) (have known)))))
 
-  drawn_is : (leg : Leg) (p : Passage S) (bytes : List ℕ)
+  drawn_is : (leg : Leg) (p : Passage S) (heard bytes : List ℕ)
       → IsPrefix bytes (spelled (of_leg leg p.put))
-      ⊎ FrontOf rules (pipe leg) leg (Sound leg) ⊥ p bytes
+      ⊎ FrontOf rules (pipe leg) leg (Sound leg) ⊥ p heard bytes
       → IsPrefix bytes (spelled (of_leg leg p.put))
-  drawn_is leg p bytes (inl front) = front
-  drawn_is leg p bytes (inr front) = absurd front.answering.may
+  drawn_is leg p heard bytes (inl front) = front
+  drawn_is leg p heard bytes (inr front) = absurd front.answering.may
 
   pub end_stream : AreAcceptedAtEnd rules acts start all → HearsInTurn (happened all)
       → EndStream rules acts first rooms pipe all
@@ -474,7 +474,7 @@ module _ {S : Type 0} (rules : Rules S) (acts : Acts S) (first : S) (rooms : Roo
     drawn = λ leg.
         subst (λ (x : Passage S). IsPrefix (end_drawn_on rules acts start leg all)
         (spelled (of_leg leg x.put))) (sym ran.at.is)
-        (drawn_is leg ran.passage (end_drawn_on rules acts start leg all)
+        (drawn_is leg ran.passage (heard_on leg (happened all)) (end_drawn_on rules acts start leg all)
         ((ran.kept leg).spells tt));
     seats = λ leg end going at.
         subst (λ (x : Passage S). Seated rules (after_end_events rules acts start all).role

@@ -1,6 +1,7 @@
 mod Ways
 mod Staging
 mod Bytes
+mod Heads
 mod Hears
 mod Pieces
 mod Draws

@@ -79,6 +79,7 @@ module _ {S : Type 0} (rules : Rules S) (pipes : Leg → Option Pipe) (Sound : L
     staged = λ leg. record { on = tt; none = λ e. refl };
     kept = λ leg. record {
       front = ([], refl);
+      texts = tt;
       spells = λ sound. inl ([], refl);
       seat = tt;
       new = λ e. record {

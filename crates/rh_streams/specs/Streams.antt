@@ -8,6 +8,7 @@ use Rattle.rh_rts.specs.declared.command.Cookie.{Cookie}
 use Rattle.rh_rts.specs.declared.command.TheConstants.{COOKIE_LEN}
 use Rattle.rh_http.specs.declared.fault.HttpFault.{HttpFault}
 use Rattle.rh_http.specs.declared.refusal.Refusal.{Refusal}
+use Rattle.rh_http.specs.declared.refusal.Refusal.TheVariants.{Unavailable}
 use Rattle.rh_http.specs.Texts.{refusal_text}
 use Rattle.rh_sig.specs.declared.name.Pipe.{Pipe}
 use Rattle.rh_line.specs.declared.leg.Leg.{Leg}
@@ -18,14 +19,14 @@ use Rattle.rh_shell.specs.declared.stage.Stage.{Stage}
 use Rattle.rh_shell.specs.declared.stage.Stage.TheVariants as stage
 use Rattle.rh_shell.specs.Carrying.{spelled, accepted, handed}
 use Rattle.rh_shell.specs.Ends.{give}
-use Rattle.rh_shell.specs.Intakes.{Intake}
-use Rattle.rh_shell.specs.Moves.{Move, Up, EndMove, Moves, Passage, EndPassage, started, end_started, moved, all_moved, MayMove, AreAllowed, end_moved, all_end_moved, MayEndMove, AreAllowedAtEnd, is_in_use}
+use Rattle.rh_shell.specs.Intakes.{Intake, is_whole_head}
+use Rattle.rh_shell.specs.Moves.{Move, Up, HeadCame, EndMove, Moves, Passage, EndPassage, started, end_started, moved, all_moved, MayMove, AreAllowed, end_moved, all_end_moved, MayEndMove, AreAllowedAtEnd, is_in_use}
 use Rattle.rh_shell.specs.Moving.{Event, ComesUp, Hears, EndEvent, IsGiven, IsTaken, after_events, after_end_event, after_end_events, Leads, EndLeads}
 use Rattle.rh_shell.specs.NearEnds.{NearEnd, first_stage, is_over}
 use Rattle.rh_shell.specs.Rules.{Rules, Acts, Message}
 use Rattle.rh_shell.specs.Shells.{Shell, begun, end_at, same_leg}
 use Rattle.rh_shell.specs.Wires.{of_leg}
-use Rattle.rh_reading.specs.Reading.{begin, messages_read, reading, reading_after}
+use Rattle.rh_reading.specs.Reading.{IsWholeText, begin, messages_read, reading, reading_after}
 use Rattle.rh_history.specs.Carried.{heard_on, drawn_on, end_drawn_on, came_up, happened}
 use Rattle.rh_streams.specs.Turns.{AreInTurn, RefusesInTurn}
 pub use Rattle.rh_streams.specs.Turns.{is_head_on}
@@ -89,6 +90,33 @@ is_live stage.Frames = true
 is_live stage.PassedOver = false
 is_live stage.Shut = false
 
+-- the text is the head with which the bytes begin
+pub record IsFirstHead (text bytes : List ℕ) : Type 0 where
+  pub whole : IsWholeText is_whole_head text
+  pub front : IsPrefix text bytes
+
+-- a head that came on the leg by the move is the one with which the bytes there begin
+abbrev pub IsHeadOf : Leg → List ℕ → Move → Type 0
+IsHeadOf leg heard (HeadCame other text) = same_leg other leg ≡ true → IsFirstHead text heard
+IsHeadOf leg heard move = Unit {0}
+
+-- a head with which the bytes begin was refused on the leg, by the role as it was then
+pub record RefusesText {S : Type 0} (rules : Rules S) (leg : Leg) (heard : List ℕ) : Type 0 where
+  pub role : S
+  pub text : List ℕ
+  pub stands : IsFirstHead text heard
+  pub fault : HttpFault
+  pub refuses : (rules.head role leg text).1 ≡ Err (head.Request fault)
+
+-- what was drawn is a front of a refusal alone, for a leg that cannot be connected or for a head
+-- that was refused
+pub record RefusalDrawn {S : Type 0} (rules : Rules S) (leg : Leg) (put : List Message)
+    (heard drawn : List ℕ) : Type 0 where
+  pub none : put ≡ []
+  pub refusal : Refusal
+  pub front : IsPrefix drawn (refusal_text refusal)
+  pub why : (refusal ≡ Unavailable) ⊎ RefusesText rules leg heard
+
 -- all messages in the bytes came, and the intake stands where their reading does
 pub record IsReadTo (pipe : Option Pipe) (came : List Message) (heard : List ℕ) (intake : Intake)
     : Type 0 where
@@ -118,6 +146,12 @@ pub record Stream {S : Type 0} (rules : Rules S) (first : S) (rooms : Rooms)
       → IsPrefix (of_leg leg passage.came) (messages_read (pipe leg) (heard_on leg events))
   pub drawn : (leg : Leg) → RefusesInTurn rules first pipe leg
       → IsDrawn (of_leg leg passage.put) (drawn_on rules (begun first rooms) leg events)
+  -- so each head that came, and why the client was refused
+  pub heads : (leg : Leg) → AllByRecursion (IsHeadOf leg (heard_on leg events)) leads.moves
+  pub refused : (leg : Leg) → RefusesInTurn rules first pipe leg
+      → (let bytes = drawn_on rules (begun first rooms) leg events in
+      IsPrefix bytes (spelled (of_leg leg passage.put))
+      ⊎ RefusalDrawn rules leg (of_leg leg passage.put) (heard_on leg events) bytes)
   pub goes : (leg : Leg) → (after_events rules (begun first rooms) events).course ≡ Going
       → IsPrefix (drawn_on rules (begun first rooms) leg events)
       (spelled (of_leg leg passage.put))
