@@ -1,7 +1,7 @@
 mod Ways
 mod Staging
 mod Bytes
-mod Heads
+pub mod Heads
 mod Hears
 mod Pieces
 mod Draws
