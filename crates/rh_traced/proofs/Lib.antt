@@ -4,5 +4,5 @@ mod HeardBefore
 mod Readers
 mod Openings
 mod Remembering
-mod LostLegs
+pub mod LostLegs
 mod RefusedDraws
