@@ -29,7 +29,7 @@ use Rattle.rh_outproxy.specs.Machine as out_proxy
 use Rattle.rh_outproxy.specs.OutProxy.{OutProxy, new_proxy}
 use Rattle.rh_history.specs.Carried.{drawn_on, heard_on}
 use Rattle.rh_reading.specs.Reading.{Begins, IsWholeText}
-use Rattle.rh_streams.specs.Streams.{IsFirstHead, RefusalDrawn, RefusesText, Stream}
+use Rattle.rh_streams.specs.Streams.{IsFirstHead, RefusalDrawn, Stream}
 use Rattle.rh_streams.specs.Turns.{AreInTurn, RefusesInTurn}
 use Rattle.rh_ends_begin.specs.Begins.{IsRequestOf}
 use Rattle.rh_proxies_begin.specs.Echoes.{AsksNoEcho}

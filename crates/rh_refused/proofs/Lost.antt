@@ -1,6 +1,6 @@
 -- a proxy that drew the refusal of status 503 was told that its server is lost, since what it put
 -- while it went on does not begin with that
-use Rattle.std.proofs.Common.{◌≡◌, ℕ, List, ◌++◌}
+use Rattle.std.proofs.Common.{◌≡◌, List, ◌++◌}
 use Rattle.std.specs.declared.option.Option.{Option}
 use mathlib.Core.List.{IsPrefix}
 use Rattle.rh_http.specs.declared.refusal.Refusal.TheVariants.{Unavailable}

@@ -1,7 +1,6 @@
 -- the proxies of a world of roles at a moment that lines reach, and what the client drew there
-use Rattle.std.proofs.Common.{◌≡◌, ℕ, List, Some, sym, ap, ◌∙◌, subst}
+use Rattle.std.proofs.Common.{◌≡◌, ℕ, List, Some, ap, ◌∙◌, subst}
 use Rattle.std.specs.List.{AllByRecursion}
-use mathlib.Core.List.{IsPrefix}
 use Rattle.rh_http.specs.declared.config.ClientConfig.{ClientConfig}
 use Rattle.rh_sig.specs.declared.name.Pipe.TheVariants.{CiU, CoU}
 use Rattle.rh_line.specs.declared.leg.Leg.{Leg}
@@ -28,7 +27,7 @@ use Rattle.rh_outproxy.specs.declared.state.OutProxyConfig.{OutProxyConfig}
 use Rattle.rh_outproxy.specs.Machine as out_proxy
 use Rattle.rh_outproxy.specs.OutProxy.{OutProxy, new_proxy}
 use Rattle.rh_server.specs.States.{Server}
-use Rattle.rh_history.specs.Carried.{AreAccepted, ComesUpOnce, LegsComeUpOnce, end_drawn_on}
+use Rattle.rh_history.specs.Carried.{AreAccepted, ComesUpOnce, LegsComeUpOnce}
 use Rattle.rh_history.specs.Changes.{ByLines, Leads}
 use Rattle.rh_history.specs.Histories.{IsNew}
 use Rattle.rh_streams.specs.Streams.{EndStream, HasPipes, StaysUnused}

@@ -1,10 +1,10 @@
 -- the head with which bytes that a client drew begin is its request, which a proxy reads
-use Rattle.std.proofs.Common.{◌≡◌, ◌⊎◌, inl, inr, ℕ, ◌-◌, ◌≤◌, ◌<◌, List, [], ◌∷◌, ◌++◌, length, take, Bool, true, false, Some, Ok, arith, refl, sym, ap, ◌∙◌, subst, ⊎_elim}
+use Rattle.std.proofs.Common.{◌≡◌, ◌⊎◌, inl, inr, ℕ, ◌-◌, ◌≤◌, ◌<◌, List, [], ◌∷◌, ◌++◌, length, take, Bool, true, false, Ok, arith, refl, sym, ap, ◌∙◌, subst, ⊎_elim}
 use Rattle.std.specs.List.{AllByRecursion}
 use Rattle.std.specs.Prelude.{IsTrue}
 use Rattle.std.specs.declared.option.Option.{Option}
 use Rattle.std.proofs.lemmas.Bool.{cases_lt}
-use Rattle.std.proofs.lemmas.List.{append-nil, append_assoc, length-take, take_all, take-append-le}
+use Rattle.std.proofs.lemmas.List.{append-nil, length-take, take_all, take-append-le}
 use Rattle.std.proofs.Math.Seq.{take-append_seam}
 use mathlib.Core.List.{IsPrefix}
 use Rattle.rh_order.proofs.Prefixes.{prefix_trans}
@@ -15,7 +15,7 @@ use Rattle.rh_http.specs.Ends.{FirstEnd}
 use Rattle.rh_http.specs.Lengths.{may_ask}
 use Rattle.rh_http.specs.Reading.{IsAnswer}
 use Rattle.rh_http.specs.Requests.{JudgesRequest, method_of}
-use Rattle.rh_http.specs.Texts.{in_request, out_request, request_text}
+use Rattle.rh_http.specs.Texts.{request_text}
 use Rattle.rh_http.proofs.EndLemmas.{fits}
 use Rattle.rh_http.proofs.Written.{request_read}
 use Rattle.rh_heads.specs.Verdicts.{asked, request_verdict}

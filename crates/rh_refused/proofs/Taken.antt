@@ -1,6 +1,6 @@
 -- proxies take the requests of a client whose numbers are in their ranges, and no such request is
 -- one for an echo
-use Rattle.std.proofs.Common.{◌≡◌, ◌⊎◌, inl, inr, ℕ, ◌≤◌, List, [], ◌∷◌, Bool, true, false, ◌||◌, ◌&&◌, nat_le, Ok, Err, arith, refl, sym, ap, ◌∙◌, subst}
+use Rattle.std.proofs.Common.{◌≡◌, inl, inr, ℕ, ◌≤◌, List, [], ◌∷◌, true, false, nat_le, Ok, Err, arith, refl, sym, ap, ◌∙◌}
 use Rattle.std.specs.Prelude.{IsTrue}
 use Rattle.std.specs.List.{AllByRecursion}
 use Rattle.std.specs.declared.result.Result.{Result}
@@ -8,7 +8,6 @@ use Rattle.std.proofs.lemmas.Bool.Decides.{nat_tests}
 use Rattle.rh_http.specs.declared.config.ClientConfig.{ClientConfig}
 use Rattle.rh_http.specs.declared.fault.HttpFault.{HttpFault}
 use Rattle.rh_http.specs.Lengths.{greatest_echo, may_ask}
-use Rattle.rh_http.specs.Texts.{in_request, out_request}
 use Rattle.rh_heads.specs.Verdicts.{Asked, request_verdict}
 use Rattle.rh_http.specs.Requests.{host_text}
 use Rattle.rh_line.specs.declared.leg.Leg.{Leg}
