@@ -26,13 +26,13 @@ use Rattle.rh_ends_begin.proofs.ClientPuts.{AreFirst, puts}
 -- the steps of a client keep what stands on its legs
 module _ (config : ClientConfig) (IsFirst : List ℕ → Type 0) (came : ℕ → Type 0)
     (asks : AreFirst config IsFirst) where
-  abbrev Holds : Logs → ClientRole → Type 0
+  abbrev pub Holds : Logs → ClientRole → Type 0
   Holds logs s = Keeps config IsFirst came logs s
 
-  abbrev LegCame : Leg → Type 0
+  abbrev pub LegCame : Leg → Type 0
   LegCame leg = CameUp config IsFirst came leg.kind leg.number
 
-  steps : StepsKeep rules acts Holds LegCame
+  pub steps : StepsKeep rules acts Holds LegCame
   steps = record {
     up = λ logs s leg cookie may up k.
         up_keeps config IsFirst came logs s leg.number cookie leg.kind may up k;
@@ -51,7 +51,7 @@ module _ (config : ClientConfig) (IsFirst : List ℕ → Type 0) (came : ℕ →
     recycle = λ logs s k. recycle_keeps config IsFirst came logs s s.replacement refl k;
   }
 
-  starts : Holds (logs_of []) (first config)
+  pub starts : Holds (logs_of []) (first config)
   starts = record {
     config_stays = refl;
     ins = starts_front came;
@@ -72,7 +72,7 @@ module _ (config : ClientConfig) (IsFirst : List ℕ → Type 0) (came : ℕ →
         λ k above. refl,
       )
 
-  says_kind : (n : ℕ) (kind : LegKind) → (kind ≡ ClientIn → came n)
+  pub says_kind : (n : ℕ) (kind : LegKind) → (kind ≡ ClientIn → came n)
       → CameUp config IsFirst came kind n
   says_kind n ClientIn says = says refl
   says_kind n ClientOut says = tt
@@ -93,7 +93,7 @@ module _ (config : ClientConfig) (IsFirst : List ℕ → Type 0) (came : ℕ →
 abbrev Whole : List ℕ → Type 0
 Whole text = IsWholeText is_whole_head text
 
-abbrev AnyUp : ℕ → Type 0
+abbrev pub AnyUp : ℕ → Type 0
 AnyUp n = Unit {0}
 
 begins_by : (config : ClientConfig) (put : List OnLeg) (s : ClientRole)
@@ -137,7 +137,7 @@ client_begins ins outs config all allowed =
 
 -- ---- on which legs it wrote
 
-abbrev Any : List ℕ → Type 0
+abbrev pub Any : List ℕ → Type 0
 Any text = Unit {0}
 
 pub client_writes : (config : ClientConfig) (all : List EndMove) → AreAllowedMoves config all

@@ -6,6 +6,9 @@ pub mod client;
 pub mod ends;
 pub mod server;
 
-pub use client::{a_client_begins_with_a_request, a_client_writes_on_a_leg_that_came_up};
+pub use client::{
+    a_client_asks_by_its_requests, a_client_begins_with_a_request,
+    a_client_writes_on_a_leg_that_came_up,
+};
 pub use ends::an_end_never_refuses;
 pub use server::a_server_begins_with_a_greeting;

@@ -1,7 +1,7 @@
 mod Legs
 mod Fine
 mod Heard
-mod Flowing
+pub mod Flowing
 mod Starting
 mod Legal
 mod Reaching

@@ -2,6 +2,7 @@
 //! laws.
 
 ghost use Rattle.std.specs.Prelude.{ℕ, ◌≡◌, ◌≤◌, List, [], true, false, Some, None};
+ghost use Rattle.std.specs.List.{AllByRecursion};
 ghost use Rattle.rh_sig.specs.declared.name.Pipe.TheVariants.{IsU};
 ghost use Rattle.rh_line.specs.declared.leg.Leg.{Leg};
 ghost use Rattle.rh_shell.specs.Moves.{Move, started, all_moved, AreAllowed};
@@ -12,6 +13,7 @@ ghost use Rattle.rh_inproxy.specs.InReplacement.{has_passed};
 ghost use Rattle.rh_inproxy.specs.Machine.{rules};
 ghost use Rattle.rh_inproxy.specs.State.{first, is_client_leg};
 ghost use Rattle.rh_reading.specs.Reading.{Begins};
+ghost use Rattle.rh_proxies_begin.specs.Echoes.{AsksNoEcho};
 ghost use Rattle.rh_proxies_begin.specs.Pipes.{ci, is, in_pipe};
 ghost use Rattle.rh_proxies_begin.specs.Reached.{IsKnown, came_up_by};
 ghost use Rattle.rh_streams.specs.Streams.{RefusesFirst};
@@ -38,6 +40,15 @@ pub fn an_in_proxy_begins()
     texts_are_whole();
     heads_have_no_messages();
 }
+
+/// Where no head that came on a ci leg asks for an echo, it put nothing there, if its moves are in
+/// their turn.
+pub fn an_in_proxy_answers_echoes_alone()
+    ensures { (config : InProxyConfig) (moves : List Move) (number : ℕ)
+        → AreAllowed rules (started (first config)) moves → AreInTurn rules (first config) moves
+        → AllByRecursion (AsksNoEcho (ci number)) moves
+        → of_leg (ci number) (all_moved rules (started (first config)) moves).put ≡ [] }
+{}
 
 /// An in proxy refuses its client on a ci leg only where it put nothing there, if its moves are in
 /// their turn; and on other legs whatever moves it makes.

@@ -5,5 +5,5 @@ mod Readers
 mod Openings
 pub mod ByChanges
 mod Remembering
-mod LostLegs
+pub mod LostLegs
 mod RefusedDraws

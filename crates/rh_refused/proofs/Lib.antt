@@ -1,0 +1,16 @@
+mod Told
+mod Heard
+mod ClosedClients
+mod Drawn
+mod OutTexts
+mod OutRefusals
+mod InTexts
+mod InRefusals
+mod Unavailables
+mod Fronts
+mod Lost
+mod Requests
+mod Moments
+mod Taken
+mod Reasons
+mod Losses
