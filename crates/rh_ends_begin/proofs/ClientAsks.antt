@@ -1,13 +1,12 @@
 -- each text that a client puts is the request for the channel of its leg
-use Rattle.std.proofs.Common.{◌≡◌, ℕ, ◌==◌, Bool, true, false, ◌&&◌, if◌then◌else◌, List, Some, None, inl, inr, refl, sym, subst, ap, ◌∙◌}
+use Rattle.std.proofs.Common.{ℕ, Bool, true, false, ◌&&◌, if◌then◌else◌, List, Some, None, inl, inr, refl, subst}
 use Rattle.std.specs.List.{AllByRecursion}
 use Rattle.std.specs.Prelude.{IfSome}
 use Rattle.std.specs.declared.option.Option.{Option}
 use Rattle.rh_http.specs.declared.config.ClientConfig.{ClientConfig}
 use Rattle.rh_keep.specs.Meters.{may_put, fits}
 use Rattle.rh_window.specs.declared.recv_window.Ack.{Ack}
-use Rattle.rh_line.specs.Lines.{after_told}
-use Rattle.rh_line.specs.Queue.{behind, front_length}
+use Rattle.rh_line.specs.Queue.{front_length}
 use Rattle.rh_line.specs.declared.leg.Leg.{Leg}
 use Rattle.rh_line.specs.declared.leg.LegKind.{LegKind}
 use Rattle.rh_line.specs.declared.leg.LegKind.TheVariants.{ClientOut, OutServer, ClientIn, InServer}
@@ -35,9 +34,9 @@ use Rattle.rh_client.specs.Putting as putting
 use Rattle.rh_client.specs.Putting.{Pick, or_else, put_in_r1_a5, put_out_r1_a7, put_by, put_conn_b1, put_in_r1_a1, put_current, put_out_successor, put_out, due_by, put_due, ack_by, put_ack_of, put_ack, lets_pdu, pdu_by, put_pdu, is_end_due, put_end, put_ping, put_successor_ping, put_next, put_writing, put_in_successor, put_in, settled_pick}
 use Rattle.rh_streams.proofs.Ends.{leg_is}
 use Rattle.rh_ends_begin.specs.Begins.{Asks}
-use Rattle.rh_ends_begin.proofs.Stands.{Logs, grown, logs_of}
+use Rattle.rh_ends_begin.proofs.Stands.{Logs, grown}
 use Rattle.rh_ends_begin.proofs.Moves.{StepsKeep, moves_keep}
-use Rattle.rh_ends_begin.proofs.ClientPuts.{AreFirst, puts}
+use Rattle.rh_ends_begin.proofs.ClientPuts.{AreFirst}
 use Rattle.rh_ends_begin.proofs.ClientMoves.{Any, AnyUp, Holds, LegCame, says_kind, starts, steps}
 
 -- ---- what is picked

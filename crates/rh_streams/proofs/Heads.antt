@@ -1,9 +1,8 @@
 -- heads in the bytes of a leg: each stands behind what is held, whole, and no sooner
-use Rattle.std.proofs.Common.{◌≡◌, ℕ, zero, suc, ◌<◌, ◌≤◌, List, [], ◌∷◌, ◌++◌, append_assoc, length, take, cond, Bool, true, false, ◌||◌, nat_lt, Some, None, arith, refl, sym, ap, ◌∙◌, subst}
+use Rattle.std.proofs.Common.{◌≡◌, ℕ, zero, suc, ◌<◌, ◌≤◌, List, [], ◌∷◌, ◌++◌, append_assoc, length, take, cond, Bool, true, false, nat_lt, Some, None, arith, refl, sym, ap, ◌∙◌, subst}
 use Rattle.std.specs.List.{AllByRecursion, list_any}
 use Rattle.std.specs.declared.option.Option.{Option}
 use Rattle.std.proofs.lemmas.List.{append-nil}
-use mathlib.Core.List.{IsPrefix}
 use Rattle.rh_order.proofs.Prefixes.{prefix_more, prefix_trans}
 use Rattle.rh_pdu.specs.declared.fault.HeadFault.{HeadFault}
 use Rattle.rh_pdu.specs.Header.{frag_of, head_fault, header_length}
@@ -15,7 +14,6 @@ use Rattle.rh_shell.specs.Carrying.{message_in}
 use Rattle.rh_shell.specs.Intakes.{Intake, Came, Nothing, Head, Greeting, Frame, Fault, Over, byte_by, is_whole_head, is_whole_greeting, on_byte, text_by}
 use Rattle.rh_shell.specs.Moves.{Move, Up, HeadCame, PduCame, PacketCame, Puts, IsDrawn, Marks, Pings}
 use Rattle.rh_shell.specs.Rules.{Message}
-use Rattle.rh_shell.specs.Shells.{same_leg}
 use Rattle.rh_reading.specs.Reading.{Reading, frame_read, read_by, read_byte, reading, reading_after, text_read}
 use Rattle.rh_streams.specs.Streams.{IsFirstHead, IsHeadOf, is_head_on}
 use Rattle.rh_streams.proofs.Ends.{leg_itself}
