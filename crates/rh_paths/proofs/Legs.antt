@@ -24,7 +24,7 @@ pub record AllRead : Type 0 where
 -- ---- one direction of a leg
 
 -- what came is all that is read in the bytes that were heard, behind which the reading stands
-pub record IsReadTo (pipe : Option Pipe) (came : List Message) (heard : List ℕ) (r : Reading)
+pub record StandsAt (pipe : Option Pipe) (came : List Message) (heard : List ℕ) (r : Reading)
     : Type 0 where
   pub all : came ≡ messages_read pipe heard
   pub after : reading_after pipe (begin pipe) heard ≡ r
@@ -33,23 +33,26 @@ pub record IsReadTo (pipe : Option Pipe) (came : List Message) (heard : List ℕ
 pub record IsJoined (pipe : Option Pipe) (put came : List Message) (drawn heard flight : List ℕ)
     (cut : Bool) (read : Option Reading) (left : Option (List ℕ)) : Type 0 where
   pub spells : (begun : List ℕ) → left ≡ Some begun → spelled put ≡ drawn ++ begun
-  pub reads : (r : Reading) → read ≡ Some r → IsReadTo pipe came heard r
+  pub stands : (r : Reading) → read ≡ Some r → StandsAt pipe came heard r
   pub carried : (r : Reading) → read ≡ Some r → cut ≡ false → drawn ≡ heard ++ flight
+
+pub some_is : {X : Type 0} (a b : X) → Some a ≡ Some b → a ≡ b
+some_is a b e = cc
 
 module _ (law : AllRead) (pipe : Option Pipe) (put : List Message) (begins : Begins pipe put)
     (back : AllByRecursion (ReadsBack pipe) put) where
   whole_leg : (came : List Message) (drawn heard flight begun : List ℕ) (r : Reading)
-      → spelled put ≡ drawn ++ begun → IsReadTo pipe came heard r → drawn ≡ heard ++ flight
+      → spelled put ≡ drawn ++ begun → StandsAt pipe came heard r → drawn ≡ heard ++ flight
       → all_read_of put ≡ came ++ messages_from pipe r (flight ++ begun)
-  whole_leg came drawn heard flight begun r spells reads carried =
+  whole_leg came drawn heard flight begun r spells stands carried =
       let bytes : spelled put ≡ heard ++ (flight ++ begun) =
       spells ∙ ap (λ (l : List ℕ). l ++ begun) carried ∙ append_assoc heard flight begun in
       sym (law.whole pipe put begins back) ∙ ap (messages_read pipe) bytes
       ∙ law.parts pipe heard (flight ++ begun)
       ∙ ap (λ (ms : List Message). ms
       ++ messages_from pipe (reading_after pipe (begin pipe) heard) (flight ++ begun))
-      (sym reads.all)
-      ∙ ap (λ (s : Reading). came ++ messages_from pipe s (flight ++ begun)) reads.after
+      (sym stands.all)
+      ∙ ap (λ (s : Reading). came ++ messages_from pipe s (flight ++ begun)) stands.after
 
   -- by what stands on it
   by_way : (came : List Message) (drawn heard flight : List ℕ) (cut : Bool)
@@ -60,15 +63,12 @@ module _ (law : AllRead) (pipe : Option Pipe) (put : List Message) (begins : Beg
   by_way came drawn heard flight false None left ms j e = absurd (cc)
   by_way came drawn heard flight false (Some r) None ms j e = absurd (cc)
   by_way came drawn heard flight false (Some r) (Some begun) ms j e =
-      subst (λ (o : List Message). all_read_of put ≡ came ++ o) (some_is e)
-      (whole_leg came drawn heard flight begun r (j.spells begun refl) (j.reads r refl)
+      subst (λ (o : List Message). all_read_of put ≡ came ++ o)
+      (some_is (messages_from pipe r (flight ++ begun)) ms e)
+      (whole_leg came drawn heard flight begun r (j.spells begun refl) (j.stands r refl)
       (j.carried r refl refl))
-    where
-      some_is : {a b : List Message} → Some a ≡ Some b → a ≡ b
-      some_is e = cc
 
--- ---- and what order sees of it
-
+-- and what order sees of it
 pub leg_arrives : (law : AllRead) (put_view came_view : Message → List Item)
     → ((message : Message) → seen came_view (read_of message) ≡ put_view message)
     → (pipe : Option Pipe) (put came : List Message) (drawn heard flight : List ℕ) (cut : Bool)

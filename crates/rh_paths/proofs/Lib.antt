@@ -1,1 +1,6 @@
 mod Legs
+mod Ends
+mod Carriages
+mod OnPath
+mod Down
+mod Worlds

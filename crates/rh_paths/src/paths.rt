@@ -1,0 +1,43 @@
+//! What was given is what was taken and what is on its way. These functions do nothing: their
+//! contracts are the laws.
+
+ghost use Rattle.rh_nodes.specs.Opening.{Makers};
+ghost use Rattle.rh_nodes.specs.World.{World};
+ghost use Rattle.rh_client.specs.declared.state.ClientRole.{ClientRole};
+ghost use Rattle.rh_inproxy.specs.State.{InProxy};
+ghost use Rattle.rh_outproxy.specs.OutProxy.{OutProxy};
+ghost use Rattle.rh_server.specs.States.{Server};
+ghost use Rattle.rh_history.specs.Changes.{ByLines};
+ghost use Rattle.rh_history.specs.Histories.{IsNew};
+ghost use Rattle.rh_traced.specs.Ours.{AreOurs, deeds, rules};
+ghost use Rattle.rh_ordered.specs.Premises.{history_at};
+ghost use Rattle.rh_fifo.specs.Flows.{numbers_of};
+ghost use Rattle.rh_fifo.specs.Premises.{AreInRange};
+ghost use Rattle.rh_paths.specs.Ways.{GoesOnDown};
+
+use rh_down::what_goes_down_is_a_route;
+use rh_fifo::directions_are_joined;
+use rh_order::{nothing_is_lost, nothing_stands_behind_a_mark, what_can_be_taken_was_given};
+use rh_reading::all_that_was_put_is_read;
+use rh_traced::{a_recording_of_roles_is_known, legs_of_roles_come_up_once};
+
+/// In each world of new roles whose numbers are in their ranges, at every moment that lines reach:
+/// what was put on a leg and did not come is what is read in the bytes in flight there and those
+/// that are begun, unless the leg gives nothing more. So what was given is what was taken and what
+/// is on its way, while no leg is lost before its handover mark or END passed; and whatever is
+/// lost, it begins with what was taken and what can still be taken.
+pub fn nothing_on_its_way_is_lost<K>()
+    ensures { (m : Makers K InProxy OutProxy) (w : World K ClientRole Server InProxy OutProxy)
+        → IsNew w → (ours : AreOurs m w.company w.cast) → AreInRange (numbers_of ours)
+        → (v : World K ClientRole Server InProxy OutProxy) (lines : ByLines rules m deeds w v)
+        → GoesOnDown (numbers_of ours) v (history_at m w v lines) }
+{
+    directions_are_joined::<K>();
+    what_goes_down_is_a_route();
+    nothing_is_lost();
+    what_can_be_taken_was_given();
+    nothing_stands_behind_a_mark();
+    all_that_was_put_is_read();
+    a_recording_of_roles_is_known::<K>();
+    legs_of_roles_come_up_once::<K>();
+}
