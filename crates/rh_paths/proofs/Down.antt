@@ -1,5 +1,6 @@
 -- what stands on the legs downwards
 use Rattle.std.proofs.Common.{◌≡◌, ◌<◌, ℕ, zero, suc, Bool, true, false, if◌then◌else◌, List, [], ◌++◌, Some, arith, refl, sym, ap, ◌∙◌, subst}
+use Rattle.std.proofs.lemmas.Bool.Decides.{nat_tests}
 use Rattle.std.proofs.lemmas.List.{append-nil}
 use mathlib.Core.List.{IsPrefix}
 use Rattle.rh_text.specs.declared.ends.Dir.TheVariants.{D}
@@ -164,7 +165,9 @@ module _ {K : Type 0} (law : AllRead) (m : Makers K InProxy OutProxy)
 
   own_reader : (n : ℕ) → 0 < n → reader has_leg n ≡ n
   own_reader zero some = absurd (omega (arith, some))
-  own_reader (suc n) some = refl
+  own_reader (suc n) some =
+      let has : has_leg (suc n) ≡ true = grind (arith, nat_tests) in
+      ap (λ (b : Bool). if b then suc n else reader has_leg n) has
 
   far_by : (n : ℕ) (b : Bool) → has_leg n ≡ b → IsRoute (route_of d)
       → is_lost (down_far (numbers_of ours) v h n) ≡ false

@@ -3,4 +3,5 @@ mod Ends
 mod Carriages
 mod OnPath
 mod Down
+mod Up
 mod Worlds

@@ -10,6 +10,7 @@ use Rattle.rh_order.specs.Items.{Item}
 use Rattle.rh_order.specs.Logs.{seen}
 use Rattle.rh_order.specs.Paths.{Arrives, reader}
 use Rattle.rh_order.specs.Routes.{IsRoute, Route}
+use Rattle.rh_order.proofs.ByNumber.{test_other}
 use Rattle.rh_order.proofs.ItemLists.{nil_front}
 use Rattle.rh_record.specs.declared.answer.Who.TheVariants as who
 use Rattle.rh_shell.specs.Moves.{Passage}
@@ -55,33 +56,37 @@ use Rattle.rh_paths.proofs.Legs.{AllRead, IsJoined, leg_arrives}
 module _ (readers : List ℕ) (made : ℕ → Bool) (are : AreRead readers made) where
   read_by : (n : ℕ) → reader_of readers n ≢ 0 → reader (has_proxy made) n ≡ reader_of readers n
   read_by zero some = absurd (some are.none)
-  read_by (suc n) some = by (made (suc n)) refl
+  read_by (suc n) some = by (read_by n) (made (suc n)) refl
     where
-      later : (k : ℕ) → n ≡ k → made (suc n) ≡ false
+      later : (reader_of readers n ≢ 0
+          → reader (has_proxy made) n ≡ reader_of readers n)
+          → (k : ℕ) → n ≡ k → made (suc n) ≡ false
           → reader_of readers (suc n) ≡ reader_of readers n
           → reader (has_proxy made) (suc n) ≡ reader_of readers (suc n)
-      later zero e none same =
+      later back zero e none same =
           absurd (some (same ∙ ap (reader_of readers) e ∙ are.none))
-      later (suc k) e none same =
+      later back (suc k) e none same =
           let has : has_proxy made (suc n) ≡ false =
           ap (λ (b : Bool). b || (suc n == 1)) none
-          ∙ ap (λ (j : ℕ). suc j == 1) e in
+          ∙ test_other (suc n) 1 (λ f. absurd (omega (arith, f, e))) in
           ap (λ (b : Bool). if b then suc n else reader (has_proxy made) n) has
-          ∙ read_by n (λ nothing. some (same ∙ nothing)) ∙ sym same
+          ∙ back (λ nothing. some (same ∙ nothing)) ∙ sym same
 
-      by : (b : Bool) → made (suc n) ≡ b
+      by : (reader_of readers n ≢ 0
+          → reader (has_proxy made) n ≡ reader_of readers n)
+          → (b : Bool) → made (suc n) ≡ b
           → reader (has_proxy made) (suc n) ≡ reader_of readers (suc n)
-      by true e =
+      by back true e =
           ap (λ (b : Bool). if b || (suc n == 1) then suc n else reader (has_proxy made) n) e
           ∙ sym (are.own (suc n) e)
-      by false e = either (are.each (suc n) some).either
+      by back false e = either (are.each (suc n) some).either
         where
           either : ((reader_of readers (suc n) ≡ suc n) × (made (suc n) ≡ true))
               ⊎ (reader_of readers (suc n) ≡ reader_of readers (suc n - 1))
               → reader (has_proxy made) (suc n) ≡ reader_of readers (suc n)
           either (inl own) = absurd (let bad : false ≡ true = sym e ∙ own.1 in cc)
           either (inr same) =
-              later n refl e
+              later back n refl e
               (same ∙ ap (reader_of readers) {x = suc n - 1} {y = n} (omega arith))
 
 module _ {K : Type 0} (law : AllRead) (m : Makers K InProxy OutProxy)

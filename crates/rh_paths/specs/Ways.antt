@@ -1,9 +1,10 @@
 -- what stands on the legs of a world of roles (profile)
-use Rattle.std.specs.Prelude.{not, ℕ, List, [], if◌then◌else◌, Some}
+use Rattle.std.specs.Prelude.{◌≡◌, not, ℕ, List, [], if◌then◌else◌, Some}
 use Rattle.std.specs.declared.option.Option.{Option}
 use Rattle.rh_text.specs.declared.ends.Dir.TheVariants.{U, D}
 use Rattle.rh_sig.specs.declared.name.Pipe.TheVariants.{CiU, IsU, CoD, OsD}
 use Rattle.rh_order.specs.Paths.{Losses, OnLegs}
+use Rattle.rh_order.specs.Routes.{Route}
 use Rattle.rh_shell.specs.Moving.{after_events, after_end_events}
 use Rattle.rh_shell.specs.Rules.{Message}
 use Rattle.rh_shell.specs.Shells.{Shell, begun, is_going}
@@ -22,7 +23,8 @@ use Rattle.rh_server.specs.Servers as server
 use Rattle.rh_server.specs.States.{Server}
 use Rattle.rh_nodes.specs.Readers.{reader_of}
 use Rattle.rh_nodes.specs.World.{World}
-use Rattle.rh_history.specs.Histories.{History}
+use Rattle.rh_history.specs.Histories.{History, IsRun, in_place, out_place}
+use Rattle.rh_streams.specs.Streams.{all_given, all_taken}
 use Rattle.rh_traced.specs.Numbers.{is_made}
 use Rattle.rh_proxies_begin.specs.Pipes.{ci, co, is, os}
 use Rattle.rh_up.specs.Up.{has_proxy}
@@ -110,10 +112,33 @@ up_lost numbers v h = record {
   closed = λ n. not (is_going (in_node numbers h n).course);
 }
 
--- ---- the law of a direction, at a moment of a world
+-- ---- a moment of a world
 
--- downwards
-pub record GoesOnDown {K : Type 0} (numbers : Numbers)
+-- the nodes are those of the world, as far as they are there
+pub record AreNodes {K : Type 0} (numbers : Numbers)
     (v : World K ClientRole Server InProxy OutProxy) (h : History) : Type 0 where
+  pub client : v.company.client ≡ client_node numbers h
+  pub server : v.company.server ≡ server_node numbers h
+  pub ins : (n : ℕ) → IsRun in_proxy.rules (in_proxy.first_node (numbers.ins n)) (h.ins n)
+      (in_place v.company n)
+  pub outs : (n : ℕ) → IsRun out_proxy.rules (begun (new_proxy (numbers.outs n)) ROOMS) (h.outs n)
+      (out_place v.company n)
+
+-- a direction is from what an end accepted to what was taken at the other
+pub record IsBetween (r : Route) (accepted took : List (List ℕ)) : Type 0 where
+  pub given : r.giver.given ≡ accepted
+  pub taken : r.taker.taken ≡ took
+
+-- in both directions what was put and did not come is on its way, or its leg is lost
+pub record AreOnTheirWay {K : Type 0} (numbers : Numbers)
+    (v : World K ClientRole Server InProxy OutProxy) (h : History) : Type 0 where
+  pub nodes : AreNodes numbers v h
   pub directions : Directions numbers v h
   pub down : IsOnItsWay (down_route_of directions) (down_on numbers v h) (down_lost numbers v h)
+  pub up : IsOnItsWay (up_route_of directions) (up_on numbers v h) (up_lost numbers v h)
+  pub down_ends : IsBetween (down_route_of directions)
+      (all_given server.rules server.acts (server.new_server numbers.window) h.server)
+      (all_taken client.rules client.acts (client.first_client numbers.client) h.client)
+  pub up_ends : IsBetween (up_route_of directions)
+      (all_given client.rules client.acts (client.first_client numbers.client) h.client)
+      (all_taken server.rules server.acts (server.new_server numbers.window) h.server)

@@ -13,13 +13,20 @@ ghost use Rattle.rh_traced.specs.Ours.{AreOurs, deeds, rules};
 ghost use Rattle.rh_ordered.specs.Premises.{history_at};
 ghost use Rattle.rh_fifo.specs.Flows.{numbers_of};
 ghost use Rattle.rh_fifo.specs.Premises.{AreInRange};
-ghost use Rattle.rh_paths.specs.Ways.{GoesOnDown};
+ghost use Rattle.rh_paths.specs.Ways.{AreOnTheirWay};
 
+use rh_client::a_client_gives_in_order;
 use rh_down::what_goes_down_is_a_route;
+use rh_ends_begin::{a_client_begins_with_a_request, a_client_writes_on_a_leg_that_came_up};
 use rh_fifo::directions_are_joined;
+use rh_inproxy::{InProxyRole, an_in_proxy_keeps_order};
 use rh_order::{nothing_is_lost, nothing_stands_behind_a_mark, what_can_be_taken_was_given};
-use rh_reading::all_that_was_put_is_read;
+use rh_proxies_begin::{an_in_proxy_begins, an_in_proxy_refuses_first};
+use rh_reading::{all_that_was_put_is_read, of_a_refusal_nothing_comes, what_comes_was_put};
+use rh_server::a_server_takes_in_order;
+use rh_streams::what_refuses_first_refuses_in_turn;
 use rh_traced::{a_recording_of_roles_is_known, legs_of_roles_come_up_once};
+use rh_up::what_goes_up_is_a_route;
 
 /// In each world of new roles whose numbers are in their ranges, at every moment that lines reach:
 /// what was put on a leg and did not come is what is read in the bytes in flight there and those
@@ -30,14 +37,25 @@ pub fn nothing_on_its_way_is_lost<K>()
     ensures { (m : Makers K InProxy OutProxy) (w : World K ClientRole Server InProxy OutProxy)
         → IsNew w → (ours : AreOurs m w.company w.cast) → AreInRange (numbers_of ours)
         → (v : World K ClientRole Server InProxy OutProxy) (lines : ByLines rules m deeds w v)
-        → GoesOnDown (numbers_of ours) v (history_at m w v lines) }
+        → AreOnTheirWay (numbers_of ours) v (history_at m w v lines) }
 {
     directions_are_joined::<K>();
     what_goes_down_is_a_route();
+    what_goes_up_is_a_route();
     nothing_is_lost();
     what_can_be_taken_was_given();
     nothing_stands_behind_a_mark();
     all_that_was_put_is_read();
+    a_client_gives_in_order();
+    an_in_proxy_keeps_order();
+    a_server_takes_in_order();
+    a_client_begins_with_a_request();
+    a_client_writes_on_a_leg_that_came_up();
+    an_in_proxy_begins();
+    an_in_proxy_refuses_first();
+    what_refuses_first_refuses_in_turn::<InProxyRole>();
+    what_comes_was_put();
+    of_a_refusal_nothing_comes();
     a_recording_of_roles_is_known::<K>();
     legs_of_roles_come_up_once::<K>();
 }
