@@ -2,12 +2,10 @@
 use Rattle.std.proofs.Common.{◌≡◌, ◌<◌, ℕ, zero, suc, Bool, true, false, if◌then◌else◌, List, [], ◌++◌, Some, arith, refl, sym, ap, ◌∙◌, subst}
 use Rattle.std.proofs.lemmas.Bool.Decides.{nat_tests}
 use Rattle.std.proofs.lemmas.List.{append-nil}
-use mathlib.Core.List.{IsPrefix}
 use Rattle.rh_text.specs.declared.ends.Dir.TheVariants.{D}
 use Rattle.rh_text.specs.declared.ends.Side.TheVariants as side
 use Rattle.rh_sig.specs.declared.name.Pipe.TheVariants.{CoD, OsD}
 use Rattle.rh_order.specs.Items.{Item}
-use Rattle.rh_order.specs.Logs.{seen}
 use Rattle.rh_order.specs.Paths.{Arrives, reader}
 use Rattle.rh_order.specs.Routes.{IsRoute}
 use Rattle.rh_order.proofs.ItemLists.{nil_front}

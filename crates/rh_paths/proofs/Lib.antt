@@ -1,5 +1,6 @@
 mod Legs
 mod Ends
+mod Used
 mod Carriages
 mod OnPath
 mod Down

@@ -1,8 +1,7 @@
 -- what stands on the legs upwards
-use Rattle.std.proofs.Common.{◌≡◌, ◌≢◌, ◌<◌, ◌-◌, ◌==◌, ◌||◌, ◌⊎◌, inl, inr, ℕ, zero, suc, Bool, true, false, if◌then◌else◌, List, [], ◌++◌, Some, arith, refl, sym, ap, ◌∙◌, subst}
+use Rattle.std.proofs.Common.{◌≡◌, ◌≢◌, ◌-◌, ◌==◌, ◌||◌, ◌⊎◌, inl, inr, ℕ, zero, suc, Bool, true, false, if◌then◌else◌, List, [], ◌++◌, Some, arith, refl, sym, ap, ◌∙◌}
 use Rattle.std.proofs.lemmas.Bool.{cases_eq}
 use Rattle.std.proofs.lemmas.List.{append-nil}
-use mathlib.Core.List.{IsPrefix}
 use Rattle.rh_text.specs.declared.ends.Dir.TheVariants.{U}
 use Rattle.rh_text.specs.declared.ends.Side.TheVariants as side
 use Rattle.rh_sig.specs.declared.name.Pipe.TheVariants.{CiU, IsU}
@@ -13,8 +12,7 @@ use Rattle.rh_order.specs.Routes.{IsRoute, Route}
 use Rattle.rh_order.proofs.ByNumber.{test_other}
 use Rattle.rh_order.proofs.ItemLists.{nil_front}
 use Rattle.rh_record.specs.declared.answer.Who.TheVariants as who
-use Rattle.rh_shell.specs.Moves.{Passage}
-use Rattle.rh_shell.specs.Shells.{Shell, begun}
+use Rattle.rh_shell.specs.Shells.{Shell}
 use Rattle.rh_shell.specs.Wires.{of_leg}
 use Rattle.rh_client.specs.declared.state.ClientRole.{ClientRole}
 use Rattle.rh_client.specs.Client as client
@@ -22,7 +20,7 @@ use Rattle.rh_client.specs.Legible as client_legible
 use Rattle.rh_client.specs.Order.{up_items}
 use Rattle.rh_inproxy.specs.Legible as proxy_legible
 use Rattle.rh_inproxy.specs.Machine as in_proxy
-use Rattle.rh_inproxy.specs.Order.{came_log, item_came, item_put, put_items}
+use Rattle.rh_inproxy.specs.Order.{item_came, item_put, put_items}
 use Rattle.rh_inproxy.specs.State.{InProxy}
 use Rattle.rh_outproxy.specs.OutProxy.{OutProxy}
 use Rattle.rh_server.specs.Order.{got, in_items}

@@ -1,5 +1,5 @@
 -- what is on its way at a moment of a world of roles
-use Rattle.std.proofs.Common.{◌≡◌, ℕ, Bool, true, false, if◌then◌else◌, List, [], ◌++◌, Some, None, refl, sym, ap, ◌∙◌, subst}
+use Rattle.std.proofs.Common.{◌≡◌, ℕ, Bool, true, false, if◌then◌else◌, List, [], ◌++◌, Some, None, refl, ap, ◌∙◌, subst}
 use Rattle.std.specs.declared.option.Option.{Option}
 use mathlib.Core.List.{IsPrefix}
 use Rattle.rh_http.specs.declared.config.ClientConfig.{ClientConfig}
@@ -27,9 +27,9 @@ use Rattle.rh_server.specs.States.{Server}
 use Rattle.rh_nodes.specs.Opening.{Makers}
 use Rattle.rh_nodes.specs.Readers.{reader_of}
 use Rattle.rh_nodes.specs.World.{World}
-use Rattle.rh_history.specs.Carried.{AreCarried, AreHeard, IsTraced, LegsComeUpOnce, ledger}
+use Rattle.rh_history.specs.Carried.{AreCarried, IsTraced, LegsComeUpOnce, ledger}
 use Rattle.rh_history.specs.Changes.{ByLines, Leads}
-use Rattle.rh_history.specs.Histories.{History, IsNew, IsRun, all_noted, in_place, nothing, out_place}
+use Rattle.rh_history.specs.Histories.{History, IsNew, IsRun, in_place, nothing, out_place}
 use Rattle.rh_history.proofs.Recordings.{traced_first}
 use Rattle.rh_history.proofs.Tracing.{cast_stays}
 use Rattle.rh_traced.specs.Numbers.{is_made}
