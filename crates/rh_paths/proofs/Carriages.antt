@@ -55,11 +55,11 @@ pub joined : {P T : Type 0} (puts : Shell P) (rules : Rules T) (takes : Shell T)
     (left_on puts leg put_up)
 joined puts rules takes pipe leg put_up take_up put came drawn heard flight cut seat_put unput
     seat_take front c = record {
-  spells = left_spells puts leg put_up put drawn seat_put (λ e. (unput e, c.undrawn e));
-  stands = read_stands takes leg take_up rules pipe came heard seat_take
-      (λ e. (none_came (c.unheard e), c.unheard e));
-  carried = c.whole;
-}
+      spells = left_spells puts leg put_up put drawn seat_put (λ e. (unput e, c.undrawn e));
+      stands = read_stands takes leg take_up rules pipe came heard seat_take
+          (λ e. (none_came (c.unheard e), c.unheard e));
+      carried = c.whole;
+    }
   where
     none_came : heard ≡ [] → came ≡ []
     none_came e = nil_front came front.0 (front.1 ∙ ap (messages_read pipe) e)
@@ -123,24 +123,24 @@ not_cut c is uncut = by is.lost refl
 module _ {K C S I O : Type 0} (r : Rulebook C S I O) (m : Makers K I O) (d : Deeds C S)
     (first : Company C S I O) (cast : K) (v : World K C S I O) (h : History)
     (carried : AreCarried (ledger r m d first cast h) v.legs v.readers) (leg : Leg) (dir : Dir)
-    where
-  abbrev pub fed_there : List ℕ
-  fed_there = h.fed (at v leg (receiver dir)) leg
+  where
+    abbrev pub fed_there : List ℕ
+    fed_there = h.fed (at v leg (receiver dir)) leg
 
-  pub fed_none : was_up v h leg (receiver dir) ≡ false → fed_there ≡ []
-  fed_none e = (carried.idle (at v leg (receiver dir)) leg e).1
+    pub fed_none : was_up v h leg (receiver dir) ≡ false → fed_there ≡ []
+    fed_none e = (carried.idle (at v leg (receiver dir)) leg e).1
 
-  pub carries : (drawn heard : List ℕ) (read : Option Reading)
-      → drawn_by r m d first cast h (at v leg (sender dir)) leg ≡ drawn
-      → IsPrefix heard fed_there → ((x : Reading) → read ≡ Some x → heard ≡ fed_there)
-      → Carries drawn heard (in_flight dir (wire_at v.legs leg)) (is_cut v h leg dir)
-      (was_up v h leg (sender dir)) (was_up v h leg (receiver dir)) read
-  carries drawn heard read drawn_is front is = record {
-    undrawn = λ e. sym drawn_is ∙ (carried.idle (at v leg (sender dir)) leg e).0;
-    unheard = λ e. nil_front heard front.0 (front.1 ∙ fed_none e);
-    whole = λ x told uncut.
-        sym drawn_is
-        ∙ not_cut (carriage (ledger r m d first cast h) v.legs v.readers leg dir)
-        (carried.each leg dir) uncut
-        ∙ ap (λ (b : List ℕ). b ++ in_flight dir (wire_at v.legs leg)) (sym (is x told));
-  }
+    pub carries : (drawn heard : List ℕ) (read : Option Reading)
+        → drawn_by r m d first cast h (at v leg (sender dir)) leg ≡ drawn
+        → IsPrefix heard fed_there → ((x : Reading) → read ≡ Some x → heard ≡ fed_there)
+        → Carries drawn heard (in_flight dir (wire_at v.legs leg)) (is_cut v h leg dir)
+        (was_up v h leg (sender dir)) (was_up v h leg (receiver dir)) read
+    carries drawn heard read drawn_is front is = record {
+      undrawn = λ e. sym drawn_is ∙ (carried.idle (at v leg (sender dir)) leg e).0;
+      unheard = λ e. nil_front heard front.0 (front.1 ∙ fed_none e);
+      whole = λ x told uncut.
+          sym drawn_is
+          ∙ not_cut (carriage (ledger r m d first cast h) v.legs v.readers leg dir)
+          (carried.each leg dir) uncut
+          ∙ ap (λ (b : List ℕ). b ++ in_flight dir (wire_at v.legs leg)) (sym (is x told));
+    }

@@ -1,14 +1,16 @@
 -- what is on its way in a direction (profile)
-use Rattle.std.specs.Prelude.{◌≡◌, ◌<◌, ◌≤◌, ◌++◌, ℕ, false}
+use Rattle.std.specs.Prelude.{◌≡◌, ◌≤◌, ◌++◌, ℕ, false}
 use mathlib.Core.List.{IsPrefix}
 use Rattle.rh_order.specs.Paths.{Arrives, Losses, OnLegs, path, reach, reader, stops_at}
 use Rattle.rh_order.specs.Routes.{Route}
 
--- no leg up to the channel on which the giver writes is lost before its handover mark or END passed
+-- of the channels from the taker's current one up to that on which the giver writes no leg is lost
+-- before its handover mark or END passed
 pub record NoneStops (r : Route) (lost : Losses) : Type 0 where
-  pub near : (n : ℕ) → 0 < n → n ≤ r.giver.writing
+  pub near : (n : ℕ) → r.taker.shelves.current ≤ n → n ≤ r.giver.writing
       → stops_at (lost.near n) (r.came (reader r.legs n) n) ≡ false
-  pub far : (n : ℕ) → 0 < n → n ≤ r.giver.writing → stops_at (lost.far n) (r.got n) ≡ false
+  pub far : (n : ℕ) → r.taker.shelves.current ≤ n → n ≤ r.giver.writing
+      → stops_at (lost.far n) (r.got n) ≡ false
 
 -- what was put on a leg and did not come stands on it, or the leg is lost. So what was given is
 -- what was taken and what is on its way, as long as no leg stops the way; and it begins with what
