@@ -17,10 +17,10 @@ ghost use Rattle.rh_history.specs.Histories.{History};
 ghost use Rattle.rh_streams.specs.Streams.{is_live};
 ghost use Rattle.rh_paths.specs.Legs.{on_leg};
 
-/// On a leg that is up for both its ends, where both nodes go on and keep it, and the one that takes
-/// has use for it, stand the messages that are read in the bytes in flight and then in those that
-/// are begun, behind those that the node holds. On a leg whose end that takes closed stands nothing
-/// that is told.
+/// On a leg that is up for both its ends, where both nodes go on and keep it, and the one that
+/// takes has use for it, stand the messages that are read in the bytes in flight and then in those
+/// that are begun, behind those that the node holds. Where the node that takes closed, the leg
+/// gives nothing more.
 pub fn what_stands_on_a_leg_is_read_in_its_bytes<K, C, S, I, O, P, T>()
     ensures used { (v : World K C S I O) (h : History) (leg : Leg) (dir : Dir)
         (pipe : Option Pipe) (puts : Shell P) (rules : Rules T) (takes : Shell T)
