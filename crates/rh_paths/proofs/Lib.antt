@@ -6,3 +6,4 @@ mod OnPath
 mod Down
 mod Up
 mod Worlds
+mod InUse

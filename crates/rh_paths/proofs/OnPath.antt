@@ -100,10 +100,22 @@ module _ (r : Route) (on : OnLegs) (lost : Losses) (l : IsRoute r)
         near = same_pdus (r.sent k) (r.came (reader r.legs k) k) (rests.near k) (on.near k)
             (lost.near k) (rests_whole.near k some) (l.giver.channel k) (arrives.near k some)
             (near_none k) (goes.near k from within);
-        far = same_pdus (r.put k) (r.got k) (rests.far k) (on.far k) (lost.far k)
-            (rests_whole.far k) (channels k) (arrives.far k) (far_none k)
-            (goes.far k from within);
+        far = far_by (r.legs k) refl;
       }
+    where
+      far_by : (b : Bool) → r.legs (suc n) ≡ b
+          → pdus (rests.far (suc n)) ≡ pdus (on.far (suc n))
+      far_by true e =
+          let k = suc n in
+          same_pdus (r.put k) (r.got k) (rests.far k) (on.far k) (lost.far k)
+          (rests_whole.far k) (channels k) (arrives.far k) (far_none k)
+          (goes.far k from within e)
+      far_by false e =
+          let k = suc n in
+          same_none (r.put k) (r.got k) (rests.far k) (on.far k) (lost.far k)
+          (rests_whole.far k) (arrives.far k) (far_none k)
+          (ap pdus (nil_back (r.got k) (rests.far k)
+          (sym (rests_whole.far k) ∙ l.numbered.unused k e)))
 
   same_part : (n : ℕ) → suc n ≤ r.giver.writing → part r rests (suc n) ≡ part r on (suc n)
   same_part n within = by (nat_lt (suc n) r.taker.shelves.current) refl

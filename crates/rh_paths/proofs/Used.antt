@@ -1,17 +1,25 @@
 -- a leg that is in use at both its ends
-use Rattle.std.proofs.Common.{◌≡◌, ℕ, Bool, true, false, List, ◌++◌, Some, None, refl}
+use Rattle.std.proofs.Common.{◌≡◌, ap, ℕ, Bool, true, false, List, ◌++◌, Some, None, refl}
 use Rattle.std.specs.Prelude.{◌&&◌, ◌||◌, not}
 use Rattle.std.specs.declared.option.Option.{Option}
 use Rattle.rh_sig.specs.declared.name.Pipe.{Pipe}
 use Rattle.rh_line.specs.declared.leg.Leg.{Leg}
 use Rattle.rh_shell.specs.declared.course.Course.{Course}
 use Rattle.rh_shell.specs.declared.course.Course.TheVariants.{Going, Closed, Refusing}
-use Rattle.rh_shell.specs.NearEnds.{NearEnd, is_over}
-use Rattle.rh_shell.specs.Rules.{Rules}
+use Rattle.rh_text.specs.declared.ends.Dir.{Dir}
+use Rattle.rh_order.specs.Items.{Item}
+use Rattle.rh_order.specs.Paths.{stops_at}
+use Rattle.rh_shell.specs.NearEnds.{NearEnd, is_empty, is_over}
+use Rattle.rh_shell.specs.Rules.{Message, Rules}
 use Rattle.rh_shell.specs.Shells.{Shell, end_at, is_going}
 use Rattle.rh_reading.specs.Reading.{Reading, messages_from, reading}
+use Rattle.rh_nodes.specs.Wires.{in_flight, is_up, receiver, sender}
+use Rattle.rh_nodes.specs.World.{World}
+use Rattle.rh_history.specs.Carried.{wire_at}
+use Rattle.rh_history.specs.Histories.{History}
 use Rattle.rh_streams.specs.Streams.{is_live}
-use Rattle.rh_paths.specs.OnWay.{left_on, on_way, read_by, read_on}
+use Rattle.rh_paths.specs.Legs.{IsInUse, has_passed, is_cut, on_leg, was_up}
+use Rattle.rh_paths.specs.OnWay.{is_lost, left_on, on_way, read_by, read_on}
 
 pub both_up : (a b x y z : Bool) → x ≡ true → y ≡ true
     → (a && not x) || ((b && not y) && z) ≡ false
@@ -51,3 +59,34 @@ pub unread_way : (pipe : Option Pipe) (cut : Bool) (read : Option Reading) (flig
 unread_way pipe true read flight left e = refl
 unread_way pipe false None flight left e = refl
 unread_way pipe false (Some r) flight left e = absurd (cc)
+
+-- ---- and so its messages are told
+
+module _ {K C S I O P T : Type 0} (v : World K C S I O) (h : History) (leg : Leg) (dir : Dir)
+    (pipe : Option Pipe) (puts : Shell P) (rules : Rules T) (takes : Shell T)
+    (used : IsInUse v leg dir puts rules takes) where
+  pub used_leg : on_leg v h leg dir pipe puts rules takes
+      ≡ Some (messages_from pipe (reading used.far.intake.stage used.far.intake.held)
+      (in_flight dir (wire_at v.legs leg) ++ used.near.begun))
+  used_leg =
+      let wire = wire_at v.legs leg in
+      let put_up = was_up v h leg (sender dir) in
+      let take_up = was_up v h leg (receiver dir) in
+      way_told pipe (is_cut v h leg dir) (read_on rules takes pipe leg take_up)
+      (in_flight dir wire) (left_on puts leg put_up)
+      (reading used.far.intake.stage used.far.intake.held) used.near.begun
+      (both_up take_up put_up (is_up (receiver dir) wire) (is_up (sender dir) wire)
+      (is_empty (in_flight dir wire)) used.up_there used.up_here)
+      (read_told rules takes pipe leg take_up used.far used.takes_on used.kept_there used.of_use
+      used.live)
+      (left_told puts leg put_up used.near used.puts_on used.kept_here)
+
+  pub used_goes : (came : List Item)
+      → stops_at (is_lost (on_leg v h leg dir pipe puts rules takes)) came ≡ false
+  used_goes came = ap (λ (o : Option (List Message)). stops_at (is_lost o) came) used_leg
+
+-- no way stops where the mark or END passed
+pub passed_goes : (lost : Bool) (came : List Item) → has_passed came ≡ true
+    → stops_at lost came ≡ false
+passed_goes true came e = ap not e
+passed_goes false came e = refl

@@ -1,5 +1,5 @@
 -- what is on its way in a direction (profile)
-use Rattle.std.specs.Prelude.{◌≡◌, ◌≤◌, ◌++◌, ℕ, false}
+use Rattle.std.specs.Prelude.{◌≡◌, ◌≤◌, ◌++◌, ℕ, true, false}
 use mathlib.Core.List.{IsPrefix}
 use Rattle.rh_order.specs.Paths.{Arrives, Losses, OnLegs, path, reach, reader, stops_at}
 use Rattle.rh_order.specs.Routes.{Route}
@@ -9,7 +9,7 @@ use Rattle.rh_order.specs.Routes.{Route}
 pub record NoneStops (r : Route) (lost : Losses) : Type 0 where
   pub near : (n : ℕ) → r.taker.shelves.current ≤ n → n ≤ r.giver.writing
       → stops_at (lost.near n) (r.came (reader r.legs n) n) ≡ false
-  pub far : (n : ℕ) → r.taker.shelves.current ≤ n → n ≤ r.giver.writing
+  pub far : (n : ℕ) → r.taker.shelves.current ≤ n → n ≤ r.giver.writing → r.legs n ≡ true
       → stops_at (lost.far n) (r.got n) ≡ false
 
 -- what was put on a leg and did not come stands on it, or the leg is lost. So what was given is

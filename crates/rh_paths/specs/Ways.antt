@@ -1,9 +1,9 @@
 -- what stands on the legs of a world of roles (profile)
-use Rattle.std.specs.Prelude.{◌≡◌, not, ℕ, List, [], if◌then◌else◌, Some}
+use Rattle.std.specs.Prelude.{◌≡◌, ◌≤◌, ◌⊎◌, not, ℕ, List, [], true, if◌then◌else◌, Some}
 use Rattle.std.specs.declared.option.Option.{Option}
 use Rattle.rh_text.specs.declared.ends.Dir.TheVariants.{U, D}
 use Rattle.rh_sig.specs.declared.name.Pipe.TheVariants.{CiU, IsU, CoD, OsD}
-use Rattle.rh_order.specs.Paths.{Losses, OnLegs}
+use Rattle.rh_order.specs.Paths.{Losses, OnLegs, reader}
 use Rattle.rh_order.specs.Routes.{Route}
 use Rattle.rh_shell.specs.Moving.{after_events, after_end_events}
 use Rattle.rh_shell.specs.Rules.{Message}
@@ -31,7 +31,7 @@ use Rattle.rh_up.specs.Up.{has_proxy}
 use Rattle.rh_fifo.specs.Directions.{Directions, down_route_of, up_route_of}
 use Rattle.rh_fifo.specs.Flows.{Numbers}
 use Rattle.rh_paths.specs.Laws.{IsOnItsWay}
-use Rattle.rh_paths.specs.Legs.{on_leg}
+use Rattle.rh_paths.specs.Legs.{IsInUse, has_passed, on_leg}
 use Rattle.rh_paths.specs.OnWay.{is_lost, items_on_way}
 
 -- ---- the nodes, as their histories made them
@@ -142,3 +142,28 @@ pub record AreOnTheirWay {K : Type 0} (numbers : Numbers)
   pub up_ends : IsBetween (up_route_of directions)
       (all_given client.rules client.acts (client.first_client numbers.client) h.client)
       (all_taken server.rules server.acts (server.new_server numbers.window) h.server)
+
+-- ---- legs that are in use
+
+-- each leg down, of the channels from the client's current one up to that on which the server
+-- writes, is in use, or its handover mark or END passed
+pub record AreInUseDown {K : Type 0} (numbers : Numbers)
+    (v : World K ClientRole Server InProxy OutProxy) (h : History) (r : Route) : Type 0 where
+  pub near : (n : ℕ) → r.taker.shelves.current ≤ n → n ≤ r.giver.writing
+      → IsInUse v (os n) D (server_node numbers h) out_proxy.rules (out_node numbers h n)
+      ⊎ (has_passed (r.came (reader r.legs n) n) ≡ true)
+  pub far : (n : ℕ) → r.taker.shelves.current ≤ n → n ≤ r.giver.writing
+      → IsInUse v (co n) D (out_node numbers h n) client.rules (client_node numbers h)
+      ⊎ (has_passed (r.got n) ≡ true)
+
+-- and each leg up, from the server's current one; a channel that shares its predecessor's leg to
+-- the server has none of its own
+pub record AreInUseUp {K : Type 0} (numbers : Numbers)
+    (v : World K ClientRole Server InProxy OutProxy) (h : History) (r : Route) : Type 0 where
+  pub near : (n : ℕ) → r.taker.shelves.current ≤ n → n ≤ r.giver.writing
+      → IsInUse v (ci n) U (client_node numbers h) in_proxy.rules
+      (in_node numbers h (reader_of v.readers n))
+      ⊎ (has_passed (r.came (reader r.legs n) n) ≡ true)
+  pub far : (n : ℕ) → r.taker.shelves.current ≤ n → n ≤ r.giver.writing → r.legs n ≡ true
+      → IsInUse v (is n) U (in_node numbers h n) server.rules (server_node numbers h)
+      ⊎ (has_passed (r.got n) ≡ true)

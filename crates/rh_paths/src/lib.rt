@@ -5,5 +5,5 @@
 mod paths;
 mod standing;
 
-pub use paths::nothing_on_its_way_is_lost;
+pub use paths::{legs_in_use_lose_nothing, nothing_on_its_way_is_lost};
 pub use standing::what_stands_on_a_leg_is_read_in_its_bytes;

@@ -1,19 +1,25 @@
 //! What was given is what was taken and what is on its way. These functions do nothing: their
 //! contracts are the laws.
 
+ghost use Rattle.std.specs.Prelude.{◌≡◌, ◌++◌};
+ghost use Rattle.rh_order.specs.Paths.{path};
 ghost use Rattle.rh_nodes.specs.Opening.{Makers};
 ghost use Rattle.rh_nodes.specs.World.{World};
 ghost use Rattle.rh_client.specs.declared.state.ClientRole.{ClientRole};
+ghost use Rattle.rh_client.specs.Client as client;
 ghost use Rattle.rh_inproxy.specs.State.{InProxy};
 ghost use Rattle.rh_outproxy.specs.OutProxy.{OutProxy};
 ghost use Rattle.rh_server.specs.States.{Server};
+ghost use Rattle.rh_server.specs.Servers as server;
 ghost use Rattle.rh_history.specs.Changes.{ByLines};
-ghost use Rattle.rh_history.specs.Histories.{IsNew};
+ghost use Rattle.rh_history.specs.Histories.{History, IsNew};
+ghost use Rattle.rh_streams.specs.Streams.{all_given, all_taken};
 ghost use Rattle.rh_traced.specs.Ours.{AreOurs, deeds, rules};
 ghost use Rattle.rh_ordered.specs.Premises.{history_at};
-ghost use Rattle.rh_fifo.specs.Flows.{numbers_of};
+ghost use Rattle.rh_fifo.specs.Directions.{down_route_of, up_route_of};
+ghost use Rattle.rh_fifo.specs.Flows.{Numbers, numbers_of};
 ghost use Rattle.rh_fifo.specs.Premises.{AreInRange};
-ghost use Rattle.rh_paths.specs.Ways.{AreOnTheirWay};
+ghost use Rattle.rh_paths.specs.Ways.{AreInUseDown, AreInUseUp, AreOnTheirWay, down_on, up_on};
 
 use rh_client::a_client_gives_in_order;
 use rh_down::what_goes_down_is_a_route;
@@ -60,3 +66,20 @@ pub fn nothing_on_its_way_is_lost<K>()
     a_recording_of_roles_is_known::<K>();
     legs_of_roles_come_up_once::<K>();
 }
+
+/// So it is while each leg of these channels is in use, or its handover mark or END passed: it is up
+/// for both its ends, both nodes go on and keep it, and the one that takes has use for it.
+pub fn legs_in_use_lose_nothing<K>()
+    ensures down { (numbers : Numbers) (v : World K ClientRole Server InProxy OutProxy)
+        (h : History) (ways : AreOnTheirWay numbers v h)
+        → AreInUseDown numbers v h (down_route_of ways.directions)
+        → all_given server.rules server.acts (server.new_server numbers.window) h.server
+        ≡ all_taken client.rules client.acts (client.first_client numbers.client) h.client
+        ++ path (down_route_of ways.directions) (down_on numbers v h) }
+    ensures up { (numbers : Numbers) (v : World K ClientRole Server InProxy OutProxy)
+        (h : History) (ways : AreOnTheirWay numbers v h)
+        → AreInUseUp numbers v h (up_route_of ways.directions)
+        → all_given client.rules client.acts (client.first_client numbers.client) h.client
+        ≡ all_taken server.rules server.acts (server.new_server numbers.window) h.server
+        ++ path (up_route_of ways.directions) (up_on numbers v h) }
+{}

@@ -1,21 +1,18 @@
 //! What stands on a leg. These functions do nothing: their contracts are the laws.
 
-ghost use Rattle.std.specs.Prelude.{◌≡◌, ◌++◌, Some, None, true, false};
+ghost use Rattle.std.specs.Prelude.{◌≡◌, ◌++◌, Some, None, false};
 ghost use Rattle.std.specs.declared.option.Option.{Option};
 ghost use Rattle.rh_text.specs.declared.ends.Dir.{Dir};
 ghost use Rattle.rh_line.specs.declared.leg.Leg.{Leg};
 ghost use Rattle.rh_sig.specs.declared.name.Pipe.{Pipe};
-ghost use Rattle.rh_shell.specs.declared.course.Course.TheVariants.{Going};
-ghost use Rattle.rh_shell.specs.NearEnds.{NearEnd, is_over};
 ghost use Rattle.rh_shell.specs.Rules.{Rules};
-ghost use Rattle.rh_shell.specs.Shells.{Shell, end_at, is_going};
+ghost use Rattle.rh_shell.specs.Shells.{Shell, is_going};
 ghost use Rattle.rh_reading.specs.Reading.{messages_from, reading};
-ghost use Rattle.rh_nodes.specs.Wires.{in_flight, is_up, receiver, sender};
+ghost use Rattle.rh_nodes.specs.Wires.{in_flight};
 ghost use Rattle.rh_nodes.specs.World.{World};
 ghost use Rattle.rh_history.specs.Carried.{wire_at};
 ghost use Rattle.rh_history.specs.Histories.{History};
-ghost use Rattle.rh_streams.specs.Streams.{is_live};
-ghost use Rattle.rh_paths.specs.Legs.{on_leg};
+ghost use Rattle.rh_paths.specs.Legs.{IsInUse, on_leg};
 
 /// On a leg that is up for both its ends, where both nodes go on and keep it, and the one that
 /// takes has use for it, stand the messages that are read in the bytes in flight and then in those
@@ -24,13 +21,9 @@ ghost use Rattle.rh_paths.specs.Legs.{on_leg};
 pub fn what_stands_on_a_leg_is_read_in_its_bytes<K, C, S, I, O, P, T>()
     ensures used { (v : World K C S I O) (h : History) (leg : Leg) (dir : Dir)
         (pipe : Option Pipe) (puts : Shell P) (rules : Rules T) (takes : Shell T)
-        (one other : NearEnd) → is_up (sender dir) (wire_at v.legs leg) ≡ true
-        → is_up (receiver dir) (wire_at v.legs leg) ≡ true → puts.course ≡ Going
-        → takes.course ≡ Going → end_at puts leg ≡ Some one → end_at takes leg ≡ Some other
-        → is_over rules other takes.role ≡ false → is_live other.intake.stage ≡ true
-        → on_leg v h leg dir pipe puts rules takes
-        ≡ Some (messages_from pipe (reading other.intake.stage other.intake.held)
-        (in_flight dir (wire_at v.legs leg) ++ one.begun)) }
+        (used : IsInUse v leg dir puts rules takes) → on_leg v h leg dir pipe puts rules takes
+        ≡ Some (messages_from pipe (reading used.far.intake.stage used.far.intake.held)
+        (in_flight dir (wire_at v.legs leg) ++ used.near.begun)) }
     ensures closed { (v : World K C S I O) (h : History) (leg : Leg) (dir : Dir)
         (pipe : Option Pipe) (puts : Shell P) (rules : Rules T) (takes : Shell T)
         → is_going takes.course ≡ false → on_leg v h leg dir pipe puts rules takes ≡ None }
