@@ -104,6 +104,7 @@ still rules first rooms pipe events none = record {
       absurd (let bad : None ≡ Some end =
       ap (λ (e : List Event). end_of leg (after_events rules (begun first rooms) e).legs) (sym none)
       ∙ sym (end_is leg (after_events rules (begun first rooms) events).legs) ∙ at in cc);
+  unput = λ leg none. refl;
 }
 
 module _ {K : Type 0} (law : Streaming) (m : Makers K InProxy OutProxy)

@@ -3,7 +3,7 @@ mod Taking
 mod Frames
 mod WholeTexts
 mod Puts
-mod Seen
+pub mod Seen
 mod Lines
 mod Written
 mod Heads

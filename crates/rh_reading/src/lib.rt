@@ -7,5 +7,7 @@ mod reading;
 mod texts;
 
 pub use coming::{of_a_refusal_nothing_comes, what_comes_was_put};
-pub use reading::{a_front_is_read_first, what_is_read_is_fine, what_was_put_is_read};
+pub use reading::{
+    a_front_is_read_first, all_that_was_put_is_read, what_is_read_is_fine, what_was_put_is_read,
+};
 pub use texts::{heads_have_no_messages, texts_are_whole};

@@ -484,6 +484,9 @@ module _ {S : Type 0} (rules : Rules S) (acts : Acts S) (first : S) (rooms : Roo
         (after_end_events rules acts start all) (heard_on leg (happened all))
         (end_drawn_on rules acts start leg all) (came_up leg (happened all)) ran.role
         (ran.kept leg) end going at);
+    unput = λ leg none.
+        subst (λ (x : Passage S). of_leg leg x.put ≡ []) (sym ran.at.is)
+        ((ran.kept leg).new none).put;
   }
     where
       ran : RanTo (all_given rules acts start all) (all_taken rules acts start all)

@@ -214,6 +214,7 @@ module _ {S : Type 0} (rules : Rules S) (first : S) (rooms : Rooms) (pipe : Leg 
         kept_seated rules (pipe leg) leg (Sound leg) (Unit {0}) ran.passage ran.moves
         (after_events rules start events) (heard_on leg events) (drawn_on rules start leg events)
         (came_up leg events) ran.role (ran.kept leg);
+    unput = λ leg none. ((ran.kept leg).new none).put;
   }
     where
       ran : RanTo (after_events rules start events) events

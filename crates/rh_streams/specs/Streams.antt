@@ -160,6 +160,8 @@ pub record Stream {S : Type 0} (rules : Rules S) (first : S) (rooms : Rooms)
       node.course ≡ Going → end_at node leg ≡ Some end
       → Seated rules node.role (pipe leg) (of_leg leg passage.came) (of_leg leg passage.put)
       (heard_on leg events) (drawn_on rules (begun first rooms) leg events) end)
+  -- nothing was put on a leg that did not come up
+  pub unput : (leg : Leg) → came_up leg events ≡ false → of_leg leg passage.put ≡ []
 
 -- ---- and at an end
 
@@ -252,3 +254,5 @@ pub record EndStream {S : Type 0} (rules : Rules S) (acts : Acts S) (first : S) 
       → Seated rules node.role (pipe leg) (of_leg leg passage.passage.came)
       (of_leg leg passage.passage.put) (heard_on leg (happened events))
       (end_drawn_on rules acts (begun first rooms) leg events) end)
+  pub unput : (leg : Leg) → came_up leg (happened events) ≡ false
+      → of_leg leg passage.passage.put ≡ []

@@ -1,0 +1,9 @@
+mod Legs
+mod Ends
+mod Used
+mod Carriages
+mod OnPath
+mod Down
+mod Up
+mod Worlds
+mod InUse

@@ -1,0 +1,4 @@
+pub mod OnWay
+pub mod Laws
+pub mod Legs
+pub mod Ways
