@@ -8,3 +8,4 @@ mod Lines
 mod Written
 mod Heads
 mod Fine
+mod PutsWell
