@@ -35,7 +35,8 @@ use Rattle.rh_shell.specs.Readings.{packet_of}
 use Rattle.rh_shell.specs.Rules.{Rules, Row, Message, Pdu, Packet}
 use Rattle.rh_shell.specs.Shells.{same_leg}
 use Rattle.rh_reading.specs.Reading.{Reading, reading, read_byte, reading_after, messages_from}
-use Rattle.rh_streams.proofs.Bytes.{ByteIs, byte_is, is_live}
+use Rattle.rh_streams.specs.Streams.{is_live}
+use Rattle.rh_streams.proofs.Bytes.{ByteIs, byte_is}
 use Rattle.rh_streams.specs.Turns as turn
 use Rattle.rh_streams.specs.Turns.{Stages, AreInTurnFrom, takes_frames}
 use Rattle.rh_streams.proofs.Ends.{leg_itself}

@@ -25,8 +25,7 @@ use Rattle.rh_shell.specs.NearEnds.{NearEnd, first_stage, is_ended, is_marked, i
 use Rattle.rh_shell.specs.Rules.{Rules, Message, spell}
 use Rattle.rh_shell.specs.Wires.{of_leg}
 use Rattle.rh_reading.specs.Reading.{begin, messages_from, messages_read, reading}
-use Rattle.rh_streams.specs.Streams.{is_head_on}
-use Rattle.rh_streams.proofs.Bytes.{is_live}
+use Rattle.rh_streams.specs.Streams.{is_head_on, is_live}
 use Rattle.rh_streams.proofs.Hears.{IsExact, IsRefusal, IsRefused}
 use Rattle.rh_streams.proofs.Pieces.{exact_then, front_more, front_then}
 use Rattle.rh_streams.proofs.Turns.{Seat, Nowhere, Sits, Answers, IsStill, IsLeft, IsSilent, seat_refused, seat_stopped, more_here, IsQuiet, IsAside, Hearing, Drawing, Answered, Coming, Unreached, Turns, Passes, Hears, Draws, Tells, Comes, Fails}

@@ -4,10 +4,11 @@ mod Bytes
 mod Hears
 mod Pieces
 mod Draws
-mod Ends
+pub mod Ends
 mod Turns
 mod Kept
 mod Seats
+mod Going
 mod Pings
 mod Events
 mod Runs

@@ -23,6 +23,7 @@ use Rattle.rh_streams.specs.Streams.{HasPipes, HearsInTurn, IsDrawn, StaysUnused
 use Rattle.rh_streams.specs.Turns.{Stages, AreInTurn, IsInTurn, RefusesInTurn, none_up, stages_after}
 use Rattle.rh_streams.proofs.Staging.{all_stages, all_stages_append, in_turn_append}
 use Rattle.rh_streams.proofs.Kept.{FrontOf}
+use Rattle.rh_streams.proofs.Going.{kept_seated}
 use Rattle.rh_streams.proofs.Runs.{IsFit, Ran, ran_as, ran_event, ran_none}
 use Rattle.rh_streams.proofs.Ways.{all_allowed_append, all_moved_append, or_false}
 
@@ -191,6 +192,11 @@ module _ {S : Type 0} (rules : Rules S) (first : S) (rooms : Rooms) (pipe : Leg 
     read = λ leg. (ran.kept leg).front;
     drawn = λ leg sound.
         drawn_is leg ran.passage (drawn_on rules start leg events) ((ran.kept leg).spells sound);
+    goes = ran.goes;
+    seats = λ leg.
+        kept_seated rules (pipe leg) leg (Sound leg) (Unit {0}) ran.passage ran.moves
+        (after_events rules start events) (heard_on leg events) (drawn_on rules start leg events)
+        (came_up leg events) ran.role (ran.kept leg);
   }
     where
       ran : RanTo (after_events rules start events) events

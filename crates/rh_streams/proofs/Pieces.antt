@@ -16,7 +16,8 @@ use Rattle.rh_shell.specs.NearEnds.{NearEnd, is_over}
 use Rattle.rh_shell.specs.Rules.{Rules, Message}
 use Rattle.rh_shell.specs.Shells.{same_leg}
 use Rattle.rh_reading.specs.Reading.{Reading, reading, reading_after, messages_from}
-use Rattle.rh_streams.proofs.Bytes.{after_append, dead_reads, from_append, is_live}
+use Rattle.rh_streams.specs.Streams.{is_live}
+use Rattle.rh_streams.proofs.Bytes.{after_append, dead_reads, from_append}
 use Rattle.rh_streams.proofs.Hears.{Heard, IsExact, IsRefused, IsSame, Refuses, byte_heard, on_leg_append}
 use Rattle.rh_streams.specs.Turns.{Stages, AreInTurnFrom}
 use Rattle.rh_streams.proofs.Staging.{IsNext, all_stages, all_stages_append, in_turn_append}
