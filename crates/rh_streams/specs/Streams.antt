@@ -12,7 +12,8 @@ use Rattle.rh_http.specs.Texts.{refusal_text}
 use Rattle.rh_sig.specs.declared.name.Pipe.{Pipe}
 use Rattle.rh_line.specs.declared.leg.Leg.{Leg}
 use Rattle.rh_shell.specs.declared.answers.HeadRefused.TheVariants as head
-use Rattle.rh_shell.specs.declared.course.Course.TheVariants.{Going}
+use Rattle.rh_shell.specs.declared.course.Course.{Course}
+use Rattle.rh_shell.specs.declared.course.Course.TheVariants.{Going, Closed, Refusing}
 use Rattle.rh_shell.specs.declared.rooms.Rooms.{Rooms}
 use Rattle.rh_shell.specs.declared.stage.Stage.{Stage}
 use Rattle.rh_shell.specs.declared.stage.Stage.TheVariants as stage
@@ -103,9 +104,15 @@ pub record Seated {S : Type 0} (rules : Rules S) (role : S) (pipe : Option Pipe)
   pub reads : is_over rules end role ≡ false → is_live end.intake.stage ≡ true
       → IsReadTo pipe came heard end.intake
 
+-- the node draws a refusal on the leg
+abbrev pub is_refused_on : Leg → Course → Bool
+is_refused_on leg Going = false
+is_refused_on leg (Closed why) = false
+is_refused_on leg (Refusing why client rest) = same_leg client leg
+
 -- moves that are allowed lead to the node's role, each in its turn; what they took on each leg is a
 -- front of what is read in the bytes that were heard there, and the bytes that were drawn are those
--- that they put, all while the node goes on
+-- that they put, all while the node goes on, and where it refuses nobody on the leg
 pub record Stream {S : Type 0} (rules : Rules S) (first : S) (rooms : Rooms)
     (pipe : Leg → Option Pipe) (events : List Event) : Type 0 where
   pub passage : Passage S
@@ -119,6 +126,10 @@ pub record Stream {S : Type 0} (rules : Rules S) (first : S) (rooms : Rooms)
   pub drawn : (leg : Leg) → RefusesInTurn rules first pipe leg
       → IsDrawn (of_leg leg passage.put) (drawn_on rules (begun first rooms) leg events)
   pub goes : (leg : Leg) → (after_events rules (begun first rooms) events).course ≡ Going
+      → IsPrefix (drawn_on rules (begun first rooms) leg events)
+      (spelled (of_leg leg passage.put))
+  pub unrefused : (leg : Leg)
+      → is_refused_on leg (after_events rules (begun first rooms) events).course ≡ false
       → IsPrefix (drawn_on rules (begun first rooms) leg events)
       (spelled (of_leg leg passage.put))
   pub seats : (leg : Leg) (end : NearEnd)
