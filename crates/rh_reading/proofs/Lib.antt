@@ -9,3 +9,4 @@ mod Written
 mod Heads
 mod Fine
 mod PutsWell
+pub mod NoTexts

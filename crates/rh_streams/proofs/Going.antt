@@ -1,10 +1,9 @@
 -- what is known of a node that goes on
-use Rattle.std.proofs.Common.{◌≡◌, ℕ, List, [], ◌∷◌, ◌++◌, cond, Bool, true, false, Some, None, refl, sym, ap, ◌∙◌, subst}
+use Rattle.std.proofs.Common.{◌≡◌, ℕ, List, [], ◌++◌, cond, Bool, true, false, Some, None, refl, sym, ap, ◌∙◌, subst}
 use Rattle.std.specs.Prelude.{◌&&◌, nat_le, take, drop}
 use Rattle.std.specs.declared.option.Option.{Option}
 use Rattle.std.proofs.lemmas.List.{append-nil}
 use mathlib.Core.List.{IsPrefix}
-use Rattle.rh_rts.specs.declared.command.Cookie.{Cookie}
 use Rattle.rh_sig.specs.declared.name.Pipe.{Pipe}
 use Rattle.rh_line.specs.declared.cause.Cause.{Cause}
 use Rattle.rh_line.specs.declared.leg.Leg.{Leg}
@@ -15,7 +14,7 @@ use Rattle.rh_shell.specs.Moves.{Move, Passage}
 use Rattle.rh_shell.specs.Moving.{Event, ComesUp, Hears, Ends, Breaks, Draws, Ticks, after_event}
 use Rattle.rh_shell.specs.NearEnds.{NearEnd}
 use Rattle.rh_shell.specs.Rules.{Rules}
-use Rattle.rh_shell.specs.Shells.{Shell, bytes_by, broken_by, drawn_by, end_at, ended_by, has_room, is_working, may_up, passed, same_leg, up, with_leg}
+use Rattle.rh_shell.specs.Shells.{Shell, bytes_by, broken_by, drawn_by, end_at, ended_by, is_working, may_up, passed, same_leg, up, with_leg}
 use Rattle.rh_shell.specs.Wires.{of_leg}
 use Rattle.rh_streams.specs.Streams.{Seated, is_refused_on}
 use Rattle.rh_streams.proofs.Ends.{both, end_is, end_of}
