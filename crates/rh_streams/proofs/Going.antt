@@ -129,6 +129,7 @@ module _ {S : Type 0} (rules : Rules S) (pipe : Option Pipe) (leg : Leg)
   kept_seated p ms s heard drawn up role kept end going at =
       subst (λ (r : S). Seated rules r pipe (of_leg leg p.came) (of_leg leg p.put) heard drawn
       end) role (record {
+        pipe_is = sits.pipe_is;
         spells = sits.spells;
         reads = λ over live.
             let read = sits.reads over live in

@@ -96,10 +96,12 @@ pub record IsReadTo (pipe : Option Pipe) (came : List Message) (heard : List ℕ
   pub all : came ≡ messages_read pipe heard
   pub after : reading_after pipe (begin pipe) heard ≡ reading intake.stage intake.held
 
--- what a node that goes on keeps of a leg: what was put there spells what was drawn, and then what
--- is begun; and while the leg is of use and its bytes are read, they are read to where it stands
+-- what a node that goes on keeps of a leg, of which it reads the pipe: what was put there spells
+-- what was drawn, and then what is begun; and while the leg is of use and its bytes are read, they
+-- are read to where it stands
 pub record Seated {S : Type 0} (rules : Rules S) (role : S) (pipe : Option Pipe)
     (came put : List Message) (heard drawn : List ℕ) (end : NearEnd) : Type 0 where
+  pub pipe_is : end.pipe ≡ pipe
   pub spells : spelled put ≡ drawn ++ end.begun
   pub reads : is_over rules end role ≡ false → is_live end.intake.stage ≡ true
       → IsReadTo pipe came heard end.intake
