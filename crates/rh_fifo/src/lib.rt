@@ -7,6 +7,6 @@ pub mod directions;
 pub mod recordings;
 pub mod worlds;
 
-pub use directions::{directions_are_joined, marks_are_last};
+pub use directions::{directions_are_joined, marks_are_last, what_is_put_is_legible};
 pub use recordings::every_recording_is_ordered;
 pub use worlds::roles_keep_order;

@@ -39,7 +39,8 @@ use Rattle.rh_shell.specs.Rules.{Message, Rules, Row}
 use Rattle.rh_shell.specs.Shells.{Shell, bytes_at, bytes_by, end_at, stop_by, stopped, with_end}
 use Rattle.rh_reading.specs.Reading.{Reading, frame_read, read_by, read_byte, reading, text_read}
 use Rattle.rh_reading.specs.Well.{Answers, ByteIsWell, FrameIsWell, HeaderIsWell, ReadsWellFrom}
-use Rattle.rh_honest.specs.Causes.{AreStrict, IsOfRole, RowRefuses, is_read}
+use Rattle.rh_streams.specs.Streams.{is_live}
+use Rattle.rh_honest.specs.Causes.{AreStrict, IsOfRole, RowRefuses}
 
 module _ {S : Type 0} (well : Answers) (strict : AreStrict well) (rules : Rules S) (leg : Leg)
     (pipe : Option Pipe) where
@@ -120,7 +121,7 @@ module _ {S : Type 0} (well : Answers) (strict : AreStrict well) (rules : Rules 
   -- what came is well, and the rest reads well behind it
   abbrev NextIsWell : List ℕ → Intake × Came → Type 0
   NextIsWell rest (j, Nothing) =
-      is_read j.stage ≡ true → ReadsWellFrom well pipe (reading j.stage j.held) rest
+      is_live j.stage ≡ true → ReadsWellFrom well pipe (reading j.stage j.held) rest
   NextIsWell rest (j, Head text) =
       (j.held ≡ []) × ReadsWellFrom well pipe (reading stage.Frames []) rest
   NextIsWell rest (j, Greeting text) =
@@ -188,10 +189,10 @@ module _ {S : Type 0} (well : Answers) (strict : AreStrict well) (rules : Rules 
         (record i { body = counted 1 i.body }, Nothing))
     on_passed i true st = tt
     on_passed i false st = λ live.
-        absurd (let bad : false ≡ true = ap is_read (sym st) ∙ live in cc)
+        absurd (let bad : false ≡ true = ap is_live (sym st) ∙ live in cc)
 
     by_stage : (i : Intake) (s : Stage) → i.stage ≡ s
-        → (is_read s ≡ true → ByteIsWell well pipe s all
+        → (is_live s ≡ true → ByteIsWell well pipe s all
         × ReadsWellFrom well pipe (read_by pipe s all).0 rest)
         → NextIsWell rest (byte_by s i all)
     by_stage i stage.Head st reads = on_head i (is_whole_head all) st (reads refl).1
@@ -201,10 +202,10 @@ module _ {S : Type 0} (well : Answers) (strict : AreStrict well) (rules : Rules 
         on_body i (is_full i.body) st (reads refl).0 (reads refl).1
     by_stage i stage.PassedOver st reads = on_passed i (is_full i.body) st
     by_stage i stage.Shut st reads = λ live.
-        absurd (let bad : false ≡ true = ap is_read (sym st) ∙ live in cc)
+        absurd (let bad : false ≡ true = ap is_live (sym st) ∙ live in cc)
 
   byte_is : (i : Intake) (b : ℕ) (rest : List ℕ)
-      → (is_read i.stage ≡ true → ReadsWellFrom well pipe (reading i.stage i.held) (b ∷ rest))
+      → (is_live i.stage ≡ true → ReadsWellFrom well pipe (reading i.stage i.held) (b ∷ rest))
       → NextIsWell rest (on_byte i b)
   unfolding on_byte read_byte
   byte_is i b rest reads = by_stage rest (i.held ++ b ∷ []) i i.stage refl reads
@@ -216,12 +217,12 @@ module _ {S : Type 0} (well : Answers) (strict : AreStrict well) (rules : Rules 
     here : t.end.leg ≡ leg
     on : t.end.pipe ≡ pipe
     stopped : (why : Stop) → t.stop ≡ Some why → IsOfRole well rules leg pipe why.cause
-    reads : is_deaf rules t ≡ false → is_read t.end.intake.stage ≡ true
+    reads : is_deaf rules t ≡ false → is_live t.end.intake.stage ≡ true
         → ReadsWellFrom well pipe (reading t.end.intake.stage t.end.intake.held) rest
 
   module _ (rest : List ℕ) where
     goes_is : (end : NearEnd) (role : S) → end.leg ≡ leg → end.pipe ≡ pipe
-        → (is_read end.intake.stage ≡ true
+        → (is_live end.intake.stage ≡ true
         → ReadsWellFrom well pipe (reading end.intake.stage end.intake.held) rest)
         → IsWellTurn (goes end role) rest
     goes_is end role here on reads = record {
@@ -259,7 +260,7 @@ module _ {S : Type 0} (well : Answers) (strict : AreStrict well) (rules : Rules 
 
       behind_is : (behind : Behind) (held : List ℕ) → held ≡ []
           → ReadsWellFrom well pipe (reading stage.Frames []) rest
-          → is_read (stage_of behind) ≡ true
+          → is_live (stage_of behind) ≡ true
           → ReadsWellFrom well pipe (reading (stage_of behind) held) rest
       behind_is passed.Frames held none reads live = frames_next held none reads
       behind_is passed.PassedOver held none reads live = absurd cc
@@ -347,7 +348,7 @@ module _ {S : Type 0} (well : Answers) (strict : AreStrict well) (rules : Rules 
 
   pub piece_closes : (s : Shell S) (l : Leg) (piece : List ℕ) (why : Cause) (end : NearEnd)
       → end.leg ≡ leg → end.pipe ≡ pipe → s.course ≡ Going → end_at s l ≡ Some end
-      → (is_over rules end s.role ≡ false → is_read end.intake.stage ≡ true
+      → (is_over rules end s.role ≡ false → is_live end.intake.stage ≡ true
       → ReadsWellFrom well pipe (reading end.intake.stage end.intake.held) piece)
       → ClosedWith why (bytes_by rules s l piece s.course).course
       → IsOfRole well rules leg pipe why

@@ -13,8 +13,6 @@ use Rattle.rh_shell.specs.declared.answers.Count.{Count}
 use Rattle.rh_shell.specs.declared.answers.Refused.{Refused}
 use Rattle.rh_shell.specs.declared.answers.Refused.TheVariants as refused
 use Rattle.rh_shell.specs.declared.reading.PacketFault.TheVariants as unread
-use Rattle.rh_shell.specs.declared.stage.Stage.{Stage}
-use Rattle.rh_shell.specs.declared.stage.Stage.TheVariants as stage
 use Rattle.rh_shell.specs.Hearing.{is_upward}
 use Rattle.rh_shell.specs.Rules.{Rules}
 use Rattle.rh_reading.specs.Well.{Answers}
@@ -23,14 +21,6 @@ use Rattle.rh_reading.specs.Well.{Answers}
 pub record AreStrict (well : Answers) : Type 0 where
   pub packets : (fault : RtsFault) → well (Err (unread.Rts fault)) ≡ false
   pub ranges : (command value : ℕ) → well (Err (unread.Sig (sig.OutOfRange command value))) ≡ false
-
--- the next bytes are read
-abbrev pub is_read : Stage → Bool
-is_read stage.Head = true
-is_read stage.Greeting = true
-is_read stage.Frames = true
-is_read stage.PassedOver = false
-is_read stage.Shut = false
 
 -- a row of the role refuses a packet or a PDU on the leg, whatever the role's state is
 abbrev pub RowRefuses : {S : Type 0} → Rules S → Leg → Refused → Type 0
