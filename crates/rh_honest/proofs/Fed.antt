@@ -22,6 +22,7 @@ use Rattle.rh_shell.specs.Moving.{after_end_events, after_events}
 use Rattle.rh_shell.specs.NearEnds.{NearEnd}
 use Rattle.rh_shell.specs.Rules.{Message, Rules}
 use Rattle.rh_shell.specs.Shells.{Shell, begun, end_at, same_leg}
+use Rattle.rh_shell.specs.Wires.{of_leg}
 use Rattle.rh_nodes.specs.declared.event.Event.{Event}
 use Rattle.rh_nodes.specs.declared.event.Event.TheVariants.{Comes}
 use Rattle.rh_nodes.specs.declared.place.Place.{Place}
@@ -47,7 +48,7 @@ use Rattle.rh_outproxy.specs.OutProxy.{OutProxy, new_proxy}
 use Rattle.rh_server.specs.Servers as server
 use Rattle.rh_server.specs.States.{Server}
 use Rattle.rh_causes.specs.Closings.{ClosesWith}
-use Rattle.rh_history.specs.Carried.{IsTraced, LegsComeUpOnce, drawn_by, end_node, events_of, happened, heard_on}
+use Rattle.rh_history.specs.Carried.{IsTraced, drawn_by, drawn_on, end_drawn_on, end_node, events_of, happened, heard_on}
 use Rattle.rh_history.specs.Changes.{Change, IsFed, MayChange}
 use Rattle.rh_history.specs.Closes.{ClosesNode}
 use Rattle.rh_history.specs.Histories.{History, IsRun, at_place, in_place, made_by, noted, out_place, to_node, told_to}
@@ -163,6 +164,24 @@ out_reads_on config n reader number InServer D is e = absurd cc
 
 -- ---- what is told to the node
 
+who_in : Who → Option (Who × Event) → Who
+who_in other None = other
+who_in other (Some told) = told.0
+
+what_in : Event → Option (Who × Event) → Event
+what_in other None = other
+what_in other (Some told) = told.1
+
+told_who : (a b : Who) (x y : Event)
+    → ◌≡◌ {A = Option (Who × Event)} (Some (a, x)) (Some (b, y)) → a ≡ b
+unfolding who_in
+told_who a b x y e = ap (who_in a) e
+
+pub told_what : (a b : Who) (x y : Event)
+    → ◌≡◌ {A = Option (Who × Event)} (Some (a, x)) (Some (b, y)) → x ≡ y
+unfolding what_in
+told_what a b x y e = ap (what_in x) e
+
 same_who : (node : Who) → is_same node node ≡ true
 same_who who.Client = refl
 same_who who.Server = refl
@@ -243,9 +262,12 @@ module _ {K : Type 0} (texts : Texts) (each : EachCloses) (m : Makers K InProxy 
       let node = after_end_events client.rules client.acts (client.first_client ours.config)
       h.client in
       let same = client_reads_on (reader_of v.readers leg.number) leg.number leg.kind dir here in
-      each.client well node leg piece why pipe _ _ (heard_on leg (happened h.client)) _
-      (strict_on leg.kind dir) (client_heard here) (λ end going sits.
-      subst (λ (p : Option Pipe). Seated client.rules node.role p _ _ _ _ end) (sym same)
+      let came = of_leg leg f.passage.passage.came in
+      let put = of_leg leg f.passage.passage.put in
+      let heard = heard_on leg (happened h.client) in
+      let drawn = end_drawn_on client.rules client.acts (client.first_client ours.config) leg h.client in
+      each.client well node leg piece why pipe came put heard drawn (strict_on leg.kind dir) (client_heard here) (λ end going sits.
+      subst (λ (p : Option Pipe). Seated client.rules node.role p came put heard drawn end) (sym same)
       (f.seats leg end going sits))
       (subst (λ (s : Shell ClientRole). ClosesWith client.rules s (Comes leg piece) why)
       (traced.runs.client ∙ ap (λ (s : Shell ClientRole).
@@ -258,9 +280,12 @@ module _ {K : Type 0} (texts : Texts) (each : EachCloses) (m : Makers K InProxy 
       let node = after_end_events server.rules server.acts (server.new_server ours.window)
       h.server in
       let same = server_reads_on (reader_of v.readers leg.number) leg.number leg.kind dir here in
-      each.server well node leg piece why pipe _ _ (heard_on leg (happened h.server)) _
-      (strict_on leg.kind dir) (server_heard here) (λ end going sits.
-      subst (λ (p : Option Pipe). Seated server.rules node.role p _ _ _ _ end) (sym same)
+      let came = of_leg leg f.passage.passage.came in
+      let put = of_leg leg f.passage.passage.put in
+      let heard = heard_on leg (happened h.server) in
+      let drawn = end_drawn_on server.rules server.acts (server.new_server ours.window) leg h.server in
+      each.server well node leg piece why pipe came put heard drawn (strict_on leg.kind dir) (server_heard here) (λ end going sits.
+      subst (λ (p : Option Pipe). Seated server.rules node.role p came put heard drawn end) (sym same)
       (f.seats leg end going sits))
       (subst (λ (s : Shell Server). ClosesWith server.rules s (Comes leg piece) why)
       (traced.runs.server ∙ ap (λ (s : Shell Server).
@@ -303,9 +328,12 @@ module _ {K : Type 0} (texts : Texts) (each : EachCloses) (m : Makers K InProxy 
       let now = after_events in_proxy.rules (in_proxy.first_node (ours.in_config n)) (h.ins n) in
       let same = in_reads_on (ours.in_config n) n (reader_of v.readers leg.number) leg.number
       leg.kind dir (ours.in_number n) here in
-      each.ins well now leg piece why pipe _ _ (heard_on leg (h.ins n)) _
-      (strict_on leg.kind dir) (in_heard n node count_of there here) (λ end going sits.
-      subst (λ (p : Option Pipe). Seated in_proxy.rules now.role p _ _ _ _ end) (sym same)
+      let came = of_leg leg f.passage.came in
+      let put = of_leg leg f.passage.put in
+      let heard = heard_on leg (h.ins n) in
+      let drawn = drawn_on in_proxy.rules (in_proxy.first_node (ours.in_config n)) leg (h.ins n) in
+      each.ins well now leg piece why pipe came put heard drawn (strict_on leg.kind dir) (in_heard n node count_of there here) (λ end going sits.
+      subst (λ (p : Option Pipe). Seated in_proxy.rules now.role p came put heard drawn end) (sym same)
       (f.seats leg end going sits))
       (subst (λ (s : Shell InProxy). ClosesWith in_proxy.rules s (Comes leg piece) why)
       (run ∙ ap (λ (s : Shell InProxy). after_events in_proxy.rules s (h.ins n))
@@ -324,9 +352,12 @@ module _ {K : Type 0} (texts : Texts) (each : EachCloses) (m : Makers K InProxy 
       (h.outs n) in
       let same = out_reads_on (ours.out_config n) n (reader_of v.readers leg.number) leg.number
       leg.kind dir (ours.out_number n) here in
-      each.outs well now leg piece why pipe _ _ (heard_on leg (h.outs n)) _
-      (strict_on leg.kind dir) (out_heard n node count_of there here) (λ end going sits.
-      subst (λ (p : Option Pipe). Seated out_proxy.rules now.role p _ _ _ _ end) (sym same)
+      let came = of_leg leg f.passage.came in
+      let put = of_leg leg f.passage.put in
+      let heard = heard_on leg (h.outs n) in
+      let drawn = drawn_on out_proxy.rules (begun (new_proxy (ours.out_config n)) ROOMS) leg (h.outs n) in
+      each.outs well now leg piece why pipe came put heard drawn (strict_on leg.kind dir) (out_heard n node count_of there here) (λ end going sits.
+      subst (λ (p : Option Pipe). Seated out_proxy.rules now.role p came put heard drawn end) (sym same)
       (f.seats leg end going sits))
       (subst (λ (s : Shell OutProxy). ClosesWith out_proxy.rules s (Comes leg piece) why)
       (run ∙ ap (λ (s : Shell OutProxy). after_events out_proxy.rules s (h.outs n))
@@ -351,14 +382,8 @@ module _ {K : Type 0} (texts : Texts) (each : EachCloses) (m : Makers K InProxy 
   pub fed_closes : (node : Who) → ClosesNode rules v change node why
       → IsOfNode well node leg pipe why
   fed_closes node is =
-      let here : at v leg (receiver dir) ≡ node = first is.told in
-      let event : Comes leg piece ≡ is.event = second is.told in
+      let here : at v leg (receiver dir) ≡ node = told_who _ _ _ _ is.told in
+      let event : Comes leg piece ≡ is.event = told_what _ _ _ _ is.told in
       node_closes node here
       (subst (λ (e : Event). (company.tell rules v.company node e).1 ≡ Some why) (sym event)
       is.closes)
-    where
-      first : {a b : Who} {x y : Event} → Some (a, x) ≡ Some (b, y) → a ≡ b
-      first e = cc
-
-      second : {a b : Who} {x y : Event} → Some (a, x) ≡ Some (b, y) → x ≡ y
-      second e = cc

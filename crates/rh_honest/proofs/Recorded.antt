@@ -33,6 +33,7 @@ use Rattle.rh_bounds.proofs.Reached.{IsReached, IsRecorded, behind_lines, prepar
 use Rattle.rh_closes.specs.Licences.{IsLicensed, IsPieceOn, midst}
 use Rattle.rh_closes.specs.Recordings.{IsLicensedAt, IsLicensedIn}
 use Rattle.rh_closes.proofs.Refused.{leads_midst}
+use Rattle.rh_honest.proofs.Fed.{told_what}
 use Rattle.rh_honest.specs.Honest.{IsOfNode, read_on, well_on}
 
 -- ---- the world in the midst of a line
@@ -99,12 +100,9 @@ module _ (law : FedLaw) (v : roles.World) (reached : IsReached v) (node : Who) (
     pipe = read_on on.kind dir;
     of_node = law v reached on dir count node why may is;
   }
-  by_change (IsTold other event) may is comes = absurd (none event (told is.told comes) may)
+  by_change (IsTold other event) may is comes =
+      absurd (none event (told_what other node event is.event is.told ∙ comes) may)
     where
-      told : {a b : Who} {x y : Event} → Some (a, x) ≡ Some (b, y) → y ≡ Comes leg piece
-          → x ≡ Comes leg piece
-      told e c = let same : x ≡ y = cc in same ∙ c
-
       none : (event : Event) → event ≡ Comes leg piece
           → MayChange roles.rules v (IsTold other event) → ⊥
       none event e may =

@@ -5,7 +5,7 @@ use Rattle.rh_sig.specs.declared.name.Pipe.{Pipe}
 use Rattle.rh_line.specs.declared.leg.Leg.{Leg}
 use Rattle.rh_nodes.specs.declared.event.Event.TheVariants.{Comes}
 use Rattle.rh_nodes.specs.Telling.{tell}
-use Rattle.rh_reading.specs.Reading.{Reading}
+use Rattle.rh_reading.specs.Reading.{Reading, reading}
 use Rattle.rh_reading.specs.Well.{ReadsWellFrom}
 use Rattle.rh_honest.specs.Causes.{IsOfRole}
 use Rattle.rh_honest.proofs.HeardWell.{going_is}
@@ -22,6 +22,8 @@ returns g c = λ well node leg piece why pipe came put heard drawn strict reads 
     (subst (λ (l : Leg). IsOfRole well rules l amiss.end.pipe why) amiss.same
     (c.a_piece_that_reads_well_closes_for_the_role.ensures well node leg piece why amiss.end strict
     amiss.at (λ over live.
-    subst (λ (p : Option Pipe). ReadsWellFrom well p _ piece) (sym seat.pipe_is)
+    subst (λ (p : Option Pipe).
+    ReadsWellFrom well p (reading amiss.end.intake.stage amiss.end.intake.held) piece)
+    (sym seat.pipe_is)
     (subst (λ (r : Reading). ReadsWellFrom well pipe r piece) (seat.reads over live).after
     (c.a_piece_reads_well.ensures well pipe heard piece reads))) closes))
