@@ -100,6 +100,9 @@ still rules first rooms pipe events none = record {
   goes = λ leg going.
       subst (λ (e : List Event). IsPrefix (drawn_on rules (begun first rooms) leg e) []) (sym none)
       ([], refl);
+  unrefused = λ leg free.
+      subst (λ (e : List Event). IsPrefix (drawn_on rules (begun first rooms) leg e) []) (sym none)
+      ([], refl);
   seats = λ leg end going at.
       absurd (let bad : None ≡ Some end =
       ap (λ (e : List Event). end_of leg (after_events rules (begun first rooms) e).legs) (sym none)

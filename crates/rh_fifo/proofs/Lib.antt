@@ -1,6 +1,6 @@
 mod Legs
-mod Fine
-mod Heard
+pub mod Fine
+pub mod Heard
 pub mod Flowing
 mod Starting
 mod Legal
@@ -11,4 +11,4 @@ mod Fronts
 mod Marked
 mod Unread
 mod Kept
-mod Recorded
+pub mod Recorded

@@ -25,10 +25,9 @@ use Rattle.rh_traced.specs.Ours.{AreOurs, deeds, rules}
 use Rattle.rh_traced.specs.Recordings.{IsKnown}
 use Rattle.rh_traced.proofs.Along.{kept_along}
 use Rattle.rh_fifo.specs.Directions.{Directions}
-use Rattle.rh_fifo.specs.Flows.{AreBegun, Flows, numbers_of}
+use Rattle.rh_fifo.specs.Flows.{AllLegible, AreBegun, Flows, IsFlowing, numbers_of}
 use Rattle.rh_fifo.specs.Premises.{AreInRange}
 use Rattle.rh_fifo.proofs.Legs.{Reads}
-use Rattle.rh_fifo.proofs.Heard.{AllLegible}
 use Rattle.rh_fifo.proofs.Flowing.{Streaming}
 use Rattle.rh_fifo.proofs.Starting.{Beginning, starts}
 use Rattle.rh_fifo.proofs.Legal.{Legalities, all_legible}
@@ -114,6 +113,23 @@ module _ {K : Type 0} (reads : Reads) (streaming : Streaming) (begins : Beginnin
       starts streaming begins m w.company w.cast ours
       (all_noted rules m deeds w nothing by.leads.changes) node_streams
 
+  pub flowing : IsFlowing (numbers_of ours) w v
+      (all_noted rules m deeds w nothing by.leads.changes)
+  flowing = record { cast = keeps.same; flows = node_streams; begun = begun; legible = legible }
+
+-- ---- and both directions
+
+module _ {K : Type 0} (tracing : Tracing K) (known : Known K)
+    (m : Makers K InProxy OutProxy) (w : OurWorld K) (new : IsNew w)
+    (ours : AreOurs m w.company w.cast) (v : OurWorld K) (by : ByChanges rules m deeds w v)
+    (flowing : IsFlowing (numbers_of ours) w v
+    (all_noted rules m deeds w nothing by.leads.changes)) where
+  known_here : IsKnown m w v by.leads
+  known_here = known.known m w v new ours by.leads
+
+  in_order : ComeUpInOrder v (all_noted rules m deeds w nothing by.leads.changes)
+  in_order = known.order m w v new (known.once m w ours) by
+
   drew : (leg : Leg) (dir : Dir)
       → IsPrefix (heard_on leg (events_of (all_noted rules m deeds w nothing by.leads.changes)
       (end_node v.readers leg (receiver dir))))
@@ -124,20 +140,22 @@ module _ {K : Type 0} (reads : Reads) (streaming : Streaming) (begins : Beginnin
       let h = all_noted rules m deeds w nothing by.leads.changes in
       subst (λ (c : K). IsPrefix (heard_on leg (events_of h
       (end_node v.readers leg (receiver dir))))
-      (drawn_by rules m deeds w.company c h (end_node v.readers leg (sender dir)) leg)) keeps.same
-      (known.drew m w v h here.traced leg dir)
+      (drawn_by rules m deeds w.company c h (end_node v.readers leg (sender dir)) leg)) flowing.cast
+      (known.drew m w v h known_here.traced leg dir)
 
   alone : (node : Who) (leg : Leg) → ((end : Side) → end_node v.readers leg end ≡ node → ⊥)
       → heard_on leg (events_of (all_noted rules m deeds w nothing by.leads.changes) node) ≡ []
   alone node leg apart =
       (tracing.alone m w.company v (all_noted rules m deeds w nothing by.leads.changes)
-      here.traced node leg apart).1
+      known_here.traced node leg apart).1
 
   pub directions : Directions (numbers_of ours) v
       (all_noted rules m deeds w nothing by.leads.changes)
   directions =
       let h = all_noted rules m deeds w nothing by.leads.changes in
       record {
-        down = goes_down m w.company w.cast ours v h drew alone order node_streams begun legible;
-        up = goes_up m w.company w.cast ours v h drew alone order node_streams begun legible;
+        down = goes_down m w.company w.cast ours v h drew alone in_order flowing.flows
+            flowing.begun flowing.legible;
+        up = goes_up m w.company w.cast ours v h drew alone in_order flowing.flows flowing.begun
+            flowing.legible;
       }

@@ -26,6 +26,8 @@ use Rattle.rh_inproxy.specs.Opening.{channel_asked, echo_answer, echo_asked, hea
 use Rattle.rh_inproxy.specs.State.{InProxy, first, has_opened, is_client_leg, is_server_leg}
 use Rattle.rh_reading.specs.Reading.{Begins, AreNoTexts, IsNoText, ReadsNothing}
 use Rattle.rh_proxies_begin.specs.Echoes.{AsksNoEcho}
+use Rattle.rh_reading.specs.Well.{Answers, IsWellText, TextIsWell}
+use Rattle.rh_reading.proofs.NoTexts.{no_texts_well}
 use Rattle.rh_proxies_begin.specs.Pipes.{ci, is, in_pipe}
 use Rattle.rh_streams.specs.Streams.{HasPipes, RefusesFirst, is_head_on}
 use Rattle.rh_streams.specs.Turns.{Stages, none_up, behind_head, stages_after, AreInTurn, RefusesInTurn}
@@ -139,24 +141,36 @@ module _ (config : InProxyConfig) (moves : List Move)
         all_turns_keep rules (AsksAt config) (in_turns_keep config) (first config) moves
         allowed turn (in_starts config)
 
-    pub on_client : (n : ℕ) → ReadsNothing None echo_answer → Begins None (of_leg (ci n) run.put)
-    on_client n nothing = by (stages (ci n)) (of_leg (ci n) run.put) (asks.answered n)
+    -- nothing, or the answer to an echo request
+    client_put : (n : ℕ) → (of_leg (ci n) run.put ≡ [])
+        ⊎ (of_leg (ci n) run.put ≡ Text echo_answer ∷ [])
+    client_put n = by (stages (ci n)) (of_leg (ci n) run.put) (asks.answered n)
       where
-        none : (put : List Message) → put ≡ [] → Begins None put
-        none put e = subst (Begins None) (sym e) tt
+        by : (o : Option Stage) (put : List Message) → IsAnswered o put
+            → (put ≡ []) ⊎ (put ≡ Text echo_answer ∷ [])
+        by None put e = inl e
+        by (Some stage.Head) put e = inl e
+        by (Some stage.Greeting) put e = inl e
+        by (Some stage.Frames) put e = inl e
+        by (Some stage.PassedOver) put e = e
+        by (Some stage.Shut) put e = inl e
 
-        answered : (put : List Message) → (put ≡ []) ⊎ (put ≡ Text echo_answer ∷ [])
-            → Begins None put
-        answered put (inl e) = none put e
-        answered put (inr e) = subst (Begins None) (sym e) (inr (nothing, refl))
+    pub on_client : (n : ℕ) → ReadsNothing None echo_answer → Begins None (of_leg (ci n) run.put)
+    on_client n nothing = by (client_put n)
+      where
+        by : (of_leg (ci n) run.put ≡ []) ⊎ (of_leg (ci n) run.put ≡ Text echo_answer ∷ [])
+            → Begins None (of_leg (ci n) run.put)
+        by (inl e) = subst (Begins None) (sym e) tt
+        by (inr e) = subst (Begins None) (sym e) (inr (nothing, refl))
 
-        by : (o : Option Stage) (put : List Message) → IsAnswered o put → Begins None put
-        by None put e = none put e
-        by (Some stage.Head) put e = none put e
-        by (Some stage.Greeting) put e = none put e
-        by (Some stage.Frames) put e = none put e
-        by (Some stage.PassedOver) put e = answered put e
-        by (Some stage.Shut) put e = none put e
+    pub client_well : (well : Answers) → TextIsWell well None echo_answer → (n : ℕ)
+        → AllByRecursion (IsWellText well None) (of_leg (ci n) run.put)
+    client_well well echo n = by (client_put n)
+      where
+        by : (of_leg (ci n) run.put ≡ []) ⊎ (of_leg (ci n) run.put ≡ Text echo_answer ∷ [])
+            → AllByRecursion (IsWellText well None) (of_leg (ci n) run.put)
+        by (inl e) = subst (AllByRecursion (IsWellText well None)) (sym e) tt
+        by (inr e) = subst (AllByRecursion (IsWellText well None)) (sym e) (echo, tt)
 
     -- where no head asks for an echo
     pub unechoed : (n : ℕ) → AllByRecursion (AsksNoEcho (ci n)) moves

@@ -8,3 +8,5 @@ mod Lines
 mod Written
 mod Heads
 mod Fine
+mod PutsWell
+pub mod NoTexts

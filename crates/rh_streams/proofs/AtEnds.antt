@@ -159,7 +159,7 @@ module _ {S : Type 0} (rules : Rules S) (acts : Acts S) (first : S) (rooms : Roo
           (λ leg p ms g text fault sound at top headless refuses. asked leg p text fault refuses)
           (λ leg p ms g wanted sound at answers wants. unreached leg p answers)
           (IsReached (given ++ next) (taken ++ out)) s (with_role s role) heard drawn (λ leg. [])
-          (λ leg. []) up (λ leg. up leg || false) ran q [] ran.stages at role_is (λ going. going)
+          (λ leg. []) up (λ leg. up leg || false) ran q [] ran.stages at role_is (λ leg free. free)
           ran.held ran.apart
           (λ leg. Passes (record {
             quiet = record {

@@ -16,83 +16,86 @@ use Rattle.rh_shell.specs.NearEnds.{NearEnd}
 use Rattle.rh_shell.specs.Rules.{Rules}
 use Rattle.rh_shell.specs.Shells.{Shell, bytes_by, broken_by, drawn_by, end_at, ended_by, is_working, may_up, passed, same_leg, up, with_leg}
 use Rattle.rh_shell.specs.Wires.{of_leg}
-use Rattle.rh_streams.specs.Streams.{Seated}
+use Rattle.rh_streams.specs.Streams.{Seated, is_refused_on}
 use Rattle.rh_streams.proofs.Ends.{both, end_is, end_of}
 use Rattle.rh_streams.proofs.Kept.{IsSeated, Kept}
 use Rattle.rh_streams.proofs.Seats.{at_work, seat}
 use Rattle.rh_streams.proofs.Turns as turns
-use Rattle.rh_streams.proofs.Turns.{Seat, Answers, Sits, Turns, IsQuiet, seat_by}
+use Rattle.rh_streams.proofs.Turns.{Seat, Answers, Nowhere, Sits, Turns, IsQuiet, seat_by}
 
--- ---- a node that goes on went on before
+-- ---- where a node refuses nobody it refused nobody before
 
-module _ {S : Type 0} (rules : Rules S) (s : Shell S) where
-  -- nothing happens at one that closed
-  abbrev WentOn : Shell S → Type 0
-  WentOn t = t.course ≡ Going → s.course ≡ Going
+module _ {S : Type 0} (rules : Rules S) (leg : Leg) (s : Shell S) where
+  -- nothing happens at one that closed, but that a refusal is drawn
+  abbrev WasFree : Shell S → Type 0
+  WasFree t = is_refused_on leg t.course ≡ false → is_refused_on leg s.course ≡ false
 
-  pub went_before : (event : Event) → WentOn (after_event rules s event)
-  went_before (ComesUp leg cookie) = by (may_up rules s leg)
+  pub free_before : (event : Event) → WasFree (after_event rules s event)
+  free_before (ComesUp other cookie) = by (may_up rules s other)
     where
-      by : (t : Bool) → WentOn (cond t (with_leg rules s leg cookie) s)
+      by : (t : Bool) → WasFree (cond t (with_leg rules s other cookie) s)
       by true e = e
       by false e = e
-  went_before (Hears leg piece) = by s.course refl
+  free_before (Hears other piece) = by s.course refl
     where
-      by : (c : Course) → s.course ≡ c → WentOn (bytes_by rules s leg piece c)
-      by Going is e = is
+      by : (c : Course) → s.course ≡ c → WasFree (bytes_by rules s other piece c)
+      by Going is e = ap (is_refused_on leg) is
       by (Closed why) is e = e
       by (Refusing why client rest) is e = e
-  went_before (Ends leg) = by s.course refl
+  free_before (Ends other) = by s.course refl
     where
-      by : (c : Course) → s.course ≡ c → WentOn (ended_by rules s leg c)
-      by Going is e = is
+      by : (c : Course) → s.course ≡ c → WasFree (ended_by rules s other c)
+      by Going is e = ap (is_refused_on leg) is
       by (Closed why) is e = e
       by (Refusing why client rest) is e = e
-  went_before (Breaks leg) = by s.course refl
+  free_before (Breaks other) = by s.course refl
     where
-      by : (c : Course) → s.course ≡ c → WentOn (broken_by rules s leg c)
-      by Going is e = is
+      by : (c : Course) → s.course ≡ c → WasFree (broken_by rules s other c)
+      by Going is e = ap (is_refused_on leg) is
       by (Closed why) is e = e
       by (Refusing why client rest) is e = e
-  went_before (Draws leg room) = by s.course refl
+  free_before (Draws other room) = by s.course refl
     where
       of_rest : (why : Cause) (client : Leg) (rest : List ℕ) (t : Bool)
-          → WentOn (cond {A = Shell S × List ℕ} t
+          → s.course ≡ Refusing why client rest
+          → WasFree (cond {A = Shell S × List ℕ} t
           (record s { course = Refusing why client (drop room rest) }, take room rest) (s, [])).0
-      of_rest why client rest true e = absurd cc
-      of_rest why client rest false e = e
+      of_rest why client rest true is e = ap (is_refused_on leg) is ∙ e
+      of_rest why client rest false is e = e
 
-      by : (c : Course) → s.course ≡ c → WentOn (drawn_by rules s leg room c).0
-      by Going is e = is
+      by : (c : Course) → s.course ≡ c → WasFree (drawn_by rules s other room c).0
+      by Going is e = ap (is_refused_on leg) is
       by (Closed why) is e = e
-      by (Refusing why client rest) is e = of_rest why client rest (same_leg client leg) e
-  went_before (Ticks now) = by (is_working rules s && nat_le s.now now) refl
+      by (Refusing why client rest) is e = of_rest why client rest (same_leg client other) is e
+  free_before (Ticks now) = by (is_working rules s && nat_le s.now now) refl
     where
       by : (t : Bool) → (is_working rules s && nat_le s.now now) ≡ t
-          → WentOn (cond t (passed rules (record s { now = now })) s)
+          → WasFree (cond t (passed rules (record s { now = now })) s)
       by true w e =
-          (at_work s.course (rules.phase s.role)
+          ap (is_refused_on leg) (at_work s.course (rules.phase s.role)
           (both (is_working rules s) (nat_le s.now now) w).0).0
       by false w e = e
 
 -- ---- and what it drew was put
 
-answers_not : (leg : Leg) (c : Course) (o : Option NearEnd) (rest : List ℕ) → c ≡ Going
-    → seat_by leg c o ≡ Answers rest → ⊥
+answers_not : (leg : Leg) (c : Course) (o : Option NearEnd) (rest : List ℕ)
+    → is_refused_on leg c ≡ false → seat_by leg c o ≡ Answers rest → ⊥
 answers_not leg Going None rest is e = absurd cc
 answers_not leg Going (Some end) rest is e = absurd cc
 answers_not leg (Closed why) o rest is e = absurd cc
-answers_not leg (Refusing why client left) o rest is e = absurd cc
+answers_not leg (Refusing why client left) o rest is e =
+    absurd (let bad : Nowhere ≡ Answers rest =
+    sym (ap (λ t. cond t (Answers left) Nowhere) is) ∙ e in cc)
 
 module _ {S : Type 0} (rules : Rules S) (pipe : Option Pipe) (leg : Leg)
     (Sound MayRefuse : Type 0) where
   pub goes_keep : (p q : Passage S) (all ns : List Move) (s t : Shell S)
-      (heard drawn bytes out : List ℕ) (up later : Bool) → s.course ≡ Going
+      (heard drawn bytes out : List ℕ) (up later : Bool) → is_refused_on leg s.course ≡ false
       → IsPrefix drawn (spelled (of_leg leg p.put))
       → Kept rules pipe leg Sound MayRefuse q all (seat leg t) heard (drawn ++ out) later
       → Turns rules pipe leg p q ns (seat leg s) (seat leg t) bytes out up later
       → IsPrefix (drawn ++ out) (spelled (of_leg leg q.put))
-  goes_keep p q all ns s t heard drawn bytes out up later going front kept turn = by turn
+  goes_keep p q all ns s t heard drawn bytes out up later free front kept turn = by turn
     where
       same : of_leg leg q.put ≡ of_leg leg p.put → out ≡ []
           → IsPrefix (drawn ++ out) (spelled (of_leg leg q.put))
@@ -112,7 +115,7 @@ module _ {S : Type 0} (rules : Rules S) (pipe : Option Pipe) (leg : Leg)
           d.after kept.seat in
           (d.drawn.end.begun, sym sits.spells)
       by (turns.Tells a) =
-          absurd (answers_not leg s.course (end_of leg s.legs) a.rest going a.before)
+          absurd (answers_not leg s.course (end_of leg s.legs) a.rest free a.before)
       by (turns.Comes c) = same c.quiet.put c.quiet.out_is
       by (turns.Fails u) = same u.quiet.put u.quiet.out_is
 
@@ -126,6 +129,7 @@ module _ {S : Type 0} (rules : Rules S) (pipe : Option Pipe) (leg : Leg)
   kept_seated p ms s heard drawn up role kept end going at =
       subst (λ (r : S). Seated rules r pipe (of_leg leg p.came) (of_leg leg p.put) heard drawn
       end) role (record {
+        pipe_is = sits.pipe_is;
         spells = sits.spells;
         reads = λ over live.
             let read = sits.reads over live in

@@ -19,7 +19,7 @@ use Rattle.rh_shell.specs.Shells.{Shell, begun, may_up}
 use Rattle.rh_shell.specs.Wires.{of_leg}
 use Rattle.rh_history.specs.Carried.{AreAccepted, ComesUpOnce, IsAccepted, came_up, drawn_in, drawn_on, heard_in, heard_on, is_up_of}
 use Rattle.rh_history.proofs.Appended.{accepted_append, came_append, drawn_append, heard_append}
-use Rattle.rh_streams.specs.Streams.{HasPipes, HearsInTurn, IsDrawn, RefusalDrawn, StaysUnused, Stream, is_head_on, is_up_on}
+use Rattle.rh_streams.specs.Streams.{HasPipes, HearsInTurn, IsDrawn, RefusalDrawn, StaysUnused, Stream, is_head_on, is_refused_on, is_up_on}
 use Rattle.rh_streams.specs.Turns.{Stages, AreInTurn, IsInTurn, RefusesInTurn, none_up, stages_after}
 use Rattle.rh_streams.proofs.Staging.{all_stages, all_stages_append, in_turn_append}
 use Rattle.rh_streams.proofs.Kept.{FrontOf}
@@ -209,7 +209,8 @@ module _ {S : Type 0} (rules : Rules S) (first : S) (rooms : Rooms) (pipe : Leg 
     refused = λ leg sound.
         refused_is leg ran.passage (heard_on leg events) (drawn_on rules start leg events)
         ((ran.kept leg).spells sound);
-    goes = ran.goes;
+    goes = λ leg going. ran.unrefused leg (ap (is_refused_on leg) going);
+    unrefused = ran.unrefused;
     seats = λ leg.
         kept_seated rules (pipe leg) leg (Sound leg) (Unit {0}) ran.passage ran.moves
         (after_events rules start events) (heard_on leg events) (drawn_on rules start leg events)

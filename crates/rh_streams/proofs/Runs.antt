@@ -9,7 +9,6 @@ use Rattle.rh_http.specs.declared.fault.HttpFault.{HttpFault}
 use Rattle.rh_sig.specs.declared.name.Pipe.{Pipe}
 use Rattle.rh_line.specs.declared.leg.Leg.{Leg}
 use Rattle.rh_shell.specs.declared.answers.HeadRefused.TheVariants as head
-use Rattle.rh_shell.specs.declared.course.Course.TheVariants.{Going}
 use Rattle.rh_shell.specs.declared.rooms.Rooms.{Rooms}
 use Rattle.rh_shell.specs.declared.stage.Stage.TheVariants as stage
 use Rattle.rh_shell.specs.Carrying.{spelled}
@@ -20,19 +19,19 @@ use Rattle.rh_shell.specs.Rules.{Rules}
 use Rattle.rh_shell.specs.Shells.{Shell, begun, may_up, same_leg}
 use Rattle.rh_shell.specs.Wires.{of_leg}
 use Rattle.rh_history.specs.Carried.{IsAccepted, drawn_in, heard_in, is_up_of}
-use Rattle.rh_streams.specs.Streams.{ComesUpWith, IsCookie, is_head_on, is_up_on}
+use Rattle.rh_streams.specs.Streams.{ComesUpWith, IsCookie, is_head_on, is_refused_on, is_up_on}
 use Rattle.rh_streams.specs.Turns.{Stages, AreInTurnFrom, IsInTurn, none_up, stages_after}
 use Rattle.rh_streams.proofs.Staging.{all_stages, way_reached, way_stays}
 use Rattle.rh_streams.proofs.Ends.{AreApart, leg_is}
 use Rattle.rh_streams.proofs.Events.{IsFresh, Steps, event_steps, ups_of}
 use Rattle.rh_streams.proofs.Seats.{seat}
 use Rattle.rh_streams.proofs.Kept.{Kept, turns_keep}
-use Rattle.rh_streams.proofs.Going.{went_before, goes_keep}
+use Rattle.rh_streams.proofs.Going.{free_before, goes_keep}
 use Rattle.rh_streams.proofs.Turns.{Nowhere, Sits, IsStaged, Turns}
 use Rattle.rh_streams.proofs.Ways.{Lifts, each_joined, either}
 
 -- a passage with the node's role, which was reached, and what is kept of each leg; with cookies
--- alone, if the events have them; and what was drawn while the node goes on
+-- alone, if the events have them; and what was drawn where the node refuses nobody
 pub record Ran {S : Type 0} (rules : Rules S) (pipes : Leg → Option Pipe) (Sound : Leg → Type 0)
     (MayRefuse HaveCookies : Type 0) (At : Passage S → List Move → Stages → Type 0) (s : Shell S)
     (heard drawn : Leg → List ℕ) (up : Leg → Bool) : Type 0 where
@@ -48,7 +47,7 @@ pub record Ran {S : Type 0} (rules : Rules S) (pipes : Leg → Option Pipe) (Sou
   pub staged : (leg : Leg) → IsStaged (stages leg) (seat leg s) (up leg)
   pub kept : (leg : Leg) → Kept rules (pipes leg) leg (Sound leg) MayRefuse passage moves
       (seat leg s) (heard leg) (drawn leg) (up leg)
-  pub goes : (leg : Leg) → s.course ≡ Going
+  pub unrefused : (leg : Leg) → is_refused_on leg s.course ≡ false
       → IsPrefix (drawn leg) (spelled (of_leg leg passage.put))
 
 -- what an event asks of the legs that came up before
@@ -91,7 +90,7 @@ module _ {S : Type 0} (rules : Rules S) (pipes : Leg → Option Pipe) (Sound : L
         undrawn = refl;
       };
     };
-    goes = λ leg is. ([], refl);
+    unrefused = λ leg is. ([], refl);
   }
 
   pub ran_as : (At : Passage S → List Move → Stages → Type 0) (s : Shell S)
@@ -119,8 +118,9 @@ module _ {S : Type 0} (rules : Rules S) (pipes : Leg → Option Pipe) (Sound : L
         (seat leg s) (heard leg) x (later leg)) (f leg)
         (subst (λ x. Kept rules (pipes leg) leg (Sound leg) MayRefuse ran.passage ran.moves
         (seat leg s) (heard leg) (drawn leg) x) (g leg) (ran.kept leg)));
-    goes = λ leg is.
-        subst (λ x. IsPrefix x (spelled (of_leg leg ran.passage.put))) (f leg) (ran.goes leg is);
+    unrefused = λ leg is.
+        subst (λ x. IsPrefix x (spelled (of_leg leg ran.passage.put))) (f leg)
+        (ran.unrefused leg is);
   }
 
   module _ (At : Passage S → List Move → Stages → Type 0)
@@ -137,7 +137,9 @@ module _ {S : Type 0} (rules : Rules S) (pipes : Leg → Option Pipe) (Sound : L
         (heard drawn bytes out : Leg → List ℕ) (up later : Leg → Bool)
         → (ran : Ran rules pipes Sound MayRefuse HaveCookies At s heard drawn up)
         → (q : Passage S) (ns : List Move) (next : Stages) → Next q (ran.moves ++ ns) next
-        → q.role ≡ t.role → (t.course ≡ Going → s.course ≡ Going)
+        → q.role ≡ t.role
+        → ((leg : Leg) → is_refused_on leg t.course ≡ false
+        → is_refused_on leg s.course ≡ false)
         → AreHeld t → AreApart t.legs
         → ((leg : Leg) → Turns rules (pipes leg) leg ran.passage q ns (seat leg s) (seat leg t)
         (bytes leg) (out leg) (up leg) (later leg))
@@ -150,7 +152,7 @@ module _ {S : Type 0} (rules : Rules S) (pipes : Leg → Option Pipe) (Sound : L
         → ((leg : Leg) → later leg ≡ false → bytes leg ≡ [])
         → Ran rules pipes Sound MayRefuse HaveCookies Next t (λ leg. heard leg ++ bytes leg)
         (λ leg. drawn leg ++ out leg) later
-    ran_by Next s t heard drawn bytes out up later ran q ns next at role went held apart turned
+    ran_by Next s t heard drawn bytes out up later ran q ns next at role free held apart turned
         staged raised with stays was none = record {
           passage = q;
           moves = ran.moves ++ ns;
@@ -165,10 +167,10 @@ module _ {S : Type 0} (rules : Rules S) (pipes : Leg → Option Pipe) (Sound : L
               ∙ ap (λ b. b || list_any (is_up_on leg) ns) (ran.ups leg) ∙ raised leg;
           cookies = λ have. each_joined Lifts ran.moves ns (ran.cookies have) (with have);
           kept = kept;
-          goes = λ leg is.
+          unrefused = λ leg is.
               goes_keep rules (pipes leg) leg (Sound leg) MayRefuse ran.passage q (ran.moves ++ ns)
               ns s t (heard leg ++ bytes leg) (drawn leg) (bytes leg) (out leg) (up leg)
-              (later leg) (went is) (ran.goes leg (went is)) (kept leg) (turned leg);
+              (later leg) (free leg is) (ran.unrefused leg (free leg is)) (kept leg) (turned leg);
         }
       where
         kept : (leg : Leg)
@@ -206,7 +208,7 @@ module _ {S : Type 0} (rules : Rules S) (pipes : Leg → Option Pipe) (Sound : L
           step.passage step.way.moves (all_stages rules ran.passage ran.stages step.way.moves)
           (way_reached rules At more stays step.heads (ups_of rules pipes up event) ran.passage
           step.passage ran.moves ran.stages step.way staged.0 ran.at)
-          step.role (went_before rules s event) step.held step.apart step.turned staged.1
+          step.role (λ leg. free_before rules leg s event) step.held step.apart step.turned staged.1
           (λ leg. ap (λ b. up leg || b) (step.way.raised leg ∙ comes event leg))
           (λ have. step.cookies (fit.cookie have))
           (λ leg rose.

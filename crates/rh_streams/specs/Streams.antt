@@ -13,7 +13,8 @@ use Rattle.rh_http.specs.Texts.{refusal_text}
 use Rattle.rh_sig.specs.declared.name.Pipe.{Pipe}
 use Rattle.rh_line.specs.declared.leg.Leg.{Leg}
 use Rattle.rh_shell.specs.declared.answers.HeadRefused.TheVariants as head
-use Rattle.rh_shell.specs.declared.course.Course.TheVariants.{Going}
+use Rattle.rh_shell.specs.declared.course.Course.{Course}
+use Rattle.rh_shell.specs.declared.course.Course.TheVariants.{Going, Closed, Refusing}
 use Rattle.rh_shell.specs.declared.rooms.Rooms.{Rooms}
 use Rattle.rh_shell.specs.declared.stage.Stage.{Stage}
 use Rattle.rh_shell.specs.declared.stage.Stage.TheVariants as stage
@@ -123,17 +124,25 @@ pub record IsReadTo (pipe : Option Pipe) (came : List Message) (heard : List ℕ
   pub all : came ≡ messages_read pipe heard
   pub after : reading_after pipe (begin pipe) heard ≡ reading intake.stage intake.held
 
--- what a node that goes on keeps of a leg: what was put there spells what was drawn, and then what
--- is begun; and while the leg is of use and its bytes are read, they are read to where it stands
+-- what a node that goes on keeps of a leg, of which it reads the pipe: what was put there spells
+-- what was drawn, and then what is begun; and while the leg is of use and its bytes are read, they
+-- are read to where it stands
 pub record Seated {S : Type 0} (rules : Rules S) (role : S) (pipe : Option Pipe)
     (came put : List Message) (heard drawn : List ℕ) (end : NearEnd) : Type 0 where
+  pub pipe_is : end.pipe ≡ pipe
   pub spells : spelled put ≡ drawn ++ end.begun
   pub reads : is_over rules end role ≡ false → is_live end.intake.stage ≡ true
       → IsReadTo pipe came heard end.intake
 
+-- the node draws a refusal on the leg
+abbrev pub is_refused_on : Leg → Course → Bool
+is_refused_on leg Going = false
+is_refused_on leg (Closed why) = false
+is_refused_on leg (Refusing why client rest) = same_leg client leg
+
 -- moves that are allowed lead to the node's role, each in its turn; what they took on each leg is a
 -- front of what is read in the bytes that were heard there, and the bytes that were drawn are those
--- that they put, all while the node goes on
+-- that they put, all while the node goes on, and where it refuses nobody on the leg
 pub record Stream {S : Type 0} (rules : Rules S) (first : S) (rooms : Rooms)
     (pipe : Leg → Option Pipe) (events : List Event) : Type 0 where
   pub passage : Passage S
@@ -153,6 +162,10 @@ pub record Stream {S : Type 0} (rules : Rules S) (first : S) (rooms : Rooms)
       IsPrefix bytes (spelled (of_leg leg passage.put))
       ⊎ RefusalDrawn rules leg (of_leg leg passage.put) (heard_on leg events) bytes)
   pub goes : (leg : Leg) → (after_events rules (begun first rooms) events).course ≡ Going
+      → IsPrefix (drawn_on rules (begun first rooms) leg events)
+      (spelled (of_leg leg passage.put))
+  pub unrefused : (leg : Leg)
+      → is_refused_on leg (after_events rules (begun first rooms) events).course ≡ false
       → IsPrefix (drawn_on rules (begun first rooms) leg events)
       (spelled (of_leg leg passage.put))
   pub seats : (leg : Leg) (end : NearEnd)

@@ -1,0 +1,4 @@
+mod HeardWell
+mod Drawn
+mod Fed
+mod Recorded

@@ -1,0 +1,13 @@
+//! Honest roles: what closes no node where all nodes are roles that keep to their rules. Its
+//! functions do nothing: their contracts are the laws.
+#![tactic(auto)]
+
+pub mod pieces;
+pub mod recordings;
+pub mod worlds;
+
+pub use pieces::{
+    a_piece_that_reads_well_closes_for_the_role, what_is_heard_well_closes_for_the_role,
+};
+pub use recordings::no_node_of_a_recording_closes_for_bad_bytes;
+pub use worlds::what_is_fed_closes_for_the_role;

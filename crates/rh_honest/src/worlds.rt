@@ -1,0 +1,65 @@
+//! What closes the nodes of a world of honest roles. This function does nothing: its contract is
+//! the law.
+
+ghost use Rattle.std.specs.Prelude.{ℕ};
+ghost use Rattle.rh_text.specs.declared.ends.Dir.{Dir};
+ghost use Rattle.rh_line.specs.declared.cause.Cause.{Cause};
+ghost use Rattle.rh_line.specs.declared.leg.Leg.{Leg};
+ghost use Rattle.rh_record.specs.declared.answer.Who.{Who};
+ghost use Rattle.rh_nodes.specs.Opening.{Makers};
+ghost use Rattle.rh_nodes.specs.World.{World};
+ghost use Rattle.rh_client.specs.declared.state.ClientRole.{ClientRole};
+ghost use Rattle.rh_inproxy.specs.State.{InProxy};
+ghost use Rattle.rh_outproxy.specs.OutProxy.{OutProxy};
+ghost use Rattle.rh_server.specs.States.{Server};
+ghost use Rattle.rh_history.specs.Changes.{ByLines, IsFed, MayChange};
+ghost use Rattle.rh_history.specs.Closes.{ClosesNode};
+ghost use Rattle.rh_history.specs.Histories.{IsNew};
+ghost use Rattle.rh_traced.specs.Ours.{AreOurs, deeds, rules};
+ghost use Rattle.rh_fifo.specs.Flows.{numbers_of};
+ghost use Rattle.rh_fifo.specs.Premises.{AreInRange};
+ghost use Rattle.rh_honest.specs.Honest.{IsOfNode, read_on, well_on};
+
+use crate::pieces::what_is_heard_well_closes_for_the_role;
+use rh_causes::a_proxy_refuses_for_a_reason;
+use rh_client::ClientRole;
+use rh_ends_begin::{what_a_client_puts_first_reads_well, what_a_server_puts_first_reads_well};
+use rh_fifo::what_is_put_is_legible;
+use rh_inproxy::InProxyRole;
+use rh_outproxy::OutProxyRole;
+use rh_proxies_begin::{
+    what_an_in_proxy_puts_first_reads_well, what_an_out_proxy_puts_first_reads_well,
+};
+use rh_reading::{texts_are_whole, texts_read_well, what_was_put_reads_well};
+use rh_server::ServerRole;
+use rh_traced::{a_recording_of_roles_is_known, what_is_heard_was_drawn_before};
+
+/// In each world of new roles whose numbers are in their ranges, at every moment that lines reach,
+/// what is fed to a node closes it with no bad frame and no bad packet; with a value out of range,
+/// or an unexpected packet, only where a row of its role refuses it, or where a Ping comes first.
+/// So it is also of a greeting. At a client a packet without a name is still unexpected.
+pub fn what_is_fed_closes_for_the_role<K>()
+    ensures { (m : Makers K InProxy OutProxy) (w : World K ClientRole Server InProxy OutProxy)
+        → IsNew w → (ours : AreOurs m w.company w.cast) → AreInRange (numbers_of ours)
+        → (v : World K ClientRole Server InProxy OutProxy) (lines : ByLines rules m deeds w v)
+        → (leg : Leg) (dir : Dir) (count : ℕ) (node : Who) (why : Cause)
+        → MayChange rules v (IsFed leg dir count)
+        → ClosesNode rules v (IsFed leg dir count) node why
+        → IsOfNode (well_on leg.kind dir) node leg (read_on leg.kind dir) why }
+{
+    what_is_put_is_legible::<K>();
+    a_recording_of_roles_is_known::<K>();
+    what_is_heard_was_drawn_before::<K, ClientRole, ServerRole, InProxyRole, OutProxyRole>();
+    what_was_put_reads_well();
+    texts_are_whole();
+    texts_read_well();
+    what_a_client_puts_first_reads_well();
+    what_a_server_puts_first_reads_well();
+    what_an_in_proxy_puts_first_reads_well();
+    what_an_out_proxy_puts_first_reads_well();
+    a_proxy_refuses_for_a_reason();
+    what_is_heard_well_closes_for_the_role::<ClientRole>();
+    what_is_heard_well_closes_for_the_role::<ServerRole>();
+    what_is_heard_well_closes_for_the_role::<InProxyRole>();
+    what_is_heard_well_closes_for_the_role::<OutProxyRole>();
+}
