@@ -14,6 +14,11 @@ ghost use Rattle.rh_world.specs.Any.{after, step};
 
 use crate::worlds::what_is_fed_closes_for_the_role;
 use rh_closes::each_close_of_a_recording_shows;
+use rh_client::ClientRole;
+use rh_inproxy::InProxyRole;
+use rh_outproxy::OutProxyRole;
+use rh_server::ServerRole;
+use rh_traced::turns_are_changes;
 use rh_world::WorldConfig;
 
 /// In no recording does a report tell of a node that closed with `BadFrame` or with `BadPacket`:
@@ -31,4 +36,5 @@ pub fn no_node_of_a_recording_closes_for_bad_bytes()
 {
     each_close_of_a_recording_shows();
     what_is_fed_closes_for_the_role::<WorldConfig>();
+    turns_are_changes::<WorldConfig, ClientRole, ServerRole, InProxyRole, OutProxyRole>();
 }

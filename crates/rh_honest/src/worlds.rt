@@ -12,7 +12,8 @@ ghost use Rattle.rh_client.specs.declared.state.ClientRole.{ClientRole};
 ghost use Rattle.rh_inproxy.specs.State.{InProxy};
 ghost use Rattle.rh_outproxy.specs.OutProxy.{OutProxy};
 ghost use Rattle.rh_server.specs.States.{Server};
-ghost use Rattle.rh_history.specs.Changes.{ByLines, IsFed, MayChange};
+ghost use Rattle.rh_history.specs.Changes.{IsFed, MayChange};
+ghost use Rattle.rh_traced.specs.Cookies.{ByChanges};
 ghost use Rattle.rh_history.specs.Closes.{ClosesNode};
 ghost use Rattle.rh_history.specs.Histories.{IsNew};
 ghost use Rattle.rh_traced.specs.Ours.{AreOurs, deeds, rules};
@@ -41,7 +42,7 @@ use rh_traced::{a_recording_of_roles_is_known, what_is_heard_was_drawn_before};
 pub fn what_is_fed_closes_for_the_role<K>()
     ensures { (m : Makers K InProxy OutProxy) (w : World K ClientRole Server InProxy OutProxy)
         → IsNew w → (ours : AreOurs m w.company w.cast) → AreInRange (numbers_of ours)
-        → (v : World K ClientRole Server InProxy OutProxy) (lines : ByLines rules m deeds w v)
+        → (v : World K ClientRole Server InProxy OutProxy) (by : ByChanges rules m deeds w v)
         → (leg : Leg) (dir : Dir) (count : ℕ) (node : Who) (why : Cause)
         → MayChange rules v (IsFed leg dir count)
         → ClosesNode rules v (IsFed leg dir count) node why

@@ -1,6 +1,7 @@
 -- what stands on the legs upwards
 use Rattle.std.proofs.Common.{◌≡◌, ◌≢◌, ◌-◌, ◌==◌, ◌||◌, ◌⊎◌, inl, inr, ℕ, zero, suc, Bool, true, false, if◌then◌else◌, List, [], ◌++◌, Some, arith, refl, sym, ap, ◌∙◌}
 use Rattle.std.proofs.lemmas.Bool.{cases_eq}
+use Rattle.std.proofs.lemmas.Bool.Decides.{nat_tests}
 use Rattle.std.proofs.lemmas.List.{append-nil}
 use Rattle.rh_text.specs.declared.ends.Dir.TheVariants.{U}
 use Rattle.rh_text.specs.declared.ends.Side.TheVariants as side
@@ -37,7 +38,7 @@ use Rattle.rh_history.specs.Histories.{History, IsRun, in_place}
 use Rattle.rh_traced.specs.Numbers.{AreRead, is_made}
 use Rattle.rh_traced.specs.Ours.{AreOurs, deeds, rules}
 use Rattle.rh_proxies_begin.specs.Pipes.{ci, is}
-use Rattle.rh_up.specs.Up.{GoesUp, has_proxy, up_route}
+use Rattle.rh_up.specs.Up.{GoesUp, has_leg, up_route}
 use Rattle.rh_up.proofs.JoinedLegs.{client_put, in_views, proxy_came, proxy_put, server_came, up_views}
 use Rattle.rh_up.proofs.Laws.{AreBegun}
 use Rattle.rh_up.proofs.LegLogs.{leg_reads_back}
@@ -52,40 +53,41 @@ use Rattle.rh_paths.proofs.Legs.{AllRead, IsJoined, leg_arrives}
 
 -- it is the last one up to the channel that has a leg to the server
 module _ (readers : List ℕ) (made : ℕ → Bool) (are : AreRead readers made) where
-  read_by : (n : ℕ) → reader_of readers n ≢ 0 → reader (has_proxy made) n ≡ reader_of readers n
-  read_by zero some = absurd (some are.none)
-  read_by (suc n) some = by (read_by n) (made (suc n)) refl
-    where
-      later : (reader_of readers n ≢ 0
-          → reader (has_proxy made) n ≡ reader_of readers n)
-          → (k : ℕ) → n ≡ k → made (suc n) ≡ false
-          → reader_of readers (suc n) ≡ reader_of readers n
-          → reader (has_proxy made) (suc n) ≡ reader_of readers (suc n)
-      later back zero e none same =
-          absurd (some (same ∙ ap (reader_of readers) e ∙ are.none))
-      later back (suc k) e none same =
-          let has : has_proxy made (suc n) ≡ false =
-          ap (λ (b : Bool). b || (suc n == 1)) none
-          ∙ test_other (suc n) 1 (λ f. absurd (omega (arith, f, e))) in
-          ap (λ (b : Bool). if b then suc n else reader (has_proxy made) n) has
-          ∙ back (λ nothing. some (same ∙ nothing)) ∙ sym same
+  abbrev legs : ℕ → Bool
+  legs = has_leg (reader_of readers)
 
-      by : (reader_of readers n ≢ 0
-          → reader (has_proxy made) n ≡ reader_of readers n)
-          → (b : Bool) → made (suc n) ≡ b
-          → reader (has_proxy made) (suc n) ≡ reader_of readers (suc n)
+  read_by : (n : ℕ) → reader_of readers n ≢ 0 → reader legs n ≡ reader_of readers n
+  read_by zero some = absurd (some are.none)
+  read_by (suc n) some = by (read_by n) (legs (suc n)) refl
+    where
+      at : ℕ
+      at = reader_of readers (suc n)
+
+      own_by : (at ≡ suc n) ⊎ (at ≡ suc n → ⊥) → legs (suc n) ≡ true → at ≡ suc n
+      own_by (inl same) e = same
+      own_by (inr other) e =
+          absurd (let bad : false ≡ true =
+          sym (ap (λ (b : Bool). b || (at == 0)) (test_other at (suc n) other)
+          ∙ test_other at 0 some) ∙ e in cc)
+
+      no_leg : at ≡ suc n → legs (suc n) ≡ false → ⊥
+      no_leg same e = grind (arith, nat_tests, same, e)
+
+      by : (reader_of readers n ≢ 0 → reader legs n ≡ reader_of readers n)
+          → (b : Bool) → legs (suc n) ≡ b → reader legs (suc n) ≡ at
       by back true e =
-          ap (λ (b : Bool). if b || (suc n == 1) then suc n else reader (has_proxy made) n) e
-          ∙ sym (are.own (suc n) e)
+          ap (λ (b : Bool). if b then suc n else reader legs n) e
+          ∙ sym (own_by (cases_eq at (suc n)) e)
       by back false e = either (are.each (suc n) some).either
         where
-          either : ((reader_of readers (suc n) ≡ suc n) × (made (suc n) ≡ true))
-              ⊎ (reader_of readers (suc n) ≡ reader_of readers (suc n - 1))
-              → reader (has_proxy made) (suc n) ≡ reader_of readers (suc n)
-          either (inl own) = absurd (let bad : false ≡ true = sym e ∙ own.1 in cc)
-          either (inr same) =
-              later back n refl e
-              (same ∙ ap (reader_of readers) {x = suc n - 1} {y = n} (omega arith))
+          either : ((at ≡ suc n) × (made (suc n) ≡ true))
+              ⊎ (at ≡ reader_of readers (suc n - 1)) → reader legs (suc n) ≡ at
+          either (inl own) = absurd (no_leg own.0 e)
+          either (inr before) =
+              let same : at ≡ reader_of readers n =
+              before ∙ ap (reader_of readers) {x = suc n - 1} {y = n} (omega arith) in
+              ap (λ (b : Bool). if b then suc n else reader legs n) e
+              ∙ back (λ nothing. some (same ∙ nothing)) ∙ sym same
 
 module _ {K : Type 0} (law : AllRead) (m : Makers K InProxy OutProxy)
     (first : Company ClientRole Server InProxy OutProxy) (cast : K)
@@ -100,7 +102,7 @@ module _ {K : Type 0} (law : AllRead) (m : Makers K InProxy OutProxy)
     (starts : AreBegun ours.config ours.in_config g.giver.leads.moves g.giver.passage
     (λ n. (g.proxies n).passage)) where
   abbrev route : Route
-  route = up_route (is_made v.company) g.giver.passage (λ n. (g.proxies n).passage)
+  route = up_route (reader_of v.readers) g.giver.passage (λ n. (g.proxies n).passage)
       g.taker.leads.moves g.taker.passage
 
   -- ---- from the client to an in proxy
@@ -259,7 +261,7 @@ module _ {K : Type 0} (law : AllRead) (m : Makers K InProxy OutProxy)
 
   -- ---- each leg
 
-  far_by : (n : ℕ) (b : Bool) → has_proxy (is_made v.company) n ≡ b → IsRoute route
+  far_by : (n : ℕ) (b : Bool) → has_leg (reader_of v.readers) n ≡ b → IsRoute route
       → is_lost (up_far (numbers_of ours) v h n) ≡ false
       → (if b then put_items (g.proxies n).passage.put else [])
       ≡ got g.taker.passage n
@@ -278,5 +280,5 @@ module _ {K : Type 0} (law : AllRead) (m : Makers K InProxy OutProxy)
         near_arrives n kept
         ∙ ap (λ (items : List Item).
         items ++ items_on_way item_came (up_near (numbers_of ours) v h n)) (same_reader n);
-    far = λ n kept. far_by n (has_proxy (is_made v.company) n) refl is_route kept;
+    far = λ n kept. far_by n (has_leg (reader_of v.readers) n) refl is_route kept;
   }

@@ -28,7 +28,8 @@ use Rattle.rh_nodes.specs.Opening.{Makers}
 use Rattle.rh_nodes.specs.Readers.{reader_of}
 use Rattle.rh_nodes.specs.World.{World}
 use Rattle.rh_history.specs.Carried.{AreCarried, IsTraced, LegsComeUpOnce, ledger}
-use Rattle.rh_history.specs.Changes.{ByLines, Leads}
+use Rattle.rh_history.specs.Changes.{Leads}
+use Rattle.rh_traced.specs.Cookies.{ByChanges}
 use Rattle.rh_history.specs.Histories.{History, IsNew, IsRun, in_place, nothing, out_place}
 use Rattle.rh_history.proofs.Recordings.{traced_first}
 use Rattle.rh_history.proofs.Tracing.{cast_stays}
@@ -38,7 +39,8 @@ use Rattle.rh_traced.specs.Recordings.{IsKnown}
 use Rattle.rh_traced.proofs.Along.{kept_along}
 use Rattle.rh_ordered.specs.Premises.{history_at}
 use Rattle.rh_down.specs.Down.{GoesDown, route_of}
-use Rattle.rh_up.specs.Up.{GoesUp, has_proxy, up_route}
+use Rattle.rh_up.specs.Up as goes_up
+use Rattle.rh_up.specs.Up.{GoesUp, up_route}
 use Rattle.rh_up.proofs.Laws.{Laws, are_begun}
 use Rattle.rh_fifo.specs.Directions.{Directions, down_route_of, up_route_of}
 use Rattle.rh_fifo.specs.Flows.{numbers_of}
@@ -68,7 +70,7 @@ pub record OrderLaws : Type 0 where
       (client_events server_events : List EndEvent) (ins : ℕ → List Event) (made : ℕ → Bool)
       (reader : ℕ → ℕ)
       (g : GoesUp config window in_config client_events server_events ins made reader)
-      → IsRoute (up_route made g.giver.passage (λ n. (g.proxies n).passage) g.taker.leads.moves
+      → IsRoute (up_route reader g.giver.passage (λ n. (g.proxies n).passage) g.taker.leads.moves
       g.taker.passage)
 
 pub record WorldLaws (K : Type 0) : Type 0 where
@@ -103,18 +105,18 @@ none_if false items e = refl
 
 module _ {K : Type 0} (read : AllRead) (law : OrderLaws) (roles : Laws) (worlds : WorldLaws K)
     (m : Makers K InProxy OutProxy) (w : OurWorld K) (new : IsNew w)
-    (ours : AreOurs m w.company w.cast) (v : OurWorld K) (lines : ByLines rules m deeds w v) where
+    (ours : AreOurs m w.company w.cast) (v : OurWorld K) (by : ByChanges rules m deeds w v) where
   abbrev here : History
-  here = history_at m w v lines
+  here = history_at m w v by.leads
 
   traced : IsTraced rules m deeds w.company v here
-  traced = (worlds.known m w v new ours lines.leads).traced
+  traced = (worlds.known m w v new ours by.leads).traced
 
   same_cast : v.cast ≡ w.cast
   same_cast =
       kept_along rules m deeds w.company (λ (x : OurWorld K) (g : History). x.cast ≡ w.cast)
       (λ x g traced once same change may.
-      cast_stays rules m deeds w.company x g traced once change ∙ same) w v nothing lines.leads
+      cast_stays rules m deeds w.company x g traced once change ∙ same) w v nothing by.leads
       (worlds.once m w ours) (traced_first rules m deeds w new) refl
 
   carried : AreCarried (ledger rules m deeds w.company w.cast here) v.legs v.readers
@@ -177,11 +179,11 @@ module _ {K : Type 0} (read : AllRead) (law : OrderLaws) (roles : Laws) (worlds 
         on_its_way law (up_route_of directions) (up_on numbers v here)
         (up_lost numbers v here) up_is_route
         (up_arrives read m w.company w.cast ours v here carried traced.heard in_runs
-        (worlds.known m w v new ours lines.leads).read directions.up
+        (worlds.known m w v new ours by.leads).read directions.up
         (are_begun roles ours.config ours.window ours.in_config here.client here.server here.ins
         (is_made v.company) (reader_of v.readers) directions.up) up_is_route)
         (λ n. none_on_way item_came (up_near numbers v here n))
-        (λ n lost. none_if (has_proxy (is_made v.company) n)
+        (λ n lost. none_if (goes_up.has_leg (reader_of v.readers) n)
         (items_on_way in_items (up_far numbers v here n))
         (none_on_way in_items (up_far numbers v here n) lost))
 

@@ -27,7 +27,7 @@ use Rattle.rh_history.specs.Histories.{History, IsRun, in_place, out_place}
 use Rattle.rh_streams.specs.Streams.{all_given, all_taken}
 use Rattle.rh_traced.specs.Numbers.{is_made}
 use Rattle.rh_proxies_begin.specs.Pipes.{ci, co, is, os}
-use Rattle.rh_up.specs.Up.{has_proxy}
+use Rattle.rh_up.specs.Up as goes_up
 use Rattle.rh_fifo.specs.Directions.{Directions, down_route_of, up_route_of}
 use Rattle.rh_fifo.specs.Flows.{Numbers}
 use Rattle.rh_paths.specs.Laws.{IsOnItsWay}
@@ -101,7 +101,7 @@ abbrev pub up_on : {K C S I O : Type 0} → Numbers → World K C S I O → Hist
 up_on numbers v h = record {
   near = λ n. items_on_way item_came (up_near numbers v h n);
   far = λ n.
-      if has_proxy (is_made v.company) n then items_on_way in_items (up_far numbers v h n)
+      if goes_up.has_leg (reader_of v.readers) n then items_on_way in_items (up_far numbers v h n)
       else [];
 }
 

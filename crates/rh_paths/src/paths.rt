@@ -11,7 +11,7 @@ ghost use Rattle.rh_inproxy.specs.State.{InProxy};
 ghost use Rattle.rh_outproxy.specs.OutProxy.{OutProxy};
 ghost use Rattle.rh_server.specs.States.{Server};
 ghost use Rattle.rh_server.specs.Servers as server;
-ghost use Rattle.rh_history.specs.Changes.{ByLines};
+ghost use Rattle.rh_traced.specs.Cookies.{ByChanges};
 ghost use Rattle.rh_history.specs.Histories.{History, IsNew};
 ghost use Rattle.rh_streams.specs.Streams.{all_given, all_taken};
 ghost use Rattle.rh_traced.specs.Ours.{AreOurs, deeds, rules};
@@ -43,8 +43,8 @@ use rh_up::what_goes_up_is_a_route;
 pub fn nothing_on_its_way_is_lost<K>()
     ensures { (m : Makers K InProxy OutProxy) (w : World K ClientRole Server InProxy OutProxy)
         → IsNew w → (ours : AreOurs m w.company w.cast) → AreInRange (numbers_of ours)
-        → (v : World K ClientRole Server InProxy OutProxy) (lines : ByLines rules m deeds w v)
-        → AreOnTheirWay (numbers_of ours) v (history_at m w v lines) }
+        → (v : World K ClientRole Server InProxy OutProxy) (by : ByChanges rules m deeds w v)
+        → AreOnTheirWay (numbers_of ours) v (history_at m w v by.leads) }
 {
     directions_are_joined::<K>();
     what_goes_down_is_a_route();

@@ -28,7 +28,8 @@ use Rattle.rh_outproxy.specs.Machine as out_proxy
 use Rattle.rh_outproxy.specs.OutProxy.{OutProxy, new_proxy}
 use Rattle.rh_server.specs.States.{Server}
 use Rattle.rh_history.specs.Carried.{AreAccepted, ComesUpOnce, LegsComeUpOnce}
-use Rattle.rh_history.specs.Changes.{ByLines, Leads}
+use Rattle.rh_history.specs.Changes.{Leads}
+use Rattle.rh_traced.specs.Cookies.{ByChanges}
 use Rattle.rh_history.specs.Histories.{IsNew}
 use Rattle.rh_streams.specs.Streams.{EndStream, HasPipes, StaysUnused}
 use Rattle.rh_ends_begin.specs.Begins.{Asks, BeginsLegs}
@@ -62,12 +63,12 @@ pub record ProxyLaws (K : Type 0) : Type 0 where
 module _ {K : Type 0} (law : ProxyLaws K) (m : Makers K InProxy OutProxy)
     (w : World K ClientRole Server InProxy OutProxy) (new : IsNew w)
     (ours : AreOurs m w.company w.cast) (v : World K ClientRole Server InProxy OutProxy)
-    (lines : ByLines rules m deeds w v) where
-  known : IsKnown m w v lines.leads
-  known = law.known m w v new ours lines.leads
+    (by : ByChanges rules m deeds w v) where
+  known : IsKnown m w v by.leads
+  known = law.known m w v new ours by.leads
 
   cast_is : v.cast ≡ w.cast
-  cast_is = cast_kept rules m deeds w v new (law.once m w ours) lines.leads
+  cast_is = cast_kept rules m deeds w v new (law.once m w ours) by.leads
 
   pub in_node : (n : ℕ) → m.in_proxy v.cast n ≡ in_proxy.first_node (ours.in_config n)
   in_node n = ap (λ (c : K). m.in_proxy c n) cast_is ∙ ours.ins n
@@ -78,7 +79,7 @@ module _ {K : Type 0} (law : ProxyLaws K) (m : Makers K InProxy OutProxy)
 
   pub in_traced : (n : ℕ)
       → Traced in_proxy.rules (in_state.first (ours.in_config n)) in_proxy.rooms
-      (in_pipe (ours.in_config n)) ((history_at m w v lines).ins n)
+      (in_pipe (ours.in_config n)) ((history_at m w v by.leads).ins n)
   in_traced n = record {
     streams = law.ins;
     pipes = law.in_pipes (ours.in_config n);
@@ -88,14 +89,14 @@ module _ {K : Type 0} (law : ProxyLaws K) (m : Makers K InProxy OutProxy)
         ((law.once m w ours).ins n);
     accepted =
         subst (λ (s : Shell InProxy).
-        AreAccepted in_proxy.rules s ((history_at m w v lines).ins n)) (in_node n)
+        AreAccepted in_proxy.rules s ((history_at m w v by.leads).ins n)) (in_node n)
         (known.traced.accepted.ins n);
     turns = known.in_turn.ins n;
   }
 
   pub out_traced : (n : ℕ)
       → Traced out_proxy.rules (new_proxy (ours.out_config n)) ROOMS
-      (out_pipe (ours.out_config n)) ((history_at m w v lines).outs n)
+      (out_pipe (ours.out_config n)) ((history_at m w v by.leads).outs n)
   out_traced n = record {
     streams = law.outs;
     pipes = law.out_pipes (ours.out_config n);
@@ -105,7 +106,7 @@ module _ {K : Type 0} (law : ProxyLaws K) (m : Makers K InProxy OutProxy)
         ((law.once m w ours).outs n);
     accepted =
         subst (λ (s : Shell OutProxy).
-        AreAccepted out_proxy.rules s ((history_at m w v lines).outs n)) (out_node n)
+        AreAccepted out_proxy.rules s ((history_at m w v by.leads).outs n)) (out_node n)
         (known.traced.accepted.outs n);
     turns = known.in_turn.outs n;
   }

@@ -22,7 +22,8 @@ ghost use Rattle.rh_outproxy.specs.Machine as out_proxy;
 ghost use Rattle.rh_outproxy.specs.OutProxy.{OutProxy, new_proxy};
 ghost use Rattle.rh_server.specs.States.{Server};
 ghost use Rattle.rh_history.specs.Carried.{drawn_by, drawn_on};
-ghost use Rattle.rh_history.specs.Changes.{ByLines, Leads};
+ghost use Rattle.rh_history.specs.Changes.{Leads};
+ghost use Rattle.rh_traced.specs.Cookies.{ByChanges};
 ghost use Rattle.rh_history.specs.Histories.{IsNew, all_noted, nothing};
 ghost use Rattle.rh_traced.specs.Ours.{AreOurs, deeds, rules};
 ghost use Rattle.rh_traced.specs.Refusals.{IsAmong};
@@ -83,11 +84,11 @@ pub fn a_refused_client_heard_what_was_drawn<K>()
 pub fn a_refused_out_channel_was_refused_by_its_proxy<K>()
     ensures { (m : Makers K InProxy OutProxy) (w : World K ClientRole Server InProxy OutProxy)
         → IsNew w → (ours : AreOurs m w.company w.cast) → AreInRange (numbers_of ours)
-        → (v : World K ClientRole Server InProxy OutProxy) (lines : ByLines rules m deeds w v)
+        → (v : World K ClientRole Server InProxy OutProxy) (by : ByChanges rules m deeds w v)
         (n status : ℕ)
         → ClosedWith (cause.HttpRefused (leg_at ClientOut n) status) v.company.client.course
         → DrewRefusal (drawn_on out_proxy.rules (begun (new_proxy (ours.out_config n)) ROOMS)
-        (leg_at ClientOut n) ((history_at m w v lines).outs n)) status }
+        (leg_at ClientOut n) ((history_at m w v by.leads).outs n)) status }
 {
     what_a_client_holds_of_a_head();
     a_recording_of_roles_is_known::<K>();
@@ -100,13 +101,13 @@ pub fn a_refused_out_channel_was_refused_by_its_proxy<K>()
 pub fn a_refused_in_channel_was_refused_by_its_proxy<K>()
     ensures { (m : Makers K InProxy OutProxy) (w : World K ClientRole Server InProxy OutProxy)
         → IsNew w → (ours : AreOurs m w.company w.cast) → AreInRange (numbers_of ours)
-        → (v : World K ClientRole Server InProxy OutProxy) (lines : ByLines rules m deeds w v)
+        → (v : World K ClientRole Server InProxy OutProxy) (by : ByChanges rules m deeds w v)
         (n status : ℕ)
         → ClosedWith (cause.HttpRefused (leg_at ClientIn n) status) v.company.client.course
         → (let reader = reader_of v.readers n in
         (status ≡ success)
         ⊎ DrewRefusal (drawn_on in_proxy.rules (in_proxy.first_node (ours.in_config reader))
-        (leg_at ClientIn n) ((history_at m w v lines).ins reader)) status) }
+        (leg_at ClientIn n) ((history_at m w v by.leads).ins reader)) status) }
 {
     a_refused_client_heard_what_was_drawn::<K>();
     legs_of_roles_come_up_once::<K>();
@@ -121,18 +122,18 @@ pub fn a_client_refused_with_503_lost_its_server<K>()
     ensures out_channel { (m : Makers K InProxy OutProxy)
         (w : World K ClientRole Server InProxy OutProxy) → IsNew w
         → (ours : AreOurs m w.company w.cast) → AreInRange (numbers_of ours)
-        → (v : World K ClientRole Server InProxy OutProxy) (lines : ByLines rules m deeds w v)
+        → (v : World K ClientRole Server InProxy OutProxy) (by : ByChanges rules m deeds w v)
         (n : ℕ)
         → ClosedWith (cause.HttpRefused (leg_at ClientOut n) 503) v.company.client.course
-        → IsAmong (Breaks (leg_at OutServer n)) ((history_at m w v lines).outs n) }
+        → IsAmong (Breaks (leg_at OutServer n)) ((history_at m w v by.leads).outs n) }
     ensures in_channel { (m : Makers K InProxy OutProxy)
         (w : World K ClientRole Server InProxy OutProxy) → IsNew w
         → (ours : AreOurs m w.company w.cast) → AreInRange (numbers_of ours)
-        → (v : World K ClientRole Server InProxy OutProxy) (lines : ByLines rules m deeds w v)
+        → (v : World K ClientRole Server InProxy OutProxy) (by : ByChanges rules m deeds w v)
         (n : ℕ)
         → ClosedWith (cause.HttpRefused (leg_at ClientIn n) 503) v.company.client.course
         → (let reader = reader_of v.readers n in
-        IsAmong (Breaks (leg_at InServer reader)) ((history_at m w v lines).ins reader)) }
+        IsAmong (Breaks (leg_at InServer reader)) ((history_at m w v by.leads).ins reader)) }
 {
     a_refused_out_channel_was_refused_by_its_proxy::<K>();
     a_refused_in_channel_was_refused_by_its_proxy::<K>();
@@ -155,21 +156,21 @@ pub fn a_refused_client_lost_its_server<K>()
         (w : World K ClientRole Server InProxy OutProxy) → IsNew w
         → (ours : AreOurs m w.company w.cast) → AreInRange (numbers_of ours)
         → IsPort ours.config.port
-        → (v : World K ClientRole Server InProxy OutProxy) (lines : ByLines rules m deeds w v)
+        → (v : World K ClientRole Server InProxy OutProxy) (by : ByChanges rules m deeds w v)
         (n status : ℕ)
         → ClosedWith (cause.HttpRefused (leg_at ClientOut n) status) v.company.client.course
         → (status ≡ 503)
-        × IsAmong (Breaks (leg_at OutServer n)) ((history_at m w v lines).outs n) }
+        × IsAmong (Breaks (leg_at OutServer n)) ((history_at m w v by.leads).outs n) }
     ensures in_channel { (m : Makers K InProxy OutProxy)
         (w : World K ClientRole Server InProxy OutProxy) → IsNew w
         → (ours : AreOurs m w.company w.cast) → AreInRange (numbers_of ours)
         → IsPort ours.config.port
-        → (v : World K ClientRole Server InProxy OutProxy) (lines : ByLines rules m deeds w v)
+        → (v : World K ClientRole Server InProxy OutProxy) (by : ByChanges rules m deeds w v)
         (n status : ℕ)
         → ClosedWith (cause.HttpRefused (leg_at ClientIn n) status) v.company.client.course
         → (let reader = reader_of v.readers n in
         (status ≡ 503)
-        × IsAmong (Breaks (leg_at InServer reader)) ((history_at m w v lines).ins reader)) }
+        × IsAmong (Breaks (leg_at InServer reader)) ((history_at m w v by.leads).ins reader)) }
 {
     a_refused_client_heard_what_was_drawn::<K>();
     directions_are_joined::<K>();

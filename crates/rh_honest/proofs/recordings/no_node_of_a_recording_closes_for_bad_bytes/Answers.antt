@@ -9,7 +9,8 @@ returns c =
     let law : FedLaw = λ v reached leg dir count node why may closes.
     c.what_is_fed_closes_for_the_role.ensures roles.makers (roles.begun reached.config)
     (new reached.config) (ours reached.config) (in_range reached.config reached.ranges) v
-    reached.lines leg dir count node why may closes in
+    (c.turns_are_changes.ensures.lines roles.rules roles.makers roles.deeds
+    (roles.begun reached.config) v reached.lines) leg dir count node why may closes in
     record {
       frame = λ before line node leg place fault told.
           let why = cause.BadFrame leg place fault in

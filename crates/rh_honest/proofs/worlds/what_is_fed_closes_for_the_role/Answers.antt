@@ -6,7 +6,7 @@ use Rattle.rh_honest.proofs.Fed.{EachCloses, fed_closes}
 use Rattle.rh_honest.proofs.worlds.what_is_fed_closes_for_the_role.Goals as goal
 
 pub returns : goal.returns
-returns g c = λ m w new ours ranges v lines leg dir count node why may closes.
+returns g c = λ m w new ours ranges v by leg dir count node why may closes.
     let texts : Texts = record {
       put = c.what_was_put_reads_well.ensures;
       refusals = λ well pipe refusal first. c.texts_read_well.ensures.head well pipe _ first
@@ -26,9 +26,9 @@ returns g c = λ m w new ours ranges v lines leg dir count node why may closes.
       ins = c.what_is_heard_well_closes_for_the_role-3.ensures;
       outs = c.what_is_heard_well_closes_for_the_role-4.ensures;
     } in
-    let known = c.a_recording_of_roles_is_known.ensures.changes m w v new ours lines.leads in
-    let h = history_at m w v lines in
+    let known = c.a_recording_of_roles_is_known.ensures.changes m w v new ours by.leads in
+    let h = history_at m w v by.leads in
     fed_closes texts each m w v ours h known.traced
-    (c.what_is_put_is_legible.ensures m w new ours ranges v lines) leg dir count
+    (c.what_is_put_is_legible.ensures m w new ours ranges v by) leg dir count
     (c.what_is_heard_was_drawn_before.ensures rules m deeds w.company v h known.traced known.once
     (IsFed leg dir count) may leg dir) why node closes

@@ -4,7 +4,7 @@ use Rattle.rh_paths.proofs.Worlds.{OrderLaws, WorldLaws, on_their_way}
 use Rattle.rh_paths.proofs.paths.nothing_on_its_way_is_lost.Goals as goal
 
 pub returns : goal.returns
-returns g c = λ m w new ours ranges v lines.
+returns g c = λ m w new ours ranges v by.
     let read : AllRead = record {
       whole = c.all_that_was_put_is_read.ensures.whole;
       parts = c.all_that_was_put_is_read.ensures.parts;
@@ -33,5 +33,5 @@ returns g c = λ m w new ours ranges v lines.
       known = c.a_recording_of_roles_is_known.ensures.changes;
       once = λ m w. c.legs_of_roles_come_up_once.ensures m w.company w.cast;
     } in
-    on_their_way read law roles worlds m w new ours v lines
-    (c.directions_are_joined.ensures m w new ours ranges v lines)
+    on_their_way read law roles worlds m w new ours v by
+    (c.directions_are_joined.ensures m w new ours ranges v by)

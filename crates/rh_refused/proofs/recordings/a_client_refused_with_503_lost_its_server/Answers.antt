@@ -34,25 +34,25 @@ returns g c =
     } in
     let rightly = c.a_proxy_draws_503_where_its_server_is_lost.ensures in
     record {
-      out_channel = λ m w new ours ranges v lines n h.
-          let events = (history_at m w v lines).outs n in
+      out_channel = λ m w new ours ranges v by n h.
+          let events = (history_at m w v by.leads).outs n in
           out_lost_503 c.an_out_proxy_begins.ensures.client (ours.out_config n) (ranges.outs n) n
-          (ours.out_number n) events (out_traced law m w new ours v lines n)
+          (ours.out_number n) events (out_traced law m w new ours v by n)
           (subst (λ (s : Shell OutProxy).
           DrawsRightly out_proxy.rules s (leg_at OutServer n) (leg_at ClientOut n) events)
           (ours.outs n)
           (rightly.out_proxy m w.company w.cast ours n (leg_at ClientOut n) events))
-          (c.a_refused_out_channel_was_refused_by_its_proxy.ensures m w new ours ranges v lines n
+          (c.a_refused_out_channel_was_refused_by_its_proxy.ensures m w new ours ranges v by n
           503 h);
-      in_channel = λ m w new ours ranges v lines n h.
+      in_channel = λ m w new ours ranges v by n h.
           let k = reader_of v.readers n in
-          let events = (history_at m w v lines).ins k in
-          in_lost_503 (ours.in_config k) n k events (in_traced law m w new ours v lines k)
+          let events = (history_at m w v by.leads).ins k in
+          in_lost_503 (ours.in_config k) n k events (in_traced law m w new ours v by k)
           (subst (λ (s : Shell InProxy).
           DrawsRightly in_proxy.rules s (leg_at InServer k) (leg_at ClientIn n) events)
           (ours.ins k)
           (rightly.in_proxy m w.company w.cast ours k (leg_at ClientIn n) events))
           (no_success _ 503 refl
-          (c.a_refused_in_channel_was_refused_by_its_proxy.ensures m w new ours ranges v lines n
+          (c.a_refused_in_channel_was_refused_by_its_proxy.ensures m w new ours ranges v by n
           503 h));
     }

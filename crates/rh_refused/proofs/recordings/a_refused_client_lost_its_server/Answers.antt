@@ -44,13 +44,13 @@ returns g c =
     let begins = c.a_client_begins_with_a_request.ensures in
     let asks = c.a_client_asks_by_its_requests.ensures in
     record {
-      out_channel = λ m w new ours ranges port v lines n status h.
-          let here = history_at m w v lines in
+      out_channel = λ m w new ours ranges port v by n status h.
+          let here = history_at m w v by.leads in
           let leg = leg_at ClientOut n in
           let config = ours.out_config n in
           let events = here.outs n in
           let stream =
-          (c.directions_are_joined.ensures m w new ours ranges v lines).down.taker in
+          (c.directions_are_joined.ensures m w new ours ranges v by).down.taker in
           let put = spelled (of_leg leg stream.passage.passage.put) in
           let drew =
           end_drawn_on client.rules client.acts (client.first_client ours.config) leg here.client in
@@ -58,9 +58,9 @@ returns g c =
           subst (λ (s : Shell ClientRole). IsPrefix (heard_on leg events)
           (end_drawn_on client.rules client.acts s leg here.client)) ours.client
           (c.what_is_heard_was_drawn.ensures rules m deeds w.company v here
-          (law.known m w v new ours lines.leads).traced leg U) in
+          (law.known m w v new ours by.leads).traced leg U) in
           out_lost c.an_out_proxy_begins.ensures.client config (ranges.outs n) n
-          (ours.out_number n) events (out_traced law m w new ours v lines n)
+          (ours.out_number n) events (out_traced law m w new ours v by n)
           (subst (λ (s : Shell OutProxy).
           DrawsRightly out_proxy.rules s (leg_at OutServer n) leg events) (ours.outs n)
           (rightly.out_proxy m w.company w.cast ours n leg events))
@@ -74,21 +74,21 @@ returns g c =
           (leg_at ClientOut k)) (ours.out_number n)
           (c.an_out_proxy_refuses_first.ensures.client config))
           (subst (λ (s : Shell OutProxy). BeginsRefused (drawn_on out_proxy.rules s leg events) leg
-          status) (out_node law m w new ours v lines n)
-          (c.a_refused_client_heard_what_was_drawn.ensures.out_leg m w v new ours lines.leads n
+          status) (out_node law m w new ours v by n)
+          (c.a_refused_client_heard_what_was_drawn.ensures.out_leg m w v new ours by.leads n
           status h));
-      in_channel = λ m w new ours ranges port v lines n status h.
-          let here = history_at m w v lines in
+      in_channel = λ m w new ours ranges port v by n status h.
+          let here = history_at m w v by.leads in
           let leg = leg_at ClientIn n in
           let k = reader_of v.readers n in
           let config = ours.in_config k in
           let events = here.ins k in
-          let up = (c.directions_are_joined.ensures m w new ours ranges v lines).up in
+          let up = (c.directions_are_joined.ensures m w new ours ranges v by).up in
           let stream = up.giver in
           let put = spelled (of_leg leg stream.passage.passage.put) in
           let drew =
           end_drawn_on client.rules client.acts (client.first_client ours.config) leg here.client in
-          in_lost config n k events (in_traced law m w new ours v lines k)
+          in_lost config n k events (in_traced law m w new ours v by k)
           (subst (λ (s : Shell InProxy).
           DrawsRightly in_proxy.rules s (leg_at InServer k) leg events) (ours.ins k)
           (rightly.in_proxy m w.company w.cast ours k leg events))
@@ -101,7 +101,7 @@ returns g c =
           (prefix_trans (heard_on leg events) drew put (up.near k n) (stream.drawn leg)) head)
           (c.an_in_proxy_refuses_first.ensures.client config n)
           (subst (λ (s : Shell InProxy). BeginsRefused (drawn_on in_proxy.rules s leg events) leg
-          status) (in_node law m w new ours v lines k)
-          (c.a_refused_client_heard_what_was_drawn.ensures.in_leg m w v new ours lines.leads n
+          status) (in_node law m w new ours v by k)
+          (c.a_refused_client_heard_what_was_drawn.ensures.in_leg m w v new ours by.leads n
           status h));
     }

@@ -16,15 +16,15 @@ use Rattle.rh_refused.proofs.OutTexts.{puts_200}
 use Rattle.rh_refused.proofs.recordings.a_refused_out_channel_was_refused_by_its_proxy.Goals as goal
 
 pub returns : goal.returns
-returns g c = λ m w new ours ranges v lines n status h.
-    let here = history_at m w v lines in
+returns g c = λ m w new ours ranges v by n status h.
+    let here = history_at m w v by.leads in
     let leg = leg_at ClientOut n in
-    let down = (c.directions_are_joined.ensures m w new ours ranges v lines).down in
+    let down = (c.directions_are_joined.ensures m w new ours ranges v by).down in
     let heard = heard_refused c.what_a_client_holds_of_a_head.ensures.closed
     c.a_recording_of_roles_is_known.ensures.changes
     (λ m first w h traced leg.
     c.what_is_heard_was_drawn.ensures rules m deeds first w h traced leg D) m w v new ours
-    lines.leads leg status h in
+    by.leads leg status h in
     let drawn = drawn_on out_proxy.rules (begun (new_proxy (ours.out_config n)) ROOMS) leg
     (here.outs n) in
     out_refused (ours.out_config n) (of_leg leg (down.proxies n).passage.put) drawn leg status
