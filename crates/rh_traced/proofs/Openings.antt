@@ -40,7 +40,7 @@ use Rattle.rh_traced.specs.Numbers.{is_made, AreRead, AreOpened, HasWholeCookie,
 use Rattle.rh_traced.proofs.Along.{kept_by}
 use Rattle.rh_traced.proofs.Readers.{reader_here, reader_elsewhere, same_made, unread_at, change_read, new_read}
 
-abbrev ci : ℕ → Leg
+abbrev pub ci : ℕ → Leg
 ci n = leg_at ClientIn n
 
 -- ---- cookies
@@ -63,7 +63,7 @@ module _ {K C S I O : Type 0} (r : Rulebook C S I O) (m : Makers K I O) (d : Dee
     (first : Company C S I O) (w : World K C S I O) (h : History)
     (t : IsTraced r m d first w h) (once : LegsComeUpOnce r m d first w.cast)
     (a : AreRead w.readers (is_made w.company)) where
-  abbrev after : Change → World K C S I O
+  abbrev pub after : Change → World K C S I O
   after change = changed r m d w change
 
   -- it has its own proxy, or came up at the reader of the channel before it
@@ -75,7 +75,7 @@ module _ {K C S I O : Type 0} (r : Rulebook C S I O) (m : Makers K I O) (d : Dee
 
   -- ---- what grows
 
-  made_stays : (change : Change) → MayChange r w change → (n : ℕ)
+  pub made_stays : (change : Change) → MayChange r w change → (n : ℕ)
       → is_made w.company n ≡ true → is_made (after change).company n ≡ true
   made_stays (OpensIn k cookie) may n is =
       let place = Here (at_moment r.in_proxy (m.in_proxy w.cast k) w.now) 0 in
@@ -94,7 +94,7 @@ module _ {K C S I O : Type 0} (r : Rulebook C S I O) (m : Makers K I O) (d : Dee
   -- ---- a channel that had a reader
 
   -- its reader is as it was, or it had none
-  abbrev IsSettled : Change → ℕ → Type 0
+  abbrev pub IsSettled : Change → ℕ → Type 0
   IsSettled change n =
       (reader_of (after change).readers n ≡ reader_of w.readers n)
       ⊎ (reader_of w.readers n ≡ 0)
@@ -106,7 +106,7 @@ module _ {K C S I O : Type 0} (r : Rulebook C S I O) (m : Makers K I O) (d : Dee
       ⊎_elim (λ same. inr (ap (reader_of w.readers) same ∙ unread))
       (λ other. inl (reader_elsewhere w.readers k b n other)) (cases_eq n k)
 
-  settled : (change : Change) → MayChange r w change → (n : ℕ) → IsSettled change n
+  pub settled : (change : Change) → MayChange r w change → (n : ℕ) → IsSettled change n
   settled (OpensIn k cookie) may n = settled_at k k n (unread_at r m d first w h t once a k may.2)
   settled (OpensSame k cookie) may n =
       settled_at k (reader_before w k) n (unread_at r m d first w h t once a k may.0)

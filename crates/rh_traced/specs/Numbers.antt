@@ -1,7 +1,7 @@
 -- which in proxy reads which IN channel of the client (MS-RPCH 3.2; the numbers are this profile's)
-use Rattle.std.specs.Prelude.{◌≡◌, ◌≢◌, ◌≤◌, ◌⊎◌, ◌-◌, ℕ, List, [], length, Bool, true, false, not}
+use Rattle.std.specs.Prelude.{◌≡◌, ◌≢◌, ◌<◌, ◌≤◌, ◌⊎◌, ◌-◌, ℕ, List, [], length, Bool, true, false, not}
 use Rattle.std.specs.List.{AllByRecursion}
-use Rattle.rh_line.specs.declared.leg.LegKind.TheVariants.{ClientIn}
+use Rattle.rh_line.specs.declared.leg.LegKind.TheVariants.{ClientIn, InServer}
 use Rattle.rh_shell.specs.Moving.{Event, ComesUp}
 use Rattle.rh_nodes.specs.Company.{Company}
 use Rattle.rh_nodes.specs.Places.{is_absent}
@@ -64,3 +64,22 @@ pub record ComeUpInOrder {K C S I O : Type 0} (v : World K C S I O) (h : History
   pub unread : reader_of v.readers 0 ≡ 0
   -- the client has the cookies of its legs
   pub cookies : HaveWholeCookies (happened h.client)
+
+-- ---- where lines have legs up
+
+-- a channel that came up at the client is read
+abbrev pub AreLed : List ℕ → History → Type 0
+AreLed readers h =
+    (n : ℕ) → 0 < n → came_up (leg_at ClientIn n) (happened h.client) ≡ true
+    → reader_of readers n ≢ 0
+
+-- a leg of an in proxy that came up at the server is of one that was made
+abbrev pub AreJoined : (ℕ → Bool) → History → Type 0
+AreJoined made h =
+    (n : ℕ) → came_up (leg_at InServer n) (happened h.server) ≡ true → made n ≡ true
+
+-- in a world that lines led to; half steps need not keep it
+pub record ComeUpByLines {K C S I O : Type 0} (v : World K C S I O) (h : History)
+    : Type 0 where
+  pub led : AreLed v.readers h
+  pub joined : AreJoined (is_made v.company) h
