@@ -5,7 +5,6 @@ use Rattle.std.specs.Prelude.{if◌then◌else◌}
 use Rattle.std.proofs.lemmas.List.{append-nil}
 use Rattle.rh_text.specs.declared.ends.Dir.{Dir}
 use Rattle.rh_text.specs.declared.ends.Dir.TheVariants.{U, D}
-use Rattle.rh_text.specs.declared.ends.Side.TheVariants as side
 use Rattle.rh_rts.specs.declared.command.Cookie.{Cookie}
 use Rattle.rh_line.specs.declared.cause.Cause.{Cause}
 use Rattle.rh_line.specs.declared.cause.Cause.TheVariants as cause
@@ -20,8 +19,6 @@ use Rattle.rh_record.specs.declared.line.Line.{Line}
 use Rattle.rh_record.specs.declared.line.Line.TheVariants.{First, Set}
 use Rattle.rh_shell.specs.Laws.{ClosedWith}
 use Rattle.rh_shell.specs.Moving as moving
-use Rattle.rh_inproxy.specs.State.{InProxy}
-use Rattle.rh_outproxy.specs.OutProxy.{OutProxy}
 use Rattle.rh_nodes.specs.declared.event.Event.{Event}
 use Rattle.rh_nodes.specs.declared.event.Event.TheVariants.{Comes, Ends, Breaks, Passes}
 use Rattle.rh_nodes.specs.declared.place.Place.{Place}
@@ -36,8 +33,8 @@ use Rattle.rh_nodes.specs.Steps.{step_line}
 use Rattle.rh_nodes.specs.Legs as legs
 use Rattle.rh_nodes.specs.Wires.{receiver, sender}
 use Rattle.rh_nodes.specs.World.{at, node_by}
-use Rattle.rh_history.specs.Changes.{Change, IsTold, IsFed, IsDrawn, GoesUp, RaisesAlone, GoesDown, OpensIn, OpensOut, OpensSame, Gives, Takes, Closes, RecyclesIn, RecyclesOut, MovesTo, Draws, Reports, AreAllowed, ByLines, Leads, all_changed, changed}
-use Rattle.rh_history.specs.Closes.{ClosesNode, HasClosed, IsClosedBy, IsOneOf, told_by}
+use Rattle.rh_history.specs.Changes.{Change, IsTold, IsFed, IsDrawn, GoesUp, RaisesAlone, OpensIn, OpensOut, OpensSame, Reports, AreAllowed, ByLines, Leads, all_changed, changed}
+use Rattle.rh_history.specs.Closes.{ClosesNode, HasClosed, IsOneOf, told_by}
 use Rattle.rh_history.specs.Histories.{History, all_noted, at_place, heard, in_place, made_by, noted, nothing, out_place, to_node, told_to}
 use Rattle.rh_history.proofs.Closed.{tell_closes}
 use Rattle.rh_history.proofs.Leading.{changed_append, leads_more}
@@ -51,7 +48,7 @@ use Rattle.rh_world.specs.Config.{AreInRange}
 use Rattle.rh_world.specs.Roles as roles
 use Rattle.rh_bounds.proofs.Reached.{IsRecorded, behind_lines}
 use Rattle.rh_closes.specs.Recordings.{IsLicensedAt, IsRefusedIn}
-use Rattle.rh_closes.specs.Shows.{AreShown, IsShown, ShownWorks, Shows, ShowsLoss}
+use Rattle.rh_closes.specs.Shows.{AreShown, IsShown, ShownWorks, Shows}
 use Rattle.rh_closes.proofs.Going.{one_before}
 use Rattle.rh_traced.specs.Refusals.{IsAmong}
 use Rattle.rh_refused.specs.Reported.{ReportsLoss, TellsLoss}

@@ -1,5 +1,4 @@
-use Rattle.std.proofs.Common.{ℕ, List, [], ◌∷◌, ◌++◌, arith, refl}
-use Rattle.rh_line.specs.declared.cause.Cause.{Cause}
+use Rattle.std.proofs.Common.{[], ◌∷◌, ◌++◌, arith, refl}
 use Rattle.rh_line.specs.declared.leg.LegKind.TheVariants.{ClientIn, ClientOut, InServer, OutServer}
 use Rattle.rh_nodes.specs.Cookies.{cookie_of}
 use Rattle.rh_nodes.specs.Readers.{reader_of}
@@ -8,7 +7,6 @@ use Rattle.rh_world.specs.declared.config.WorldConfig.{WorldConfig}
 use Rattle.rh_world.specs.Roles as roles
 use Rattle.rh_fifo.proofs.Recorded.{in_range, new, ours}
 use Rattle.rh_refused.specs.Refused.{IsPort}
-use Rattle.rh_refused.specs.Reported.{ReportsLoss}
 use Rattle.rh_refused.proofs.Reporting.{concluded, in_loss, out_loss}
 use Rattle.rh_refused.proofs.reports.a_refused_client_of_a_recording_lost_its_server.Goals as goal
 
