@@ -14,3 +14,4 @@ mod Moments
 mod Taken
 mod Reasons
 mod Losses
+mod Reporting

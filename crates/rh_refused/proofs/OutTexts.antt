@@ -1,22 +1,18 @@
 -- the texts that an out proxy puts are responses of success
-use Rattle.std.proofs.Common.{◌≡◌, ℕ, ◌+◌, ◌&&◌, ◌⊎◌, inl, inr, List, [], ◌∷◌, ◌++◌, length, false, Some, None, Ok, Err, refl, sym, ◌∙◌, subst, rules}
+use Rattle.std.proofs.Common.{◌≡◌, ℕ, ◌+◌, ◌&&◌, ◌⊎◌, inl, inr, List, [], ◌∷◌, ◌++◌, length, Some, None, Ok, Err, refl, sym, ◌∙◌, subst}
 use Rattle.std.specs.Prelude.{nat_le, if◌then◌else◌}
 use Rattle.std.specs.List.{AllByRecursion}
 use Rattle.std.specs.declared.option.Option.{Option}
-use Rattle.std.specs.declared.result.Result.{Result}
 use Rattle.std.proofs.lemmas.List.{append-nil}
 use Rattle.rh_rts.specs.declared.command.Cookie.{Cookie}
 use Rattle.rh_sig.specs.declared.named.Named.{Named}
-use Rattle.rh_sig.specs.declared.named.Named.TheVariants.{ConnA1, ConnC1, OutR1A3, OutR2C1, InR1A3, InR2A3, OutR1A1, OutR1A5, OutR1A9, OutR1A10, EndB1, EndB2, AckTo, Ping}
+use Rattle.rh_sig.specs.declared.named.Named.TheVariants.{OutR1A10, EndB2, Ping}
 use Rattle.rh_line.specs.declared.leg.Leg.{Leg}
 use Rattle.rh_window.specs.Sending.{may_send, after_sent}
 use Rattle.rh_line.specs.Lines.{after_take, is_empty}
 use Rattle.rh_window.specs.declared.recv_window.Ack.{Ack}
-use Rattle.rh_heads.specs.Verdicts.{Asked, request_verdict}
-use Rattle.rh_http.specs.declared.fault.HttpFault.{HttpFault}
 use Rattle.rh_http.specs.Texts.{response_text}
 use Rattle.rh_order.proofs.ByNumber.{by_test}
-use Rattle.rh_shell.specs.declared.answers.Count.{Count}
 use Rattle.rh_shell.specs.declared.due.Due.{Due}
 use Rattle.rh_shell.specs.Rules.{Message, Row, Text, Pdu, Packet}
 use Rattle.rh_shell.specs.Moves.{Move, Up, HeadCame, PduCame, PacketCame, Puts, IsDrawn, Marks, Pings, OnLeg, Passage, started, moved, MayMove, put_by, taken_by}
@@ -27,20 +23,15 @@ use Rattle.rh_shell.proofs.Leading.{leads_keep}
 use Rattle.rh_outproxy.specs.declared.state.OutProxyConfig.{OutProxyConfig}
 use Rattle.rh_outproxy.specs.declared.state.Answer.{Answer}
 use Rattle.rh_outproxy.specs.declared.state.Answer.TheVariants as answers
-use Rattle.rh_outproxy.specs.declared.state.ClientLeg.TheVariants as clients
 use Rattle.rh_outproxy.specs.declared.state.Mark.TheVariants as marks
 use Rattle.rh_outproxy.specs.declared.state.Ping.TheVariants.{NotDue}
-use Rattle.rh_outproxy.specs.declared.state.ServerLeg.TheVariants as servers
 use Rattle.rh_outproxy.specs.OutProxy.{OutProxy, new_proxy, is_due, is_ping_due, is_server_first, joined}
-use Rattle.rh_outproxy.specs.Rows.{Done, is_co, is_os, unexpected}
-use Rattle.rh_outproxy.specs.Opening.{up, head, head_by, on_conn_a1, on_out_r1_a3, on_out_r2_c1, on_conn_c1, first_packet}
-use Rattle.rh_outproxy.specs.Acknowledging.{on_ack_to, ack_due}
-use Rattle.rh_outproxy.specs.InReplacement.{on_in_r1_a3, on_in_r2_a3}
-use Rattle.rh_outproxy.specs.OutReplacement.{on_out_r1_a1, on_out_r1_a5, on_out_r1_a9}
-use Rattle.rh_outproxy.specs.Ending.{on_end_b1, drawn, mark}
+use Rattle.rh_outproxy.specs.Rows.{is_co, is_os}
+use Rattle.rh_outproxy.specs.Opening.{first_packet}
+use Rattle.rh_outproxy.specs.Acknowledging.{ack_due}
 use Rattle.rh_outproxy.specs.Putting.{Pick, echo_packet, ping_room, or_else, answer_by, put_answer, put_waiting, waiting_by, pdu_by, put_pdu, put_end, put_handover, put_ping, put_mark, next_co, first_by, put_first, ack_by, put_ack, next_os, put}
-use Rattle.rh_outproxy.specs.Machine.{packet, pdu, on_co, on_os}
 use Rattle.rh_outproxy.specs.Machine.{rules as proxy_rules}
+use Rattle.rh_causes.proofs.OutProxyLegs.{later_move}
 
 -- ---- what an out proxy puts
 
@@ -56,101 +47,11 @@ Succeeds config (Text bytes) = IsSuccess config bytes
 Succeeds config (Pdu pdu) = Unit {0}
 Succeeds config (Packet named) = Unit {0}
 
--- ---- the configuration stays
-
-abbrev Same : OutProxy → OutProxy → Type 0
-Same s t = t.config ≡ s.config
-
-same_conn_a1 : (s : OutProxy) (count : Count) (a b : Cookie) (n : ℕ)
-    → Same s (on_conn_a1 s count a b n).0
-same_conn_a1 s count a b n = search rules
-
-same_out_r1_a3 : (s : OutProxy) (count : Count) (a b c : Cookie) (n : ℕ)
-    → Same s (on_out_r1_a3 s count a b c n).0
-same_out_r1_a3 s count a b c n = search rules
-
-same_out_r2_c1 : (s : OutProxy) (count : Count) → Same s (on_out_r2_c1 s count).0
-same_out_r2_c1 s count = search rules
-
-same_conn_c1 : (s : OutProxy) (a b c : ℕ) → Same s (on_conn_c1 s a b c).0
-same_conn_c1 s a b c = search rules
-
-same_ack_to : (s : OutProxy) (a b c : ℕ) (d : Cookie) → Same s (on_ack_to s a b c d).0
-same_ack_to s a b c d = search rules
-
-same_in_r1_a3 : (s : OutProxy) (a b c d : ℕ) → Same s (on_in_r1_a3 s a b c d).0
-same_in_r1_a3 s a b c d = search rules
-
-same_in_r2_a3 : (s : OutProxy) (a : ℕ) → Same s (on_in_r2_a3 s a).0
-same_in_r2_a3 s a = search rules
-
-same_out_r1_a1 : (s : OutProxy) (a : ℕ) → Same s (on_out_r1_a1 s a).0
-same_out_r1_a1 s a = search rules
-
-same_out_r1_a5 : (s : OutProxy) (a b c : ℕ) → Same s (on_out_r1_a5 s a b c).0
-same_out_r1_a5 s a b c = search rules
-
-same_out_r1_a9 : (s : OutProxy) → Same s (on_out_r1_a9 s).0
-same_out_r1_a9 s = search rules
-
-same_end_b1 : (s : OutProxy) → Same s (on_end_b1 s).0
-same_end_b1 s = search rules
-
-same_pdu : (s : OutProxy) (leg : Leg) (count : Count) (bytes : List ℕ)
-    → Same s (pdu s leg count bytes).0
-same_pdu s leg count bytes = search rules
-
-same_co : (s : OutProxy) (count : Count) (packet : Named) → Same s (on_co s count packet).0
-same_co s count (ConnA1 v1 v2 v3 v4) = same_conn_a1 s count v2 v3 v4
-same_co s count (OutR1A3 v1 v2 v3 v4 v5) = same_out_r1_a3 s count v2 v3 v4 v5
-same_co s count OutR2C1 = same_out_r2_c1 s count
-same_co s count packet = refl
-
-same_os : (s : OutProxy) (packet : Named) → Same s (on_os s packet).0
-same_os s (ConnC1 v1 v2 v3) = same_conn_c1 s v1 v2 v3
-same_os s (AckTo v1 v2 v3 v4) = same_ack_to s v1 v2 v3 v4
-same_os s (InR1A3 v1 v2 v3 v4) = same_in_r1_a3 s v1 v2 v3 v4
-same_os s (InR2A3 v1) = same_in_r2_a3 s v1
-same_os s (OutR1A1 v1) = same_out_r1_a1 s v1
-same_os s (OutR1A5 v1 v2 v3) = same_out_r1_a5 s v1 v2 v3
-same_os s OutR1A9 = same_out_r1_a9 s
-same_os s EndB1 = same_end_b1 s
-same_os s packet = refl
-
-same_packet : (s : OutProxy) (leg : Leg) (count : Count) (named : Named)
-    → Same s (packet s leg count named).0
-same_packet s leg count named =
-    by_test (λ (d : Done). Same s d.0) (is_co s leg) (on_co s count named)
-    (if is_os s leg then on_os s named else unexpected s)
-    (λ e. same_co s count named)
-    (λ e. by_test (λ (d : Done). Same s d.0) (is_os s leg) (on_os s named) (unexpected s)
-    (λ f. same_os s named) (λ f. refl))
-
-same_head : (s : OutProxy) (leg : Leg) (text : List ℕ) → Same s (head s leg text).0
-same_head s leg text = by (request_verdict false text)
-  where
-    by : (r : Result Asked HttpFault) → Same s (head_by s r).0
-    by (Err fault) = refl
-    by (Ok request) = search rules
-
-same_drawn : (s : OutProxy) (leg : Leg) → Same s (drawn s leg)
-same_drawn s leg = search rules
-
-same_mark : (s : OutProxy) (leg : Leg) → Same s (mark s leg)
-same_mark s leg =
-    by_test (Same s) (is_co s leg) (record s { client = clients.Marked })
-    (record s { server = servers.Marked }) (λ e. refl) (λ e. refl)
-
-same_up : (s : OutProxy) (leg : Leg) (cookie : Cookie) → Same s (up s leg cookie)
-same_up s leg cookie =
-    by_test (Same s) (is_co s leg) (record s { client = clients.Up })
-    (record s { server = servers.FirstDue; answer = answers.ResponseDue }) (λ e. refl) (λ e. refl)
-
 -- ---- what goes next
 
 abbrev Fine : OutProxy → Pick → Type 0
 Fine s None = Unit {0}
-Fine s (Some pick) = Same s pick.0 × Succeeds s.config pick.1
+Fine s (Some pick) = Succeeds s.config pick.1
 
 or_fine : (s : OutProxy) (a b : Pick) → Fine s a → Fine s b → Fine s (or_else a b)
 or_fine s None b p q = q
@@ -159,24 +60,21 @@ or_fine s (Some pick) b p q = p
 answer_fine : (a : Answer) (s : OutProxy) → Fine s (answer_by a s)
 answer_fine answers.Awaited s = tt
 answer_fine answers.EchoDue s =
-    (refl, record { number = 20; told = inl refl; behind = echo_packet; is = refl })
+    record { number = 20; told = inl refl; behind = echo_packet; is = refl }
 answer_fine answers.EchoPut s = tt
 answer_fine answers.EchoDrawn s = tt
-answer_fine answers.ResponseDue s = (
-  refl,
-  record {
-    number = s.config.lifetime + ping_room;
-    told = inr refl;
-    behind = [];
-    is = sym (append-nil (response_text (s.config.lifetime + ping_room)));
-  },
-)
-answer_fine answers.TimeoutDue s = (refl, tt)
+answer_fine answers.ResponseDue s = record {
+  number = s.config.lifetime + ping_room;
+  told = inr refl;
+  behind = [];
+  is = sym (append-nil (response_text (s.config.lifetime + ping_room)));
+}
+answer_fine answers.TimeoutDue s = tt
 answer_fine answers.Put s = tt
 
 waiting_fine : (s : OutProxy) (dues : List Due) → Fine s (waiting_by s dues)
 waiting_fine s [] = tt
-waiting_fine s (due ∷ dues) = (refl, tt)
+waiting_fine s (due ∷ dues) = tt
 
 pdu_fine : (s : OutProxy) (pdus : List (List ℕ)) → Fine s (pdu_by s pdus)
 pdu_fine s [] = tt
@@ -185,32 +83,32 @@ pdu_fine s (bytes ∷ pdus) =
     (Some (
       record s { line = after_take s.line; window = after_sent s.window (length bytes) },
       Pdu bytes,
-    )) None (λ e. (refl, tt)) (λ e. tt)
+    )) None (λ e. tt) (λ e. tt)
 
 end_fine : (s : OutProxy) → Fine s (put_end s)
 end_fine s =
     by_test (Fine s) (is_empty s.line.current.pdus && is_due s.end)
-    (Some (record s { end = marks.Put }, Packet EndB2)) None (λ e. (refl, tt)) (λ e. tt)
+    (Some (record s { end = marks.Put }, Packet EndB2)) None (λ e. tt) (λ e. tt)
 
 handover_fine : (s : OutProxy) → Fine s (put_handover s)
 handover_fine s =
     by_test (Fine s) (is_empty s.line.current.pdus && is_due s.handover)
-    (Some (record s { handover = marks.Put }, Packet OutR1A10)) None (λ e. (refl, tt)) (λ e. tt)
+    (Some (record s { handover = marks.Put }, Packet OutR1A10)) None (λ e. tt) (λ e. tt)
 
 ping_fine : (s : OutProxy) → Fine s (put_ping s)
 ping_fine s =
     by_test (Fine s) (is_ping_due s.ping && nat_le (s.pinged + 20) ping_room)
     (Some (record s { ping = NotDue; pinged = s.pinged + 20 }, Packet Ping)) None
-    (λ e. (refl, tt)) (λ e. tt)
+    (λ e. tt) (λ e. tt)
 
 first_fine : (s : OutProxy) (o : Option Named) → Fine s (first_by s o)
 first_fine s None = tt
-first_fine s (Some packet) = (refl, tt)
+first_fine s (Some packet) = tt
 
 ack_fine : (s : OutProxy) (cookie : Option Cookie) (ack : Option Ack) → Fine s (ack_by s cookie ack)
 ack_fine s None ack = tt
 ack_fine s (Some cookie) None = tt
-ack_fine s (Some cookie) (Some ack) = (refl, tt)
+ack_fine s (Some cookie) (Some ack) = tt
 
 co_fine : (s : OutProxy) → Fine s (next_co s)
 co_fine s =
@@ -251,40 +149,37 @@ module _ (config : OutProxyConfig) where
   all_more [] one all s = (s, tt)
   all_more (first ∷ log) one all s = (all.0, all_more log one all.1 s)
 
-  taken_200 : (p : Passage OutProxy) (leg : Leg) (message : Message) (x : OutProxy × Row)
-      → Same p.role x.0 → Puts200 p → Puts200 (taken_by p leg message x)
-  taken_200 p leg message (role, Ok taken) same k =
-      record { config_is = same ∙ k.config_is; put = k.put }
-  taken_200 p leg message (role, Err refused) same k =
-      record { config_is = same ∙ k.config_is; put = k.put }
+  taken_put : (p : Passage OutProxy) (leg : Leg) (message : Message) (x : OutProxy × Row)
+      → AllSucceed p.put → AllSucceed (taken_by p leg message x).put
+  taken_put p leg message (role, Ok taken) all = all
+  taken_put p leg message (role, Err refused) all = all
 
-  put_200 : (p : Passage OutProxy) (leg : Leg) (pick : Pick) → Fine p.role pick → Puts200 p
-      → Puts200 (put_by p leg pick)
-  put_200 p leg None fine k = k
-  put_200 p leg (Some pick) fine k = record {
-    config_is = fine.0 ∙ k.config_is;
-    put = all_more p.put (leg, pick.1) k.put
-        (subst (λ (c : OutProxyConfig). Succeeds c pick.1) k.config_is fine.1);
-  }
+  put_more : (p : Passage OutProxy) (leg : Leg) (pick : Pick) → Fine p.role pick → Puts200 p
+      → AllSucceed (put_by p leg pick).put
+  put_more p leg None fine k = k.put
+  put_more p leg (Some pick) fine k =
+      all_more p.put (leg, pick.1) k.put
+      (subst (λ (c : OutProxyConfig). Succeeds c pick.1) k.config_is fine)
 
-  now_200 : (p : Passage OutProxy) (role : OutProxy) → Same p.role role → Puts200 p
-      → Puts200 (record p { role = role })
-  now_200 p role same k = record { config_is = same ∙ k.config_is; put = k.put }
+  move_put : (p : Passage OutProxy) (move : Move) → Puts200 p
+      → AllSucceed (moved proxy_rules p move).put
+  move_put p (Up leg cookie) k = k.put
+  move_put p (HeadCame leg text) k = k.put
+  move_put p (PduCame leg count bytes) k =
+      taken_put p leg (Pdu bytes) (proxy_rules.pdu p.role leg count bytes) k.put
+  move_put p (PacketCame leg count named) k =
+      taken_put p leg (Packet named) (proxy_rules.packet p.role leg count named) k.put
+  move_put p (Puts leg) k = put_more p leg (put p.role leg) (put_fine p.role leg) k
+  move_put p (IsDrawn leg) k = k.put
+  move_put p (Marks leg) k = k.put
+  move_put p (Pings leg) k = k.put
 
   move_200 : (p : Passage OutProxy) (move : Move) → Puts200 p → MayMove proxy_rules p.role move
       → Puts200 (moved proxy_rules p move)
-  move_200 p (Up leg cookie) k may = now_200 p (up p.role leg cookie) (same_up p.role leg cookie) k
-  move_200 p (HeadCame leg text) k may =
-      now_200 p (head p.role leg text).0 (same_head p.role leg text) k
-  move_200 p (PduCame leg count bytes) k may =
-      taken_200 p leg (Pdu bytes) (pdu p.role leg count bytes) (same_pdu p.role leg count bytes) k
-  move_200 p (PacketCame leg count named) k may =
-      taken_200 p leg (Packet named) (packet p.role leg count named)
-      (same_packet p.role leg count named) k
-  move_200 p (Puts leg) k may = put_200 p leg (put p.role leg) (put_fine p.role leg) k
-  move_200 p (IsDrawn leg) k may = now_200 p (drawn p.role leg) (same_drawn p.role leg) k
-  move_200 p (Marks leg) k may = now_200 p (mark p.role leg) (same_mark p.role leg) k
-  move_200 p (Pings leg) k may = now_200 p (proxy_rules.ping p.role leg) refl k
+  move_200 p move k may = record {
+    config_is = (later_move p move).config ∙ k.config_is;
+    put = move_put p move k;
+  }
 
   on_leg : (leg : Leg) (log : List OnLeg) → AllSucceed log
       → AllByRecursion (Succeeds config) (of_leg leg log)

@@ -1,0 +1,44 @@
+use Rattle.std.proofs.Common.{[], ◌∷◌, ◌++◌, arith, refl}
+use Rattle.rh_line.specs.declared.leg.LegKind.TheVariants.{ClientIn, ClientOut, InServer, OutServer}
+use Rattle.rh_nodes.specs.Cookies.{cookie_of}
+use Rattle.rh_nodes.specs.Readers.{reader_of}
+use Rattle.rh_nodes.specs.Settling.{leg_at}
+use Rattle.rh_world.specs.declared.config.WorldConfig.{WorldConfig}
+use Rattle.rh_world.specs.Roles as roles
+use Rattle.rh_fifo.proofs.Recorded.{in_range, new, ours}
+use Rattle.rh_refused.specs.Refused.{IsPort}
+use Rattle.rh_refused.proofs.Reporting.{concluded, in_loss, out_loss}
+use Rattle.rh_refused.proofs.reports.a_refused_client_of_a_recording_lost_its_server.Goals as goal
+
+port : (config : WorldConfig)
+    → IsPort (roles.client_config config (cookie_of 1) (cookie_of 2)).port
+port config = record { least = omega arith; most = omega arith }
+
+pub returns : goal.returns
+returns c =
+    let shown = c.what_a_line_tells_shows.ensures roles.rules roles.makers roles.deeds in
+    let ever = c.a_node_closes_once.ensures.ever roles.rules roles.makers roles.deeds in
+    let refused = c.only_a_client_of_a_recording_is_refused.ensures in
+    let lost = c.a_refused_client_lost_its_server.ensures in
+    record {
+      out_channel = λ before line node n status h.
+          concluded shown ever _ before line node (leg_at ClientOut n) status
+          (refused before line node (leg_at ClientOut n) status h)
+          (λ v rep closed.
+          let two = lost.out_channel roles.makers (roles.begun rep.config) (new rep.config)
+          (ours rep.config) (in_range rep.config rep.ranges) (port rep.config) v rep.run n status
+          closed in
+          (two.0, out_loss (before ++ line ∷ []) v rep n (leg_at OutServer n) refl two.1));
+      in_channel = λ before line node n status h.
+          concluded shown ever _ before line node (leg_at ClientIn n) status
+          (refused before line node (leg_at ClientIn n) status h)
+          (λ v rep closed.
+          let k = reader_of v.readers n in
+          let two = lost.in_channel roles.makers (roles.begun rep.config) (new rep.config)
+          (ours rep.config) (in_range rep.config rep.ranges) (port rep.config) v rep.run n status
+          closed in (
+            two.0,
+            k,
+            in_loss (before ++ line ∷ []) v rep k (leg_at InServer k) refl two.1,
+          ));
+    }
