@@ -11,4 +11,4 @@ mod Fronts
 mod Marked
 mod Unread
 mod Kept
-mod Recorded
+pub mod Recorded
