@@ -7,3 +7,4 @@ mod Down
 mod Up
 mod Worlds
 mod InUse
+mod Recorded

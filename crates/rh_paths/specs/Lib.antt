@@ -2,3 +2,4 @@ pub mod OnWay
 pub mod Laws
 pub mod Legs
 pub mod Ways
+pub mod Recordings
