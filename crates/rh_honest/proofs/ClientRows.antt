@@ -1,5 +1,5 @@
 -- the rows of a client refuse a value out of range in an acknowledgement alone
-use Rattle.std.proofs.Common.{◌≡◌, ℕ, Bool, true, false, List, refl}
+use Rattle.std.proofs.Common.{ℕ, Bool, true, false, List}
 use Rattle.std.specs.Prelude.{◌==◌, ◌&&◌, ◌||◌, not, nat_lt, Some, None, Ok, Err}
 use Rattle.std.specs.Option.{is_some}
 use Rattle.std.specs.declared.option.Option.{Option}
@@ -25,13 +25,13 @@ use Rattle.rh_client.specs.declared.replacement.Replacement.{Replacement}
 use Rattle.rh_client.specs.declared.replacement.Replacement.TheVariants.{NoneUnderWay, In, Out}
 use Rattle.rh_client.specs.declared.replacement.Waits.{Waits}
 use Rattle.rh_client.specs.declared.state.ClientRole.{ClientRole}
-use Rattle.rh_client.specs.Acknowledging.{ack_row, ack_row_by, admit_row, on_ack_to, on_pdu, pdu_channel, pdu_on}
+use Rattle.rh_client.specs.Acknowledging.{ack_row, ack_row_by, admit_row, on_ack_to, pdu_channel, pdu_on}
 use Rattle.rh_client.specs.declared.channels.InChannel.{InChannel}
 use Rattle.rh_client.specs.declared.channels.TheConstants.{LAST_NUMBER}
 use Rattle.rh_client.specs.Client.{on_packet, packet_by, pdu_by, rules}
-use Rattle.rh_client.specs.Ending.{end_channel, end_on, on_end_b2}
-use Rattle.rh_client.specs.InReplacement.{answer_at, answer_by, on_in_r1_a4, on_in_r2_a4}
-use Rattle.rh_client.specs.OutReplacement.{a10_at, a10_by, a2_by, a6_at, a6_by, on_out_r1_a10, on_out_r1_a2, on_out_r1_a6}
+use Rattle.rh_client.specs.Ending.{end_channel, end_on}
+use Rattle.rh_client.specs.InReplacement.{answer_at, answer_by}
+use Rattle.rh_client.specs.OutReplacement.{a10_at, a10_by, a2_by, a6_at, a6_by}
 use Rattle.rh_client.specs.State.{is_current, is_open, is_opening, is_out_successor, unexpected}
 use Rattle.rh_client.specs.Replacements.{has_out}
 use Rattle.rh_client.specs.Channels.{is_asked, is_named, is_put}

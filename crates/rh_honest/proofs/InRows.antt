@@ -1,5 +1,5 @@
 -- the rows of an in proxy refuse a value out of range in an acknowledgement alone
-use Rattle.std.proofs.Common.{◌≡◌, ℕ, Bool, true, false, List, refl}
+use Rattle.std.proofs.Common.{ℕ, Bool, true, false, List}
 use Rattle.std.specs.Prelude.{◌==◌, ◌&&◌, ◌||◌, not, Some, None, Ok, Err}
 use Rattle.std.specs.declared.option.Option.{Option}
 use Rattle.std.specs.declared.result.Result.{Result}
@@ -8,13 +8,11 @@ use Rattle.rh_window.specs.declared.fault.BadAck.{BadAck}
 use Rattle.rh_window.specs.Sending.{ack_verdict, after_acked}
 use Rattle.rh_sig.specs.declared.named.Named.{Named}
 use Rattle.rh_sig.specs.declared.named.Named.TheVariants as named
-use Rattle.rh_line.specs.declared.leg.Leg.{Leg}
 use Rattle.rh_line.specs.declared.line_fault.LineFault.{LineFault}
 use Rattle.rh_line.specs.declared.line_fault.LineFault.TheVariants as line_fault
 use Rattle.rh_line.specs.declared.which.Which.{Which}
 use Rattle.rh_line.specs.declared.which.Which.TheVariants.{Current, Next}
 use Rattle.rh_line.specs.Lines as line
-use Rattle.rh_shell.specs.declared.answers.Count.{Count}
 use Rattle.rh_shell.specs.Waiting as waiting
 use Rattle.rh_inproxy.specs.declared.state.Joining.TheVariants as joins
 use Rattle.rh_inproxy.specs.declared.state.Opener.{Opener}
@@ -29,7 +27,7 @@ use Rattle.rh_inproxy.specs.Passing as passing
 use Rattle.rh_inproxy.specs.State.{InProxy, channel_of, has_a5, is_client_leg, is_server_leg, same_cookie}
 use Rattle.rh_inproxy.specs.Ending.{has_later}
 use Rattle.rh_inproxy.specs.Opening.{is_connection, is_first, is_replacement, is_unknown, opener_of}
-use Rattle.rh_honest.specs.Rows.{IsOfAck, RefusesAcks}
+use Rattle.rh_honest.specs.Rows.{RefusesAcks}
 use Rattle.rh_honest.proofs.AckRows.{IsBadAck, RowFits, either, verdict_is}
 
 no_row : (s : InProxy) → RowFits (unexpected s)

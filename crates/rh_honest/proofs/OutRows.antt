@@ -1,5 +1,5 @@
 -- the rows of an out proxy refuse a value out of range in an acknowledgement alone
-use Rattle.std.proofs.Common.{◌≡◌, ℕ, Bool, true, false, List, refl}
+use Rattle.std.proofs.Common.{ℕ, Bool, true, false, List}
 use Rattle.std.specs.Prelude.{◌==◌, ◌&&◌, Some, None, Ok, Err}
 use Rattle.std.specs.declared.option.Option.{Option}
 use Rattle.std.specs.declared.result.Result.{Result}

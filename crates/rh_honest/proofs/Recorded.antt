@@ -1,5 +1,5 @@
 -- what is fed to a node of a recording closes it for its role alone
-use Rattle.std.proofs.Common.{◌≡◌, ℕ, Bool, true, false, List, [], ◌∷◌, ◌++◌, inl, inr, refl, sym, ap, ◌∙◌, subst}
+use Rattle.std.proofs.Common.{◌≡◌, ℕ, true, List, [], ◌∷◌, ◌++◌, inl, inr, sym, ◌∙◌, subst}
 use Rattle.std.specs.Prelude.{Some, None}
 use Rattle.std.specs.List.{list_all}
 use Rattle.std.specs.declared.option.Option.{Option}
@@ -22,7 +22,7 @@ use Rattle.rh_nodes.specs.Giving.{Deeds}
 use Rattle.rh_nodes.specs.Opening.{Makers}
 use Rattle.rh_nodes.specs.World.{World}
 use Rattle.rh_history.specs.Changes.{AreAllowed, ByLines, Change, IsTold, IsFed, IsDrawn, GoesUp, RaisesAlone, GoesDown, OpensIn, OpensOut, OpensSame, Gives, Takes, Closes, RecyclesIn, RecyclesOut, MovesTo, Draws, Reports, MayChange, all_changed, changed, is_work, of_line}
-use Rattle.rh_history.specs.Closes.{ClosesNode, IsOneOf, told_by}
+use Rattle.rh_history.specs.Closes.{ClosesNode}
 use Rattle.rh_history.proofs.Working.{all_wider, work_of_line, works_then}
 use Rattle.rh_reading.specs.Well.{Answers}
 use Rattle.rh_world.specs.declared.any_world.AnyWorld.{AnyWorld}

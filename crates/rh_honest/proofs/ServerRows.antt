@@ -1,5 +1,5 @@
 -- the rows of a server refuse a value out of range in an acknowledgement alone
-use Rattle.std.proofs.Common.{◌≡◌, ℕ, Bool, true, false, List, refl}
+use Rattle.std.proofs.Common.{ℕ, Bool, true, false, List}
 use Rattle.std.specs.Prelude.{◌==◌, ◌&&◌, not, nat_lt, Some, None, Ok, Err, slice_get}
 use Rattle.std.specs.declared.option.Option.{Option}
 use Rattle.std.specs.declared.result.Result.{Result}
@@ -25,7 +25,7 @@ use Rattle.rh_server.specs.declared.state.Replacement.{Replacement}
 use Rattle.rh_server.specs.declared.state.Replacement.TheVariants as outs
 use Rattle.rh_server.specs.declared.state.Stage.{Stage}
 use Rattle.rh_server.specs.declared.state.Stage.TheVariants as stage
-use Rattle.rh_server.specs.Acknowledging.{acked_at, acked_cookie, acked_in, admitted_by, admitted_on, channel_at, channel_leg, forward_by, forwards, forwards_to, forwards_writing, is_full, on_ack_to}
+use Rattle.rh_server.specs.Acknowledging.{acked_at, acked_cookie, acked_in, admitted_by, admitted_on, channel_at, channel_leg, forward_by, forwards_to, forwards_writing, is_full, on_ack_to}
 use Rattle.rh_server.specs.Ending.{end_a2_at, end_a2_on_leg, end_a2_waiting, is_over_on}
 use Rattle.rh_server.specs.InReplacement.{has_fresh_below, in_r1_a2_at, in_r1_a2_by, in_r2_a2_on}
 use Rattle.rh_server.specs.Opening.{conn_a2_at, conn_b2_at, is_first, unexpected}

@@ -7,9 +7,9 @@ use Rattle.rh_honest.proofs.recordings.only_acknowledgements_of_a_recording_are_
 pub returns : goal.returns
 returns c = λ before line node leg command value told.
     let law : FedLaw = λ v reached on dir count other why may closes.
-        c.what_is_fed_closes_for_the_role.ensures roles.makers (roles.begun reached.config)
-        (new reached.config) (ours reached.config) (in_range reached.config reached.ranges) v
-        reached.lines on dir count other why may closes in
+    c.what_is_fed_closes_for_the_role.ensures roles.makers (roles.begun reached.config)
+    (new reached.config) (ours reached.config) (in_range reached.config reached.ranges) v
+    reached.lines on dir count other why may closes in
     let rows : AckLaw = record {
       client = c.rows_refuse_values_of_acknowledgements.ensures.client;
       server = c.rows_refuse_values_of_acknowledgements.ensures.server;
