@@ -19,7 +19,7 @@ use Rattle.rh_record.specs.declared.answer.Who.TheVariants as who
 use Rattle.rh_shell.specs.Rules.{Message}
 use Rattle.rh_shell.specs.Shells.{Shell, begun}
 use Rattle.rh_shell.specs.Wires.{of_leg}
-use Rattle.rh_legible.specs.Legible.{AreLegible, IsFineMessage}
+use Rattle.rh_legible.specs.Legible.{IsFineMessage}
 use Rattle.rh_nodes.specs.Company.{Company}
 use Rattle.rh_nodes.specs.Opening.{Makers}
 use Rattle.rh_nodes.specs.Readers.{reader_of}

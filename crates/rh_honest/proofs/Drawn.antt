@@ -1,5 +1,5 @@
 -- what each node drew on a leg reads well at its other end
-use Rattle.std.proofs.Common.{◌≡◌, ◌⊎◌, ℕ, Bool, true, false, List, [], refl, sym, ap, ◌∙◌, subst, inl, inr}
+use Rattle.std.proofs.Common.{◌≡◌, ◌⊎◌, ℕ, false, List, refl, sym, ap, ◌∙◌, subst, inl, inr}
 use Rattle.std.specs.Prelude.{Some, None}
 use Rattle.std.specs.List.{AllByRecursion}
 use Rattle.std.specs.declared.option.Option.{Option}
@@ -10,7 +10,7 @@ use Rattle.rh_http.specs.Texts.{refusal_text}
 use Rattle.rh_text.specs.declared.ends.Dir.{Dir}
 use Rattle.rh_text.specs.declared.ends.Dir.TheVariants.{U, D}
 use Rattle.rh_sig.specs.declared.name.Pipe.{Pipe}
-use Rattle.rh_sig.specs.declared.name.Pipe.TheVariants.{CiU, IsU, IsD, CoU, CoD, OsU, OsD}
+use Rattle.rh_sig.specs.declared.name.Pipe.TheVariants.{IsU, CoD, OsU}
 use Rattle.rh_line.specs.declared.leg.Leg.{Leg}
 use Rattle.rh_line.specs.declared.leg.LegKind.{LegKind}
 use Rattle.rh_line.specs.declared.leg.LegKind.TheVariants.{ClientOut, OutServer, ClientIn, InServer}
@@ -26,7 +26,7 @@ use Rattle.rh_shell.specs.NearEnds.{first_stage}
 use Rattle.rh_shell.specs.Rules.{Message}
 use Rattle.rh_shell.specs.Shells.{begun, same_leg}
 use Rattle.rh_shell.specs.Wires.{of_leg}
-use Rattle.rh_legible.specs.Legible.{AreLegible, MayGoOn}
+use Rattle.rh_legible.specs.Legible.{MayGoOn}
 use Rattle.rh_nodes.specs.Opening.{Makers}
 use Rattle.rh_nodes.specs.Settling.{leg_at}
 use Rattle.rh_nodes.specs.Wires.{sender}
@@ -35,7 +35,6 @@ use Rattle.rh_client.specs.declared.state.ClientRole.{ClientRole}
 use Rattle.rh_client.specs.Client as client
 use Rattle.rh_client.specs.Legible as client_legible
 use Rattle.rh_client.specs.Order.{AreAllowedMoves, client_moved}
-use Rattle.rh_client.specs.State as client_state
 use Rattle.rh_inproxy.specs.declared.state.InProxyConfig.{InProxyConfig}
 use Rattle.rh_inproxy.specs.Legible as in_legible
 use Rattle.rh_inproxy.specs.Machine as in_proxy

@@ -1,5 +1,5 @@
 -- what is fed to each node closes it for its role alone
-use Rattle.std.proofs.Common.{◌≡◌, ℕ, Bool, true, false, List, [], ◌∷◌, ◌++◌, refl, sym, ap, ◌∙◌, subst}
+use Rattle.std.proofs.Common.{◌≡◌, ℕ, Bool, true, List, [], ◌∷◌, ◌++◌, refl, sym, ap, ◌∙◌, subst}
 use Rattle.std.specs.Prelude.{Some, None, if◌then◌else◌}
 use Rattle.std.specs.declared.option.Option.{Option}
 use mathlib.Core.List.{IsPrefix}
@@ -9,7 +9,7 @@ use Rattle.rh_text.specs.declared.ends.Dir.{Dir}
 use Rattle.rh_text.specs.declared.ends.Dir.TheVariants.{U, D}
 use Rattle.rh_text.specs.declared.ends.Side.TheVariants as side
 use Rattle.rh_sig.specs.declared.name.Pipe.{Pipe}
-use Rattle.rh_sig.specs.declared.name.Pipe.TheVariants.{CiU, IsU, IsD, CoU, CoD, OsU, OsD}
+use Rattle.rh_sig.specs.declared.name.Pipe.TheVariants.{IsD, CoU, OsD}
 use Rattle.rh_line.specs.declared.cause.Cause.{Cause}
 use Rattle.rh_line.specs.declared.leg.Leg.{Leg}
 use Rattle.rh_line.specs.declared.leg.LegKind.{LegKind}
@@ -49,7 +49,7 @@ use Rattle.rh_server.specs.Servers as server
 use Rattle.rh_server.specs.States.{Server}
 use Rattle.rh_causes.specs.Closings.{ClosesWith}
 use Rattle.rh_history.specs.Carried.{IsTraced, drawn_by, drawn_on, end_drawn_on, end_node, events_of, happened, heard_on}
-use Rattle.rh_history.specs.Changes.{Change, IsFed, MayChange}
+use Rattle.rh_history.specs.Changes.{Change, IsFed}
 use Rattle.rh_history.specs.Closes.{ClosesNode}
 use Rattle.rh_history.specs.Histories.{History, IsRun, at_place, in_place, made_by, noted, out_place, to_node, told_to}
 use Rattle.rh_history.proofs.Appended.{happened_more, heard_append}

@@ -1,4 +1,9 @@
 mod HeardWell
+mod AckRows
+mod ClientRows
+mod ServerRows
+mod InRows
+mod OutRows
 mod Drawn
 mod Fed
 mod Recorded

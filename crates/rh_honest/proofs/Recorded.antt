@@ -1,5 +1,5 @@
 -- what is fed to a node of a recording closes it for its role alone
-use Rattle.std.proofs.Common.{◌≡◌, ℕ, Bool, true, false, List, [], ◌∷◌, ◌++◌, refl, sym, ap, ◌∙◌, subst}
+use Rattle.std.proofs.Common.{◌≡◌, ℕ, true, List, [], ◌∷◌, ◌++◌, inl, inr, sym, ◌∙◌, subst}
 use Rattle.std.specs.Prelude.{Some, None}
 use Rattle.std.specs.List.{list_all}
 use Rattle.std.specs.declared.option.Option.{Option}
@@ -22,7 +22,7 @@ use Rattle.rh_nodes.specs.Giving.{Deeds}
 use Rattle.rh_nodes.specs.Opening.{Makers}
 use Rattle.rh_nodes.specs.World.{World}
 use Rattle.rh_history.specs.Changes.{AreAllowed, ByLines, Change, IsTold, IsFed, IsDrawn, GoesUp, RaisesAlone, GoesDown, OpensIn, OpensOut, OpensSame, Gives, Takes, Closes, RecyclesIn, RecyclesOut, MovesTo, Draws, Reports, MayChange, all_changed, changed, is_work, of_line}
-use Rattle.rh_history.specs.Closes.{ClosesNode, IsOneOf, told_by}
+use Rattle.rh_history.specs.Closes.{ClosesNode}
 use Rattle.rh_history.proofs.Working.{all_wider, work_of_line, works_then}
 use Rattle.rh_reading.specs.Well.{Answers}
 use Rattle.rh_world.specs.declared.any_world.AnyWorld.{AnyWorld}
@@ -33,7 +33,16 @@ use Rattle.rh_bounds.proofs.Reached.{IsReached, IsRecorded, behind_lines, prepar
 use Rattle.rh_closes.specs.Licences.{IsLicensed, IsPieceOn, midst}
 use Rattle.rh_closes.specs.Recordings.{IsLicensedAt, IsLicensedIn}
 use Rattle.rh_closes.proofs.Refused.{leads_midst}
+use Rattle.rh_window.specs.declared.fault.TheConstants.{FLOW_CONTROL_ACK}
+use Rattle.rh_shell.specs.declared.answers.Refused.TheVariants as refused
+use Rattle.rh_shell.specs.Rules.{Rules}
+use Rattle.rh_client.specs.Client as client
+use Rattle.rh_inproxy.specs.Machine as in_proxy
+use Rattle.rh_outproxy.specs.Machine as out_proxy
+use Rattle.rh_server.specs.Servers as server
 use Rattle.rh_honest.proofs.Fed.{told_what}
+use Rattle.rh_honest.specs.Causes.{RowRefuses}
+use Rattle.rh_honest.specs.Rows.{IsOfAck, RefusesAcks}
 use Rattle.rh_honest.specs.Honest.{IsOfNode, read_on, well_on}
 
 -- ---- the world in the midst of a line
@@ -176,3 +185,29 @@ no_bad_packet who.Client leg place fault is = is.of_node
 no_bad_packet who.Server leg place fault is = is.of_node
 no_bad_packet (who.In n) leg place fault is = is.of_node
 no_bad_packet (who.Out n) leg place fault is = is.of_node
+
+-- ---- values out of range
+
+pub record AckLaw : Type 0 where
+  pub client : RefusesAcks client.rules
+  pub server : RefusesAcks server.rules
+  pub ins : RefusesAcks in_proxy.rules
+  pub outs : RefusesAcks out_proxy.rules
+
+of_row : {S : Type 0} (rules : Rules S) → RefusesAcks rules → (leg : Leg) (command value : ℕ)
+    → RowRefuses rules leg (refused.OutOfRange command value) → command ≡ FLOW_CONTROL_ACK
+of_row rules law leg command value (inl packet) =
+    subst IsOfAck packet.3 (law.packet packet.0 leg packet.1 packet.2)
+of_row rules law leg command value (inr pdu) =
+    subst IsOfAck pdu.3 (law.pdu pdu.0 leg pdu.1 pdu.2)
+
+pub of_acknowledgement : AckLaw → (node : Who) (leg : Leg) (command value : ℕ)
+    → IsOfSome node (cause.OutOfRange leg command value) → command ≡ FLOW_CONTROL_ACK
+of_acknowledgement law who.Client leg command value is =
+    of_row client.rules law.client is.leg command value is.of_node
+of_acknowledgement law who.Server leg command value is =
+    of_row server.rules law.server is.leg command value is.of_node
+of_acknowledgement law (who.In n) leg command value is =
+    of_row in_proxy.rules law.ins is.leg command value is.of_node
+of_acknowledgement law (who.Out n) leg command value is =
+    of_row out_proxy.rules law.outs is.leg command value is.of_node

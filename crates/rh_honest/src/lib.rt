@@ -3,11 +3,16 @@
 #![tactic(auto)]
 
 pub mod pieces;
+pub mod ranges;
 pub mod recordings;
 pub mod worlds;
 
 pub use pieces::{
     a_piece_that_reads_well_closes_for_the_role, what_is_heard_well_closes_for_the_role,
 };
-pub use recordings::no_node_of_a_recording_closes_for_bad_bytes;
+pub use ranges::rows_refuse_values_of_acknowledgements;
+pub use recordings::{
+    no_node_of_a_recording_closes_for_bad_bytes,
+    only_acknowledgements_of_a_recording_are_out_of_range,
+};
 pub use worlds::what_is_fed_closes_for_the_role;

@@ -1,9 +1,10 @@
-//! What closes no node of a recording. This function does nothing: its contract is the law.
+//! What closes no node of a recording. These functions do nothing: their contracts are the laws.
 
-ghost use Rattle.std.specs.Prelude.{List, ℕ};
+ghost use Rattle.std.specs.Prelude.{◌≡◌, List, ℕ};
 ghost use Rattle.rh_pdu.specs.declared.fault.HeadFault.{HeadFault};
 ghost use Rattle.rh_rts.specs.declared.fault.RtsFault.{RtsFault};
-ghost use Rattle.rh_line.specs.declared.cause.Cause.TheVariants.{BadFrame, BadPacket};
+ghost use Rattle.rh_window.specs.declared.fault.TheConstants.{FLOW_CONTROL_ACK};
+ghost use Rattle.rh_line.specs.declared.cause.Cause.TheVariants.{BadFrame, BadPacket, OutOfRange};
 ghost use Rattle.rh_line.specs.declared.leg.Leg.{Leg};
 ghost use Rattle.rh_record.specs.declared.answer.Answer.TheVariants.{NodeClosed};
 ghost use Rattle.rh_record.specs.declared.answer.Who.{Who};
@@ -12,6 +13,7 @@ ghost use Rattle.rh_history.specs.Closes.{IsOneOf};
 ghost use Rattle.rh_world.specs.declared.any_world.AnyWorld.TheVariants.{Before};
 ghost use Rattle.rh_world.specs.Any.{after, step};
 
+use crate::ranges::rows_refuse_values_of_acknowledgements;
 use crate::worlds::what_is_fed_closes_for_the_role;
 use rh_closes::each_close_of_a_recording_shows;
 use rh_client::ClientRole;
@@ -37,4 +39,16 @@ pub fn no_node_of_a_recording_closes_for_bad_bytes()
     each_close_of_a_recording_shows();
     what_is_fed_closes_for_the_role::<WorldConfig>();
     turns_are_changes::<WorldConfig, ClientRole, ServerRole, InProxyRole, OutProxyRole>();
+}
+
+/// In no recording does a report tell of a node that closed with `OutOfRange`, but for the value of
+/// an acknowledgement.
+pub fn only_acknowledgements_of_a_recording_are_out_of_range()
+    ensures { (before : List Line) (line : Line) (node : Who) (leg : Leg) (command value : ℕ)
+        → IsOneOf (NodeClosed node (OutOfRange leg command value))
+        (step (after Before before) line).1 → command ≡ FLOW_CONTROL_ACK }
+{
+    each_close_of_a_recording_shows();
+    what_is_fed_closes_for_the_role::<WorldConfig>();
+    rows_refuse_values_of_acknowledgements();
 }

@@ -27,7 +27,6 @@ use Rattle.rh_inproxy.specs.State.{InProxy, first, has_opened, is_client_leg, is
 use Rattle.rh_reading.specs.Reading.{Begins, AreNoTexts, IsNoText, ReadsNothing}
 use Rattle.rh_proxies_begin.specs.Echoes.{AsksNoEcho}
 use Rattle.rh_reading.specs.Well.{Answers, IsWellText, TextIsWell}
-use Rattle.rh_reading.proofs.NoTexts.{no_texts_well}
 use Rattle.rh_proxies_begin.specs.Pipes.{ci, is, in_pipe}
 use Rattle.rh_streams.specs.Streams.{HasPipes, RefusesFirst, is_head_on}
 use Rattle.rh_streams.specs.Turns.{Stages, none_up, behind_head, stages_after, AreInTurn, RefusesInTurn}
