@@ -16,11 +16,6 @@ ghost use Rattle.rh_world.specs.Any.{after, step};
 use crate::ranges::rows_refuse_values_of_acknowledgements;
 use crate::worlds::what_is_fed_closes_for_the_role;
 use rh_closes::each_close_of_a_recording_shows;
-use rh_client::ClientRole;
-use rh_inproxy::InProxyRole;
-use rh_outproxy::OutProxyRole;
-use rh_server::ServerRole;
-use rh_traced::turns_are_changes;
 use rh_world::WorldConfig;
 
 /// In no recording does a report tell of a node that closed with `BadFrame` or with `BadPacket`:
@@ -38,7 +33,6 @@ pub fn no_node_of_a_recording_closes_for_bad_bytes()
 {
     each_close_of_a_recording_shows();
     what_is_fed_closes_for_the_role::<WorldConfig>();
-    turns_are_changes::<WorldConfig, ClientRole, ServerRole, InProxyRole, OutProxyRole>();
 }
 
 /// In no recording does a report tell of a node that closed with `OutOfRange`, but for the value of

@@ -1,25 +1,20 @@
 -- what is on its way in each world that a recording comes to
 use Rattle.std.proofs.Common.{◌≡◌, List}
 use Rattle.rh_record.specs.declared.line.Line.{Line}
-use Rattle.rh_history.specs.Changes.{ByLines, Leads}
+use Rattle.rh_history.specs.Changes.{Leads}
 use Rattle.rh_world.specs.declared.any_world.AnyWorld.{AnyWorld}
 use Rattle.rh_world.specs.declared.any_world.AnyWorld.TheVariants.{Before, Direct, Settings, Roles}
 use Rattle.rh_world.specs.declared.config.WorldConfig.{WorldConfig}
 use Rattle.rh_world.specs.Any.{after}
 use Rattle.rh_world.specs.Config.{AreInRange}
 use Rattle.rh_world.specs.Roles as roles
+use Rattle.rh_traced.proofs.ByChanges.{lines_by_changes}
 use Rattle.rh_bounds.proofs.Reached.{IsReached, IsRecorded, behind_lines}
 use Rattle.rh_fifo.specs.Directions.{BothMark}
 use Rattle.rh_fifo.specs.Flows.{numbers_of}
 use Rattle.rh_fifo.proofs.Recorded.{ours}
 use Rattle.rh_paths.specs.Recordings.{IsBehind, KeepsWays, RolesKeepWays, history_behind}
 use Rattle.rh_paths.specs.Ways.{AreOnTheirWay}
-
--- the changes of a recording, as the laws of worlds of roles want them
-abbrev pub changes_of_lines : (config : WorldConfig) (world : roles.World)
-    → IsBehind config world
-    → ByLines roles.rules roles.makers roles.deeds (roles.begun config) world
-changes_of_lines config world by = by
 
 -- what holds of each world of roles that changes of lines lead to
 pub record WayLaws : Type 0 where
@@ -39,7 +34,9 @@ module _ (law : WayLaws) where
     config = reached.config;
     settings = law.settings reached.config world reached.lines.leads;
     ours = ours reached.config;
-    by = reached.lines;
+    by =
+        lines_by_changes roles.rules roles.makers roles.deeds (roles.begun reached.config) world
+        reached.lines;
     marks = law.marks reached.config reached.ranges world;
     ways = law.ways reached.config reached.ranges world;
   }

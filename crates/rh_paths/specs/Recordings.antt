@@ -1,25 +1,27 @@
 -- what is on its way at each moment of a recording (profile)
 use Rattle.std.specs.Prelude.{◌≡◌}
-use Rattle.rh_history.specs.Changes.{ByLines}
 use Rattle.rh_history.specs.Histories.{History}
 use Rattle.rh_world.specs.declared.any_world.AnyWorld.{AnyWorld}
 use Rattle.rh_world.specs.declared.any_world.AnyWorld.TheVariants.{Before, Direct, Settings, Roles}
 use Rattle.rh_world.specs.declared.config.WorldConfig.{WorldConfig}
 use Rattle.rh_world.specs.Roles as roles
+use Rattle.rh_traced.specs.Cookies.{ByChanges}
 use Rattle.rh_traced.specs.Ours.{AreOurs}
 use Rattle.rh_ordered.specs.Premises.{history_at}
 use Rattle.rh_fifo.specs.Directions.{BothMark}
 use Rattle.rh_fifo.specs.Flows.{numbers_of}
 use Rattle.rh_paths.specs.Ways.{AreOnTheirWay}
 
--- changes that lines make lead to a world of roles from the one that settings begin
+-- changes, as lines and half steps make them, lead to a world of roles from the one that settings
+-- begin
 abbrev pub IsBehind : WorldConfig → roles.World → Type 0
-IsBehind config world = ByLines roles.rules roles.makers roles.deeds (roles.begun config) world
+IsBehind config world =
+    ByChanges roles.rules roles.makers roles.deeds (roles.begun config) world
 
 -- what happened at its nodes meanwhile
 abbrev pub history_behind : (config : WorldConfig) (world : roles.World)
     → IsBehind config world → History
-history_behind config world by = history_at roles.makers (roles.begun config) world by
+history_behind config world by = history_at roles.makers (roles.begun config) world by.leads
 
 -- such changes lead to the world from its settings. Whichever they were, on each leg nothing stands
 -- behind a handover mark, and what was given is what was taken and what is on its way

@@ -1,5 +1,6 @@
 use Rattle.rh_line.specs.declared.cause.Cause.TheVariants as cause
 use Rattle.rh_world.specs.Roles as roles
+use Rattle.rh_traced.proofs.ByChanges.{lines_by_changes}
 use Rattle.rh_fifo.proofs.Recorded.{in_range, new, ours}
 use Rattle.rh_honest.proofs.Recorded.{FedLaw, no_bad_frame, no_bad_packet, of_recording}
 use Rattle.rh_honest.proofs.recordings.no_node_of_a_recording_closes_for_bad_bytes.Goals as goal
@@ -9,7 +10,7 @@ returns c =
     let law : FedLaw = λ v reached leg dir count node why may closes.
     c.what_is_fed_closes_for_the_role.ensures roles.makers (roles.begun reached.config)
     (new reached.config) (ours reached.config) (in_range reached.config reached.ranges) v
-    (c.turns_are_changes.ensures.lines roles.rules roles.makers roles.deeds
+    (lines_by_changes roles.rules roles.makers roles.deeds
     (roles.begun reached.config) v reached.lines) leg dir count node why may closes in
     record {
       frame = λ before line node leg place fault told.

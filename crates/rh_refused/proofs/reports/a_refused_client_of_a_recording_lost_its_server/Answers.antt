@@ -5,6 +5,7 @@ use Rattle.rh_nodes.specs.Readers.{reader_of}
 use Rattle.rh_nodes.specs.Settling.{leg_at}
 use Rattle.rh_world.specs.declared.config.WorldConfig.{WorldConfig}
 use Rattle.rh_world.specs.Roles as roles
+use Rattle.rh_traced.proofs.ByChanges.{lines_by_changes}
 use Rattle.rh_fifo.proofs.Recorded.{in_range, new, ours}
 use Rattle.rh_refused.specs.Refused.{IsPort}
 use Rattle.rh_refused.proofs.Reporting.{concluded, in_loss, out_loss}
@@ -26,8 +27,9 @@ returns c =
           (refused before line node (leg_at ClientOut n) status h)
           (λ v rep closed.
           let two = lost.out_channel roles.makers (roles.begun rep.config) (new rep.config)
-          (ours rep.config) (in_range rep.config rep.ranges) (port rep.config) v rep.run n status
-          closed in
+          (ours rep.config) (in_range rep.config rep.ranges) (port rep.config) v
+          (lines_by_changes roles.rules roles.makers roles.deeds (roles.begun rep.config) v rep.run)
+          n status closed in
           (two.0, out_loss (before ++ line ∷ []) v rep n (leg_at OutServer n) refl two.1));
       in_channel = λ before line node n status h.
           concluded shown ever _ before line node (leg_at ClientIn n) status
@@ -35,8 +37,9 @@ returns c =
           (λ v rep closed.
           let k = reader_of v.readers n in
           let two = lost.in_channel roles.makers (roles.begun rep.config) (new rep.config)
-          (ours rep.config) (in_range rep.config rep.ranges) (port rep.config) v rep.run n status
-          closed in (
+          (ours rep.config) (in_range rep.config rep.ranges) (port rep.config) v
+          (lines_by_changes roles.rules roles.makers roles.deeds (roles.begun rep.config) v rep.run)
+          n status closed in (
             two.0,
             k,
             in_loss (before ++ line ∷ []) v rep k (leg_at InServer k) refl two.1,
