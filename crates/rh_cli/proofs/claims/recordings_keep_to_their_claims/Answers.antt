@@ -18,6 +18,16 @@ returns c = λ lines. record {
     refused = c.only_a_client_of_a_recording_is_refused.ensures before line;
     silent = c.a_node_of_a_recording_falls_silent.ensures before line;
   };
+  ways = λ before behind is. c.every_recording_keeps_what_is_on_its_way.ensures before;
+  losses = λ before behind line is. record {
+    out_channel = c.a_refused_client_of_a_recording_lost_its_server.ensures.out_channel before line;
+    in_channel = c.a_refused_client_of_a_recording_lost_its_server.ensures.in_channel before line;
+  };
+  reads = λ before behind line is. record {
+    frame = c.no_node_of_a_recording_closes_for_bad_bytes.ensures.frame before line;
+    packet = c.no_node_of_a_recording_closes_for_bad_bytes.ensures.packet before line;
+    range = c.only_acknowledgements_of_a_recording_are_out_of_range.ensures before line;
+  };
   once = c.a_recording_reports_a_node_closed_once.ensures lines;
   named = c.an_end_of_a_recording_names_its_cause.ensures lines;
 }
