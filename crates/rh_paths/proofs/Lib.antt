@@ -4,6 +4,7 @@ mod Used
 mod Carriages
 mod OnPath
 mod Down
+mod ReadBy
 mod Up
 mod Worlds
 mod InUse

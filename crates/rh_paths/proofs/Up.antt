@@ -1,7 +1,6 @@
 -- what stands on the legs upwards
 use Rattle.std.proofs.Common.{◌≡◌, ◌≢◌, ◌-◌, ◌==◌, ◌||◌, ◌⊎◌, inl, inr, ℕ, zero, suc, Bool, true, false, if◌then◌else◌, List, [], ◌++◌, Some, arith, refl, sym, ap, ◌∙◌}
 use Rattle.std.proofs.lemmas.Bool.{cases_eq}
-use Rattle.std.proofs.lemmas.Bool.Decides.{nat_tests}
 use Rattle.std.proofs.lemmas.List.{append-nil}
 use Rattle.rh_text.specs.declared.ends.Dir.TheVariants.{U}
 use Rattle.rh_text.specs.declared.ends.Side.TheVariants as side
@@ -47,47 +46,8 @@ use Rattle.rh_paths.specs.Legs.{is_cut, was_up}
 use Rattle.rh_paths.specs.OnWay.{is_lost, items_on_way, left_on, read_on}
 use Rattle.rh_paths.specs.Ways.{client_node, in_node, server_node, up_far, up_lost, up_near, up_on}
 use Rattle.rh_paths.proofs.Carriages.{carries, fed_none, joined, proxy_front, proxy_heard}
+use Rattle.rh_paths.proofs.ReadBy.{read_by}
 use Rattle.rh_paths.proofs.Legs.{AllRead, IsJoined, leg_arrives}
-
--- ---- which in proxy reads a channel
-
--- it is the last one up to the channel that has a leg to the server
-module _ (readers : List ℕ) (made : ℕ → Bool) (are : AreRead readers made) where
-  abbrev legs : ℕ → Bool
-  legs = has_leg (reader_of readers)
-
-  read_by : (n : ℕ) → reader_of readers n ≢ 0 → reader legs n ≡ reader_of readers n
-  read_by zero some = absurd (some are.none)
-  read_by (suc n) some = by (read_by n) (legs (suc n)) refl
-    where
-      at : ℕ
-      at = reader_of readers (suc n)
-
-      own_by : (at ≡ suc n) ⊎ (at ≡ suc n → ⊥) → legs (suc n) ≡ true → at ≡ suc n
-      own_by (inl same) e = same
-      own_by (inr other) e =
-          absurd (let bad : false ≡ true =
-          sym (ap (λ (b : Bool). b || (at == 0)) (test_other at (suc n) other)
-          ∙ test_other at 0 some) ∙ e in cc)
-
-      no_leg : at ≡ suc n → legs (suc n) ≡ false → ⊥
-      no_leg same e = grind (arith, nat_tests, same, e)
-
-      by : (reader_of readers n ≢ 0 → reader legs n ≡ reader_of readers n)
-          → (b : Bool) → legs (suc n) ≡ b → reader legs (suc n) ≡ at
-      by back true e =
-          ap (λ (b : Bool). if b then suc n else reader legs n) e
-          ∙ sym (own_by (cases_eq at (suc n)) e)
-      by back false e = either (are.each (suc n) some).either
-        where
-          either : ((at ≡ suc n) × (made (suc n) ≡ true))
-              ⊎ (at ≡ reader_of readers (suc n - 1)) → reader legs (suc n) ≡ at
-          either (inl own) = absurd (no_leg own.0 e)
-          either (inr before) =
-              let same : at ≡ reader_of readers n =
-              before ∙ ap (reader_of readers) {x = suc n - 1} {y = n} (omega arith) in
-              ap (λ (b : Bool). if b then suc n else reader legs n) e
-              ∙ back (λ nothing. some (same ∙ nothing)) ∙ sym same
 
 module _ {K : Type 0} (law : AllRead) (m : Makers K InProxy OutProxy)
     (first : Company ClientRole Server InProxy OutProxy) (cast : K)
