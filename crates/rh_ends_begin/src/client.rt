@@ -25,8 +25,8 @@ pub fn a_client_begins_with_a_request()
 }
 
 /// Each text that it put on the leg of a channel is the request of its configuration for such a
-/// channel: for an IN channel the one that tells its lifetime, and for an OUT channel one that tells
-/// the length of the packets behind it.
+/// channel: for an IN channel the one that tells its lifetime, and for an OUT channel one that
+/// tells the length of the packets behind it.
 pub fn a_client_asks_by_its_requests()
     ensures { (config : ClientConfig) (moves : List EndMove) (leg : Leg)
         → AreAllowedMoves config moves

@@ -88,7 +88,8 @@ module _ {S : Type 0} (rules : Rules S) (first : Shell S) (server leg : Leg) (ev
     → drawn_on rules first leg before ≡ refusal_text Unavailable → ⊥) where
   told_lost : DrawsRightly rules first server leg events
       → drawn_on rules first leg events ≡ refusal_text Unavailable → IsAmong (Breaks server) events
-  told_lost (inl going) whole = absurd (fair going.before going.behind going.split going.going (sym going.drawn ∙ whole))
+  told_lost (inl going) whole =
+      absurd (fair going.before going.behind going.split going.going (sym going.drawn ∙ whole))
   told_lost (inr refuses) whole =
       let draws = refuses.0 in
       let is : draws.event ≡ Breaks server =

@@ -474,7 +474,8 @@ module _ {S : Type 0} (rules : Rules S) (acts : Acts S) (first : S) (rooms : Roo
     drawn = λ leg.
         subst (λ (x : Passage S). IsPrefix (end_drawn_on rules acts start leg all)
         (spelled (of_leg leg x.put))) (sym ran.at.is)
-        (drawn_is leg ran.passage (heard_on leg (happened all)) (end_drawn_on rules acts start leg all)
+        (drawn_is leg ran.passage (heard_on leg (happened all))
+        (end_drawn_on rules acts start leg all)
         ((ran.kept leg).spells tt));
     seats = λ leg end going at.
         subst (λ (x : Passage S). Seated rules (after_end_events rules acts start all).role

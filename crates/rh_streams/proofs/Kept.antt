@@ -290,7 +290,8 @@ module _ {S : Type 0} (rules : Rules S) (pipe : Option Pipe) (leg : Leg)
             let old = subst (IsSeated p ms heard drawn) left k.seat in
             λ sound.
             answering_on ((drawn ++ out) ++ rest) a.quiet.put
-            (subst (λ x. Answering p heard (x ++ rest)) (sym (same_drawn a.quiet.out_is)) (old sound))
+            (subst (λ x. Answering p heard (x ++ rest)) (sym (same_drawn a.quiet.out_is))
+            (old sound))
 
         gone : (u : Seat) → IsLeft s u → s ≡ Nowhere → u ≡ Nowhere
         gone Nowhere left e = refl
@@ -434,7 +435,8 @@ module _ {S : Type 0} (rules : Rules S) (pipe : Option Pipe) (leg : Leg)
       spells = spells_on u.quiet.put u.quiet.out_is;
       seat = subst (IsSeated q (ms ++ ns) (heard ++ bytes) (drawn ++ out)) (sym u.after)
           (λ sound.
-          refused_on u.end Unavailable (sitting u.end u.before) u.quiet.put u.quiet.out_is (inl refl)
+          refused_on u.end Unavailable (sitting u.end u.before) u.quiet.put u.quiet.out_is
+          (inl refl)
           (refuses sound u.wanted u.answers u.wants));
       new = λ e. absurd (was_up u.end u.before (was e));
     }

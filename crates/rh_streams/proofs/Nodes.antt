@@ -204,7 +204,8 @@ module _ {S : Type 0} (rules : Rules S) (first : S) (rooms : Rooms) (pipe : Leg 
     ups = ran.ups;
     read = λ leg. (ran.kept leg).front;
     drawn = λ leg sound.
-        drawn_is leg ran.passage (heard_on leg events) (drawn_on rules start leg events) ((ran.kept leg).spells sound);
+        drawn_is leg ran.passage (heard_on leg events) (drawn_on rules start leg events)
+        ((ran.kept leg).spells sound);
     heads = λ leg. (ran.kept leg).texts;
     refused = λ leg sound.
         refused_is leg ran.passage (heard_on leg events) (drawn_on rules start leg events)
