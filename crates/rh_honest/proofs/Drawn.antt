@@ -133,14 +133,7 @@ packet_taken named = refl
 module _ {K : Type 0} (law : Texts) (m : Makers K InProxy OutProxy)
     (w v : World K ClientRole Server InProxy OutProxy) (ours : AreOurs m w.company w.cast)
     (h : History) (flowing : IsFlowing (numbers_of ours) w v h) where
-  -- where the node refused nobody on the leg
-  put_well : (well : Answers) (pipe : Option Pipe) (put : List Message) (drawn heard : List ℕ)
-      → AreTaken well → Begins pipe put → AllByRecursion (MayGoOn pipe) put
-      → AllByRecursion (IsWellText well pipe) put → IsPrefix drawn (spelled put)
-      → IsPrefix heard drawn → ReadsWell well pipe heard
-  put_well = law.put
-
-  -- and where it may have
+  -- where the node may have refused somebody on the leg
   drawn_well : (pipe : Option Pipe) (put : List Message) (drawn heard : List ℕ)
       → first_stage pipe ≡ stage.Head → Begins pipe put → AllByRecursion (MayGoOn pipe) put
       → AllByRecursion (IsWellText is_packet pipe) put → IsDrawn put drawn
@@ -177,7 +170,7 @@ module _ {K : Type 0} (law : Texts) (m : Makers K InProxy OutProxy)
       → ReadsWell is_named (client_legible.pipe_put leg) bytes
   of_client leg bytes begins p =
       let f = flowing.flows.client in
-      put_well is_named (client_legible.pipe_put leg) (of_leg leg f.passage.passage.put)
+      law.put is_named (client_legible.pipe_put leg) (of_leg leg f.passage.passage.put)
       (end_drawn_on client.rules client.acts (client.first_client ours.config) leg h.client) bytes
       named_taken begins
       (on_leg client_legible.pipe_put MayGoOn leg f.passage.passage.put
@@ -190,7 +183,7 @@ module _ {K : Type 0} (law : Texts) (m : Makers K InProxy OutProxy)
       → ReadsWell is_named (server_legible.pipe_put leg) bytes
   of_server leg bytes begins p =
       let f = flowing.flows.server in
-      put_well is_named (server_legible.pipe_put leg) (of_leg leg f.passage.passage.put)
+      law.put is_named (server_legible.pipe_put leg) (of_leg leg f.passage.passage.put)
       (end_drawn_on server.rules server.acts (server.new_server ours.window) leg h.server) bytes
       named_taken begins
       (on_leg server_legible.pipe_put MayGoOn leg f.passage.passage.put
@@ -225,7 +218,7 @@ module _ {K : Type 0} (law : Texts) (m : Makers K InProxy OutProxy)
   of_in_server n bytes p =
       let f = flowing.flows.ins n in
       let leg = leg_at InServer n in
-      put_well is_named (Some IsU) (of_leg leg f.passage.put)
+      law.put is_named (Some IsU) (of_leg leg f.passage.put)
       (drawn_on in_proxy.rules (in_proxy.first_node (ours.in_config n)) leg (h.ins n)) bytes
       named_taken (flowing.begun.in_server n)
       (on_leg in_legible.pipe_put MayGoOn leg f.passage.put (flowing.legible.ins n).may_go)
@@ -282,7 +275,7 @@ module _ {K : Type 0} (law : Texts) (m : Makers K InProxy OutProxy)
   of_out_server n bytes p =
       let f = flowing.flows.outs n in
       let leg = leg_at OutServer n in
-      put_well is_named (Some OsU) (of_leg leg f.passage.put)
+      law.put is_named (Some OsU) (of_leg leg f.passage.put)
       (drawn_on out_proxy.rules (begun (new_proxy (ours.out_config n)) ROOMS) leg (h.outs n)) bytes
       named_taken (flowing.begun.out_server n)
       (on_leg out_legible.pipe_put MayGoOn leg f.passage.put (flowing.legible.outs n).may_go)

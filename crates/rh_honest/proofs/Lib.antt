@@ -6,4 +6,5 @@ mod InRows
 mod OutRows
 mod Drawn
 mod Fed
+mod Closing
 mod Recorded

@@ -13,9 +13,13 @@ ghost use Rattle.rh_history.specs.Closes.{IsOneOf};
 ghost use Rattle.rh_world.specs.declared.any_world.AnyWorld.TheVariants.{Before};
 ghost use Rattle.rh_world.specs.Any.{after, step};
 
-use crate::ranges::rows_refuse_values_of_acknowledgements;
-use crate::worlds::what_is_fed_closes_for_the_role;
+use crate::worlds::no_change_closes_a_node_for_bad_bytes;
 use rh_closes::each_close_of_a_recording_shows;
+use rh_client::ClientRole;
+use rh_inproxy::InProxyRole;
+use rh_outproxy::OutProxyRole;
+use rh_server::ServerRole;
+use rh_traced::turns_are_changes;
 use rh_world::WorldConfig;
 
 /// In no recording does a report tell of a node that closed with `BadFrame` or with `BadPacket`:
@@ -32,7 +36,7 @@ pub fn no_node_of_a_recording_closes_for_bad_bytes()
         (step (after Before before) line).1 → ⊥ }
 {
     each_close_of_a_recording_shows();
-    what_is_fed_closes_for_the_role::<WorldConfig>();
+    no_change_closes_a_node_for_bad_bytes::<WorldConfig>();
 }
 
 /// In no recording does a report tell of a node that closed with `OutOfRange`, but for the value of
@@ -43,6 +47,5 @@ pub fn only_acknowledgements_of_a_recording_are_out_of_range()
         (step (after Before before) line).1 → command ≡ FLOW_CONTROL_ACK }
 {
     each_close_of_a_recording_shows();
-    what_is_fed_closes_for_the_role::<WorldConfig>();
-    rows_refuse_values_of_acknowledgements();
+    no_change_closes_a_node_for_bad_bytes::<WorldConfig>();
 }

@@ -1,9 +1,13 @@
-//! What closes the nodes of a world of honest roles. This function does nothing: its contract is
-//! the law.
+//! What closes the nodes of a world of honest roles. These functions do nothing: their contracts
+//! are the laws.
 
-ghost use Rattle.std.specs.Prelude.{ℕ};
+ghost use Rattle.std.specs.Prelude.{◌≡◌, ℕ};
+ghost use Rattle.rh_pdu.specs.declared.fault.HeadFault.{HeadFault};
+ghost use Rattle.rh_rts.specs.declared.fault.RtsFault.{RtsFault};
+ghost use Rattle.rh_window.specs.declared.fault.TheConstants.{FLOW_CONTROL_ACK};
 ghost use Rattle.rh_text.specs.declared.ends.Dir.{Dir};
 ghost use Rattle.rh_line.specs.declared.cause.Cause.{Cause};
+ghost use Rattle.rh_line.specs.declared.cause.Cause.TheVariants.{BadFrame, BadPacket, OutOfRange};
 ghost use Rattle.rh_line.specs.declared.leg.Leg.{Leg};
 ghost use Rattle.rh_record.specs.declared.answer.Who.{Who};
 ghost use Rattle.rh_nodes.specs.Opening.{Makers};
@@ -12,7 +16,7 @@ ghost use Rattle.rh_client.specs.declared.state.ClientRole.{ClientRole};
 ghost use Rattle.rh_inproxy.specs.State.{InProxy};
 ghost use Rattle.rh_outproxy.specs.OutProxy.{OutProxy};
 ghost use Rattle.rh_server.specs.States.{Server};
-ghost use Rattle.rh_history.specs.Changes.{IsFed, MayChange};
+ghost use Rattle.rh_history.specs.Changes.{Change, IsFed, MayChange};
 ghost use Rattle.rh_traced.specs.Cookies.{ByChanges};
 ghost use Rattle.rh_history.specs.Closes.{ClosesNode};
 ghost use Rattle.rh_history.specs.Histories.{IsNew};
@@ -22,7 +26,8 @@ ghost use Rattle.rh_fifo.specs.Premises.{AreInRange};
 ghost use Rattle.rh_honest.specs.Honest.{IsOfNode, read_on, well_on};
 
 use crate::pieces::what_is_heard_well_closes_for_the_role;
-use rh_causes::a_proxy_refuses_for_a_reason;
+use crate::ranges::rows_refuse_values_of_acknowledgements;
+use rh_causes::{a_proxy_refuses_for_a_reason, causes_come_from_their_events};
 use rh_client::ClientRole;
 use rh_ends_begin::{what_a_client_puts_first_reads_well, what_a_server_puts_first_reads_well};
 use rh_fifo::what_is_put_is_legible;
@@ -63,4 +68,38 @@ pub fn what_is_fed_closes_for_the_role<K>()
     what_is_heard_well_closes_for_the_role::<ServerRole>();
     what_is_heard_well_closes_for_the_role::<InProxyRole>();
     what_is_heard_well_closes_for_the_role::<OutProxyRole>();
+}
+
+/// So no change that may be there closes a node with `BadFrame` or `BadPacket`, nor with
+/// `OutOfRange` but for the value of an acknowledgement.
+pub fn no_change_closes_a_node_for_bad_bytes<K>()
+    ensures frame { (m : Makers K InProxy OutProxy)
+        (w : World K ClientRole Server InProxy OutProxy) → IsNew w
+        → (ours : AreOurs m w.company w.cast) → AreInRange (numbers_of ours)
+        → (v : World K ClientRole Server InProxy OutProxy) (by : ByChanges rules m deeds w v)
+        → (change : Change) (node : Who) (leg : Leg) (place : ℕ) (fault : HeadFault)
+        → MayChange rules v change
+        → ClosesNode rules v change node (BadFrame leg place fault) → ⊥ }
+    ensures packet { (m : Makers K InProxy OutProxy)
+        (w : World K ClientRole Server InProxy OutProxy) → IsNew w
+        → (ours : AreOurs m w.company w.cast) → AreInRange (numbers_of ours)
+        → (v : World K ClientRole Server InProxy OutProxy) (by : ByChanges rules m deeds w v)
+        → (change : Change) (node : Who) (leg : Leg) (place : ℕ) (fault : RtsFault)
+        → MayChange rules v change
+        → ClosesNode rules v change node (BadPacket leg place fault) → ⊥ }
+    ensures range { (m : Makers K InProxy OutProxy)
+        (w : World K ClientRole Server InProxy OutProxy) → IsNew w
+        → (ours : AreOurs m w.company w.cast) → AreInRange (numbers_of ours)
+        → (v : World K ClientRole Server InProxy OutProxy) (by : ByChanges rules m deeds w v)
+        → (change : Change) (node : Who) (leg : Leg) (command value : ℕ)
+        → MayChange rules v change
+        → ClosesNode rules v change node (OutOfRange leg command value)
+        → command ≡ FLOW_CONTROL_ACK }
+{
+    what_is_fed_closes_for_the_role::<K>();
+    rows_refuse_values_of_acknowledgements();
+    causes_come_from_their_events::<ClientRole>();
+    causes_come_from_their_events::<ServerRole>();
+    causes_come_from_their_events::<InProxyRole>();
+    causes_come_from_their_events::<OutProxyRole>();
 }
