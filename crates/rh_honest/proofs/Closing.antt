@@ -1,7 +1,6 @@
 -- whatever a change of a world of honest roles is, it closes no node for bad bytes
 use Rattle.std.proofs.Common.{◌≡◌, ℕ, inl, inr, sym, ◌∙◌, refl, subst}
 use Rattle.std.specs.Prelude.{Some, None}
-use Rattle.std.specs.declared.option.Option.{Option}
 use Rattle.rh_pdu.specs.declared.fault.HeadFault.{HeadFault}
 use Rattle.rh_rts.specs.declared.fault.RtsFault.{RtsFault}
 use Rattle.rh_window.specs.declared.fault.TheConstants.{FLOW_CONTROL_ACK}

@@ -2,7 +2,6 @@
 use Rattle.std.proofs.Common.{◌≡◌, ℕ, Bool, true, List, [], ◌∷◌, ◌++◌, refl, sym, ap, ◌∙◌, subst}
 use Rattle.std.specs.Prelude.{Some, None, if◌then◌else◌}
 use Rattle.std.specs.declared.option.Option.{Option}
-use mathlib.Core.List.{IsPrefix}
 use Rattle.std.proofs.lemmas.Bool.{eq-eqb}
 use Rattle.std.proofs.lemmas.List.{append-nil}
 use Rattle.rh_text.specs.declared.ends.Dir.{Dir}
@@ -34,7 +33,7 @@ use Rattle.rh_nodes.specs.Opening.{Makers}
 use Rattle.rh_nodes.specs.Places as places
 use Rattle.rh_nodes.specs.Readers.{reader_of}
 use Rattle.rh_nodes.specs.Settling.{leg_at}
-use Rattle.rh_nodes.specs.Wires.{receiver, sender}
+use Rattle.rh_nodes.specs.Wires.{receiver}
 use Rattle.rh_nodes.specs.World.{World, at, node_by}
 use Rattle.rh_client.specs.declared.state.ClientRole.{ClientRole}
 use Rattle.rh_client.specs.Client as client
@@ -48,7 +47,7 @@ use Rattle.rh_outproxy.specs.OutProxy.{OutProxy, new_proxy}
 use Rattle.rh_server.specs.Servers as server
 use Rattle.rh_server.specs.States.{Server}
 use Rattle.rh_causes.specs.Closings.{ClosesWith}
-use Rattle.rh_history.specs.Carried.{IsTraced, drawn_by, drawn_on, end_drawn_on, end_node, events_of, happened, heard_on}
+use Rattle.rh_history.specs.Carried.{IsTraced, drawn_on, end_drawn_on, events_of, happened, heard_on}
 use Rattle.rh_history.specs.Changes.{Change, IsFed}
 use Rattle.rh_history.specs.Closes.{ClosesNode}
 use Rattle.rh_history.specs.Histories.{History, IsRun, at_place, in_place, made_by, noted, out_place, to_node, told_to}

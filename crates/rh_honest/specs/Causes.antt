@@ -1,6 +1,6 @@
 -- why a node closes by a piece that reads well: its role sees to it (MS-RPCH 3.2), or a body is
 -- longer than its head told
-use Rattle.std.specs.Prelude.{ℕ, ◌≡◌, ◌⊎◌, List, true, false, Err}
+use Rattle.std.specs.Prelude.{ℕ, ◌≡◌, ◌⊎◌, List, false, Err}
 use Rattle.rh_rts.specs.declared.fault.RtsFault.{RtsFault}
 use Rattle.rh_sig.specs.declared.fault.SigFault.TheVariants as sig
 use Rattle.rh_sig.specs.declared.named.Named.{Named}

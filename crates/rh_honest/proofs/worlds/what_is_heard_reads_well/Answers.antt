@@ -1,4 +1,4 @@
-use Rattle.std.proofs.Common.{List, ℕ, subst}
+use Rattle.std.proofs.Common.{subst}
 use mathlib.Core.List.{IsPrefix}
 use Rattle.rh_history.specs.Carried.{drawn_by, end_node, events_of, heard_on}
 use Rattle.rh_history.specs.Changes.{changed}
