@@ -1,12 +1,10 @@
 -- whatever a change of a world of honest roles is, it closes no node for bad bytes
 use Rattle.std.proofs.Common.{◌≡◌, ℕ, inl, inr, sym, ◌∙◌, refl, subst}
 use Rattle.std.specs.Prelude.{Some, None}
-use Rattle.std.specs.declared.option.Option.{Option}
 use Rattle.rh_pdu.specs.declared.fault.HeadFault.{HeadFault}
 use Rattle.rh_rts.specs.declared.fault.RtsFault.{RtsFault}
 use Rattle.rh_window.specs.declared.fault.TheConstants.{FLOW_CONTROL_ACK}
 use Rattle.rh_text.specs.declared.ends.Dir.{Dir}
-use Rattle.rh_sig.specs.declared.name.Pipe.{Pipe}
 use Rattle.rh_line.specs.declared.cause.Cause.{Cause}
 use Rattle.rh_line.specs.declared.cause.Cause.TheVariants as cause
 use Rattle.rh_line.specs.declared.leg.Leg.{Leg}
@@ -35,10 +33,9 @@ use Rattle.rh_history.specs.Changes.{Change, IsTold, IsFed, IsDrawn, GoesUp, Rai
 use Rattle.rh_history.specs.Closes.{ClosesNode}
 use Rattle.rh_history.specs.Histories.{in_place, out_place}
 use Rattle.rh_history.proofs.Numbers.{answered}
-use Rattle.rh_reading.specs.Well.{Answers}
 use Rattle.rh_traced.specs.Ours.{rules}
 use Rattle.rh_honest.specs.Causes.{RowRefuses}
-use Rattle.rh_honest.specs.Honest.{IsOfNode, read_on, well_on}
+use Rattle.rh_honest.specs.Honest.{IsOfNode}
 use Rattle.rh_honest.specs.Rows.{IsOfAck, RefusesAcks}
 use Rattle.rh_honest.proofs.Fed.{told_what}
 
@@ -98,24 +95,20 @@ module _ {K : Type 0} (each : EachComes) (v : World K ClientRole Server InProxy 
 -- ---- and a piece is fed
 
 pub record IsOfSome (node : Who) (why : Cause) : Type 0 where
-  pub well : Answers
   pub leg : Leg
-  pub pipe : Option Pipe
-  pub of_node : IsOfNode well node leg pipe why
+  pub of_node : IsOfNode node leg why
 
 module _ {K : Type 0} (v : World K ClientRole Server InProxy OutProxy) (node : Who) (why : Cause)
     (fed : (leg : Leg) (dir : Dir) (count : ℕ) → MayChange rules v (IsFed leg dir count)
     → ClosesNode rules v (IsFed leg dir count) node why
-    → IsOfNode (well_on leg.kind dir) node leg (read_on leg.kind dir) why) where
+    → IsOfNode node leg why) where
   never : {a : Who × Event} → None ≡ Some a → {X : Type 0} → X
   never e = absurd cc
 
   by_change : (change : Change) → MayChange rules v change
       → (is : ClosesNode rules v change node why) → IsPiece is.event → IsOfSome node why
   by_change (IsFed leg dir count) may is piece = record {
-    well = well_on leg.kind dir;
     leg = leg;
-    pipe = read_on leg.kind dir;
     of_node = fed leg dir count may is;
   }
   by_change (IsTold other event) may is piece =

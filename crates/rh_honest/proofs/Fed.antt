@@ -2,7 +2,6 @@
 use Rattle.std.proofs.Common.{◌≡◌, ℕ, Bool, true, List, [], ◌∷◌, ◌++◌, refl, sym, ap, ◌∙◌, subst}
 use Rattle.std.specs.Prelude.{Some, None, if◌then◌else◌}
 use Rattle.std.specs.declared.option.Option.{Option}
-use mathlib.Core.List.{IsPrefix}
 use Rattle.std.proofs.lemmas.Bool.{eq-eqb}
 use Rattle.std.proofs.lemmas.List.{append-nil}
 use Rattle.rh_text.specs.declared.ends.Dir.{Dir}
@@ -34,7 +33,7 @@ use Rattle.rh_nodes.specs.Opening.{Makers}
 use Rattle.rh_nodes.specs.Places as places
 use Rattle.rh_nodes.specs.Readers.{reader_of}
 use Rattle.rh_nodes.specs.Settling.{leg_at}
-use Rattle.rh_nodes.specs.Wires.{receiver, sender}
+use Rattle.rh_nodes.specs.Wires.{receiver}
 use Rattle.rh_nodes.specs.World.{World, at, node_by}
 use Rattle.rh_client.specs.declared.state.ClientRole.{ClientRole}
 use Rattle.rh_client.specs.Client as client
@@ -48,7 +47,7 @@ use Rattle.rh_outproxy.specs.OutProxy.{OutProxy, new_proxy}
 use Rattle.rh_server.specs.Servers as server
 use Rattle.rh_server.specs.States.{Server}
 use Rattle.rh_causes.specs.Closings.{ClosesWith}
-use Rattle.rh_history.specs.Carried.{IsTraced, drawn_by, drawn_on, end_drawn_on, end_node, events_of, happened, heard_on}
+use Rattle.rh_history.specs.Carried.{IsTraced, drawn_on, end_drawn_on, events_of, happened, heard_on}
 use Rattle.rh_history.specs.Changes.{Change, IsFed}
 use Rattle.rh_history.specs.Closes.{ClosesNode}
 use Rattle.rh_history.specs.Histories.{History, IsRun, at_place, in_place, made_by, noted, out_place, to_node, told_to}
@@ -63,7 +62,6 @@ use Rattle.rh_traced.specs.Ours.{AreOurs, deeds, rules}
 use Rattle.rh_fifo.specs.Flows.{IsFlowing, numbers_of}
 use Rattle.rh_honest.specs.Causes.{AreStrict, IsOfRole}
 use Rattle.rh_honest.specs.Honest.{IsOfNode, read_on, well_on}
-use Rattle.rh_honest.proofs.Drawn.{Texts, leg_well}
 
 -- ---- the laws that this stands on
 
@@ -74,7 +72,7 @@ ClosesForRole {S} rules =
     → ReadsWell well pipe (heard ++ piece)
     → ((end : NearEnd) → node.course ≡ Going → end_at node leg ≡ Some end
     → Seated rules node.role pipe came put heard drawn end)
-    → ClosesWith rules node (Comes leg piece) why → IsOfRole well rules leg pipe why
+    → ClosesWith rules node (Comes leg piece) why → IsOfRole rules leg why
 
 pub record EachCloses : Type 0 where
   pub client : ClosesForRole client.rules
@@ -195,13 +193,12 @@ piece_told one node leg piece e =
     (ap (λ (x : Who). is_same x node) e ∙ same_who node)
     ∙ ap (λ (t : Bool). (if t then piece else []) ++ []) (same_itself leg) ∙ append-nil piece
 
-module _ {K : Type 0} (texts : Texts) (each : EachCloses) (m : Makers K InProxy OutProxy)
+module _ {K : Type 0} (each : EachCloses) (m : Makers K InProxy OutProxy)
     (w v : World K ClientRole Server InProxy OutProxy) (ours : AreOurs m w.company w.cast)
     (h : History) (traced : IsTraced rules m deeds w.company v h)
     (flowing : IsFlowing (numbers_of ours) w v h) (leg : Leg) (dir : Dir) (count : ℕ)
-    (drew : IsPrefix (heard_on leg (events_of (noted v h (IsFed leg dir count))
-    (end_node v.readers leg (receiver dir))))
-    (drawn_by rules m deeds w.company v.cast h (end_node v.readers leg (sender dir)) leg))
+    (well_heard : ReadsWell (well_on leg.kind dir) (read_on leg.kind dir)
+    (heard_on leg (events_of (noted v h (IsFed leg dir count)) (at v leg (receiver dir)))))
     (why : Cause) where
   abbrev change : Change
   change = IsFed leg dir count
@@ -219,14 +216,7 @@ module _ {K : Type 0} (texts : Texts) (each : EachCloses) (m : Makers K InProxy 
   reads : (heard : List ℕ)
       → heard_on leg (events_of (noted v h change) (at v leg (receiver dir))) ≡ heard ++ piece
       → ReadsWell well pipe (heard ++ piece)
-  reads heard e =
-      leg_well texts m w v ours h flowing v.readers leg dir (heard ++ piece)
-      (subst (λ (bytes : List ℕ). IsPrefix bytes
-      (drawn_by rules m deeds w.company w.cast h (end_node v.readers leg (sender dir)) leg)) e
-      (subst (λ (c : K). IsPrefix (heard_on leg (events_of (noted v h change)
-      (end_node v.readers leg (receiver dir))))
-      (drawn_by rules m deeds w.company c h (end_node v.readers leg (sender dir)) leg))
-      flowing.cast drew))
+  reads heard e = subst (ReadsWell well pipe) e well_heard
 
   abbrev Told : Who → Type 0
   Told node = at v leg (receiver dir) ≡ node
@@ -256,7 +246,7 @@ module _ {K : Type 0} (texts : Texts) (each : EachCloses) (m : Makers K InProxy 
       (piece_told (at v leg (receiver dir)) who.Server leg piece here))
 
   client_closes : Told who.Client → ClosesWith client.rules v.company.client (Comes leg piece) why
-      → IsOfRole well client.rules leg pipe why
+      → IsOfRole client.rules leg why
   client_closes here closes =
       let f = flowing.flows.client in
       let node = after_end_events client.rules client.acts (client.first_client ours.config)
@@ -274,7 +264,7 @@ module _ {K : Type 0} (texts : Texts) (each : EachCloses) (m : Makers K InProxy 
       after_end_events client.rules client.acts s h.client) ours.client) closes)
 
   server_closes : Told who.Server → ClosesWith server.rules v.company.server (Comes leg piece) why
-      → IsOfRole well server.rules leg pipe why
+      → IsOfRole server.rules leg why
   server_closes here closes =
       let f = flowing.flows.server in
       let node = after_end_events server.rules server.acts (server.new_server ours.window)
@@ -320,7 +310,7 @@ module _ {K : Type 0} (texts : Texts) (each : EachCloses) (m : Makers K InProxy 
   in_closes : (n : ℕ) (place : Place InProxy) → in_place v.company n ≡ place → Told (who.In n)
       → (places.tell in_proxy.rules (Comes leg piece) place).1 ≡ Some why
       → IsRun in_proxy.rules (m.in_proxy v.cast n) (h.ins n) place
-      → IsOfRole well in_proxy.rules leg pipe why
+      → IsOfRole in_proxy.rules leg why
   in_closes n Absent there here closes run = absurd cc
   in_closes n (Gone now) there here closes run = absurd cc
   in_closes n (Here node count_of) there here closes run =
@@ -343,7 +333,7 @@ module _ {K : Type 0} (texts : Texts) (each : EachCloses) (m : Makers K InProxy 
       → Told (who.Out n)
       → (places.tell out_proxy.rules (Comes leg piece) place).1 ≡ Some why
       → IsRun out_proxy.rules (m.out_proxy v.cast n) (h.outs n) place
-      → IsOfRole well out_proxy.rules leg pipe why
+      → IsOfRole out_proxy.rules leg why
   out_closes n Absent there here closes run = absurd cc
   out_closes n (Gone now) there here closes run = absurd cc
   out_closes n (Here node count_of) there here closes run =
@@ -367,7 +357,7 @@ module _ {K : Type 0} (texts : Texts) (each : EachCloses) (m : Makers K InProxy 
 
   node_closes : (node : Who) → Told node
       → (company.tell rules v.company node (Comes leg piece)).1 ≡ Some why
-      → IsOfNode well node leg pipe why
+      → IsOfNode node leg why
   node_closes who.Client here closes = client_closes here closes
   node_closes who.Server here closes = server_closes here closes
   node_closes (who.In n) here closes =
@@ -380,7 +370,7 @@ module _ {K : Type 0} (texts : Texts) (each : EachCloses) (m : Makers K InProxy 
       v.company.outs n) ∙ closes) (traced.runs.outs n)
 
   pub fed_closes : (node : Who) → ClosesNode rules v change node why
-      → IsOfNode well node leg pipe why
+      → IsOfNode node leg why
   fed_closes node is =
       let here : at v leg (receiver dir) ≡ node = told_who _ _ _ _ is.told in
       let event : Comes leg piece ≡ is.event = told_what _ _ _ _ is.told in

@@ -49,13 +49,13 @@ module _ {S : Type 0} (well : Answers) (strict : AreStrict well) (rules : Rules 
   -- a cause of the role, if it is one at all
   abbrev IsOfRow : Result Count Cause → Type 0
   IsOfRow (Ok next) = Unit {0}
-  IsOfRow (Err why) = IsOfRole well rules leg pipe why
+  IsOfRow (Err why) = IsOfRole rules leg why
 
   module _ (at : Heading) (role : S) (here : at.leg ≡ leg) (on : at.pipe ≡ pipe) where
     row_is : (next : Count) (r : Row) → ((why : Refused) → r ≡ Err why → RowRefuses rules leg why)
         → IsOfRow (row_by at next r)
     row_is next (Ok taken) refuses = tt
-    row_is next (Err refused.Unexpected) refuses = inl (refuses refused.Unexpected refl)
+    row_is next (Err refused.Unexpected) refuses = tt
     row_is next (Err (refused.Cookie expected got)) refuses = tt
     row_is next (Err (refused.Window window)) refuses = tt
     row_is next (Err (refused.OutOfRange command value)) refuses =
@@ -73,16 +73,16 @@ module _ {S : Type 0} (well : Answers) (strict : AreStrict well) (rules : Rules 
           subst (λ (l : Leg). (rules.pdu role l at.count frame).1 ≡ Err why) here e,
         ))
 
-    ping_is : (zero upward : Bool) → upward ≡ is_upward pipe
+    ping_is : (zero upward : Bool)
         → IsOfRow (cond (zero && upward) (Err (cause.Unexpected at.leg at.place)) (Ok at.count))
-    ping_is true true up = inr (inl (sym up))
-    ping_is true false up = tt
-    ping_is false upward up = tt
+    ping_is true true = tt
+    ping_is true false = tt
+    ping_is false upward = tt
 
     named_is : (named : Named) (t : Bool)
         → IsOfRow (cond {A = S × Result Count Cause} t (role, take_ping at)
         (close_row at (one_more at.count) (rules.packet role at.leg at.count named))).1
-    named_is named true = ping_is (is_zero at.count) (is_upward at.pipe) (ap is_upward on)
+    named_is named true = ping_is (is_zero at.count) (is_upward at.pipe)
     named_is named false =
         row_is (one_more at.count) (rules.packet role at.leg at.count named).1 (λ why e.
         inl (
@@ -97,7 +97,7 @@ module _ {S : Type 0} (well : Answers) (strict : AreStrict well) (rules : Rules 
     packet_is (Ok named) fits = named_is named (is_ping named)
     packet_is (Err (unread.Rts fault)) fits =
         absurd (let bad : true ≡ false = sym fits ∙ strict.packets fault in cc)
-    packet_is (Err (unread.Sig sig.Unknown)) fits = inr (inr fits)
+    packet_is (Err (unread.Sig sig.Unknown)) fits = tt
     packet_is (Err (unread.Sig (sig.OutOfRange command value))) fits =
         absurd (let bad : true ≡ false = sym fits ∙ strict.ranges command value in cc)
 
@@ -216,7 +216,7 @@ module _ {S : Type 0} (well : Answers) (strict : AreStrict well) (rules : Rules 
   record IsWellTurn (t : Turn S) (rest : List ℕ) : Type 0 where
     here : t.end.leg ≡ leg
     on : t.end.pipe ≡ pipe
-    stopped : (why : Stop) → t.stop ≡ Some why → IsOfRole well rules leg pipe why.cause
+    stopped : (why : Stop) → t.stop ≡ Some why → IsOfRole rules leg why.cause
     reads : is_deaf rules t ≡ false → is_live t.end.intake.stage ≡ true
         → ReadsWellFrom well pipe (reading t.end.intake.stage t.end.intake.held) rest
 
@@ -233,18 +233,18 @@ module _ {S : Type 0} (well : Answers) (strict : AreStrict well) (rules : Rules 
     }
 
     stops_is : (end : NearEnd) (role : S) (first : Stop) → end.leg ≡ leg → end.pipe ≡ pipe
-        → IsOfRole well rules leg pipe first.cause → IsWellTurn (stops end role first) rest
+        → IsOfRole rules leg first.cause → IsWellTurn (stops end role first) rest
     stops_is end role first here on is = record {
       here = here;
       on = on;
       stopped = λ why e.
           let same : first ≡ why = cc in
-          subst (λ (s : Stop). IsOfRole well rules leg pipe s.cause) same is;
+          subst (λ (s : Stop). IsOfRole rules leg s.cause) same is;
       reads = λ heard. absurd cc;
     }
 
     refused_is : (l : Leg) (n : ℕ) (why : HeadRefused)
-        → IsOfRole well rules leg pipe (stop_head l n why).cause
+        → IsOfRole rules leg (stop_head l n why).cause
     refused_is l n (head.Request fault) = tt
     refused_is l n (head.Response fault) = tt
     refused_is l n (head.Status status) = tt
@@ -336,22 +336,22 @@ module _ {S : Type 0} (well : Answers) (strict : AreStrict well) (rules : Rules 
   -- ---- a node
 
   stopped_for : (s : Shell S) (l : Leg) (why : Cause) (o : Option Stop) → s.course ≡ Going
-      → ((first : Stop) → o ≡ Some first → IsOfRole well rules leg pipe first.cause)
-      → ClosedWith why (stopped s l o).course → IsOfRole well rules leg pipe why
+      → ((first : Stop) → o ≡ Some first → IsOfRole rules leg first.cause)
+      → ClosedWith why (stopped s l o).course → IsOfRole rules leg why
   stopped_for s l why None going is closed = absurd (subst (ClosedWith why) going closed)
   stopped_for s l why (Some first) going is closed = by first.refusal closed
     where
       by : (r : Option Refusal) → ClosedWith why (stop_by s l first.cause r).course
-          → IsOfRole well rules leg pipe why
-      by None same = subst (IsOfRole well rules leg pipe) same (is first refl)
-      by (Some refusal) same = subst (IsOfRole well rules leg pipe) same (is first refl)
+          → IsOfRole rules leg why
+      by None same = subst (IsOfRole rules leg) same (is first refl)
+      by (Some refusal) same = subst (IsOfRole rules leg) same (is first refl)
 
   pub piece_closes : (s : Shell S) (l : Leg) (piece : List ℕ) (why : Cause) (end : NearEnd)
       → end.leg ≡ leg → end.pipe ≡ pipe → s.course ≡ Going → end_at s l ≡ Some end
       → (is_over rules end s.role ≡ false → is_live end.intake.stage ≡ true
       → ReadsWellFrom well pipe (reading end.intake.stage end.intake.held) piece)
       → ClosedWith why (bytes_by rules s l piece s.course).course
-      → IsOfRole well rules leg pipe why
+      → IsOfRole rules leg why
   piece_closes s l piece why end here on going at reads closed =
       stopped_for (with_end s l t.end t.role) l why t.stop going
       (bytes_heard s.now (goes end s.role) piece first).stopped

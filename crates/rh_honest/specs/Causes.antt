@@ -1,10 +1,8 @@
 -- why a node closes by a piece that reads well: its role sees to it (MS-RPCH 3.2), or a body is
 -- longer than its head told
-use Rattle.std.specs.Prelude.{ℕ, ◌≡◌, ◌⊎◌, List, true, false, Err}
-use Rattle.std.specs.declared.option.Option.{Option}
+use Rattle.std.specs.Prelude.{ℕ, ◌≡◌, ◌⊎◌, List, false, Err}
 use Rattle.rh_rts.specs.declared.fault.RtsFault.{RtsFault}
 use Rattle.rh_sig.specs.declared.fault.SigFault.TheVariants as sig
-use Rattle.rh_sig.specs.declared.name.Pipe.{Pipe}
 use Rattle.rh_sig.specs.declared.named.Named.{Named}
 use Rattle.rh_line.specs.declared.leg.Leg.{Leg}
 use Rattle.rh_line.specs.declared.cause.Cause.{Cause}
@@ -13,7 +11,6 @@ use Rattle.rh_shell.specs.declared.answers.Count.{Count}
 use Rattle.rh_shell.specs.declared.answers.Refused.{Refused}
 use Rattle.rh_shell.specs.declared.answers.Refused.TheVariants as refused
 use Rattle.rh_shell.specs.declared.reading.PacketFault.TheVariants as unread
-use Rattle.rh_shell.specs.Hearing.{is_upward}
 use Rattle.rh_shell.specs.Rules.{Rules}
 use Rattle.rh_reading.specs.Well.{Answers}
 
@@ -30,18 +27,10 @@ RowRefuses {S} rules leg why =
     ⊎ ((role : S) × (count : Count) × (pdu : List ℕ)
     × ((rules.pdu role leg count pdu).1 ≡ Err why))
 
--- a packet or PDU is unexpected for a row; or it is a Ping towards the server, which came first; or
--- it has no name, where such packets read well
-abbrev pub MayBeUnexpected : {S : Type 0} → Answers → Rules S → Leg → Option Pipe → Type 0
-MayBeUnexpected well rules leg pipe =
-    RowRefuses rules leg refused.Unexpected
-    ⊎ ((is_upward pipe ≡ true) ⊎ (well (Err (unread.Sig sig.Unknown)) ≡ true))
-
 -- no frame or packet is bad, and a value is out of range for a row alone
-abbrev pub IsOfRole : {S : Type 0} → Answers → Rules S → Leg → Option Pipe → Cause → Type 0
-IsOfRole well rules leg pipe (cause.BadFrame l place fault) = ⊥
-IsOfRole well rules leg pipe (cause.BadPacket l place fault) = ⊥
-IsOfRole well rules leg pipe (cause.Unexpected l place) = MayBeUnexpected well rules leg pipe
-IsOfRole well rules leg pipe (cause.OutOfRange l command value) =
+abbrev pub IsOfRole : {S : Type 0} → Rules S → Leg → Cause → Type 0
+IsOfRole rules leg (cause.BadFrame l place fault) = ⊥
+IsOfRole rules leg (cause.BadPacket l place fault) = ⊥
+IsOfRole rules leg (cause.OutOfRange l command value) =
     RowRefuses rules leg (refused.OutOfRange command value)
-IsOfRole well rules leg pipe why = Unit {0}
+IsOfRole rules leg why = Unit {0}

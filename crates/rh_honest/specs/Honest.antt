@@ -38,8 +38,8 @@ well_on ClientIn D = is_packet
 well_on kind dir = is_named
 
 -- the node's role has such a cause
-abbrev pub IsOfNode : Answers → Who → Leg → Option Pipe → Cause → Type 0
-IsOfNode well Client leg pipe why = IsOfRole well client.rules leg pipe why
-IsOfNode well Server leg pipe why = IsOfRole well server.rules leg pipe why
-IsOfNode well (In n) leg pipe why = IsOfRole well in_proxy.rules leg pipe why
-IsOfNode well (Out n) leg pipe why = IsOfRole well out_proxy.rules leg pipe why
+abbrev pub IsOfNode : Who → Leg → Cause → Type 0
+IsOfNode Client leg why = IsOfRole client.rules leg why
+IsOfNode Server leg why = IsOfRole server.rules leg why
+IsOfNode (In n) leg why = IsOfRole in_proxy.rules leg why
+IsOfNode (Out n) leg why = IsOfRole out_proxy.rules leg why

@@ -15,4 +15,7 @@ pub use recordings::{
     no_node_of_a_recording_closes_for_bad_bytes,
     only_acknowledgements_of_a_recording_are_out_of_range,
 };
-pub use worlds::{no_change_closes_a_node_for_bad_bytes, what_is_fed_closes_for_the_role};
+pub use worlds::{
+    no_change_closes_a_node_for_bad_bytes, what_is_fed_closes_for_the_role,
+    what_is_heard_reads_well,
+};

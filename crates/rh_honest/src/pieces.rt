@@ -29,7 +29,7 @@ pub fn a_piece_that_reads_well_closes_for_the_role<R: Role>()
         → (is_over R.rules end node.role ≡ false → is_live end.intake.stage ≡ true
         → ReadsWellFrom well end.pipe (reading end.intake.stage end.intake.held) piece)
         → ClosesWith R.rules node (Comes leg piece) why
-        → IsOfRole well R.rules end.leg end.pipe why }
+        → IsOfRole R.rules end.leg why }
 {
     a_node_closes_once::<R>();
 }
@@ -42,7 +42,7 @@ pub fn what_is_heard_well_closes_for_the_role<R: Role>()
         → ReadsWell well pipe (heard ++ piece)
         → ((end : NearEnd) → node.course ≡ Going → end_at node leg ≡ Some end
         → Seated R.rules node.role pipe came put heard drawn end)
-        → ClosesWith R.rules node (Comes leg piece) why → IsOfRole well R.rules leg pipe why }
+        → ClosesWith R.rules node (Comes leg piece) why → IsOfRole R.rules leg why }
 {
     a_piece_that_reads_well_closes_for_the_role::<R>();
     events_close_with_their_causes::<R>();

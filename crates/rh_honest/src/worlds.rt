@@ -16,10 +16,14 @@ ghost use Rattle.rh_client.specs.declared.state.ClientRole.{ClientRole};
 ghost use Rattle.rh_inproxy.specs.State.{InProxy};
 ghost use Rattle.rh_outproxy.specs.OutProxy.{OutProxy};
 ghost use Rattle.rh_server.specs.States.{Server};
-ghost use Rattle.rh_history.specs.Changes.{Change, IsFed, MayChange};
+ghost use Rattle.rh_history.specs.Carried.{end_node, events_of, heard_on};
+ghost use Rattle.rh_history.specs.Changes.{Change, IsFed, MayChange, changed};
 ghost use Rattle.rh_traced.specs.Cookies.{ByChanges};
 ghost use Rattle.rh_history.specs.Closes.{ClosesNode};
-ghost use Rattle.rh_history.specs.Histories.{IsNew};
+ghost use Rattle.rh_history.specs.Histories.{IsNew, noted};
+ghost use Rattle.rh_nodes.specs.Wires.{receiver};
+ghost use Rattle.rh_ordered.specs.Premises.{history_at};
+ghost use Rattle.rh_reading.specs.Well.{ReadsWell};
 ghost use Rattle.rh_traced.specs.Ours.{AreOurs, deeds, rules};
 ghost use Rattle.rh_fifo.specs.Flows.{numbers_of};
 ghost use Rattle.rh_fifo.specs.Premises.{AreInRange};
@@ -40,18 +44,20 @@ use rh_reading::{texts_are_whole, texts_read_well, what_was_put_reads_well};
 use rh_server::ServerRole;
 use rh_traced::{a_recording_of_roles_is_known, what_is_heard_was_drawn_before};
 
-/// In each world of new roles whose numbers are in their ranges, at every moment that lines reach,
-/// what is fed to a node closes it with no bad frame and no bad packet; with a value out of range,
-/// or an unexpected packet, only where a row of its role refuses it, or where a Ping comes first.
-/// So it is also of a greeting. At a client a packet without a name is still unexpected.
-pub fn what_is_fed_closes_for_the_role<K>()
+/// In each world of new roles whose numbers are in their ranges, at every moment that changes of
+/// lines and half steps reach, and behind each further change, what was heard on a leg reads well
+/// at either end: no header breaks a rule, each packet has its name there and its values are in
+/// range, and a greeting is the greeting. To a client an answer to an echo request may come, and
+/// the packet in that has no name.
+pub fn what_is_heard_reads_well<K>()
     ensures { (m : Makers K InProxy OutProxy) (w : World K ClientRole Server InProxy OutProxy)
         → IsNew w → (ours : AreOurs m w.company w.cast) → AreInRange (numbers_of ours)
         → (v : World K ClientRole Server InProxy OutProxy) (by : ByChanges rules m deeds w v)
-        → (leg : Leg) (dir : Dir) (count : ℕ) (node : Who) (why : Cause)
-        → MayChange rules v (IsFed leg dir count)
-        → ClosesNode rules v (IsFed leg dir count) node why
-        → IsOfNode (well_on leg.kind dir) node leg (read_on leg.kind dir) why }
+        → (change : Change) → MayChange rules v change → (leg : Leg) (dir : Dir)
+        → (let next = noted v (history_at m w v by.leads) change in
+        ReadsWell (well_on leg.kind dir) (read_on leg.kind dir)
+        (heard_on leg (events_of next
+        (end_node (changed rules m deeds v change).readers leg (receiver dir))))) }
 {
     what_is_put_is_legible::<K>();
     a_recording_of_roles_is_known::<K>();
@@ -64,6 +70,21 @@ pub fn what_is_fed_closes_for_the_role<K>()
     what_an_in_proxy_puts_first_reads_well();
     what_an_out_proxy_puts_first_reads_well();
     a_proxy_refuses_for_a_reason();
+}
+
+/// So what is fed to a node closes it with no bad frame and no bad packet, and with a value out of
+/// range only where a row of its role refuses one.
+pub fn what_is_fed_closes_for_the_role<K>()
+    ensures { (m : Makers K InProxy OutProxy) (w : World K ClientRole Server InProxy OutProxy)
+        → IsNew w → (ours : AreOurs m w.company w.cast) → AreInRange (numbers_of ours)
+        → (v : World K ClientRole Server InProxy OutProxy) (by : ByChanges rules m deeds w v)
+        → (leg : Leg) (dir : Dir) (count : ℕ) (node : Who) (why : Cause)
+        → MayChange rules v (IsFed leg dir count)
+        → ClosesNode rules v (IsFed leg dir count) node why → IsOfNode node leg why }
+{
+    what_is_heard_reads_well::<K>();
+    what_is_put_is_legible::<K>();
+    a_recording_of_roles_is_known::<K>();
     what_is_heard_well_closes_for_the_role::<ClientRole>();
     what_is_heard_well_closes_for_the_role::<ServerRole>();
     what_is_heard_well_closes_for_the_role::<InProxyRole>();

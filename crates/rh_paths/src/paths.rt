@@ -34,12 +34,12 @@ use rh_streams::what_refuses_first_refuses_in_turn;
 use rh_traced::{a_recording_of_roles_is_known, legs_of_roles_come_up_once};
 use rh_up::what_goes_up_is_a_route;
 
-/// In each world of new roles whose numbers are in their ranges, at every moment that lines reach:
-/// what was put on a leg and did not come is what is read in the bytes in flight there and those
-/// that are begun, unless the leg gives nothing more. So what was given is what was taken and what
-/// is on its way, while no leg of the channels from the one that is taken to the one that is
-/// written on is lost before its handover mark or END passed. Whatever is lost, what was given
-/// begins with what was taken and what can still be taken.
+/// In each world of new roles whose numbers are in their ranges, at every moment that changes of
+/// lines and half steps reach: what was put on a leg and did not come is what is read in the bytes
+/// in flight there and those that are begun, unless the leg gives nothing more. So what was given
+/// is what was taken and what is on its way, while no leg of the channels from the one that is
+/// taken to the one that is written on is lost before its handover mark or END passed. Whatever is
+/// lost, what was given begins with what was taken and what can still be taken.
 pub fn nothing_on_its_way_is_lost<K>()
     ensures { (m : Makers K InProxy OutProxy) (w : World K ClientRole Server InProxy OutProxy)
         → IsNew w → (ours : AreOurs m w.company w.cast) → AreInRange (numbers_of ours)

@@ -78,9 +78,9 @@ pub fn a_refused_client_heard_what_was_drawn<K>()
     what_is_heard_was_drawn::<K, ClientRole, ServerRole, InProxyRole, OutProxyRole>();
 }
 
-/// In each world of new roles whose numbers are in their ranges, at every moment that lines reach:
-/// where the client is closed with `HttpRefused` of an OUT channel, all that the out proxy of its
-/// number drew there is one refusal, which has that status.
+/// In each world of new roles whose numbers are in their ranges, at every moment that changes of
+/// lines and half steps reach: where the client is closed with `HttpRefused` of an OUT channel, all
+/// that the out proxy of its number drew there is one refusal, which has that status.
 pub fn a_refused_out_channel_was_refused_by_its_proxy<K>()
     ensures { (m : Makers K InProxy OutProxy) (w : World K ClientRole Server InProxy OutProxy)
         → IsNew w → (ours : AreOurs m w.company w.cast) → AreInRange (numbers_of ours)
@@ -115,9 +115,10 @@ pub fn a_refused_in_channel_was_refused_by_its_proxy<K>()
     an_in_proxy_refuses_first();
 }
 
-/// In each world of new roles whose numbers are in their ranges, at every moment that lines reach:
-/// where the client is closed with `HttpRefused` of a channel and status 503, the proxy that reads
-/// that channel was told that its leg to the server, which has its own number, broke.
+/// In each world of new roles whose numbers are in their ranges, at every moment that changes of
+/// lines and half steps reach: where the client is closed with `HttpRefused` of a channel and
+/// status 503, the proxy that reads that channel was told that its leg to the server, which has its
+/// own number, broke.
 pub fn a_client_refused_with_503_lost_its_server<K>()
     ensures out_channel { (m : Makers K InProxy OutProxy)
         (w : World K ClientRole Server InProxy OutProxy) → IsNew w

@@ -17,12 +17,11 @@ returns g c = λ well node leg piece why pipe came put heard drawn strict reads 
     let going = going_is node (tell rules node (Comes leg piece)).1 why
     (λ first h. c.a_node_closes_once.ensures.again node first (Comes leg piece) h) closes in
     let seat = seats amiss.end going amiss.at in
-    subst (λ (p : Option Pipe). IsOfRole well rules leg p why) seat.pipe_is
-    (subst (λ (l : Leg). IsOfRole well rules l amiss.end.pipe why) amiss.same
+    subst (λ (l : Leg). IsOfRole rules l why) amiss.same
     (c.a_piece_that_reads_well_closes_for_the_role.ensures well node leg piece why amiss.end strict
     amiss.at (λ over live.
     subst (λ (p : Option Pipe).
     ReadsWellFrom well p (reading amiss.end.intake.stage amiss.end.intake.held) piece)
     (sym seat.pipe_is)
     (subst (λ (r : Reading). ReadsWellFrom well pipe r piece) (seat.reads over live).after
-    (c.a_piece_reads_well.ensures well pipe heard piece reads))) closes))
+    (c.a_piece_reads_well.ensures well pipe heard piece reads))) closes)
