@@ -24,8 +24,8 @@ use rh_server::ServerRole;
 use rh_world::WorldConfig;
 
 /// In every recording, where a line reports a node as closed with `HttpRefused` of a channel, the
-/// status is 503, and that line or one before it reports that the leg to the server of the proxy
-/// that reads the channel is lost: broken, or ended towards the server.
+/// status is 503, and that line or one before it reports that the leg to the server that has the
+/// channel's number is lost: broken, or ended towards the server.
 pub fn a_refused_client_of_a_recording_lost_its_server()
     ensures out_channel { (before : List Line) (line : Line) (node : Who) (n status : ℕ)
         → IsOneOf (NodeClosed node (HttpRefused (leg_at ClientOut n) status))
@@ -34,8 +34,7 @@ pub fn a_refused_client_of_a_recording_lost_its_server()
     ensures in_channel { (before : List Line) (line : Line) (node : Who) (n status : ℕ)
         → IsOneOf (NodeClosed node (HttpRefused (leg_at ClientIn n) status))
         (step (after Before before) line).1
-        → (status ≡ 503)
-        × (reader : ℕ) × ReportsLoss (before ++ line ∷ []) (leg_at InServer reader) }
+        → (status ≡ 503) × ReportsLoss (before ++ line ∷ []) (leg_at InServer n) }
 {
     only_a_client_of_a_recording_is_refused();
     what_a_line_tells_shows::<WorldConfig, ClientRole, ServerRole, InProxyRole, OutProxyRole>();

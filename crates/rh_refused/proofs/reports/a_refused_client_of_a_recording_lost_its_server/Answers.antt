@@ -1,7 +1,6 @@
 use Rattle.std.proofs.Common.{[], ◌∷◌, ◌++◌, arith, refl}
 use Rattle.rh_line.specs.declared.leg.LegKind.TheVariants.{ClientIn, ClientOut, InServer, OutServer}
 use Rattle.rh_nodes.specs.Cookies.{cookie_of}
-use Rattle.rh_nodes.specs.Readers.{reader_of}
 use Rattle.rh_nodes.specs.Settling.{leg_at}
 use Rattle.rh_world.specs.declared.config.WorldConfig.{WorldConfig}
 use Rattle.rh_world.specs.Roles as roles
@@ -33,12 +32,8 @@ returns c =
           concluded shown ever _ before line node (leg_at ClientIn n) status
           (refused before line node (leg_at ClientIn n) status h)
           (λ v rep closed.
-          let k = reader_of v.readers n in
           let two = lost.in_channel roles.makers (roles.begun rep.config) (new rep.config)
           (ours rep.config) (in_range rep.config rep.ranges) (port rep.config) v rep.run n status
-          closed in (
-            two.0,
-            k,
-            in_loss (before ++ line ∷ []) v rep k (leg_at InServer k) refl two.1,
-          ));
+          closed in
+          (two.0, in_loss (before ++ line ∷ []) v rep n (leg_at InServer n) refl two.2));
     }
