@@ -13,7 +13,7 @@ use Rattle.rh_line.specs.declared.leg.LegKind.TheVariants.{ClientIn, ClientOut, 
 use Rattle.rh_shell.specs.Carrying.{spelled}
 use Rattle.rh_shell.specs.Intakes.{is_whole_head}
 use Rattle.rh_shell.specs.Moves.{Move, Passage, started, all_moved, AreAllowed}
-use Rattle.rh_shell.specs.Moving.{Event, Breaks, after_events}
+use Rattle.rh_shell.specs.Moving.{Event, after_events}
 use Rattle.rh_shell.specs.Shells.{begun}
 use Rattle.rh_shell.specs.Wires.{of_leg}
 use Rattle.rh_nodes.specs.Settling.{leg_at}
@@ -35,8 +35,8 @@ use Rattle.rh_ends_begin.specs.Begins.{IsRequestOf}
 use Rattle.rh_proxies_begin.specs.Echoes.{AsksNoEcho}
 use Rattle.rh_proxies_begin.specs.Pipes.{in_pipe, out_pipe}
 use Rattle.rh_causes.specs.Refusals.{MayRefuseOn}
-use Rattle.rh_traced.specs.Refusals.{DrawsRightly, IsAmong}
-use Rattle.rh_refused.specs.Refused.{BeginsRefused, DrewRefusal, IsPort}
+use Rattle.rh_traced.specs.Refusals.{DrawsRightly}
+use Rattle.rh_refused.specs.Refused.{BeginsRefused, DrewRefusal, IsPort, IsUnreached}
 use Rattle.rh_refused.proofs.Drawn.{refused_more}
 use Rattle.rh_refused.proofs.Fronts.{Traced, stream}
 use Rattle.rh_refused.proofs.InTexts.{echoes_alone}
@@ -109,7 +109,7 @@ module _ (begins : (config : OutProxyConfig) (moves : List Move)
         (reasons some)
 
     pub out_lost_503 : DrewRefusal (out_drew events) 503
-        → IsAmong (Breaks (leg_at OutServer n)) events
+        → IsUnreached (leg_at OutServer n) events
     out_lost_503 drew =
         (lost_503 out_proxy.rules (new_proxy config) ROOMS (out_pipe config) events law
         (leg_at ClientOut n) (leg_at OutServer n) (leg_at ClientOut n) on_out out_unfair rightly
@@ -120,7 +120,7 @@ module _ (begins : (config : OutProxyConfig) (moves : List Move)
         → IsRequestOf client ClientOut text)
         → RefusesInTurn out_proxy.rules (new_proxy config) (out_pipe config) (leg_at ClientOut n)
         → BeginsRefused (out_drew events) (leg_at ClientOut n) status
-        → (status ≡ 503) × IsAmong (Breaks (leg_at OutServer n)) events
+        → (status ≡ 503) × IsUnreached (leg_at OutServer n) events
     out_lost client status port honest refuses begun_so = by (s.refused leg refuses)
       where
         leg : Leg
@@ -132,7 +132,7 @@ module _ (begins : (config : OutProxyConfig) (moves : List Move)
         by : IsPrefix (out_drew events) (spelled (of_leg leg s.passage.put))
             ⊎ RefusalDrawn out_proxy.rules leg (of_leg leg s.passage.put) (heard_on leg events)
             (out_drew events)
-            → (status ≡ 503) × IsAmong (Breaks (leg_at OutServer n)) events
+            → (status ≡ 503) × IsUnreached (leg_at OutServer n) events
         by (inl front) =
             absurd (put_none config range leg refl status (of_leg leg s.passage.put)
             (puts_200 config s.passage leg s.leads) (out_begins events s)
@@ -181,7 +181,7 @@ module _ (config : InProxyConfig) (n : ℕ) where
 
     -- the channel is the one of its own number
     pub in_lost_503 : DrewRefusal (in_drew events) 503
-        → (n ≡ k) × IsAmong (Breaks (leg_at InServer k)) events
+        → (n ≡ k) × IsUnreached (leg_at InServer k) events
     in_lost_503 drew =
         let own =
         lost_503 in_proxy.rules (in_state.first config) in_proxy.rooms (in_pipe config) events law
@@ -202,7 +202,7 @@ module _ (config : InProxyConfig) (n : ℕ) where
         → RefusesInTurn in_proxy.rules (in_state.first config) (in_pipe config)
         (leg_at ClientIn n)
         → BeginsRefused (in_drew events) (leg_at ClientIn n) status
-        → (status ≡ 503) × (n ≡ k) × IsAmong (Breaks (leg_at InServer k)) events
+        → (status ≡ 503) × (n ≡ k) × IsUnreached (leg_at InServer k) events
     in_lost unechoed client status range port honest refuses begun_so = by (s.refused leg refuses)
       where
         leg : Leg
@@ -222,7 +222,7 @@ module _ (config : InProxyConfig) (n : ℕ) where
         by : IsPrefix (in_drew events) (spelled (of_leg leg s.passage.put))
             ⊎ RefusalDrawn in_proxy.rules leg (of_leg leg s.passage.put) (heard_on leg events)
             (in_drew events)
-            → (status ≡ 503) × (n ≡ k) × IsAmong (Breaks (leg_at InServer k)) events
+            → (status ≡ 503) × (n ≡ k) × IsUnreached (leg_at InServer k) events
         by (inl front) =
             absurd (none_refused leg status
             (refused_more (in_drew events) [] leg status
@@ -239,9 +239,9 @@ module _ (config : InProxyConfig) (n : ℕ) where
 
 -- so the proxy that reads the channel is the one of its number
 pub its_own : (n k : ℕ) (ins : ℕ → List Event)
-    → (n ≡ k) × IsAmong (Breaks (leg_at InServer k)) (ins k)
-    → (k ≡ n) × IsAmong (Breaks (leg_at InServer n)) (ins n)
+    → (n ≡ k) × IsUnreached (leg_at InServer k) (ins k)
+    → (k ≡ n) × IsUnreached (leg_at InServer n) (ins n)
 its_own n k ins own = (
   sym own.0,
-  subst (λ (j : ℕ). IsAmong (Breaks (leg_at InServer j)) (ins j)) (sym own.0) own.1,
+  subst (λ (j : ℕ). IsUnreached (leg_at InServer j) (ins j)) (sym own.0) own.1,
 )

@@ -50,7 +50,7 @@ use Rattle.rh_bounds.proofs.Reached.{IsRecorded, behind_lines}
 use Rattle.rh_closes.specs.Recordings.{IsLicensedAt, IsRefusedIn}
 use Rattle.rh_closes.specs.Shows.{AreShown, IsShown, ShownWorks, Shows}
 use Rattle.rh_closes.proofs.Going.{one_before}
-use Rattle.rh_traced.specs.Refusals.{IsAmong}
+use Rattle.rh_refused.specs.Refused.{IsUnreached}
 use Rattle.rh_refused.specs.Reported.{ReportsLoss, TellsLoss}
 
 -- ---- what changes tell
@@ -437,7 +437,7 @@ module _ (lines : List Line) (w : roles.World) (is : IsReported w lines) where
       is.run.leads.changes
 
   pub out_loss : (n : ℕ) (leg : Leg) → leg.kind ≡ OutServer
-      → IsAmong (moving.Breaks leg) (past.outs n) → ReportsLoss lines leg
+      → IsUnreached leg (past.outs n) → ReportsLoss lines leg
   out_loss n leg kind among =
       by (out_broke (ReportedAt lines) n leg (roles.begun is.config) nothing
       is.run.leads.changes is.told
@@ -449,7 +449,7 @@ module _ (lines : List Line) (w : roles.World) (is : IsReported w lines) where
       by (inr told) = told kind
 
   pub in_loss : (n : ℕ) (leg : Leg) → leg.kind ≡ InServer
-      → IsAmong (moving.Breaks leg) (past.ins n) → ReportsLoss lines leg
+      → IsUnreached leg (past.ins n) → ReportsLoss lines leg
   in_loss n leg kind among =
       by (in_broke (ReportedAt lines) n leg (roles.begun is.config) nothing
       is.run.leads.changes is.told

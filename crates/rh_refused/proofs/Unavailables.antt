@@ -25,18 +25,20 @@ use Rattle.rh_outproxy.specs.Legible.{IsConfig}
 use Rattle.rh_reading.specs.Reading.{Begins}
 use Rattle.rh_line.specs.declared.leg.Leg.{Leg}
 use Rattle.rh_shell.specs.declared.course.Course.TheVariants.{Going, Refusing}
-use Rattle.rh_shell.specs.Moving.{Event, Breaks, after_events}
+use Rattle.rh_shell.specs.Moving.{Event, after_event, after_events}
 use Rattle.rh_shell.specs.Shells.{Shell}
-use Rattle.rh_history.specs.Carried.{drawn_on}
+use Rattle.rh_history.specs.Carried.{AreAccepted, ComesUpOnce, drawn_on}
 use Rattle.rh_history.proofs.Runs.{events_append}
 use Rattle.rh_causes.specs.Refusals.{MayRefuseOn}
-use Rattle.rh_traced.specs.Refusals.{DrawsRefusal, DrawsRightly, IsAmong}
-use Rattle.rh_refused.specs.Refused.{BeginsRefused, DrewRefusal}
+use Rattle.rh_traced.specs.Refusals.{DrawsRefusal, DrawsRightly}
+use Rattle.rh_refused.specs.Refused.{BeginsRefused, DrewRefusal, IsUnreached}
 use Rattle.rh_refused.proofs.Drawn.{refused_more}
+use Rattle.rh_refused.proofs.Fronts.{accepted_front}
 use Rattle.rh_refused.proofs.InRefusals.{echo_success}
 use Rattle.rh_refused.proofs.InTexts.{IsEcho}
 use Rattle.rh_refused.proofs.OutRefusals.{put_none}
 use Rattle.rh_refused.proofs.OutTexts.{Succeeds}
+use Rattle.rh_refused.proofs.Unreached.{never_up}
 
 unavailable_by : (r : Refusal) → status_of r ≡ 503 → r ≡ Unavailable
 unavailable_by Unavailable e = refl
@@ -87,6 +89,7 @@ split_text (x ∷ xs) (b ∷ bs) r fair all front =
 -- and it drew that on its client's leg
 module _ {S : Type 0} (rules : Rules S) (first : Shell S) (client server leg : Leg)
     (events : List Event)
+    (once : ComesUpOnce rules first) (accepted : AreAccepted rules first events)
     (on : (some : List Event) → MayRefuseOn client server (after_events rules first some).course)
     (fair : (before behind : List Event) → events ≡ before ++ behind
     → (after_events rules first before).course ≡ Going
@@ -105,7 +108,7 @@ module _ {S : Type 0} (rules : Rules S) (first : Shell S) (client server leg : L
 
   told_lost : DrawsRightly rules first server leg events
       → drawn_on rules first leg events ≡ refusal_text Unavailable
-      → (leg ≡ client) × IsAmong (Breaks server) events
+      → (leg ≡ client) × IsUnreached server events
   told_lost (inl going) whole =
       absurd (fair going.before going.behind going.split going.going (sym going.drawn ∙ whole))
   told_lost (inr refuses) whole =
@@ -121,12 +124,21 @@ module _ {S : Type 0} (rules : Rules S) (first : Shell S) (client server leg : L
           split =
               draws.split
               ∙ ap (λ (e : Event). draws.before ++ e ∷ draws.behind) (refuses.1 long);
+          never =
+              never_up rules first once draws.before server
+              (accepted_front rules first draws.before (draws.event ∷ draws.behind)
+              (subst (AreAccepted rules first) draws.split accepted)) draws.going draws.why leg
+              (refusal_text draws.refusal)
+              (subst (λ (e : Event).
+              (after_event rules (after_events rules first draws.before) e).course
+              ≡ Refusing draws.why leg (refusal_text draws.refusal)) (refuses.1 long)
+              draws.refuses);
         },
       )
 
   pub told_503 : DrawsRightly rules first server leg events
       → DrewRefusal (drawn_on rules first leg events) 503
-      → (leg ≡ client) × IsAmong (Breaks server) events
+      → (leg ≡ client) × IsUnreached server events
   told_503 rightly drew =
       told_lost rightly (drew.drew ∙ ap refusal_text (unavailable_by drew.refusal drew.named))
 
