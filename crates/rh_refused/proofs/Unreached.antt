@@ -49,7 +49,8 @@ module _ {S : Type 0} (rules : Rules S) (s : Shell S) (leg : Leg) (going : s.cou
 
   wants_lost : Refuses (broken_by rules s leg s.course).course → wants rules s leg ≡ true
   wants_lost h =
-      by_end (end_at s leg) (subst (λ (c : Course). Refuses (broken_by rules s leg c).course) going h)
+      by_end (end_at s leg)
+      (subst (λ (c : Course). Refuses (broken_by rules s leg c).course) going h)
 
 module _ {S : Type 0} (rules : Rules S) (first : Shell S) (once : ComesUpOnce rules first)
     (before : List Event) (leg : Leg) (accepted : AreAccepted rules first before) where
