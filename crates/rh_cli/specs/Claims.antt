@@ -25,7 +25,7 @@ use Rattle.rh_named.specs.Named.{NamesIt}
 use Rattle.rh_ordered.specs.Counted.{CountsCapped}
 use Rattle.rh_ordered.specs.Recordings.{OffersBehindFirst}
 use Rattle.rh_paths.specs.Recordings.{KeepsWays}
-use Rattle.rh_refused.specs.Reported.{ReportsLoss}
+use Rattle.rh_refused.specs.Reported.{ReportsBreak}
 
 -- a line reports a node as closed only for what it told that node, and its answers show that
 pub record ClosesForReason (world : AnyWorld) (line : Line) : Type 0 where
@@ -41,17 +41,16 @@ pub record ClosesForReason (world : AnyWorld) (line : Line) : Type 0 where
       → IsSilentIn (prepared world line) line node leg since now
 
 -- where a line reports a node as closed for a response, its status is 503, and that line or one
--- before it reports that the proxy's leg to the server is lost
-pub record RefusesForLoss (before : List Line) (line : Line) : Type 0 where
+-- before it reports that the channel's leg to the server broke
+pub record RefusesForBreak (before : List Line) (line : Line) : Type 0 where
   pub out_channel : (node : Who) (n status : ℕ)
       → IsOneOf (NodeClosed node (HttpRefused (leg_at ClientOut n) status))
       (step (after Before before) line).1
-      → (status ≡ 503) × ReportsLoss (before ++ line ∷ []) (leg_at OutServer n)
+      → (status ≡ 503) × ReportsBreak (before ++ line ∷ []) (leg_at OutServer n)
   pub in_channel : (node : Who) (n status : ℕ)
       → IsOneOf (NodeClosed node (HttpRefused (leg_at ClientIn n) status))
       (step (after Before before) line).1
-      → (status ≡ 503)
-      × (reader : ℕ) × ReportsLoss (before ++ line ∷ []) (leg_at InServer reader)
+      → (status ≡ 503) × ReportsBreak (before ++ line ∷ []) (leg_at InServer n)
 
 -- no line reports a node as closed for bytes that read badly: no frame or packet is bad, and a value
 -- is out of range in an acknowledgement alone
@@ -80,8 +79,8 @@ pub record Claims (lines : List Line) : Type 0 where
       → ClosesForReason (after Before before) line
   pub ways : (before behind : List Line) → lines ≡ before ++ behind
       → KeepsWays (after Before before)
-  pub losses : (before behind : List Line) (line : Line) → lines ≡ before ++ line ∷ behind
-      → RefusesForLoss before line
+  pub refusals : (before behind : List Line) (line : Line) → lines ≡ before ++ line ∷ behind
+      → RefusesForBreak before line
   pub reads : (before behind : List Line) (line : Line) → lines ≡ before ++ line ∷ behind
       → ReadsWell (after Before before) line
   pub once : (node : Who) → closings_of node (run lines) ≤ 1

@@ -14,8 +14,8 @@ ghost use Rattle.rh_world.specs.declared.any_world.AnyWorld.TheVariants.{Before}
 ghost use Rattle.rh_world.specs.Any.{after, step};
 
 use crate::worlds::no_change_closes_a_node_for_bad_bytes;
-use rh_closes::each_close_of_a_recording_shows;
 use rh_client::ClientRole;
+use rh_closes::each_close_of_a_recording_shows;
 use rh_inproxy::InProxyRole;
 use rh_outproxy::OutProxyRole;
 use rh_server::ServerRole;

@@ -13,7 +13,7 @@ use Rattle.rh_streams.specs.Streams.{HasPipes, HearsInTurn, StaysUnused, Stream}
 use Rattle.rh_fifo.proofs.Flowing.{NodeStreams}
 use Rattle.rh_refused.proofs.ClosedClients.{turns_front}
 
-accepted_front : {S : Type 0} (rules : Rules S) (s : Shell S) (xs ys : List Event)
+pub accepted_front : {S : Type 0} (rules : Rules S) (s : Shell S) (xs ys : List Event)
     → AreAccepted rules s (xs ++ ys) → AreAccepted rules s xs
 accepted_front rules s [] ys a = tt
 accepted_front rules s (x ∷ xs) ys a =

@@ -6,6 +6,7 @@ mod OutTexts
 mod OutRefusals
 mod InTexts
 mod InRefusals
+mod Unreached
 mod Unavailables
 mod Fronts
 mod Lost

@@ -13,7 +13,7 @@ use Rattle.rh_line.specs.declared.leg.LegKind.TheVariants.{ClientIn, ClientOut, 
 use Rattle.rh_shell.specs.Carrying.{spelled}
 use Rattle.rh_shell.specs.Intakes.{is_whole_head}
 use Rattle.rh_shell.specs.Moves.{Move, Passage, started, all_moved, AreAllowed}
-use Rattle.rh_shell.specs.Moving.{Event, Breaks}
+use Rattle.rh_shell.specs.Moving.{Event, after_events}
 use Rattle.rh_shell.specs.Shells.{begun}
 use Rattle.rh_shell.specs.Wires.{of_leg}
 use Rattle.rh_nodes.specs.Settling.{leg_at}
@@ -34,8 +34,9 @@ use Rattle.rh_streams.specs.Turns.{AreInTurn, RefusesInTurn}
 use Rattle.rh_ends_begin.specs.Begins.{IsRequestOf}
 use Rattle.rh_proxies_begin.specs.Echoes.{AsksNoEcho}
 use Rattle.rh_proxies_begin.specs.Pipes.{in_pipe, out_pipe}
-use Rattle.rh_traced.specs.Refusals.{DrawsRightly, IsAmong}
-use Rattle.rh_refused.specs.Refused.{BeginsRefused, DrewRefusal, IsPort}
+use Rattle.rh_causes.specs.Refusals.{MayRefuseOn}
+use Rattle.rh_traced.specs.Refusals.{DrawsRightly}
+use Rattle.rh_refused.specs.Refused.{BeginsRefused, DrewRefusal, IsPort, IsUnreached}
 use Rattle.rh_refused.proofs.Drawn.{refused_more}
 use Rattle.rh_refused.proofs.Fronts.{Traced, stream}
 use Rattle.rh_refused.proofs.InTexts.{echoes_alone}
@@ -95,19 +96,31 @@ module _ (begins : (config : OutProxyConfig) (moves : List Move)
   module _ (events : List Event)
       (law : Traced out_proxy.rules (new_proxy config) ROOMS (out_pipe config) events)
       (rightly : DrawsRightly out_proxy.rules (begun (new_proxy config) ROOMS)
-      (leg_at OutServer n) (leg_at ClientOut n) events) where
+      (leg_at OutServer n) (leg_at ClientOut n) events)
+      (reasons : (some : List Event)
+      → MayRefuseOn (leg_at ClientOut config.number) (leg_at OutServer config.number)
+      (after_events out_proxy.rules (begun (new_proxy config) ROOMS) some).course) where
+    on_out : (some : List Event)
+        → MayRefuseOn (leg_at ClientOut n) (leg_at OutServer n)
+        (after_events out_proxy.rules (begun (new_proxy config) ROOMS) some).course
+    on_out some =
+        subst (λ (k : ℕ). MayRefuseOn (leg_at ClientOut k) (leg_at OutServer k)
+        (after_events out_proxy.rules (begun (new_proxy config) ROOMS) some).course) number
+        (reasons some)
+
     pub out_lost_503 : DrewRefusal (out_drew events) 503
-        → IsAmong (Breaks (leg_at OutServer n)) events
-    out_lost_503 =
-        lost_503 out_proxy.rules (new_proxy config) ROOMS (out_pipe config) events law
-        (leg_at OutServer n) (leg_at ClientOut n) out_unfair rightly
+        → IsUnreached (leg_at OutServer n) events
+    out_lost_503 drew =
+        (lost_503 out_proxy.rules (new_proxy config) ROOMS (out_pipe config) events law
+        (leg_at ClientOut n) (leg_at OutServer n) (leg_at ClientOut n) on_out out_unfair rightly
+        drew).1
 
     pub out_lost : (client : ClientConfig) (status : ℕ) → IsPort client.port
         → ((text : List ℕ) → IsFirstHead text (heard_on (leg_at ClientOut n) events)
         → IsRequestOf client ClientOut text)
         → RefusesInTurn out_proxy.rules (new_proxy config) (out_pipe config) (leg_at ClientOut n)
         → BeginsRefused (out_drew events) (leg_at ClientOut n) status
-        → (status ≡ 503) × IsAmong (Breaks (leg_at OutServer n)) events
+        → (status ≡ 503) × IsUnreached (leg_at OutServer n) events
     out_lost client status port honest refuses begun_so = by (s.refused leg refuses)
       where
         leg : Leg
@@ -119,7 +132,7 @@ module _ (begins : (config : OutProxyConfig) (moves : List Move)
         by : IsPrefix (out_drew events) (spelled (of_leg leg s.passage.put))
             ⊎ RefusalDrawn out_proxy.rules leg (of_leg leg s.passage.put) (heard_on leg events)
             (out_drew events)
-            → (status ≡ 503) × IsAmong (Breaks (leg_at OutServer n)) events
+            → (status ≡ 503) × IsUnreached (leg_at OutServer n) events
         by (inl front) =
             absurd (put_none config range leg refl status (of_leg leg s.passage.put)
             (puts_200 config s.passage leg s.leads) (out_begins events s)
@@ -151,15 +164,30 @@ module _ (config : InProxyConfig) (n : ℕ) where
       in_fair (of_leg (leg_at ClientIn n) s.passage.put) (in_drew before) (leg_at ClientIn n)
       (echoes_alone config (leg_at ClientIn n) refl s.passage s.leads) front whole
 
-  module _ (k : ℕ) (events : List Event)
+  module _ (k : ℕ) (number : config.number ≡ k) (events : List Event)
       (law : Traced in_proxy.rules (in_state.first config) in_proxy.rooms (in_pipe config) events)
       (rightly : DrawsRightly in_proxy.rules (in_proxy.first_node config) (leg_at InServer k)
-      (leg_at ClientIn n) events) where
+      (leg_at ClientIn n) events)
+      (reasons : (some : List Event)
+      → MayRefuseOn (leg_at ClientIn config.number) (leg_at InServer config.number)
+      (after_events in_proxy.rules (in_proxy.first_node config) some).course) where
+    on_in : (some : List Event)
+        → MayRefuseOn (leg_at ClientIn k) (leg_at InServer k)
+        (after_events in_proxy.rules (in_proxy.first_node config) some).course
+    on_in some =
+        subst (λ (j : ℕ). MayRefuseOn (leg_at ClientIn j) (leg_at InServer j)
+        (after_events in_proxy.rules (in_proxy.first_node config) some).course) number
+        (reasons some)
+
+    -- the channel is the one of its own number
     pub in_lost_503 : DrewRefusal (in_drew events) 503
-        → IsAmong (Breaks (leg_at InServer k)) events
-    in_lost_503 =
+        → (n ≡ k) × IsUnreached (leg_at InServer k) events
+    in_lost_503 drew =
+        let own =
         lost_503 in_proxy.rules (in_state.first config) in_proxy.rooms (in_pipe config) events law
-        (leg_at InServer k) (leg_at ClientIn n) in_unfair rightly
+        (leg_at ClientIn k) (leg_at InServer k) (leg_at ClientIn n) on_in in_unfair rightly drew
+        in
+        (ap (λ (leg : Leg). leg.number) own.0, own.1)
 
     pub in_lost : ((moves : List Move)
         → AreAllowed in_proxy.rules (started (in_state.first config)) moves
@@ -174,7 +202,7 @@ module _ (config : InProxyConfig) (n : ℕ) where
         → RefusesInTurn in_proxy.rules (in_state.first config) (in_pipe config)
         (leg_at ClientIn n)
         → BeginsRefused (in_drew events) (leg_at ClientIn n) status
-        → (status ≡ 503) × IsAmong (Breaks (leg_at InServer k)) events
+        → (status ≡ 503) × (n ≡ k) × IsUnreached (leg_at InServer k) events
     in_lost unechoed client status range port honest refuses begun_so = by (s.refused leg refuses)
       where
         leg : Leg
@@ -194,7 +222,7 @@ module _ (config : InProxyConfig) (n : ℕ) where
         by : IsPrefix (in_drew events) (spelled (of_leg leg s.passage.put))
             ⊎ RefusalDrawn in_proxy.rules leg (of_leg leg s.passage.put) (heard_on leg events)
             (in_drew events)
-            → (status ≡ 503) × IsAmong (Breaks (leg_at InServer k)) events
+            → (status ≡ 503) × (n ≡ k) × IsUnreached (leg_at InServer k) events
         by (inl front) =
             absurd (none_refused leg status
             (refused_more (in_drew events) [] leg status
@@ -206,4 +234,14 @@ module _ (config : InProxyConfig) (n : ℕ) where
             (in_drew events) status r begun_so
             (λ t. in_taken client t.role leg t.text t.fault range port (honest t.text t.stands)
             t.refuses) in
-            (two.0, in_lost_503 two.1)
+            let own = in_lost_503 two.1 in
+            (two.0, own.0, own.1)
+
+-- so the proxy that reads the channel is the one of its number
+pub its_own : (n k : ℕ) (ins : ℕ → List Event)
+    → (n ≡ k) × IsUnreached (leg_at InServer k) (ins k)
+    → (k ≡ n) × IsUnreached (leg_at InServer n) (ins n)
+its_own n k ins own = (
+  sym own.0,
+  subst (λ (j : ℕ). IsUnreached (leg_at InServer j) (ins j)) (sym own.0) own.1,
+)

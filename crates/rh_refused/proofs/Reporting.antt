@@ -1,10 +1,12 @@
 -- a proxy that was told that its leg to the server broke was so by a line that reports it
-use Rattle.std.proofs.Common.{◌≡◌, ◌⊎◌, inl, inr, ℕ, List, [], ◌∷◌, ◌++◌, append_assoc, Bool, true, false, Some, None, refl, sym, ap, ◌∙◌, subst}
+use Rattle.std.proofs.Common.{◌≡◌, ◌⊎◌, inl, inr, ℕ, List, [], ◌∷◌, ◌++◌, append_assoc, Bool, ◌||◌, true, false, Some, None, refl, sym, ap, ◌∙◌, subst, ⊎_elim}
 use Rattle.std.specs.declared.option.Option.{Option}
 use Rattle.std.specs.Prelude.{if◌then◌else◌}
+use Rattle.std.proofs.lemmas.Bool.{true≢false}
 use Rattle.std.proofs.lemmas.List.{append-nil}
 use Rattle.rh_text.specs.declared.ends.Dir.{Dir}
 use Rattle.rh_text.specs.declared.ends.Dir.TheVariants.{U, D}
+use Rattle.rh_text.specs.declared.ends.Side.TheVariants as side
 use Rattle.rh_rts.specs.declared.command.Cookie.{Cookie}
 use Rattle.rh_line.specs.declared.cause.Cause.{Cause}
 use Rattle.rh_line.specs.declared.cause.Cause.TheVariants as cause
@@ -33,12 +35,17 @@ use Rattle.rh_nodes.specs.Steps.{step_line}
 use Rattle.rh_nodes.specs.Legs as legs
 use Rattle.rh_nodes.specs.Wires.{receiver, sender}
 use Rattle.rh_nodes.specs.World.{at, node_by}
+use Rattle.rh_history.specs.Carried.{IsTraced, LegsComeUpOnce, came_up}
 use Rattle.rh_history.specs.Changes.{Change, IsTold, IsFed, IsDrawn, GoesUp, RaisesAlone, OpensIn, OpensOut, OpensSame, Reports, AreAllowed, ByLines, Leads, all_changed, changed}
 use Rattle.rh_history.specs.Closes.{ClosesNode, HasClosed, IsOneOf, told_by}
 use Rattle.rh_history.specs.Histories.{History, all_noted, at_place, heard, in_place, made_by, noted, nothing, out_place, to_node, told_to}
+use Rattle.rh_history.proofs.Appended.{came_append}
 use Rattle.rh_history.proofs.Closed.{tell_closes}
 use Rattle.rh_history.proofs.Leading.{changed_append, leads_more}
 use Rattle.rh_history.proofs.Lines.{same_who}
+use Rattle.rh_history.proofs.Recordings.{traced_first}
+use Rattle.rh_history.proofs.Tracing.{cast_stays, change_is_traced}
+use Rattle.rh_history.proofs.Wired.{is_up_at}
 use Rattle.rh_history.proofs.Working.{works_by_lines, works_more, works_none, works_then}
 use Rattle.rh_world.specs.declared.any_world.AnyWorld.{AnyWorld}
 use Rattle.rh_world.specs.declared.any_world.AnyWorld.TheVariants.{Before, Direct, Settings, Roles}
@@ -50,8 +57,9 @@ use Rattle.rh_bounds.proofs.Reached.{IsRecorded, behind_lines}
 use Rattle.rh_closes.specs.Recordings.{IsLicensedAt, IsRefusedIn}
 use Rattle.rh_closes.specs.Shows.{AreShown, IsShown, ShownWorks, Shows}
 use Rattle.rh_closes.proofs.Going.{one_before}
-use Rattle.rh_traced.specs.Refusals.{IsAmong}
-use Rattle.rh_refused.specs.Reported.{ReportsLoss, TellsLoss}
+use Rattle.rh_fifo.proofs.Recorded.{new}
+use Rattle.rh_refused.specs.Refused.{IsUnreached}
+use Rattle.rh_refused.specs.Reported.{ReportsBreak}
 
 -- ---- what changes tell
 
@@ -84,12 +92,16 @@ shown_told answers w [] all = tt
 shown_told answers w (c ∷ cs) all =
     (all.0, shown_told answers (changed roles.rules roles.makers roles.deeds w c) cs all.1)
 
--- ---- where a proxy is told that its leg to the server broke, a line reports so
+-- ---- where a proxy is told that its leg to the server broke, it had that leg up, or a line
+-- reports the break
 
-abbrev ReportedAt : List Line → Who → Event → Type 0
-ReportedAt lines (who.Out n) (Breaks leg) = leg.kind ≡ OutServer → ReportsLoss lines leg
-ReportedAt lines (who.In n) (Breaks leg) = leg.kind ≡ InServer → ReportsLoss lines leg
-ReportedAt lines node event = Unit {0}
+abbrev Explained : List Line → roles.World → Leg → Type 0
+Explained lines w leg = (legs.is_up leg side.Client w.legs ≡ true) ⊎ ReportsBreak lines leg
+
+abbrev ReportedAt : List Line → roles.World → Who → Event → Type 0
+ReportedAt lines w (who.Out n) (Breaks leg) = leg.kind ≡ OutServer → Explained lines w leg
+ReportedAt lines w (who.In n) (Breaks leg) = leg.kind ≡ InServer → Explained lines w leg
+ReportedAt lines w node event = Unit {0}
 
 -- if a node is told something
 abbrev Tells : (Who → Event → Type 0) → roles.World → Option (Who × Event) → Type 0
@@ -97,7 +109,7 @@ Tells P w None = Unit {0}
 Tells P w (Some told) = P told.0 told.1
 
 abbrev Reported : List Line → roles.World → Option (Who × Event) → Type 0
-Reported lines = Tells (ReportedAt lines)
+Reported lines w = Tells (ReportedAt lines w) w
 
 -- a proxy puts towards the server there
 out_end : (reader number n : ℕ) (kind : LegKind) (dir : Dir) → kind ≡ OutServer
@@ -119,22 +131,30 @@ in_end reader number n OutServer dir is e = absurd cc
 module _ (some all : List Answer) (are_in : (x : Answer) → IsOneOf x some → IsOneOf x all)
     (w : roles.World) (leg : Leg) where
   loss_told : (node : Who) → ((dir : Dir) → at w leg (sender dir) ≡ node → dir ≡ U)
-      → Shows some w node (Breaks leg) → TellsLoss all leg
-  loss_told node up (inl broken) = inl (are_in (answer.BreakLeg leg true) broken)
+      → Shows some w node (Breaks leg)
+      → (legs.is_up leg side.Client w.legs ≡ true) ⊎ IsOneOf (answer.BreakLeg leg true) all
+  loss_told node up (inl broken) = inr (are_in (answer.BreakLeg leg true) broken)
   loss_told node up (inr lost) =
-      inr (subst (λ (dir : Dir). IsOneOf (answer.EndLeg leg dir true) all) (up lost.dir lost.puts)
-      (are_in (answer.EndLeg leg lost.dir true) lost.shown))
+      inl (subst (λ (dir : Dir). legs.is_up leg (sender dir) w.legs ≡ true)
+      (up lost.dir lost.puts) lost.up)
 
 module _ (some all : List Answer) (are_in : (x : Answer) → IsOneOf x some → IsOneOf x all)
-    (lines : List Line) (told : (leg : Leg) → TellsLoss all leg → ReportsLoss lines leg) where
+    (lines : List Line)
+    (told : (leg : Leg) → IsOneOf (answer.BreakLeg leg true) all → ReportsBreak lines leg) where
+  explained : (w : roles.World) (leg : Leg)
+      → (legs.is_up leg side.Client w.legs ≡ true) ⊎ IsOneOf (answer.BreakLeg leg true) all
+      → Explained lines w leg
+  explained w leg (inl up) = inl up
+  explained w leg (inr broken) = inr (told leg broken)
+
   node_reported : (w : roles.World) (node : Who) (event : Event) → Shows some w node event
-      → ReportedAt lines node event
+      → ReportedAt lines w node event
   node_reported w (who.Out n) (Breaks leg) shown = λ kind.
-      told leg
+      explained w leg
       (loss_told some all are_in w leg (who.Out n)
       (λ dir e. out_end (reader_of w.readers leg.number) leg.number n leg.kind dir kind e) shown)
   node_reported w (who.In n) (Breaks leg) shown = λ kind.
-      told leg
+      explained w leg
       (loss_told some all are_in w leg (who.In n)
       (λ dir e. in_end (reader_of w.readers leg.number) leg.number n leg.kind dir kind e) shown)
   node_reported w who.Client event shown = tt
@@ -153,8 +173,8 @@ module _ (some all : List Answer) (are_in : (x : Answer) → IsOneOf x some → 
 
 -- more lines
 module _ (lines more : List Line) where
-  loss_more : (leg : Leg) → ReportsLoss lines leg → ReportsLoss (lines ++ more) leg
-  loss_more leg r = record {
+  break_more : (leg : Leg) → ReportsBreak lines leg → ReportsBreak (lines ++ more) leg
+  break_more leg r = record {
     before = r.before;
     line = r.line;
     behind = r.behind ++ more;
@@ -163,23 +183,28 @@ module _ (lines more : List Line) where
     told = r.told;
   }
 
-  node_more : (node : Who) (event : Event) → ReportedAt lines node event
-      → ReportedAt (lines ++ more) node event
-  node_more (who.Out n) (Breaks leg) h = λ kind. loss_more leg (h kind)
-  node_more (who.In n) (Breaks leg) h = λ kind. loss_more leg (h kind)
-  node_more who.Client event h = tt
-  node_more who.Server event h = tt
-  node_more (who.Out n) (Comes leg piece) h = tt
-  node_more (who.Out n) (Ends leg) h = tt
-  node_more (who.Out n) (Passes now) h = tt
-  node_more (who.In n) (Comes leg piece) h = tt
-  node_more (who.In n) (Ends leg) h = tt
-  node_more (who.In n) (Passes now) h = tt
+  explained_more : (w : roles.World) (leg : Leg) → Explained lines w leg
+      → Explained (lines ++ more) w leg
+  explained_more w leg (inl up) = inl up
+  explained_more w leg (inr broken) = inr (break_more leg broken)
+
+  node_more : (w : roles.World) (node : Who) (event : Event) → ReportedAt lines w node event
+      → ReportedAt (lines ++ more) w node event
+  node_more w (who.Out n) (Breaks leg) h = λ kind. explained_more w leg (h kind)
+  node_more w (who.In n) (Breaks leg) h = λ kind. explained_more w leg (h kind)
+  node_more w who.Client event h = tt
+  node_more w who.Server event h = tt
+  node_more w (who.Out n) (Comes leg piece) h = tt
+  node_more w (who.Out n) (Ends leg) h = tt
+  node_more w (who.Out n) (Passes now) h = tt
+  node_more w (who.In n) (Comes leg piece) h = tt
+  node_more w (who.In n) (Ends leg) h = tt
+  node_more w (who.In n) (Passes now) h = tt
 
   reported_more : (w : roles.World) (o : Option (Who × Event)) → Reported lines w o
       → Reported (lines ++ more) w o
   reported_more w None h = tt
-  reported_more w (Some told) h = node_more told.0 told.1 h
+  reported_more w (Some told) h = node_more w told.0 told.1 h
 
 -- ---- along a recording
 
@@ -251,7 +276,7 @@ module _ (shown : (line : Line) (w : roles.World)
               behind = [];
               split = refl;
               told =
-                  subst (λ (x : List Answer). TellsLoss x leg) (sym answers) loss;
+                  subst (IsOneOf (answer.BreakLeg leg true)) (sym answers) loss;
             })) w more (shown_told did.1 w more works.shown)) (tt, tt)));
       }
 
@@ -387,78 +412,146 @@ module _ (P : Who → Event → Type 0) (node : Who) (leg : Leg) where
   place_broke (Here shell legs) w c h one = told_broke w c h one
   place_broke (Gone now) w c h one = absurd one
 
-module _ (P : Who → Event → Type 0) (n : ℕ) (leg : Leg) where
-  out_broke : (w : roles.World) (h : History) (cs : List Change) → AllTold (Tells P) w cs
-      → IsOneOf (moving.Breaks leg)
+-- one of the things in two lists is in the one or in the other
+split_cases : {X : Type 0} (x : X) (xs ys before behind : List X)
+    → xs ++ ys ≡ before ++ x ∷ behind
+    → ((rest : List X) × (xs ≡ before ++ x ∷ rest))
+    ⊎ ((front : List X) × (before ≡ xs ++ front) × (ys ≡ front ++ x ∷ behind))
+split_cases x [] ys before behind e = inr (before, refl, e)
+split_cases x (a ∷ xs) ys [] behind e =
+    let same : a ≡ x = cc in inl (xs, ap (λ h. h ∷ xs) same)
+split_cases {X} x (a ∷ xs) ys (b ∷ before) behind e = by (split_cases x xs ys before behind tails)
+  where
+    tails : xs ++ ys ≡ before ++ x ∷ behind
+    tails = cc
+
+    same : a ≡ b
+    same = cc
+
+    by : ((rest : List X) × (xs ≡ before ++ x ∷ rest))
+        ⊎ ((front : List X) × (before ≡ xs ++ front) × (ys ≡ front ++ x ∷ behind))
+        → ((rest : List X) × (a ∷ xs ≡ b ∷ (before ++ x ∷ rest)))
+        ⊎ ((front : List X) × (b ∷ before ≡ a ∷ (xs ++ front)) × (ys ≡ front ++ x ∷ behind))
+    by (inl h) = let is = h.1 in inl (h.0, cc)
+    by (inr h) = let is = h.1 in inr (h.0, cc, h.2)
+
+-- wherever the leg broke it had come up, or else there is such a line
+module _ (leg : Leg) (R : Type 0) where
+  abbrev IsFine : List moving.Event → Type 0
+  IsFine events =
+      (before behind : List moving.Event) → events ≡ before ++ moving.Breaks leg ∷ behind
+      → (came_up leg before ≡ true) ⊎ R
+
+  fine_none : IsFine []
+  fine_none [] behind e = absurd cc
+  fine_none (x ∷ before) behind e = absurd cc
+
+  fine_more : (events more : List moving.Event) → IsFine events
+      → (IsOneOf (moving.Breaks leg) more → (came_up leg events ≡ true) ⊎ R)
+      → IsFine (events ++ more)
+  fine_more events more fine new before behind e =
+      ⊎_elim (λ (old : (rest : List moving.Event)
+      × (events ≡ before ++ moving.Breaks leg ∷ rest)). fine before old.0 old.1)
+      (λ (now : (front : List moving.Event)
+      × (before ≡ events ++ front) × (more ≡ front ++ moving.Breaks leg ∷ behind)).
+      ⊎_elim (λ up. inl (ap (came_up leg) now.1 ∙ came_append leg events now.0
+      ∙ ap (λ (b : Bool). b || came_up leg now.0) up)) (λ r. inr r)
+      (new (among_one (moving.Breaks leg) more now.0 behind now.2)))
+      (split_cases (moving.Breaks leg) events more before behind e)
+
+abbrev Once : roles.World → WorldConfig → Type 0
+Once first cast = LegsComeUpOnce roles.rules roles.makers roles.deeds first.company cast
+
+abbrev Traces : roles.World → roles.World → History → Type 0
+Traces first w h = IsTraced roles.rules roles.makers roles.deeds first.company w h
+
+once_stays : (first w : roles.World) (h : History) → Traces first w h → Once first w.cast
+    → (c : Change) → Once first (changed roles.rules roles.makers roles.deeds w c).cast
+once_stays first w h t once c =
+    subst (Once first)
+    (sym (cast_stays roles.rules roles.makers roles.deeds first.company w h t once c)) once
+
+module _ (lines : List Line) (first : roles.World) (n : ℕ) where
+  out_known : (w : roles.World) (h : History) → Traces first w h
+      → ReportedAt lines w (who.Out n) (Breaks (leg_at OutServer n))
+      → (came_up (leg_at OutServer n) (h.outs n) ≡ true) ⊎ ReportsBreak lines (leg_at OutServer n)
+  out_known w h t told =
+      ⊎_elim (λ up. inl ((t.carried.each (leg_at OutServer n) U).put_up
+      (sym (is_up_at w.legs (leg_at OutServer n) side.Client) ∙ up))) (λ broken. inr broken)
+      (told refl)
+
+  out_fine : (w : roles.World) (h : History) (cs : List Change)
+      → AreAllowed roles.rules roles.makers roles.deeds w cs → Once first w.cast → Traces first w h
+      → AllTold (Reported lines) w cs
+      → IsFine (leg_at OutServer n) (ReportsBreak lines (leg_at OutServer n)) (h.outs n)
+      → IsFine (leg_at OutServer n) (ReportsBreak lines (leg_at OutServer n))
       ((all_noted roles.rules roles.makers roles.deeds w h cs).outs n)
-      → IsOneOf (moving.Breaks leg) (h.outs n) ⊎ P (who.Out n) (Breaks leg)
-  out_broke w h [] all one = inl one
-  out_broke w h (c ∷ cs) all one =
-      by (out_broke (changed roles.rules roles.makers roles.deeds w c) (noted w h c) cs all.1 one)
-    where
-      now : IsOneOf (moving.Breaks leg) (h.outs n)
-          ⊎ IsOneOf (moving.Breaks leg) (at_place (out_place w.company n)
-          (told_to w c (who.Out n)) (made_by w c (who.Out n)))
-          → IsOneOf (moving.Breaks leg) (h.outs n) ⊎ P (who.Out n) (Breaks leg)
-      now (inl before) = inl before
-      now (inr here) =
-          inr (place_broke P (who.Out n) leg (out_place w.company n) w c all.0 here)
+  out_fine w h [] allowed once t all fine = fine
+  out_fine w h (c ∷ cs) allowed once t all fine =
+      out_fine (changed roles.rules roles.makers roles.deeds w c) (noted w h c) cs allowed.1
+      (once_stays first w h t once c)
+      (change_is_traced roles.rules roles.makers roles.deeds first.company w h t once c allowed.0)
+      all.1
+      (fine_more (leg_at OutServer n) (ReportsBreak lines (leg_at OutServer n)) (h.outs n)
+      (at_place (out_place w.company n) (told_to w c (who.Out n)) (made_by w c (who.Out n))) fine
+      (λ one. out_known w h t
+      (place_broke (ReportedAt lines w) (who.Out n) (leg_at OutServer n) (out_place w.company n) w c
+      all.0 one)))
 
-      by : IsOneOf (moving.Breaks leg) ((noted w h c).outs n) ⊎ P (who.Out n) (Breaks leg)
-          → IsOneOf (moving.Breaks leg) (h.outs n) ⊎ P (who.Out n) (Breaks leg)
-      by (inr later) = inr later
-      by (inl one) = now (one_split (moving.Breaks leg) (h.outs n) _ one)
+  in_known : (w : roles.World) (h : History) → Traces first w h
+      → ReportedAt lines w (who.In n) (Breaks (leg_at InServer n))
+      → (came_up (leg_at InServer n) (h.ins n) ≡ true) ⊎ ReportsBreak lines (leg_at InServer n)
+  in_known w h t told =
+      ⊎_elim (λ up. inl ((t.carried.each (leg_at InServer n) U).put_up
+      (sym (is_up_at w.legs (leg_at InServer n) side.Client) ∙ up))) (λ broken. inr broken)
+      (told refl)
 
-  in_broke : (w : roles.World) (h : History) (cs : List Change) → AllTold (Tells P) w cs
-      → IsOneOf (moving.Breaks leg)
+  in_fine : (w : roles.World) (h : History) (cs : List Change)
+      → AreAllowed roles.rules roles.makers roles.deeds w cs → Once first w.cast → Traces first w h
+      → AllTold (Reported lines) w cs
+      → IsFine (leg_at InServer n) (ReportsBreak lines (leg_at InServer n)) (h.ins n)
+      → IsFine (leg_at InServer n) (ReportsBreak lines (leg_at InServer n))
       ((all_noted roles.rules roles.makers roles.deeds w h cs).ins n)
-      → IsOneOf (moving.Breaks leg) (h.ins n) ⊎ P (who.In n) (Breaks leg)
-  in_broke w h [] all one = inl one
-  in_broke w h (c ∷ cs) all one =
-      by (in_broke (changed roles.rules roles.makers roles.deeds w c) (noted w h c) cs all.1 one)
-    where
-      now : IsOneOf (moving.Breaks leg) (h.ins n)
-          ⊎ IsOneOf (moving.Breaks leg) (at_place (in_place w.company n)
-          (told_to w c (who.In n)) (made_by w c (who.In n)))
-          → IsOneOf (moving.Breaks leg) (h.ins n) ⊎ P (who.In n) (Breaks leg)
-      now (inl before) = inl before
-      now (inr here) =
-          inr (place_broke P (who.In n) leg (in_place w.company n) w c all.0 here)
+  in_fine w h [] allowed once t all fine = fine
+  in_fine w h (c ∷ cs) allowed once t all fine =
+      in_fine (changed roles.rules roles.makers roles.deeds w c) (noted w h c) cs allowed.1
+      (once_stays first w h t once c)
+      (change_is_traced roles.rules roles.makers roles.deeds first.company w h t once c allowed.0)
+      all.1
+      (fine_more (leg_at InServer n) (ReportsBreak lines (leg_at InServer n)) (h.ins n)
+      (at_place (in_place w.company n) (told_to w c (who.In n)) (made_by w c (who.In n))) fine
+      (λ one. in_known w h t
+      (place_broke (ReportedAt lines w) (who.In n) (leg_at InServer n) (in_place w.company n) w c
+      all.0 one)))
 
-      by : IsOneOf (moving.Breaks leg) ((noted w h c).ins n) ⊎ P (who.In n) (Breaks leg)
-          → IsOneOf (moving.Breaks leg) (h.ins n) ⊎ P (who.In n) (Breaks leg)
-      by (inr later) = inr later
-      by (inl one) = now (one_split (moving.Breaks leg) (h.ins n) _ one)
-
-module _ (lines : List Line) (w : roles.World) (is : IsReported w lines) where
+module _ (lines : List Line) (w : roles.World) (is : IsReported w lines)
+    (once : Once (roles.begun is.config) is.config) where
   abbrev past : History
   past =
       all_noted roles.rules roles.makers roles.deeds (roles.begun is.config) nothing
       is.run.leads.changes
 
-  pub out_loss : (n : ℕ) (leg : Leg) → leg.kind ≡ OutServer
-      → IsAmong (moving.Breaks leg) (past.outs n) → ReportsLoss lines leg
-  out_loss n leg kind among =
-      by (out_broke (ReportedAt lines) n leg (roles.begun is.config) nothing
-      is.run.leads.changes is.told
-      (among_one (moving.Breaks leg) (past.outs n) among.before among.behind among.split))
-    where
-      by : IsOneOf (moving.Breaks leg) [] ⊎ ReportedAt lines (who.Out n) (Breaks leg)
-          → ReportsLoss lines leg
-      by (inl none) = absurd none
-      by (inr told) = told kind
+  begun_traced : Traces (roles.begun is.config) (roles.begun is.config) nothing
+  begun_traced =
+      traced_first roles.rules roles.makers roles.deeds (roles.begun is.config) (new is.config)
 
-  pub in_loss : (n : ℕ) (leg : Leg) → leg.kind ≡ InServer
-      → IsAmong (moving.Breaks leg) (past.ins n) → ReportsLoss lines leg
-  in_loss n leg kind among =
-      by (in_broke (ReportedAt lines) n leg (roles.begun is.config) nothing
-      is.run.leads.changes is.told
-      (among_one (moving.Breaks leg) (past.ins n) among.before among.behind among.split))
-    where
-      by : IsOneOf (moving.Breaks leg) [] ⊎ ReportedAt lines (who.In n) (Breaks leg)
-          → ReportsLoss lines leg
-      by (inl none) = absurd none
-      by (inr told) = told kind
+  pub out_loss : (n : ℕ) → IsUnreached (leg_at OutServer n) (past.outs n)
+      → ReportsBreak lines (leg_at OutServer n)
+  out_loss n lost =
+      ⊎_elim (λ up. absurd (true≢false (sym up ∙ lost.never))) (λ broken. broken)
+      (out_fine lines (roles.begun is.config) n (roles.begun is.config) nothing
+      is.run.leads.changes is.run.leads.allowed once begun_traced is.told
+      (fine_none (leg_at OutServer n) (ReportsBreak lines (leg_at OutServer n))) lost.before
+      lost.behind lost.split)
+
+  pub in_loss : (n : ℕ) → IsUnreached (leg_at InServer n) (past.ins n)
+      → ReportsBreak lines (leg_at InServer n)
+  in_loss n lost =
+      ⊎_elim (λ up. absurd (true≢false (sym up ∙ lost.never))) (λ broken. broken)
+      (in_fine lines (roles.begun is.config) n (roles.begun is.config) nothing
+      is.run.leads.changes is.run.leads.allowed once begun_traced is.told
+      (fine_none (leg_at InServer n) (ReportsBreak lines (leg_at InServer n))) lost.before
+      lost.behind lost.split)
 
 -- ---- a client that a line closed is closed behind the line
 

@@ -1,6 +1,6 @@
 -- a proxy that drew the refusal of status 503 was told that its server is lost, if it did not draw
 -- all of that while it went on
-use Rattle.std.proofs.Common.{◌≡◌, ℕ, inl, inr, List, [], ◌∷◌, ◌++◌, Bool, true, false, ◌||◌, Some, Ok, length, drop, get_or, arith, refl, sym, ap, ◌∙◌, subst}
+use Rattle.std.proofs.Common.{◌≡◌, ℕ, inl, inr, List, [], ◌∷◌, ◌++◌, Bool, true, false, ◌||◌, Some, Ok, length, drop, get_or, arith, refl, sym, ap, ◌∙◌, subst, ⊎_elim}
 use Rattle.std.specs.Prelude.{◌==◌}
 use Rattle.std.specs.List.{AllByRecursion, list_any}
 use Rattle.std.proofs.lemmas.List.{append-nil}
@@ -24,17 +24,21 @@ use Rattle.rh_outproxy.specs.declared.state.OutProxyConfig.{OutProxyConfig}
 use Rattle.rh_outproxy.specs.Legible.{IsConfig}
 use Rattle.rh_reading.specs.Reading.{Begins}
 use Rattle.rh_line.specs.declared.leg.Leg.{Leg}
-use Rattle.rh_shell.specs.declared.course.Course.TheVariants.{Going}
-use Rattle.rh_shell.specs.Moving.{Event, Breaks, after_events}
+use Rattle.rh_shell.specs.declared.course.Course.TheVariants.{Going, Refusing}
+use Rattle.rh_shell.specs.Moving.{Event, after_event, after_events}
 use Rattle.rh_shell.specs.Shells.{Shell}
-use Rattle.rh_history.specs.Carried.{drawn_on}
-use Rattle.rh_traced.specs.Refusals.{DrawsRightly, IsAmong}
-use Rattle.rh_refused.specs.Refused.{BeginsRefused, DrewRefusal}
+use Rattle.rh_history.specs.Carried.{AreAccepted, ComesUpOnce, drawn_on}
+use Rattle.rh_history.proofs.Runs.{events_append}
+use Rattle.rh_causes.specs.Refusals.{MayRefuseOn}
+use Rattle.rh_traced.specs.Refusals.{DrawsRefusal, DrawsRightly}
+use Rattle.rh_refused.specs.Refused.{BeginsRefused, DrewRefusal, IsUnreached}
 use Rattle.rh_refused.proofs.Drawn.{refused_more}
+use Rattle.rh_refused.proofs.Fronts.{accepted_front}
 use Rattle.rh_refused.proofs.InRefusals.{echo_success}
 use Rattle.rh_refused.proofs.InTexts.{IsEcho}
 use Rattle.rh_refused.proofs.OutRefusals.{put_none}
 use Rattle.rh_refused.proofs.OutTexts.{Succeeds}
+use Rattle.rh_refused.proofs.Unreached.{never_up}
 
 unavailable_by : (r : Refusal) → status_of r ≡ 503 → r ≡ Unavailable
 unavailable_by Unavailable e = refl
@@ -82,28 +86,59 @@ split_text (x ∷ xs) (b ∷ bs) r fair all front =
     absurd (no_second x xs bs
     (ap (λ (c : ℕ). (x ∷ xs) ++ c ∷ bs) (sym (first_byte r b bs front)) ∙ all))
 
-module _ {S : Type 0} (rules : Rules S) (first : Shell S) (server leg : Leg) (events : List Event)
+-- and it drew that on its client's leg
+module _ {S : Type 0} (rules : Rules S) (first : Shell S) (client server leg : Leg)
+    (events : List Event)
+    (once : ComesUpOnce rules first) (accepted : AreAccepted rules first events)
+    (on : (some : List Event) → MayRefuseOn client server (after_events rules first some).course)
     (fair : (before behind : List Event) → events ≡ before ++ behind
     → (after_events rules first before).course ≡ Going
     → drawn_on rules first leg before ≡ refusal_text Unavailable → ⊥) where
+  own_leg : (draws : DrawsRefusal rules first leg events) → draws.refusal ≡ Unavailable
+      → leg ≡ client
+  own_leg draws long =
+      let lost = draws.unreached long in
+      let after : (after_events rules first (draws.before ++ draws.event ∷ [])).course
+      ≡ Refusing draws.why leg (refusal_text draws.refusal) =
+      ap (λ (s : Shell S). s.course)
+      (events_append rules first draws.before (draws.event ∷ [])) ∙ draws.refuses in
+      ⊎_elim (λ request. absurd (let never = sym request.request.cause ∙ lost.2 in cc))
+      (λ tells. tells.told)
+      (subst (MayRefuseOn client server) after (on (draws.before ++ draws.event ∷ [])))
+
   told_lost : DrawsRightly rules first server leg events
-      → drawn_on rules first leg events ≡ refusal_text Unavailable → IsAmong (Breaks server) events
+      → drawn_on rules first leg events ≡ refusal_text Unavailable
+      → (leg ≡ client) × IsUnreached server events
   told_lost (inl going) whole =
       absurd (fair going.before going.behind going.split going.going (sym going.drawn ∙ whole))
   told_lost (inr refuses) whole =
       let draws = refuses.0 in
-      let is : draws.event ≡ Breaks server =
-      refuses.1 (split_text (drawn_on rules first leg draws.before) draws.rest draws.refusal
+      let long =
+      split_text (drawn_on rules first leg draws.before) draws.rest draws.refusal
       (fair draws.before (draws.event ∷ draws.behind) draws.split draws.going)
-      (sym draws.drawn ∙ whole) draws.front) in
-      record {
-        before = draws.before;
-        behind = draws.behind;
-        split = draws.split ∙ ap (λ (e : Event). draws.before ++ e ∷ draws.behind) is;
-      }
+      (sym draws.drawn ∙ whole) draws.front in (
+        own_leg draws long,
+        record {
+          before = draws.before;
+          behind = draws.behind;
+          split =
+              draws.split
+              ∙ ap (λ (e : Event). draws.before ++ e ∷ draws.behind) (refuses.1 long);
+          never =
+              never_up rules first once draws.before server
+              (accepted_front rules first draws.before (draws.event ∷ draws.behind)
+              (subst (AreAccepted rules first) draws.split accepted)) draws.going draws.why leg
+              (refusal_text draws.refusal)
+              (subst (λ (e : Event).
+              (after_event rules (after_events rules first draws.before) e).course
+              ≡ Refusing draws.why leg (refusal_text draws.refusal)) (refuses.1 long)
+              draws.refuses);
+        },
+      )
 
   pub told_503 : DrawsRightly rules first server leg events
-      → DrewRefusal (drawn_on rules first leg events) 503 → IsAmong (Breaks server) events
+      → DrewRefusal (drawn_on rules first leg events) 503
+      → (leg ≡ client) × IsUnreached server events
   told_503 rightly drew =
       told_lost rightly (drew.drew ∙ ap refusal_text (unavailable_by drew.refusal drew.named))
 

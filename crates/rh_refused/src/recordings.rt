@@ -8,7 +8,6 @@ ghost use Rattle.rh_line.specs.declared.leg.LegKind.TheVariants.{ClientIn, Clien
 ghost use Rattle.rh_line.specs.declared.leg.LegKind.TheVariants.{InServer, OutServer};
 ghost use Rattle.rh_record.specs.declared.answer.Who.TheVariants as who;
 ghost use Rattle.rh_shell.specs.Laws.{ClosedWith};
-ghost use Rattle.rh_shell.specs.Moving.{Breaks};
 ghost use Rattle.rh_shell.specs.Shells.{begun};
 ghost use Rattle.rh_nodes.specs.Opening.{Makers};
 ghost use Rattle.rh_nodes.specs.Readers.{reader_of};
@@ -26,13 +25,13 @@ ghost use Rattle.rh_history.specs.Changes.{Leads};
 ghost use Rattle.rh_traced.specs.Cookies.{ByChanges};
 ghost use Rattle.rh_history.specs.Histories.{IsNew, all_noted, nothing};
 ghost use Rattle.rh_traced.specs.Ours.{AreOurs, deeds, rules};
-ghost use Rattle.rh_traced.specs.Refusals.{IsAmong};
 ghost use Rattle.rh_ordered.specs.Premises.{history_at};
 ghost use Rattle.rh_fifo.specs.Flows.{numbers_of};
 ghost use Rattle.rh_fifo.specs.Premises.{AreInRange};
-ghost use Rattle.rh_refused.specs.Refused.{BeginsRefused, DrewRefusal, IsPort};
+ghost use Rattle.rh_refused.specs.Refused.{BeginsRefused, DrewRefusal, IsPort, IsUnreached};
 
 use crate::clients::what_a_client_holds_of_a_head;
+use rh_causes::a_proxy_refuses_for_a_reason;
 use rh_client::ClientRole;
 use rh_ends_begin::{a_client_asks_by_its_requests, a_client_begins_with_a_request};
 use rh_fifo::directions_are_joined;
@@ -117,8 +116,8 @@ pub fn a_refused_in_channel_was_refused_by_its_proxy<K>()
 
 /// In each world of new roles whose numbers are in their ranges, at every moment that changes of
 /// lines and half steps reach: where the client is closed with `HttpRefused` of a channel and
-/// status 503, the proxy that reads that channel was told that its leg to the server, which has its
-/// own number, broke.
+/// status 503, the proxy that reads that channel is the one of its number, and was told that its
+/// leg to the server broke, which has that number too and had never come up there.
 pub fn a_client_refused_with_503_lost_its_server<K>()
     ensures out_channel { (m : Makers K InProxy OutProxy)
         (w : World K ClientRole Server InProxy OutProxy) → IsNew w
@@ -126,15 +125,15 @@ pub fn a_client_refused_with_503_lost_its_server<K>()
         → (v : World K ClientRole Server InProxy OutProxy) (by : ByChanges rules m deeds w v)
         (n : ℕ)
         → ClosedWith (cause.HttpRefused (leg_at ClientOut n) 503) v.company.client.course
-        → IsAmong (Breaks (leg_at OutServer n)) ((history_at m w v by.leads).outs n) }
+        → IsUnreached (leg_at OutServer n) ((history_at m w v by.leads).outs n) }
     ensures in_channel { (m : Makers K InProxy OutProxy)
         (w : World K ClientRole Server InProxy OutProxy) → IsNew w
         → (ours : AreOurs m w.company w.cast) → AreInRange (numbers_of ours)
         → (v : World K ClientRole Server InProxy OutProxy) (by : ByChanges rules m deeds w v)
         (n : ℕ)
         → ClosedWith (cause.HttpRefused (leg_at ClientIn n) 503) v.company.client.course
-        → (let reader = reader_of v.readers n in
-        IsAmong (Breaks (leg_at InServer reader)) ((history_at m w v by.leads).ins reader)) }
+        → (reader_of v.readers n ≡ n)
+        × IsUnreached (leg_at InServer n) ((history_at m w v by.leads).ins n) }
 {
     a_refused_out_channel_was_refused_by_its_proxy::<K>();
     a_refused_in_channel_was_refused_by_its_proxy::<K>();
@@ -147,11 +146,13 @@ pub fn a_client_refused_with_503_lost_its_server<K>()
     a_leg_that_an_in_proxy_left_stays_unused();
     a_leg_that_an_out_proxy_left_stays_unused();
     an_out_proxy_begins();
+    a_proxy_refuses_for_a_reason();
 }
 
 /// And where the port of the client's server is one, a client is closed with `HttpRefused` for no
-/// other reason: each status is 503, and the proxy that reads the channel lost its server. Proxies
-/// refuse no request of such a client, and take none for that of an echo.
+/// other reason: each status is 503, and the proxy that reads the channel, which is the one of its
+/// number, was told that its leg to the server broke, which had never come up there. Proxies refuse
+/// no request of such a client, and take none for that of an echo.
 pub fn a_refused_client_lost_its_server<K>()
     ensures out_channel { (m : Makers K InProxy OutProxy)
         (w : World K ClientRole Server InProxy OutProxy) → IsNew w
@@ -161,7 +162,7 @@ pub fn a_refused_client_lost_its_server<K>()
         (n status : ℕ)
         → ClosedWith (cause.HttpRefused (leg_at ClientOut n) status) v.company.client.course
         → (status ≡ 503)
-        × IsAmong (Breaks (leg_at OutServer n)) ((history_at m w v by.leads).outs n) }
+        × IsUnreached (leg_at OutServer n) ((history_at m w v by.leads).outs n) }
     ensures in_channel { (m : Makers K InProxy OutProxy)
         (w : World K ClientRole Server InProxy OutProxy) → IsNew w
         → (ours : AreOurs m w.company w.cast) → AreInRange (numbers_of ours)
@@ -169,9 +170,8 @@ pub fn a_refused_client_lost_its_server<K>()
         → (v : World K ClientRole Server InProxy OutProxy) (by : ByChanges rules m deeds w v)
         (n status : ℕ)
         → ClosedWith (cause.HttpRefused (leg_at ClientIn n) status) v.company.client.course
-        → (let reader = reader_of v.readers n in
-        (status ≡ 503)
-        × IsAmong (Breaks (leg_at InServer reader)) ((history_at m w v by.leads).ins reader)) }
+        → (status ≡ 503) × (reader_of v.readers n ≡ n)
+        × IsUnreached (leg_at InServer n) ((history_at m w v by.leads).ins n) }
 {
     a_refused_client_heard_what_was_drawn::<K>();
     directions_are_joined::<K>();
@@ -185,6 +185,7 @@ pub fn a_refused_client_lost_its_server<K>()
     a_leg_that_an_in_proxy_left_stays_unused();
     a_leg_that_an_out_proxy_left_stays_unused();
     an_out_proxy_begins();
+    a_proxy_refuses_for_a_reason();
     an_out_proxy_refuses_first();
     an_in_proxy_refuses_first();
     an_in_proxy_answers_echoes_alone();

@@ -15,4 +15,3 @@ pub use config::WorldConfig;
 pub use roles::Roles;
 pub use roles_world::RolesWorld;
 pub use world::World;
-

@@ -19,7 +19,7 @@ returns c = λ lines. record {
     silent = c.a_node_of_a_recording_falls_silent.ensures before line;
   };
   ways = λ before behind is. c.every_recording_keeps_what_is_on_its_way.ensures before;
-  losses = λ before behind line is. record {
+  refusals = λ before behind line is. record {
     out_channel = c.a_refused_client_of_a_recording_lost_its_server.ensures.out_channel before line;
     in_channel = c.a_refused_client_of_a_recording_lost_its_server.ensures.in_channel before line;
   };

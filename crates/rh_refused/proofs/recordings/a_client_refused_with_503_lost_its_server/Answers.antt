@@ -10,7 +10,7 @@ use Rattle.rh_outproxy.specs.OutProxy.{OutProxy}
 use Rattle.rh_traced.specs.Refusals.{DrawsRightly}
 use Rattle.rh_ordered.specs.Premises.{history_at}
 use Rattle.rh_refused.specs.Refused.{DrewRefusal}
-use Rattle.rh_refused.proofs.Losses.{in_lost_503, out_lost_503}
+use Rattle.rh_refused.proofs.Losses.{in_lost_503, its_own, out_lost_503}
 use Rattle.rh_refused.proofs.Moments.{ProxyLaws, in_traced, out_traced}
 use Rattle.rh_refused.proofs.recordings.a_client_refused_with_503_lost_its_server.Goals as goal
 
@@ -42,17 +42,21 @@ returns g c =
           DrawsRightly out_proxy.rules s (leg_at OutServer n) (leg_at ClientOut n) events)
           (ours.outs n)
           (rightly.out_proxy m w.company w.cast ours n (leg_at ClientOut n) events))
+          (c.a_proxy_refuses_for_a_reason.ensures.out_proxy (ours.out_config n))
           (c.a_refused_out_channel_was_refused_by_its_proxy.ensures m w new ours ranges v by n
           503 h);
       in_channel = λ m w new ours ranges v by n h.
           let k = reader_of v.readers n in
-          let events = (history_at m w v by.leads).ins k in
-          in_lost_503 (ours.in_config k) n k events (in_traced law m w new ours v by k)
+          let ins = (history_at m w v by.leads).ins in
+          its_own n k ins
+          (in_lost_503 (ours.in_config k) n k (ours.in_number k) (ins k)
+          (in_traced law m w new ours v by k)
           (subst (λ (s : Shell InProxy).
-          DrawsRightly in_proxy.rules s (leg_at InServer k) (leg_at ClientIn n) events)
+          DrawsRightly in_proxy.rules s (leg_at InServer k) (leg_at ClientIn n) (ins k))
           (ours.ins k)
-          (rightly.in_proxy m w.company w.cast ours k (leg_at ClientIn n) events))
+          (rightly.in_proxy m w.company w.cast ours k (leg_at ClientIn n) (ins k)))
+          (c.a_proxy_refuses_for_a_reason.ensures.in_proxy (ours.in_config k))
           (no_success _ 503 refl
           (c.a_refused_in_channel_was_refused_by_its_proxy.ensures m w new ours ranges v by n
-          503 h));
+          503 h)));
     }

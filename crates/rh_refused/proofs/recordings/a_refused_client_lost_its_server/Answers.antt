@@ -21,7 +21,7 @@ use Rattle.rh_traced.specs.Ours.{deeds, rules}
 use Rattle.rh_traced.specs.Refusals.{DrawsRightly}
 use Rattle.rh_ordered.specs.Premises.{history_at}
 use Rattle.rh_refused.specs.Refused.{BeginsRefused}
-use Rattle.rh_refused.proofs.Losses.{in_lost, out_lost, whole_requests}
+use Rattle.rh_refused.proofs.Losses.{in_lost, its_own, out_lost, whole_requests}
 use Rattle.rh_refused.proofs.Moments.{ProxyLaws, in_begun, in_node, in_traced, out_begun, out_node, out_traced}
 use Rattle.rh_refused.proofs.Requests.{head_asked}
 use Rattle.rh_refused.proofs.recordings.a_refused_client_lost_its_server.Goals as goal
@@ -64,6 +64,7 @@ returns g c =
           (subst (λ (s : Shell OutProxy).
           DrawsRightly out_proxy.rules s (leg_at OutServer n) leg events) (ours.outs n)
           (rightly.out_proxy m w.company w.cast ours n leg events))
+          (c.a_proxy_refuses_for_a_reason.ensures.out_proxy config)
           ours.config status port
           (λ text head.
           head_asked ours.config ClientOut put (heard_on leg events) text
@@ -88,10 +89,12 @@ returns g c =
           let put = spelled (of_leg leg stream.passage.passage.put) in
           let drew =
           end_drawn_on client.rules client.acts (client.first_client ours.config) leg here.client in
-          in_lost config n k events (in_traced law m w new ours v by k)
+          let two =
+          in_lost config n k (ours.in_number k) events (in_traced law m w new ours v by k)
           (subst (λ (s : Shell InProxy).
           DrawsRightly in_proxy.rules s (leg_at InServer k) leg events) (ours.ins k)
           (rightly.in_proxy m w.company w.cast ours k leg events))
+          (c.a_proxy_refuses_for_a_reason.ensures.in_proxy config)
           (λ moves. c.an_in_proxy_answers_echoes_alone.ensures config moves n)
           ours.config status ranges.client port
           (λ text head.
@@ -103,5 +106,7 @@ returns g c =
           (subst (λ (s : Shell InProxy). BeginsRefused (drawn_on in_proxy.rules s leg events) leg
           status) (in_node law m w new ours v by k)
           (c.a_refused_client_heard_what_was_drawn.ensures.in_leg m w v new ours by.leads n
-          status h));
+          status h)) in
+          let own = its_own n k here.ins (two.1, two.2) in
+          (two.0, own.0, own.1);
     }

@@ -1,7 +1,6 @@
-use Rattle.std.proofs.Common.{[], ◌∷◌, ◌++◌, arith, refl}
-use Rattle.rh_line.specs.declared.leg.LegKind.TheVariants.{ClientIn, ClientOut, InServer, OutServer}
+use Rattle.std.proofs.Common.{[], ◌∷◌, ◌++◌, arith}
+use Rattle.rh_line.specs.declared.leg.LegKind.TheVariants.{ClientIn, ClientOut}
 use Rattle.rh_nodes.specs.Cookies.{cookie_of}
-use Rattle.rh_nodes.specs.Readers.{reader_of}
 use Rattle.rh_nodes.specs.Settling.{leg_at}
 use Rattle.rh_world.specs.declared.config.WorldConfig.{WorldConfig}
 use Rattle.rh_world.specs.Roles as roles
@@ -21,6 +20,9 @@ returns c =
     let ever = c.a_node_closes_once.ensures.ever roles.rules roles.makers roles.deeds in
     let refused = c.only_a_client_of_a_recording_is_refused.ensures in
     let lost = c.a_refused_client_lost_its_server.ensures in
+    let once = λ (config : WorldConfig).
+    c.legs_of_roles_come_up_once.ensures roles.makers (roles.begun config).company config
+    (ours config) in
     record {
       out_channel = λ before line node n status h.
           concluded shown ever _ before line node (leg_at ClientOut n) status
@@ -30,18 +32,14 @@ returns c =
           (ours rep.config) (in_range rep.config rep.ranges) (port rep.config) v
           (lines_by_changes roles.rules roles.makers roles.deeds (roles.begun rep.config) v rep.run)
           n status closed in
-          (two.0, out_loss (before ++ line ∷ []) v rep n (leg_at OutServer n) refl two.1));
+          (two.0, out_loss (before ++ line ∷ []) v rep (once rep.config) n two.1));
       in_channel = λ before line node n status h.
           concluded shown ever _ before line node (leg_at ClientIn n) status
           (refused before line node (leg_at ClientIn n) status h)
           (λ v rep closed.
-          let k = reader_of v.readers n in
           let two = lost.in_channel roles.makers (roles.begun rep.config) (new rep.config)
           (ours rep.config) (in_range rep.config rep.ranges) (port rep.config) v
           (lines_by_changes roles.rules roles.makers roles.deeds (roles.begun rep.config) v rep.run)
-          n status closed in (
-            two.0,
-            k,
-            in_loss (before ++ line ∷ []) v rep k (leg_at InServer k) refl two.1,
-          ));
+          n status closed in
+          (two.0, in_loss (before ++ line ∷ []) v rep (once rep.config) n two.2));
     }
