@@ -55,7 +55,7 @@ returns g c = λ m w new ours ranges v lines.
     let known : Known g.row.K.Denot = record {
       known = c.a_recording_of_roles_is_known.ensures.changes;
       once = λ m w. c.legs_of_roles_come_up_once.ensures m w.company w.cast;
-      order = λ m. c.lines_come_up_in_order.ensures rules m deeds;
+      order = λ m. c.channels_come_up_in_order.ensures.changes rules m deeds;
       drew = λ m w v h. c.what_is_heard_was_drawn.ensures rules m deeds w.company v h;
     } in
     flowing reads streaming begins legal tracing known m w new ours ranges v lines
