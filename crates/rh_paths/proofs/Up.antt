@@ -59,8 +59,7 @@ module _ {K : Type 0} (law : AllRead) (m : Makers K InProxy OutProxy)
     (are : AreRead v.readers (is_made v.company))
     (g : GoesUp ours.config ours.window ours.in_config h.client h.server h.ins
     (is_made v.company) (reader_of v.readers))
-    (starts : AreBegun ours.config ours.in_config g.giver.leads.moves g.giver.passage
-    (λ n. (g.proxies n).passage)) where
+    (starts : AreBegun g.giver.passage (λ n. (g.proxies n).passage)) where
   abbrev route : Route
   route = up_route (reader_of v.readers) g.giver.passage (λ n. (g.proxies n).passage)
       g.taker.leads.moves g.taker.passage

@@ -23,7 +23,7 @@ ghost use Rattle.rh_paths.specs.Ways.{AreInUseDown, AreInUseUp, AreOnTheirWay, d
 
 use rh_client::a_client_gives_in_order;
 use rh_down::what_goes_down_is_a_route;
-use rh_ends_begin::{a_client_begins_with_a_request, a_client_writes_on_a_leg_that_came_up};
+use rh_ends_begin::a_client_begins_with_a_request;
 use rh_fifo::directions_are_joined;
 use rh_inproxy::{InProxyRole, an_in_proxy_keeps_order};
 use rh_order::{nothing_is_lost, nothing_stands_behind_a_mark, what_can_be_taken_was_given};
@@ -57,7 +57,6 @@ pub fn nothing_on_its_way_is_lost<K>()
     an_in_proxy_keeps_order();
     a_server_takes_in_order();
     a_client_begins_with_a_request();
-    a_client_writes_on_a_leg_that_came_up();
     an_in_proxy_begins();
     an_in_proxy_refuses_first();
     what_refuses_first_refuses_in_turn::<InProxyRole>();
