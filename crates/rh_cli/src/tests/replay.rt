@@ -328,7 +328,7 @@ fn a_settling_in_a_small_room_leaves_a_front_of_its_report(rt: HostRuntime) -> R
         (1, 0),
         (PIECE, 0),
         (3 * PIECE, PIECE),
-        (all - 1, all / 2),
+        (all.saturating_sub(1), all / 2),
     ] {
         let words = vec![in rt.alloc(); String::from_str(rt.alloc(), "replay")?]?;
         let bytes = text.as_bytes().to_vec(rt.alloc())?;
