@@ -1,13 +1,14 @@
 -- what an in proxy puts on the legs of its clients is the answer to an echo request, a response of
 -- success
-use Rattle.std.proofs.Common.{◌≡◌, ℕ, ◌==◌, List, [], ◌∷◌, ◌++◌, Bool, true, false, Some, None, Ok, Err, refl, sym, ap, ◌∙◌}
+use Rattle.std.proofs.Common.{◌≡◌, ℕ, ◌==◌, List, [], ◌∷◌, ◌++◌, append_assoc, Bool, true, false, Some, None, Ok, Err, refl, sym, ap, ◌∙◌}
 use Rattle.std.specs.Prelude.{if◌then◌else◌}
 use Rattle.std.specs.List.{AllByRecursion}
 use Rattle.std.specs.Fmt.{digits}
 use Rattle.rh_http.specs.Texts.{response_text}
 use Rattle.rh_order.proofs.ByNumber.{by_test}
 use Rattle.rh_line.specs.declared.leg.Leg.{Leg}
-use Rattle.rh_shell.specs.Rules.{Message, Row, Text, Pdu, Packet}
+use Rattle.rh_shell.specs.Carrying.{spelled}
+use Rattle.rh_shell.specs.Rules.{Message, Row, Text, Pdu, Packet, spell}
 use Rattle.rh_shell.specs.Moves.{Move, Up, HeadCame, PduCame, PacketCame, Puts, IsDrawn, Marks, Pings, OnLeg, Passage, started, moved, MayMove, put_by, taken_by}
 use Rattle.rh_shell.specs.Moving.{Leads}
 use Rattle.rh_shell.specs.Shells.{same_leg}
@@ -24,12 +25,20 @@ use Rattle.rh_inproxy.specs.Putting.{next, put}
 use Rattle.rh_inproxy.specs.State.{InProxy, first, is_client_leg, is_server_leg}
 use Rattle.rh_streams.proofs.Ends.{leg_is}
 
-pub echo_is : response_text 20 ++ echo_packet ≡ echo_answer
+echo_is : response_text 20 ++ echo_packet ≡ echo_answer
 unfolding response_text echo_answer digits
 echo_is = refl
 
 abbrev pub IsEcho : Message → Type 0
 IsEcho message = message ≡ Text echo_answer
+
+-- the response of success stands at the front
+pub echo_begins : (message : Message) (put : List Message) → IsEcho message
+    → spelled (message ∷ put) ≡ response_text 20 ++ (echo_packet ++ spelled put)
+echo_begins message put is =
+    ap (λ (x : Message). spell x ++ spelled put) is
+    ∙ ap (λ (x : List ℕ). x ++ spelled put) (sym echo_is)
+    ∙ append_assoc (response_text 20) echo_packet (spelled put)
 
 abbrev Fine : Pick → Type 0
 Fine None = Unit {0}

@@ -2,17 +2,17 @@ mod Told
 mod Heard
 mod ClosedClients
 mod Drawn
-mod OutTexts
+pub mod OutTexts
 mod OutRefusals
-mod InTexts
+pub mod InTexts
 mod InRefusals
 mod Unreached
 mod Unavailables
 mod Fronts
 mod Lost
-mod Requests
-mod Moments
-mod Taken
+pub mod Requests
+pub mod Moments
+pub mod Taken
 mod Reasons
-mod Losses
+pub mod Losses
 mod Reporting

@@ -1,5 +1,5 @@
 -- an out proxy that drew what refuses its client refused it
-use Rattle.std.proofs.Common.{◌≡◌, ℕ, ◌+◌, ◌≤◌, ◌⊎◌, inl, inr, List, [], ◌∷◌, ◌++◌, append_assoc, length, true, Some, arith, refl, sym, ap, ◌∙◌, subst}
+use Rattle.std.proofs.Common.{◌≡◌, ℕ, ◌≤◌, inl, inr, List, [], ◌∷◌, ◌++◌, length, true, Some, arith, refl, sym, ap, ◌∙◌, subst}
 use Rattle.std.specs.List.{AllByRecursion}
 use Rattle.std.proofs.lemmas.List.{append-nil, length-append}
 use mathlib.Core.List.{IsPrefix}
@@ -15,11 +15,10 @@ use Rattle.rh_shell.specs.Carrying.{spelled}
 use Rattle.rh_shell.specs.Rules.{Message, Text, Pdu, Packet}
 use Rattle.rh_outproxy.specs.declared.state.OutProxyConfig.{OutProxyConfig}
 use Rattle.rh_outproxy.specs.Legible.{IsConfig}
-use Rattle.rh_outproxy.specs.Putting.{ping_room}
 use Rattle.rh_reading.specs.Reading.{Begins}
 use Rattle.rh_streams.specs.Streams.{IsDrawn}
 use Rattle.rh_refused.specs.Refused.{BeginsRefused, DrewRefusal}
-use Rattle.rh_refused.proofs.OutTexts.{IsSuccess, Succeeds}
+use Rattle.rh_refused.proofs.OutTexts.{IsSuccess, Succeeds, in_range, success_begins}
 use Rattle.rh_refused.proofs.Told.{front_told, read_whole}
 
 -- no text is a front of nothing, and is a response
@@ -41,10 +40,6 @@ success_none k behind bytes leg status most out is b =
 
 module _ (config : OutProxyConfig) (range : IsConfig config) (leg : Leg)
     (out : leg.kind ≡ ClientOut) (status : ℕ) where
-  in_range : (k : ℕ) → (k ≡ 20) ⊎ (k ≡ config.lifetime + ping_room) → k ≤ 2147549184
-  in_range k (inl is) = omega (arith, is)
-  in_range k (inr is) = omega (arith, is, range.lifetime.1)
-
   -- nor does what an out proxy puts
   pub put_none : (put : List Message) → AllByRecursion (Succeeds config) put
       → Begins (Some CoD) put → BeginsRefused (spelled put) leg status → ⊥
@@ -52,9 +47,7 @@ module _ (config : OutProxyConfig) (range : IsConfig config) (leg : Leg)
   put_none (Text bytes ∷ put) all begins b =
       let s : IsSuccess config bytes = all.0 in
       success_none s.number (s.behind ++ spelled put) (bytes ++ spelled put) leg status
-      (in_range s.number s.told) out
-      (ap (λ (x : List ℕ). x ++ spelled put) s.is
-      ∙ append_assoc (response_text s.number) s.behind (spelled put)) b
+      (in_range config range bytes s) out (success_begins config bytes put s) b
   put_none (Pdu pdu ∷ put) all begins b = absurd begins
   put_none (Packet named ∷ put) all begins b = absurd begins
 

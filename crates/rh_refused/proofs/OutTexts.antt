@@ -1,5 +1,5 @@
 -- the texts that an out proxy puts are responses of success
-use Rattle.std.proofs.Common.{◌≡◌, ℕ, ◌+◌, ◌&&◌, ◌⊎◌, inl, inr, List, [], ◌∷◌, ◌++◌, length, Some, None, Ok, Err, refl, sym, ◌∙◌, subst}
+use Rattle.std.proofs.Common.{◌≡◌, ℕ, ◌+◌, ◌≤◌, ◌&&◌, ◌⊎◌, inl, inr, List, [], ◌∷◌, ◌++◌, append_assoc, length, Some, None, Ok, Err, arith, refl, sym, ap, ◌∙◌, subst}
 use Rattle.std.specs.Prelude.{nat_le, if◌then◌else◌}
 use Rattle.std.specs.List.{AllByRecursion}
 use Rattle.std.specs.declared.option.Option.{Option}
@@ -11,9 +11,11 @@ use Rattle.rh_line.specs.declared.leg.Leg.{Leg}
 use Rattle.rh_window.specs.Sending.{may_send, after_sent}
 use Rattle.rh_line.specs.Lines.{after_take, is_empty}
 use Rattle.rh_window.specs.declared.recv_window.Ack.{Ack}
+use Rattle.rh_http.specs.Lengths.{greatest_response}
 use Rattle.rh_http.specs.Texts.{response_text}
 use Rattle.rh_order.proofs.ByNumber.{by_test}
 use Rattle.rh_shell.specs.declared.due.Due.{Due}
+use Rattle.rh_shell.specs.Carrying.{spelled}
 use Rattle.rh_shell.specs.Rules.{Message, Row, Text, Pdu, Packet}
 use Rattle.rh_shell.specs.Moves.{Move, Up, HeadCame, PduCame, PacketCame, Puts, IsDrawn, Marks, Pings, OnLeg, Passage, started, moved, MayMove, put_by, taken_by}
 use Rattle.rh_shell.specs.Moving.{Leads}
@@ -25,6 +27,7 @@ use Rattle.rh_outproxy.specs.declared.state.Answer.{Answer}
 use Rattle.rh_outproxy.specs.declared.state.Answer.TheVariants as answers
 use Rattle.rh_outproxy.specs.declared.state.Mark.TheVariants as marks
 use Rattle.rh_outproxy.specs.declared.state.Ping.TheVariants.{NotDue}
+use Rattle.rh_outproxy.specs.Legible.{IsConfig}
 use Rattle.rh_outproxy.specs.OutProxy.{OutProxy, new_proxy, is_due, is_ping_due, is_server_first, joined}
 use Rattle.rh_outproxy.specs.Rows.{is_co, is_os}
 use Rattle.rh_outproxy.specs.Opening.{first_packet}
@@ -41,6 +44,25 @@ pub record IsSuccess (config : OutProxyConfig) (bytes : List ℕ) : Type 0 where
   pub told : (number ≡ 20) ⊎ (number ≡ config.lifetime + ping_room)
   pub behind : List ℕ
   pub is : bytes ≡ response_text number ++ behind
+
+-- its length is in the range of responses
+pub in_range : (config : OutProxyConfig) → IsConfig config → (bytes : List ℕ)
+    → (success : IsSuccess config bytes) → success.number ≤ greatest_response
+in_range config range bytes success = by success.told
+  where
+    by : (success.number ≡ 20) ⊎ (success.number ≡ config.lifetime + ping_room)
+        → success.number ≤ greatest_response
+    by (inl is) = omega (arith, is)
+    by (inr is) = omega (arith, is, range.lifetime.1)
+
+-- the response stands at the front
+pub success_begins : (config : OutProxyConfig) (bytes : List ℕ) (put : List Message)
+    → (success : IsSuccess config bytes)
+    → spelled (Text bytes ∷ put)
+    ≡ response_text success.number ++ (success.behind ++ spelled put)
+success_begins config bytes put success =
+    ap (λ (x : List ℕ). x ++ spelled put) success.is
+    ∙ append_assoc (response_text success.number) success.behind (spelled put)
 
 abbrev pub Succeeds : OutProxyConfig → Message → Type 0
 Succeeds config (Text bytes) = IsSuccess config bytes

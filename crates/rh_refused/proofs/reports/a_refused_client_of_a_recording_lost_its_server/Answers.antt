@@ -1,18 +1,13 @@
-use Rattle.std.proofs.Common.{[], ◌∷◌, ◌++◌, arith}
+use Rattle.std.proofs.Common.{[], ◌∷◌, ◌++◌}
 use Rattle.rh_line.specs.declared.leg.LegKind.TheVariants.{ClientIn, ClientOut}
-use Rattle.rh_nodes.specs.Cookies.{cookie_of}
 use Rattle.rh_nodes.specs.Settling.{leg_at}
 use Rattle.rh_world.specs.declared.config.WorldConfig.{WorldConfig}
 use Rattle.rh_world.specs.Roles as roles
 use Rattle.rh_traced.proofs.ByChanges.{lines_by_changes}
 use Rattle.rh_fifo.proofs.Recorded.{in_range, new, ours}
-use Rattle.rh_refused.specs.Refused.{IsPort}
 use Rattle.rh_refused.proofs.Reporting.{concluded, in_loss, out_loss}
+use Rattle.rh_refused.proofs.Taken.{recorded_port}
 use Rattle.rh_refused.proofs.reports.a_refused_client_of_a_recording_lost_its_server.Goals as goal
-
-port : (config : WorldConfig)
-    → IsPort (roles.client_config config (cookie_of 1) (cookie_of 2)).port
-port config = record { least = omega arith; most = omega arith }
 
 pub returns : goal.returns
 returns c =
@@ -29,7 +24,7 @@ returns c =
           (refused before line node (leg_at ClientOut n) status h)
           (λ v rep closed.
           let two = lost.out_channel roles.makers (roles.begun rep.config) (new rep.config)
-          (ours rep.config) (in_range rep.config rep.ranges) (port rep.config) v
+          (ours rep.config) (in_range rep.config rep.ranges) (recorded_port rep.config) v
           (lines_by_changes roles.rules roles.makers roles.deeds (roles.begun rep.config) v rep.run)
           n status closed in
           (two.0, out_loss (before ++ line ∷ []) v rep (once rep.config) n two.1));
@@ -38,7 +33,7 @@ returns c =
           (refused before line node (leg_at ClientIn n) status h)
           (λ v rep closed.
           let two = lost.in_channel roles.makers (roles.begun rep.config) (new rep.config)
-          (ours rep.config) (in_range rep.config rep.ranges) (port rep.config) v
+          (ours rep.config) (in_range rep.config rep.ranges) (recorded_port rep.config) v
           (lines_by_changes roles.rules roles.makers roles.deeds (roles.begun rep.config) v rep.run)
           n status closed in
           (two.0, in_loss (before ++ line ∷ []) v rep (once rep.config) n two.2));
