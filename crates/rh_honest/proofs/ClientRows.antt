@@ -72,8 +72,10 @@ ack_is c received available =
 ack_to : (s : ClientRole) (to received available : ℕ) (of : Cookie)
     → RowFits (on_ack_to s to received available of)
 ack_to s to received available of =
-    either (is_open s.phase && (to == 0)) _ _ (either (is_named s.writing of) _ _ (record { is = ack_is s.writing received available })
-    (either (is_named s.in_successor of) _ _ (record { is = ack_is s.in_successor received available })
+    either (is_open s.phase && (to == 0)) _ _
+    (either (is_named s.writing of) _ _ (record { is = ack_is s.writing received available })
+    (either (is_named s.in_successor of) _ _
+    (record { is = ack_is s.in_successor received available })
     (either (is_named s.leaving of) _ _ (record { is = ack_is s.leaving received available })
     (record { is = tt })))) (no_row s)
 
@@ -95,11 +97,13 @@ a2_is : (s : ClientRole) (n : ℕ) (r : Replacement) → RowFits (a2_by s n r)
 a2_is s n NoneUnderWay = record { is = tt }
 a2_is s n (In stage false) = record { is = tt }
 a2_is s n (In stage true) = no_row s
-a2_is s n (Out stage waiting) = either (is_out_successor s n && not (has_out waiting)) _ _ (record { is = tt }) (no_row s)
+a2_is s n (Out stage waiting) =
+    either (is_out_successor s n && not (has_out waiting)) _ _ (record { is = tt }) (no_row s)
 
 a6_stage : (s : ClientRole) (waiting : Waits) (timeout : ℕ) (stage : OutStage)
     → RowFits (a6_at s waiting timeout stage)
-a6_stage s waiting timeout outs.Asked = either (is_asked s.out_successor.opening) _ _ (record { is = tt }) (no_row s)
+a6_stage s waiting timeout outs.Asked =
+    either (is_asked s.out_successor.opening) _ _ (record { is = tt }) (no_row s)
 a6_stage s waiting timeout outs.Answered = no_row s
 a6_stage s waiting timeout outs.Switched = no_row s
 a6_stage s waiting timeout outs.Finished = no_row s
@@ -113,7 +117,8 @@ a10_stage : (s : ClientRole) (n : ℕ) (waiting : Waits) (stage : OutStage)
     → RowFits (a10_at s n waiting stage)
 a10_stage s n waiting outs.Asked = no_row s
 a10_stage s n waiting outs.Answered = no_row s
-a10_stage s n waiting outs.Switched = either (s.line.has_next && is_current s n) _ _ (record { is = tt }) (no_row s)
+a10_stage s n waiting outs.Switched =
+    either (s.line.has_next && is_current s n) _ _ (record { is = tt }) (no_row s)
 a10_stage s n waiting outs.Finished = no_row s
 
 a10_is : (s : ClientRole) (n : ℕ) (r : Replacement) → RowFits (a10_by s n r)
@@ -129,15 +134,19 @@ end_is s (Some which) = either (channel_of s.line which).ended _ _ (no_row s) (r
 
 rows : (s : ClientRole) (n : ℕ) (count : Count) (packet : Named)
     → RowFits (on_packet s n count packet)
-rows s n count (named.ConnA3 timeout) = either ((n == 1) && (is_current s n && is_zero count)) _ _ (record { is = tt }) (no_row s)
+rows s n count (named.ConnA3 timeout) =
+    either ((n == 1) && (is_current s n && is_zero count)) _ _ (record { is = tt }) (no_row s)
 rows s n count (named.ConnC2 version window timeout) =
-    either (((n == 1) && is_current s n) && (is_opening s.phase && is_some s.current.timeout)) _ _ (record { is = tt }) (no_row s)
+    either (((n == 1) && is_current s n) && (is_opening s.phase && is_some s.current.timeout)) _ _
+    (record { is = tt }) (no_row s)
 rows s n count (named.AckTo to received available of) = ack_to s to received available of
 rows s n count (named.InR1A4 to version window timeout) =
     either (to == 0) _ _ (answer_is s window timeout s.replacement) (no_row s)
 rows s n count (named.InR2A4 to) =
     either (to == 0) _ _ (answer_is s s.writing.told s.writing.timeout s.replacement) (no_row s)
-rows s n count (named.OutR1A2 to) = either (is_open s.phase && ((to == 0) && nat_lt n LAST_NUMBER)) _ _ (a2_is s n s.replacement) (no_row s)
+rows s n count (named.OutR1A2 to) =
+    either (is_open s.phase && ((to == 0) && nat_lt n LAST_NUMBER)) _ _ (a2_is s n s.replacement)
+    (no_row s)
 rows s n count (named.OutR1A6 to version timeout) =
     either ((to == 0) && is_current s n) _ _ (a6_is s timeout s.replacement) (no_row s)
 rows s n count named.OutR1A10 = a10_is s n s.replacement
@@ -146,7 +155,8 @@ rows s n count packet = no_row s
 
 any_packet : (s : ClientRole) (n : ℕ) (count : Count) (packet : Named) (kind : LegKind)
     → RowFits (packet_by s n count packet kind)
-any_packet s n count packet ClientOut = either (is_current s n || is_out_successor s n) _ _ (rows s n count packet) (no_row s)
+any_packet s n count packet ClientOut =
+    either (is_current s n || is_out_successor s n) _ _ (rows s n count packet) (no_row s)
 any_packet s n count packet OutServer = no_row s
 any_packet s n count packet ClientIn = no_row s
 any_packet s n count packet InServer = no_row s

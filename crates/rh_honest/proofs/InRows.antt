@@ -43,7 +43,8 @@ verdict_row s (Err (line_fault.Window exceeded)) = record { is = tt }
 pdu_is : (s : InProxy) (pdu : List ℕ) (o : Option Which) → RowFits (machine.pdu_by s o pdu)
 pdu_is s pdu None = no_row s
 pdu_is s pdu (Some which) =
-    either (has_a5 s which || line.is_ended s.line) _ _ (no_row s) (verdict_row (record s { line = line.after_admit s.line which pdu })
+    either (has_a5 s which || line.is_ended s.line) _ _ (no_row s)
+    (verdict_row (record s { line = line.after_admit s.line which pdu })
     (line.admit_verdict s.line which pdu))
 
 -- ---- forwarding
@@ -65,7 +66,8 @@ ack_is : (s : InProxy) (o : Option Opener) (received available : ℕ) (channel :
     → RowFits (ack_for s o received available channel)
 ack_is s None received available channel = no_row s
 ack_is s (Some opener) received available channel =
-    either (same_cookie opener.channel channel) _ _ (row_is (record s { window = after_acked s.window received available })
+    either (same_cookie opener.channel channel) _ _
+    (row_is (record s { window = after_acked s.window received available })
     (ack_verdict s.window received available) (verdict_is s.window received available))
     (record { is = tt })
 
@@ -75,14 +77,16 @@ join_is : (s : InProxy) (opener : Opener) (number : ℕ) (connection predecessor
     → RowFits (join s opener number connection predecessor channel)
 join_is s opener number connection predecessor channel =
     either (not (same_cookie opener.connection connection)) _ _ (record { is = tt })
-    (either (not (same_cookie s.current.cookie predecessor)) _ _ (record { is = tt }) (record { is = tt }))
+    (either (not (same_cookie s.current.cookie predecessor)) _ _ (record { is = tt })
+    (record { is = tt }))
 
 later_is : (s : InProxy) (o : Option Opener) (number : ℕ)
     (connection predecessor channel : Cookie)
     → RowFits (on_later_in_r1_a1 s o number connection predecessor channel)
 later_is s None number connection predecessor channel = no_row s
 later_is s (Some opener) number connection predecessor channel =
-    either (is_newcomer s.successor number) _ _ (join_is s opener number connection predecessor channel) (no_row s)
+    either (is_newcomer s.successor number) _ _
+    (join_is s opener number connection predecessor channel) (no_row s)
 
 finish_is : (s : InProxy) (next : Successor) (cookie : Cookie) → RowFits (finish_by s next cookie)
 finish_is s Absent cookie = record { is = tt }
@@ -100,12 +104,16 @@ hand_is s Next cookie = record { is = tt }
 
 channel_rows : (s : InProxy) (which : Which) (packet : Named) → RowFits (on_channel s which packet)
 channel_rows s which (named.AckTo to received available channel) =
-    either (not (has_a5 s which) && (to == 3)) _ _ (forward_is s (named.AckTo 3 received available channel)) (no_row s)
+    either (not (has_a5 s which) && (to == 3)) _ _
+    (forward_is s (named.AckTo 3 received available channel)) (no_row s)
 channel_rows s which (named.OutR1A7 to successor) =
-    either (not (has_a5 s which) && (to == 2)) _ _ (forward_is s (named.OutR1A8 2 successor)) (no_row s)
+    either (not (has_a5 s which) && (to == 2)) _ _ (forward_is s (named.OutR1A8 2 successor))
+    (no_row s)
 channel_rows s which (named.KeepAlive keepalive) =
     either (has_a5 s which) _ _ (no_row s) (record { is = tt })
-channel_rows s which named.EndA1 = either (has_a5 s which || (line.channel_of s.line which).ended || has_later s which) _ _ (no_row s) (record { is = tt })
+channel_rows s which named.EndA1 =
+    either (has_a5 s which || (line.channel_of s.line which).ended || has_later s which) _ _
+    (no_row s) (record { is = tt })
 channel_rows s which (named.InR1A5 successor) =
     either (has_a5 s which) _ _ (no_row s) (hand_is s which successor)
 channel_rows s which packet = no_row s
@@ -124,11 +132,16 @@ ci_rows s number (named.InR1A1 version connection predecessor channel) =
 ci_rows s number packet = channel_by s (channel_of s number) packet
 
 is_rows : (s : InProxy) (packet : Named) → RowFits (on_is s packet)
-is_rows s (named.ConnB3 size version) = either (is_connection (opener_of s.opening) && is_unknown s.edge) _ _ (record { is = tt }) (no_row s)
-is_rows s (named.InR1B2 size) = either (is_replacement (opener_of s.opening) && is_unknown s.edge) _ _ (record { is = tt }) (no_row s)
+is_rows s (named.ConnB3 size version) =
+    either (is_connection (opener_of s.opening) && is_unknown s.edge) _ _ (record { is = tt })
+    (no_row s)
+is_rows s (named.InR1B2 size) =
+    either (is_replacement (opener_of s.opening) && is_unknown s.edge) _ _ (record { is = tt })
+    (no_row s)
 is_rows s named.InR1B1 = either (has_passed s.handover) _ _ (record { is = tt }) (no_row s)
 is_rows s (named.Ack received available channel) =
-    either (is_unknown s.edge) _ _ (no_row s) (ack_is s (opener_of s.opening) received available channel)
+    either (is_unknown s.edge) _ _ (no_row s)
+    (ack_is s (opener_of s.opening) received available channel)
 is_rows s packet = no_row s
 
 pub in_rows : RefusesAcks rules
@@ -137,5 +150,6 @@ in_rows = record {
       let row = either (is_client_leg leg) _ _ (ci_rows s leg.number packet)
       (either (is_server_leg s leg) _ _ (is_rows s packet) (no_row s)) in row.is;
   pdu = λ s leg count pdu.
-      let row = either (is_client_leg leg) _ _ (pdu_is s pdu (channel_of s leg.number)) (no_row s) in row.is;
+      let row = either (is_client_leg leg) _ _ (pdu_is s pdu (channel_of s leg.number))
+      (no_row s) in row.is;
 }

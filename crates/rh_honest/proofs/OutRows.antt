@@ -35,7 +35,8 @@ line_is (Err (line_fault.Window exceeded)) = tt
 
 pdu_is : (s : OutProxy) (pdu : List ℕ) → RowFits (on_pdu s pdu)
 pdu_is s pdu =
-    either (takes_pdus s) _ _ (record { is = line_is (admit_verdict s.line Current pdu) }) (no_row s)
+    either (takes_pdus s) _ _ (record { is = line_is (admit_verdict s.line Current pdu) })
+    (no_row s)
 
 -- ---- forwarding
 
@@ -45,7 +46,8 @@ room_is s (waiting, false) = record { is = tt }
 
 forward_is : (s : OutProxy) (packet : Named) → RowFits (forwarded s packet)
 forward_is s packet =
-    either (is_client_marked s.client) _ _ (record { is = tt }) (room_is s (waits.forwarded s.waiting packet))
+    either (is_client_marked s.client) _ _ (record { is = tt })
+    (room_is s (waits.forwarded s.waiting packet))
 
 passed_is : (s : OutProxy) (to : ℕ) (packet : Named) → RowFits (passed_on s to packet)
 passed_is s to packet = either (is_carrying s && (to == 0)) _ _ (forward_is s packet) (no_row s)
@@ -86,8 +88,10 @@ co_rows : (s : OutProxy) (count : Count) (packet : Named) → RowFits (on_co s c
 co_rows s count (named.ConnA1 version connection cookie size) =
     either (is_first count && told_length s.request new_length) _ _ (record { is = tt }) (no_row s)
 co_rows s count (named.OutR1A3 version connection predecessor cookie size) =
-    either (is_first count && told_length s.request successor_length) _ _ (record { is = tt }) (no_row s)
-co_rows s count named.OutR2C1 = either (is_second count && is_successor s.channel) _ _ (record { is = tt }) (no_row s)
+    either (is_first count && told_length s.request successor_length) _ _ (record { is = tt })
+    (no_row s)
+co_rows s count named.OutR2C1 =
+    either (is_second count && is_successor s.channel) _ _ (record { is = tt }) (no_row s)
 co_rows s count packet = no_row s
 
 os_rows : (s : OutProxy) (packet : Named) → RowFits (on_os s packet)

@@ -66,7 +66,8 @@ room_is s n (waiting, false) = record { is = tt }
 
 writing_is : (s : Server) (packet : Named) → RowFits (forwards_writing s packet)
 writing_is s packet =
-    either (is_full s && not (has (takes packet) s.waiting)) _ _ (record { is = tt }) (room_is s s.writing (forwarded s.waiting packet))
+    either (is_full s && not (has (takes packet) s.waiting)) _ _ (record { is = tt })
+    (room_is s s.writing (forwarded s.waiting packet))
 
 to_is : (s : Server) (packet : Named) (o : Option ℕ) → RowFits (forwards_to s packet o)
 to_is s packet None = record { is = tt }
@@ -106,7 +107,8 @@ ack_is : (s : Server) (n received window : ℕ) (cookie : Cookie) (o : Option Co
     → RowFits (acked_cookie s n received window cookie o)
 ack_is s n received window cookie None = no_row s
 ack_is s n received window cookie (Some channel) =
-    either (same_cookie channel cookie) _ _ (place_is s received window (out_place n s.outs)) (record { is = tt })
+    either (same_cookie channel cookie) _ _ (place_is s received window (out_place n s.outs))
+    (record { is = tt })
 
 -- ---- opening
 
@@ -135,8 +137,10 @@ in_a2_by : (s : Server) (first connection predecessor successor : Cookie) (windo
     → RowFits (in_r1_a2_by s first connection predecessor successor window timeout o)
 in_a2_by s first connection predecessor successor window timeout None = no_row s
 in_a2_by s first connection predecessor successor window timeout (Some leg) =
-    either (not (is_fresh leg.stage)) _ _ (no_row s) (either (not (same_cookie first connection)) _ _ (record { is = tt })
-    (either (not (same_cookie s.newest.cookie predecessor)) _ _ (record { is = tt }) (record { is = tt })))
+    either (not (is_fresh leg.stage)) _ _ (no_row s)
+    (either (not (same_cookie first connection)) _ _ (record { is = tt })
+    (either (not (same_cookie s.newest.cookie predecessor)) _ _ (record { is = tt })
+    (record { is = tt })))
 
 in_a2_is : (s : Server) (at : Stage) (n : ℕ) (connection predecessor successor : Cookie)
     (window timeout : ℕ)
@@ -167,7 +171,8 @@ a4_by : (s : Server) (n : ℕ) (first connection predecessor successor : Cookie)
     → RowFits (out_r1_a4_by s n first connection predecessor successor lifetime window timeout o)
 a4_by s n first connection predecessor successor lifetime window timeout None = no_row s
 a4_by s n first connection predecessor successor lifetime window timeout (Some writing) =
-    either (not (same_cookie first connection)) _ _ (record { is = tt }) (either (not (same_cookie writing predecessor)) _ _ (record { is = tt })
+    either (not (same_cookie first connection)) _ _ (record { is = tt })
+    (either (not (same_cookie writing predecessor)) _ _ (record { is = tt })
     (answer_is s successor lifetime window timeout (out_place n s.outs)
     (out_at s.outs (out_place n s.outs))))
 
@@ -185,7 +190,8 @@ a4_is s (stage.InCame first in_window in_timeout) n connection predecessor succe
 a4_is s stage.Ended n connection predecessor successor lifetime window timeout = no_row s
 
 a8_is : (s : Server) (successor : Cookie) (r : Replacement) → RowFits (out_r1_a8_at s successor r)
-a8_is s successor (outs.Answered cookie) = either (same_cookie cookie successor) _ _ (record { is = tt }) (record { is = tt })
+a8_is s successor (outs.Answered cookie) =
+    either (same_cookie cookie successor) _ _ (record { is = tt }) (record { is = tt })
 a8_is s successor outs.Steady = no_row s
 a8_is s successor outs.Asked = no_row s
 a8_is s successor outs.Confirmed = no_row s
@@ -211,30 +217,42 @@ end_is s n None = end_waiting s (in_leg n s.ins)
 is_rows : (s : Server) (n : ℕ) (count : Count) (packet : Named) → RowFits (on_is s n count packet)
 is_rows s n count
     (named.ConnB2 version connection cookie window timeout group address padding) =
-    either (is_first count && ((n == 1) && not (waits kind.ConnC1 s.waiting))) _ _ (b2_is s s.stage connection cookie window timeout) (no_row s)
+    either (is_first count && ((n == 1) && not (waits kind.ConnC1 s.waiting))) _ _
+    (b2_is s s.stage connection cookie window timeout) (no_row s)
 is_rows s n count (named.InR1A2 version connection predecessor successor window timeout) =
-    either (is_first count && not (has_fresh_below n s.ins)) _ _ (in_a2_is s s.stage n connection predecessor successor window timeout) (no_row s)
+    either (is_first count && not (has_fresh_below n s.ins)) _ _
+    (in_a2_is s s.stage n connection predecessor successor window timeout) (no_row s)
 is_rows s n count (named.InR1A6 successor) =
-    either ((n == s.current.leg) && (not s.line.finished && (s.line.has_next && not (waits kind.InR1A3 s.waiting)))) _ _ (either (same_cookie s.next.cookie successor) _ _ (record { is = tt }) (record { is = tt })) (no_row s)
+    either ((n == s.current.leg)
+    && (not s.line.finished && (s.line.has_next && not (waits kind.InR1A3 s.waiting)))) _ _
+    (either (same_cookie s.next.cookie successor) _ _ (record { is = tt }) (record { is = tt }))
+    (no_row s)
 is_rows s n count (named.InR2A2 successor) =
-    either (not (is_first count) && (is_open s.stage && (not (waits kind.InR2A3 s.waiting) && nat_lt s.newest_in 4294967295))) _ _ (r2_is s n successor (channel_at s n)) (no_row s)
+    either (not (is_first count)
+    && (is_open s.stage
+    && (not (waits kind.InR2A3 s.waiting) && nat_lt s.newest_in 4294967295))) _ _
+    (r2_is s n successor (channel_at s n)) (no_row s)
 is_rows s n count (named.AckTo to received window cookie) =
     ack_to s count to received window cookie
 is_rows s n count (named.OutR1A8 to successor) =
-    either (not (is_first count) && ((to == 2) && not (waits kind.OutR1 s.waiting))) _ _ (a8_is s successor s.replacement) (no_row s)
+    either (not (is_first count) && ((to == 2) && not (waits kind.OutR1 s.waiting))) _ _
+    (a8_is s successor s.replacement) (no_row s)
 is_rows s n count named.EndA2 = either (is_first count) _ _ (no_row s) (end_is s n (channel_at s n))
 is_rows s n count packet = no_row s
 
 os_rows : (s : Server) (n : ℕ) (count : Count) (packet : Named) → RowFits (on_os s n count packet)
 os_rows s n count (named.ConnA2 version connection cookie lifetime window) =
-    either (is_first count && ((n == 1) && not (waits kind.ConnC1 s.waiting))) _ _ (a2_is s s.stage connection cookie lifetime window) (no_row s)
+    either (is_first count && ((n == 1) && not (waits kind.ConnC1 s.waiting))) _ _
+    (a2_is s s.stage connection cookie lifetime window) (no_row s)
 os_rows s n count
     (named.OutR1A4 version connection predecessor successor lifetime window timeout) =
-    either (may_answer s n count) _ _ (a4_is s s.stage n connection predecessor successor lifetime window timeout)
+    either (may_answer s n count) _ _
+    (a4_is s s.stage n connection predecessor successor lifetime window timeout)
     (no_row s)
 os_rows s n count (named.Ack received window cookie) =
     either (is_first count) _ _ (no_row s) (ack_is s n received window cookie (out_cookie n s.outs))
-os_rows s n count (named.PingTraffic bytes) = either (is_first count) _ _ (no_row s) (record { is = tt })
+os_rows s n count (named.PingTraffic bytes) =
+    either (is_first count) _ _ (no_row s) (record { is = tt })
 os_rows s n count packet = no_row s
 
 any_packet : (s : Server) (n : ℕ) (count : Count) (packet : Named) (kind : LegKind)
