@@ -1,8 +1,6 @@
 -- whatever a change of a world of honest roles is, it closes no node for bad bytes
-use Rattle.std.proofs.Common.{◌≡◌, ℕ, inl, inr, sym, ◌∙◌, refl, subst}
+use Rattle.std.proofs.Common.{◌≡◌, ℕ, List, inl, inr, sym, ◌∙◌, refl, subst}
 use Rattle.std.specs.Prelude.{Some, None}
-use Rattle.rh_pdu.specs.declared.fault.HeadFault.{HeadFault}
-use Rattle.rh_rts.specs.declared.fault.RtsFault.{RtsFault}
 use Rattle.rh_window.specs.declared.fault.TheConstants.{FLOW_CONTROL_ACK}
 use Rattle.rh_text.specs.declared.ends.Dir.{Dir}
 use Rattle.rh_line.specs.declared.cause.Cause.{Cause}
@@ -34,8 +32,8 @@ use Rattle.rh_history.specs.Closes.{ClosesNode}
 use Rattle.rh_history.specs.Histories.{in_place, out_place}
 use Rattle.rh_history.proofs.Numbers.{answered}
 use Rattle.rh_traced.specs.Ours.{rules}
-use Rattle.rh_honest.specs.Causes.{RowRefuses}
-use Rattle.rh_honest.specs.Honest.{IsOfNode}
+use Rattle.rh_honest.specs.Causes.{IsOfHeard, RowRefuses}
+use Rattle.rh_honest.specs.Honest.{IsOfNode, read_on}
 use Rattle.rh_honest.specs.Rows.{IsOfAck, RefusesAcks}
 use Rattle.rh_honest.proofs.Fed.{told_what}
 
@@ -51,6 +49,11 @@ pub record EachComes : Type 0 where
   pub server : ComesByEvent server.rules
   pub ins : ComesByEvent in_proxy.rules
   pub outs : ComesByEvent out_proxy.rules
+
+pub each_of : ComesByEvent client.rules → ComesByEvent server.rules
+    → ComesByEvent in_proxy.rules → ComesByEvent out_proxy.rules → EachComes
+each_of client server ins outs =
+    record { client = client; server = server; ins = ins; outs = outs }
 
 pub record EachRefuses : Type 0 where
   pub client : RefusesAcks client.rules
@@ -94,23 +97,17 @@ module _ {K : Type 0} (each : EachComes) (v : World K ClientRole Server InProxy 
 
 -- ---- and a piece is fed
 
-pub record IsOfSome (node : Who) (why : Cause) : Type 0 where
-  pub leg : Leg
-  pub of_node : IsOfNode node leg why
-
+-- what follows where one that is fed closes the node follows where any change does
 module _ {K : Type 0} (v : World K ClientRole Server InProxy OutProxy) (node : Who) (why : Cause)
-    (fed : (leg : Leg) (dir : Dir) (count : ℕ) → MayChange rules v (IsFed leg dir count)
-    → ClosesNode rules v (IsFed leg dir count) node why
-    → IsOfNode node leg why) where
-  never : {a : Who × Event} → None ≡ Some a → {X : Type 0} → X
+    (X : Type 0) (fed : (leg : Leg) (dir : Dir) (count : ℕ)
+    → MayChange rules v (IsFed leg dir count) → ClosesNode rules v (IsFed leg dir count) node why
+    → X) where
+  never : {a : Who × Event} → None ≡ Some a → X
   never e = absurd cc
 
   by_change : (change : Change) → MayChange rules v change
-      → (is : ClosesNode rules v change node why) → IsPiece is.event → IsOfSome node why
-  by_change (IsFed leg dir count) may is piece = record {
-    leg = leg;
-    of_node = fed leg dir count may is;
-  }
+      → (is : ClosesNode rules v change node why) → IsPiece is.event → X
+  by_change (IsFed leg dir count) may is piece = fed leg dir count may is
   by_change (IsTold other event) may is piece =
       absurd (none event (told_what other node event is.event is.told ∙ piece.is) may)
     where
@@ -133,42 +130,38 @@ module _ {K : Type 0} (v : World K ClientRole Server InProxy OutProxy) (node : W
   by_change (Draws cookies) may is piece = never is.told
   by_change Reports may is piece = never is.told
 
-  pub some_closes : EachComes → (change : Change) → MayChange rules v change
-      → (is : ClosesNode rules v change node why) → IsOfPiece is.event why
-      → IsOfSome node why
-  some_closes each change may is piece =
+  pub by_fed : EachComes → (change : Change) → MayChange rules v change
+      → (is : ClosesNode rules v change node why) → IsOfPiece is.event why → X
+  by_fed each change may is piece =
       by_change change may is (is_piece each v is.event why piece node is.closes)
 
 -- ---- no bad bytes
 
-pub no_bad_frame : (node : Who) (leg : Leg) (place : ℕ) (fault : HeadFault)
-    → IsOfSome node (cause.BadFrame leg place fault) → ⊥
-no_bad_frame who.Client leg place fault is = is.of_node
-no_bad_frame who.Server leg place fault is = is.of_node
-no_bad_frame (who.In n) leg place fault is = is.of_node
-no_bad_frame (who.Out n) leg place fault is = is.of_node
+-- what follows of such a cause whatever the rules are
+pub of_rules : (node : Who) (on : Leg) (dir : Dir) (heard : List ℕ) (why : Cause) (X : Type 0)
+    → ((S : Type 0) (its : Rules S) → IsOfHeard its on (read_on on.kind dir) heard why → X)
+    → IsOfNode node on dir heard why → X
+of_rules who.Client on dir heard why X law is = law ClientRole client.rules is
+of_rules who.Server on dir heard why X law is = law Server server.rules is
+of_rules (who.In n) on dir heard why X law is = law InProxy in_proxy.rules is
+of_rules (who.Out n) on dir heard why X law is = law OutProxy out_proxy.rules is
 
-pub no_bad_packet : (node : Who) (leg : Leg) (place : ℕ) (fault : RtsFault)
-    → IsOfSome node (cause.BadPacket leg place fault) → ⊥
-no_bad_packet who.Client leg place fault is = is.of_node
-no_bad_packet who.Server leg place fault is = is.of_node
-no_bad_packet (who.In n) leg place fault is = is.of_node
-no_bad_packet (who.Out n) leg place fault is = is.of_node
-
-of_row : {S : Type 0} (rules : Rules S) → RefusesAcks rules → (leg : Leg) (command value : ℕ)
-    → RowRefuses rules leg (refused.OutOfRange command value) → command ≡ FLOW_CONTROL_ACK
-of_row rules law leg command value (inl packet) =
+of_row : {S : Type 0} (its : Rules S) → RefusesAcks its → (leg : Leg) (command value : ℕ)
+    → RowRefuses its leg (refused.OutOfRange command value) → command ≡ FLOW_CONTROL_ACK
+of_row its law leg command value (inl packet) =
     subst IsOfAck packet.3 (law.packet packet.0 leg packet.1 packet.2)
-of_row rules law leg command value (inr pdu) =
+of_row its law leg command value (inr pdu) =
     subst IsOfAck pdu.3 (law.pdu pdu.0 leg pdu.1 pdu.2)
 
-pub of_acknowledgement : EachRefuses → (node : Who) (leg : Leg) (command value : ℕ)
-    → IsOfSome node (cause.OutOfRange leg command value) → command ≡ FLOW_CONTROL_ACK
-of_acknowledgement law who.Client leg command value is =
-    of_row client.rules law.client is.leg command value is.of_node
-of_acknowledgement law who.Server leg command value is =
-    of_row server.rules law.server is.leg command value is.of_node
-of_acknowledgement law (who.In n) leg command value is =
-    of_row in_proxy.rules law.ins is.leg command value is.of_node
-of_acknowledgement law (who.Out n) leg command value is =
-    of_row out_proxy.rules law.outs is.leg command value is.of_node
+pub of_acknowledgement : EachRefuses → (node : Who) (on : Leg) (dir : Dir) (heard : List ℕ)
+    (leg : Leg) (command value : ℕ)
+    → IsOfNode node on dir heard (cause.OutOfRange leg command value)
+    → command ≡ FLOW_CONTROL_ACK
+of_acknowledgement law who.Client on dir heard leg command value is =
+    of_row client.rules law.client on command value is
+of_acknowledgement law who.Server on dir heard leg command value is =
+    of_row server.rules law.server on command value is
+of_acknowledgement law (who.In n) on dir heard leg command value is =
+    of_row in_proxy.rules law.ins on command value is
+of_acknowledgement law (who.Out n) on dir heard leg command value is =
+    of_row out_proxy.rules law.outs on command value is

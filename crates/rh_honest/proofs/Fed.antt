@@ -16,10 +16,11 @@ use Rattle.rh_line.specs.declared.leg.LegKind.TheVariants.{ClientOut, OutServer,
 use Rattle.rh_record.specs.declared.answer.Who.{Who}
 use Rattle.rh_record.specs.declared.answer.Who.TheVariants as who
 use Rattle.rh_shell.specs.declared.course.Course.TheVariants.{Going}
+use Rattle.rh_shell.specs.declared.rooms.Rooms.{Rooms}
 use Rattle.rh_shell.specs.Moving as moving
-use Rattle.rh_shell.specs.Moving.{after_end_events, after_events}
+use Rattle.rh_shell.specs.Moving.{EndEvent, after_end_events, after_events}
 use Rattle.rh_shell.specs.NearEnds.{NearEnd}
-use Rattle.rh_shell.specs.Rules.{Message, Rules}
+use Rattle.rh_shell.specs.Rules.{Acts, Message, Rules}
 use Rattle.rh_shell.specs.Shells.{Shell, begun, end_at, same_leg}
 use Rattle.rh_shell.specs.Wires.{of_leg}
 use Rattle.rh_nodes.specs.declared.event.Event.{Event}
@@ -27,6 +28,7 @@ use Rattle.rh_nodes.specs.declared.event.Event.TheVariants.{Comes}
 use Rattle.rh_nodes.specs.declared.place.Place.{Place}
 use Rattle.rh_nodes.specs.declared.place.Place.TheVariants.{Absent, Here, Gone}
 use Rattle.rh_nodes.specs.Company as company
+use Rattle.rh_nodes.specs.Company.{Company}
 use Rattle.rh_nodes.specs.Halves.{is_same}
 use Rattle.rh_nodes.specs.Legs as legs
 use Rattle.rh_nodes.specs.Opening.{Makers}
@@ -37,11 +39,11 @@ use Rattle.rh_nodes.specs.Wires.{receiver}
 use Rattle.rh_nodes.specs.World.{World, at, node_by}
 use Rattle.rh_client.specs.declared.state.ClientRole.{ClientRole}
 use Rattle.rh_client.specs.Client as client
-use Rattle.rh_inproxy.specs.declared.state.InProxyConfig.{InProxyConfig}
+use Rattle.rh_client.specs.State as client_state
 use Rattle.rh_inproxy.specs.Machine as in_proxy
 use Rattle.rh_inproxy.specs.State.{InProxy}
+use Rattle.rh_inproxy.specs.State as in_state
 use Rattle.rh_outproxy.specs.declared.out_proxy.TheConstants.{ROOMS}
-use Rattle.rh_outproxy.specs.declared.state.OutProxyConfig.{OutProxyConfig}
 use Rattle.rh_outproxy.specs.Machine as out_proxy
 use Rattle.rh_outproxy.specs.OutProxy.{OutProxy, new_proxy}
 use Rattle.rh_server.specs.Servers as server
@@ -55,12 +57,12 @@ use Rattle.rh_history.proofs.Appended.{happened_more, heard_append}
 use Rattle.rh_history.proofs.Numbers.{answered}
 use Rattle.rh_history.proofs.Wired.{same_itself}
 use Rattle.rh_reading.specs.Well.{Answers, ReadsWell, is_named, is_packet}
-use Rattle.rh_streams.specs.Streams.{Seated}
+use Rattle.rh_streams.specs.Streams.{EndStream, Seated, Stream}
 use Rattle.rh_proxies_begin.specs.Pipes as pipes
 use Rattle.rh_down.specs.Down as down
 use Rattle.rh_traced.specs.Ours.{AreOurs, deeds, rules}
 use Rattle.rh_fifo.specs.Flows.{IsFlowing, numbers_of}
-use Rattle.rh_honest.specs.Causes.{AreStrict, IsOfRole}
+use Rattle.rh_honest.specs.Causes.{AreStrict, IsOfHeard}
 use Rattle.rh_honest.specs.Honest.{IsOfNode, read_on, well_on}
 
 -- ---- the laws that this stands on
@@ -72,7 +74,7 @@ ClosesForRole {S} rules =
     → ReadsWell well pipe (heard ++ piece)
     → ((end : NearEnd) → node.course ≡ Going → end_at node leg ≡ Some end
     → Seated rules node.role pipe came put heard drawn end)
-    → ClosesWith rules node (Comes leg piece) why → IsOfRole rules leg why
+    → ClosesWith rules node (Comes leg piece) why → IsOfHeard rules leg pipe (heard ++ piece) why
 
 pub record EachCloses : Type 0 where
   pub client : ClosesForRole client.rules
@@ -98,67 +100,34 @@ strict_on InServer D = named_strict
 
 -- ---- what each node reads
 
-client_reads_on : (reader number : ℕ) (kind : LegKind) (dir : Dir)
-    → node_by reader number kind (receiver dir) ≡ who.Client
-    → read_on kind dir ≡ down.client_reads (leg_at kind number)
-client_reads_on reader number ClientOut D e = refl
-client_reads_on reader number ClientIn D e = refl
-client_reads_on reader number ClientOut U e = absurd cc
-client_reads_on reader number ClientIn U e = absurd cc
-client_reads_on reader number OutServer U e = absurd cc
-client_reads_on reader number OutServer D e = absurd cc
-client_reads_on reader number InServer U e = absurd cc
-client_reads_on reader number InServer D e = absurd cc
+module _ {K : Type 0} {m : Makers K InProxy OutProxy}
+    {first : Company ClientRole Server InProxy OutProxy} {cast : K}
+    (ours : AreOurs m first cast) where
+  abbrev node_reads : Who → Leg → Option Pipe
+  node_reads who.Client leg = down.client_reads leg
+  node_reads who.Server leg = down.server_reads leg
+  node_reads (who.In n) leg = pipes.in_pipe (ours.in_config n) leg
+  node_reads (who.Out n) leg = down.proxy_reads (ours.out_config n) leg
 
-server_reads_on : (reader number : ℕ) (kind : LegKind) (dir : Dir)
-    → node_by reader number kind (receiver dir) ≡ who.Server
-    → read_on kind dir ≡ down.server_reads (leg_at kind number)
-server_reads_on reader number OutServer U e = refl
-server_reads_on reader number InServer U e = refl
-server_reads_on reader number ClientOut U e = absurd cc
-server_reads_on reader number ClientOut D e = absurd cc
-server_reads_on reader number ClientIn U e = absurd cc
-server_reads_on reader number ClientIn D e = absurd cc
-server_reads_on reader number OutServer D e = absurd cc
-server_reads_on reader number InServer D e = absurd cc
+  its_own : (kind : LegKind) (a b : ℕ) → a ≡ b → same_leg (leg_at kind a) (leg_at kind b) ≡ true
+  its_own kind a b same =
+      subst (λ (n : ℕ). same_leg (leg_at kind a) (leg_at kind n) ≡ true) same
+      (same_itself (leg_at kind a))
 
-in_number : (a b : ℕ) → who.In a ≡ who.In b → a ≡ b
-in_number a b e = cc
-
-out_number : (a b : ℕ) → who.Out a ≡ who.Out b → a ≡ b
-out_number a b e = cc
-
-in_reads_on : (config : InProxyConfig) (n reader number : ℕ) (kind : LegKind) (dir : Dir)
-    → config.number ≡ n → node_by reader number kind (receiver dir) ≡ who.In n
-    → read_on kind dir ≡ pipes.in_pipe config (leg_at kind number)
-in_reads_on config n reader number ClientIn U is e = refl
-in_reads_on config n reader number InServer D is e =
-    let same : number ≡ config.number = in_number number n e ∙ sym is in
-    sym (ap (λ (t : Bool). if t then Some IsD else None)
-    (subst (λ (k : ℕ). same_leg (leg_at InServer config.number) (leg_at InServer k) ≡ true)
-    (sym same) (same_itself (leg_at InServer config.number))))
-in_reads_on config n reader number ClientIn D is e = absurd cc
-in_reads_on config n reader number InServer U is e = absurd cc
-in_reads_on config n reader number ClientOut U is e = absurd cc
-in_reads_on config n reader number ClientOut D is e = absurd cc
-in_reads_on config n reader number OutServer U is e = absurd cc
-in_reads_on config n reader number OutServer D is e = absurd cc
-
-out_reads_on : (config : OutProxyConfig) (n reader number : ℕ) (kind : LegKind) (dir : Dir)
-    → config.number ≡ n → node_by reader number kind (receiver dir) ≡ who.Out n
-    → read_on kind dir ≡ down.proxy_reads config (leg_at kind number)
-out_reads_on config n reader number ClientOut U is e =
-    let same : number ≡ config.number = out_number number n e ∙ sym is in
-    sym (ap (λ (t : Bool). if t then Some CoU else Some OsD)
-    (subst (λ (k : ℕ). same_leg (leg_at ClientOut config.number) (leg_at ClientOut k) ≡ true)
-    (sym same) (same_itself (leg_at ClientOut config.number))))
-out_reads_on config n reader number OutServer D is e = refl
-out_reads_on config n reader number ClientOut D is e = absurd cc
-out_reads_on config n reader number OutServer U is e = absurd cc
-out_reads_on config n reader number ClientIn U is e = absurd cc
-out_reads_on config n reader number ClientIn D is e = absurd cc
-out_reads_on config n reader number InServer U is e = absurd cc
-out_reads_on config n reader number InServer D is e = absurd cc
+  reads_on : (reader n : ℕ) (kind : LegKind) (dir : Dir)
+      → read_on kind dir ≡ node_reads (node_by reader n kind (receiver dir)) (leg_at kind n)
+  reads_on reader n ClientOut U =
+      sym (ap (λ (t : Bool). if t then Some CoU else Some OsD)
+      (its_own ClientOut (ours.out_config n).number n (ours.out_number n)))
+  reads_on reader n ClientOut D = refl
+  reads_on reader n OutServer U = refl
+  reads_on reader n OutServer D = refl
+  reads_on reader n ClientIn U = refl
+  reads_on reader n ClientIn D = refl
+  reads_on reader n InServer U = refl
+  reads_on reader n InServer D =
+      sym (ap (λ (t : Bool). if t then Some IsD else None)
+      (its_own InServer (ours.in_config n).number n (ours.in_number n)))
 
 -- ---- what is told to the node
 
@@ -170,7 +139,7 @@ what_in : Event → Option (Who × Event) → Event
 what_in other None = other
 what_in other (Some told) = told.1
 
-told_who : (a b : Who) (x y : Event)
+pub told_who : (a b : Who) (x y : Event)
     → ◌≡◌ {A = Option (Who × Event)} (Some (a, x)) (Some (b, y)) → a ≡ b
 unfolding who_in
 told_who a b x y e = ap (who_in a) e
@@ -196,15 +165,16 @@ piece_told one node leg piece e =
 module _ {K : Type 0} (each : EachCloses) (m : Makers K InProxy OutProxy)
     (w v : World K ClientRole Server InProxy OutProxy) (ours : AreOurs m w.company w.cast)
     (h : History) (traced : IsTraced rules m deeds w.company v h)
-    (flowing : IsFlowing (numbers_of ours) w v h) (leg : Leg) (dir : Dir) (count : ℕ)
-    (well_heard : ReadsWell (well_on leg.kind dir) (read_on leg.kind dir)
-    (heard_on leg (events_of (noted v h (IsFed leg dir count)) (at v leg (receiver dir)))))
-    (why : Cause) where
+    (flowing : IsFlowing (numbers_of ours) w v h) (leg : Leg) (dir : Dir) (count : ℕ) where
   abbrev change : Change
   change = IsFed leg dir count
 
   abbrev piece : List ℕ
   piece = (legs.take_out leg dir count v.legs).1
+
+  -- what the node heard there, with the piece
+  abbrev all : List ℕ
+  all = heard_on leg (events_of (noted v h change) (at v leg (receiver dir)))
 
   abbrev well : Answers
   well = well_on leg.kind dir
@@ -212,168 +182,110 @@ module _ {K : Type 0} (each : EachCloses) (m : Makers K InProxy OutProxy)
   abbrev pipe : Option Pipe
   pipe = read_on leg.kind dir
 
-  -- what the node heard, and the piece behind it
-  reads : (heard : List ℕ)
-      → heard_on leg (events_of (noted v h change) (at v leg (receiver dir))) ≡ heard ++ piece
-      → ReadsWell well pipe (heard ++ piece)
-  reads heard e = subst (ReadsWell well pipe) e well_heard
-
   abbrev Told : Who → Type 0
   Told node = at v leg (receiver dir) ≡ node
 
-  -- ---- the ends
+  all_is : (node : Who) → Told node → (before : List moving.Event)
+      → events_of (noted v h change) node ≡ before ++ told_to v change node
+      → all ≡ heard_on leg before ++ piece
+  all_is node here before is =
+      ap (λ (x : Who). heard_on leg (events_of (noted v h change) x)) here
+      ∙ ap (heard_on leg) is ∙ heard_append leg before (told_to v change node)
+      ∙ ap (λ (bytes : List ℕ). heard_on leg before ++ bytes)
+      (piece_told (at v leg (receiver dir)) node leg piece here)
 
-  client_heard : Told who.Client → ReadsWell well pipe (heard_on leg (happened h.client) ++ piece)
-  client_heard here =
-      reads (heard_on leg (happened h.client))
-      (ap (λ (x : Who). heard_on leg (events_of (noted v h change) x)) here
-      ∙ ap (heard_on leg) (happened_more rules.client deeds.client w.company.client
-      v.company.client h.client (told_to v change who.Client) change side.Client
-      traced.runs.client)
-      ∙ heard_append leg (happened h.client) (told_to v change who.Client)
-      ∙ ap (λ (bytes : List ℕ). heard_on leg (happened h.client) ++ bytes)
-      (piece_told (at v leg (receiver dir)) who.Client leg piece here))
+  module _ (reads : ReadsWell well pipe all) (why : Cause) where
+    -- a node of any role that the piece closes, by its events before
+    closes_for : {S : Type 0} (its : Rules S) → ClosesForRole its → (node : Who) → Told node
+        → (now : Shell S) (before : List moving.Event) (came put : List Message) (drawn : List ℕ)
+        → events_of (noted v h change) node ≡ before ++ told_to v change node
+        → ((end : NearEnd) → now.course ≡ Going → end_at now leg ≡ Some end
+        → Seated its now.role (node_reads ours node leg) came put (heard_on leg before) drawn end)
+        → ClosesWith its now (Comes leg piece) why → IsOfHeard its leg pipe all why
+    closes_for its closes_as node here now before came put drawn noted_is seats closes =
+        let same : pipe ≡ node_reads ours node leg =
+        reads_on ours (reader_of v.readers leg.number) leg.number leg.kind dir
+        ∙ ap (λ (x : Who). node_reads ours x leg) here in
+        let behind = all_is node here before noted_is in
+        subst (λ (bytes : List ℕ). IsOfHeard its leg pipe bytes why) (sym behind)
+        (closes_as well now leg piece why pipe came put (heard_on leg before) drawn
+        (strict_on leg.kind dir) (subst (ReadsWell well pipe) behind reads) (λ end going sits.
+        subst (λ (p : Option Pipe).
+        Seated its now.role p came put (heard_on leg before) drawn end) (sym same)
+        (seats end going sits)) closes)
 
-  server_heard : Told who.Server → ReadsWell well pipe (heard_on leg (happened h.server) ++ piece)
-  server_heard here =
-      reads (heard_on leg (happened h.server))
-      (ap (λ (x : Who). heard_on leg (events_of (noted v h change) x)) here
-      ∙ ap (heard_on leg) (happened_more rules.server deeds.server w.company.server
-      v.company.server h.server (told_to v change who.Server) change side.Server
-      traced.runs.server)
-      ∙ heard_append leg (happened h.server) (told_to v change who.Server)
-      ∙ ap (λ (bytes : List ℕ). heard_on leg (happened h.server) ++ bytes)
-      (piece_told (at v leg (receiver dir)) who.Server leg piece here))
+    -- an end with its stream
+    end_closes : {S : Type 0} (its : Rules S) (acts : Acts S) → ClosesForRole its → (node : Who)
+        → Told node → (start : S) (rooms : Rooms) (made now : Shell S) (before : List EndEvent)
+        → EndStream its acts start rooms (node_reads ours node) before → made ≡ begun start rooms
+        → now ≡ after_end_events its acts made before
+        → events_of (noted v h change) node ≡ happened before ++ told_to v change node
+        → ClosesWith its now (Comes leg piece) why → IsOfHeard its leg pipe all why
+    end_closes {S} its acts closes_as node here start rooms made now before f is run noted_is
+        closes =
+        closes_for its closes_as node here (after_end_events its acts (begun start rooms) before)
+        (happened before) (of_leg leg f.passage.passage.came) (of_leg leg f.passage.passage.put)
+        (end_drawn_on its acts (begun start rooms) leg before) noted_is (f.seats leg)
+        (subst (λ (s : Shell S). ClosesWith its s (Comes leg piece) why)
+        (run ∙ ap (λ (s : Shell S). after_end_events its acts s before) is) closes)
 
-  client_closes : Told who.Client → ClosesWith client.rules v.company.client (Comes leg piece) why
-      → IsOfRole client.rules leg why
-  client_closes here closes =
-      let f = flowing.flows.client in
-      let node = after_end_events client.rules client.acts (client.first_client ours.config)
-      h.client in
-      let same = client_reads_on (reader_of v.readers leg.number) leg.number leg.kind dir here in
-      let came = of_leg leg f.passage.passage.came in
-      let put = of_leg leg f.passage.passage.put in
-      let heard = heard_on leg (happened h.client) in
-      let drawn = end_drawn_on client.rules client.acts (client.first_client ours.config) leg h.client in
-      each.client well node leg piece why pipe came put heard drawn (strict_on leg.kind dir) (client_heard here) (λ end going sits.
-      subst (λ (p : Option Pipe). Seated client.rules node.role p came put heard drawn end) (sym same)
-      (f.seats leg end going sits))
-      (subst (λ (s : Shell ClientRole). ClosesWith client.rules s (Comes leg piece) why)
-      (traced.runs.client ∙ ap (λ (s : Shell ClientRole).
-      after_end_events client.rules client.acts s h.client) ours.client) closes)
+    -- a proxy with its stream
+    proxy_closes : {S : Type 0} (its : Rules S) → ClosesForRole its → (node : Who) → Told node
+        → (start : S) (rooms : Rooms) (made : Shell S) (before : List moving.Event)
+        → Stream its start rooms (node_reads ours node) before → made ≡ begun start rooms
+        → (place : Place S)
+        → events_of (noted v h change) node
+        ≡ before ++ at_place place (told_to v change node) (made_by v change node)
+        → (places.tell its (Comes leg piece) place).1 ≡ Some why → IsRun its made before place
+        → IsOfHeard its leg pipe all why
+    proxy_closes its closes_as node here start rooms made before f is Absent noted_is closes run =
+        absurd cc
+    proxy_closes its closes_as node here start rooms made before f is (Gone now) noted_is closes
+        run =
+        absurd cc
+    proxy_closes {S} its closes_as node here start rooms made before f is (Here now n) noted_is
+        closes run =
+        closes_for its closes_as node here (after_events its (begun start rooms) before) before
+        (of_leg leg f.passage.came) (of_leg leg f.passage.put)
+        (drawn_on its (begun start rooms) leg before) noted_is (f.seats leg)
+        (subst (λ (s : Shell S). ClosesWith its s (Comes leg piece) why)
+        (run ∙ ap (λ (s : Shell S). after_events its s before) is) closes)
 
-  server_closes : Told who.Server → ClosesWith server.rules v.company.server (Comes leg piece) why
-      → IsOfRole server.rules leg why
-  server_closes here closes =
-      let f = flowing.flows.server in
-      let node = after_end_events server.rules server.acts (server.new_server ours.window)
-      h.server in
-      let same = server_reads_on (reader_of v.readers leg.number) leg.number leg.kind dir here in
-      let came = of_leg leg f.passage.passage.came in
-      let put = of_leg leg f.passage.passage.put in
-      let heard = heard_on leg (happened h.server) in
-      let drawn = end_drawn_on server.rules server.acts (server.new_server ours.window) leg h.server in
-      each.server well node leg piece why pipe came put heard drawn (strict_on leg.kind dir) (server_heard here) (λ end going sits.
-      subst (λ (p : Option Pipe). Seated server.rules node.role p came put heard drawn end) (sym same)
-      (f.seats leg end going sits))
-      (subst (λ (s : Shell Server). ClosesWith server.rules s (Comes leg piece) why)
-      (traced.runs.server ∙ ap (λ (s : Shell Server).
-      after_end_events server.rules server.acts s h.server) ours.server) closes)
+    -- ---- any node
 
-  -- ---- the proxies
+    node_closes : (node : Who) → Told node
+        → (company.tell rules v.company node (Comes leg piece)).1 ≡ Some why
+        → IsOfNode node leg dir all why
+    node_closes who.Client here closes =
+        end_closes client.rules client.acts each.client who.Client here
+        (client_state.first ours.config) client.rooms w.company.client v.company.client h.client
+        flowing.flows.client ours.client traced.runs.client
+        (happened_more rules.client deeds.client w.company.client v.company.client h.client
+        (told_to v change who.Client) change side.Client traced.runs.client) closes
+    node_closes who.Server here closes =
+        end_closes server.rules server.acts each.server who.Server here
+        (server.first ours.window) server.rooms w.company.server v.company.server h.server
+        flowing.flows.server ours.server traced.runs.server
+        (happened_more rules.server deeds.server w.company.server v.company.server h.server
+        (told_to v change who.Server) change side.Server traced.runs.server) closes
+    node_closes (who.In n) here closes =
+        proxy_closes in_proxy.rules each.ins (who.In n) here (in_state.first (ours.in_config n))
+        in_proxy.rooms (m.in_proxy v.cast n) (h.ins n) (flowing.flows.ins n)
+        (ap (λ (c : K). m.in_proxy c n) flowing.cast ∙ ours.ins n) (in_place v.company n) refl
+        (sym (answered Absent (places.tell in_proxy.rules (Comes leg piece)) None refl
+        v.company.ins n) ∙ closes) (traced.runs.ins n)
+    node_closes (who.Out n) here closes =
+        proxy_closes out_proxy.rules each.outs (who.Out n) here (new_proxy (ours.out_config n))
+        ROOMS (m.out_proxy v.cast n) (h.outs n) (flowing.flows.outs n)
+        (ap (λ (c : K). m.out_proxy c n) flowing.cast ∙ ours.outs n) (out_place v.company n) refl
+        (sym (answered Absent (places.tell out_proxy.rules (Comes leg piece)) None refl
+        v.company.outs n) ∙ closes) (traced.runs.outs n)
 
-  in_heard : (n : ℕ) (node : Shell InProxy) (count_of : ℕ)
-      → in_place v.company n ≡ Here node count_of → Told (who.In n)
-      → ReadsWell well pipe (heard_on leg (h.ins n) ++ piece)
-  in_heard n node count_of there here =
-      reads (heard_on leg (h.ins n))
-      (ap (λ (x : Who). heard_on leg (events_of (noted v h change) x)) here
-      ∙ ap (λ (p : Place InProxy). heard_on leg (h.ins n ++ at_place p
-      (told_to v change (who.In n)) (made_by v change (who.In n)))) there
-      ∙ heard_append leg (h.ins n) (told_to v change (who.In n))
-      ∙ ap (λ (bytes : List ℕ). heard_on leg (h.ins n) ++ bytes)
-      (piece_told (at v leg (receiver dir)) (who.In n) leg piece here))
-
-  out_heard : (n : ℕ) (node : Shell OutProxy) (count_of : ℕ)
-      → out_place v.company n ≡ Here node count_of → Told (who.Out n)
-      → ReadsWell well pipe (heard_on leg (h.outs n) ++ piece)
-  out_heard n node count_of there here =
-      reads (heard_on leg (h.outs n))
-      (ap (λ (x : Who). heard_on leg (events_of (noted v h change) x)) here
-      ∙ ap (λ (p : Place OutProxy). heard_on leg (h.outs n ++ at_place p
-      (told_to v change (who.Out n)) (made_by v change (who.Out n)))) there
-      ∙ heard_append leg (h.outs n) (told_to v change (who.Out n))
-      ∙ ap (λ (bytes : List ℕ). heard_on leg (h.outs n) ++ bytes)
-      (piece_told (at v leg (receiver dir)) (who.Out n) leg piece here))
-
-  in_closes : (n : ℕ) (place : Place InProxy) → in_place v.company n ≡ place → Told (who.In n)
-      → (places.tell in_proxy.rules (Comes leg piece) place).1 ≡ Some why
-      → IsRun in_proxy.rules (m.in_proxy v.cast n) (h.ins n) place
-      → IsOfRole in_proxy.rules leg why
-  in_closes n Absent there here closes run = absurd cc
-  in_closes n (Gone now) there here closes run = absurd cc
-  in_closes n (Here node count_of) there here closes run =
-      let f = flowing.flows.ins n in
-      let now = after_events in_proxy.rules (in_proxy.first_node (ours.in_config n)) (h.ins n) in
-      let same = in_reads_on (ours.in_config n) n (reader_of v.readers leg.number) leg.number
-      leg.kind dir (ours.in_number n) here in
-      let came = of_leg leg f.passage.came in
-      let put = of_leg leg f.passage.put in
-      let heard = heard_on leg (h.ins n) in
-      let drawn = drawn_on in_proxy.rules (in_proxy.first_node (ours.in_config n)) leg (h.ins n) in
-      each.ins well now leg piece why pipe came put heard drawn (strict_on leg.kind dir) (in_heard n node count_of there here) (λ end going sits.
-      subst (λ (p : Option Pipe). Seated in_proxy.rules now.role p came put heard drawn end) (sym same)
-      (f.seats leg end going sits))
-      (subst (λ (s : Shell InProxy). ClosesWith in_proxy.rules s (Comes leg piece) why)
-      (run ∙ ap (λ (s : Shell InProxy). after_events in_proxy.rules s (h.ins n))
-      (ap (λ (c : K). m.in_proxy c n) flowing.cast ∙ ours.ins n)) closes)
-
-  out_closes : (n : ℕ) (place : Place OutProxy) → out_place v.company n ≡ place
-      → Told (who.Out n)
-      → (places.tell out_proxy.rules (Comes leg piece) place).1 ≡ Some why
-      → IsRun out_proxy.rules (m.out_proxy v.cast n) (h.outs n) place
-      → IsOfRole out_proxy.rules leg why
-  out_closes n Absent there here closes run = absurd cc
-  out_closes n (Gone now) there here closes run = absurd cc
-  out_closes n (Here node count_of) there here closes run =
-      let f = flowing.flows.outs n in
-      let now = after_events out_proxy.rules (begun (new_proxy (ours.out_config n)) ROOMS)
-      (h.outs n) in
-      let same = out_reads_on (ours.out_config n) n (reader_of v.readers leg.number) leg.number
-      leg.kind dir (ours.out_number n) here in
-      let came = of_leg leg f.passage.came in
-      let put = of_leg leg f.passage.put in
-      let heard = heard_on leg (h.outs n) in
-      let drawn = drawn_on out_proxy.rules (begun (new_proxy (ours.out_config n)) ROOMS) leg (h.outs n) in
-      each.outs well now leg piece why pipe came put heard drawn (strict_on leg.kind dir) (out_heard n node count_of there here) (λ end going sits.
-      subst (λ (p : Option Pipe). Seated out_proxy.rules now.role p came put heard drawn end) (sym same)
-      (f.seats leg end going sits))
-      (subst (λ (s : Shell OutProxy). ClosesWith out_proxy.rules s (Comes leg piece) why)
-      (run ∙ ap (λ (s : Shell OutProxy). after_events out_proxy.rules s (h.outs n))
-      (ap (λ (c : K). m.out_proxy c n) flowing.cast ∙ ours.outs n)) closes)
-
-  -- ---- any node
-
-  node_closes : (node : Who) → Told node
-      → (company.tell rules v.company node (Comes leg piece)).1 ≡ Some why
-      → IsOfNode node leg why
-  node_closes who.Client here closes = client_closes here closes
-  node_closes who.Server here closes = server_closes here closes
-  node_closes (who.In n) here closes =
-      in_closes n (in_place v.company n) refl here
-      (sym (answered Absent (places.tell in_proxy.rules (Comes leg piece)) None refl v.company.ins n)
-      ∙ closes) (traced.runs.ins n)
-  node_closes (who.Out n) here closes =
-      out_closes n (out_place v.company n) refl here
-      (sym (answered Absent (places.tell out_proxy.rules (Comes leg piece)) None refl
-      v.company.outs n) ∙ closes) (traced.runs.outs n)
-
-  pub fed_closes : (node : Who) → ClosesNode rules v change node why
-      → IsOfNode node leg why
-  fed_closes node is =
-      let here : at v leg (receiver dir) ≡ node = told_who _ _ _ _ is.told in
-      let event : Comes leg piece ≡ is.event = told_what _ _ _ _ is.told in
-      node_closes node here
-      (subst (λ (e : Event). (company.tell rules v.company node e).1 ≡ Some why) (sym event)
-      is.closes)
+    pub fed_closes : (node : Who) → ClosesNode rules v change node why
+        → IsOfNode node leg dir all why
+    fed_closes node is =
+        let here : at v leg (receiver dir) ≡ node = told_who _ _ _ _ is.told in
+        let event : Comes leg piece ≡ is.event = told_what _ _ _ _ is.told in
+        node_closes node here
+        (subst (λ (e : Event). (company.tell rules v.company node e).1 ≡ Some why) (sym event)
+        is.closes)

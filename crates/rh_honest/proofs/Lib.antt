@@ -1,4 +1,7 @@
+mod WaitedHeads
 mod HeardWell
+mod FirstHeads
+mod BadHeads
 mod AckRows
 mod ClientRows
 mod ServerRows

@@ -16,11 +16,17 @@ use Rattle.rh_history.proofs.Working.{all_wider, work_of_line, works_then}
 use Rattle.rh_world.specs.declared.any_world.AnyWorld.{AnyWorld}
 use Rattle.rh_world.specs.declared.any_world.AnyWorld.TheVariants.{Before, Direct, Settings, Roles}
 use Rattle.rh_world.specs.Any.{after, prepared}
+use Rattle.rh_world.specs.declared.config.WorldConfig.{WorldConfig}
 use Rattle.rh_world.specs.Roles as roles
 use Rattle.rh_bounds.proofs.Reached.{IsReached, IsRecorded, behind_lines, prepared_is_recorded}
 use Rattle.rh_closes.specs.Licences.{IsLicensed, midst}
 use Rattle.rh_closes.specs.Recordings.{IsLicensedAt, IsLicensedIn}
 use Rattle.rh_closes.proofs.Refused.{leads_midst}
+use Rattle.rh_traced.specs.Cookies.{ByChanges}
+use Rattle.rh_traced.proofs.ByChanges.{lines_by_changes}
+use Rattle.rh_fifo.specs.Flows.{numbers_of}
+use Rattle.rh_fifo.specs.Premises.{AreInRange}
+use Rattle.rh_fifo.proofs.Recorded.{in_range, ours}
 
 -- ---- the world in the midst of a line
 
@@ -59,7 +65,7 @@ module _ {K C S I O : Type 0} (r : Rulebook C S I O) (m : Makers K I O) (d : Dee
 -- ---- a line of a recording
 
 -- what follows of each change that closes the node so
-abbrev pub Follows : Who → Cause → Type 0 → Type 0
+abbrev Follows : Who → Cause → Type 0 → Type 0
 Follows node why X =
     (v : roles.World) → IsReached v → (change : Change) → MayChange roles.rules v change
     → ClosesNode roles.rules v change node why → X
@@ -82,9 +88,23 @@ of_any node why X law (Direct w) h line is = absurd is
 of_any node why X law (Settings config) h line is = absurd is
 of_any node why X law (Roles w) h line is = of_world node why X law w h line is
 
-pub of_recording : (node : Who) (why : Cause) (X : Type 0) → Follows node why X
+of_reached : (node : Who) (why : Cause) (X : Type 0) → Follows node why X
     → (before : List Line) (line : Line)
     → IsLicensedIn (prepared (after Before before) line) line node why → X
-of_recording node why X law before line is =
+of_reached node why X law before line is =
     of_any node why X law (prepared (after Before before) line)
     (prepared_is_recorded (after Before before) line (behind_lines Before before tt)) line is
+
+-- and of each change behind others, where settings made the world
+pub of_recording : (node : Who) (why : Cause) (X : Type 0)
+    → ((config : WorldConfig) → AreInRange (numbers_of (ours config)) → (v : roles.World)
+    → ByChanges roles.rules roles.makers roles.deeds (roles.begun config) v
+    → (change : Change) → MayChange roles.rules v change
+    → ClosesNode roles.rules v change node why → X)
+    → (before : List Line) (line : Line)
+    → IsLicensedIn (prepared (after Before before) line) line node why → X
+of_recording node why X law =
+    of_reached node why X (λ v reached.
+    law reached.config (in_range reached.config reached.ranges) v
+    (lines_by_changes roles.rules roles.makers roles.deeds (roles.begun reached.config) v
+    reached.lines))

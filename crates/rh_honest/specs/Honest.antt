@@ -1,5 +1,5 @@
 -- why an honest node closes by what is fed to it (MS-RPCH 3.2)
-use Rattle.std.specs.Prelude.{Some, None}
+use Rattle.std.specs.Prelude.{ℕ, List, Some, None}
 use Rattle.std.specs.declared.option.Option.{Option}
 use Rattle.rh_text.specs.declared.ends.Dir.{Dir}
 use Rattle.rh_text.specs.declared.ends.Dir.TheVariants.{U, D}
@@ -16,7 +16,7 @@ use Rattle.rh_inproxy.specs.Machine as in_proxy
 use Rattle.rh_outproxy.specs.Machine as out_proxy
 use Rattle.rh_server.specs.Servers as server
 use Rattle.rh_reading.specs.Well.{Answers, is_named, is_packet}
-use Rattle.rh_honest.specs.Causes.{IsOfRole}
+use Rattle.rh_honest.specs.Causes.{IsOfHeard}
 
 -- the pipe that is read where a direction of a leg goes; to a client no packet comes on a ci leg
 -- (MS-RPCH 2.2.4)
@@ -37,9 +37,9 @@ well_on ClientOut D = is_packet
 well_on ClientIn D = is_packet
 well_on kind dir = is_named
 
--- the node's role has such a cause
-abbrev pub IsOfNode : Who → Leg → Cause → Type 0
-IsOfNode Client leg why = IsOfRole client.rules leg why
-IsOfNode Server leg why = IsOfRole server.rules leg why
-IsOfNode (In n) leg why = IsOfRole in_proxy.rules leg why
-IsOfNode (Out n) leg why = IsOfRole out_proxy.rules leg why
+-- the node's role has such a cause, where it heard these bytes of a direction of the leg
+abbrev pub IsOfNode : Who → Leg → Dir → List ℕ → Cause → Type 0
+IsOfNode Client leg dir heard why = IsOfHeard client.rules leg (read_on leg.kind dir) heard why
+IsOfNode Server leg dir heard why = IsOfHeard server.rules leg (read_on leg.kind dir) heard why
+IsOfNode (In n) leg dir heard why = IsOfHeard in_proxy.rules leg (read_on leg.kind dir) heard why
+IsOfNode (Out n) leg dir heard why = IsOfHeard out_proxy.rules leg (read_on leg.kind dir) heard why

@@ -16,6 +16,6 @@ pub use recordings::{
     only_acknowledgements_of_a_recording_are_out_of_range,
 };
 pub use worlds::{
-    no_change_closes_a_node_for_bad_bytes, what_is_fed_closes_for_the_role,
-    what_is_heard_reads_well,
+    heads_that_are_heard_break_no_rule, no_change_closes_a_node_for_bad_bytes,
+    what_is_fed_closes_for_the_role, what_is_heard_reads_well,
 };

@@ -1,10 +1,11 @@
 //! What closes no node of a recording. These functions do nothing: their contracts are the laws.
 
 ghost use Rattle.std.specs.Prelude.{◌≡◌, List, ℕ};
+ghost use Rattle.rh_http.specs.declared.fault.HttpFault.{HttpFault};
 ghost use Rattle.rh_pdu.specs.declared.fault.HeadFault.{HeadFault};
 ghost use Rattle.rh_rts.specs.declared.fault.RtsFault.{RtsFault};
 ghost use Rattle.rh_window.specs.declared.fault.TheConstants.{FLOW_CONTROL_ACK};
-ghost use Rattle.rh_line.specs.declared.cause.Cause.TheVariants.{BadFrame, BadPacket, OutOfRange};
+ghost use Rattle.rh_line.specs.declared.cause.Cause.TheVariants.{BadFrame, BadHead, BadPacket, OutOfRange};
 ghost use Rattle.rh_line.specs.declared.leg.Leg.{Leg};
 ghost use Rattle.rh_record.specs.declared.answer.Answer.TheVariants.{NodeClosed};
 ghost use Rattle.rh_record.specs.declared.answer.Who.{Who};
@@ -22,9 +23,9 @@ use rh_server::ServerRole;
 use rh_traced::turns_are_changes;
 use rh_world::WorldConfig;
 
-/// In no recording does a report tell of a node that closed with `BadFrame` or with `BadPacket`:
-/// whatever a recording cuts, delays, breaks and replaces, honest roles put frames and packets that
-/// read well.
+/// In no recording does a report tell of a node that closed with `BadFrame`, with `BadPacket` or
+/// with `BadHead`: whatever a recording cuts, delays, breaks and replaces, honest roles put frames,
+/// packets and heads that read well.
 pub fn no_node_of_a_recording_closes_for_bad_bytes()
     ensures frame { (before : List Line) (line : Line) (node : Who) (leg : Leg) (place : ℕ)
         (fault : HeadFault)
@@ -34,6 +35,10 @@ pub fn no_node_of_a_recording_closes_for_bad_bytes()
         (fault : RtsFault)
         → IsOneOf (NodeClosed node (BadPacket leg place fault))
         (step (after Before before) line).1 → ⊥ }
+    ensures head { (before : List Line) (line : Line) (node : Who) (leg : Leg) (place : ℕ)
+        (fault : HttpFault)
+        → IsOneOf (NodeClosed node (BadHead leg place fault)) (step (after Before before) line).1
+        → ⊥ }
 {
     each_close_of_a_recording_shows();
     no_change_closes_a_node_for_bad_bytes::<WorldConfig>();

@@ -1,9 +1,3 @@
-use Rattle.std.proofs.Common.{subst}
-use mathlib.Core.List.{IsPrefix}
-use Rattle.rh_history.specs.Carried.{drawn_by, end_node, events_of, heard_on}
-use Rattle.rh_history.specs.Changes.{changed}
-use Rattle.rh_history.specs.Histories.{noted}
-use Rattle.rh_nodes.specs.Wires.{receiver, sender}
 use Rattle.rh_traced.specs.Ours.{deeds, rules}
 use Rattle.rh_ordered.specs.Premises.{history_at}
 use Rattle.rh_honest.proofs.Drawn.{Texts, leg_well}
@@ -26,11 +20,7 @@ returns g c = λ m w new ours ranges v by change may leg dir.
     } in
     let known = c.a_recording_of_roles_is_known.ensures.changes m w v new ours by.leads in
     let h = history_at m w v by.leads in
-    let flowing = c.what_is_put_is_legible.ensures m w new ours ranges v by in
-    let bytes = heard_on leg (events_of (noted v h change)
-    (end_node (changed rules m deeds v change).readers leg (receiver dir))) in
-    leg_well texts m w v ours h flowing v.readers leg dir bytes
-    (subst (λ (k : g.row.K.Denot). IsPrefix bytes
-    (drawn_by rules m deeds w.company k h (end_node v.readers leg (sender dir)) leg)) flowing.cast
+    leg_well texts m w v ours h (c.what_is_put_is_legible.ensures m w new ours ranges v by)
+    v.readers leg dir _
     (c.what_is_heard_was_drawn_before.ensures rules m deeds w.company v h known.traced known.once
-    change may leg dir))
+    change may leg dir)
