@@ -1,0 +1,5 @@
+mod Legs
+mod Counts
+mod Sending
+mod Steps
+mod InProxySends
