@@ -2,4 +2,12 @@ mod Legs
 mod Counts
 mod Sending
 mod Steps
+mod Places
+mod Receiving
+mod ServerReceives
 mod InProxySends
+mod OutProxyReceives
+mod Numbered
+mod ServerSends
+mod NextRefused
+mod OneByte

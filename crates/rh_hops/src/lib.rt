@@ -3,5 +3,9 @@
 #![tactic(auto)]
 
 pub mod in_proxy;
+pub mod out_proxy;
+pub mod server;
 
 pub use in_proxy::an_in_proxy_sends_within_the_servers_window;
+pub use out_proxy::an_out_proxy_receives_within_its_window;
+pub use server::{a_server_receives_within_its_window, a_server_sends_within_the_proxys_window};
