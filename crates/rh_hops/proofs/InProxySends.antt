@@ -472,4 +472,5 @@ in_proxy_sends config moves allowed =
       within = sends_within p.role.window (of_leg leg p.came) (of_leg leg p.put) h.window;
       refuses = λ count named.
           refused_packet config p.role (of_leg leg p.came) (of_leg leg p.put) count named h;
+      pdus = λ count pdu. refl;
     }

@@ -11,3 +11,5 @@ mod Numbered
 mod ServerSends
 mod NextRefused
 mod OneByte
+mod Hop
+mod Pieces

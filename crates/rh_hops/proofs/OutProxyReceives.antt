@@ -42,7 +42,7 @@ use Rattle.rh_outproxy.specs.Putting.{put as put_of}
 use Rattle.rh_outproxy.specs.Machine.{packet, pdu, on_co, on_os}
 use Rattle.rh_outproxy.specs.Machine.{rules as proxy_rules}
 use Rattle.rh_held.specs.Holding.{Holds}
-use Rattle.rh_hops.specs.Hops.{os_leg, pdu_bytes, edge_in, edge_told, greatest_edge, IsTrueAck, RefusesBehind, ReceivesWithin}
+use Rattle.rh_hops.specs.Hops.{os_leg, pdu_bytes, edge_in, edge_told, greatest_edge, IsTrueAck, IsNoWindow, RefusesBehind, ReceivesWithin}
 use Rattle.rh_hops.proofs.Legs.{on, same_back, same_other}
 use Rattle.rh_hops.proofs.Counts.{bytes_rise, all_later, all_append}
 use Rattle.rh_hops.proofs.Receiving.{Receives, came_more, put_within, admitted_told, admitted_size, received_more, refused_same, IsBehind, refused_behind, due_is}
@@ -425,6 +425,22 @@ module _ (config : OutProxyConfig) (is : IsWindow config.window) where
       verdict (Err (line_fault.Window exceeded)) is_behind = is_behind
       verdict (Err line_fault.Over) is_behind = tt
 
+-- no packet is refused for a window
+os_no_window : (s : OutProxy) (named : Named) → IsNoWindow (on_os s named).1
+os_no_window s named = search rules
+
+co_no_window : (s : OutProxy) (count : Count) (named : Named)
+    → IsNoWindow (on_co s count named).1
+co_no_window s count named = search rules
+
+no_window : (s : OutProxy) (other : Leg) (count : Count) (named : Named)
+    → IsNoWindow (packet s other count named).1
+no_window s other count named =
+    by_test (λ (x : Done). IsNoWindow x.1) (is_co s other) (on_co s count named)
+    (if is_os s other then on_os s named else unexpected s) (λ e. co_no_window s count named)
+    (λ e. by_test (λ (x : Done). IsNoWindow x.1) (is_os s other) (on_os s named) (unexpected s)
+    (λ f. os_no_window s named) (λ f. tt))
+
 pub out_proxy_receives : (config : OutProxyConfig) (moves : List Move)
     → IsWindow config.window
     → ((front : List Move) → AreAllowed proxy_rules (started (new_proxy config)) front
@@ -441,5 +457,6 @@ out_proxy_receives config moves is known allowed =
     record {
       refuses = λ count bytes.
           refused_pdu config is p.role count bytes (of_leg leg p.came) (of_leg leg p.put) h;
+      packets = λ count named. no_window p.role leg count named;
       acks = h.acks;
     }

@@ -62,7 +62,7 @@ use Rattle.rh_server.specs.Servers.{on_is, on_os, packet_by, pdu_by, first, acts
 use Rattle.rh_server.specs.Servers.{rules as server_rules}
 use Rattle.rh_server.specs.Order.{taker_of}
 use Rattle.rh_held.specs.Holding.{Holds}
-use Rattle.rh_hops.specs.Hops.{is_leg, pdu_bytes, edge_told, edge_in, greatest_edge, IsTrueAck, RefusesBehind, ReceivesWithin}
+use Rattle.rh_hops.specs.Hops.{is_leg, pdu_bytes, edge_told, edge_in, greatest_edge, IsNoWindow, IsTrueAck, RefusesBehind, ReceivesWithin}
 use Rattle.rh_hops.proofs.Legs.{on, itself}
 use Rattle.rh_hops.proofs.Counts.{bytes_rise, edges_within, all_later, all_append}
 use Rattle.rh_hops.proofs.Places.{all_at, all_set, all_removed, all_weaken, found_passes}
@@ -1426,6 +1426,19 @@ module _ (window n : ℕ) (is : IsWindow window) where
           verdict which (lines.admit_verdict s.line which pdu)
           (refused_behind (lines.channel_of s.line which) came put pdu r)
 
+-- ---- no packet is refused for a window
+
+is_no_window : (s : Server) (n : ℕ) (count : Count) (packet : Named)
+    → IsNoWindow (on_is s n count packet).1
+is_no_window s n count (named.ConnB2 v1 v2 v3 v4 v5 v6 v7 v8) = search rules
+is_no_window s n count (named.InR1A2 v1 v2 v3 v4 v5 v6) = search rules
+is_no_window s n count (named.InR1A6 v1) = search rules
+is_no_window s n count (named.InR2A2 v1) = search rules
+is_no_window s n count (named.AckTo v1 v2 v3 v4) = search rules
+is_no_window s n count (named.OutR1A8 v1 v2) = search rules
+is_no_window s n count named.EndA2 = search rules
+is_no_window s n count packet = tt
+
 -- ---- the law
 
 pub known_by : (window : ℕ) (taken : List (List ℕ)) (s : Server) (legs : ℕ → Bool) (came : Log)
@@ -1458,5 +1471,6 @@ server_receives window n moves is known allowed =
       refuses = λ count pdu.
           refused_pdu window n is p.role pdu (of_leg leg p.came) (of_leg leg p.put)
           (known moves allowed) h;
+      packets = λ count packet. is_no_window p.role n count packet;
       acks = h.window_of.acks;
     }

@@ -1010,4 +1010,5 @@ server_sends window n moves allowed =
       within = h.of_leg_n.within;
       refuses = λ count packet.
           refused_packet n p.role count packet (of_leg leg p.came) (of_leg leg p.put) h;
+      pdus = λ count pdu. refl;
     }

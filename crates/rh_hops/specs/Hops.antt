@@ -1,6 +1,6 @@
 -- what the messages of a leg say of the receive window of the hop there (MS-RPCH 3.2): the bytes of
 -- RPC PDUs that were sent, and up to where their sender was told that it may send
-use Rattle.std.specs.Prelude.{ℕ, ◌+◌, ◌<◌, ◌≤◌, ◌⊎◌, max, List, [], ◌∷◌, length, Err}
+use Rattle.std.specs.Prelude.{◌≡◌, ℕ, ◌+◌, ◌<◌, ◌≤◌, ◌⊎◌, max, List, [], ◌∷◌, length, Err}
 use Rattle.std.specs.List.{AllByRecursion}
 use Rattle.rh_window.specs.declared.range.TheConstants.{GREATEST_WINDOW}
 use Rattle.rh_sig.specs.declared.named.Named.{Named}
@@ -61,12 +61,14 @@ RefusesFalseAcks sent named (Err (refused.OutOfRange command value)) = IsFalseAc
 RefusesFalseAcks sent named row = Unit {0}
 
 -- a role that sends on a leg sent no more than it was told, and refuses an acknowledgement only
--- where it is false
+-- where it is false; it expects no PDU there
 pub record SendsWithin {S : Type 0} (rules : Rules S) (leg : Leg) (p : Passage S) : Type 0 where
   pub within : pdu_bytes (of_leg leg p.put) ≤ greatest_edge (of_leg leg p.came)
   pub refuses : (count : Count) (named : Named)
       → RefusesFalseAcks (pdu_bytes (of_leg leg p.put)) named
       (rules.packet p.role leg count named).1
+  pub pdus : (count : Count) (pdu : List ℕ)
+      → (rules.pdu p.role leg count pdu).1 ≡ Err refused.Unexpected
 
 -- ---- the side that receives
 
@@ -81,10 +83,17 @@ abbrev pub RefusesBehind : ℕ → ℕ → Row → Type 0
 RefusesBehind edge reached (Err (refused.Window exceeded)) = edge < reached
 RefusesBehind edge reached row = Unit {0}
 
+-- not for a window
+abbrev pub IsNoWindow : Row → Type 0
+IsNoWindow (Err (refused.Window exceeded)) = ⊥
+IsNoWindow row = Unit {0}
+
 -- a role that receives on a leg refuses a PDU for its window only where that ends behind all that
--- it told, and it tells the truth
+-- it told, and no packet; and it tells the truth
 pub record ReceivesWithin {S : Type 0} (rules : Rules S) (leg : Leg) (p : Passage S) : Type 0 where
   pub refuses : (count : Count) (pdu : List ℕ)
       → RefusesBehind (greatest_edge (of_leg leg p.put))
       (pdu_bytes (of_leg leg p.came) + length pdu) (rules.pdu p.role leg count pdu).1
+  pub packets : (count : Count) (named : Named)
+      → IsNoWindow (rules.packet p.role leg count named).1
   pub acks : AllByRecursion (IsTrueAck (pdu_bytes (of_leg leg p.came))) (of_leg leg p.put)
