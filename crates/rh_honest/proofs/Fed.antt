@@ -128,7 +128,7 @@ in_number a b e = cc
 out_number : (a b : ℕ) → who.Out a ≡ who.Out b → a ≡ b
 out_number a b e = cc
 
-in_reads_on : (config : InProxyConfig) (n reader number : ℕ) (kind : LegKind) (dir : Dir)
+pub in_reads_on : (config : InProxyConfig) (n reader number : ℕ) (kind : LegKind) (dir : Dir)
     → config.number ≡ n → node_by reader number kind (receiver dir) ≡ who.In n
     → read_on kind dir ≡ pipes.in_pipe config (leg_at kind number)
 in_reads_on config n reader number ClientIn U is e = refl
@@ -144,7 +144,7 @@ in_reads_on config n reader number ClientOut D is e = absurd cc
 in_reads_on config n reader number OutServer U is e = absurd cc
 in_reads_on config n reader number OutServer D is e = absurd cc
 
-out_reads_on : (config : OutProxyConfig) (n reader number : ℕ) (kind : LegKind) (dir : Dir)
+pub out_reads_on : (config : OutProxyConfig) (n reader number : ℕ) (kind : LegKind) (dir : Dir)
     → config.number ≡ n → node_by reader number kind (receiver dir) ≡ who.Out n
     → read_on kind dir ≡ down.proxy_reads config (leg_at kind number)
 out_reads_on config n reader number ClientOut U is e =
@@ -170,7 +170,7 @@ what_in : Event → Option (Who × Event) → Event
 what_in other None = other
 what_in other (Some told) = told.1
 
-told_who : (a b : Who) (x y : Event)
+pub told_who : (a b : Who) (x y : Event)
     → ◌≡◌ {A = Option (Who × Event)} (Some (a, x)) (Some (b, y)) → a ≡ b
 unfolding who_in
 told_who a b x y e = ap (who_in a) e
@@ -180,7 +180,7 @@ pub told_what : (a b : Who) (x y : Event)
 unfolding what_in
 told_what a b x y e = ap (what_in x) e
 
-same_who : (node : Who) → is_same node node ≡ true
+pub same_who : (node : Who) → is_same node node ≡ true
 same_who who.Client = refl
 same_who who.Server = refl
 same_who (who.In n) = eq-eqb n n refl

@@ -13,3 +13,6 @@ mod NextRefused
 mod OneByte
 mod Hop
 mod Pieces
+mod Stopping
+mod Fed
+mod Moment
