@@ -16,3 +16,4 @@ mod Pieces
 mod Stopping
 mod Fed
 mod Moment
+mod Servers
