@@ -77,63 +77,34 @@ module _ {K : Type 0} (first : Shell Server) (v : World K ClientRole Server InPr
       ∙ ap (λ (events : List moving.Event). after_end_events rules.server deeds.server
       v.company.server (map Happens events ++ [])) (told_here v h leg dir who.Server here count)
 
--- ---- an in proxy
+-- ---- a proxy
 
-module _ {K : Type 0} (first : Shell InProxy) (v : World K ClientRole Server InProxy OutProxy)
-    (h : History) (n : ℕ) (now : Shell InProxy) (legs_up : ℕ)
-    (there : in_place v.company n ≡ Here now legs_up)
-    (run : now ≡ after_events rules.in_proxy first (h.ins n))
-    (leg : Leg) (dir : Dir) (here : at v leg (receiver dir) ≡ who.In n) (count : ℕ) where
-  in_events : (noted v h (IsFed leg dir count)).ins n
-      ≡ h.ins n ++ told_to v (IsFed leg dir count) (who.In n)
-  in_events = ap (λ (p : Place InProxy). h.ins n ++ at_place p
+module _ {K : Type 0} (v : World K ClientRole Server InProxy OutProxy) (h : History) (n : ℕ)
+    (leg : Leg) (dir : Dir) (count : ℕ) where
+  pub in_events : (here : at v leg (receiver dir) ≡ who.In n) (now : Shell InProxy) (up : ℕ)
+      → in_place v.company n ≡ Here now up
+      → (noted v h (IsFed leg dir count)).ins n
+      ≡ h.ins n ++ moving.Hears leg (piece v h leg dir (who.In n) here count) ∷ []
+  in_events here now up there =
+      ap (λ (p : Place InProxy). h.ins n ++ at_place p
       (told_to v (IsFed leg dir count) (who.In n)) (made_by v (IsFed leg dir count) (who.In n))) there
+      ∙ ap (λ (es : List moving.Event). h.ins n ++ es) (told_here v h leg dir (who.In n) here count)
 
-  pub in_heard : heard_on leg ((noted v h (IsFed leg dir count)).ins n)
-      ≡ heard_on leg (h.ins n) ++ piece v h leg dir (who.In n) here count
-  in_heard =
-      ap (heard_on leg) in_events
-      ∙ heard_append leg (h.ins n) (told_to v (IsFed leg dir count) (who.In n))
-      ∙ ap (λ (bytes : List ℕ). heard_on leg (h.ins n) ++ bytes)
-      (heard_told v h leg dir (who.In n) here count)
-
-  pub in_behind : after_events rules.in_proxy first ((noted v h (IsFed leg dir count)).ins n)
-      ≡ (bytes rules.in_proxy now leg (piece v h leg dir (who.In n) here count)).0
-  in_behind =
-      ap (after_events rules.in_proxy first) in_events
-      ∙ events_append rules.in_proxy first (h.ins n) _
-      ∙ ap (λ (s : Shell InProxy). after_events rules.in_proxy s
-      (told_to v (IsFed leg dir count) (who.In n))) (sym run)
-      ∙ ap (λ (events : List moving.Event). after_events rules.in_proxy now events)
-      (told_here v h leg dir (who.In n) here count)
-
--- ---- an out proxy
-
-module _ {K : Type 0} (first : Shell OutProxy) (v : World K ClientRole Server InProxy OutProxy)
-    (h : History) (n : ℕ) (now : Shell OutProxy) (legs_up : ℕ)
-    (there : out_place v.company n ≡ Here now legs_up)
-    (run : now ≡ after_events rules.out_proxy first (h.outs n))
-    (leg : Leg) (dir : Dir) (here : at v leg (receiver dir) ≡ who.Out n) (count : ℕ) where
-  out_events : (noted v h (IsFed leg dir count)).outs n
-      ≡ h.outs n ++ told_to v (IsFed leg dir count) (who.Out n)
-  out_events = ap (λ (p : Place OutProxy). h.outs n ++ at_place p
+  pub out_events : (here : at v leg (receiver dir) ≡ who.Out n) (now : Shell OutProxy) (up : ℕ)
+      → out_place v.company n ≡ Here now up
+      → (noted v h (IsFed leg dir count)).outs n
+      ≡ h.outs n ++ moving.Hears leg (piece v h leg dir (who.Out n) here count) ∷ []
+  out_events here now up there =
+      ap (λ (p : Place OutProxy). h.outs n ++ at_place p
       (told_to v (IsFed leg dir count) (who.Out n))
       (made_by v (IsFed leg dir count) (who.Out n))) there
+      ∙ ap (λ (es : List moving.Event). h.outs n ++ es) (told_here v h leg dir (who.Out n) here count)
 
-  pub out_heard : heard_on leg ((noted v h (IsFed leg dir count)).outs n)
-      ≡ heard_on leg (h.outs n) ++ piece v h leg dir (who.Out n) here count
-  out_heard =
-      ap (heard_on leg) out_events
-      ∙ heard_append leg (h.outs n) (told_to v (IsFed leg dir count) (who.Out n))
-      ∙ ap (λ (bytes : List ℕ). heard_on leg (h.outs n) ++ bytes)
-      (heard_told v h leg dir (who.Out n) here count)
+-- ---- any node
 
-  pub out_behind : after_events rules.out_proxy first ((noted v h (IsFed leg dir count)).outs n)
-      ≡ (bytes rules.out_proxy now leg (piece v h leg dir (who.Out n) here count)).0
-  out_behind =
-      ap (after_events rules.out_proxy first) out_events
-      ∙ events_append rules.out_proxy first (h.outs n) _
-      ∙ ap (λ (s : Shell OutProxy). after_events rules.out_proxy s
-      (told_to v (IsFed leg dir count) (who.Out n))) (sym run)
-      ∙ ap (λ (events : List moving.Event). after_events rules.out_proxy now events)
-      (told_here v h leg dir (who.Out n) here count)
+pub heard_behind : (leg : Leg) (es : List moving.Event) (bytes : List ℕ)
+    → heard_on leg (es ++ moving.Hears leg bytes ∷ []) ≡ heard_on leg es ++ bytes
+heard_behind leg es bytes =
+    heard_append leg es (moving.Hears leg bytes ∷ [])
+    ∙ ap (λ (t : Bool). heard_on leg es ++ ((if t then bytes else []) ++ [])) (leg_itself leg)
+    ∙ ap (λ (xs : List ℕ). heard_on leg es ++ xs) (append-nil bytes)

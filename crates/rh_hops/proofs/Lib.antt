@@ -17,3 +17,4 @@ mod Stopping
 mod Fed
 mod Moment
 mod Servers
+mod Nodes
