@@ -18,3 +18,4 @@ mod Fed
 mod Moment
 mod Servers
 mod Nodes
+mod HopsKept

@@ -66,10 +66,10 @@ module _ {K : Type 0} (m : Makers K InProxy OutProxy)
     (count : ℕ)
     (closes : ClosesWith server.rules v.company.server
     (Comes leg (legs.take_out leg U count v.legs).1) why) where
-  abbrev first : Shell Server
+  abbrev pub first : Shell Server
   first = server.new_server ours.window
 
-  abbrev h : History
+  abbrev pub h : History
   h = now m w v ours law by leg U may
 
   run : v.company.server ≡ after_end_events server.rules server.acts first h.server
@@ -78,20 +78,20 @@ module _ {K : Type 0} (m : Makers K InProxy OutProxy)
       ∙ ap (λ (s : Shell Server). after_end_events server.rules server.acts s h.server) ours.server
 
   -- the byte that closes it, and what was fed before
-  abbrev byte : AtByte server.rules leg v.company.server (legs.take_out leg U count v.legs).1 why
+  abbrev pub byte : AtByte server.rules leg v.company.server (legs.take_out leg U count v.legs).1 why
   byte = closes_at server.rules node v.company.server leg (legs.take_out leg U count v.legs).1 why
       closes
 
-  abbrev short : ℕ
+  abbrev pub short : ℕ
   short = length byte.front
 
   fronts : FedFronts leg U v.legs byte.front byte.byte
   fronts = fed_fronts leg U v.legs count byte.front byte.behind byte.byte byte.split
 
-  abbrev then_history : History
+  abbrev pub then_history : History
   then_history = behind m w v ours law by leg U may short
 
-  abbrev then_flowing : IsFlowing (numbers_of ours) w (changed rules m deeds v (IsFed leg U short))
+  abbrev pub then_flowing : IsFlowing (numbers_of ours) w (changed rules m deeds v (IsFed leg U short))
       then_history
   then_flowing = flowing_behind m w v ours law by leg U may short
 
