@@ -50,7 +50,7 @@ use Rattle.rh_causes.specs.Closings.{ClosesWith}
 use Rattle.rh_causes.specs.Refusals.{MayRefuseOn}
 use Rattle.rh_history.specs.Carried.{drawn_by, drawn_on, end_drawn_on, events_of, happened, heard_on}
 use Rattle.rh_history.specs.Changes.{IsFed, MayChange, changed}
-use Rattle.rh_history.specs.Histories.{History, in_place, out_place}
+use Rattle.rh_history.specs.Histories.{History, IsRun, in_place, out_place}
 use Rattle.rh_reading.specs.Reading.{Begins, messages_read}
 use Rattle.rh_reading.specs.Well.{ReadsWell}
 use Rattle.rh_streams.specs.Streams.{Stream}
@@ -70,7 +70,7 @@ use Rattle.rh_hops.specs.Refusing.{refused_by}
 use Rattle.rh_hops.proofs.Fed.{piece, in_events, out_events, heard_behind}
 use Rattle.rh_hops.proofs.Hop.{never_exceeded, never_out_of_range}
 use Rattle.rh_hops.proofs.Moment.{Laws, NodeLaws, now, known, flowing, behind, flowing_behind, well_behind, drawn_before, drawn_now, closes_at}
-use Rattle.rh_hops.proofs.Nodes.{node_stops}
+use Rattle.rh_hops.proofs.Nodes.{NodeStream, node_stops}
 use Rattle.rh_hops.proofs.OneByte.{AtByte}
 use Rattle.rh_hops.proofs.Pieces.{FedFronts, fed_fronts}
 use Rattle.rh_hops.proofs.Servers.{short, server_passage, server_stops}
@@ -339,3 +339,217 @@ module _ {K : Type 0} (hop : HopLaws) (m : Makers K InProxy OutProxy)
             (from_server m w.company w.cast ours h leg (heard_on leg (h.outs n))
             (drawn_now m w v ours law by leg U may D))
             ((f.flows.outs n).read leg) (then_f.begun.server_out n)
+
+    -- ---- an in proxy
+
+    in_range : (may : (count : ℕ) → MayChange rules v (IsFed (is_leg n) D count))
+        (node : Shell InProxy) (up : ℕ) → in_place v.company n ≡ Here node up
+        → (l : Leg) (command value count : ℕ)
+        → ClosesWith in_proxy.rules node
+        (Comes (is_leg n) (legs.take_out (is_leg n) D count v.legs).1)
+        (cause.OutOfRange l command value) → ⊥
+    in_range may node up there l command value count closes =
+        never_out_of_range in_proxy.rules server.rules leg before.stream.passage (server_at v h f)
+        stops.message stops.joined command value before.law (server_receives v h f n) stops.refuses
+      where
+        leg : Leg
+        leg = is_leg n
+
+        config : InProxyConfig
+        config = ours.in_config n
+
+        why : Cause
+        why = cause.OutOfRange l command value
+
+        r : Refused
+        r = refused.OutOfRange command value
+
+        h : History
+        h = now m w v ours law by (is_leg n) D may
+
+        f : IsFlowing (numbers_of ours) w v h
+        f = flowing m w v ours law by (is_leg n) D may
+
+        run : node ≡ after_events in_proxy.rules (in_proxy.first_node (ours.in_config n)) (h.ins n)
+        run =
+            subst (IsRun in_proxy.rules (m.in_proxy v.cast n) (h.ins n)) there
+            ((known m w v ours law by (is_leg n) D may).traced.runs.ins n)
+            ∙ ap (λ (s : Shell InProxy). after_events in_proxy.rules s (h.ins n))
+            (ap (λ (c : K). m.in_proxy c n) f.cast ∙ ours.ins n)
+
+        byte : AtByte in_proxy.rules (is_leg n) node
+            (legs.take_out (is_leg n) D count v.legs).1 why
+        byte = closes_at in_proxy.rules hop.ins node (is_leg n)
+            (legs.take_out (is_leg n) D count v.legs).1 why closes
+
+        fronts : FedFronts (is_leg n) D v.legs byte.front byte.byte
+        fronts = fed_fronts (is_leg n) D v.legs count byte.front byte.behind byte.byte byte.split
+
+        k : ℕ
+        k = length byte.front
+
+        u : World K ClientRole Server InProxy OutProxy
+        u = changed rules m deeds v (IsFed (is_leg n) D k)
+
+        g : History
+        g = behind m w v ours law by (is_leg n) D may k
+
+        then_f : IsFlowing (numbers_of ours) w u g
+        then_f = flowing_behind m w v ours law by (is_leg n) D may k
+
+        X : Passage InProxy → Type 0
+        X p = SendsWithin in_proxy.rules (is_leg n) p
+
+        before : NodeStream in_proxy.rules (in_state.first config) in_proxy.rooms
+            (pipes.in_pipe config) (is_leg n) (Some IsU) X
+            (h.ins n ++ Hears (is_leg n) byte.front ∷ [])
+        before =
+            subst (NodeStream in_proxy.rules (in_state.first config) in_proxy.rooms
+            (pipes.in_pipe config) (is_leg n) (Some IsU) X)
+            (in_events v h n (is_leg n) D k refl node up there
+            ∙ ap (λ (bytes : List ℕ). h.ins n ++ Hears (is_leg n) bytes ∷ []) fronts.is)
+            (record {
+              stream = then_f.flows.ins n;
+              begins = then_f.begun.in_server n;
+              reads_back = in_back u g then_f n;
+              spells = in_spells u g then_f n;
+              law = in_sends u g then_f n;
+            })
+
+        heard : List ℕ
+        heard = heard_on (is_leg n) (h.ins n) ++ (byte.front ++ byte.byte ∷ [])
+
+        next : heard_on (is_leg n) ((behind m w v ours law by (is_leg n) D may (k + 1)).ins n)
+            ≡ heard
+        next =
+            ap (heard_on (is_leg n)) (in_events v h n (is_leg n) D (k + 1) refl node up there)
+            ∙ heard_behind (is_leg n) (h.ins n)
+            (piece v h (is_leg n) D (who.In n) refl (k + 1))
+            ∙ ap (λ (bytes : List ℕ). heard_on (is_leg n) (h.ins n) ++ bytes) fronts.more
+
+        stops : StopsAt in_proxy.rules before.stream.passage.role (is_leg n) r
+            (of_leg (is_leg n) before.stream.passage.came)
+            (of_leg (is_leg n) before.stream.passage.put)
+            (of_leg (is_leg n) (server_at v h f).came) (of_leg (is_leg n) (server_at v h f).put)
+        stops = node_stops hop.readings (well_on InServer D) (strict_on InServer D).ranges
+            in_proxy.rules (in_state.first config) in_proxy.rooms (pipes.in_pipe config) leg
+            (h.ins n) node run r why refl (legs.take_out (is_leg n) D count v.legs).1 byte (Some IsU)
+            X before (server_at v h f) (Some IsD)
+            (sym (in_reads_on config n n n InServer D (ours.in_number n) refl))
+            (heard_on leg (happened h.server))
+            (subst (ReadsWell (well_on InServer D) (Some IsD)) next
+            (well_behind m w v ours law by leg D may (k + 1)))
+            (server_way v h f leg heard (f.begun.server_in n)
+            (subst (λ (bytes : List ℕ). IsPrefix bytes
+            (drawn_by rules m deeds w.company w.cast h who.Server leg)) next
+            (drawn_before m w v ours law by leg D may (k + 1))))
+            (from_in m w.company w.cast ours h n leg (heard_on leg (happened h.server))
+            (drawn_now m w v ours law by leg D may U))
+            (f.flows.server.read leg)
+
+    -- ---- an out proxy
+
+    out_window : (may : (count : ℕ) → MayChange rules v (IsFed (os_leg n) D count))
+        (node : Shell OutProxy) (up : ℕ) → out_place v.company n ≡ Here node up
+        → (l : Leg) (reached edge count : ℕ)
+        → ClosesWith out_proxy.rules node
+        (Comes (os_leg n) (legs.take_out (os_leg n) D count v.legs).1)
+        (cause.WindowExceeded l reached edge) → ⊥
+    out_window may node up there l reached edge count closes =
+        never_exceeded out_proxy.rules server.rules leg before.stream.passage (server_at v h f)
+        stops.message stops.joined (record { reached = reached; edge = edge }) before.law
+        (server_sends v h f n) stops.refuses
+      where
+        leg : Leg
+        leg = os_leg n
+
+        config : OutProxyConfig
+        config = ours.out_config n
+
+        why : Cause
+        why = cause.WindowExceeded l reached edge
+
+        r : Refused
+        r = refused.Window (record { reached = reached; edge = edge })
+
+        h : History
+        h = now m w v ours law by (os_leg n) D may
+
+        f : IsFlowing (numbers_of ours) w v h
+        f = flowing m w v ours law by (os_leg n) D may
+
+        run : node ≡ after_events out_proxy.rules
+            (begun (new_proxy (ours.out_config n)) ROOMS) (h.outs n)
+        run =
+            subst (IsRun out_proxy.rules (m.out_proxy v.cast n) (h.outs n)) there
+            ((known m w v ours law by (os_leg n) D may).traced.runs.outs n)
+            ∙ ap (λ (s : Shell OutProxy). after_events out_proxy.rules s (h.outs n))
+            (ap (λ (c : K). m.out_proxy c n) f.cast ∙ ours.outs n)
+
+        byte : AtByte out_proxy.rules (os_leg n) node
+            (legs.take_out (os_leg n) D count v.legs).1 why
+        byte = closes_at out_proxy.rules hop.outs node (os_leg n)
+            (legs.take_out (os_leg n) D count v.legs).1 why closes
+
+        fronts : FedFronts (os_leg n) D v.legs byte.front byte.byte
+        fronts = fed_fronts (os_leg n) D v.legs count byte.front byte.behind byte.byte byte.split
+
+        k : ℕ
+        k = length byte.front
+
+        u : World K ClientRole Server InProxy OutProxy
+        u = changed rules m deeds v (IsFed (os_leg n) D k)
+
+        g : History
+        g = behind m w v ours law by (os_leg n) D may k
+
+        then_f : IsFlowing (numbers_of ours) w u g
+        then_f = flowing_behind m w v ours law by (os_leg n) D may k
+
+        X : Passage OutProxy → Type 0
+        X p = ReceivesWithin out_proxy.rules (os_leg n) p
+
+        before : NodeStream out_proxy.rules (new_proxy config) ROOMS (down.proxy_reads config)
+            (os_leg n) (Some OsU) X (h.outs n ++ Hears (os_leg n) byte.front ∷ [])
+        before =
+            subst (NodeStream out_proxy.rules (new_proxy config) ROOMS (down.proxy_reads config)
+            (os_leg n) (Some OsU) X)
+            (out_events v h n (os_leg n) D k refl node up there
+            ∙ ap (λ (bytes : List ℕ). h.outs n ++ Hears (os_leg n) bytes ∷ []) fronts.is)
+            (record {
+              stream = then_f.flows.outs n;
+              begins = then_f.begun.out_server n;
+              reads_back = out_back u g then_f n;
+              spells = out_spells u g then_f n;
+              law = out_receives u g then_f n;
+            })
+
+        heard : List ℕ
+        heard = heard_on (os_leg n) (h.outs n) ++ (byte.front ++ byte.byte ∷ [])
+
+        next : heard_on (os_leg n) ((behind m w v ours law by (os_leg n) D may (k + 1)).outs n)
+            ≡ heard
+        next =
+            ap (heard_on (os_leg n)) (out_events v h n (os_leg n) D (k + 1) refl node up there)
+            ∙ heard_behind (os_leg n) (h.outs n)
+            (piece v h (os_leg n) D (who.Out n) refl (k + 1))
+            ∙ ap (λ (bytes : List ℕ). heard_on (os_leg n) (h.outs n) ++ bytes) fronts.more
+
+        stops : StopsAt out_proxy.rules before.stream.passage.role (os_leg n) r
+            (of_leg (os_leg n) before.stream.passage.came)
+            (of_leg (os_leg n) before.stream.passage.put)
+            (of_leg (os_leg n) (server_at v h f).came) (of_leg (os_leg n) (server_at v h f).put)
+        stops = node_stops hop.readings (well_on OutServer D) (strict_on OutServer D).ranges
+            out_proxy.rules (new_proxy config) ROOMS (down.proxy_reads config) leg
+            (h.outs n) node run r why refl (legs.take_out (os_leg n) D count v.legs).1 byte
+            (Some OsU) X before (server_at v h f) (Some OsD) refl
+            (heard_on leg (happened h.server))
+            (subst (ReadsWell (well_on OutServer D) (Some OsD)) next
+            (well_behind m w v ours law by leg D may (k + 1)))
+            (server_way v h f leg heard (f.begun.server_out n)
+            (subst (λ (bytes : List ℕ). IsPrefix bytes
+            (drawn_by rules m deeds w.company w.cast h who.Server leg)) next
+            (drawn_before m w v ours law by leg D may (k + 1))))
+            (from_out m w.company w.cast ours h n leg (heard_on leg (happened h.server))
+            (drawn_now m w v ours law by leg D may U))
+            (f.flows.server.read leg)

@@ -32,24 +32,35 @@ use Rattle.rh_hops.proofs.Fed.{heard_behind}
 use Rattle.rh_hops.proofs.OneByte.{AtByte}
 use Rattle.rh_hops.proofs.Stopping.{Readings, StopsAt, Way, stops_at}
 
+-- a stream until then, of which what was put on the leg is read back at its other end
+pub record NodeStream {S : Type 0} (rules : Rules S) (first : S) (rooms : Rooms)
+    (pipe_of : Leg → Option Pipe) (leg : Leg) (back_pipe : Option Pipe) (X : Passage S → Type 0)
+    (events : List Event) : Type 0 where
+  pub stream : Stream rules first rooms pipe_of events
+  pub begins : Begins back_pipe (of_leg leg stream.passage.put)
+  pub reads_back : AllByRecursion (ReadsBack back_pipe) (of_leg leg stream.passage.put)
+  pub spells : IsPrefix (drawn_on rules (begun first rooms) leg events)
+      (spelled (of_leg leg stream.passage.put))
+  pub law : X stream.passage
+
 module _ {S T : Type 0} (readings : Readings) (well : Answers)
     (strict : (command value : ℕ) → well (Err (unread.Sig (sig.OutOfRange command value))) ≡ false)
     (rules : Rules S) (first : S) (rooms : Rooms) (pipe_of : Leg → Option Pipe) (leg : Leg)
     (events : List Event) (now : Shell S) (run : now ≡ after_events rules (begun first rooms) events)
     (r : Refused) (why : Cause) (tells : refused_by why ≡ Some r) (piece : List ℕ)
     (byte : AtByte rules leg now piece why)
-    (stream : Stream rules first rooms pipe_of (events ++ Hears leg byte.front ∷ []))
-    (q : Passage T) (pipe back_pipe : Option Pipe) (reads : pipe_of leg ≡ pipe)
+    (back_pipe : Option Pipe) (X : Passage S → Type 0)
+    (before : NodeStream rules first rooms pipe_of leg back_pipe X
+    (events ++ Hears leg byte.front ∷ []))
+    (q : Passage T) (pipe : Option Pipe) (reads : pipe_of leg ≡ pipe)
     (other_heard : List ℕ)
     (fits : ReadsWell well pipe (heard_on leg events ++ (byte.front ++ byte.byte ∷ [])))
     (ahead : Way pipe (of_leg leg q.put) (heard_on leg events ++ (byte.front ++ byte.byte ∷ [])))
     (other_front : IsPrefix other_heard (drawn_on rules (begun first rooms) leg events))
-    (other_came : IsPrefix (of_leg leg q.came) (messages_read back_pipe other_heard))
-    (begins : Begins back_pipe (of_leg leg stream.passage.put))
-    (reads_back : AllByRecursion (ReadsBack back_pipe) (of_leg leg stream.passage.put))
-    (spells : IsPrefix
-    (drawn_on rules (begun first rooms) leg (events ++ Hears leg byte.front ∷ []))
-    (spelled (of_leg leg stream.passage.put))) where
+    (other_came : IsPrefix (of_leg leg q.came) (messages_read back_pipe other_heard)) where
+  abbrev stream : Stream rules first rooms pipe_of (events ++ Hears leg byte.front ∷ [])
+  stream = before.stream
+
   abbrev node : Shell S
   node = after_events rules (begun first rooms) (events ++ Hears leg byte.front ∷ [])
 
@@ -68,16 +79,17 @@ module _ {S T : Type 0} (readings : Readings) (well : Answers)
 
   back : Way back_pipe (of_leg leg stream.passage.put) other_heard
   back = record {
-    begins = begins;
-    reads_back = reads_back;
+    begins = before.begins;
+    reads_back = before.reads_back;
     drawn = drawn_on rules (begun first rooms) leg (events ++ Hears leg byte.front ∷ []);
-    spells = spells;
+    spells = before.spells;
     front = prefix_trans other_heard (drawn_on rules (begun first rooms) leg events) _ other_front
         (_, sym (drawn_append rules leg (begun first rooms) events (Hears leg byte.front ∷ [])));
   }
 
-  pub node_stops : StopsAt rules stream.passage.role leg r (of_leg leg stream.passage.came)
-      (of_leg leg stream.passage.put) (of_leg leg q.came) (of_leg leg q.put)
+  pub node_stops : StopsAt rules before.stream.passage.role leg r
+      (of_leg leg before.stream.passage.came) (of_leg leg before.stream.passage.put)
+      (of_leg leg q.came) (of_leg leg q.put)
   node_stops =
       subst (λ (role : S). StopsAt rules role leg r (of_leg leg stream.passage.came)
       (of_leg leg stream.passage.put) (of_leg leg q.came) (of_leg leg q.put)) (sym stream.role)
