@@ -103,7 +103,7 @@ strict_on InServer D = named_strict
 module _ {K : Type 0} {m : Makers K InProxy OutProxy}
     {first : Company ClientRole Server InProxy OutProxy} {cast : K}
     (ours : AreOurs m first cast) where
-  abbrev node_reads : Who → Leg → Option Pipe
+  abbrev pub node_reads : Who → Leg → Option Pipe
   node_reads who.Client leg = down.client_reads leg
   node_reads who.Server leg = down.server_reads leg
   node_reads (who.In n) leg = pipes.in_pipe (ours.in_config n) leg
@@ -114,7 +114,7 @@ module _ {K : Type 0} {m : Makers K InProxy OutProxy}
       subst (λ (n : ℕ). same_leg (leg_at kind a) (leg_at kind n) ≡ true) same
       (same_itself (leg_at kind a))
 
-  reads_on : (reader n : ℕ) (kind : LegKind) (dir : Dir)
+  pub reads_on : (reader n : ℕ) (kind : LegKind) (dir : Dir)
       → read_on kind dir ≡ node_reads (node_by reader n kind (receiver dir)) (leg_at kind n)
   reads_on reader n ClientOut U =
       sym (ap (λ (t : Bool). if t then Some CoU else Some OsD)
@@ -149,7 +149,7 @@ pub told_what : (a b : Who) (x y : Event)
 unfolding what_in
 told_what a b x y e = ap (what_in x) e
 
-same_who : (node : Who) → is_same node node ≡ true
+pub same_who : (node : Who) → is_same node node ≡ true
 same_who who.Client = refl
 same_who who.Server = refl
 same_who (who.In n) = eq-eqb n n refl
@@ -162,6 +162,30 @@ piece_told one node leg piece e =
     (ap (λ (x : Who). is_same x node) e ∙ same_who node)
     ∙ ap (λ (t : Bool). (if t then piece else []) ++ []) (same_itself leg) ∙ append-nil piece
 
+-- ---- what a node heard with a piece that is fed to it
+
+module _ {K : Type 0} (v : World K ClientRole Server InProxy OutProxy) (h : History) (leg : Leg)
+    (dir : Dir) (count : ℕ) where
+  abbrev fed : Change
+  fed = IsFed leg dir count
+
+  abbrev pub fed_piece : List ℕ
+  fed_piece = (legs.take_out leg dir count v.legs).1
+
+  abbrev pub hears : List ℕ
+  hears = heard_on leg (events_of (noted v h fed) (at v leg (receiver dir)))
+
+  pub hears_is : (node : Who) → at v leg (receiver dir) ≡ node → (before : List moving.Event)
+      → events_of (noted v h fed) node ≡ before ++ told_to v fed node
+      → hears ≡ heard_on leg before ++ fed_piece
+  hears_is node here before is =
+      ap (λ (x : Who). heard_on leg (events_of (noted v h fed) x)) here
+      ∙ ap (heard_on leg) is ∙ heard_append leg before (told_to v fed node)
+      ∙ ap (λ (bytes : List ℕ). heard_on leg before ++ bytes)
+      (piece_told (at v leg (receiver dir)) node leg fed_piece here)
+
+-- ---- what closes it
+
 module _ {K : Type 0} (each : EachCloses) (m : Makers K InProxy OutProxy)
     (w v : World K ClientRole Server InProxy OutProxy) (ours : AreOurs m w.company w.cast)
     (h : History) (traced : IsTraced rules m deeds w.company v h)
@@ -170,11 +194,11 @@ module _ {K : Type 0} (each : EachCloses) (m : Makers K InProxy OutProxy)
   change = IsFed leg dir count
 
   abbrev piece : List ℕ
-  piece = (legs.take_out leg dir count v.legs).1
+  piece = fed_piece v h leg dir count
 
   -- what the node heard there, with the piece
   abbrev all : List ℕ
-  all = heard_on leg (events_of (noted v h change) (at v leg (receiver dir)))
+  all = hears v h leg dir count
 
   abbrev well : Answers
   well = well_on leg.kind dir
@@ -184,15 +208,6 @@ module _ {K : Type 0} (each : EachCloses) (m : Makers K InProxy OutProxy)
 
   abbrev Told : Who → Type 0
   Told node = at v leg (receiver dir) ≡ node
-
-  all_is : (node : Who) → Told node → (before : List moving.Event)
-      → events_of (noted v h change) node ≡ before ++ told_to v change node
-      → all ≡ heard_on leg before ++ piece
-  all_is node here before is =
-      ap (λ (x : Who). heard_on leg (events_of (noted v h change) x)) here
-      ∙ ap (heard_on leg) is ∙ heard_append leg before (told_to v change node)
-      ∙ ap (λ (bytes : List ℕ). heard_on leg before ++ bytes)
-      (piece_told (at v leg (receiver dir)) node leg piece here)
 
   module _ (reads : ReadsWell well pipe all) (why : Cause) where
     -- a node of any role that the piece closes, by its events before
@@ -206,7 +221,7 @@ module _ {K : Type 0} (each : EachCloses) (m : Makers K InProxy OutProxy)
         let same : pipe ≡ node_reads ours node leg =
         reads_on ours (reader_of v.readers leg.number) leg.number leg.kind dir
         ∙ ap (λ (x : Who). node_reads ours x leg) here in
-        let behind = all_is node here before noted_is in
+        let behind = hears_is v h leg dir count node here before noted_is in
         subst (λ (bytes : List ℕ). IsOfHeard its leg pipe bytes why) (sym behind)
         (closes_as well now leg piece why pipe came put (heard_on leg before) drawn
         (strict_on leg.kind dir) (subst (ReadsWell well pipe) behind reads) (λ end going sits.

@@ -1,5 +1,5 @@
 mod WaitedHeads
-mod HeardWell
+pub mod HeardWell
 mod FirstHeads
 mod BadHeads
 mod AckRows
@@ -7,7 +7,7 @@ mod ClientRows
 mod ServerRows
 mod InRows
 mod OutRows
-mod Drawn
-mod Fed
-mod Closing
-mod Recorded
+pub mod Drawn
+pub mod Fed
+pub mod Closing
+pub mod Recorded
