@@ -98,19 +98,17 @@ pub record IsOfSome (node : Who) (why : Cause) : Type 0 where
   pub leg : Leg
   pub of_node : IsOfNode node leg why
 
+-- so what follows where one closes the node follows of each change
 module _ {K : Type 0} (v : World K ClientRole Server InProxy OutProxy) (node : Who) (why : Cause)
-    (fed : (leg : Leg) (dir : Dir) (count : ℕ) → MayChange rules v (IsFed leg dir count)
-    → ClosesNode rules v (IsFed leg dir count) node why
-    → IsOfNode node leg why) where
-  never : {a : Who × Event} → None ≡ Some a → {X : Type 0} → X
+    (X : Type 0) (fed : (leg : Leg) (dir : Dir) (count : ℕ)
+    → MayChange rules v (IsFed leg dir count)
+    → ClosesNode rules v (IsFed leg dir count) node why → X) where
+  never : {a : Who × Event} → None ≡ Some a → X
   never e = absurd cc
 
   by_change : (change : Change) → MayChange rules v change
-      → (is : ClosesNode rules v change node why) → IsPiece is.event → IsOfSome node why
-  by_change (IsFed leg dir count) may is piece = record {
-    leg = leg;
-    of_node = fed leg dir count may is;
-  }
+      → (is : ClosesNode rules v change node why) → IsPiece is.event → X
+  by_change (IsFed leg dir count) may is piece = fed leg dir count may is
   by_change (IsTold other event) may is piece =
       absurd (none event (told_what other node event is.event is.told ∙ piece.is) may)
     where
@@ -134,8 +132,7 @@ module _ {K : Type 0} (v : World K ClientRole Server InProxy OutProxy) (node : W
   by_change Reports may is piece = never is.told
 
   pub some_closes : EachComes → (change : Change) → MayChange rules v change
-      → (is : ClosesNode rules v change node why) → IsOfPiece is.event why
-      → IsOfSome node why
+      → (is : ClosesNode rules v change node why) → IsOfPiece is.event why → X
   some_closes each change may is piece =
       by_change change may is (is_piece each v is.event why piece node is.closes)
 

@@ -128,7 +128,7 @@ in_number a b e = cc
 out_number : (a b : ℕ) → who.Out a ≡ who.Out b → a ≡ b
 out_number a b e = cc
 
-in_reads_on : (config : InProxyConfig) (n reader number : ℕ) (kind : LegKind) (dir : Dir)
+pub in_reads_on : (config : InProxyConfig) (n reader number : ℕ) (kind : LegKind) (dir : Dir)
     → config.number ≡ n → node_by reader number kind (receiver dir) ≡ who.In n
     → read_on kind dir ≡ pipes.in_pipe config (leg_at kind number)
 in_reads_on config n reader number ClientIn U is e = refl
@@ -144,7 +144,7 @@ in_reads_on config n reader number ClientOut D is e = absurd cc
 in_reads_on config n reader number OutServer U is e = absurd cc
 in_reads_on config n reader number OutServer D is e = absurd cc
 
-out_reads_on : (config : OutProxyConfig) (n reader number : ℕ) (kind : LegKind) (dir : Dir)
+pub out_reads_on : (config : OutProxyConfig) (n reader number : ℕ) (kind : LegKind) (dir : Dir)
     → config.number ≡ n → node_by reader number kind (receiver dir) ≡ who.Out n
     → read_on kind dir ≡ down.proxy_reads config (leg_at kind number)
 out_reads_on config n reader number ClientOut U is e =
@@ -170,7 +170,7 @@ what_in : Event → Option (Who × Event) → Event
 what_in other None = other
 what_in other (Some told) = told.1
 
-told_who : (a b : Who) (x y : Event)
+pub told_who : (a b : Who) (x y : Event)
     → ◌≡◌ {A = Option (Who × Event)} (Some (a, x)) (Some (b, y)) → a ≡ b
 unfolding who_in
 told_who a b x y e = ap (who_in a) e
@@ -186,12 +186,73 @@ same_who who.Server = refl
 same_who (who.In n) = eq-eqb n n refl
 same_who (who.Out n) = eq-eqb n n refl
 
-piece_told : (one node : Who) (leg : Leg) (piece : List ℕ) → one ≡ node
+pub piece_told : (one node : Who) (leg : Leg) (piece : List ℕ) → one ≡ node
     → heard_on leg (to_node one node (moving.Hears leg piece)) ≡ piece
 piece_told one node leg piece e =
     ap (λ (t : Bool). heard_on leg (if t then moving.Hears leg piece ∷ [] else []))
     (ap (λ (x : Who). is_same x node) e ∙ same_who node)
     ∙ ap (λ (t : Bool). (if t then piece else []) ++ []) (same_itself leg) ∙ append-nil piece
+
+-- ---- what a node heard with a piece that is fed to it
+
+module _ {K : Type 0} (v : World K ClientRole Server InProxy OutProxy) (h : History) (leg : Leg)
+    (dir : Dir) (count : ℕ) where
+  abbrev fed : Change
+  fed = IsFed leg dir count
+
+  abbrev pub fed_piece : List ℕ
+  fed_piece = (legs.take_out leg dir count v.legs).1
+
+  abbrev hears : List ℕ
+  hears = heard_on leg (events_of (noted v h fed) (at v leg (receiver dir)))
+
+  pub client_hears : (first : Shell ClientRole)
+      → v.company.client ≡ after_end_events rules.client deeds.client first h.client
+      → at v leg (receiver dir) ≡ who.Client
+      → hears ≡ heard_on leg (happened h.client) ++ fed_piece
+  client_hears first run here =
+      ap (λ (x : Who). heard_on leg (events_of (noted v h fed) x)) here
+      ∙ ap (heard_on leg) (happened_more rules.client deeds.client first v.company.client h.client
+      (told_to v fed who.Client) fed side.Client run)
+      ∙ heard_append leg (happened h.client) (told_to v fed who.Client)
+      ∙ ap (λ (bytes : List ℕ). heard_on leg (happened h.client) ++ bytes)
+      (piece_told (at v leg (receiver dir)) who.Client leg fed_piece here)
+
+  pub server_hears : (first : Shell Server)
+      → v.company.server ≡ after_end_events rules.server deeds.server first h.server
+      → at v leg (receiver dir) ≡ who.Server
+      → hears ≡ heard_on leg (happened h.server) ++ fed_piece
+  server_hears first run here =
+      ap (λ (x : Who). heard_on leg (events_of (noted v h fed) x)) here
+      ∙ ap (heard_on leg) (happened_more rules.server deeds.server first v.company.server h.server
+      (told_to v fed who.Server) fed side.Server run)
+      ∙ heard_append leg (happened h.server) (told_to v fed who.Server)
+      ∙ ap (λ (bytes : List ℕ). heard_on leg (happened h.server) ++ bytes)
+      (piece_told (at v leg (receiver dir)) who.Server leg fed_piece here)
+
+  pub in_hears : (n : ℕ) (node : Shell InProxy) (count_of : ℕ)
+      → in_place v.company n ≡ Here node count_of → at v leg (receiver dir) ≡ who.In n
+      → hears ≡ heard_on leg (h.ins n) ++ fed_piece
+  in_hears n node count_of there here =
+      ap (λ (x : Who). heard_on leg (events_of (noted v h fed) x)) here
+      ∙ ap (λ (p : Place InProxy). heard_on leg (h.ins n ++ at_place p
+      (told_to v fed (who.In n)) (made_by v fed (who.In n)))) there
+      ∙ heard_append leg (h.ins n) (told_to v fed (who.In n))
+      ∙ ap (λ (bytes : List ℕ). heard_on leg (h.ins n) ++ bytes)
+      (piece_told (at v leg (receiver dir)) (who.In n) leg fed_piece here)
+
+  pub out_hears : (n : ℕ) (node : Shell OutProxy) (count_of : ℕ)
+      → out_place v.company n ≡ Here node count_of → at v leg (receiver dir) ≡ who.Out n
+      → hears ≡ heard_on leg (h.outs n) ++ fed_piece
+  out_hears n node count_of there here =
+      ap (λ (x : Who). heard_on leg (events_of (noted v h fed) x)) here
+      ∙ ap (λ (p : Place OutProxy). heard_on leg (h.outs n ++ at_place p
+      (told_to v fed (who.Out n)) (made_by v fed (who.Out n)))) there
+      ∙ heard_append leg (h.outs n) (told_to v fed (who.Out n))
+      ∙ ap (λ (bytes : List ℕ). heard_on leg (h.outs n) ++ bytes)
+      (piece_told (at v leg (receiver dir)) (who.Out n) leg fed_piece here)
+
+-- ---- what closes it
 
 module _ {K : Type 0} (each : EachCloses) (m : Makers K InProxy OutProxy)
     (w v : World K ClientRole Server InProxy OutProxy) (ours : AreOurs m w.company w.cast)
@@ -226,24 +287,12 @@ module _ {K : Type 0} (each : EachCloses) (m : Makers K InProxy OutProxy)
   client_heard : Told who.Client → ReadsWell well pipe (heard_on leg (happened h.client) ++ piece)
   client_heard here =
       reads (heard_on leg (happened h.client))
-      (ap (λ (x : Who). heard_on leg (events_of (noted v h change) x)) here
-      ∙ ap (heard_on leg) (happened_more rules.client deeds.client w.company.client
-      v.company.client h.client (told_to v change who.Client) change side.Client
-      traced.runs.client)
-      ∙ heard_append leg (happened h.client) (told_to v change who.Client)
-      ∙ ap (λ (bytes : List ℕ). heard_on leg (happened h.client) ++ bytes)
-      (piece_told (at v leg (receiver dir)) who.Client leg piece here))
+      (client_hears v h leg dir count w.company.client traced.runs.client here)
 
   server_heard : Told who.Server → ReadsWell well pipe (heard_on leg (happened h.server) ++ piece)
   server_heard here =
       reads (heard_on leg (happened h.server))
-      (ap (λ (x : Who). heard_on leg (events_of (noted v h change) x)) here
-      ∙ ap (heard_on leg) (happened_more rules.server deeds.server w.company.server
-      v.company.server h.server (told_to v change who.Server) change side.Server
-      traced.runs.server)
-      ∙ heard_append leg (happened h.server) (told_to v change who.Server)
-      ∙ ap (λ (bytes : List ℕ). heard_on leg (happened h.server) ++ bytes)
-      (piece_told (at v leg (receiver dir)) who.Server leg piece here))
+      (server_hears v h leg dir count w.company.server traced.runs.server here)
 
   client_closes : Told who.Client → ClosesWith client.rules v.company.client (Comes leg piece) why
       → IsOfRole client.rules leg why
@@ -287,25 +336,13 @@ module _ {K : Type 0} (each : EachCloses) (m : Makers K InProxy OutProxy)
       → in_place v.company n ≡ Here node count_of → Told (who.In n)
       → ReadsWell well pipe (heard_on leg (h.ins n) ++ piece)
   in_heard n node count_of there here =
-      reads (heard_on leg (h.ins n))
-      (ap (λ (x : Who). heard_on leg (events_of (noted v h change) x)) here
-      ∙ ap (λ (p : Place InProxy). heard_on leg (h.ins n ++ at_place p
-      (told_to v change (who.In n)) (made_by v change (who.In n)))) there
-      ∙ heard_append leg (h.ins n) (told_to v change (who.In n))
-      ∙ ap (λ (bytes : List ℕ). heard_on leg (h.ins n) ++ bytes)
-      (piece_told (at v leg (receiver dir)) (who.In n) leg piece here))
+      reads (heard_on leg (h.ins n)) (in_hears v h leg dir count n node count_of there here)
 
   out_heard : (n : ℕ) (node : Shell OutProxy) (count_of : ℕ)
       → out_place v.company n ≡ Here node count_of → Told (who.Out n)
       → ReadsWell well pipe (heard_on leg (h.outs n) ++ piece)
   out_heard n node count_of there here =
-      reads (heard_on leg (h.outs n))
-      (ap (λ (x : Who). heard_on leg (events_of (noted v h change) x)) here
-      ∙ ap (λ (p : Place OutProxy). heard_on leg (h.outs n ++ at_place p
-      (told_to v change (who.Out n)) (made_by v change (who.Out n)))) there
-      ∙ heard_append leg (h.outs n) (told_to v change (who.Out n))
-      ∙ ap (λ (bytes : List ℕ). heard_on leg (h.outs n) ++ bytes)
-      (piece_told (at v leg (receiver dir)) (who.Out n) leg piece here))
+      reads (heard_on leg (h.outs n)) (out_hears v h leg dir count n node count_of there here)
 
   in_closes : (n : ℕ) (place : Place InProxy) → in_place v.company n ≡ place → Told (who.In n)
       → (places.tell in_proxy.rules (Comes leg piece) place).1 ≡ Some why

@@ -1,10 +1,10 @@
-mod HeardWell
+pub mod HeardWell
 mod AckRows
 mod ClientRows
 mod ServerRows
 mod InRows
 mod OutRows
 mod Drawn
-mod Fed
-mod Closing
-mod Recorded
+pub mod Fed
+pub mod Closing
+pub mod Recorded

@@ -1,8 +1,8 @@
-mod Told
+pub mod Told
 mod Heard
 mod ClosedClients
 mod Drawn
-mod OutTexts
+pub mod OutTexts
 mod OutRefusals
 mod InTexts
 mod InRefusals
@@ -10,9 +10,9 @@ mod Unreached
 mod Unavailables
 mod Fronts
 mod Lost
-mod Requests
+pub mod Requests
 mod Moments
-mod Taken
+pub mod Taken
 mod Reasons
 mod Losses
 mod Reporting

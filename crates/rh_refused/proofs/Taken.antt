@@ -17,6 +17,7 @@ use Rattle.rh_shell.specs.declared.answers.HeadRefused.{HeadRefused}
 use Rattle.rh_shell.specs.declared.answers.HeadRefused.TheVariants as head
 use Rattle.rh_shell.specs.declared.answers.HeadTaken.{HeadTaken}
 use Rattle.rh_shell.specs.Moves.{Move, Up, HeadCame, PduCame, PacketCame, Puts, IsDrawn, Marks, Pings}
+use Rattle.rh_nodes.specs.Cookies.{cookie_of}
 use Rattle.rh_client.specs.Legible.{IsConfig}
 use Rattle.rh_inproxy.specs.declared.opening.TheConstants.{ECHO_LENGTH}
 use Rattle.rh_inproxy.specs.Machine as in_proxy
@@ -25,13 +26,20 @@ use Rattle.rh_inproxy.specs.State.{InProxy}
 use Rattle.rh_outproxy.specs.Machine as out_proxy
 use Rattle.rh_outproxy.specs.Opening as out_opening
 use Rattle.rh_outproxy.specs.OutProxy.{OutProxy}
+use Rattle.rh_world.specs.declared.config.WorldConfig.{WorldConfig}
+use Rattle.rh_world.specs.Roles as roles
 use Rattle.rh_streams.specs.Streams.{IsFirstHead, IsHeadOf}
 use Rattle.rh_ends_begin.specs.Begins.{IsRequestOf}
 use Rattle.rh_proxies_begin.specs.Echoes.{AsksNoEcho}
 use Rattle.rh_refused.specs.Refused.{IsPort}
 use Rattle.rh_refused.proofs.Requests.{request_asks}
 
-abbrev asked_for : ClientConfig → ℕ → Asked
+-- the port of a recording's server is one
+pub port : (config : WorldConfig)
+    → IsPort (roles.client_config config (cookie_of 1) (cookie_of 2)).port
+port config = record { least = omega arith; most = omega arith }
+
+abbrev pub asked_for : ClientConfig → ℕ → Asked
 asked_for config n = record { host = host_text config.host; port = config.port; length = n }
 
 -- ---- OUT channels
@@ -49,7 +57,7 @@ out_judged : (s : OutProxy) (verdict : Result Asked HttpFault) (request : Asked)
 out_judged s (Ok other) request fault is = out_takes s other fault
 out_judged s (Err wrong) request fault is = absurd cc
 
-out_asks : (config : ClientConfig) (text : List ℕ) → IsPort config.port
+pub out_asks : (config : ClientConfig) (text : List ℕ) → IsPort config.port
     → IsRequestOf config ClientOut text
     → (request : Asked) × (request_verdict false text ≡ Ok request)
 out_asks config text port (inl is) = (
@@ -86,7 +94,7 @@ in_judged s number (Err wrong) request fault is = absurd cc
 may_open : (n : ℕ) → 131072 ≤ n → n ≤ 2147483648 → IsTrue (may_ask true n)
 may_open n least most = grind (arith, nat_tests)
 
-in_asks : (config : ClientConfig) (text : List ℕ) → IsConfig config → IsPort config.port
+pub in_asks : (config : ClientConfig) (text : List ℕ) → IsConfig config → IsPort config.port
     → IsRequestOf config ClientIn text
     → request_verdict true text ≡ Ok (asked_for config config.lifetime)
 in_asks config text range port is =

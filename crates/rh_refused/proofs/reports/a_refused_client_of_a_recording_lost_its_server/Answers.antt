@@ -1,18 +1,13 @@
-use Rattle.std.proofs.Common.{[], ◌∷◌, ◌++◌, arith}
+use Rattle.std.proofs.Common.{[], ◌∷◌, ◌++◌}
 use Rattle.rh_line.specs.declared.leg.LegKind.TheVariants.{ClientIn, ClientOut}
-use Rattle.rh_nodes.specs.Cookies.{cookie_of}
 use Rattle.rh_nodes.specs.Settling.{leg_at}
 use Rattle.rh_world.specs.declared.config.WorldConfig.{WorldConfig}
 use Rattle.rh_world.specs.Roles as roles
 use Rattle.rh_traced.proofs.ByChanges.{lines_by_changes}
 use Rattle.rh_fifo.proofs.Recorded.{in_range, new, ours}
-use Rattle.rh_refused.specs.Refused.{IsPort}
 use Rattle.rh_refused.proofs.Reporting.{concluded, in_loss, out_loss}
+use Rattle.rh_refused.proofs.Taken.{port}
 use Rattle.rh_refused.proofs.reports.a_refused_client_of_a_recording_lost_its_server.Goals as goal
-
-port : (config : WorldConfig)
-    → IsPort (roles.client_config config (cookie_of 1) (cookie_of 2)).port
-port config = record { least = omega arith; most = omega arith }
 
 pub returns : goal.returns
 returns c =
