@@ -82,12 +82,19 @@ module _ (status n : ℕ) (text : List ℕ) (told : IsToldAs status n text) (fro
   text_is : take (length text) all ≡ front
   text_is = ap (λ (k : ℕ). take k all) (sym same_length) ∙ front_is
 
-  pub front_told : (front ≡ text) × (response.status ≡ status)
-  front_told =
+  same : record { status = status; length = n } ≡ response
+  same =
       let judged =
       whole_response front (Ok (record { status = status; length = n })) whole
       (subst (λ (x : List ℕ). JudgesResponse x (Ok (record { status = status; length = n })))
       text_is (told behind).1) in
-      let both : Ok (record { status = status; length = n }) ≡ Ok response = judged ∙ read in
-      let same : record { status = status; length = n } ≡ response = cc in
-      (sym text_is ∙ take-append_seam text behind, ap (λ (r : Response). r.status) (sym same))
+      let both : Ok (record { status = status; length = n }) ≡ Ok response = judged ∙ read in cc
+
+  pub front_told : (front ≡ text) × (response.status ≡ status)
+  front_told = (
+    sym text_is ∙ take-append_seam text behind,
+    ap (λ (r : Response). r.status) (sym same),
+  )
+
+  pub told_length : response.length ≡ n
+  told_length = ap (λ (r : Response). r.length) (sym same)
