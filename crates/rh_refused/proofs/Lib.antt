@@ -1,4 +1,4 @@
-mod Told
+pub mod Told
 mod Heard
 mod ClosedClients
 mod Drawn
