@@ -1,7 +1,6 @@
 use Rattle.rh_line.specs.declared.cause.Cause.TheVariants as cause
 use Rattle.rh_world.specs.Roles as roles
-use Rattle.rh_traced.proofs.ByChanges.{lines_by_changes}
-use Rattle.rh_fifo.proofs.Recorded.{in_range, new, ours}
+use Rattle.rh_fifo.proofs.Recorded.{new, ours}
 use Rattle.rh_refused.proofs.Taken.{recorded_port}
 use Rattle.rh_honest.proofs.Recorded.{of_recording}
 use Rattle.rh_bodies.specs.Bodies.{IsResponse}
@@ -10,10 +9,7 @@ use Rattle.rh_bodies.proofs.recordings.no_body_of_a_recording_is_too_long.Goals 
 pub returns : goal.returns
 returns c = λ before line node leg count told closed.
     let why = cause.BodyOver leg count told in
-    of_recording node why (IsResponse node leg) (λ v reached change may closes.
-    c.only_a_response_may_be_too_short.ensures roles.makers (roles.begun reached.config)
-    (new reached.config) (ours reached.config) (in_range reached.config reached.ranges)
-    (recorded_port reached.config) v
-    (lines_by_changes roles.rules roles.makers roles.deeds
-    (roles.begun reached.config) v reached.lines) change node leg count told may closes) before line
-    (c.each_close_of_a_recording_shows.ensures before line node why closed)
+    of_recording node why (IsResponse node leg) (λ config range v by change may closes.
+    c.only_a_response_may_be_too_short.ensures roles.makers (roles.begun config) (new config)
+    (ours config) range (recorded_port config) v by change node leg count told may closes) before
+    line (c.each_close_of_a_recording_shows.ensures before line node why closed)
