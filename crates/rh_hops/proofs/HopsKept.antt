@@ -237,7 +237,7 @@ module _ {K : Type 0} (hop : HopLaws) (m : Makers K InProxy OutProxy)
 
   module _ (v : World K ClientRole Server InProxy OutProxy) (law : Laws m w ours)
       (by : ByChanges rules m deeds w v) (n : ℕ) where
-    server_window : (may : (count : ℕ) → MayChange rules v (IsFed (is_leg n) U count))
+    pub server_window : (may : (count : ℕ) → MayChange rules v (IsFed (is_leg n) U count))
         (l : Leg) (reached edge count : ℕ)
         → ClosesWith server.rules v.company.server
         (Comes (is_leg n) (legs.take_out (is_leg n) U count v.legs).1)
@@ -289,7 +289,7 @@ module _ {K : Type 0} (hop : HopLaws) (m : Makers K InProxy OutProxy)
             (drawn_now m w v ours law by leg U may D))
             (in_came v h f n) (then_f.begun.server_in n)
 
-    server_range : (may : (count : ℕ) → MayChange rules v (IsFed (os_leg n) U count))
+    pub server_range : (may : (count : ℕ) → MayChange rules v (IsFed (os_leg n) U count))
         (l : Leg) (command value count : ℕ)
         → ClosesWith server.rules v.company.server
         (Comes (os_leg n) (legs.take_out (os_leg n) U count v.legs).1)
@@ -342,7 +342,7 @@ module _ {K : Type 0} (hop : HopLaws) (m : Makers K InProxy OutProxy)
 
     -- ---- an in proxy
 
-    in_range : (may : (count : ℕ) → MayChange rules v (IsFed (is_leg n) D count))
+    pub in_range : (may : (count : ℕ) → MayChange rules v (IsFed (is_leg n) D count))
         (node : Shell InProxy) (up : ℕ) → in_place v.company n ≡ Here node up
         → (l : Leg) (command value count : ℕ)
         → ClosesWith in_proxy.rules node
@@ -449,7 +449,7 @@ module _ {K : Type 0} (hop : HopLaws) (m : Makers K InProxy OutProxy)
 
     -- ---- an out proxy
 
-    out_window : (may : (count : ℕ) → MayChange rules v (IsFed (os_leg n) D count))
+    pub out_window : (may : (count : ℕ) → MayChange rules v (IsFed (os_leg n) D count))
         (node : Shell OutProxy) (up : ℕ) → out_place v.company n ≡ Here node up
         → (l : Leg) (reached edge count : ℕ)
         → ClosesWith out_proxy.rules node

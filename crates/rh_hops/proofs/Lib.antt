@@ -19,3 +19,4 @@ mod Moment
 mod Servers
 mod Nodes
 mod HopsKept
+mod Closing
