@@ -36,7 +36,7 @@ use Rattle.rh_traced.specs.Cookies.{ByChanges}
 use Rattle.rh_traced.specs.Ours.{AreOurs, deeds, rules}
 use Rattle.rh_fifo.specs.Flows.{numbers_of}
 use Rattle.rh_fifo.specs.Premises.{AreInRange}
-use Rattle.rh_honest.proofs.Closing.{EachComes, piece_closes}
+use Rattle.rh_honest.proofs.Closing.{EachComes, by_fed}
 use Rattle.rh_honest.proofs.Fed.{told_what, told_who}
 use Rattle.rh_hops.specs.Hops.{is_leg, os_leg}
 use Rattle.rh_hops.proofs.HopsKept.{HopLaws, in_range, out_window, server_range, server_window}
@@ -196,26 +196,26 @@ module _ {K : Type 0} (hop : HopLaws) (each : EachAmiss) (m : Makers K InProxy O
         → ClosesNode rules v change who.Server (cause.WindowExceeded (is_leg n) reached edge) → ⊥
     no_server_window n reached edge is =
         let why = cause.WindowExceeded (is_leg n) reached edge in
-        piece_closes v who.Server why ⊥ (fed who.Server why (server_window_fed n reached edge))
+        by_fed v who.Server why ⊥ (fed who.Server why (server_window_fed n reached edge))
         each.comes change may is (λ S rules shell comes. comes)
 
     pub no_server_range : (n command value : ℕ)
         → ClosesNode rules v change who.Server (cause.OutOfRange (os_leg n) command value) → ⊥
     no_server_range n command value is =
         let why = cause.OutOfRange (os_leg n) command value in
-        piece_closes v who.Server why ⊥ (fed who.Server why (server_range_fed n command value))
+        by_fed v who.Server why ⊥ (fed who.Server why (server_range_fed n command value))
         each.comes change may is (λ S rules shell comes. comes)
 
     pub no_in_range : (k n command value : ℕ)
         → ClosesNode rules v change (who.In k) (cause.OutOfRange (is_leg n) command value) → ⊥
     no_in_range k n command value is =
         let why = cause.OutOfRange (is_leg n) command value in
-        piece_closes v (who.In k) why ⊥ (fed (who.In k) why (in_range_fed k n command value))
+        by_fed v (who.In k) why ⊥ (fed (who.In k) why (in_range_fed k n command value))
         each.comes change may is (λ S rules shell comes. comes)
 
     pub no_out_window : (k n reached edge : ℕ)
         → ClosesNode rules v change (who.Out k) (cause.WindowExceeded (os_leg n) reached edge) → ⊥
     no_out_window k n reached edge is =
         let why = cause.WindowExceeded (os_leg n) reached edge in
-        piece_closes v (who.Out k) why ⊥ (fed (who.Out k) why (out_window_fed k n reached edge))
+        by_fed v (who.Out k) why ⊥ (fed (who.Out k) why (out_window_fed k n reached edge))
         each.comes change may is (λ S rules shell comes. comes)
