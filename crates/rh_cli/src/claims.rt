@@ -5,6 +5,7 @@ ghost use Rattle.std.specs.Prelude.{List};
 ghost use Rattle.rh_record.specs.declared.line.Line.{Line};
 ghost use Rattle.rh_cli.specs.Claims.{Claims};
 
+use rh_bodies::no_body_of_a_recording_is_too_long;
 use rh_bounds::windows_hold_in_every_recording;
 use rh_closes::{
     a_node_of_a_recording_falls_silent, a_recording_reports_a_node_closed_once,
@@ -16,6 +17,7 @@ use rh_honest::{
     no_node_of_a_recording_closes_for_bad_bytes,
     only_acknowledgements_of_a_recording_are_out_of_range,
 };
+use rh_hops::no_hop_on_one_leg_closes_a_node_of_a_recording;
 use rh_named::an_end_of_a_recording_names_its_cause;
 use rh_ordered::a_recording_counts;
 use rh_paths::every_recording_keeps_what_is_on_its_way;
@@ -38,6 +40,8 @@ pub fn recordings_keep_to_their_claims()
     a_refused_client_of_a_recording_lost_its_server();
     no_node_of_a_recording_closes_for_bad_bytes();
     only_acknowledgements_of_a_recording_are_out_of_range();
+    no_body_of_a_recording_is_too_long();
+    no_hop_on_one_leg_closes_a_node_of_a_recording();
     every_recording_keeps_what_is_on_its_way();
     a_node_of_a_recording_falls_silent();
     a_recording_reports_a_node_closed_once();
