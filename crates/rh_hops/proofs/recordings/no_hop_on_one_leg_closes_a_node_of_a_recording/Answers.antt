@@ -11,34 +11,34 @@ pub returns : goal.returns
 returns c = record {
   server_window = λ before line n reached edge told.
       let why = cause.WindowExceeded (is_leg n) reached edge in
-      of_recording who.Server why ⊥ (λ v reached change may closes.
-      c.no_hop_on_one_leg_closes_a_node.ensures.server_window roles.makers (roles.begun reached.config)
-      (new reached.config) (ours reached.config) (in_range reached.config reached.ranges) v
+      of_recording who.Server why ⊥ (λ v seen change may closes.
+      c.no_hop_on_one_leg_closes_a_node.ensures.server_window roles.makers (roles.begun seen.config)
+      (new seen.config) (ours seen.config) (in_range seen.config seen.ranges) v
       (lines_by_changes roles.rules roles.makers roles.deeds
-      (roles.begun reached.config) v reached.lines) change may n reached edge closes) before line
+      (roles.begun seen.config) v seen.lines) change may n reached edge closes) before line
       (c.each_close_of_a_recording_shows.ensures before line who.Server why told);
   server_range = λ before line n command value told.
       let why = cause.OutOfRange (os_leg n) command value in
-      of_recording who.Server why ⊥ (λ v reached change may closes.
-      c.no_hop_on_one_leg_closes_a_node.ensures.server_range roles.makers (roles.begun reached.config)
-      (new reached.config) (ours reached.config) (in_range reached.config reached.ranges) v
+      of_recording who.Server why ⊥ (λ v seen change may closes.
+      c.no_hop_on_one_leg_closes_a_node.ensures.server_range roles.makers (roles.begun seen.config)
+      (new seen.config) (ours seen.config) (in_range seen.config seen.ranges) v
       (lines_by_changes roles.rules roles.makers roles.deeds
-      (roles.begun reached.config) v reached.lines) change may n command value closes) before line
+      (roles.begun seen.config) v seen.lines) change may n command value closes) before line
       (c.each_close_of_a_recording_shows.ensures before line who.Server why told);
   in_range = λ before line k n command value told.
       let why = cause.OutOfRange (is_leg n) command value in
-      of_recording (who.In k) why ⊥ (λ v reached change may closes.
-      c.no_hop_on_one_leg_closes_a_node.ensures.in_range roles.makers (roles.begun reached.config)
-      (new reached.config) (ours reached.config) (in_range reached.config reached.ranges) v
+      of_recording (who.In k) why ⊥ (λ v seen change may closes.
+      c.no_hop_on_one_leg_closes_a_node.ensures.in_range roles.makers (roles.begun seen.config)
+      (new seen.config) (ours seen.config) (in_range seen.config seen.ranges) v
       (lines_by_changes roles.rules roles.makers roles.deeds
-      (roles.begun reached.config) v reached.lines) change may k n command value closes) before line
+      (roles.begun seen.config) v seen.lines) change may k n command value closes) before line
       (c.each_close_of_a_recording_shows.ensures before line (who.In k) why told);
   out_window = λ before line k n reached edge told.
       let why = cause.WindowExceeded (os_leg n) reached edge in
-      of_recording (who.Out k) why ⊥ (λ v reached change may closes.
-      c.no_hop_on_one_leg_closes_a_node.ensures.out_window roles.makers (roles.begun reached.config)
-      (new reached.config) (ours reached.config) (in_range reached.config reached.ranges) v
+      of_recording (who.Out k) why ⊥ (λ v seen change may closes.
+      c.no_hop_on_one_leg_closes_a_node.ensures.out_window roles.makers (roles.begun seen.config)
+      (new seen.config) (ours seen.config) (in_range seen.config seen.ranges) v
       (lines_by_changes roles.rules roles.makers roles.deeds
-      (roles.begun reached.config) v reached.lines) change may k n reached edge closes) before line
+      (roles.begun seen.config) v seen.lines) change may k n reached edge closes) before line
       (c.each_close_of_a_recording_shows.ensures before line (who.Out k) why told);
 }
