@@ -107,7 +107,7 @@ pub record Texts : Type 0 where
       (after_events out_proxy.rules (begun (new_proxy config) ROOMS) events).course
 
 -- a client is refused on legs of its own kind alone
-free_by : (client server leg : Leg) (course : Course) → MayRefuseOn client server course
+pub free_by : (client server leg : Leg) (course : Course) → MayRefuseOn client server course
     → (leg.kind ≡ client.kind → ⊥) → is_refused_on leg course ≡ false
 free_by client server leg Going may other = refl
 free_by client server leg (Closed why) may other = refl

@@ -4,7 +4,7 @@ mod ClientRows
 mod ServerRows
 mod InRows
 mod OutRows
-mod Drawn
+pub mod Drawn
 pub mod Fed
 pub mod Closing
 pub mod Recorded

@@ -1,5 +1,5 @@
 -- the texts that an out proxy puts are responses of success
-use Rattle.std.proofs.Common.{◌≡◌, ℕ, ◌+◌, ◌&&◌, ◌⊎◌, inl, inr, List, [], ◌∷◌, ◌++◌, length, Some, None, Ok, Err, refl, sym, ◌∙◌, subst}
+use Rattle.std.proofs.Common.{◌≡◌, ℕ, ◌+◌, ◌&&◌, ◌⊎◌, inl, inr, List, [], ◌∷◌, ◌++◌, length, Some, None, Ok, Err, arith, refl, sym, ◌∙◌, subst}
 use Rattle.std.specs.Prelude.{nat_le, if◌then◌else◌}
 use Rattle.std.specs.List.{AllByRecursion}
 use Rattle.std.specs.declared.option.Option.{Option}
@@ -41,6 +41,8 @@ pub record IsSuccess (config : OutProxyConfig) (bytes : List ℕ) : Type 0 where
   pub told : (number ≡ 20) ⊎ (number ≡ config.lifetime + ping_room)
   pub behind : List ℕ
   pub is : bytes ≡ response_text number ++ behind
+  pub echo : number ≡ 20 → length behind ≡ 20
+  pub alone : number ≡ config.lifetime + ping_room → behind ≡ []
 
 abbrev pub Succeeds : OutProxyConfig → Message → Type 0
 Succeeds config (Text bytes) = IsSuccess config bytes
@@ -59,8 +61,14 @@ or_fine s (Some pick) b p q = p
 
 answer_fine : (a : Answer) (s : OutProxy) → Fine s (answer_by a s)
 answer_fine answers.Awaited s = tt
-answer_fine answers.EchoDue s =
-    record { number = 20; told = inl refl; behind = echo_packet; is = refl }
+answer_fine answers.EchoDue s = record {
+  number = 20;
+  told = inl refl;
+  behind = echo_packet;
+  is = refl;
+  echo = λ e. refl;
+  alone = λ e. absurd (omega (arith, e));
+}
 answer_fine answers.EchoPut s = tt
 answer_fine answers.EchoDrawn s = tt
 answer_fine answers.ResponseDue s = record {
@@ -68,6 +76,8 @@ answer_fine answers.ResponseDue s = record {
   told = inr refl;
   behind = [];
   is = sym (append-nil (response_text (s.config.lifetime + ping_room)));
+  echo = λ e. absurd (omega (arith, e));
+  alone = λ e. refl;
 }
 answer_fine answers.TimeoutDue s = tt
 answer_fine answers.Put s = tt
