@@ -4,14 +4,13 @@ use Rattle.rh_traced.proofs.ByChanges.{lines_by_changes}
 use Rattle.rh_fifo.proofs.Recorded.{in_range, new, ours}
 use Rattle.rh_refused.proofs.Taken.{port}
 use Rattle.rh_honest.proofs.Recorded.{of_recording}
-use Rattle.rh_bodies.specs.Bodies.{IsResponse}
 use Rattle.rh_bodies.proofs.recordings.no_body_of_a_recording_is_too_long.Goals as goal
 
 pub returns : goal.returns
 returns c = λ before line node leg count told closed.
     let why = cause.BodyOver leg count told in
-    of_recording node why (IsResponse node leg) (λ v reached change may closes.
-    c.only_a_response_may_be_too_short.ensures roles.makers (roles.begun reached.config)
+    of_recording node why ⊥ (λ v reached change may closes.
+    c.no_change_closes_a_node_for_a_long_body.ensures roles.makers (roles.begun reached.config)
     (new reached.config) (ours reached.config) (in_range reached.config reached.ranges)
     (port reached.config) v
     (lines_by_changes roles.rules roles.makers roles.deeds
