@@ -31,7 +31,7 @@ use Rattle.rh_bodies.specs.Behind.{TakesHead}
 use Rattle.rh_bodies.specs.Bodies.{RequestTells}
 
 -- what is taken has its length
-length_of : (a b : HeadTaken) → ◌≡◌ {A = Result HeadTaken HeadRefused} (Ok a) (Ok b)
+pub length_of : (a b : HeadTaken) → ◌≡◌ {A = Result HeadTaken HeadRefused} (Ok a) (Ok b)
     → b.length ≡ a.length
 length_of a b e = let same : a ≡ b = cc in sym (ap (λ (x : HeadTaken). x.length) same)
 

@@ -13,6 +13,11 @@ mod OutBooks
 mod OutPuts
 mod OutMoves
 mod OutLegs
+mod OutFirsts
 mod ServerSame
 mod ServerRooms
 mod ServerMoves
+mod Passing
+mod Once
+mod Responses
+mod Lifetimes

@@ -140,10 +140,10 @@ module _ (n : ℕ) where
   server_row p leg m (s, Err why) here k = k
 
   -- the legs of the proxy have its number
-  at_client : (p : Passage OutProxy) (leg : Leg) → Law n p → is_co p.role leg ≡ true → leg ≡ co n
+  pub at_client : (p : Passage OutProxy) (leg : Leg) → Law n p → is_co p.role leg ≡ true → leg ≡ co n
   at_client p leg law e = sym (leg_is (co p.role.config.number) leg e) ∙ ap co law.number
 
-  at_server : (p : Passage OutProxy) (leg : Leg) → Law n p → is_os p.role leg ≡ true → leg ≡ os n
+  pub at_server : (p : Passage OutProxy) (leg : Leg) → Law n p → is_os p.role leg ≡ true → leg ≡ os n
   at_server p leg law e = sym (leg_is (os p.role.config.number) leg e) ∙ ap os law.number
 
   packet_holds : (p : Passage OutProxy) (leg : Leg) (count : Count) (packet : Named) → Law n p
@@ -205,7 +205,7 @@ module _ (n : ℕ) where
 
   -- ---- legs that come up
 
-  wanted : (a b c : Bool) → IsTrue (a || (b && c)) → b ≡ false → a ≡ true
+  pub wanted : (a b c : Bool) → IsTrue (a || (b && c)) → b ≡ false → a ≡ true
   wanted true b c may off = refl
   wanted false true c may off = absurd (cc)
   wanted false false c may off = absurd (cc)

@@ -1,4 +1,4 @@
--- what is fed to a node closes it with no body that is too long, but for a response
+-- what is fed to a node closes it with no body that is too long
 use Rattle.std.proofs.Common.{◌≡◌, ℕ, suc, List, ◌++◌, refl, sym, ap, ◌∙◌, subst}
 use Rattle.std.specs.Prelude.{Some, None}
 use Rattle.std.specs.declared.option.Option.{Option}
@@ -50,6 +50,8 @@ use Rattle.rh_causes.specs.Closings.{ClosesWith}
 use Rattle.rh_history.specs.Carried.{IsTraced, drawn_by, end_drawn_on, end_node, events_of, happened, heard_on}
 use Rattle.rh_history.specs.Changes.{IsFed}
 use Rattle.rh_history.specs.Closes.{ClosesNode}
+use Rattle.rh_history.proofs.Appended.{happened_more}
+use Rattle.rh_text.specs.declared.ends.Side.TheVariants as side
 use Rattle.rh_history.specs.Histories.{History, IsRun, at_place, in_place, made_by, noted, out_place, told_to}
 use Rattle.rh_history.proofs.Numbers.{answered}
 use Rattle.rh_legible.specs.Legible.{AllMayGo}
@@ -61,7 +63,7 @@ use Rattle.rh_fifo.specs.Flows.{IsFlowing, numbers_of}
 use Rattle.rh_fifo.proofs.Heard.{from_client}
 use Rattle.rh_honest.proofs.Fed.{fed_piece, hears_is, node_reads, reads_on, told_what, told_who}
 use Rattle.rh_bodies.specs.Behind.{HasBody, TakesHead}
-use Rattle.rh_bodies.specs.Bodies.{IsResponse, KeepsLength, RequestTells}
+use Rattle.rh_bodies.specs.Bodies.{KeepsLength, RequestTells}
 use Rattle.rh_bodies.proofs.Fits.{fits_not}
 
 -- ---- the laws that this stands on
@@ -110,7 +112,7 @@ module _ {K : Type 0} (m : Makers K InProxy OutProxy)
       (spelled (of_leg leg flowing.flows.client.passage.passage.put))
       (from_client m w.company w.cast ours h leg heard front) (flowing.flows.client.drawn leg)
 
-  keeps_put : (leg : Leg) → KeepsLength (RequestTells ours.config leg.kind)
+  pub keeps_put : (leg : Leg) → KeepsLength (RequestTells ours.config leg.kind)
       (of_leg leg flowing.flows.client.passage.passage.put)
   keeps_put leg =
       let leads = flowing.flows.client.leads in
@@ -173,9 +175,36 @@ module _ {K : Type 0} (m : Makers K InProxy OutProxy)
   out_none n reader number InServer U readers heard told here body front = absurd (cc)
   out_none n reader number InServer D readers heard told here body front = absurd (cc)
 
+  -- nor does the client
+  client_none : ((n : ℕ) (pipe : Option Pipe) (heard : List ℕ) (told : ℕ)
+      → HasBody client.rules pipe (leg_at ClientOut n) heard (suc told) told
+      → IsPrefix heard (drawn_by rules m deeds w.company w.cast h (who.Out n)
+      (leg_at ClientOut n)) → ⊥)
+      → (reader number : ℕ) (kind : LegKind) (dir : Dir) (readers heard : List ℕ) (told : ℕ)
+      → node_by reader number kind (receiver dir) ≡ who.Client
+      → HasBody client.rules (down.client_reads (leg_at kind number)) (leg_at kind number) heard
+      (suc told) told
+      → IsPrefix heard (drawn_by rules m deeds w.company w.cast h
+      (end_node readers (leg_at kind number) (sender dir)) (leg_at kind number)) → ⊥
+  client_none fits reader number ClientOut D readers heard told here body front =
+      fits number (down.client_reads (leg_at ClientOut number)) heard told body front
+  client_none fits reader number ClientIn D readers heard told here body front =
+      let kind = each.client_takes (leg_at ClientIn number) body.text told body.takes in
+      absurd (cc)
+  client_none fits reader number ClientOut U readers heard told here body front = absurd (cc)
+  client_none fits reader number ClientIn U readers heard told here body front = absurd (cc)
+  client_none fits reader number InServer U readers heard told here body front = absurd (cc)
+  client_none fits reader number InServer D readers heard told here body front = absurd (cc)
+  client_none fits reader number OutServer U readers heard told here body front = absurd (cc)
+  client_none fits reader number OutServer D readers heard told here body front = absurd (cc)
+
   -- ---- a piece
 
   module _
+      (fits : (n : ℕ) (pipe : Option Pipe) (heard : List ℕ) (told : ℕ)
+      → HasBody client.rules pipe (leg_at ClientOut n) heard (suc told) told
+      → IsPrefix heard (drawn_by rules m deeds w.company w.cast h (who.Out n)
+      (leg_at ClientOut n)) → ⊥)
       (client_over : (leg named : Leg) (piece : List ℕ) (count told : ℕ)
       → ClosesWith client.rules (after_end_events client.rules client.acts
       (client.first_client ours.config) h.client) (Comes leg piece)
@@ -217,14 +246,19 @@ module _ {K : Type 0} (m : Makers K InProxy OutProxy)
         (end_node v.readers leg (sender dir)) leg)) e front
 
     client_closes : ClosesWith client.rules v.company.client (Comes leg piece) why
-        → named.kind ≡ ClientOut
-    client_closes closes =
+        → Told who.Client → ⊥
+    client_closes closes here =
         let over = client_over leg named piece count told
         (subst (λ (s : Shell ClientRole). ClosesWith client.rules s (Comes leg piece) why)
         (traced.runs.client ∙ ap (λ (s : Shell ClientRole).
         after_end_events client.rules client.acts s h.client) ours.client) closes) in
-        ap (λ (l : Leg). l.kind) over.0
-        ∙ each.client_takes leg over.1.text told over.1.takes
+        client_none fits (reader_of v.readers leg.number) leg.number leg.kind dir v.readers
+        (heard_on leg (happened h.client) ++ piece) told here over.1
+        (front_of (heard_on leg (happened h.client) ++ piece)
+        (hears_is v h leg dir fed_count who.Client here (happened h.client)
+        (happened_more rules.client deeds.client w.company.client v.company.client h.client
+        (told_to v (IsFed leg dir fed_count) who.Client) (IsFed leg dir fed_count) side.Client
+        traced.runs.client)))
 
     server_closes : ClosesWith server.rules v.company.server (Comes leg piece) why → ⊥
     server_closes closes =
@@ -273,8 +307,8 @@ module _ {K : Type 0} (m : Makers K InProxy OutProxy)
 
     node_closes : (node : Who) → Told node
         → (company.tell rules v.company node (Comes leg piece)).1 ≡ Some why
-        → IsResponse node named
-    node_closes who.Client here closes = client_closes closes
+        → ⊥
+    node_closes who.Client here closes = client_closes closes here
     node_closes who.Server here closes = server_closes closes
     node_closes (who.In n) here closes =
         in_closes n (in_place v.company n) refl here
@@ -285,8 +319,7 @@ module _ {K : Type 0} (m : Makers K InProxy OutProxy)
         (sym (answered Absent (places.tell out_proxy.rules (Comes leg piece)) None refl
         v.company.outs n) ∙ closes) (traced.runs.outs n)
 
-    pub sent_closes : (node : Who) → ClosesNode rules v (IsFed leg dir fed_count) node why
-        → IsResponse node named
+    pub sent_closes : (node : Who) → ClosesNode rules v (IsFed leg dir fed_count) node why → ⊥
     sent_closes node is =
         node_closes node (told_who _ _ _ _ is.told)
         (subst (λ (e : told_event.Event). (company.tell rules v.company node e).1 ≡ Some why)

@@ -3,11 +3,8 @@
 use Rattle.std.specs.Prelude.{ℕ, ◌≡◌, ◌⊎◌, ◌≤◌, List, [], ◌∷◌, length}
 use Rattle.rh_http.specs.declared.config.ClientConfig.{ClientConfig}
 use Rattle.rh_http.specs.Texts.{in_request, out_request}
-use Rattle.rh_line.specs.declared.leg.Leg.{Leg}
 use Rattle.rh_line.specs.declared.leg.LegKind.{LegKind}
 use Rattle.rh_line.specs.declared.leg.LegKind.TheVariants.{ClientOut, OutServer, ClientIn, InServer}
-use Rattle.rh_record.specs.declared.answer.Who.{Who}
-use Rattle.rh_record.specs.declared.answer.Who.TheVariants.{Client, Server, In, Out}
 use Rattle.rh_shell.specs.Carrying.{spelled}
 use Rattle.rh_shell.specs.Rules.{Message, Text, Pdu, Packet}
 use Rattle.rh_client.specs.declared.lengths.TheConstants.{CONN_A1_LEN, OUT_R1_A3_C1_LEN}
@@ -29,10 +26,3 @@ RequestTells config ClientOut told text =
     ((told ≡ CONN_A1_LEN) ⊎ (told ≡ OUT_R1_A3_C1_LEN)) × (text ≡ out_request config told)
 RequestTells config OutServer told text = ⊥
 RequestTells config InServer told text = ⊥
-
--- the client, on the leg of an OUT channel, where it hears a response (MS-RPCH 2.1.2)
-abbrev pub IsResponse : Who → Leg → Type 0
-IsResponse Client leg = leg.kind ≡ ClientOut
-IsResponse Server leg = ⊥
-IsResponse (In n) leg = ⊥
-IsResponse (Out n) leg = ⊥

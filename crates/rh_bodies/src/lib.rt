@@ -12,4 +12,4 @@ pub use clients::what_a_client_puts_keeps_its_lengths;
 pub use heads::heads_are_taken_by_their_lengths;
 pub use nodes::{what_a_node_counts_came_behind_a_head, what_an_end_counts_came_behind_a_head};
 pub use recordings::no_body_of_a_recording_is_too_long;
-pub use worlds::only_a_response_may_be_too_short;
+pub use worlds::no_change_closes_a_node_for_a_long_body;

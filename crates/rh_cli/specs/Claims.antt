@@ -28,7 +28,6 @@ use Rattle.rh_ordered.specs.Counted.{CountsCapped}
 use Rattle.rh_ordered.specs.Recordings.{OffersBehindFirst}
 use Rattle.rh_paths.specs.Recordings.{KeepsWays}
 use Rattle.rh_refused.specs.Reported.{ReportsBreak}
-use Rattle.rh_bodies.specs.Bodies.{IsResponse}
 use Rattle.rh_hops.specs.Hops.{is_leg, os_leg}
 
 -- a line reports a node as closed only for what it told that node, and its answers show that
@@ -69,13 +68,11 @@ pub record ReadsWell (world : AnyWorld) (line : Line) : Type 0 where
       → IsOneOf (NodeClosed node (OutOfRange leg command value)) (step world line).1
       → command ≡ FLOW_CONTROL_ACK
 
--- no line reports a node as closed for a body that is longer than its head told, but a client for
--- what came behind the response on an OUT channel
+-- no line reports a node as closed for a body that is longer than its head told
 abbrev pub BodiesFit : AnyWorld → Line → Type 0
 BodiesFit world line =
     (node : Who) (leg : Leg) (count told : ℕ)
-    → IsOneOf (NodeClosed node (BodyOver leg count told)) (step world line).1
-    → IsResponse node leg
+    → IsOneOf (NodeClosed node (BodyOver leg count told)) (step world line).1 → ⊥
 
 -- no line reports a node as closed for the window of a hop that lies on one leg
 pub record HopsHold (world : AnyWorld) (line : Line) : Type 0 where

@@ -44,6 +44,8 @@ pub record IsSuccess (config : OutProxyConfig) (bytes : List ℕ) : Type 0 where
   pub told : (number ≡ 20) ⊎ (number ≡ config.lifetime + ping_room)
   pub behind : List ℕ
   pub is : bytes ≡ response_text number ++ behind
+  pub echo : number ≡ 20 → length behind ≡ 20
+  pub alone : number ≡ config.lifetime + ping_room → behind ≡ []
 
 -- its length is in the range of responses
 pub in_range : (config : OutProxyConfig) → IsConfig config → (bytes : List ℕ)
@@ -81,8 +83,14 @@ or_fine s (Some pick) b p q = p
 
 answer_fine : (a : Answer) (s : OutProxy) → Fine s (answer_by a s)
 answer_fine answers.Awaited s = tt
-answer_fine answers.EchoDue s =
-    record { number = 20; told = inl refl; behind = echo_packet; is = refl }
+answer_fine answers.EchoDue s = record {
+  number = 20;
+  told = inl refl;
+  behind = echo_packet;
+  is = refl;
+  echo = λ e. refl;
+  alone = λ e. absurd (omega (arith, e));
+}
 answer_fine answers.EchoPut s = tt
 answer_fine answers.EchoDrawn s = tt
 answer_fine answers.ResponseDue s = record {
@@ -90,6 +98,8 @@ answer_fine answers.ResponseDue s = record {
   told = inr refl;
   behind = [];
   is = sym (append-nil (response_text (s.config.lifetime + ping_room)));
+  echo = λ e. absurd (omega (arith, e));
+  alone = λ e. refl;
 }
 answer_fine answers.TimeoutDue s = tt
 answer_fine answers.Put s = tt

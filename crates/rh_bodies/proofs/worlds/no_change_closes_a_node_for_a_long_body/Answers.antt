@@ -1,6 +1,8 @@
 use Rattle.std.proofs.Common.{ℕ, ap, ◌∙◌, subst}
 use mathlib.Core.List.{IsPrefix}
+use Rattle.rh_text.specs.declared.ends.Dir.{Dir}
 use Rattle.rh_line.specs.declared.cause.Cause.TheVariants as cause
+use Rattle.rh_line.specs.declared.leg.Leg.{Leg}
 use Rattle.rh_shell.specs.Shells.{Shell}
 use Rattle.rh_inproxy.specs.Machine as in_proxy
 use Rattle.rh_inproxy.specs.State as in_state
@@ -23,10 +25,10 @@ use Rattle.rh_proxies_begin.specs.Pipes as pipes
 use Rattle.rh_traced.specs.Ours.{deeds, rules}
 use Rattle.rh_ordered.specs.Premises.{history_at}
 use Rattle.rh_honest.proofs.Closing.{EachComes, by_fed}
-use Rattle.rh_bodies.specs.Bodies.{IsResponse}
+use Rattle.rh_bodies.proofs.Lifetimes.{EachDrew, response_none}
 use Rattle.rh_bodies.proofs.Fits.{whole_requests}
-use Rattle.rh_bodies.proofs.Sent.{EachOver, sent_closes}
-use Rattle.rh_bodies.proofs.worlds.only_a_response_may_be_too_short.Goals as goal
+use Rattle.rh_bodies.proofs.Sent.{EachOver, keeps_put, sent_closes}
+use Rattle.rh_bodies.proofs.worlds.no_change_closes_a_node_for_a_long_body.Goals as goal
 
 pub returns : goal.returns
 returns g c = λ m w new ours ranges port v by change node named count told may is.
@@ -53,10 +55,21 @@ returns g c = λ m w new ours ranges port v by change node named count told may 
       ins = c.causes_come_from_their_events-3.ensures;
       outs = c.causes_come_from_their_events-4.ensures;
     } in
+    let drew_law : EachDrew = record {
+      read = c.what_was_put_is_read.ensures;
+      refuses = c.a_proxy_refuses_for_a_reason.ensures.out_proxy;
+    } in
+    let drew = λ (leg : Leg) (dir : Dir).
+    subst (λ (k : g.row.K.Denot).
+    IsPrefix (heard_on leg (events_of h (end_node v.readers leg (receiver dir))))
+    (drawn_by rules m deeds w.company k h (end_node v.readers leg (sender dir)) leg)) flowing.cast
+    (c.what_is_heard_was_drawn.ensures rules m deeds w.company v h known.traced leg dir) in
     let made_in = λ (n : ℕ). ap (λ (k : g.row.K.Denot). m.in_proxy k n) flowing.cast ∙ ours.ins n in
     let made_out = λ (n : ℕ). ap (λ (k : g.row.K.Denot). m.out_proxy k n) flowing.cast ∙ ours.outs n in
-    by_fed v node why (IsResponse node named) (λ leg dir fed_count fed closes.
+    by_fed v node why ⊥ (λ leg dir fed_count fed closes.
     sent_closes m w v ours each h known.traced flowing
+    (response_none m w v ours h flowing drew_law drew
+    (keeps_put m w v ours each h known.traced flowing) ranges.outs)
     (c.what_an_end_counts_came_behind_a_head.ensures.over (client_state.first ours.config)
     client.rooms down.client_reads h.client c.an_end_never_refuses.ensures.client_pipes
     c.an_end_never_refuses.ensures.client
