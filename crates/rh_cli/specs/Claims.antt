@@ -1,7 +1,8 @@
 -- what holds of every recording, beside its report
 use Rattle.std.specs.Prelude.{◌≡◌, ◌≤◌, ◌++◌, ℕ, List, [], ◌∷◌, true}
+use Rattle.rh_http.specs.declared.fault.HttpFault.{HttpFault}
 use Rattle.rh_line.specs.declared.cause.Cause.{Cause}
-use Rattle.rh_line.specs.declared.cause.Cause.TheVariants.{BadFrame, BadPacket, HttpRefused, OutOfRange, Silent}
+use Rattle.rh_line.specs.declared.cause.Cause.TheVariants.{BadFrame, BadHead, BadPacket, HttpRefused, OutOfRange, Silent}
 use Rattle.rh_line.specs.declared.leg.Leg.{Leg}
 use Rattle.rh_line.specs.declared.leg.LegKind.TheVariants.{ClientIn, ClientOut, InServer, OutServer}
 use Rattle.rh_nodes.specs.Settling.{leg_at}
@@ -52,13 +53,15 @@ pub record RefusesForBreak (before : List Line) (line : Line) : Type 0 where
       (step (after Before before) line).1
       → (status ≡ 503) × ReportsBreak (before ++ line ∷ []) (leg_at InServer n)
 
--- no line reports a node as closed for bytes that read badly: no frame or packet is bad, and a value
--- is out of range in an acknowledgement alone
+-- no line reports a node as closed for bytes that read badly: no frame, packet or head is bad, and a
+-- value is out of range in an acknowledgement alone
 pub record ReadsWell (world : AnyWorld) (line : Line) : Type 0 where
   pub frame : (node : Who) (leg : Leg) (place : ℕ) (fault : HeadFault)
       → IsOneOf (NodeClosed node (BadFrame leg place fault)) (step world line).1 → ⊥
   pub packet : (node : Who) (leg : Leg) (place : ℕ) (fault : RtsFault)
       → IsOneOf (NodeClosed node (BadPacket leg place fault)) (step world line).1 → ⊥
+  pub head : (node : Who) (leg : Leg) (place : ℕ) (fault : HttpFault)
+      → IsOneOf (NodeClosed node (BadHead leg place fault)) (step world line).1 → ⊥
   pub range : (node : Who) (leg : Leg) (command value : ℕ)
       → IsOneOf (NodeClosed node (OutOfRange leg command value)) (step world line).1
       → command ≡ FLOW_CONTROL_ACK

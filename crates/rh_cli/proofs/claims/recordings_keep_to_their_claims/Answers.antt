@@ -26,6 +26,7 @@ returns c = λ lines. record {
   reads = λ before behind line is. record {
     frame = c.no_node_of_a_recording_closes_for_bad_bytes.ensures.frame before line;
     packet = c.no_node_of_a_recording_closes_for_bad_bytes.ensures.packet before line;
+    head = c.no_node_of_a_recording_closes_for_bad_bytes.ensures.head before line;
     range = c.only_acknowledgements_of_a_recording_are_out_of_range.ensures before line;
   };
   once = c.a_recording_reports_a_node_closed_once.ensures lines;
