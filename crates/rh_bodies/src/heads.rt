@@ -14,8 +14,8 @@ ghost use Rattle.rh_bodies.specs.Behind.{TakesHead};
 ghost use Rattle.rh_bodies.specs.Bodies.{RequestTells};
 
 /// A proxy takes the request of a client whose numbers are in their ranges with the length that it
-/// tells, be it one for a channel or for an echo (MS-RPCH 2.1.2). A client takes heads on the legs of
-/// OUT channels alone, and a server takes none.
+/// tells, be it one for a channel or for an echo (MS-RPCH 2.1.2). A client takes heads on the legs
+/// of OUT channels alone, and a server takes none.
 pub fn heads_are_taken_by_their_lengths()
     ensures in_proxy { (config : ClientConfig) (leg : Leg) (text : List ℕ) (n told : ℕ)
         → IsConfig config → IsPort config.port → RequestTells config ClientIn n text

@@ -1,4 +1,5 @@
-//! What stands in the body of a leg's end. These functions do nothing: their contracts are the laws.
+//! What stands in the body of a leg's end. These functions do nothing: their contracts are the
+//! laws.
 
 ghost use Rattle.std.specs.Prelude.{◌≡◌, ◌++◌, List, Some, suc, ℕ};
 ghost use Rattle.std.specs.declared.option.Option.{Option};

@@ -1,5 +1,5 @@
-//! A body that is too long closes no node in a recording. This function does nothing: its contract is
-//! the law.
+//! A body that is too long closes no node in a recording. This function does nothing: its contract
+//! is the law.
 
 ghost use Rattle.std.specs.Prelude.{List, ℕ};
 ghost use Rattle.rh_line.specs.declared.cause.Cause.TheVariants.{BodyOver};
