@@ -311,10 +311,12 @@ module _ {S : Type 0} (rules : Rules S) (pipe : Option Pipe) (leg : Leg) where
     in_head st w true whole =
         let same : i.held ++ b ∷ [] ≡ all = ap (λ (x : List ℕ). x ++ b ∷ []) w.held_is in
         head_taken (behind i (i.held ++ b ∷ [])) (i.held ++ b ∷ []) w.head same
-        (subst (IsWholeText is_whole_head) (sym same) (whole_one pipe before i.held b w whole)) old_body
+        (subst (IsWholeText is_whole_head) (sym same) (whole_one pipe before i.held b w whole))
+        old_body
         (rules.head role end.leg (i.held ++ b ∷ [])) refl
     in_head st w false whole =
-        goes_on (record i { held = i.held ++ b ∷ [] }) (λ st. waited_one pipe before i.held b w whole)
+        goes_on (record i { held = i.held ++ b ∷ [] })
+        (λ st. waited_one pipe before i.held b w whole)
         old_body
 
     in_greeting : (i.stage ≡ stage.Head → ⊥) → (bytes : List ℕ) (t : Bool)

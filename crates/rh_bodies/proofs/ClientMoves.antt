@@ -209,12 +209,14 @@ module _ (config : ClientConfig) where
       by ClientIn n =
           by_size ClientIn (Some CiU) (of_leg (ci n) put) config.lifetime
           (on_leg pipe_put MayGoOn (ci n) put may)
-          (each_fits (TellsIn config) config.lifetime (fronts (client_moved config all).passage.role).ins (legs put).ins
+          (each_fits (TellsIn config) config.lifetime
+          (fronts (client_moved config all).passage.role).ins (legs put).ins
           holds.ins n)
       by ClientOut n =
           by_size ClientOut (Some CoU) (of_leg (co n) put) OUT_R1_A3_C1_LEN
           (on_leg pipe_put MayGoOn (co n) put may)
-          (each_fits (TellsOut config) OUT_R1_A3_C1_LEN (fronts (client_moved config all).passage.role).outs (legs put).outs
+          (each_fits (TellsOut config) OUT_R1_A3_C1_LEN
+          (fronts (client_moved config all).passage.role).outs (legs put).outs
           holds.outs n)
       by OutServer n =
           nothing_put OutServer (of_leg (record { kind = OutServer; number = n }) put)

@@ -1,12 +1,12 @@
 -- what an out proxy of a world of roles drew on its client's leg is no response that is too long
-use Rattle.std.proofs.Common.{◌≡◌, ℕ, suc, ◌+◌, ◌*◌, ◌-◌, ◌≤◌, List, ◌++◌, Bool, if◌then◌else◌, Some, arith, refl, sym, ap, subst}
+use Rattle.std.proofs.Common.{◌≡◌, ℕ, suc, ◌+◌, ◌*◌, ◌-◌, ◌≤◌, List, Bool, if◌then◌else◌, Some, arith, sym, ap, subst}
 use Rattle.std.specs.List.{AllByRecursion}
 use Rattle.std.specs.declared.option.Option.{Option}
 use mathlib.Core.List.{IsPrefix}
 use Rattle.rh_text.specs.declared.ends.Dir.{Dir}
 use Rattle.rh_text.specs.declared.ends.Dir.TheVariants.{U, D}
 use Rattle.rh_sig.specs.declared.name.Pipe.{Pipe}
-use Rattle.rh_sig.specs.declared.name.Pipe.TheVariants.{CoU, CoD, OsU, OsD}
+use Rattle.rh_sig.specs.declared.name.Pipe.TheVariants.{CoU, OsU, OsD}
 use Rattle.rh_line.specs.declared.leg.Leg.{Leg}
 use Rattle.rh_line.specs.declared.leg.LegKind.TheVariants.{ClientOut, OutServer}
 use Rattle.rh_order.proofs.Prefixes.{prefix_trans}
@@ -15,7 +15,7 @@ use Rattle.rh_shell.specs.Carrying.{spelled}
 use Rattle.rh_shell.specs.Moves.{EndPassage, Passage, all_moved, started}
 use Rattle.rh_shell.specs.Moving.{Event, after_events}
 use Rattle.rh_shell.specs.Rules.{Message}
-use Rattle.rh_shell.specs.Shells.{begun, same_leg}
+use Rattle.rh_shell.specs.Shells.{begun}
 use Rattle.rh_shell.specs.Wires.{of_leg}
 use Rattle.rh_nodes.specs.Opening.{Makers}
 use Rattle.rh_nodes.specs.Settling.{leg_at}

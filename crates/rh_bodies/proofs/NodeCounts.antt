@@ -136,13 +136,15 @@ module _ {S : Type 0} (rules : Rules S) (pipe : Leg → Option Pipe) where
   end_behind heard leg ends end at all =
       let found : end_of leg ends ≡ Some end = sym (end_is leg ends) ∙ at in
       subst (λ (l : Leg). BodyIs rules (pipe l) l (heard l) end.intake.body)
-      (leg_is end.leg leg (end_leg leg ends end found)) (each_of (EndIs heard) leg ends end found all)
+      (leg_is end.leg leg (end_leg leg ends end found))
+      (each_of (EndIs heard) leg ends end found all)
 
   later : (heard : Heards) (event : Event) (ends : List NearEnd) → AreBehind heard ends
       → AreBehind (heard_then heard event) ends
   later heard event ends all =
       each_as (EndIs heard) (EndIs (heard_then heard event)) (λ end.
-      body_more rules (pipe end.leg) end.leg (heard end.leg) (heard_in end.leg event) end.intake.body) ends all
+      body_more rules (pipe end.leg) end.leg (heard end.leg) (heard_in end.leg event)
+      end.intake.body) ends all
 
   -- an end in the place of one of the same leg and with the same intake
   put_there : (heard : Heards) (leg : Leg) (ends : List NearEnd) (end new : NearEnd)
@@ -151,7 +153,8 @@ module _ {S : Type 0} (rules : Rules S) (pipe : Leg → Option Pipe) where
   put_there heard leg ends end new at keeps all =
       each_set (EndIs heard) ends (place leg ends) new all
       (subst (λ (l : Leg). BodyIs rules (pipe l) l (heard l) new.intake.body) (sym keeps.leg)
-      (subst (λ (i : Intake). BodyIs rules (pipe end.leg) end.leg (heard end.leg) i.body) (sym keeps.intake)
+      (subst (λ (i : Intake). BodyIs rules (pipe end.leg) end.leg (heard end.leg) i.body)
+      (sym keeps.intake)
       (each_of (EndIs heard) leg ends end (sym (end_is leg ends) ∙ at) all)))
 
   -- ---- a piece
@@ -160,7 +163,8 @@ module _ {S : Type 0} (rules : Rules S) (pipe : Leg → Option Pipe) where
   turn_behind : (heard : Heards) (s : Shell S) (leg : Leg) (end : NearEnd) (piece : List ℕ)
       → WaitsAt heard s → AreBehind heard s.legs → s.course ≡ Going
       → end_at s leg ≡ Some end
-      → IsBehind rules (pipe leg) leg (heard leg ++ piece) (hear rules s.now (goes end s.role) piece)
+      → IsBehind rules (pipe leg) leg (heard leg ++ piece)
+      (hear rules s.now (goes end s.role) piece)
   turn_behind heard s leg end piece waits all going at =
       bytes_heard rules (pipe leg) leg s.now (heard leg) piece (goes end s.role) (record {
         leg_is = here;
@@ -204,7 +208,8 @@ module _ {S : Type 0} (rules : Rules S) (pipe : Leg → Option Pipe) where
           (sym (stop_legs (with_end s leg t.end t.role) leg t.stop))
           (each_set (EndIs after) s.legs (place leg s.legs) t.end old
           (subst (λ (l : Leg). BodyIs rules (pipe l) l (after l) t.end.intake.body) (sym is.leg_is)
-          (subst (λ (h : List ℕ). BodyIs rules (pipe leg) leg h t.end.intake.body) heard_here is.body)))
+          (subst (λ (h : List ℕ). BodyIs rules (pipe leg) leg h t.end.intake.body) heard_here
+          is.body)))
 
       by : (c : Course) → s.course ≡ c → AreBehind after (bytes_by rules s leg piece c).legs
       by Going e = at_end e (end_at s leg) refl

@@ -1,13 +1,12 @@
 -- the lifetime that an out proxy tells a server: once, and without the bytes of CONN/A3 where no
 -- OUT_R1/A3 came, whatever moves came
-use Rattle.std.proofs.Common.{◌≡◌, ℕ, ◌+◌, ◌*◌, ◌-◌, ◌≤◌, ◌&&◌, Bool, true, false, IsTrue, nat_le, if◌then◌else◌, List, [], ◌∷◌, ◌++◌, length, Some, None, Ok, Err, arith, rules, refl, sym, ap, ◌∙◌, subst}
+use Rattle.std.proofs.Common.{◌≡◌, ℕ, ◌+◌, ◌*◌, ◌-◌, ◌≤◌, ◌&&◌, Bool, true, false, IsTrue, nat_le, if◌then◌else◌, List, [], ◌∷◌, length, Some, None, Ok, Err, arith, rules, refl, sym, ap, ◌∙◌, subst}
 use Rattle.std.specs.Prelude.{IfSome}
 use Rattle.std.specs.declared.option.Option.{Option}
 use Rattle.std.specs.declared.result.Result.{Result}
 use Rattle.std.proofs.lemmas.Bool.{and_parts}
 use Rattle.rh_rts.specs.declared.command.Cookie.{Cookie}
 use Rattle.rh_http.specs.declared.fault.HttpFault.{HttpFault}
-use Rattle.rh_http.specs.Lengths.{greatest_echo}
 use Rattle.rh_heads.specs.Verdicts.{Asked, request_verdict}
 use Rattle.rh_sig.specs.declared.named.Named.{Named}
 use Rattle.rh_sig.specs.declared.named.Named.TheVariants as named
@@ -16,10 +15,7 @@ use Rattle.rh_window.specs.declared.recv_window.Ack.{Ack}
 use Rattle.rh_line.specs.declared.leg.Leg.{Leg}
 use Rattle.rh_line.specs.Lines.{is_empty}
 use Rattle.rh_order.proofs.ByNumber.{by_test}
-use Rattle.rh_shell.specs.declared.answers.Behind.TheVariants.{Frames, PassedOver}
 use Rattle.rh_shell.specs.declared.answers.Count.{Count}
-use Rattle.rh_shell.specs.declared.answers.HeadRefused.{HeadRefused}
-use Rattle.rh_shell.specs.declared.answers.HeadTaken.{HeadTaken}
 use Rattle.rh_shell.specs.declared.due.Due.{Due}
 use Rattle.rh_shell.specs.Moves.{Move, Up, HeadCame, PduCame, PacketCame, Puts, IsDrawn, Marks, Pings, MayMove, OnLeg, Passage, AreAllowed, all_moved, moved, put_by, started, taken_by}
 use Rattle.rh_shell.specs.Rules.{Message, Text, Pdu, Packet}
@@ -118,7 +114,9 @@ conn_c1_same (channels.New connection cookie) s version window timeout e =
   where
     by : s.channel ≡ channels.New connection cookie
         → view (record s { channel = channels.Joined connection cookie }) ≡ view s
-    by e = ap (λ (b : Bool). record { lifetime = s.config.lifetime; server = s.server; follows = b })
+    by e =
+        ap (λ (b : Bool).
+        record { lifetime = s.config.lifetime; server = s.server; follows = b })
         (sym (ap is_successor e))
 conn_c1_same (channels.Joined connection cookie) s version window timeout e = refl
 conn_c1_same (channels.Successor connection predecessor cookie) s version window timeout e = refl
@@ -324,7 +322,8 @@ module _ (lifetime allowed replaced : ℕ) where
       (record s { client = clients.Up })
       (record s { server = servers.FirstDue; answer = answers.ResponseDue })
       (λ e. k)
-      (λ e. server_up s leg (wanted s.config.number (wants s leg) (is_co s leg) (is_client_down s.client) may e) k)
+      (λ e. server_up s leg
+      (wanted s.config.number (wants s leg) (is_co s leg) (is_client_down s.client) may e) k)
 
 -- ---- moves
 

@@ -116,4 +116,5 @@ pub set_same : (legs : List OutLeg) (place : ℕ) (leg : OutLeg) → slice_get l
 set_same [] place leg at = absurd (cc)
 set_same (x ∷ legs) zero leg at =
     let same : x ≡ leg = cc in ap (λ (l : OutLeg). l ∷ legs) (sym same)
-set_same (x ∷ legs) (suc place) leg at = ap (λ (ls : List OutLeg). x ∷ ls) (set_same legs place leg at)
+set_same (x ∷ legs) (suc place) leg at =
+    ap (λ (ls : List OutLeg). x ∷ ls) (set_same legs place leg at)

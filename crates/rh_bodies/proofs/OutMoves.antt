@@ -140,10 +140,12 @@ module _ (n : ℕ) where
   server_row p leg m (s, Err why) here k = k
 
   -- the legs of the proxy have its number
-  pub at_client : (p : Passage OutProxy) (leg : Leg) → Law n p → is_co p.role leg ≡ true → leg ≡ co n
+  pub at_client : (p : Passage OutProxy) (leg : Leg) → Law n p → is_co p.role leg ≡ true
+      → leg ≡ co n
   at_client p leg law e = sym (leg_is (co p.role.config.number) leg e) ∙ ap co law.number
 
-  pub at_server : (p : Passage OutProxy) (leg : Leg) → Law n p → is_os p.role leg ≡ true → leg ≡ os n
+  pub at_server : (p : Passage OutProxy) (leg : Leg) → Law n p → is_os p.role leg ≡ true
+      → leg ≡ os n
   at_server p leg law e = sym (leg_is (os p.role.config.number) leg e) ∙ ap os law.number
 
   packet_holds : (p : Passage OutProxy) (leg : Leg) (count : Count) (packet : Named) → Law n p
@@ -313,7 +315,8 @@ module _ (n : ℕ) where
       (record (p.role) { client = clients.Marked }) k (omega arith) refl refl refl refl k.single)
       (λ t. record {
         within = k.within;
-        early = λ e. k.early (or_second (is_server_down p.role.server) (is_opening p.role.answer) e);
+        early = λ e.
+            k.early (or_second (is_server_down p.role.server) (is_opening p.role.answer) e);
         new = k.new;
         known = k.known;
         timeout = k.timeout;

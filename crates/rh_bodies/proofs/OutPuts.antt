@@ -162,7 +162,8 @@ module _ (put came asked : ℕ) where
       let after : total t.line.current.pdus ≡ total pdus =
       ap (λ (x : List (List ℕ)). total x) behind_it.0 in
       by_test ToClient (may_send s.window (length pdu)) (Some (t, Pdu pdu)) None
-      (λ u. moves_on put (put + length pdu) came asked s t k (omega (arith, before, after)) refl refl
+      (λ u. moves_on put (put + length pdu) came asked s t k (omega (arith, before, after)) refl
+      refl
       refl refl behind_it.1) (λ u. tt)
 
   due_mark : (mark : Mark) → is_due mark ≡ true → mark_size mark ≡ 24

@@ -1,7 +1,6 @@
 -- what comes on a leg is in sum no more than what was put there
-use Rattle.std.proofs.Common.{◌≡◌, ℕ, ◌+◌, ◌≤◌, List, [], ◌∷◌, ◌++◌, arith, sym, ap, subst}
+use Rattle.std.proofs.Common.{◌≡◌, ℕ, ◌+◌, ◌≤◌, List, [], ◌∷◌, ◌++◌, arith, ap}
 use mathlib.Core.List.{IsPrefix}
-use Rattle.rh_sig.specs.declared.named.Named.{Named}
 use Rattle.rh_shell.specs.Hearing.{is_ping}
 use Rattle.rh_order.proofs.ByNumber.{by_test}
 use Rattle.rh_shell.specs.Rules.{Message, Text, Pdu, Packet}

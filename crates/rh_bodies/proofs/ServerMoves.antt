@@ -193,7 +193,8 @@ module _ (put may : Amounts) where
         legs =
             subst (λ (j : ℕ).
             AreRoomy put may 0 j (s.outs ++ out_leg_up n ∷ [])) (sym is)
-            (push_roomy put may 0 s.newest_out s.outs (out_leg_up n) is (omega (arith, fits)) k.legs);
+            (push_roomy put may 0 s.newest_out s.outs (out_leg_up n) is (omega (arith, fits))
+            k.legs);
         all = k.all;
       }
   up_holds s n InServer e k = k

@@ -335,7 +335,8 @@ module _ (put may : Amounts) where
       subst (AreWithin put may) (sym (conn_b2_same s n count connection cookie window timeout)) k
   is_keeps s n count
       (named.InR1A2 version connection predecessor successor window timeout) k =
-      subst (AreWithin put may) (sym (in_r1_a2_same s n count connection predecessor successor window timeout)) k
+      subst (AreWithin put may)
+      (sym (in_r1_a2_same s n count connection predecessor successor window timeout)) k
   is_keeps s n count (named.InR1A6 successor) k =
       subst (AreWithin put may) (sym (in_r1_a6_same s n successor)) k
   is_keeps s n count (named.InR2A2 successor) k =
@@ -389,15 +390,20 @@ module _ (put may : Amounts) where
         → Roomy (bump leg.number (passes (Packet packet)) put) may
         (was_put (record s { waiting = waiting }) place packet)
     packet_keeps waiting (named.ConnC1 version window timeout) e =
-        counts_keeps waiting 44 (if_may 44 (and_parts (leg.number == s.writing) (may_put leg.meter 44) e).1)
+        counts_keeps waiting 44
+        (if_may 44 (and_parts (leg.number == s.writing) (may_put leg.meter 44) e).1)
     packet_keeps waiting (named.InR1A3 to version window timeout) e =
-        counts_keeps waiting 52 (if_fits 52 (and_parts (leg.number == s.writing) (fits leg.meter 52) e).1)
+        counts_keeps waiting 52
+        (if_fits 52 (and_parts (leg.number == s.writing) (fits leg.meter 52) e).1)
     packet_keeps waiting (named.InR2A3 to) e =
-        counts_keeps waiting 28 (if_fits 28 (and_parts (leg.number == s.writing) (fits leg.meter 28) e).1)
+        counts_keeps waiting 28
+        (if_fits 28 (and_parts (leg.number == s.writing) (fits leg.meter 28) e).1)
     packet_keeps waiting (named.OutR1A1 to) e =
-        counts_keeps waiting 28 (if_fits 28 (and_parts (leg.number == s.writing) (fits leg.meter 28) e).1)
+        counts_keeps waiting 28
+        (if_fits 28 (and_parts (leg.number == s.writing) (fits leg.meter 28) e).1)
     packet_keeps waiting (named.OutR1A5 to version timeout) e =
-        counts_keeps waiting 44 (if_fits 44 (and_parts (leg.number == s.writing) (fits leg.meter 44) e).1)
+        counts_keeps waiting 44
+        (if_fits 44 (and_parts (leg.number == s.writing) (fits leg.meter 44) e).1)
     packet_keeps waiting named.OutR1A9 e =
         counts_keeps waiting 24 (if_fits 24 (and_parts (gate s leg).hands_over (fits leg.meter 24)
         (and_parts (leg.number == s.writing) ((gate s leg).hands_over && fits leg.meter 24) e).1).1)
@@ -411,7 +417,8 @@ module _ (put may : Amounts) where
             else counts (record s { waiting = waiting }) place 56)
         by true e = uncounted
         by false e =
-            counts_keeps waiting 56 (if_may 56 (and_parts (leg.number == s.writing) (may_put leg.meter 56)
+            counts_keeps waiting 56
+            (if_may 56 (and_parts (leg.number == s.writing) (may_put leg.meter 56)
             e).1)
     packet_keeps waiting packet e =
         let bad = (and_parts (leg.number == s.writing) false e).1 in absurd (cc)
@@ -440,7 +447,8 @@ module _ (put may : Amounts) where
     went_keeps len within =
         subst (λ (o : Option OutLeg). AreWithin (bump leg.number len put) may (record (outs_of s) {
           legs = went_at s place len o;
-        })) (sym there) (put_leg s place leg (went leg len) len there refl (omega (arith, within)) k)
+        })) (sym there)
+        (put_leg s place leg (went leg len) len there refl (omega (arith, within)) k)
 
     pdu_keeps : (len : Option ℕ) → front_length s.queue ≡ len → There (pdu_by s place len)
     pdu_keeps None e = tt

@@ -21,7 +21,8 @@ returns-clause-counts g c = λ first rooms pipe events pipes stays once accepted
     turns)
 
 pub returns-clause-over : goal.returns-clause-over
-returns-clause-over g c = λ first rooms pipe events pipes stays once accepted turns leg named piece count told closes.
+returns-clause-over g c = λ first rooms pipe events pipes stays once accepted turns leg named piece
+    count told closes.
     let rules = g.R.Role.rules in
     let node = after_events rules (begun first rooms) events in
     let why = cause.BodyOver named count told in

@@ -13,7 +13,8 @@ use Rattle.rh_bodies.proofs.Waiting.{end_waits, ends_behind}
 use Rattle.rh_bodies.proofs.nodes.what_an_end_counts_came_behind_a_head.Goals as goal
 
 pub returns-clause-counts : goal.returns-clause-counts
-returns-clause-counts g c = λ first rooms pipe events pipes never stays once accepted turns leg end at.
+returns-clause-counts g c = λ first rooms pipe events pipes never stays once accepted turns leg end
+    at.
     let rules = g.R.Role.rules in
     let acts = g.R.EndRole.acts in
     end_behind rules pipe (λ (l : Leg). heard_on l (happened events)) leg
@@ -22,7 +23,8 @@ returns-clause-counts g c = λ first rooms pipe events pipes never stays once ac
     accepted turns)
 
 pub returns-clause-over : goal.returns-clause-over
-returns-clause-over g c = λ first rooms pipe events pipes never stays once accepted turns leg named piece count told closes.
+returns-clause-over g c = λ first rooms pipe events pipes never stays once accepted turns leg named
+    piece count told closes.
     let rules = g.R.Role.rules in
     let acts = g.R.EndRole.acts in
     let node = after_end_events rules acts (begun first rooms) events in

@@ -65,7 +65,8 @@ returns g c = λ m w new ours ranges port v by change node named count told may 
     (drawn_by rules m deeds w.company k h (end_node v.readers leg (sender dir)) leg)) flowing.cast
     (c.what_is_heard_was_drawn.ensures rules m deeds w.company v h known.traced leg dir) in
     let made_in = λ (n : ℕ). ap (λ (k : g.row.K.Denot). m.in_proxy k n) flowing.cast ∙ ours.ins n in
-    let made_out = λ (n : ℕ). ap (λ (k : g.row.K.Denot). m.out_proxy k n) flowing.cast ∙ ours.outs n in
+    let made_out = λ (n : ℕ).
+    ap (λ (k : g.row.K.Denot). m.out_proxy k n) flowing.cast ∙ ours.outs n in
     by_fed v node why ⊥ (λ leg dir fed_count fed closes.
     sent_closes m w v ours each h known.traced flowing
     (response_none m w v ours h flowing drew_law drew
