@@ -1,11 +1,11 @@
--- changes lead to each world of roles that a recording comes to, from one that begins with numbers
--- in their ranges
+-- changes that lines make lead to each world of roles that a recording comes to, from one that
+-- begins with numbers in their ranges
 use Rattle.std.proofs.Common.{List, [], ◌∷◌, true, false}
 use Rattle.rh_record.specs.declared.line.Line.{Line}
 use Rattle.rh_record.specs.declared.line.Line.TheVariants.{First, Set, Give, Take, Close, Send, Move, OpenLeg, OpenSame, BreakLeg, EndLeg, Tick, RecycleIn, RecycleOut, Settle}
-use Rattle.rh_history.specs.Changes.{Leads}
-use Rattle.rh_history.proofs.Leading.{leads_none, leads_then}
-use Rattle.rh_history.proofs.Lines.{leads_step}
+use Rattle.rh_history.specs.Changes.{ByLines}
+use Rattle.rh_history.proofs.Working.{works_none, works_then}
+use Rattle.rh_history.proofs.Lines.{step_by_lines}
 use Rattle.rh_world.specs.declared.any_world.AnyWorld.{AnyWorld}
 use Rattle.rh_world.specs.declared.any_world.AnyWorld.TheVariants.{Before, Direct, Settings, Roles}
 use Rattle.rh_world.specs.declared.config.WorldConfig.{WorldConfig}
@@ -17,13 +17,13 @@ use Rattle.rh_bounds.proofs.Numbers.{first_in_range, number_in_range}
 pub record IsReached (world : roles.World) : Type 0 where
   pub config : WorldConfig
   pub ranges : AreInRange config
-  pub leads : Leads roles.rules roles.makers roles.deeds (roles.begun config) world
+  pub lines : ByLines roles.rules roles.makers roles.deeds (roles.begun config) world
 
 begun_reached : (config : WorldConfig) → AreInRange config → IsReached (roles.begun config)
 begun_reached config ranges = record {
   config = config;
   ranges = ranges;
-  leads = leads_none roles.rules roles.makers roles.deeds (roles.begun config);
+  lines = works_none roles.rules roles.makers roles.deeds (roles.begun config);
 }
 
 step_reached : (world : roles.World) (line : Line) → IsReached world
@@ -31,9 +31,9 @@ step_reached : (world : roles.World) (line : Line) → IsReached world
 step_reached world line reached = record {
   config = reached.config;
   ranges = reached.ranges;
-  leads = leads_then roles.rules roles.makers roles.deeds (roles.begun reached.config) world
-      (roles.step line world).0 reached.leads
-      (leads_step roles.rules roles.makers roles.deeds line world);
+  lines = works_then roles.rules roles.makers roles.deeds (roles.begun reached.config) world
+      (roles.step line world).0 reached.lines
+      (step_by_lines roles.rules roles.makers roles.deeds line world);
 }
 
 -- ---- the world of a recording
@@ -44,7 +44,7 @@ IsRecorded (Direct world) = Unit {0}
 IsRecorded (Settings config) = AreInRange config
 IsRecorded (Roles world) = IsReached world
 
-prepared_is_recorded : (world : AnyWorld) (line : Line) → IsRecorded world
+pub prepared_is_recorded : (world : AnyWorld) (line : Line) → IsRecorded world
     → IsRecorded (prepared world line)
 prepared_is_recorded Before (First false) h = tt
 prepared_is_recorded Before (First true) h = first_in_range

@@ -163,7 +163,7 @@ module _ (law : (config : WorldConfig) (world : roles.World) → AreInRange conf
   recorded_hold Before h = tt
   recorded_hold (Direct world) h = tt
   recorded_hold (Settings config) h = tt
-  recorded_hold (Roles world) h = law h.config world h.ranges h.leads
+  recorded_hold (Roles world) h = law h.config world h.ranges h.lines.leads
 
   pub windows_hold : (lines : List Line) → WindowsHold (after Before lines)
   windows_hold lines = recorded_hold (after Before lines) (behind_lines Before lines tt)

@@ -11,7 +11,7 @@ mod Refusing
 mod MoveRoles
 mod ServerLegs
 mod InProxyLegs
-mod OutProxyLegs
+pub mod OutProxyLegs
 mod ClientSteps
 mod ClientLegs
 mod ClientTimes

@@ -5,6 +5,7 @@ ghost use Rattle.std.specs.Prelude.{List};
 ghost use Rattle.rh_record.specs.declared.line.Line.{Line};
 ghost use Rattle.rh_cli.specs.Claims.{Claims};
 
+use rh_bodies::no_body_of_a_recording_is_too_long;
 use rh_bounds::windows_hold_in_every_recording;
 use rh_closes::{
     a_node_of_a_recording_falls_silent, a_recording_reports_a_node_closed_once,
@@ -12,13 +13,22 @@ use rh_closes::{
     only_a_client_of_a_recording_is_refused,
 };
 use rh_fifo::every_recording_is_ordered;
+use rh_honest::{
+    no_node_of_a_recording_closes_for_bad_bytes,
+    only_acknowledgements_of_a_recording_are_out_of_range,
+};
+use rh_hops::no_hop_on_one_leg_closes_a_node_of_a_recording;
 use rh_named::an_end_of_a_recording_names_its_cause;
 use rh_ordered::a_recording_counts;
+use rh_paths::every_recording_keeps_what_is_on_its_way;
+use rh_refused::a_refused_client_of_a_recording_lost_its_server;
 
 /// In every recording what each end takes is what the other end gave, each PDU once and in order,
-/// whatever its lines cut, delay, break and replace. No more is held for a channel than its window,
-/// and each node is reported as closed once at most, by a line whose answers show why; each later
-/// answer of that end names the same cause (MS-RPCH 3.2).
+/// whatever its lines cut, delay, break and replace; what was given and not taken is on its way,
+/// unless a leg is lost. No more is held for a channel than its window, and each node is reported
+/// as closed once at most, by a line whose answers show why; each later answer of that end names the
+/// same cause (MS-RPCH 3.2). No node closes for bytes that read badly, for a body that is too long,
+/// or for the window of a hop that lies on one leg.
 pub fn recordings_keep_to_their_claims()
     ensures { (lines : List Line) → Claims lines }
 {
@@ -28,6 +38,12 @@ pub fn recordings_keep_to_their_claims()
     each_close_of_a_recording_shows();
     each_cause_of_a_recording_shows();
     only_a_client_of_a_recording_is_refused();
+    a_refused_client_of_a_recording_lost_its_server();
+    no_node_of_a_recording_closes_for_bad_bytes();
+    only_acknowledgements_of_a_recording_are_out_of_range();
+    no_body_of_a_recording_is_too_long();
+    no_hop_on_one_leg_closes_a_node_of_a_recording();
+    every_recording_keeps_what_is_on_its_way();
     a_node_of_a_recording_falls_silent();
     a_recording_reports_a_node_closed_once();
     an_end_of_a_recording_names_its_cause();

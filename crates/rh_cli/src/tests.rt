@@ -1,8 +1,10 @@
 //! Runs of the top call, with inputs and outputs worked out by hand.
 
+mod make;
 mod program;
 mod replay;
 mod show;
+mod world;
 
 use crate::run::run;
 use crate::status::Status;

@@ -6,6 +6,7 @@ pub mod channels;
 pub mod client;
 mod ending;
 mod in_replacement;
+pub mod laws;
 pub mod legible;
 pub mod lengths;
 mod opening;
@@ -16,11 +17,10 @@ pub mod replacement;
 mod requests;
 pub mod state;
 mod successors;
-#[cfg(test)]
-mod tests;
 mod time;
 
 pub use client::{Client, ROOMS};
+pub use laws::the_last_channel_has_no_successor;
 pub use legible::what_a_client_puts_reads_back;
 pub use order::{a_client_gives_in_order, a_client_takes_in_order};
 pub use rh_http::ClientConfig;

@@ -37,7 +37,7 @@ module _ {K C S I O : Type 0} (r : Rulebook C S I O) (m : Makers K I O) (d : Dee
 
   shown_lose : (w : World K C S I O) (leg : Leg) (end : Side) (event : Event)
       → (HasUp w (at w leg end) leg end → MayBeTold r w (at w leg end) event)
-      → Shows all w (at w leg end) event
+      → (HasUp w (at w leg end) leg end → Shows all w (at w leg end) event)
       → ShownWorks r m d all w (lose r w leg end event)
   shown_lose w leg end event may shows = by (legs.is_up leg end w.legs) refl
     where
@@ -48,11 +48,11 @@ module _ {K C S I O : Type 0} (r : Rulebook C S I O) (m : Makers K I O) (d : Dee
           let node = at w leg end in
           let has : HasUp w node leg end = record { stands = refl; up = e } in
           shown_more r m d all w (tell r w node event) (GoesDown node leg end)
-          (shown_one r m d all w (IsTold node event) (may has) refl shows)
+          (shown_one r m d all w (IsTold node event) (may has) refl (shows has))
           (record { stands = refl; up = e }) refl tt
 
   shown_broken : (w : World K C S I O) (leg : Leg) (end : Side)
-      → Shows all w (at w leg end) (Breaks leg)
+      → (HasUp w (at w leg end) leg end → Shows all w (at w leg end) (Breaks leg))
       → ShownWorks r m d all w (lose r w leg end (Breaks leg))
   shown_broken w leg end shows =
       shown_lose w leg end (Breaks leg) (λ has. inl (end, has)) shows
@@ -101,8 +101,8 @@ module _ {K C S I O : Type 0} (r : Rulebook C S I O) (m : Makers K I O) (d : Dee
       by true told =
           let v = lose r w leg side.Client (Breaks leg) in
           shown_then r m d all w v (lose r v leg side.Server (Breaks leg))
-          (shown_broken w leg side.Client (inl (told refl)))
-          (shown_broken v leg side.Server (inl (told refl)))
+          (shown_broken w leg side.Client (λ has. inl (told refl)))
+          (shown_broken v leg side.Server (λ has. inl (told refl)))
       by false told = shown_refused w leg told
 
   pub shown_end_leg : (w : World K C S I O) (leg : Leg) (dir : Dir)
@@ -120,9 +120,9 @@ module _ {K C S I O : Type 0} (r : Rulebook C S I O) (m : Makers K I O) (d : Dee
           let v = lose r w leg (sender dir) (Breaks leg) in
           shown_then r m d all w v (lose r v leg (receiver dir) (Ends leg))
           (shown_broken w leg (sender dir)
-          (inr (record { dir = dir; puts = refl; shown = told refl })))
+          (λ has. inr (record { dir = dir; puts = refl; up = has.up; shown = told refl })))
           (shown_lose v leg (receiver dir) (Ends leg) (λ has. (receiver dir, has))
-          (record { dir = dir; reads = refl; shown = told refl }))
+          (λ has. record { dir = dir; reads = refl; shown = told refl }))
       by false told = shown_none r m d all w
 
   -- ---- bytes are carried

@@ -89,12 +89,12 @@ moves_down answers w event leg piece came move =
 -- ---- the world in the midst of a line comes from a new one
 
 module _ {K C S I O : Type 0} (r : Rulebook C S I O) (m : Makers K I O) (d : Deeds C S) where
-  allowed_front : (w : World K C S I O) (cs ds : List Change) → AreAllowed r m d w (cs ++ ds)
+  pub allowed_front : (w : World K C S I O) (cs ds : List Change) → AreAllowed r m d w (cs ++ ds)
       → AreAllowed r m d w cs
   allowed_front w [] ds a = tt
   allowed_front w (c ∷ cs) ds a = (a.0, allowed_front (changed r m d w c) cs ds a.1)
 
-  pub leads_midst : (line : Line) (w : World K C S I O) (node : Who) (why : Cause)
+  abbrev pub leads_midst : (line : Line) (w : World K C S I O) (node : Who) (why : Cause)
       (is : IsLicensed r m d line w node why)
       → Leads r m d w (midst r m d line w node why is)
   leads_midst line w node why is = record {

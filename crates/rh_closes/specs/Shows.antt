@@ -10,17 +10,19 @@ use Rattle.rh_nodes.specs.declared.event.Event.{Event}
 use Rattle.rh_nodes.specs.declared.event.Event.TheVariants.{Comes, Ends, Breaks, Passes}
 use Rattle.rh_nodes.specs.Company.{Rulebook}
 use Rattle.rh_nodes.specs.Giving.{Deeds}
+use Rattle.rh_nodes.specs.Legs as legs
 use Rattle.rh_nodes.specs.Opening.{Makers}
 use Rattle.rh_nodes.specs.Wires.{sender, receiver}
 use Rattle.rh_nodes.specs.World.{World, at}
 use Rattle.rh_history.specs.Changes.{Change, Works, changed}
 use Rattle.rh_history.specs.Closes.{IsOneOf, told_by}
 
--- the leg ended in a direction in which the node puts there
+-- the leg, which was up for the node, ended in a direction in which it puts there
 pub record ShowsLoss {K C S I O : Type 0} (answers : List Answer) (w : World K C S I O)
     (node : Who) (leg : Leg) : Type 0 where
   pub dir : Dir
   pub puts : at w leg (sender dir) ≡ node
+  pub up : legs.is_up leg (sender dir) w.legs ≡ true
   pub shown : IsOneOf (answer.EndLeg leg dir true) answers
 
 -- the leg ended in a direction in which the node is put to there

@@ -11,10 +11,10 @@ ghost use Rattle.rh_closes.specs.Shows.{ShownWorks};
 
 /// What a line tells the nodes shows in its answers: the small changes that it makes can be given
 /// so that for each of them that tells a node something there is an answer that says so. A leg
-/// breaks for a node where the line broke that leg, or ended it in the direction in which the node
-/// puts there; it ends where the line ended it in the direction in which the node reads; a piece
-/// comes where it was moved on that leg in the direction in which the node reads, unless it is
-/// empty; and the moment passes where it was told.
+/// breaks for a node where the line broke that leg, or ended it, where it was up for the node, in
+/// the direction in which the node puts there; it ends where the line ended it in the direction in
+/// which the node reads; a piece comes where it was moved on that leg in the direction in which the
+/// node reads, unless it is empty; and the moment passes where it was told.
 pub fn what_a_line_tells_shows<K, C, S, I, O>()
     ensures { (r : Rulebook C S I O) (m : Makers K I O) (d : Deeds C S) (line : Line)
         (w : World K C S I O)

@@ -1,5 +1,5 @@
-mod LegLogs
-mod Sides
+pub mod LegLogs
+pub mod Sides
 mod ClientNumbers
 mod ClientLegs
 mod Routing

@@ -1,7 +1,10 @@
 -- what a client put first, and which of its legs came up, whatever moves came
 use Rattle.std.proofs.Common.{◌≡◌, ℕ, true, false, List, [], Some, None, inl, arith, refl, subst}
+use Rattle.std.specs.List.{AllByRecursion}
+use Rattle.std.specs.declared.option.Option.{Option}
 use Rattle.rh_http.specs.declared.config.ClientConfig.{ClientConfig}
 use Rattle.rh_http.specs.Texts.{in_request, out_request}
+use Rattle.rh_sig.specs.declared.name.Pipe.{Pipe}
 use Rattle.rh_sig.specs.declared.name.Pipe.TheVariants.{CiU, CoU}
 use Rattle.rh_line.specs.declared.leg.Leg.{Leg}
 use Rattle.rh_line.specs.declared.leg.LegKind.{LegKind}
@@ -15,9 +18,12 @@ use Rattle.rh_client.specs.State.{ci, co, first}
 use Rattle.rh_client.specs.Client.{rules, acts}
 use Rattle.rh_client.specs.Order.{client_started, client_moved, AreAllowedMoves}
 use Rattle.rh_client.specs.Legible.{pipe_to, pipe_put}
+use Rattle.rh_shell.specs.declared.stage.Stage.TheVariants as stage
+use Rattle.rh_shell.specs.NearEnds.{first_stage}
 use Rattle.rh_reading.specs.Reading.{IsWholeText, Begins}
+use Rattle.rh_reading.specs.Well.{Answers, IsWellText, TextIsWell}
 use Rattle.rh_ends_begin.specs.Begins.{BeginsLegs, WritesOnUp, came_up}
-use Rattle.rh_ends_begin.proofs.Stands.{Logs, logs_of, begins}
+use Rattle.rh_ends_begin.proofs.Stands.{Logs, logs_of, begins, fine_well, none_well}
 use Rattle.rh_ends_begin.proofs.Moves.{StepsKeep, moves_keep}
 use Rattle.rh_ends_begin.proofs.Fronts.{channel, IsLast, each_told, all_came}
 use Rattle.rh_ends_begin.proofs.ClientFronts.{fronts, Keeps, CameUp, up_first, up_keeps, packet_keeps, pdu_keeps, drawn_keeps, ping_keeps, give_keeps, take_keeps, recycle_keeps}
@@ -26,13 +32,13 @@ use Rattle.rh_ends_begin.proofs.ClientPuts.{AreFirst, puts}
 -- the steps of a client keep what stands on its legs
 module _ (config : ClientConfig) (IsFirst : List ℕ → Type 0) (came : ℕ → Type 0)
     (asks : AreFirst config IsFirst) where
-  abbrev Holds : Logs → ClientRole → Type 0
+  abbrev pub Holds : Logs → ClientRole → Type 0
   Holds logs s = Keeps config IsFirst came logs s
 
-  abbrev LegCame : Leg → Type 0
+  abbrev pub LegCame : Leg → Type 0
   LegCame leg = CameUp config IsFirst came leg.kind leg.number
 
-  steps : StepsKeep rules acts Holds LegCame
+  pub steps : StepsKeep rules acts Holds LegCame
   steps = record {
     up = λ logs s leg cookie may up k.
         up_keeps config IsFirst came logs s leg.number cookie leg.kind may up k;
@@ -51,7 +57,7 @@ module _ (config : ClientConfig) (IsFirst : List ℕ → Type 0) (came : ℕ →
     recycle = λ logs s k. recycle_keeps config IsFirst came logs s s.replacement refl k;
   }
 
-  starts : Holds (logs_of []) (first config)
+  pub starts : Holds (logs_of []) (first config)
   starts = record {
     config_stays = refl;
     ins = starts_front came;
@@ -72,7 +78,7 @@ module _ (config : ClientConfig) (IsFirst : List ℕ → Type 0) (came : ℕ →
         λ k above. refl,
       )
 
-  says_kind : (n : ℕ) (kind : LegKind) → (kind ≡ ClientIn → came n)
+  pub says_kind : (n : ℕ) (kind : LegKind) → (kind ≡ ClientIn → came n)
       → CameUp config IsFirst came kind n
   says_kind n ClientIn says = says refl
   says_kind n ClientOut says = tt
@@ -93,7 +99,7 @@ module _ (config : ClientConfig) (IsFirst : List ℕ → Type 0) (came : ℕ →
 abbrev Whole : List ℕ → Type 0
 Whole text = IsWholeText is_whole_head text
 
-abbrev AnyUp : ℕ → Type 0
+abbrev pub AnyUp : ℕ → Type 0
 AnyUp n = Unit {0}
 
 begins_by : (config : ClientConfig) (put : List OnLeg) (s : ClientRole)
@@ -135,9 +141,43 @@ client_begins ins outs config all allowed =
       nothing = λ leg e. nothing_by config p.put p.role k leg.number leg.kind e;
     }
 
+-- ---- and its texts read well
+
+module _ (well : Answers) (heads : (pipe : Option Pipe) (text : List ℕ)
+    → first_stage pipe ≡ stage.Head → Whole text → TextIsWell well pipe text) where
+  well_by : (config : ClientConfig) (put : List OnLeg) (s : ClientRole)
+      → Keeps config Whole AnyUp (logs_of put) s → (n : ℕ) (kind : LegKind)
+      → AllByRecursion (IsWellText well (pipe_to kind))
+      (of_leg (record { kind = kind; number = n }) put)
+  well_by config put s k n ClientIn =
+      fine_well well (Some CiU) Whole (λ text whole. heads (Some CiU) text refl whole)
+      (of_leg (ci n) put)
+      (each_told Whole AnyUp (fronts s).ins (λ j. of_leg (ci j) put) (up_first s.writing.opening)
+      (up_first s.in_successor.opening) k.ins n).0
+  well_by config put s k n ClientOut =
+      fine_well well (Some CoU) Whole (λ text whole. heads (Some CoU) text refl whole)
+      (of_leg (co n) put)
+      (each_told Whole AnyUp (fronts s).outs (λ j. of_leg (co j) put) (up_first s.current.opening)
+      (up_first s.out_successor.opening) k.outs n).0
+  well_by config put s k n OutServer =
+      none_well well None (of_leg (record { kind = OutServer; number = n }) put) (k.apart n).0
+  well_by config put s k n InServer =
+      none_well well None (of_leg (record { kind = InServer; number = n }) put) (k.apart n).1
+
+  pub client_well : ((config : ClientConfig) → Whole (in_request config))
+      → ((config : ClientConfig) (len : ℕ) → Whole (out_request config len))
+      → (config : ClientConfig) (all : List EndMove) → AreAllowedMoves config all → (leg : Leg)
+      → AllByRecursion (IsWellText well (pipe_put leg))
+      (of_leg leg (client_moved config all).passage.put)
+  client_well ins outs config all allowed leg =
+      let p = (client_moved config all).passage in
+      let first : AreFirst config Whole = record { ins = ins config; outs = outs config } in
+      let k = client_keeps config Whole AnyUp first all allowed (λ n e. tt) in
+      well_by config p.put p.role k leg.number leg.kind
+
 -- ---- on which legs it wrote
 
-abbrev Any : List ℕ → Type 0
+abbrev pub Any : List ℕ → Type 0
 Any text = Unit {0}
 
 pub client_writes : (config : ClientConfig) (all : List EndMove) → AreAllowedMoves config all

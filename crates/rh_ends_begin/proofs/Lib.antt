@@ -8,3 +8,4 @@ mod ServerMoves
 mod ClientFronts
 mod ClientPuts
 mod ClientMoves
+mod ClientAsks

@@ -1,6 +1,9 @@
 -- what a server put first, whatever moves came
-use Rattle.std.proofs.Common.{◌≡◌, ℕ, List, [], Some, None, inl, arith, refl}
+use Rattle.std.proofs.Common.{◌≡◌, ℕ, List, [], Some, None, inl, arith, refl, sym, subst}
+use Rattle.std.specs.List.{AllByRecursion}
+use Rattle.std.specs.declared.option.Option.{Option}
 use Rattle.rh_rts.specs.declared.command.Cookie.{Cookie}
+use Rattle.rh_sig.specs.declared.name.Pipe.{Pipe}
 use Rattle.rh_sig.specs.declared.name.Pipe.TheVariants.{IsD, OsD}
 use Rattle.rh_line.specs.declared.leg.Leg.{Leg}
 use Rattle.rh_line.specs.declared.leg.LegKind.{LegKind}
@@ -14,9 +17,12 @@ use Rattle.rh_server.specs.Legible.{pipe_to, pipe_put}
 use Rattle.rh_server.specs.States.{Server}
 use Rattle.rh_server.specs.Opening.{may_up_by, up_by, up}
 use Rattle.rh_server.specs.Servers.{rules, acts, first}
+use Rattle.rh_shell.specs.declared.stage.Stage.TheVariants as stage
+use Rattle.rh_shell.specs.NearEnds.{first_stage}
 use Rattle.rh_reading.specs.Reading.{IsWholeText, Begins}
+use Rattle.rh_reading.specs.Well.{Answers, IsWellText, TextIsWell}
 use Rattle.rh_ends_begin.specs.Begins.{BeginsLegs}
-use Rattle.rh_ends_begin.proofs.Stands.{Logs, logs_of, begins}
+use Rattle.rh_ends_begin.proofs.Stands.{Logs, logs_of, begins, fine_well, none_well}
 use Rattle.rh_ends_begin.proofs.Moves.{StepsKeep, moves_keep}
 use Rattle.rh_ends_begin.proofs.KeptLegs.{AreBegun}
 use Rattle.rh_ends_begin.proofs.ServerRows.{Keeps, is_leg, os_leg, packet_keeps, pdu_keeps, up_keeps, drawn_keeps, mark_keeps, give_keeps, take_keeps, recycle_keeps}
@@ -90,3 +96,39 @@ server_begins whole window moves allowed =
       begins = λ leg. begins_by p.put p.role k leg.number leg.kind;
       nothing = λ leg e. nothing_by p.put p.role k leg.number leg.kind e;
     }
+
+-- ---- and its texts read well
+
+abbrev Greets : List ℕ → Type 0
+Greets text = text ≡ greeting_text
+
+module _ (well : Answers) (greets : (pipe : Option Pipe) → first_stage pipe ≡ stage.Greeting
+    → TextIsWell well pipe greeting_text) where
+  greeting_is : (pipe : Option Pipe) → first_stage pipe ≡ stage.Greeting → (text : List ℕ)
+      → Greets text → TextIsWell well pipe text
+  greeting_is pipe first text is = subst (TextIsWell well pipe) (sym is) (greets pipe first)
+
+  well_by : (put : List OnLeg) (s : Server) → Keeps Greets (logs_of put) s → (n : ℕ)
+      (kind : LegKind)
+      → AllByRecursion (IsWellText well (pipe_to kind))
+      (of_leg (record { kind = kind; number = n }) put)
+  well_by put s k n InServer =
+      fine_well well (Some IsD) Greets (greeting_is (Some IsD) refl) (of_leg (is_leg n) put)
+      (k.ins.each n)
+  well_by put s k n OutServer =
+      fine_well well (Some OsD) Greets (greeting_is (Some OsD) refl) (of_leg (os_leg n) put)
+      (k.outs.each n)
+  well_by put s k n ClientIn =
+      none_well well None (of_leg (record { kind = ClientIn; number = n }) put) (k.apart n).1
+  well_by put s k n ClientOut =
+      none_well well None (of_leg (record { kind = ClientOut; number = n }) put) (k.apart n).0
+
+  pub server_well : (window : ℕ) (moves : List EndMove)
+      → AreAllowedAtEnd rules acts (end_started (first window)) moves → (leg : Leg)
+      → AllByRecursion (IsWellText well (pipe_put leg))
+      (of_leg leg (all_end_moved rules acts (end_started (first window)) moves).passage.put)
+  server_well window moves allowed leg =
+      let p = (all_end_moved rules acts (end_started (first window)) moves).passage in
+      let k = moves_keep rules acts (Keeps Greets) (λ leg. Unit {0}) (steps Greets refl)
+      (end_started (first window)) moves allowed (λ leg e. tt) (starts Greets refl window) in
+      well_by p.put p.role k leg.number leg.kind

@@ -1,6 +1,7 @@
 -- what stands on a leg: nothing yet, or a text and no other behind it
 use Rattle.std.proofs.Common.{◌≡◌, ◌≢◌, ◌⊎◌, ℕ, suc, ◌<◌, nat_eq, Bool, true, false, List, [], ◌∷◌, ◌++◌, if◌then◌else◌, inl, inr, arith, refl, ◌∙◌}
 use mathlib.Core.Path.{fun_ext}
+use Rattle.std.specs.List.{AllByRecursion}
 use Rattle.std.specs.declared.option.Option.{Option}
 use Rattle.rh_sig.specs.declared.name.Pipe.{Pipe}
 use Rattle.rh_line.specs.declared.leg.Leg.{Leg}
@@ -11,6 +12,8 @@ use Rattle.rh_shell.specs.Shells.{same_leg}
 use Rattle.rh_shell.specs.Wires.{of_leg}
 use Rattle.rh_shell.specs.Moves.{OnLeg}
 use Rattle.rh_reading.specs.Reading.{IsNoText, AreNoTexts, IsWholeText, BeginsWith}
+use Rattle.rh_reading.specs.Well.{Answers, IsWellText, TextIsWell}
+use Rattle.rh_reading.proofs.NoTexts.{no_texts_well}
 
 -- ---- on one leg, for the texts that may go first
 
@@ -58,6 +61,22 @@ begins pipe whole (Text text ∷ messages) (inr h) = inl h
 begins pipe whole (Pdu pdu ∷ messages) (inr h) = h
 begins pipe whole (Packet named ∷ messages) (inr h) = h
 begins pipe whole (message ∷ messages) (inl h) = absurd (cc)
+
+-- and where each text that may go first reads well
+pub none_well : (well : Answers) (pipe : Option Pipe) (messages : List Message)
+    → messages ≡ [] → AllByRecursion (IsWellText well pipe) messages
+none_well well pipe [] e = tt
+none_well well pipe (message ∷ messages) e = absurd (cc)
+
+pub fine_well : (well : Answers) (pipe : Option Pipe) (IsFirst : List ℕ → Type 0)
+    → ((text : List ℕ) → IsFirst text → TextIsWell well pipe text) → (messages : List Message)
+    → IsFine IsFirst messages → AllByRecursion (IsWellText well pipe) messages
+fine_well well pipe IsFirst texts messages (inl none) = none_well well pipe messages none
+fine_well well pipe IsFirst texts [] (inr h) = tt
+fine_well well pipe IsFirst texts (Text text ∷ messages) (inr h) =
+    (texts text h.0, no_texts_well well pipe messages h.1)
+fine_well well pipe IsFirst texts (Pdu pdu ∷ messages) (inr h) = absurd h
+fine_well well pipe IsFirst texts (Packet named ∷ messages) (inr h) = absurd h
 
 -- a message is put behind what stands there
 abbrev pub GoesBehind : (List ℕ → Type 0) → Bool → Message → Bool → Type 0

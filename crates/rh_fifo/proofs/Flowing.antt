@@ -1,5 +1,5 @@
 -- each node of a world that is traced has its stream
-use Rattle.std.proofs.Common.{◌≡◌, ℕ, zero, suc, List, [], inl, sym, ◌∙◌, ap, subst, refl}
+use Rattle.std.proofs.Common.{◌≡◌, ℕ, zero, suc, List, [], Some, None, inl, sym, ◌∙◌, ap, subst, refl}
 use Rattle.std.specs.declared.option.Option.{Option}
 use mathlib.Core.List.{IsPrefix}
 use Rattle.rh_sig.specs.declared.name.Pipe.{Pipe}
@@ -29,6 +29,7 @@ use Rattle.rh_history.specs.Carried.{AreAccepted, AreAcceptedAtEnd, ComesUpOnce,
 use Rattle.rh_history.specs.Histories.{History}
 use Rattle.rh_reading.specs.Reading.{messages_read}
 use Rattle.rh_streams.specs.Streams.{EndStream, HasPipes, HearsInTurn, NeverRefuses, StaysUnused, StaysUnusedAtEnd, Stream}
+use Rattle.rh_streams.proofs.Ends.{end_is, end_of}
 use Rattle.rh_traced.specs.Ours.{AreOurs, deeds, rules}
 use Rattle.rh_traced.specs.Turns.{HearInTurn}
 use Rattle.rh_proxies_begin.specs.Pipes.{in_pipe, out_pipe}
@@ -92,6 +93,21 @@ still rules first rooms pipe events none = record {
   drawn = λ leg refuses.
       inl (subst (λ (e : List Event). IsPrefix (drawn_on rules (begun first rooms) leg e) [])
       (sym none) ([], refl));
+  heads = λ leg. tt;
+  refused = λ leg refuses.
+      inl (subst (λ (e : List Event). IsPrefix (drawn_on rules (begun first rooms) leg e) [])
+      (sym none) ([], refl));
+  goes = λ leg going.
+      subst (λ (e : List Event). IsPrefix (drawn_on rules (begun first rooms) leg e) []) (sym none)
+      ([], refl);
+  unrefused = λ leg free.
+      subst (λ (e : List Event). IsPrefix (drawn_on rules (begun first rooms) leg e) []) (sym none)
+      ([], refl);
+  seats = λ leg end going at.
+      absurd (let bad : None ≡ Some end =
+      ap (λ (e : List Event). end_of leg (after_events rules (begun first rooms) e).legs) (sym none)
+      ∙ sym (end_is leg (after_events rules (begun first rooms) events).legs) ∙ at in cc);
+  unput = λ leg none. refl;
 }
 
 module _ {K : Type 0} (law : Streaming) (m : Makers K InProxy OutProxy)

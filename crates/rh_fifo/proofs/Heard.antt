@@ -19,7 +19,7 @@ use Rattle.rh_record.specs.declared.answer.Who.TheVariants as who
 use Rattle.rh_shell.specs.Rules.{Message}
 use Rattle.rh_shell.specs.Shells.{Shell, begun}
 use Rattle.rh_shell.specs.Wires.{of_leg}
-use Rattle.rh_legible.specs.Legible.{AreLegible, IsFineMessage}
+use Rattle.rh_legible.specs.Legible.{IsFineMessage}
 use Rattle.rh_nodes.specs.Company.{Company}
 use Rattle.rh_nodes.specs.Opening.{Makers}
 use Rattle.rh_nodes.specs.Readers.{reader_of}
@@ -45,16 +45,9 @@ use Rattle.rh_traced.specs.Ours.{AreOurs, deeds, rules}
 use Rattle.rh_reading.specs.Reading.{messages_read}
 use Rattle.rh_down.specs.Down as down
 use Rattle.rh_proxies_begin.specs.Pipes as pipes
-use Rattle.rh_fifo.specs.Flows.{AllFine, AreBegun, Flows, Numbers, numbers_of}
+use Rattle.rh_fifo.specs.Flows.{AllFine, AllLegible, AreBegun, Flows, numbers_of}
 use Rattle.rh_fifo.proofs.Legs.{Reads, of_legs}
 use Rattle.rh_fifo.proofs.Fine.{Source, from_nothing, from_source, sourced}
-
--- what was put on each leg may go on its pipe
-pub record AllLegible (numbers : Numbers) (h : History) (f : Flows numbers h) : Type 0 where
-  pub client : AreLegible client_legible.pipe_put f.client.passage.passage.put
-  pub server : AreLegible server_legible.pipe_put f.server.passage.passage.put
-  pub ins : (n : ℕ) → AreLegible in_legible.pipe_put (f.ins n).passage.put
-  pub outs : (n : ℕ) → AreLegible out_legible.pipe_put (f.outs n).passage.put
 
 module _ {K : Type 0} (m : Makers K InProxy OutProxy)
     (first : Company ClientRole Server InProxy OutProxy) (cast : K)

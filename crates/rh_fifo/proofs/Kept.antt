@@ -14,13 +14,15 @@ use Rattle.rh_inproxy.specs.State.{InProxy}
 use Rattle.rh_outproxy.specs.OutProxy.{OutProxy}
 use Rattle.rh_server.specs.States.{Server, is_closing}
 use Rattle.rh_server.specs.Servers as server
-use Rattle.rh_history.specs.Changes.{ByLines}
+use Rattle.rh_history.specs.Changes.{of_line}
 use Rattle.rh_history.specs.Histories.{AreRuns}
 use Rattle.rh_streams.specs.Streams.{all_given, all_taken}
 use Rattle.rh_events.specs.Events.{other}
 use Rattle.rh_events.specs.Order.{IsPrefix}
 use Rattle.rh_told.specs.Moments.{end_given, end_taken, next_take}
+use Rattle.rh_traced.specs.Cookies.{ByChanges, has_whole_cookie}
 use Rattle.rh_traced.specs.Ours.{AreOurs, deeds, rules}
+use Rattle.rh_traced.proofs.ByChanges.{lines_by_changes}
 use Rattle.rh_ordered.specs.Premises.{HasAll, KeepsOrder, history_at}
 use Rattle.rh_nodes.specs.Readers.{reader_of}
 use Rattle.rh_traced.specs.Numbers.{is_made}
@@ -34,17 +36,17 @@ front_of front all p = (p.0, sym p.1)
 module _ {K : Type 0} (m : Makers K InProxy OutProxy)
     (w : World K ClientRole Server InProxy OutProxy) (ours : AreOurs m w.company w.cast)
     (law : Ended) (joined : (v : World K ClientRole Server InProxy OutProxy)
-    (lines : ByLines rules m deeds w v)
-    → Directions (numbers_of ours) v (history_at m w v lines))
+    (by : ByChanges rules m deeds w v)
+    → Directions (numbers_of ours) v (history_at m w v by.leads))
     (runs : (v : World K ClientRole Server InProxy OutProxy)
-    (lines : ByLines rules m deeds w v)
-    → AreRuns rules m deeds w.company v (history_at m w v lines)) where
-  moment : (v : World K ClientRole Server InProxy OutProxy) (lines : ByLines rules m deeds w v)
-      → IsInOrder ours.config ours.window (history_at m w v lines).client
-      (history_at m w v lines).server
-  moment v lines =
-      let h = history_at m w v lines in
-      let both = joined v lines in
+    (by : ByChanges rules m deeds w v)
+    → AreRuns rules m deeds w.company v (history_at m w v by.leads)) where
+  moment : (v : World K ClientRole Server InProxy OutProxy) (by : ByChanges rules m deeds w v)
+      → IsInOrder ours.config ours.window (history_at m w v by.leads).client
+      (history_at m w v by.leads).server
+  moment v by =
+      let h = history_at m w v by.leads in
+      let both = joined v by in
       in_order law ours.config ours.window ours.in_config ours.out_config h.client h.server h.ins
       h.outs (is_made v.company) (reader_of v.readers) both.down both.up
 
@@ -57,29 +59,29 @@ module _ {K : Type 0} (m : Makers K InProxy OutProxy)
       (subst (λ (s : Shell Server). P (client.first_client ours.config) s)
       (sym ours.server) p)
 
-  front : (v : World K ClientRole Server InProxy OutProxy) (lines : ByLines rules m deeds w v)
+  front : (v : World K ClientRole Server InProxy OutProxy) (by : ByChanges rules m deeds w v)
       (end : Side)
-      → IsPrefix (end_taken rules deeds w.company (history_at m w v lines) end)
-      (end_given rules deeds w.company (history_at m w v lines) (other end))
-  front v lines side.Client =
-      let h = history_at m w v lines in
+      → IsPrefix (end_taken rules deeds w.company (history_at m w v by.leads) end)
+      (end_given rules deeds w.company (history_at m w v by.leads) (other end))
+  front v by side.Client =
+      let h = history_at m w v by.leads in
       at_ends (λ (c : Shell ClientRole) (s : Shell Server).
       IsPrefix (all_taken rules.client deeds.client c h.client)
       (all_given rules.server deeds.server s h.server))
-      (front_of _ _ (moment v lines).down)
-  front v lines side.Server =
-      let h = history_at m w v lines in
+      (front_of _ _ (moment v by).down)
+  front v by side.Server =
+      let h = history_at m w v by.leads in
       at_ends (λ (c : Shell ClientRole) (s : Shell Server).
       IsPrefix (all_taken rules.server deeds.server s h.server)
       (all_given rules.client deeds.client c h.client))
-      (front_of _ _ (moment v lines).up)
+      (front_of _ _ (moment v by).up)
 
-  clean : (v : World K ClientRole Server InProxy OutProxy) (lines : ByLines rules m deeds w v)
-      (end : Side) → next_take deeds v end ≡ takes.Ended → HasAll m w v lines end
-  clean v lines side.Client ended =
-      let h = history_at m w v lines in
-      let is = (runs v lines) in
-      let all = (moment v lines).down_ended v.company.client
+  clean : (v : World K ClientRole Server InProxy OutProxy) (by : ByChanges rules m deeds w v)
+      (end : Side) → next_take deeds v end ≡ takes.Ended → HasAll m w v by.leads end
+  clean v by side.Client ended =
+      let h = history_at m w v by.leads in
+      let is = (runs v by) in
+      let all = (moment v by).down_ended v.company.client
       (is.client ∙ ap (λ (c : Shell ClientRole).
       after_end_events rules.client deeds.client c h.client) ours.client) ended in
       record {
@@ -90,10 +92,10 @@ module _ {K : Type 0} (m : Makers K InProxy OutProxy)
             (is.server ∙ ap (λ (s : Shell Server).
             after_end_events rules.server deeds.server s h.server) ours.server) ∙ all.1;
       }
-  clean v lines side.Server ended =
-      let h = history_at m w v lines in
-      let is = (runs v lines) in
-      let all = (moment v lines).up_ended v.company.server
+  clean v by side.Server ended =
+      let h = history_at m w v by.leads in
+      let is = (runs v by) in
+      let all = (moment v by).up_ended v.company.server
       (is.server ∙ ap (λ (s : Shell Server).
       after_end_events rules.server deeds.server s h.server) ours.server) ended in
       record {
@@ -105,5 +107,14 @@ module _ {K : Type 0} (m : Makers K InProxy OutProxy)
             after_end_events rules.client deeds.client c h.client) ours.client) ∙ all.1;
       }
 
-  pub keeps_order : KeepsOrder m w
+  pub keeps_order : KeepsOrder has_whole_cookie m w
   keeps_order = record { front = front; clean = clean }
+
+-- what changes of all kinds keep, those of lines do
+pub lines_keep_order : {K : Type 0} (m : Makers K InProxy OutProxy)
+    (w : World K ClientRole Server InProxy OutProxy) → KeepsOrder has_whole_cookie m w
+    → KeepsOrder of_line m w
+lines_keep_order m w keeps = record {
+  front = λ v lines. keeps.front v (lines_by_changes rules m deeds w v lines);
+  clean = λ v lines. keeps.clean v (lines_by_changes rules m deeds w v lines);
+}

@@ -21,9 +21,8 @@ use Rattle.rh_server.specs.Legible as server_legible
 use Rattle.rh_server.specs.Servers as server
 use Rattle.rh_server.specs.States.{Server}
 use Rattle.rh_history.specs.Histories.{History}
-use Rattle.rh_fifo.specs.Flows.{AllFine, Flows, Numbers}
+use Rattle.rh_fifo.specs.Flows.{AllFine, AllLegible, Flows, Numbers}
 use Rattle.rh_fifo.specs.Premises.{AreInRange}
-use Rattle.rh_fifo.proofs.Heard.{AllLegible}
 
 pub record Legalities : Type 0 where
   pub client : (config : ClientConfig) (moves : List EndMove) → client_legible.IsConfig config

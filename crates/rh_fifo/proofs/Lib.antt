@@ -1,7 +1,7 @@
 mod Legs
-mod Fine
-mod Heard
-mod Flowing
+pub mod Fine
+pub mod Heard
+pub mod Flowing
 mod Starting
 mod Legal
 mod Reaching
@@ -11,4 +11,4 @@ mod Fronts
 mod Marked
 mod Unread
 mod Kept
-mod Recorded
+pub mod Recorded

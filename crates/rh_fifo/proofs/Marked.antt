@@ -27,7 +27,7 @@ pub record MarkLaw : Type 0 where
       (client_events server_events : List EndEvent) (ins : ℕ → List Event) (made : ℕ → Bool)
       (reader : ℕ → ℕ)
       (g : GoesUp config window in_config client_events server_events ins made reader)
-      → IsRoute (up_route made g.giver.passage (λ n. (g.proxies n).passage) g.taker.leads.moves
+      → IsRoute (up_route reader g.giver.passage (λ n. (g.proxies n).passage) g.taker.leads.moves
       g.taker.passage)
   pub near : (r : Route) (m n : ℕ) → IsRoute r → r.legs m ≡ true
       → IsChannel (r.sent n) × IsChannel (r.came m n)

@@ -1,4 +1,4 @@
--- at each moment of a run by lines the streams of the nodes are joined by what the legs carried
+-- at each moment of a run the streams of the nodes are joined by what the legs carried
 use Rattle.std.proofs.Common.{◌≡◌, List, [], ◌∷◌, refl, subst}
 use Rattle.std.specs.List.{AllByRecursion}
 use mathlib.Core.List.{IsPrefix}
@@ -15,19 +15,19 @@ use Rattle.rh_inproxy.specs.State.{InProxy}
 use Rattle.rh_outproxy.specs.OutProxy.{OutProxy}
 use Rattle.rh_server.specs.States.{Server}
 use Rattle.rh_history.specs.Carried.{IsTraced, LegsComeUpOnce, drawn_by, end_node, events_of, happened, heard_on}
-use Rattle.rh_history.specs.Changes.{ByLines, Leads}
+use Rattle.rh_history.specs.Changes.{Leads}
 use Rattle.rh_history.specs.Histories.{History, IsNew, all_noted, nothing}
 use Rattle.rh_history.proofs.Recordings.{traced_first}
 use Rattle.rh_streams.specs.Streams.{ComesUpWith, IsCookie}
+use Rattle.rh_traced.specs.Cookies.{ByChanges}
 use Rattle.rh_traced.specs.Numbers.{ComeUpInOrder, HasWholeCookie, HaveWholeCookies}
 use Rattle.rh_traced.specs.Ours.{AreOurs, deeds, rules}
 use Rattle.rh_traced.specs.Recordings.{IsKnown}
 use Rattle.rh_traced.proofs.Along.{kept_along}
 use Rattle.rh_fifo.specs.Directions.{Directions}
-use Rattle.rh_fifo.specs.Flows.{AreBegun, Flows, numbers_of}
+use Rattle.rh_fifo.specs.Flows.{AllLegible, AreBegun, Flows, IsFlowing, numbers_of}
 use Rattle.rh_fifo.specs.Premises.{AreInRange}
 use Rattle.rh_fifo.proofs.Legs.{Reads}
-use Rattle.rh_fifo.proofs.Heard.{AllLegible}
 use Rattle.rh_fifo.proofs.Flowing.{Streaming}
 use Rattle.rh_fifo.proofs.Starting.{Beginning, starts}
 use Rattle.rh_fifo.proofs.Legal.{Legalities, all_legible}
@@ -45,8 +45,8 @@ pub record Known (K : Type 0) : Type 0 where
   pub once : (m : Makers K InProxy OutProxy) (w : OurWorld K) → AreOurs m w.company w.cast
       → LegsComeUpOnce rules m deeds w.company w.cast
   pub order : (m : Makers K InProxy OutProxy) (w v : OurWorld K) → IsNew w
-      → LegsComeUpOnce rules m deeds w.company w.cast → (lines : ByLines rules m deeds w v)
-      → ComeUpInOrder v (all_noted rules m deeds w nothing lines.leads.changes)
+      → LegsComeUpOnce rules m deeds w.company w.cast → (by : ByChanges rules m deeds w v)
+      → ComeUpInOrder v (all_noted rules m deeds w nothing by.leads.changes)
   pub drew : (m : Makers K InProxy OutProxy) (w v : OurWorld K) (h : History)
       → IsTraced rules m deeds w.company v h → (leg : Leg) (dir : Dir)
       → IsPrefix (heard_on leg (events_of h (end_node v.readers leg (receiver dir))))
@@ -67,76 +67,95 @@ sized (event ∷ events) all = (one event all.0, sized events all.1)
     one (Draws leg room) is = tt
     one (Ticks now) is = tt
 
--- ---- each moment of a run by lines
+-- ---- each moment of a run
 
 module _ {K : Type 0} (reads : Reads) (streaming : Streaming) (begins : Beginning)
     (legal : Legalities) (tracing : Tracing K) (known : Known K)
     (m : Makers K InProxy OutProxy) (w : OurWorld K) (new : IsNew w)
     (ours : AreOurs m w.company w.cast) (ranges : AreInRange (numbers_of ours)) (v : OurWorld K)
-    (lines : ByLines rules m deeds w v) where
-  here : IsKnown m w v lines.leads
-  here = known.known m w v new ours lines.leads
+    (by : ByChanges rules m deeds w v) where
+  here : IsKnown m w v by.leads
+  here = known.known m w v new ours by.leads
 
-  order : ComeUpInOrder v (all_noted rules m deeds w nothing lines.leads.changes)
-  order = known.order m w v new (known.once m w ours) lines
+  order : ComeUpInOrder v (all_noted rules m deeds w nothing by.leads.changes)
+  order = known.order m w v new (known.once m w ours) by
 
   keeps : Keeps m w.company w.cast ours v
-      (all_noted rules m deeds w nothing lines.leads.changes)
+      (all_noted rules m deeds w nothing by.leads.changes)
   keeps =
       kept_along rules m deeds w.company (Keeps m w.company w.cast ours)
       (λ x h traced once kept change may.
       one_more m w.company w.cast ours reads streaming begins legal tracing ranges x h traced once
-      kept change may) w v nothing lines.leads (known.once m w ours)
+      kept change may) w v nothing by.leads (known.once m w ours)
       (traced_first rules m deeds w new) (keeps_first m w.company w.cast ours w refl)
 
   abbrev node_streams : Flows (numbers_of ours)
-      (all_noted rules m deeds w nothing lines.leads.changes)
+      (all_noted rules m deeds w nothing by.leads.changes)
   node_streams =
       flows_here m w.company w.cast ours reads streaming begins legal tracing ranges v
-      (all_noted rules m deeds w nothing lines.leads.changes) here.traced here.once keeps
+      (all_noted rules m deeds w nothing by.leads.changes) here.traced here.once keeps
 
-  is_sized : IsSized (all_noted rules m deeds w nothing lines.leads.changes)
+  is_sized : IsSized (all_noted rules m deeds w nothing by.leads.changes)
   is_sized =
-      sized (happened (all_noted rules m deeds w nothing lines.leads.changes).client) order.cookies
+      sized (happened (all_noted rules m deeds w nothing by.leads.changes).client) order.cookies
 
   legible : AllLegible (numbers_of ours)
-      (all_noted rules m deeds w nothing lines.leads.changes) node_streams
+      (all_noted rules m deeds w nothing by.leads.changes) node_streams
   legible =
-      all_legible legal (numbers_of ours) (all_noted rules m deeds w nothing lines.leads.changes)
+      all_legible legal (numbers_of ours) (all_noted rules m deeds w nothing by.leads.changes)
       node_streams ranges
       (have_cookies node_streams.client.leads.moves (node_streams.client.cookies is_sized)) refl
       (keeps.fine is_sized node_streams)
 
-  begun : AreBegun (numbers_of ours) (all_noted rules m deeds w nothing lines.leads.changes)
+  begun : AreBegun (numbers_of ours) (all_noted rules m deeds w nothing by.leads.changes)
       node_streams
   begun =
       starts streaming begins m w.company w.cast ours
-      (all_noted rules m deeds w nothing lines.leads.changes) node_streams
+      (all_noted rules m deeds w nothing by.leads.changes) node_streams
+
+  pub flowing : IsFlowing (numbers_of ours) w v
+      (all_noted rules m deeds w nothing by.leads.changes)
+  flowing = record { cast = keeps.same; flows = node_streams; begun = begun; legible = legible }
+
+-- ---- and both directions
+
+module _ {K : Type 0} (tracing : Tracing K) (known : Known K)
+    (m : Makers K InProxy OutProxy) (w : OurWorld K) (new : IsNew w)
+    (ours : AreOurs m w.company w.cast) (v : OurWorld K) (by : ByChanges rules m deeds w v)
+    (flowing : IsFlowing (numbers_of ours) w v
+    (all_noted rules m deeds w nothing by.leads.changes)) where
+  known_here : IsKnown m w v by.leads
+  known_here = known.known m w v new ours by.leads
+
+  in_order : ComeUpInOrder v (all_noted rules m deeds w nothing by.leads.changes)
+  in_order = known.order m w v new (known.once m w ours) by
 
   drew : (leg : Leg) (dir : Dir)
-      → IsPrefix (heard_on leg (events_of (all_noted rules m deeds w nothing lines.leads.changes)
+      → IsPrefix (heard_on leg (events_of (all_noted rules m deeds w nothing by.leads.changes)
       (end_node v.readers leg (receiver dir))))
       (drawn_by rules m deeds w.company w.cast
-      (all_noted rules m deeds w nothing lines.leads.changes)
+      (all_noted rules m deeds w nothing by.leads.changes)
       (end_node v.readers leg (sender dir)) leg)
   drew leg dir =
-      let h = all_noted rules m deeds w nothing lines.leads.changes in
+      let h = all_noted rules m deeds w nothing by.leads.changes in
       subst (λ (c : K). IsPrefix (heard_on leg (events_of h
       (end_node v.readers leg (receiver dir))))
-      (drawn_by rules m deeds w.company c h (end_node v.readers leg (sender dir)) leg)) keeps.same
-      (known.drew m w v h here.traced leg dir)
+      (drawn_by rules m deeds w.company c h (end_node v.readers leg (sender dir)) leg)) flowing.cast
+      (known.drew m w v h known_here.traced leg dir)
 
   alone : (node : Who) (leg : Leg) → ((end : Side) → end_node v.readers leg end ≡ node → ⊥)
-      → heard_on leg (events_of (all_noted rules m deeds w nothing lines.leads.changes) node) ≡ []
+      → heard_on leg (events_of (all_noted rules m deeds w nothing by.leads.changes) node) ≡ []
   alone node leg apart =
-      (tracing.alone m w.company v (all_noted rules m deeds w nothing lines.leads.changes)
-      here.traced node leg apart).1
+      (tracing.alone m w.company v (all_noted rules m deeds w nothing by.leads.changes)
+      known_here.traced node leg apart).1
 
   pub directions : Directions (numbers_of ours) v
-      (all_noted rules m deeds w nothing lines.leads.changes)
+      (all_noted rules m deeds w nothing by.leads.changes)
   directions =
-      let h = all_noted rules m deeds w nothing lines.leads.changes in
+      let h = all_noted rules m deeds w nothing by.leads.changes in
       record {
-        down = goes_down m w.company w.cast ours v h drew alone order node_streams begun legible;
-        up = goes_up m w.company w.cast ours v h drew alone order node_streams begun legible;
+        down = goes_down m w.company w.cast ours v h drew alone in_order flowing.flows
+            flowing.begun flowing.legible;
+        up = goes_up m w.company w.cast ours v h drew alone in_order flowing.flows flowing.begun
+            flowing.legible;
       }

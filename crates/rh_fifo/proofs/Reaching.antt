@@ -1,4 +1,4 @@
--- behind all changes that lines make from a new world, what came to the nodes is fine
+-- behind all changes from a new world, what came to the nodes is fine
 use Rattle.std.proofs.Common.{◌≡◌, List, [], ◌∷◌, ◌++◌, refl, ◌∙◌, subst}
 use Rattle.std.specs.List.{AllByRecursion}
 use mathlib.Core.List.{IsPrefix}

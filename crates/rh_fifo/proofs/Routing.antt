@@ -27,8 +27,8 @@ use Rattle.rh_traced.specs.Numbers.{ComeUpInOrder, is_made}
 use Rattle.rh_traced.specs.Ours.{AreOurs, deeds, rules}
 use Rattle.rh_down.specs.Down.{GoesDown}
 use Rattle.rh_up.specs.Up.{GoesUp}
-use Rattle.rh_fifo.specs.Flows.{AreBegun, Flows, numbers_of}
-use Rattle.rh_fifo.proofs.Heard.{AllLegible, from_client, from_in, from_out, from_server}
+use Rattle.rh_fifo.specs.Flows.{AllLegible, AreBegun, Flows, numbers_of}
+use Rattle.rh_fifo.proofs.Heard.{from_client, from_in, from_out, from_server}
 
 module _ {K : Type 0} (m : Makers K InProxy OutProxy)
     (first : Company ClientRole Server InProxy OutProxy) (cast : K)
@@ -109,7 +109,7 @@ module _ {K : Type 0} (m : Makers K InProxy OutProxy)
       own = order.own;
       reads = order.reads;
       opened = order.opened;
-      joined = order.joined;
+      unread = order.unread;
     };
     client_legible = legible.client;
     proxies_legible = legible.ins;

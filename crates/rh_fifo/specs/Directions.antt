@@ -31,7 +31,7 @@ abbrev pub up_route_of : {K : Type 0} {numbers : Numbers}
     → Route
 up_route_of {v} directions =
     let up = directions.up in
-    up_route (is_made v.company) up.giver.passage (λ n. (up.proxies n).passage)
+    up_route (reader_of v.readers) up.giver.passage (λ n. (up.proxies n).passage)
     up.taker.leads.moves up.taker.passage
 
 -- on no leg of a direction stands anything behind a handover mark, nor a PDU or END behind END: of

@@ -1,25 +1,30 @@
 -- what passed the nodes of a recording by its history (profile)
-use Rattle.std.specs.Prelude.{ℕ, Some, None}
+use Rattle.std.specs.Prelude.{◌≡◌, ℕ, Some, None}
 use Rattle.rh_http.specs.declared.config.ClientConfig.{ClientConfig}
 use Rattle.rh_sig.specs.declared.name.Pipe.TheVariants.{CiU, IsU, IsD, CoU, CoD, OsU, OsD}
 use Rattle.rh_line.specs.declared.leg.LegKind.TheVariants.{ClientOut, OutServer, ClientIn, InServer}
 use Rattle.rh_shell.specs.Shells.{begun}
 use Rattle.rh_shell.specs.Wires.{of_leg}
-use Rattle.rh_legible.specs.Legible.{AreFine}
+use Rattle.rh_legible.specs.Legible.{AreFine, AreLegible}
 use Rattle.rh_nodes.specs.Settling.{leg_at}
 use Rattle.rh_nodes.specs.Company.{Company}
 use Rattle.rh_nodes.specs.Opening.{Makers}
+use Rattle.rh_nodes.specs.World.{World}
 use Rattle.rh_client.specs.declared.state.ClientRole.{ClientRole}
 use Rattle.rh_client.specs.Client as client
+use Rattle.rh_client.specs.Legible as client_legible
 use Rattle.rh_client.specs.State as client_state
 use Rattle.rh_inproxy.specs.declared.state.InProxyConfig.{InProxyConfig}
+use Rattle.rh_inproxy.specs.Legible as in_legible
 use Rattle.rh_inproxy.specs.Machine as in_proxy
 use Rattle.rh_inproxy.specs.State.{InProxy}
 use Rattle.rh_inproxy.specs.State as in_state
 use Rattle.rh_outproxy.specs.declared.out_proxy.TheConstants.{ROOMS}
 use Rattle.rh_outproxy.specs.declared.state.OutProxyConfig.{OutProxyConfig}
+use Rattle.rh_outproxy.specs.Legible as out_legible
 use Rattle.rh_outproxy.specs.Machine as out_proxy
 use Rattle.rh_outproxy.specs.OutProxy.{OutProxy, new_proxy}
+use Rattle.rh_server.specs.Legible as server_legible
 use Rattle.rh_server.specs.Servers as server
 use Rattle.rh_server.specs.States.{Server}
 use Rattle.rh_traced.specs.Ours.{AreOurs}
@@ -92,3 +97,19 @@ pub record AllFine (numbers : Numbers) (h : History) (f : Flows numbers h) : Typ
   pub server : AreFine f.server.passage.passage.came
   pub ins : (n : ℕ) → AreFine (f.ins n).passage.came
   pub outs : (n : ℕ) → AreFine (f.outs n).passage.came
+
+-- what was put on each leg may go on its pipe
+pub record AllLegible (numbers : Numbers) (h : History) (f : Flows numbers h) : Type 0 where
+  pub client : AreLegible client_legible.pipe_put f.client.passage.passage.put
+  pub server : AreLegible server_legible.pipe_put f.server.passage.passage.put
+  pub ins : (n : ℕ) → AreLegible in_legible.pipe_put (f.ins n).passage.put
+  pub outs : (n : ℕ) → AreLegible out_legible.pipe_put (f.outs n).passage.put
+
+-- each node of a world that came from another one has its stream, by which what was put on a leg
+-- begins as it is read at the other end, and may go on its pipe
+pub record IsFlowing {K : Type 0} (numbers : Numbers)
+    (w v : World K ClientRole Server InProxy OutProxy) (h : History) : Type 0 where
+  pub cast : v.cast ≡ w.cast
+  pub flows : Flows numbers h
+  pub begun : AreBegun numbers h flows
+  pub legible : AllLegible numbers h flows

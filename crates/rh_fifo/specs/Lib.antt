@@ -1,3 +1,4 @@
 pub mod Flows
 pub mod Premises
 pub mod Directions
+pub mod Turns

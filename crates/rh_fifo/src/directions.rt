@@ -6,12 +6,12 @@ ghost use Rattle.rh_client.specs.declared.state.ClientRole.{ClientRole};
 ghost use Rattle.rh_inproxy.specs.State.{InProxy};
 ghost use Rattle.rh_outproxy.specs.OutProxy.{OutProxy};
 ghost use Rattle.rh_server.specs.States.{Server};
-ghost use Rattle.rh_history.specs.Changes.{ByLines};
 ghost use Rattle.rh_history.specs.Histories.{IsNew};
+ghost use Rattle.rh_traced.specs.Cookies.{ByChanges};
 ghost use Rattle.rh_traced.specs.Ours.{AreOurs, deeds, rules};
 ghost use Rattle.rh_ordered.specs.Premises.{history_at};
 ghost use Rattle.rh_fifo.specs.Directions.{BothMark, Directions};
-ghost use Rattle.rh_fifo.specs.Flows.{numbers_of};
+ghost use Rattle.rh_fifo.specs.Flows.{IsFlowing, numbers_of};
 ghost use Rattle.rh_fifo.specs.Premises.{AreInRange};
 
 use rh_client::{ClientRole, what_a_client_puts_reads_back};
@@ -31,7 +31,7 @@ use rh_reading::{what_is_read_is_fine, what_was_put_is_read};
 use rh_server::{ServerRole, what_a_server_puts_reads_back};
 use rh_streams::{a_nodes_stream, an_ends_stream};
 use rh_traced::{
-    a_recording_of_roles_is_known, legs_of_roles_come_up_once, lines_come_up_in_order,
+    a_recording_of_roles_is_known, channels_come_up_in_order, legs_of_roles_come_up_once,
     nodes_hear_in_turn, what_is_heard_was_drawn_before,
 };
 use rh_unused::{
@@ -40,14 +40,14 @@ use rh_unused::{
 };
 use rh_up::what_goes_up_is_a_route;
 
-/// In each world of new roles whose numbers are in their ranges, at every moment that lines reach,
-/// the streams of the nodes are joined in both directions: on each leg what was read is of what was
-/// put at its other end.
-pub fn directions_are_joined<K>()
+/// In each world of new roles whose numbers are in their ranges, at every moment that changes of
+/// lines and half steps reach, each node has its stream: what it put on a leg begins as it is read at
+/// the other end, may go on the pipe that is read there, and spells what was drawn.
+pub fn what_is_put_is_legible<K>()
     ensures { (m : Makers K InProxy OutProxy) (w : World K ClientRole Server InProxy OutProxy)
         → IsNew w → (ours : AreOurs m w.company w.cast) → AreInRange (numbers_of ours)
-        → (v : World K ClientRole Server InProxy OutProxy) (lines : ByLines rules m deeds w v)
-        → Directions (numbers_of ours) v (history_at m w v lines) }
+        → (v : World K ClientRole Server InProxy OutProxy) (by : ByChanges rules m deeds w v)
+        → IsFlowing (numbers_of ours) w v (history_at m w v by.leads) }
 {
     what_was_put_is_read();
     what_is_read_is_fine();
@@ -77,7 +77,26 @@ pub fn directions_are_joined<K>()
     what_is_heard_was_drawn::<K, ClientRole, ServerRole, InProxyRole, OutProxyRole>();
     a_recording_of_roles_is_known::<K>();
     legs_of_roles_come_up_once::<K>();
-    lines_come_up_in_order::<K, ClientRole, ServerRole, InProxyRole, OutProxyRole>();
+    channels_come_up_in_order::<K, ClientRole, ServerRole, InProxyRole, OutProxyRole>();
+}
+
+/// In each world of new roles whose numbers are in their ranges, at every moment that changes of
+/// lines and half steps reach, the streams of the nodes are joined in both directions: on each leg
+/// what was read is of what was put at its other end.
+pub fn directions_are_joined<K>()
+    ensures { (m : Makers K InProxy OutProxy) (w : World K ClientRole Server InProxy OutProxy)
+        → IsNew w → (ours : AreOurs m w.company w.cast) → AreInRange (numbers_of ours)
+        → (v : World K ClientRole Server InProxy OutProxy) (by : ByChanges rules m deeds w v)
+        → Directions (numbers_of ours) v (history_at m w v by.leads) }
+{
+    what_is_put_is_legible::<K>();
+    nodes_hear_in_turn::<K, ClientRole, ServerRole, InProxyRole, OutProxyRole>();
+    what_is_heard_was_drawn_before::<K, ClientRole, ServerRole, InProxyRole, OutProxyRole>();
+    a_leg_is_read_at_its_ends::<K, ClientRole, ServerRole, InProxyRole, OutProxyRole>();
+    what_is_heard_was_drawn::<K, ClientRole, ServerRole, InProxyRole, OutProxyRole>();
+    a_recording_of_roles_is_known::<K>();
+    legs_of_roles_come_up_once::<K>();
+    channels_come_up_in_order::<K, ClientRole, ServerRole, InProxyRole, OutProxyRole>();
 }
 
 /// So on no leg of either direction stands anything behind a handover mark (IN_R1/A5 and A6,
@@ -85,8 +104,8 @@ pub fn directions_are_joined<K>()
 pub fn marks_are_last<K>()
     ensures { (m : Makers K InProxy OutProxy) (w : World K ClientRole Server InProxy OutProxy)
         → IsNew w → (ours : AreOurs m w.company w.cast) → AreInRange (numbers_of ours)
-        → (v : World K ClientRole Server InProxy OutProxy) (lines : ByLines rules m deeds w v)
-        → BothMark (numbers_of ours) v (history_at m w v lines) }
+        → (v : World K ClientRole Server InProxy OutProxy) (by : ByChanges rules m deeds w v)
+        → BothMark (numbers_of ours) v (history_at m w v by.leads) }
 {
     directions_are_joined::<K>();
     what_goes_down_is_a_route();

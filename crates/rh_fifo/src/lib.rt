@@ -5,8 +5,10 @@
 
 pub mod directions;
 pub mod recordings;
+pub mod turns;
 pub mod worlds;
 
-pub use directions::{directions_are_joined, marks_are_last};
+pub use directions::{directions_are_joined, marks_are_last, what_is_put_is_legible};
 pub use recordings::every_recording_is_ordered;
+pub use turns::{a_half_step_is_whole, turns_keep_order};
 pub use worlds::roles_keep_order;

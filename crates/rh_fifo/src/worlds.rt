@@ -7,6 +7,7 @@ ghost use Rattle.rh_inproxy.specs.State.{InProxy};
 ghost use Rattle.rh_outproxy.specs.OutProxy.{OutProxy};
 ghost use Rattle.rh_server.specs.States.{Server};
 ghost use Rattle.rh_history.specs.Histories.{IsNew};
+ghost use Rattle.rh_traced.specs.Cookies.{has_whole_cookie};
 ghost use Rattle.rh_traced.specs.Ours.{AreOurs};
 ghost use Rattle.rh_ordered.specs.Premises.{KeepsOrder};
 ghost use Rattle.rh_fifo.specs.Flows.{numbers_of};
@@ -19,12 +20,12 @@ use rh_traced::a_recording_of_roles_is_known;
 use rh_up::what_came_up_was_given;
 
 /// In each world of new roles whose numbers are in their ranges order is kept at every moment that
-/// lines reach: what an end took is a front of what the other one gave, and where it is told that
-/// no more comes it took all of it, and the other was told to close.
+/// changes of lines and half steps reach: what an end took is a front of what the other one gave, and
+/// where it is told that no more comes it took all of it, and the other was told to close.
 pub fn roles_keep_order<K>()
     ensures { (m : Makers K InProxy OutProxy) (w : World K ClientRole Server InProxy OutProxy)
         → IsNew w → (ours : AreOurs m w.company w.cast) → AreInRange (numbers_of ours)
-        → KeepsOrder m w }
+        → KeepsOrder has_whole_cookie m w }
 {
     directions_are_joined::<K>();
     a_recording_of_roles_is_known::<K>();

@@ -7,8 +7,6 @@ pub mod legs;
 pub mod making;
 pub mod node;
 pub mod seats;
-#[cfg(test)]
-mod tests;
 
 pub use connection::{Connection, Through};
 pub use making::{Size, Sizes};

@@ -9,8 +9,6 @@ ghost use Rattle.std.specs.Prelude.{◌≡◌, ◌≤◌, length};
 ghost use Rattle.rh_heads.specs.Verdicts.{asked_of, request_verdict, response_verdict};
 
 pub mod laws;
-#[cfg(test)]
-mod tests;
 mod whole;
 
 use crate::whole::whole;

@@ -16,8 +16,6 @@ pub mod refusal;
 pub mod request;
 pub mod response;
 mod target;
-#[cfg(test)]
-mod tests;
 pub mod writing;
 
 pub use config::ClientConfig;

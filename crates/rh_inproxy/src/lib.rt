@@ -14,8 +14,6 @@ mod putting;
 mod role;
 mod row;
 pub mod state;
-#[cfg(test)]
-mod tests;
 mod time;
 
 pub use in_proxy::{InProxy, ROOMS};

@@ -15,8 +15,6 @@ pub mod recv_line;
 pub mod recycle_fault;
 pub mod send_line;
 pub mod state;
-#[cfg(test)]
-mod tests;
 pub mod texts;
 pub mod which;
 

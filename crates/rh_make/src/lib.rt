@@ -8,8 +8,6 @@ mod making;
 pub mod requests;
 pub mod summary;
 mod tally;
-#[cfg(test)]
-mod tests;
 pub mod writing;
 
 pub use count::MakeCount;

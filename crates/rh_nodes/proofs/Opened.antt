@@ -19,33 +19,47 @@ all_three a b c first second third = both (a && b) c (both a b first second) thi
 
 pub opened_out : {K C S I O : Type 0} (r : Rulebook C S I O) (make : K → ℕ → Shell O)
     (w made next : World K C S I O) (leg : Leg) (node : Shell O)
-    → may_make r w w.company.outs leg ≡ true
     → node ≡ at_moment r.out_proxy (make w.cast leg.number) w.now
     → shell.may_up r.out_proxy node leg ≡ true
     → made ≡ with_out w leg.number node → next ≡ connect_client r made leg
-    → (next, true) ≡ open_client_out r make w leg
-opened_out r make w made next leg node may new up made_is next_is =
-    let fresh = at_moment r.out_proxy (make w.cast leg.number) w.now in
+    → (next, true)
+    ≡ open_out_to r w leg (at_moment r.out_proxy (make w.cast leg.number) w.now)
+opened_out r make w made next leg node new up made_is next_is =
     ap (λ v. (v, true)) (next_is ∙ ap (λ v. connect_client r v leg) made_is)
-    ∙ sym (ap (λ b. if b then open_out_to r w leg fresh else (w, false)) may
-    ∙ ap (open_out_to r w leg) (sym new)
+    ∙ sym (ap (open_out_to r w leg) (sym new)
     ∙ ap (λ b. if b then (connect_client r (with_out w leg.number node) leg, true)
     else (w, false)) up)
 
+-- where a proxy may be made the line is what it does to the one that is made
+pub made_out : {K C S I O : Type 0} (r : Rulebook C S I O) (make : K → ℕ → Shell O)
+    (w : World K C S I O) (leg : Leg) → may_make r w w.company.outs leg ≡ true
+    → open_out_to r w leg (at_moment r.out_proxy (make w.cast leg.number) w.now)
+    ≡ open_client_out r make w leg
+made_out r make w leg may =
+    let fresh = at_moment r.out_proxy (make w.cast leg.number) w.now in
+    sym (ap (λ b. if b then open_out_to r w leg fresh else (w, false)) may)
+
 pub opened_in : {K C S I O : Type 0} (r : Rulebook C S I O) (make : K → ℕ → Shell I)
     (w made next : World K C S I O) (leg : Leg) (node : Shell I)
-    → may_make r w w.company.ins leg ≡ true
     → node ≡ at_moment r.in_proxy (make w.cast leg.number) w.now
     → shell.may_up r.in_proxy node leg ≡ true
     → made ≡ with_in w leg.number node → next ≡ connect_client r made leg
-    → (next, true) ≡ open_client_in r make w leg
-opened_in r make w made next leg node may new up made_is next_is =
-    let fresh = at_moment r.in_proxy (make w.cast leg.number) w.now in
+    → (next, true)
+    ≡ open_in_to r w leg (at_moment r.in_proxy (make w.cast leg.number) w.now)
+opened_in r make w made next leg node new up made_is next_is =
     ap (λ v. (v, true)) (next_is ∙ ap (λ v. connect_client r v leg) made_is)
-    ∙ sym (ap (λ b. if b then open_in_to r w leg fresh else (w, false)) may
-    ∙ ap (open_in_to r w leg) (sym new)
+    ∙ sym (ap (open_in_to r w leg) (sym new)
     ∙ ap (λ b. if b then (connect_client r (with_in w leg.number node) leg, true)
     else (w, false)) up)
+
+-- where a proxy may be made the line is what it does to the one that is made
+pub made_in : {K C S I O : Type 0} (r : Rulebook C S I O) (make : K → ℕ → Shell I)
+    (w : World K C S I O) (leg : Leg) → may_make r w w.company.ins leg ≡ true
+    → open_in_to r w leg (at_moment r.in_proxy (make w.cast leg.number) w.now)
+    ≡ open_client_in r make w leg
+made_in r make w leg may =
+    let fresh = at_moment r.in_proxy (make w.cast leg.number) w.now in
+    sym (ap (λ b. if b then open_in_to r w leg fresh else (w, false)) may)
 
 pub opened_same_to : {K C S I O : Type 0} (r : Rulebook C S I O) (w read next : World K C S I O)
     (leg : Leg)

@@ -97,6 +97,26 @@ impl<K: Cast> Nodes<K> {
         self.readers.set(number, number)
     }
 
+    /// Connects an OUT leg of the client to a proxy that is made for it, where that may have it up.
+    /// Answers whether it is up.
+    // Out of line, so that a round that makes no proxy has no room for one to clear.
+    #[inline(never)]
+    fn open_out_to_new(&mut self, alloc: Global, leg: Leg) -> Result<bool, AllocError>
+        requires { 0 < leg.number }
+        ensures { IfOk result (λ ok. (self.new, ok) ≡ seen.open_out_to
+            (rules_of K.Client.rules K.Server.rules K.InProxy.rules K.OutProxy.rules)
+            self.old leg
+            (seen.at_moment K.OutProxy.rules (K.out_proxy self.old.cast leg.number) self.old.now)) }
+    {
+        let node = self.new_out(alloc, leg.number)?;
+        if !node.may_up(leg) {
+            return Ok(false);
+        }
+        self.make_out(leg.number, node)?;
+        self.connect_client(leg)?;
+        Ok(true)
+    }
+
     /// Connects an OUT leg of the client to a proxy of its own, where the client wants it and the
     /// proxy may have it up. Answers whether it is up.
     fn open_client_out(&mut self, alloc: Global, leg: Leg) -> Result<bool, AllocError>
@@ -110,11 +130,25 @@ impl<K: Cast> Nodes<K> {
         if !self.company.outs.is_absent(leg.number) {
             return Ok(false);
         }
-        let node = self.new_out(alloc, leg.number)?;
+        self.open_out_to_new(alloc, leg)
+    }
+
+    /// Connects an IN leg of the client to a proxy that is made for it, where that may have it up.
+    /// Answers whether it is up.
+    // Out of line, so that a round that makes no proxy has no room for one to clear.
+    #[inline(never)]
+    fn open_in_to_new(&mut self, alloc: Global, leg: Leg) -> Result<bool, AllocError>
+        requires { 0 < leg.number }
+        ensures { IfOk result (λ ok. (self.new, ok) ≡ seen.open_in_to
+            (rules_of K.Client.rules K.Server.rules K.InProxy.rules K.OutProxy.rules)
+            self.old leg
+            (seen.at_moment K.InProxy.rules (K.in_proxy self.old.cast leg.number) self.old.now)) }
+    {
+        let node = self.new_in(alloc, leg.number)?;
         if !node.may_up(leg) {
             return Ok(false);
         }
-        self.make_out(leg.number, node)?;
+        self.make_in(leg.number, node)?;
         self.connect_client(leg)?;
         Ok(true)
     }
@@ -132,13 +166,7 @@ impl<K: Cast> Nodes<K> {
         if !self.company.ins.is_absent(leg.number) {
             return Ok(false);
         }
-        let node = self.new_in(alloc, leg.number)?;
-        if !node.may_up(leg) {
-            return Ok(false);
-        }
-        self.make_in(leg.number, node)?;
-        self.connect_client(leg)?;
-        Ok(true)
+        self.open_in_to_new(alloc, leg)
     }
 
     /// Whether the node at one end of the leg wants it, and the node at the other may have it up.

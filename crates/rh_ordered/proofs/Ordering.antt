@@ -8,7 +8,7 @@ use Rattle.rh_shell.specs.Shells.{Shell}
 use Rattle.rh_nodes.specs.Opening.{Makers}
 use Rattle.rh_nodes.specs.World.{World}
 use Rattle.rh_history.specs.Changes as changes
-use Rattle.rh_history.specs.Changes.{Change, Leads}
+use Rattle.rh_history.specs.Changes.{Change, Leads, of_line}
 use Rattle.rh_history.specs.Histories.{AreRuns, History, all_noted, nothing}
 use Rattle.rh_client.specs.declared.state.ClientRole.{ClientRole}
 use Rattle.rh_inproxy.specs.State.{InProxy}
@@ -135,7 +135,7 @@ module _ {K : Type 0} (m : Makers K InProxy OutProxy)
 
   -- ---- where order is kept
 
-  module _ (law : KeepsOrder m w) where
+  module _ (law : KeepsOrder of_line m w) where
     front_in_order : (end : Side) (front behind : List Event) → all ≡ front ++ behind
         → IsPrefix (taken end front) (given (other end) pdus front)
     front_in_order end front behind e =

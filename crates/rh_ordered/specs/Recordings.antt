@@ -2,15 +2,17 @@
 use Rattle.std.specs.Prelude.{List, [], ◌∷◌}
 use Rattle.rh_record.specs.declared.line.Line.{Line}
 use Rattle.rh_record.specs.declared.line.Line.TheVariants.{First, Give}
+use Rattle.rh_history.specs.Changes.{of_line}
 use Rattle.rh_world.specs.declared.config.WorldConfig.{WorldConfig}
 use Rattle.rh_world.specs.Config.{AreInRange}
 use Rattle.rh_world.specs.Roles as roles
 use Rattle.rh_ordered.specs.Premises.{KeepsOrder}
 
--- order is kept in each world of roles that settings make
+-- order is kept by lines in each world of roles that settings make
 abbrev pub RolesKeepOrder : Type 0
 RolesKeepOrder =
-    (config : WorldConfig) → AreInRange config → KeepsOrder roles.makers (roles.begun config)
+    (config : WorldConfig) → AreInRange config
+    → KeepsOrder of_line roles.makers (roles.begun config)
 
 -- no PDU is offered before the first line, which a recording begins with: there is no world then
 abbrev pub OffersBehindFirst : List Line → Type 0

@@ -9,6 +9,7 @@ ghost use Rattle.rh_client.specs.declared.state.ClientRole.{ClientRole};
 ghost use Rattle.rh_inproxy.specs.State.{InProxy};
 ghost use Rattle.rh_outproxy.specs.OutProxy.{OutProxy};
 ghost use Rattle.rh_server.specs.States.{Server};
+ghost use Rattle.rh_history.specs.Changes.{of_line};
 ghost use Rattle.rh_history.specs.Histories.{IsNew};
 ghost use Rattle.rh_events.specs.Order.{IsOrdered};
 ghost use Rattle.rh_traced.specs.Ours.{AreOurs, deeds, rules};
@@ -33,7 +34,7 @@ use rh_told::{
 pub fn a_report_is_ordered<K>()
     ensures { (m : Makers K InProxy OutProxy) (lines : List Line)
         (w : World K ClientRole Server InProxy OutProxy) → AreOurs m w.company w.cast → IsNew w
-        → w.closed ≡ [] → KeepsOrder m w → IsOrdered lines (told rules m deeds w lines) }
+        → w.closed ≡ [] → KeepsOrder of_line m w → IsOrdered lines (told rules m deeds w lines) }
 {
     a_client_gives_until_it_is_told_to_close();
     a_server_gives_until_it_is_told_to_close();

@@ -13,8 +13,6 @@ mod putting;
 mod role;
 mod rows;
 pub mod state;
-#[cfg(test)]
-mod tests;
 mod time;
 
 pub use legible::what_an_out_proxy_puts_reads_back;

@@ -10,8 +10,6 @@ pub mod header;
 pub mod laws;
 pub mod pdu;
 mod reading;
-#[cfg(test)]
-mod tests;
 pub mod texts;
 
 pub use fault::{HeadFault, PduFault};

@@ -13,6 +13,7 @@ use Rattle.rh_sig.specs.Looking.{names, fits}
 use Rattle.rh_http.specs.Texts.{response_text}
 use Rattle.rh_shell.specs.Carrying.{message_in}
 use Rattle.rh_shell.specs.Readings.{packet_of}
+use Rattle.rh_reading.specs.Well.{FrameIsWell, is_packet}
 use Rattle.rh_inproxy.specs.Opening.{echo_answer, echo_packet}
 use Rattle.rh_outproxy.specs.Putting as out_proxy
 
@@ -35,3 +36,12 @@ out_frame = record { long = omega arith; head = refl; whole = refl }
 pub out_unnamed : message_in (Some CoD) out_proxy.echo_packet ≡ []
 unfolding packet_of read_packet packets.head_fault named_of name_on names fits
 out_unnamed = refl
+
+-- so they read well where packets without a name do
+pub in_well : FrameIsWell is_packet None echo_packet
+unfolding packet_of
+in_well = λ is. refl
+
+pub out_well : FrameIsWell is_packet (Some CoD) out_proxy.echo_packet
+unfolding packet_of read_packet packets.head_fault named_of name_on names fits
+out_well = λ is. refl

@@ -1,32 +1,94 @@
 -- what an in proxy puts, reads and refuses, from its start
-use Rattle.std.proofs.Common.{◌≡◌, ◌⊎◌, inl, inr, ℕ, List, [], ◌∷◌, Bool, true, false, Some, None, refl, sym, ap, ◌∙◌, subst}
-use Rattle.std.specs.Prelude.{if◌then◌else◌}
-use Rattle.std.specs.List.{list_any}
+use Rattle.std.proofs.Common.{◌≡◌, ◌⊎◌, inl, inr, ℕ, List, [], ◌∷◌, Bool, true, false, Some, None, Ok, Err, refl, sym, ap, ◌∙◌, subst}
+use Rattle.std.specs.Prelude.{if◌then◌else◌, nat_le}
+use Rattle.std.specs.List.{AllByRecursion, list_any}
 use Rattle.std.specs.declared.option.Option.{Option}
+use Rattle.std.specs.declared.result.Result.{Result}
 use Rattle.std.proofs.lemmas.Bool.{and_parts}
-use Rattle.rh_sig.specs.declared.name.Pipe.TheVariants.{CiU, IsD}
+use Rattle.rh_http.specs.declared.fault.HttpFault.{HttpFault}
+use Rattle.rh_heads.specs.Verdicts.{Asked, request_verdict}
+use Rattle.rh_sig.specs.declared.name.Pipe.{Pipe}
+use Rattle.rh_sig.specs.declared.name.Pipe.TheVariants.{CiU, IsU, IsD, CoU, CoD, OsU, OsD}
 use Rattle.rh_line.specs.declared.leg.Leg.{Leg}
 use Rattle.rh_shell.specs.declared.stage.Stage.{Stage}
 use Rattle.rh_shell.specs.declared.stage.Stage.TheVariants as stage
-use Rattle.rh_shell.specs.Moves.{Move, OnLeg, Passage, started, all_moved, AreAllowed}
+use Rattle.rh_shell.specs.Moves.{Move, Up, HeadCame, PduCame, PacketCame, Puts, IsDrawn, Marks, Pings, OnLeg, Passage, started, moved, all_moved, AreAllowed}
 use Rattle.rh_shell.specs.NearEnds.{first_stage}
 use Rattle.rh_shell.specs.Rules.{Message, Text}
 use Rattle.rh_shell.specs.Shells.{same_leg}
 use Rattle.rh_shell.specs.Wires.{of_leg}
+use Rattle.rh_inproxy.specs.declared.opening.TheConstants.{ECHO_LENGTH}
 use Rattle.rh_inproxy.specs.declared.state.InProxyConfig.{InProxyConfig}
 use Rattle.rh_inproxy.specs.declared.state.Opening.{Opening}
 use Rattle.rh_inproxy.specs.declared.state.Opening.TheVariants.{AwaitsClient, AwaitsPacket, WantsServer, Announces, Announced}
 use Rattle.rh_inproxy.specs.Machine.{rules}
-use Rattle.rh_inproxy.specs.Opening.{echo_answer, pipe, wants_server}
+use Rattle.rh_inproxy.specs.Opening.{channel_asked, echo_answer, echo_asked, head_by, pipe, wants_server}
 use Rattle.rh_inproxy.specs.State.{InProxy, first, has_opened, is_client_leg, is_server_leg}
 use Rattle.rh_reading.specs.Reading.{Begins, AreNoTexts, IsNoText, ReadsNothing}
+use Rattle.rh_proxies_begin.specs.Echoes.{AsksNoEcho}
+use Rattle.rh_reading.specs.Well.{Answers, IsWellText, TextIsWell}
 use Rattle.rh_proxies_begin.specs.Pipes.{ci, is, in_pipe}
 use Rattle.rh_streams.specs.Streams.{HasPipes, RefusesFirst, is_head_on}
-use Rattle.rh_streams.specs.Turns.{Stages, none_up, AreInTurn, RefusesInTurn}
-use Rattle.rh_proxies_begin.proofs.Legs.{leg_is, none_of, each_of}
-use Rattle.rh_proxies_begin.proofs.Turning.{IsUnheard, all_keep, all_stages, all_turns_keep, unheard}
+use Rattle.rh_streams.specs.Turns.{Stages, none_up, behind_head, stages_after, AreInTurn, RefusesInTurn}
+use Rattle.rh_proxies_begin.proofs.Legs.{itself, leg_is, none_of, each_of}
+use Rattle.rh_proxies_begin.proofs.Turning.{IsUnheard, all_keep, all_stages, all_turns_keep, stage_each, unheard}
 use Rattle.rh_proxies_begin.proofs.InTurns.{AsksAt, IsAnswered, framed, in_starts, in_turns_keep}
 use Rattle.rh_proxies_begin.proofs.InReached.{MayPut, ReachedAt, in_moves_keep, in_reaches}
+
+-- ---- what comes next where no echo is asked for
+
+-- no body is passed over
+abbrev IsNotPassed : Option Stage → Type 0
+IsNotPassed (Some stage.PassedOver) = ⊥
+IsNotPassed next = Unit {0}
+
+first_not : (pipe : Option Pipe) → IsNotPassed (Some (first_stage pipe))
+first_not None = tt
+first_not (Some CiU) = tt
+first_not (Some CoU) = tt
+first_not (Some CoD) = tt
+first_not (Some IsD) = tt
+first_not (Some OsD) = tt
+first_not (Some IsU) = tt
+first_not (Some OsU) = tt
+
+asked_not : (s : InProxy) (number : ℕ) (asked : Asked) (t : Bool) → t ≡ false
+    → IsNotPassed (Some (behind_head (if t then echo_asked s number asked
+    else channel_asked s asked).1))
+asked_not s number asked true e = absurd cc
+asked_not s number asked false e = tt
+
+head_not : (s : InProxy) (number : ℕ) (verdict : Result Asked HttpFault)
+    → ((asked : Asked) → verdict ≡ Ok asked → nat_le asked.length ECHO_LENGTH ≡ false)
+    → IsNotPassed (Some (behind_head (head_by s number verdict).1))
+head_not s number (Err fault) none = tt
+head_not s number (Ok asked) none =
+    asked_not s number asked (nat_le asked.length ECHO_LENGTH) (none asked refl)
+
+module _ (number : ℕ) where
+  move_not : (p : Passage InProxy) (g : Stages) (move : Move) → AsksNoEcho (ci number) move
+      → IsNotPassed (g (ci number)) → IsNotPassed (stages_after rules p.role g move (ci number))
+  move_not p g (Up other cookie) none h =
+      stage_each IsNotPassed other (ci number) (first_stage (rules.pipe p.role other)) g
+      (λ same. first_not (rules.pipe p.role other)) (λ apart. h)
+  move_not p g (HeadCame other text) none h =
+      stage_each IsNotPassed other (ci number) (behind_head (rules.head p.role other text).1) g
+      (λ same. head_not p.role other.number (request_verdict true text)
+      (none (ap (λ (l : Leg). same_leg l (ci number)) same ∙ itself (ci number)))) (λ apart. h)
+  move_not p g (PduCame other count bytes) none h = h
+  move_not p g (PacketCame other count named) none h = h
+  move_not p g (Puts other) none h = h
+  move_not p g (IsDrawn other) none h = h
+  move_not p g (Marks other) none h = h
+  move_not p g (Pings other) none h = h
+
+  all_not : (p : Passage InProxy) (g : Stages) (moves : List Move)
+      → AllByRecursion (AsksNoEcho (ci number)) moves → IsNotPassed (g (ci number))
+      → IsNotPassed (all_stages rules p g moves (ci number))
+  all_not p g [] none h = h
+  all_not p g (move ∷ moves) none h =
+      all_not (moved rules p move) (stages_after rules p.role g move) moves none.1
+      (move_not p g move none.0 h)
 
 module _ (config : InProxyConfig) (moves : List Move)
     (allowed : AreAllowed rules (started (first config)) moves) where
@@ -78,24 +140,52 @@ module _ (config : InProxyConfig) (moves : List Move)
         all_turns_keep rules (AsksAt config) (in_turns_keep config) (first config) moves
         allowed turn (in_starts config)
 
-    pub on_client : (n : ℕ) → ReadsNothing None echo_answer → Begins None (of_leg (ci n) run.put)
-    on_client n nothing = by (stages (ci n)) (of_leg (ci n) run.put) (asks.answered n)
+    -- nothing, or the answer to an echo request
+    client_put : (n : ℕ) → (of_leg (ci n) run.put ≡ [])
+        ⊎ (of_leg (ci n) run.put ≡ Text echo_answer ∷ [])
+    client_put n = by (stages (ci n)) (of_leg (ci n) run.put) (asks.answered n)
       where
-        none : (put : List Message) → put ≡ [] → Begins None put
-        none put e = subst (Begins None) (sym e) tt
+        by : (o : Option Stage) (put : List Message) → IsAnswered o put
+            → (put ≡ []) ⊎ (put ≡ Text echo_answer ∷ [])
+        by None put e = inl e
+        by (Some stage.Head) put e = inl e
+        by (Some stage.Greeting) put e = inl e
+        by (Some stage.Frames) put e = inl e
+        by (Some stage.PassedOver) put e = e
+        by (Some stage.Shut) put e = inl e
 
-        answered : (put : List Message) → (put ≡ []) ⊎ (put ≡ Text echo_answer ∷ [])
-            → Begins None put
-        answered put (inl e) = none put e
-        answered put (inr e) = subst (Begins None) (sym e) (inr (nothing, refl))
+    pub on_client : (n : ℕ) → ReadsNothing None echo_answer → Begins None (of_leg (ci n) run.put)
+    on_client n nothing = by (client_put n)
+      where
+        by : (of_leg (ci n) run.put ≡ []) ⊎ (of_leg (ci n) run.put ≡ Text echo_answer ∷ [])
+            → Begins None (of_leg (ci n) run.put)
+        by (inl e) = subst (Begins None) (sym e) tt
+        by (inr e) = subst (Begins None) (sym e) (inr (nothing, refl))
 
-        by : (o : Option Stage) (put : List Message) → IsAnswered o put → Begins None put
-        by None put e = none put e
-        by (Some stage.Head) put e = none put e
-        by (Some stage.Greeting) put e = none put e
-        by (Some stage.Frames) put e = none put e
-        by (Some stage.PassedOver) put e = answered put e
-        by (Some stage.Shut) put e = none put e
+    pub client_well : (well : Answers) → TextIsWell well None echo_answer → (n : ℕ)
+        → AllByRecursion (IsWellText well None) (of_leg (ci n) run.put)
+    client_well well echo n = by (client_put n)
+      where
+        by : (of_leg (ci n) run.put ≡ []) ⊎ (of_leg (ci n) run.put ≡ Text echo_answer ∷ [])
+            → AllByRecursion (IsWellText well None) (of_leg (ci n) run.put)
+        by (inl e) = subst (AllByRecursion (IsWellText well None)) (sym e) tt
+        by (inr e) = subst (AllByRecursion (IsWellText well None)) (sym e) (echo, tt)
+
+    -- where no head asks for an echo
+    pub unechoed : (n : ℕ) → AllByRecursion (AsksNoEcho (ci n)) moves
+        → of_leg (ci n) run.put ≡ []
+    unechoed n none =
+        by (stages (ci n)) (of_leg (ci n) run.put)
+        (all_not n (started (first config)) none_up moves none tt) (asks.answered n)
+      where
+        by : (o : Option Stage) (put : List Message) → IsNotPassed o → IsAnswered o put
+            → put ≡ []
+        by None put not e = e
+        by (Some stage.Head) put not e = e
+        by (Some stage.Greeting) put not e = e
+        by (Some stage.Frames) put not e = e
+        by (Some stage.PassedOver) put not e = absurd not
+        by (Some stage.Shut) put not e = e
 
     -- where no head came
     pub unasked : (n : ℕ) → list_any (is_head_on (ci n)) moves ≡ false

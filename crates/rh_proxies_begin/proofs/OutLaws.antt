@@ -4,6 +4,7 @@ use Rattle.std.specs.Prelude.{if◌then◌else◌}
 use Rattle.std.proofs.lemmas.Bool.{and_parts}
 use Rattle.rh_http.specs.Texts.{response_text}
 use Rattle.rh_sig.specs.declared.name.Pipe.TheVariants.{CoD, CoU, OsD}
+use Rattle.std.specs.List.{AllByRecursion}
 use Rattle.rh_line.specs.declared.leg.Leg.{Leg}
 use Rattle.rh_shell.specs.declared.stage.Stage.TheVariants as stage
 use Rattle.rh_shell.specs.Intakes.{is_whole_head}
@@ -21,6 +22,8 @@ use Rattle.rh_outproxy.specs.OutProxy.{OutProxy, is_client_up, is_known, is_serv
 use Rattle.rh_outproxy.specs.Putting.{echo_text}
 use Rattle.rh_outproxy.specs.Rows.{is_os}
 use Rattle.rh_reading.specs.Reading.{Begins, AreNoTexts, IsNoText, IsWholeText, ReadsNothing}
+use Rattle.rh_reading.specs.Well.{Answers, IsWellText, TextIsWell}
+use Rattle.rh_reading.proofs.NoTexts.{no_texts_well}
 use Rattle.rh_proxies_begin.specs.Pipes.{co, os, out_pipe}
 use Rattle.rh_streams.specs.Streams.{HasPipes, RefusesFirst}
 use Rattle.rh_streams.specs.Turns.{Stages, none_up, AreInTurn, RefusesInTurn}
@@ -48,6 +51,32 @@ begins_by whole nothing x a on k = by x k
     response n r = subst (Begins (Some CoD)) (sym r.is) (inl (whole n, r.none))
 
     by : (y : Answer) → Stands y a on → Begins (Some CoD) on
+    by answers.Awaited h = none h.1
+    by answers.EchoDue h = none h.1
+    by answers.EchoPut h = echo h.1
+    by answers.EchoDrawn h = echo h.1
+    by answers.ResponseDue h = none h.1
+    by answers.TimeoutDue h = response _ h.1
+    by answers.Put h = response _ h.1
+
+-- each text of it reads well
+well_by : (well : Answers) → ((n : ℕ) → TextIsWell well (Some CoD) (response_text n))
+    → TextIsWell well (Some CoD) echo_text → (x : Answer) (a : Seen) (on : List Message)
+    → Stands x a on → AllByRecursion (IsWellText well (Some CoD)) on
+well_by well heads echo_well x a on k = by x k
+  where
+    none : on ≡ [] → AllByRecursion (IsWellText well (Some CoD)) on
+    none e = subst (AllByRecursion (IsWellText well (Some CoD))) (sym e) tt
+
+    echo : on ≡ Text echo_text ∷ [] → AllByRecursion (IsWellText well (Some CoD)) on
+    echo e = subst (AllByRecursion (IsWellText well (Some CoD))) (sym e) (echo_well, tt)
+
+    response : (n : ℕ) → IsResponse n on → AllByRecursion (IsWellText well (Some CoD)) on
+    response n r =
+        subst (AllByRecursion (IsWellText well (Some CoD))) (sym r.is)
+        (heads n, no_texts_well well (Some CoD) r.behind r.none)
+
+    by : (y : Answer) → Stands y a on → AllByRecursion (IsWellText well (Some CoD)) on
     by answers.Awaited h = none h.1
     by answers.EchoDue h = none h.1
     by answers.EchoPut h = echo h.1
@@ -115,6 +144,14 @@ module _ (config : OutProxyConfig) (moves : List Move)
         → Begins (Some CoD) (of_leg (co config.number) run.put)
     on_client whole nothing =
         begins_by whole nothing run.role.answer (seen run.role) (of_leg (co config.number) run.put)
+        answers_at.stands
+
+    pub client_well : (well : Answers)
+        → ((n : ℕ) → TextIsWell well (Some CoD) (response_text n))
+        → TextIsWell well (Some CoD) echo_text
+        → AllByRecursion (IsWellText well (Some CoD)) (of_leg (co config.number) run.put)
+    client_well well heads echo =
+        well_by well heads echo run.role.answer (seen run.role) (of_leg (co config.number) run.put)
         answers_at.stands
 
     -- where no head came

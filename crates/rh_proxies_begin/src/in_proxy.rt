@@ -2,6 +2,7 @@
 //! laws.
 
 ghost use Rattle.std.specs.Prelude.{ℕ, ◌≡◌, ◌≤◌, List, [], true, false, Some, None};
+ghost use Rattle.std.specs.List.{AllByRecursion};
 ghost use Rattle.rh_sig.specs.declared.name.Pipe.TheVariants.{IsU};
 ghost use Rattle.rh_line.specs.declared.leg.Leg.{Leg};
 ghost use Rattle.rh_shell.specs.Moves.{Move, started, all_moved, AreAllowed};
@@ -11,13 +12,16 @@ ghost use Rattle.rh_inproxy.specs.declared.state.InProxyConfig.{InProxyConfig};
 ghost use Rattle.rh_inproxy.specs.InReplacement.{has_passed};
 ghost use Rattle.rh_inproxy.specs.Machine.{rules};
 ghost use Rattle.rh_inproxy.specs.State.{first, is_client_leg};
+ghost use Rattle.std.specs.List.{AllByRecursion};
 ghost use Rattle.rh_reading.specs.Reading.{Begins};
+ghost use Rattle.rh_proxies_begin.specs.Echoes.{AsksNoEcho};
+ghost use Rattle.rh_reading.specs.Well.{Answers, IsWellText, is_packet};
 ghost use Rattle.rh_proxies_begin.specs.Pipes.{ci, is, in_pipe};
 ghost use Rattle.rh_proxies_begin.specs.Reached.{IsKnown, came_up_by};
 ghost use Rattle.rh_streams.specs.Streams.{RefusesFirst};
 ghost use Rattle.rh_streams.specs.Turns.{AreInTurn, RefusesInTurn};
 
-use rh_reading::{heads_have_no_messages, texts_are_whole};
+use rh_reading::{heads_have_no_messages, texts_are_whole, texts_read_well};
 
 /// What an in proxy puts begins as the other end reads it: on the is leg of its number no texts; on
 /// a ci leg, where its moves are in their turn, nothing but the answer to an echo request, alone;
@@ -37,6 +41,31 @@ pub fn an_in_proxy_begins()
 {
     texts_are_whole();
     heads_have_no_messages();
+}
+
+/// Where no head that came on a ci leg asks for an echo, it put nothing there, if its moves are in
+/// their turn.
+pub fn an_in_proxy_answers_echoes_alone()
+    ensures { (config : InProxyConfig) (moves : List Move) (number : ℕ)
+        → AreAllowed rules (started (first config)) moves → AreInTurn rules (first config) moves
+        → AllByRecursion (AsksNoEcho (ci number)) moves
+        → of_leg (ci number) (all_moved rules (started (first config)) moves).put ≡ [] }
+{}
+
+/// Each text that it puts reads well where it is read, as long as a packet without a name does,
+/// which stands behind the answer to an echo request.
+pub fn what_an_in_proxy_puts_first_reads_well()
+    ensures server { (well : Answers) (config : InProxyConfig) (moves : List Move)
+        → AreAllowed rules (started (first config)) moves
+        → AllByRecursion (IsWellText well (Some IsU))
+        (of_leg (is config.number) (all_moved rules (started (first config)) moves).put) }
+    ensures client { (config : InProxyConfig) (moves : List Move) (number : ℕ)
+        → AreAllowed rules (started (first config)) moves → AreInTurn rules (first config) moves
+        → AllByRecursion (IsWellText is_packet None)
+        (of_leg (ci number) (all_moved rules (started (first config)) moves).put) }
+{
+    texts_are_whole();
+    texts_read_well();
 }
 
 /// An in proxy refuses its client on a ci leg only where it put nothing there, if its moves are in

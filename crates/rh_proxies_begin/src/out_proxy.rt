@@ -10,12 +10,14 @@ ghost use Rattle.rh_shell.specs.Wires.{of_leg};
 ghost use Rattle.rh_outproxy.specs.declared.state.OutProxyConfig.{OutProxyConfig};
 ghost use Rattle.rh_outproxy.specs.Machine.{rules};
 ghost use Rattle.rh_outproxy.specs.OutProxy.{new_proxy};
+ghost use Rattle.std.specs.List.{AllByRecursion};
 ghost use Rattle.rh_reading.specs.Reading.{Begins};
+ghost use Rattle.rh_reading.specs.Well.{Answers, IsWellText, is_packet};
 ghost use Rattle.rh_proxies_begin.specs.Pipes.{co, os, out_pipe};
 ghost use Rattle.rh_streams.specs.Streams.{RefusesFirst};
 ghost use Rattle.rh_streams.specs.Turns.{AreInTurn, RefusesInTurn};
 
-use rh_reading::{heads_have_no_messages, texts_are_whole};
+use rh_reading::{heads_have_no_messages, texts_are_whole, texts_read_well};
 
 /// What an out proxy puts begins as the other end reads it: on the leg to the server no texts; on
 /// the client's, where its moves are in their turn, the whole response first and no other text
@@ -37,6 +39,22 @@ pub fn an_out_proxy_begins()
 {
     texts_are_whole();
     heads_have_no_messages();
+}
+
+/// Each text that it puts reads well where it is read, as long as a packet without a name does,
+/// which stands behind the answer to an echo request.
+pub fn what_an_out_proxy_puts_first_reads_well()
+    ensures server { (well : Answers) (config : OutProxyConfig) (moves : List Move)
+        → AreAllowed rules (started (new_proxy config)) moves
+        → AllByRecursion (IsWellText well (Some OsU))
+        (of_leg (os config.number) (all_moved rules (started (new_proxy config)) moves).put) }
+    ensures client { (config : OutProxyConfig) (moves : List Move)
+        → AreAllowed rules (started (new_proxy config)) moves → AreInTurn rules (new_proxy config) moves
+        → AllByRecursion (IsWellText is_packet (Some CoD))
+        (of_leg (co config.number) (all_moved rules (started (new_proxy config)) moves).put) }
+{
+    texts_are_whole();
+    texts_read_well();
 }
 
 /// An out proxy refuses its client only where it put nothing to it, if its moves are in their turn;

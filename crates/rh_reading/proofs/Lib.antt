@@ -3,8 +3,10 @@ mod Taking
 mod Frames
 mod WholeTexts
 mod Puts
-mod Seen
+pub mod Seen
 mod Lines
 mod Written
 mod Heads
 mod Fine
+mod PutsWell
+pub mod NoTexts

@@ -1,5 +1,5 @@
 -- what was put on a leg is read as what was put
-use Rattle.std.proofs.Common.{◌≡◌, ◌⊎◌, ℕ, Bool, List, [], ◌∷◌, ◌++◌, ap, subst, inl, inr}
+use Rattle.std.proofs.Common.{◌≡◌, ◌⊎◌, ℕ, Bool, List, [], ◌∷◌, ◌++◌, refl, sym, ap, ◌∙◌, subst, inl, inr}
 use Rattle.std.specs.List.{AllByRecursion}
 use Rattle.std.specs.declared.option.Option.{Option}
 use Rattle.std.proofs.lemmas.List.{append-nil}
@@ -14,7 +14,7 @@ use Rattle.rh_shell.specs.NearEnds.{first_stage}
 use Rattle.rh_shell.specs.Rules.{Message, Text, Pdu, Packet, spell}
 use Rattle.rh_legible.specs.Legible.{IsTaken, ReadsBack, taken_of}
 use Rattle.rh_reading.specs.Reading.{AreNoTexts, BeginsBy, BeginsWith, IsWholeText, ReadsNothing, all_read_of, messages_from, reading}
-use Rattle.rh_reading.proofs.Taking.{TakesAt, next_read}
+use Rattle.rh_reading.proofs.Taking.{TakesAt, all_read, next_read}
 use Rattle.rh_reading.proofs.Frames.{frame_taken}
 use Rattle.rh_reading.proofs.WholeTexts.{head_taken, greeting_taken}
 
@@ -39,6 +39,15 @@ one_read : (pipe : Option Pipe) (s : Stage) (message : Message) (out : List Mess
 one_read pipe s message out put heard takes more p =
     next_read pipe s (spell message) out takes heard (spelled put) (all_read_of put) p more
 
+-- of a message, and all of those behind it
+one_whole : (pipe : Option Pipe) (s : Stage) (message : Message) (out : List Message)
+    (put : List Message) → TakesAt pipe s (spell message) out
+    → messages_from pipe (reading stage.Frames []) (spelled put) ≡ all_read_of put
+    → messages_from pipe (reading s []) (spelled (message ∷ put)) ≡ out ++ all_read_of put
+one_whole pipe s message out put takes more =
+    all_read pipe s (spell message) out takes (spelled put)
+    ∙ ap (λ (ms : List Message). out ++ ms) more
+
 is_taken : (pipe : Option Pipe) (message : Message) → IsTaken pipe message
     → TakesAt pipe stage.Frames (spell message) (taken_of message)
 is_taken pipe message is =
@@ -55,6 +64,18 @@ frames_read pipe (Pdu pdu ∷ put) no_texts back heard p =
 frames_read pipe (Packet named ∷ put) no_texts back heard p =
     one_read pipe stage.Frames (Packet named) (taken_of (Packet named)) put heard
     (is_taken pipe (Packet named) back.0) (frames_read pipe put no_texts.1 back.1) p
+
+pub frames_whole : (pipe : Option Pipe) (put : List Message) → AreNoTexts put
+    → AllByRecursion (ReadsBack pipe) put
+    → messages_from pipe (reading stage.Frames []) (spelled put) ≡ all_read_of put
+frames_whole pipe [] no_texts back = refl
+frames_whole pipe (Text bytes ∷ put) no_texts back = absurd no_texts.0
+frames_whole pipe (Pdu pdu ∷ put) no_texts back =
+    one_whole pipe stage.Frames (Pdu pdu) (taken_of (Pdu pdu)) put
+    (is_taken pipe (Pdu pdu) back.0) (frames_whole pipe put no_texts.1 back.1)
+frames_whole pipe (Packet named ∷ put) no_texts back =
+    one_whole pipe stage.Frames (Packet named) (taken_of (Packet named)) put
+    (is_taken pipe (Packet named) back.0) (frames_whole pipe put no_texts.1 back.1)
 
 -- ---- a text, and then frames
 
@@ -85,6 +106,28 @@ module _ (pipe : Option Pipe) (s : Stage) (is_whole : List ℕ → Bool)
   text_first (Pdu pdu ∷ put) begins back heard p = absurd begins
   text_first (Packet named ∷ put) begins back heard p = absurd begins
 
+  whole_text : (text : List ℕ) (put : List Message)
+      → (IsWholeText is_whole text × AreNoTexts put) ⊎ (ReadsNothing pipe text × (put ≡ []))
+      → AllByRecursion (ReadsBack pipe) put
+      → messages_from pipe (reading s []) (spelled (Text text ∷ put)) ≡ all_read_of put
+  whole_text text put (inl h) back =
+      one_whole pipe s (Text text) [] put (takes text h.0) (frames_whole pipe put h.1 back)
+  whole_text text put (inr h) back =
+      let none : messages_from pipe (reading s []) text ≡ [] =
+      subst (λ (at : Stage). messages_from pipe (reading at []) text ≡ []) first
+      (h.0 text ([], append-nil text)) in
+      ap (λ (ms : List Message). messages_from pipe (reading s []) (text ++ spelled ms)) h.1
+      ∙ ap (messages_from pipe (reading s [])) (append-nil text)
+      ∙ none ∙ ap all_read_of (sym h.1)
+
+  pub text_whole : (put : List Message) → BeginsWith pipe is_whole put
+      → AllByRecursion (ReadsBack pipe) put
+      → messages_from pipe (reading s []) (spelled put) ≡ all_read_of put
+  text_whole [] begins back = refl
+  text_whole (Text text ∷ put) begins back = whole_text text put begins back.1
+  text_whole (Pdu pdu ∷ put) begins back = absurd begins
+  text_whole (Packet named ∷ put) begins back = absurd begins
+
 -- ---- whatever comes first
 
 pub put_read : (pipe : Option Pipe) (s : Stage) (put : List Message) → first_stage pipe ≡ s
@@ -99,3 +142,14 @@ put_read pipe stage.Greeting put first begins back heard p =
 put_read pipe stage.Frames put first begins back heard p = frames_read pipe put begins back heard p
 put_read pipe stage.PassedOver put first begins back heard p = absurd begins
 put_read pipe stage.Shut put first begins back heard p = absurd begins
+
+pub put_whole : (pipe : Option Pipe) (s : Stage) (put : List Message) → first_stage pipe ≡ s
+    → BeginsBy pipe s put → AllByRecursion (ReadsBack pipe) put
+    → messages_from pipe (reading s []) (spelled put) ≡ all_read_of put
+put_whole pipe stage.Head put first begins back =
+    text_whole pipe stage.Head is_whole_head first (head_taken pipe) put begins back
+put_whole pipe stage.Greeting put first begins back =
+    text_whole pipe stage.Greeting is_whole_greeting first (greeting_taken pipe) put begins back
+put_whole pipe stage.Frames put first begins back = frames_whole pipe put begins back
+put_whole pipe stage.PassedOver put first begins back = absurd begins
+put_whole pipe stage.Shut put first begins back = absurd begins

@@ -72,7 +72,7 @@ module _ (pipe : Option Pipe) (s : Stage) (bytes : List ℕ) (out : List Message
       ∙ whole_read (held ++ x ∷ []) rest more y (held_on held (y ∷ rest) x e)
 
   -- from the first byte on
-  all_read : (more : List ℕ) → messages_from pipe (reading s []) (bytes ++ more)
+  pub all_read : (more : List ℕ) → messages_from pipe (reading s []) (bytes ++ more)
       ≡ out ++ messages_from pipe (reading stage.Frames []) more
   all_read more = by_first bytes t.some (λ x rest e. whole_read [] rest more x e)
     where

@@ -8,8 +8,6 @@ pub mod place;
 pub mod reading;
 pub mod recording;
 pub mod report;
-#[cfg(test)]
-mod tests;
 mod verb;
 pub mod words;
 pub mod writing;

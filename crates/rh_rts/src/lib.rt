@@ -12,8 +12,6 @@ pub mod laws;
 mod layout;
 pub mod packet;
 mod reading;
-#[cfg(test)]
-mod tests;
 mod views;
 
 pub use command::{Address4or16, Command, CommandRef, Cookie, GREATEST_DESTINATION};

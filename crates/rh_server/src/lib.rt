@@ -13,8 +13,6 @@ mod out_replacement;
 mod putting;
 pub mod server;
 pub mod state;
-#[cfg(test)]
-mod tests;
 mod time;
 
 pub use first_frame::{FirstKind, first_kind};

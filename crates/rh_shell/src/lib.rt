@@ -21,8 +21,6 @@ pub mod shell;
 pub mod stage;
 pub mod standing;
 pub mod stop;
-#[cfg(test)]
-mod tests;
 mod text;
 pub mod waiting;
 pub mod wires;

@@ -5,8 +5,6 @@ mod commands;
 pub mod laws;
 pub mod reader;
 pub mod showing;
-#[cfg(test)]
-mod tests;
 
 pub use laws::one_text;
 pub use reader::{LineReader, Packets};

@@ -14,8 +14,6 @@ pub mod ranges;
 mod reading;
 mod rows;
 mod signature;
-#[cfg(test)]
-mod tests;
 mod values;
 mod writing;
 

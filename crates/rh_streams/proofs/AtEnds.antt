@@ -28,11 +28,12 @@ use Rattle.rh_history.specs.Carried.{AreAcceptedAtEnd, ComesUpOnceAtEnd, IsAccep
 use Rattle.rh_reading.specs.Reading.{messages_read}
 use Rattle.rh_history.proofs.Appended.{came_append, end_drawn_append, heard_append}
 use Rattle.rh_streams.specs.Streams as streams
-use Rattle.rh_streams.specs.Streams.{ComesUpWith, EndStream, IsCookie, RisesWith, HearsInTurn, NeverRefuses, StaysUnusedAtEnd, all_given, all_taken, is_end_up_on, is_head_on, is_up_on, taken_by}
+use Rattle.rh_streams.specs.Streams.{ComesUpWith, EndStream, IsCookie, RisesWith, HearsInTurn, NeverRefuses, Seated, StaysUnusedAtEnd, all_given, all_taken, is_end_up_on, is_head_on, is_up_on, taken_by}
 use Rattle.rh_streams.specs.Turns.{Stages, IsInTurn, stages_after}
 use Rattle.rh_streams.proofs.EndMoves.{Did, did_close, did_give, did_recycle, did_take, leads_one}
 use Rattle.rh_streams.proofs.Seats.{left_self, seat, silent_none, staged_on}
 use Rattle.rh_streams.proofs.Kept.{FrontOf}
+use Rattle.rh_streams.proofs.Going.{kept_seated}
 use Rattle.rh_streams.proofs.Runs.{IsFit, Ran, ran_as, ran_by, ran_event, ran_none}
 use Rattle.rh_streams.proofs.Turns.{Passes}
 use Rattle.rh_streams.proofs.Ways.{Lifts, each_joined, each_of, either, or_false}
@@ -158,7 +159,8 @@ module _ {S : Type 0} (rules : Rules S) (acts : Acts S) (first : S) (rooms : Roo
           (λ leg p ms g text fault sound at top headless refuses. asked leg p text fault refuses)
           (λ leg p ms g wanted sound at answers wants. unreached leg p answers)
           (IsReached (given ++ next) (taken ++ out)) s (with_role s role) heard drawn (λ leg. [])
-          (λ leg. []) up (λ leg. up leg || false) ran q [] ran.stages at role_is ran.held ran.apart
+          (λ leg. []) up (λ leg. up leg || false) ran q [] ran.stages at role_is (λ leg free. free)
+          ran.held ran.apart
           (λ leg. Passes (record {
             quiet = record {
               came = ap (of_leg leg) came;
@@ -448,12 +450,12 @@ module _ {S : Type 0} (rules : Rules S) (acts : Acts S) (first : S) (rooms : Roo
       (subst (λ x. HearsInTurn (happened x)) (sym same) turn)
       (λ known. subst HaveCookies (sym same) (have known)))))
 
-  drawn_is : (leg : Leg) (p : Passage S) (bytes : List ℕ)
+  drawn_is : (leg : Leg) (p : Passage S) (heard bytes : List ℕ)
       → IsPrefix bytes (spelled (of_leg leg p.put))
-      ⊎ FrontOf rules (pipe leg) leg (Sound leg) ⊥ p bytes
+      ⊎ FrontOf rules (pipe leg) leg (Sound leg) ⊥ p heard bytes
       → IsPrefix bytes (spelled (of_leg leg p.put))
-  drawn_is leg p bytes (inl front) = front
-  drawn_is leg p bytes (inr front) = absurd front.answering.may
+  drawn_is leg p heard bytes (inl front) = front
+  drawn_is leg p heard bytes (inr front) = absurd front.answering.may
 
   pub end_stream : AreAcceptedAtEnd rules acts start all → HearsInTurn (happened all)
       → EndStream rules acts first rooms pipe all
@@ -472,8 +474,20 @@ module _ {S : Type 0} (rules : Rules S) (acts : Acts S) (first : S) (rooms : Roo
     drawn = λ leg.
         subst (λ (x : Passage S). IsPrefix (end_drawn_on rules acts start leg all)
         (spelled (of_leg leg x.put))) (sym ran.at.is)
-        (drawn_is leg ran.passage (end_drawn_on rules acts start leg all)
+        (drawn_is leg ran.passage (heard_on leg (happened all))
+        (end_drawn_on rules acts start leg all)
         ((ran.kept leg).spells tt));
+    seats = λ leg end going at.
+        subst (λ (x : Passage S). Seated rules (after_end_events rules acts start all).role
+        (pipe leg) (of_leg leg x.came) (of_leg leg x.put) (heard_on leg (happened all))
+        (end_drawn_on rules acts start leg all) end) (sym ran.at.is)
+        (kept_seated rules (pipe leg) leg (Sound leg) ⊥ ran.passage ran.moves
+        (after_end_events rules acts start all) (heard_on leg (happened all))
+        (end_drawn_on rules acts start leg all) (came_up leg (happened all)) ran.role
+        (ran.kept leg) end going at);
+    unput = λ leg none.
+        subst (λ (x : Passage S). of_leg leg x.put ≡ []) (sym ran.at.is)
+        ((ran.kept leg).new none).put;
   }
     where
       ran : RanTo (all_given rules acts start all) (all_taken rules acts start all)

@@ -13,6 +13,7 @@ use Rattle.rh_shell.specs.declared.stage.Stage.TheVariants as stage
 use Rattle.rh_shell.specs.Carrying.{message_in}
 use Rattle.rh_shell.specs.Intakes.{Intake, Came, Nothing, Head, Greeting, Frame, Fault, Over, behind, counted, is_full, length_told, is_whole_head, is_whole_greeting, text_by, frame_by, frame_byte, byte_by, on_byte}
 use Rattle.rh_shell.specs.Rules.{Message}
+use Rattle.rh_streams.specs.Streams.{is_live}
 use Rattle.rh_reading.specs.Reading.{Reading, reading, text_read, frame_read, read_by, read_byte, reading_after, messages_from}
 
 -- ---- a list of bytes behind another one
@@ -33,14 +34,6 @@ from_append pipe r (x ∷ xs) ys =
     (messages_from pipe (reading_after pipe (read_byte pipe r x).0 xs) ys))
 
 -- ---- stages
-
--- where bytes are read
-abbrev pub is_live : Stage → Bool
-is_live stage.Head = true
-is_live stage.Greeting = true
-is_live stage.Frames = true
-is_live stage.PassedOver = false
-is_live stage.Shut = false
 
 pub dead_reads : (pipe : Option Pipe) (st : Stage) (held bytes : List ℕ) → is_live st ≡ false
     → messages_from pipe (reading st held) bytes ≡ []

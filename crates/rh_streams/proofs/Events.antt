@@ -578,6 +578,7 @@ module _ {S : Type 0} (rules : Rules S) (pipes : Leg → Option Pipe) (rose : Le
           after = refl;
           cut = sym (take-append-drop room rest);
           passage = refl;
+          headless = refl;
         })
         by leg false = Passes (record {
           quiet = record { came = refl; put = refl; headless = refl; out_is = refl };

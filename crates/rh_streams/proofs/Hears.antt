@@ -1,6 +1,7 @@
 -- a piece that a node hears: what its role takes is what is read there
 use Rattle.std.proofs.Common.{◌≡◌, ◌≢◌, ◌⊎◌, inr, ℕ, List, [], ◌∷◌, ◌++◌, length, cond, Bool, true, false, ◌||◌, Some, None, Ok, Err, arith, refl, sym, ap, ◌∙◌, subst}
 use Rattle.std.specs.Prelude.{◌==◌, ◌&&◌, not, IsTrue, slice_index}
+use Rattle.std.specs.List.{AllByRecursion}
 use Rattle.std.specs.declared.option.Option.{Option}
 use Rattle.std.specs.declared.result.Result.{Result}
 use Rattle.std.proofs.lemmas.List.{append-nil}
@@ -35,12 +36,14 @@ use Rattle.rh_shell.specs.Readings.{packet_of}
 use Rattle.rh_shell.specs.Rules.{Rules, Row, Message, Pdu, Packet}
 use Rattle.rh_shell.specs.Shells.{same_leg}
 use Rattle.rh_reading.specs.Reading.{Reading, reading, read_byte, reading_after, messages_from}
-use Rattle.rh_streams.proofs.Bytes.{ByteIs, byte_is, is_live}
+use Rattle.rh_streams.specs.Streams.{is_live}
+use Rattle.rh_streams.proofs.Bytes.{ByteIs, byte_is}
 use Rattle.rh_streams.specs.Turns as turn
 use Rattle.rh_streams.specs.Turns.{Stages, AreInTurnFrom, takes_frames}
 use Rattle.rh_streams.proofs.Ends.{leg_itself}
+use Rattle.rh_streams.proofs.Heads.{HeadBy, HeadIn, IsHead, head_whole, no_heads}
 use Rattle.rh_streams.proofs.Staging.{IsNext, LeavesStages, all_stages, leaves_none}
-use Rattle.rh_streams.proofs.Ways.{Way, nowhere, way_none, way_one}
+use Rattle.rh_streams.proofs.Ways.{Way, nowhere, way_as, way_none, way_one}
 
 pub on_leg_append : (leg : Leg) (xs ys : List Message)
     → on_leg leg (xs ++ ys) ≡ on_leg leg xs ++ on_leg leg ys
@@ -71,11 +74,16 @@ pub record IsExact (pipe : Option Pipe) (i j : Intake) (bytes : List ℕ) (messa
   pub after : reading_after pipe (reading i.stage i.held) bytes ≡ reading j.stage j.held
 
 module _ {S : Type 0} (rules : Rules S) where
-  -- the role refuses a request on the leg
-  pub record Refuses (role : S) (leg : Leg) : Type 0 where
+  -- the role judges the text as a head, on a leg that is heard
+  abbrev pub Judges : Passage S → NearEnd → List ℕ → List ℕ → Type 0
+  Judges p end piece text = (is_over rules end p.role ≡ false) × HeadIn end.intake piece text
+
+  -- and refuses it
+  pub record Refuses (p : Passage S) (end : NearEnd) (piece : List ℕ) : Type 0 where
     pub text : List ℕ
+    pub judges : Judges p end piece text
     pub fault : HttpFault
-    pub refuses : (rules.head role leg text).1 ≡ Err (head.Request fault)
+    pub refuses : (rules.head p.role end.leg text).1 ≡ Err (head.Request fault)
 
   -- moves take a front of the messages in a piece, and all where the leg is heard
   pub record Heard (p : Passage S) (end : NearEnd) (u : Turn S) (piece : List ℕ) : Type 0 where
@@ -92,7 +100,8 @@ module _ {S : Type 0} (rules : Rules S) where
     pub heads : is_stopped u.stop ≡ false → u.end.intake.stage ≡ stage.Head
         → (end.intake.stage ≡ stage.Head) × (way.moves ≡ [])
     pub refused : IsRefused u.stop
-        → (end.intake.stage ≡ stage.Head) × Refuses p.role end.leg
+        → (end.intake.stage ≡ stage.Head) × Refuses p end piece
+    pub texts : AllByRecursion (HeadBy (Judges p end piece)) way.moves
     pub turns : (g : Stages) → IsNext (g end.leg) end.intake.stage
         → AreInTurnFrom rules p g way.moves
         × (is_stopped u.stop ≡ false
@@ -238,9 +247,10 @@ module _ {S : Type 0} (rules : Rules S) (moment : ℕ) (p : Passage S) (end : Ne
       → ((g : Stages) → IsNext (g end.leg) end.intake.stage → AreInTurnFrom rules p g way.moves)
       → q.role ≡ role → q.put ≡ p.put → q.came ≡ p.came → IsHeld (now j)
       → (IsRefused (Some why)
-      → (end.intake.stage ≡ stage.Head) × Refuses rules p.role end.leg)
+      → (end.intake.stage ≡ stage.Head) × Refuses rules p end (b ∷ []))
+      → AllByRecursion (HeadBy (Judges rules p end (b ∷ []))) way.moves
       → Heard rules p end (stops (now j) role why) (b ∷ [])
-  stops_here q j role why way turns is put came held refused = record {
+  stops_here q j role why way turns is put came held refused texts = record {
     passage = q;
     way = way;
     role = is;
@@ -251,6 +261,7 @@ module _ {S : Type 0} (rules : Rules S) (moment : ℕ) (p : Passage S) (end : Ne
     exact = λ h. absurd cc;
     heads = λ h. absurd cc;
     refused = refused;
+    texts = texts;
     turns = λ g. λ n. (turns g n, λ h. absurd cc);
     on = inr on;
     same = record { leg = refl; pipe = refl; begun = refl; standing = refl };
@@ -267,8 +278,9 @@ module _ {S : Type 0} (rules : Rules S) (moment : ℕ) (p : Passage S) (end : Ne
       → ((g : Stages) → IsNext (g end.leg) end.intake.stage
       → AreInTurnFrom rules p g way.moves
       × IsNext (all_stages rules p g way.moves end.leg) to.intake.stage)
+      → AllByRecursion (HeadBy (Judges rules p end (b ∷ []))) way.moves
       → Heard rules p end (goes to role) (b ∷ [])
-  goes_on q to role way is put came held same live top turns = record {
+  goes_on q to role way is put came held same live top turns texts = record {
     passage = q;
     way = way;
     role = is;
@@ -283,6 +295,7 @@ module _ {S : Type 0} (rules : Rules S) (moment : ℕ) (p : Passage S) (end : Ne
     };
     heads = λ h. top;
     refused = λ h. absurd h;
+    texts = texts;
     turns = λ g. λ n. let both = turns g n in (both.0, λ h. both.1);
     on = inr on;
     same = same;
@@ -299,13 +312,14 @@ module _ {S : Type 0} (rules : Rules S) (moment : ℕ) (p : Passage S) (end : Ne
       subst (λ (s : Stage). is_live s ≡ true) is.0 l in
       (live, is.1 live ∙ ap (λ (s : Stage). (reading s j.held, [])) (sym is.0)))
       (λ h. (sym is.0 ∙ h, refl))
-      (λ g. λ n. (tt, subst (λ (s : Stage). IsNext (g end.leg) s) (sym is.0) n))
+      (λ g. λ n. (tt, subst (λ (s : Stage). IsNext (g end.leg) s) (sym is.0) n)) tt
 
   head_is : (j : Intake) (text : List ℕ) (x : S × Result HeadTaken HeadRefused)
       → rules.head p.role end.leg text ≡ x
       → end.intake.stage ≡ stage.Head → next ≡ (reading stage.Frames [], []) → j.held ≡ []
+      → IsHead end.intake b (Head text)
       → Heard rules p end (behind_head (now j) (head_row end.leg (length text) x)) (b ∷ [])
-  head_is j text x e top is none = by x e
+  head_is j text x e top is none stands = by x e
     where
       q : Passage S
       q = moved rules p (HeadCame end.leg text)
@@ -313,6 +327,20 @@ module _ {S : Type 0} (rules : Rules S) (moment : ℕ) (p : Passage S) (end : Ne
       way : Way rules heads nowhere p q
       way = way_one rules heads nowhere p (HeadCame end.leg text) may (λ leg. λ h. h)
           (λ leg. refl)
+
+      judged : Judges rules p end (b ∷ []) text
+      judged = (
+        on,
+        record {
+          head = top;
+          front = b ∷ [];
+          behind = [];
+          cut = refl;
+          is = stands.0;
+          whole = stands.1;
+          first = λ k more less. absurd (omega (arith, more, less));
+        },
+      )
 
       -- a head comes first
       first : (g : Stages) → IsNext (g end.leg) end.intake.stage
@@ -338,20 +366,21 @@ module _ {S : Type 0} (rules : Rules S) (moment : ℕ) (p : Passage S) (end : Ne
           (λ fr. nothing_held j.held none)
           (record { leg = refl; pipe = refl; begun = refl; standing = refl })
           (λ l. (ap is_live top, is ∙ ap (λ (x : List ℕ). (reading stage.Frames x, [])) (sym none)))
-          (λ h. absurd cc) (λ g. λ n. (first g n, ap takes_frames (next_is g)))
+          (λ h. absurd cc) (λ g. λ n. (first g n, ap takes_frames (next_is g))) (judged, tt)
       by_behind role passed.PassedOver length same next_is =
           goes_on q (begun_body (now j) stage.PassedOver (Some length)) role way same refl refl
           (λ fr. nothing_held j.held none)
           (record { leg = refl; pipe = refl; begun = refl; standing = refl })
-          (λ l. absurd cc) (λ h. absurd cc) (λ g. λ n. (first g n, tt))
+          (λ l. absurd cc) (λ h. absurd cc) (λ g. λ n. (first g n, tt)) (judged, tt)
 
       by_why : (role : S) (why : HeadRefused) → rules.head p.role end.leg text ≡ (role, Err why)
           → IsRefused (Some (stop_head end.leg (length text) why))
-          → (end.intake.stage ≡ stage.Head) × Refuses rules p.role end.leg
+          → (end.intake.stage ≡ stage.Head) × Refuses rules p end (b ∷ [])
       by_why role (head.Request fault) e r = (
         top,
         record {
           text = text;
+          judges = judged;
           fault = fault;
           refuses = ap (λ (y : S × Result HeadTaken HeadRefused). y.1) e;
         },
@@ -368,7 +397,7 @@ module _ {S : Type 0} (rules : Rules S) (moment : ℕ) (p : Passage S) (end : Ne
       by (role, Err why) e =
           stops_here q j role (stop_head end.leg (length text) why) way first
           (ap (λ (y : S × Result HeadTaken HeadRefused). y.0) e) refl refl
-          (λ fr. nothing_held j.held none) (by_why role why e)
+          (λ fr. nothing_held j.held none) (by_why role why e) (judged, tt)
 
   greeting_is : (j : Intake) (t : Bool) (why : Cause) → end.intake.stage ≡ stage.Greeting
       → next ≡ (reading stage.Frames [], []) → j.held ≡ []
@@ -381,21 +410,21 @@ module _ {S : Type 0} (rules : Rules S) (moment : ℕ) (p : Passage S) (end : Ne
       (record { leg = refl; pipe = refl; begun = refl; standing = refl })
       (λ l. (ap is_live at, is ∙ ap (λ (x : List ℕ). (reading stage.Frames x, [])) (sym none)))
       (λ h. absurd cc)
-      (λ g. λ n. (tt, subst (λ (s : Stage). IsNext (g end.leg) s) at n))
+      (λ g. λ n. (tt, subst (λ (s : Stage). IsNext (g end.leg) s) at n)) tt
   greeting_is j false why at is none =
       stops_here p j p.role (record { cause = why; refusal = None })
       (way_none rules heads p) (λ g. λ n. tt) refl refl refl
-      (λ fr. nothing_held j.held none) (λ r. absurd r)
+      (λ fr. nothing_held j.held none) (λ r. absurd r) tt
 
   frame_is : (j : Intake) (frame : List ℕ) (place : ℕ) (x : S × Result Count Cause)
-      → FrameIs rules heads p (heading (now j) place) may frame x
+      → FrameIs rules nowhere p (heading (now j) place) may frame x
       → end.intake.stage ≡ stage.Frames
       → next ≡ (reading stage.Frames [], message_in end.pipe frame)
       → j.held ≡ [] → j.stage ≡ stage.Frames
       → Heard rules p end (behind_frame (now j) x) (b ∷ [])
   frame_is j frame place (role, Ok count) f at is none st = record {
     passage = f.passage;
-    way = f.way;
+    way = way_as rules nowhere heads p f.passage (λ leg. λ h. refl) f.way;
     role = f.role;
     put = f.put;
     messages = message_in end.pipe frame;
@@ -413,6 +442,7 @@ module _ {S : Type 0} (rules : Rules S) (moment : ℕ) (p : Passage S) (end : Ne
     };
     heads = λ h. λ e. absurd (apart (sym st ∙ e));
     refused = λ r. absurd r;
+    texts = no_heads (Judges rules p end (b ∷ [])) f.way.moves (λ leg. f.way.headless leg refl);
     turns = λ g. λ n.
         let frames = subst (λ (s : Stage). IsNext (g end.leg) s) at n in (
           f.leaves.in_turn g frames,
@@ -429,30 +459,33 @@ module _ {S : Type 0} (rules : Rules S) (moment : ℕ) (p : Passage S) (end : Ne
       apart : stage.Frames ≡ stage.Head → ⊥
       apart e = absurd cc
   frame_is j frame place (role, Err why) f at is none st =
-      stops_here f.passage j role (record { cause = why; refusal = None }) f.way
+      stops_here f.passage j role (record { cause = why; refusal = None })
+      (way_as rules nowhere heads p f.passage (λ leg. λ h. refl) f.way)
       (λ g. λ n. f.leaves.in_turn g (subst (λ (s : Stage). IsNext (g end.leg) s) at n))
       f.role f.put
       (f.came ∙ append-nil p.came) (λ fr. nothing_held j.held none) (λ r. absurd r)
+      (no_heads (Judges rules p end (b ∷ [])) f.way.moves (λ leg. f.way.headless leg refl))
 
   by_came : (j : Intake) (c : Came) → ByteIs end.pipe end.intake.stage j c next
+      → (end.intake.stage ≡ stage.Head → IsHead end.intake b c)
       → Heard rules p end (take rules (now j) p.role c) (b ∷ [])
   unfolding take
-  by_came j Nothing is = nothing_is j is
-  by_came j (Head text) is =
-      head_is j text (rules.head p.role end.leg text) refl is.0 is.1 is.2
-  by_came j (Greeting text) is = greeting_is j (is_greeting text) _ is.0 is.1 is.2
-  by_came j (Frame place frame) is =
+  by_came j Nothing is stands = nothing_is j is
+  by_came j (Head text) is stands =
+      head_is j text (rules.head p.role end.leg text) refl is.0 is.1 is.2 (stands is.0)
+  by_came j (Greeting text) is stands = greeting_is j (is_greeting text) _ is.0 is.1 is.2
+  by_came j (Frame place frame) is stands =
       frame_is j frame place (take_frame rules (heading (now j) place) p.role frame)
-      (frame_taken rules heads p (heading (now j) place) may frame is.4) is.0 is.1 is.2 is.3
-  by_came j (Fault place fault) is =
+      (frame_taken rules nowhere p (heading (now j) place) may frame is.4) is.0 is.1 is.2 is.3
+  by_came j (Fault place fault) is stands =
       stops_here p j p.role _ (way_none rules heads p) (λ g. λ n. tt) refl refl refl
-      (λ fr. absurd (apart (sym is ∙ fr))) (λ r. absurd r)
+      (λ fr. absurd (apart (sym is ∙ fr))) (λ r. absurd r) tt
     where
       apart : stage.Shut ≡ stage.Frames → ⊥
       apart e = absurd cc
-  by_came j (Over length) is =
+  by_came j (Over length) is stands =
       stops_here p j p.role _ (way_none rules heads p) (λ g. λ n. tt) refl refl refl
-      (λ fr. absurd (apart (sym is ∙ fr))) (λ r. absurd r)
+      (λ fr. absurd (apart (sym is ∙ fr))) (λ r. absurd r) tt
     where
       apart : stage.Shut ≡ stage.Frames → ⊥
       apart e = absurd cc
@@ -462,4 +495,4 @@ module _ {S : Type 0} (rules : Rules S) (moment : ℕ) (p : Passage S) (end : Ne
       (take_next rules (touched end moment) p.role (on_byte end.intake b)) (b ∷ [])
   byte_heard held =
       by_came (on_byte end.intake b).0 (on_byte end.intake b).1
-      (byte_is end.pipe end.intake b held)
+      (byte_is end.pipe end.intake b held) (head_whole end.intake b)

@@ -1,7 +1,7 @@
 -- what is kept of a leg: what its role took was read there, and what was drawn spells what it put
-use Rattle.std.proofs.Common.{◌≡◌, ◌⊎◌, inl, inr, ℕ, List, [], ◌∷◌, ◌++◌, append_assoc, Bool, true, false, ◌||◌, Some, None, Err, refl, sym, ap, ◌∙◌, subst}
+use Rattle.std.proofs.Common.{◌≡◌, ◌⊎◌, inl, inr, ℕ, ◌<◌, List, [], ◌∷◌, ◌++◌, append_assoc, length, take, Bool, true, false, ◌||◌, Some, None, Err, refl, sym, ap, ◌∙◌, subst}
 use Rattle.std.specs.Prelude.{◌&&◌, not}
-use Rattle.std.specs.List.{list_any}
+use Rattle.std.specs.List.{AllByRecursion, list_any}
 use Rattle.std.specs.declared.option.Option.{Option}
 use Rattle.std.proofs.lemmas.List.{append-nil}
 use Rattle.std.proofs.lemmas.List.Concat.{flat_map-append}
@@ -19,18 +19,18 @@ use Rattle.rh_shell.specs.declared.standing.Standing.{Standing}
 use Rattle.rh_shell.specs.declared.stop.Stop.{Stop}
 use Rattle.rh_shell.specs.Carrying.{spelled, is_deaf}
 use Rattle.rh_shell.specs.Hearing.{is_stopped}
-use Rattle.rh_shell.specs.Intakes.{Intake, fresh}
+use Rattle.rh_shell.specs.Intakes.{Intake, fresh, is_whole_head}
 use Rattle.rh_shell.specs.Moves.{Move, Passage, is_in_use}
 use Rattle.rh_shell.specs.NearEnds.{NearEnd, first_stage, is_ended, is_marked, is_over, new_end}
 use Rattle.rh_shell.specs.Rules.{Rules, Message, spell}
 use Rattle.rh_shell.specs.Wires.{of_leg}
 use Rattle.rh_reading.specs.Reading.{begin, messages_from, messages_read, reading}
-use Rattle.rh_streams.specs.Streams.{is_head_on}
-use Rattle.rh_streams.proofs.Bytes.{is_live}
-use Rattle.rh_streams.proofs.Hears.{IsExact, IsRefusal, IsRefused}
+use Rattle.rh_streams.specs.Streams.{IsFirstHead, IsHeadOf, RefusesText, is_head_on, is_live}
+use Rattle.rh_streams.proofs.Heads.{HeadBy, each_as, first_more, head_as, head_of, head_then, heads_more, heads_none, waited}
+use Rattle.rh_streams.proofs.Hears.{IsExact, IsRefusal, IsRefused, Judges}
 use Rattle.rh_streams.proofs.Pieces.{exact_then, front_more, front_then}
 use Rattle.rh_streams.proofs.Turns.{Seat, Nowhere, Sits, Answers, IsStill, IsLeft, IsSilent, seat_refused, seat_stopped, more_here, IsQuiet, IsAside, Hearing, Drawing, Answered, Coming, Unreached, Turns, Passes, Hears, Draws, Tells, Comes, Fails}
-use Rattle.rh_streams.proofs.Ways.{any_none}
+use Rattle.rh_streams.proofs.Ways.{any_none, each_joined}
 
 -- ---- the invariant
 
@@ -60,20 +60,25 @@ module _ {S : Type 0} (rules : Rules S) (pipe : Option Pipe) (leg : Leg)
     pub heads : end.intake.stage ≡ stage.Head
         → (first_stage pipe ≡ stage.Head) × (list_any (is_head_on leg) moves ≡ false)
 
-  pub record Answering (p : Passage S) (bytes : List ℕ) : Type 0 where
+  -- for a leg that cannot be connected, or for a head
+  abbrev pub IsWhy : List ℕ → Refusal → Type 0
+  IsWhy heard refusal = (refusal ≡ Unavailable) ⊎ RefusesText rules leg heard
+
+  pub record Answering (p : Passage S) (heard bytes : List ℕ) : Type 0 where
     pub may : MayRefuse
     pub none : of_leg leg p.put ≡ []
     pub refusal : Refusal
     pub text : refusal_text refusal ≡ bytes
+    pub why : IsWhy heard refusal
 
   abbrev pub IsSeated : Passage S → List Move → List ℕ → List ℕ → Seat → Type 0
   IsSeated p moves heard drawn Nowhere = Unit {0}
   IsSeated p moves heard drawn (Sits end) = Sitting p moves heard drawn end
-  IsSeated p moves heard drawn (Answers rest) = Sound → Answering p (drawn ++ rest)
+  IsSeated p moves heard drawn (Answers rest) = Sound → Answering p heard (drawn ++ rest)
 
-  pub record FrontOf (p : Passage S) (drawn : List ℕ) : Type 0 where
+  pub record FrontOf (p : Passage S) (heard drawn : List ℕ) : Type 0 where
     pub rest : List ℕ
-    pub answering : Answering p (drawn ++ rest)
+    pub answering : Answering p heard (drawn ++ rest)
 
   -- nothing passed on a leg that did not come up
   pub record IsNew (p : Passage S) (moves : List Move) (s : Seat) (heard drawn : List ℕ)
@@ -88,7 +93,8 @@ module _ {S : Type 0} (rules : Rules S) (pipe : Option Pipe) (leg : Leg)
   pub record Kept (p : Passage S) (moves : List Move) (s : Seat) (heard drawn : List ℕ)
       (up : Bool) : Type 0 where
     pub front : IsPrefix (of_leg leg p.came) (messages_read pipe heard)
-    pub spells : Sound → IsPrefix drawn (spelled (of_leg leg p.put)) ⊎ FrontOf p drawn
+    pub texts : AllByRecursion (IsHeadOf leg heard) moves
+    pub spells : Sound → IsPrefix drawn (spelled (of_leg leg p.put)) ⊎ FrontOf p heard drawn
     pub seat : IsSeated p moves heard drawn s
     pub new : up ≡ false → IsNew p moves s heard drawn
 
@@ -136,29 +142,55 @@ module _ {S : Type 0} (rules : Rules S) (pipe : Option Pipe) (leg : Leg)
     same_drawn : out ≡ [] → drawn ++ out ≡ drawn
     same_drawn none = ap (λ (x : List ℕ). drawn ++ x) none ∙ append-nil drawn
 
-    answering_on : (bytes : List ℕ) → of_leg leg q.put ≡ of_leg leg p.put → Answering p bytes
-        → Answering q bytes
-    answering_on b put a = record {
+    answering_on : (text : List ℕ) → of_leg leg q.put ≡ of_leg leg p.put
+        → Answering p heard text → Answering q (heard ++ bytes) text
+    answering_on text put a = record {
       may = a.may;
       none = put ∙ a.none;
       refusal = a.refusal;
       text = a.text;
+      why = by a.why;
     }
+      where
+        by : IsWhy heard a.refusal → IsWhy (heard ++ bytes) a.refusal
+        by (inl lost) = inl lost
+        by (inr asks) = inr (record {
+          role = asks.role;
+          text = asks.text;
+          stands = first_more leg heard bytes asks.text asks.stands;
+          fault = asks.fault;
+          refuses = asks.refuses;
+        })
+
+    texts_then : AllByRecursion (IsHeadOf leg (heard ++ bytes)) ns
+        → AllByRecursion (IsHeadOf leg (heard ++ bytes)) (ms ++ ns)
+    texts_then new =
+        each_joined (IsHeadOf leg (heard ++ bytes)) ms ns
+        (each_as (IsHeadOf leg heard) (IsHeadOf leg (heard ++ bytes)) ms
+        (heads_more leg heard bytes) k.texts) new
+
+    -- no head comes
+    texts_on : list_any (is_head_on leg) ns ≡ false
+        → AllByRecursion (IsHeadOf leg (heard ++ bytes)) (ms ++ ns)
+    texts_on headless = texts_then (heads_none leg (heard ++ bytes) ns headless)
 
     spells_on : of_leg leg q.put ≡ of_leg leg p.put → out ≡ []
-        → Sound → IsPrefix (drawn ++ out) (spelled (of_leg leg q.put)) ⊎ FrontOf q (drawn ++ out)
+        → Sound
+        → IsPrefix (drawn ++ out) (spelled (of_leg leg q.put))
+        ⊎ FrontOf q (heard ++ bytes) (drawn ++ out)
     spells_on put none sound = by (k.spells sound)
       where
         same : drawn ≡ drawn ++ out
         same = sym (same_drawn none)
 
-        by : IsPrefix drawn (spelled (of_leg leg p.put)) ⊎ FrontOf p drawn
-            → IsPrefix (drawn ++ out) (spelled (of_leg leg q.put)) ⊎ FrontOf q (drawn ++ out)
+        by : IsPrefix drawn (spelled (of_leg leg p.put)) ⊎ FrontOf p heard drawn
+            → IsPrefix (drawn ++ out) (spelled (of_leg leg q.put))
+            ⊎ FrontOf q (heard ++ bytes) (drawn ++ out)
         by (inl front) =
             inl (subst (λ x. IsPrefix x (spelled (of_leg leg q.put))) same
             (subst (λ x. IsPrefix drawn (spelled x)) (sym put) front))
         by (inr front) =
-            inr (subst (FrontOf q) same (record {
+            inr (subst (FrontOf q (heard ++ bytes)) same (record {
               rest = front.rest;
               answering = answering_on (drawn ++ front.rest) put front.answering;
             }))
@@ -242,6 +274,7 @@ module _ {S : Type 0} (rules : Rules S) (pipe : Option Pipe) (leg : Leg)
     aside_keeps : (later : Bool) → IsAside rules pipe leg p q ns s t bytes out → Keeps later
     aside_keeps later a was none = record {
       front = front_same a.quiet.came;
+      texts = texts_on a.quiet.headless;
       spells = spells_on a.quiet.put a.quiet.out_is;
       seat = by t a.left a.silent;
       new = new_on a.quiet (gone t a.left) later was none;
@@ -257,7 +290,8 @@ module _ {S : Type 0} (rules : Rules S) (pipe : Option Pipe) (leg : Leg)
             let old = subst (IsSeated p ms heard drawn) left k.seat in
             λ sound.
             answering_on ((drawn ++ out) ++ rest) a.quiet.put
-            (subst (λ x. Answering p (x ++ rest)) (sym (same_drawn a.quiet.out_is)) (old sound))
+            (subst (λ x. Answering p heard (x ++ rest)) (sym (same_drawn a.quiet.out_is))
+            (old sound))
 
         gone : (u : Seat) → IsLeft s u → s ≡ Nowhere → u ≡ Nowhere
         gone Nowhere left e = refl
@@ -269,6 +303,7 @@ module _ {S : Type 0} (rules : Rules S) (pipe : Option Pipe) (leg : Leg)
     drawing_keeps : (later : Bool) → Drawing rules pipe leg p q ns s t bytes out → Keeps later
     drawing_keeps later d was none = record {
       front = front_same came;
+      texts = texts_on d.headless;
       spells = λ sound. inl (d.drawn.end.begun, sym spells);
       seat = subst (IsSeated q (ms ++ ns) (heard ++ bytes) (drawn ++ out)) (sym d.after) sits;
       new = λ e. absurd (was_up d.end d.before (was e));
@@ -308,20 +343,21 @@ module _ {S : Type 0} (rules : Rules S) (pipe : Option Pipe) (leg : Leg)
     answered_keeps : (later : Bool) → Answered rules pipe leg p q ns s t bytes out → Keeps later
     answered_keeps later a was none = record {
       front = front_same (ap (λ (x : Passage S). of_leg leg x.came) a.passage);
+      texts = texts_on a.headless;
       spells = λ sound. inr (record { rest = a.left; answering = answering sound });
       seat = subst (IsSeated q (ms ++ ns) (heard ++ bytes) (drawn ++ out)) (sym a.after) answering;
       new = λ e.
           absurd (let bad : Nowhere ≡ Answers a.rest = sym (k.new (was e)).seat ∙ a.before in cc);
     }
       where
-        old : Sound → Answering p (drawn ++ a.rest)
+        old : Sound → Answering p heard (drawn ++ a.rest)
         old = subst (IsSeated p ms heard drawn) a.before k.seat
 
-        answering : Sound → Answering q ((drawn ++ out) ++ a.left)
+        answering : Sound → Answering q (heard ++ bytes) ((drawn ++ out) ++ a.left)
         answering sound =
             answering_on ((drawn ++ out) ++ a.left)
             (ap (λ (x : Passage S). of_leg leg x.put) a.passage)
-            (subst (Answering p)
+            (subst (Answering p heard)
             (ap (λ (x : List ℕ). drawn ++ x) a.cut ∙ sym (append_assoc drawn out a.left))
             (old sound))
 
@@ -330,6 +366,7 @@ module _ {S : Type 0} (rules : Rules S) (pipe : Option Pipe) (leg : Leg)
       front =
           subst (λ (x : List Message). IsPrefix x (messages_read pipe (heard ++ bytes))) (sym came)
           (messages_read pipe (heard ++ bytes), refl);
+      texts = texts_on c.quiet.headless;
       spells = λ sound.
           inl (subst (λ (x : List ℕ). IsPrefix x (spelled (of_leg leg q.put))) (sym out_none)
           (spelled (of_leg leg q.put), refl));
@@ -375,15 +412,17 @@ module _ {S : Type 0} (rules : Rules S) (pipe : Option Pipe) (leg : Leg)
         front_nil (x ∷ xs) b e = absurd cc
 
     refused_on : (end : NearEnd) (refusal : Refusal) → Sitting p ms heard drawn end
-        → of_leg leg q.put ≡ of_leg leg p.put → out ≡ [] → MayRefuse × (of_leg leg p.put ≡ [])
-        → Answering q ((drawn ++ out) ++ refusal_text refusal)
-    refused_on end refusal old put none may = record {
+        → of_leg leg q.put ≡ of_leg leg p.put → out ≡ [] → IsWhy (heard ++ bytes) refusal
+        → MayRefuse × (of_leg leg p.put ≡ [])
+        → Answering q (heard ++ bytes) ((drawn ++ out) ++ refusal_text refusal)
+    refused_on end refusal old put none why may = record {
       may = may.0;
       none = put ∙ may.1;
       refusal = refusal;
       text =
           sym (ap (λ (x : List ℕ). x ++ refusal_text refusal)
           (same_drawn none ∙ undrawn end old may.1));
+      why = why;
     }
 
     unreached_keeps : (later : Bool)
@@ -392,10 +431,12 @@ module _ {S : Type 0} (rules : Rules S) (pipe : Option Pipe) (leg : Leg)
         → Unreached rules pipe leg p q ns s t bytes out → Keeps later
     unreached_keeps later refuses u was none = record {
       front = front_same u.quiet.came;
+      texts = texts_on u.quiet.headless;
       spells = spells_on u.quiet.put u.quiet.out_is;
       seat = subst (IsSeated q (ms ++ ns) (heard ++ bytes) (drawn ++ out)) (sym u.after)
           (λ sound.
           refused_on u.end Unavailable (sitting u.end u.before) u.quiet.put u.quiet.out_is
+          (inl refl)
           (refuses sound u.wanted u.answers u.wants));
       new = λ e. absurd (was_up u.end u.before (was e));
     }
@@ -477,6 +518,38 @@ module _ {S : Type 0} (rules : Rules S) (pipe : Option Pipe) (leg : Leg)
             );
       }
 
+      -- a head that was judged stands at the front of all that was heard
+      judged_first : (text : List ℕ) → Judges rules p h.end bytes text
+          → IsFirstHead text (heard ++ bytes)
+      judged_first text j =
+          let read = old.reads j.0 (ap is_live j.1.head) in
+          let whole = head_then (fresh (first_stage pipe)) h.end.intake heard bytes text
+          (waited pipe (begin pipe) heard h.end.intake.held
+          (read.after ∙ ap (λ s. reading s h.end.intake.held) j.1.head)) j.1 in
+          record {
+            whole = record {
+              whole = whole.whole;
+              front = λ k more less.
+                  subst (λ (x : List ℕ). is_whole_head (take k x) ≡ false) (sym whole.is)
+                  (whole.first k more
+                  (subst (λ (x : List ℕ). k < length x) whole.is less));
+            };
+            front = (
+              whole.behind,
+              ap (λ (x : List ℕ). x ++ whole.behind) whole.is ∙ whole.cut,
+            );
+          }
+
+      heard_texts : AllByRecursion (IsHeadOf leg (heard ++ bytes)) ns
+      heard_texts =
+          subst (AllByRecursion (IsHeadOf leg (heard ++ bytes))) h.moves_are
+          (each_as (HeadBy (Judges rules p h.end bytes)) (IsHeadOf leg (heard ++ bytes))
+          h.heard.way.moves
+          (λ move by.
+          head_of leg (heard ++ bytes) move
+          (head_as (Judges rules p h.end bytes) (λ text. IsFirstHead text (heard ++ bytes))
+          judged_first move by)) h.heard.texts)
+
     hearing_keeps : (later : Bool)
         → (Sound → (text : List ℕ) (fault : HttpFault) → first_stage pipe ≡ stage.Head
         → list_any (is_head_on leg) ms ≡ false
@@ -485,6 +558,7 @@ module _ {S : Type 0} (rules : Rules S) (pipe : Option Pipe) (leg : Leg)
         → Hearing rules pipe leg p q ns s t bytes out → Keeps later
     hearing_keeps later refuses h was none = record {
       front = heard_front h;
+      texts = texts_then (heard_texts h);
       spells = spells_on (heard_put h) h.out_is;
       seat = subst (IsSeated q (ms ++ ns) (heard ++ bytes) (drawn ++ out)) (sym h.after)
           (by h.turn.stop refl);
@@ -501,6 +575,15 @@ module _ {S : Type 0} (rules : Rules S) (pipe : Option Pipe) (leg : Leg)
             let r = h.heard.refused (subst IsRefused (sym e) (subst IsRefusal (sym f) tt)) in
             let first = old.heads r.0 in
             refused_on h.end refusal old (heard_put h) h.out_is
+            (inr (record {
+              role = p.role;
+              text = r.1.text;
+              stands = judged_first h r.1.text r.1.judges;
+              fault = r.1.fault;
+              refuses =
+                  subst (λ (l : Leg). (rules.head p.role l r.1.text).1
+                  ≡ Err (head.Request r.1.fault)) old.leg_is r.1.refuses;
+            }))
             (refuses sound r.1.text r.1.fault first.0 first.1
             (subst (λ (l : Leg). (rules.head p.role l r.1.text).1 ≡ Err (head.Request r.1.fault))
             old.leg_is r.1.refuses))

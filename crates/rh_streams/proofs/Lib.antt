@@ -1,13 +1,15 @@
 mod Ways
 mod Staging
 mod Bytes
+pub mod Heads
 mod Hears
 mod Pieces
 mod Draws
-mod Ends
+pub mod Ends
 mod Turns
 mod Kept
 mod Seats
+mod Going
 mod Pings
 mod Events
 mod Runs

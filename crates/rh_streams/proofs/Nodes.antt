@@ -19,10 +19,11 @@ use Rattle.rh_shell.specs.Shells.{Shell, begun, may_up}
 use Rattle.rh_shell.specs.Wires.{of_leg}
 use Rattle.rh_history.specs.Carried.{AreAccepted, ComesUpOnce, IsAccepted, came_up, drawn_in, drawn_on, heard_in, heard_on, is_up_of}
 use Rattle.rh_history.proofs.Appended.{accepted_append, came_append, drawn_append, heard_append}
-use Rattle.rh_streams.specs.Streams.{HasPipes, HearsInTurn, IsDrawn, StaysUnused, Stream, is_head_on, is_up_on}
+use Rattle.rh_streams.specs.Streams.{HasPipes, HearsInTurn, IsDrawn, RefusalDrawn, StaysUnused, Stream, is_head_on, is_refused_on, is_up_on}
 use Rattle.rh_streams.specs.Turns.{Stages, AreInTurn, IsInTurn, RefusesInTurn, none_up, stages_after}
 use Rattle.rh_streams.proofs.Staging.{all_stages, all_stages_append, in_turn_append}
 use Rattle.rh_streams.proofs.Kept.{FrontOf}
+use Rattle.rh_streams.proofs.Going.{kept_seated}
 use Rattle.rh_streams.proofs.Runs.{IsFit, Ran, ran_as, ran_event, ran_none}
 use Rattle.rh_streams.proofs.Ways.{all_allowed_append, all_moved_append, or_false}
 
@@ -168,17 +169,30 @@ module _ {S : Type 0} (rules : Rules S) (first : S) (rooms : Rooms) (pipe : Leg 
       (ran_one events s event is ran fit) accepted.1
       (subst HearsInTurn (sym all) turn))
 
-  drawn_is : (leg : Leg) (p : Passage S) (bytes : List ℕ)
+  drawn_is : (leg : Leg) (p : Passage S) (heard bytes : List ℕ)
       → IsPrefix bytes (spelled (of_leg leg p.put))
-      ⊎ FrontOf rules (pipe leg) leg (Sound leg) (Unit {0}) p bytes
+      ⊎ FrontOf rules (pipe leg) leg (Sound leg) (Unit {0}) p heard bytes
       → IsDrawn (of_leg leg p.put) bytes
-  drawn_is leg p bytes (inl front) = inl front
-  drawn_is leg p bytes (inr front) =
+  drawn_is leg p heard bytes (inl front) = inl front
+  drawn_is leg p heard bytes (inr front) =
       inr (
         front.answering.none,
         front.answering.refusal,
         (front.rest, sym front.answering.text),
       )
+
+  refused_is : (leg : Leg) (p : Passage S) (heard bytes : List ℕ)
+      → IsPrefix bytes (spelled (of_leg leg p.put))
+      ⊎ FrontOf rules (pipe leg) leg (Sound leg) (Unit {0}) p heard bytes
+      → IsPrefix bytes (spelled (of_leg leg p.put))
+      ⊎ RefusalDrawn rules leg (of_leg leg p.put) heard bytes
+  refused_is leg p heard bytes (inl front) = inl front
+  refused_is leg p heard bytes (inr front) = inr (record {
+    none = front.answering.none;
+    refusal = front.answering.refusal;
+    front = (front.rest, sym front.answering.text);
+    why = front.answering.why;
+  })
 
   pub node_stream : (events : List Event) → AreAccepted rules start events → HearsInTurn events
       → Stream rules first rooms pipe events
@@ -190,7 +204,19 @@ module _ {S : Type 0} (rules : Rules S) (first : S) (rooms : Rooms) (pipe : Leg 
     ups = ran.ups;
     read = λ leg. (ran.kept leg).front;
     drawn = λ leg sound.
-        drawn_is leg ran.passage (drawn_on rules start leg events) ((ran.kept leg).spells sound);
+        drawn_is leg ran.passage (heard_on leg events) (drawn_on rules start leg events)
+        ((ran.kept leg).spells sound);
+    heads = λ leg. (ran.kept leg).texts;
+    refused = λ leg sound.
+        refused_is leg ran.passage (heard_on leg events) (drawn_on rules start leg events)
+        ((ran.kept leg).spells sound);
+    goes = λ leg going. ran.unrefused leg (ap (is_refused_on leg) going);
+    unrefused = ran.unrefused;
+    seats = λ leg.
+        kept_seated rules (pipe leg) leg (Sound leg) (Unit {0}) ran.passage ran.moves
+        (after_events rules start events) (heard_on leg events) (drawn_on rules start leg events)
+        (came_up leg events) ran.role (ran.kept leg);
+    unput = λ leg none. ((ran.kept leg).new none).put;
   }
     where
       ran : RanTo (after_events rules start events) events

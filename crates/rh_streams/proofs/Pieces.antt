@@ -1,11 +1,12 @@
 -- bytes that a node hears one after the other
-use Rattle.std.proofs.Common.{◌≡◌, ◌⊎◌, inl, inr, ℕ, List, [], ◌∷◌, ◌++◌, append_assoc, Bool, true, false, Some, None, refl, sym, ap, ◌∙◌, subst}
+use Rattle.std.proofs.Common.{◌≡◌, ◌⊎◌, inl, inr, ℕ, List, [], ◌∷◌, ◌++◌, append_assoc, Bool, true, false, Some, None, Err, refl, sym, ap, ◌∙◌, subst}
 use Rattle.std.specs.declared.option.Option.{Option}
 use Rattle.std.proofs.lemmas.List.{append-nil}
 use mathlib.Core.List.{IsPrefix}
 use Rattle.rh_order.proofs.Prefixes.{prefix_more, prefix_trans, prefix_behind}
 use Rattle.rh_sig.specs.declared.name.Pipe.{Pipe}
 use Rattle.rh_line.specs.declared.leg.Leg.{Leg}
+use Rattle.rh_shell.specs.declared.answers.HeadRefused.TheVariants as head
 use Rattle.rh_shell.specs.declared.stop.Stop.{Stop}
 use Rattle.rh_shell.specs.Carrying.{on_leg, is_deaf}
 use Rattle.rh_shell.specs.Hearing.{Turn, hear, hear_byte, heard, is_stopped}
@@ -16,11 +17,13 @@ use Rattle.rh_shell.specs.NearEnds.{NearEnd, is_over}
 use Rattle.rh_shell.specs.Rules.{Rules, Message}
 use Rattle.rh_shell.specs.Shells.{same_leg}
 use Rattle.rh_reading.specs.Reading.{Reading, reading, reading_after, messages_from}
-use Rattle.rh_streams.proofs.Bytes.{after_append, dead_reads, from_append, is_live}
-use Rattle.rh_streams.proofs.Hears.{Heard, IsExact, IsRefused, IsSame, Refuses, byte_heard, on_leg_append}
+use Rattle.rh_streams.specs.Streams.{is_live}
+use Rattle.rh_streams.proofs.Bytes.{after_append, dead_reads, from_append}
+use Rattle.rh_streams.proofs.Heads.{HeadBy, each_as, head_as, head_more, head_then, waited}
+use Rattle.rh_streams.proofs.Hears.{Heard, IsExact, IsRefused, IsSame, Judges, byte_heard, on_leg_append}
 use Rattle.rh_streams.specs.Turns.{Stages, AreInTurnFrom}
 use Rattle.rh_streams.proofs.Staging.{IsNext, all_stages, all_stages_append, in_turn_append}
-use Rattle.rh_streams.proofs.Ways.{either, way_as, way_none, way_then}
+use Rattle.rh_streams.proofs.Ways.{each_joined, either, way_as, way_none, way_then}
 
 pub prefix_of_none : (a : List Message) → IsPrefix a [] → a ≡ []
 prefix_of_none [] p = refl
@@ -107,6 +110,7 @@ module _ {S : Type 0} (rules : Rules S) where
         (record { live = l; all = refl; after = refl });
     heads = λ h. λ e. (e, refl);
     refused = λ r. absurd (unrefused u.stop on r);
+    texts = tt;
     turns = λ g. λ n. (tt, λ h. n);
     on = by (is_deaf rules u) refl;
     same = record { leg = refl; pipe = refl; begun = refl; standing = refl };
@@ -137,12 +141,28 @@ module _ {S : Type 0} (rules : Rules S) where
         first.front;
     exact = λ h. absurd cc;
     heads = first.heads;
-    refused = first.refused;
+    refused = λ r.
+        let b = first.refused r in (
+          b.0,
+          record {
+            text = b.1.text;
+            judges = more b.1.text b.1.judges;
+            fault = b.1.fault;
+            refuses = b.1.refuses;
+          },
+        );
+    texts =
+        each_as (HeadBy (Judges rules p end xs)) (HeadBy (Judges rules p end (xs ++ ys)))
+        first.way.moves (head_as (Judges rules p end xs) (Judges rules p end (xs ++ ys)) more)
+        first.texts;
     turns = first.turns;
     on = first.on;
     same = first.same;
     held = first.held;
   }
+    where
+      more : (text : List ℕ) → Judges rules p end xs text → Judges rules p end (xs ++ ys) text
+      more text j = (j.0, head_more end.intake xs ys text j.1)
 
   -- and another one that is heard
   heard_then : (p : Passage S) (end : NearEnd) (u v : Turn S) (xs ys : List ℕ)
@@ -186,9 +206,27 @@ module _ {S : Type 0} (rules : Rules S) where
         let still : first.passage ≡ p =
         sym first.way.reached ∙ ap (all_moved rules p) a.1 in (
           a.0,
-          subst (λ (l : Leg). Refuses rules p.role l) first.same.leg
-              (subst (λ (x : Passage S). Refuses rules x.role u.end.leg) still b.1),
+          record {
+            text = b.1.text;
+            judges = joined b.1.text b.1.judges;
+            fault = b.1.fault;
+            refuses =
+                subst (λ (l : Leg). (rules.head p.role l b.1.text).1
+                ≡ Err (head.Request b.1.fault)) first.same.leg
+                (subst (λ (x : Passage S). (rules.head x.role u.end.leg b.1.text).1
+                ≡ Err (head.Request b.1.fault)) still b.1.refuses);
+          },
         );
+    texts =
+        each_joined (HeadBy (Judges rules p end (xs ++ ys))) first.way.moves next.way.moves
+        (each_as (HeadBy (Judges rules p end xs)) (HeadBy (Judges rules p end (xs ++ ys)))
+        first.way.moves
+        (head_as (Judges rules p end xs) (Judges rules p end (xs ++ ys))
+        (λ text j. (j.0, head_more end.intake xs ys text j.1))) first.texts)
+        (each_as (HeadBy (Judges rules first.passage u.end ys))
+        (HeadBy (Judges rules p end (xs ++ ys))) next.way.moves
+        (head_as (Judges rules first.passage u.end ys) (Judges rules p end (xs ++ ys)) joined)
+        next.texts);
     turns = λ g. λ n.
         let a = first.turns g n in
         let h = all_stages rules p g first.way.moves in
@@ -217,6 +255,22 @@ module _ {S : Type 0} (rules : Rules S) where
 
       quiet : is_stopped u.stop ≡ false
       quiet = (either (is_stopped u.stop) (is_over rules u.end u.role) on).0
+
+      was_on : ((first.messages ≡ []) × (is_deaf rules u ≡ true))
+          ⊎ (is_over rules end p.role ≡ false) → is_over rules end p.role ≡ false
+      was_on (inl h) = absurd (let bad : true ≡ false = sym h.1 ∙ on in cc)
+      was_on (inr h) = h
+
+      -- a head behind the first bytes began with what is held
+      joined : (text : List ℕ) → Judges rules first.passage u.end ys text
+          → Judges rules p end (xs ++ ys) text
+      joined text j =
+          let e = first.exact on (ap is_live j.1.head) in (
+            was_on first.on,
+            head_then end.intake u.end.intake xs ys text
+                (waited end.pipe (reading end.intake.stage end.intake.held) xs u.end.intake.held
+                (e.after ∙ ap (λ s. reading s u.end.intake.held) j.1.head)) j.1,
+          )
 
   hear_none : (now : ℕ) (t : Turn S) → hear rules now t [] ≡ t
   unfolding hear

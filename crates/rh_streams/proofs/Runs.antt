@@ -4,12 +4,14 @@ use Rattle.std.specs.List.{AllByRecursion, list_any}
 use Rattle.std.specs.declared.option.Option.{Option}
 use Rattle.std.proofs.lemmas.List.Elements.{All-nil}
 use Rattle.std.proofs.lemmas.List.Folds.{list_any-append}
+use mathlib.Core.List.{IsPrefix}
 use Rattle.rh_http.specs.declared.fault.HttpFault.{HttpFault}
 use Rattle.rh_sig.specs.declared.name.Pipe.{Pipe}
 use Rattle.rh_line.specs.declared.leg.Leg.{Leg}
 use Rattle.rh_shell.specs.declared.answers.HeadRefused.TheVariants as head
 use Rattle.rh_shell.specs.declared.rooms.Rooms.{Rooms}
 use Rattle.rh_shell.specs.declared.stage.Stage.TheVariants as stage
+use Rattle.rh_shell.specs.Carrying.{spelled}
 use Rattle.rh_shell.specs.Moves.{Move, Passage, MayMove, is_in_use, moved, started}
 use Rattle.rh_shell.specs.Moving.{AreHeld, Event, ComesUp, Hears, Ends, Breaks, Draws, Ticks, IsHeld, after_event}
 use Rattle.rh_shell.specs.NearEnds.{first_stage}
@@ -17,18 +19,19 @@ use Rattle.rh_shell.specs.Rules.{Rules}
 use Rattle.rh_shell.specs.Shells.{Shell, begun, may_up, same_leg}
 use Rattle.rh_shell.specs.Wires.{of_leg}
 use Rattle.rh_history.specs.Carried.{IsAccepted, drawn_in, heard_in, is_up_of}
-use Rattle.rh_streams.specs.Streams.{ComesUpWith, IsCookie, is_head_on, is_up_on}
+use Rattle.rh_streams.specs.Streams.{ComesUpWith, IsCookie, is_head_on, is_refused_on, is_up_on}
 use Rattle.rh_streams.specs.Turns.{Stages, AreInTurnFrom, IsInTurn, none_up, stages_after}
 use Rattle.rh_streams.proofs.Staging.{all_stages, way_reached, way_stays}
 use Rattle.rh_streams.proofs.Ends.{AreApart, leg_is}
 use Rattle.rh_streams.proofs.Events.{IsFresh, Steps, event_steps, ups_of}
 use Rattle.rh_streams.proofs.Seats.{seat}
 use Rattle.rh_streams.proofs.Kept.{Kept, turns_keep}
+use Rattle.rh_streams.proofs.Going.{free_before, goes_keep}
 use Rattle.rh_streams.proofs.Turns.{Nowhere, Sits, IsStaged, Turns}
 use Rattle.rh_streams.proofs.Ways.{Lifts, each_joined, either}
 
 -- a passage with the node's role, which was reached, and what is kept of each leg; with cookies
--- alone, if the events have them
+-- alone, if the events have them; and what was drawn where the node refuses nobody
 pub record Ran {S : Type 0} (rules : Rules S) (pipes : Leg → Option Pipe) (Sound : Leg → Type 0)
     (MayRefuse HaveCookies : Type 0) (At : Passage S → List Move → Stages → Type 0) (s : Shell S)
     (heard drawn : Leg → List ℕ) (up : Leg → Bool) : Type 0 where
@@ -44,6 +47,8 @@ pub record Ran {S : Type 0} (rules : Rules S) (pipes : Leg → Option Pipe) (Sou
   pub staged : (leg : Leg) → IsStaged (stages leg) (seat leg s) (up leg)
   pub kept : (leg : Leg) → Kept rules (pipes leg) leg (Sound leg) MayRefuse passage moves
       (seat leg s) (heard leg) (drawn leg) (up leg)
+  pub unrefused : (leg : Leg) → is_refused_on leg s.course ≡ false
+      → IsPrefix (drawn leg) (spelled (of_leg leg passage.put))
 
 -- what an event asks of the legs that came up before
 pub record IsFit {S : Type 0} (rules : Rules S) (HaveCookies : Type 0) (s : Shell S)
@@ -73,6 +78,7 @@ module _ {S : Type 0} (rules : Rules S) (pipes : Leg → Option Pipe) (Sound : L
     staged = λ leg. record { on = tt; none = λ e. refl };
     kept = λ leg. record {
       front = ([], refl);
+      texts = tt;
       spells = λ sound. inl ([], refl);
       seat = tt;
       new = λ e. record {
@@ -84,6 +90,7 @@ module _ {S : Type 0} (rules : Rules S) (pipes : Leg → Option Pipe) (Sound : L
         undrawn = refl;
       };
     };
+    unrefused = λ leg is. ([], refl);
   }
 
   pub ran_as : (At : Passage S → List Move → Stages → Type 0) (s : Shell S)
@@ -111,6 +118,9 @@ module _ {S : Type 0} (rules : Rules S) (pipes : Leg → Option Pipe) (Sound : L
         (seat leg s) (heard leg) x (later leg)) (f leg)
         (subst (λ x. Kept rules (pipes leg) leg (Sound leg) MayRefuse ran.passage ran.moves
         (seat leg s) (heard leg) (drawn leg) x) (g leg) (ran.kept leg)));
+    unrefused = λ leg is.
+        subst (λ x. IsPrefix x (spelled (of_leg leg ran.passage.put))) (f leg)
+        (ran.unrefused leg is);
   }
 
   module _ (At : Passage S → List Move → Stages → Type 0)
@@ -128,6 +138,8 @@ module _ {S : Type 0} (rules : Rules S) (pipes : Leg → Option Pipe) (Sound : L
         → (ran : Ran rules pipes Sound MayRefuse HaveCookies At s heard drawn up)
         → (q : Passage S) (ns : List Move) (next : Stages) → Next q (ran.moves ++ ns) next
         → q.role ≡ t.role
+        → ((leg : Leg) → is_refused_on leg t.course ≡ false
+        → is_refused_on leg s.course ≡ false)
         → AreHeld t → AreApart t.legs
         → ((leg : Leg) → Turns rules (pipes leg) leg ran.passage q ns (seat leg s) (seat leg t)
         (bytes leg) (out leg) (up leg) (later leg))
@@ -140,8 +152,8 @@ module _ {S : Type 0} (rules : Rules S) (pipes : Leg → Option Pipe) (Sound : L
         → ((leg : Leg) → later leg ≡ false → bytes leg ≡ [])
         → Ran rules pipes Sound MayRefuse HaveCookies Next t (λ leg. heard leg ++ bytes leg)
         (λ leg. drawn leg ++ out leg) later
-    ran_by Next s t heard drawn bytes out up later ran q ns next at role held apart turned staged
-        raised with stays was none = record {
+    ran_by Next s t heard drawn bytes out up later ran q ns next at role free held apart turned
+        staged raised with stays was none = record {
           passage = q;
           moves = ran.moves ++ ns;
           stages = next;
@@ -154,17 +166,26 @@ module _ {S : Type 0} (rules : Rules S) (pipes : Leg → Option Pipe) (Sound : L
               list_any-append (is_up_on leg) ran.moves ns
               ∙ ap (λ b. b || list_any (is_up_on leg) ns) (ran.ups leg) ∙ raised leg;
           cookies = λ have. each_joined Lifts ran.moves ns (ran.cookies have) (with have);
-          kept = λ leg.
-              turns_keep rules (pipes leg) leg (Sound leg) MayRefuse ran.passage q ran.moves ns
-              (seat leg s) (seat leg t) (heard leg) (drawn leg) (bytes leg) (out leg) (up leg)
-              (ran.kept leg) (stays leg) (later leg)
-              (λ sound. λ text fault first headless refuses.
-              asked leg ran.passage ran.moves ran.stages text fault sound ran.at first headless
-              refuses)
-              (λ sound. λ wanted answers wants.
-              unreached leg ran.passage ran.moves ran.stages wanted sound ran.at answers wants)
-              (turned leg) (was leg) (none leg);
+          kept = kept;
+          unrefused = λ leg is.
+              goes_keep rules (pipes leg) leg (Sound leg) MayRefuse ran.passage q (ran.moves ++ ns)
+              ns s t (heard leg ++ bytes leg) (drawn leg) (bytes leg) (out leg) (up leg)
+              (later leg) (free leg is) (ran.unrefused leg (free leg is)) (kept leg) (turned leg);
         }
+      where
+        kept : (leg : Leg)
+            → Kept rules (pipes leg) leg (Sound leg) MayRefuse q (ran.moves ++ ns) (seat leg t)
+            (heard leg ++ bytes leg) (drawn leg ++ out leg) (later leg)
+        kept leg =
+            turns_keep rules (pipes leg) leg (Sound leg) MayRefuse ran.passage q ran.moves ns
+            (seat leg s) (seat leg t) (heard leg) (drawn leg) (bytes leg) (out leg) (up leg)
+            (ran.kept leg) (stays leg) (later leg)
+            (λ sound. λ text fault first headless refuses.
+            asked leg ran.passage ran.moves ran.stages text fault sound ran.at first headless
+            refuses)
+            (λ sound. λ wanted answers wants.
+            unreached leg ran.passage ran.moves ran.stages wanted sound ran.at answers wants)
+            (turned leg) (was leg) (none leg)
 
     module _ (more : (p : Passage S) (ms : List Move) (g : Stages) (move : Move) → At p ms g
         → MayMove rules p.role move → IsInTurn rules p.role g move
@@ -187,7 +208,7 @@ module _ {S : Type 0} (rules : Rules S) (pipes : Leg → Option Pipe) (Sound : L
           step.passage step.way.moves (all_stages rules ran.passage ran.stages step.way.moves)
           (way_reached rules At more stays step.heads (ups_of rules pipes up event) ran.passage
           step.passage ran.moves ran.stages step.way staged.0 ran.at)
-          step.role step.held step.apart step.turned staged.1
+          step.role (λ leg. free_before rules leg s event) step.held step.apart step.turned staged.1
           (λ leg. ap (λ b. up leg || b) (step.way.raised leg ∙ comes event leg))
           (λ have. step.cookies (fit.cookie have))
           (λ leg rose.

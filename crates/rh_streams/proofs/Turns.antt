@@ -176,6 +176,7 @@ module _ {S : Type 0} (rules : Rules S) (pipe : Option Pipe) (leg : Leg) where
     pub after : t ≡ Answers left
     pub cut : rest ≡ out ++ left
     pub passage : q ≡ p
+    pub headless : list_any (is_head_on leg) moves ≡ false
 
   pub record Coming (p q : Passage S) (moves : List Move) (t : Seat) (bytes out : List ℕ)
       (up later : Bool) : Type 0 where

@@ -8,21 +8,26 @@ use Rattle.rh_rts.specs.declared.command.Cookie.{Cookie}
 use Rattle.rh_rts.specs.declared.command.TheConstants.{COOKIE_LEN}
 use Rattle.rh_http.specs.declared.fault.HttpFault.{HttpFault}
 use Rattle.rh_http.specs.declared.refusal.Refusal.{Refusal}
+use Rattle.rh_http.specs.declared.refusal.Refusal.TheVariants.{Unavailable}
 use Rattle.rh_http.specs.Texts.{refusal_text}
 use Rattle.rh_sig.specs.declared.name.Pipe.{Pipe}
 use Rattle.rh_line.specs.declared.leg.Leg.{Leg}
 use Rattle.rh_shell.specs.declared.answers.HeadRefused.TheVariants as head
+use Rattle.rh_shell.specs.declared.course.Course.{Course}
+use Rattle.rh_shell.specs.declared.course.Course.TheVariants.{Going, Closed, Refusing}
 use Rattle.rh_shell.specs.declared.rooms.Rooms.{Rooms}
+use Rattle.rh_shell.specs.declared.stage.Stage.{Stage}
 use Rattle.rh_shell.specs.declared.stage.Stage.TheVariants as stage
 use Rattle.rh_shell.specs.Carrying.{spelled, accepted, handed}
 use Rattle.rh_shell.specs.Ends.{give}
-use Rattle.rh_shell.specs.Moves.{Move, Up, EndMove, Moves, Passage, EndPassage, started, end_started, moved, all_moved, MayMove, AreAllowed, end_moved, all_end_moved, MayEndMove, AreAllowedAtEnd, is_in_use}
+use Rattle.rh_shell.specs.Intakes.{Intake, is_whole_head}
+use Rattle.rh_shell.specs.Moves.{Move, Up, HeadCame, EndMove, Moves, Passage, EndPassage, started, end_started, moved, all_moved, MayMove, AreAllowed, end_moved, all_end_moved, MayEndMove, AreAllowedAtEnd, is_in_use}
 use Rattle.rh_shell.specs.Moving.{Event, ComesUp, Hears, EndEvent, IsGiven, IsTaken, after_events, after_end_event, after_end_events, Leads, EndLeads}
-use Rattle.rh_shell.specs.NearEnds.{first_stage}
+use Rattle.rh_shell.specs.NearEnds.{NearEnd, first_stage, is_over}
 use Rattle.rh_shell.specs.Rules.{Rules, Acts, Message}
-use Rattle.rh_shell.specs.Shells.{Shell, begun, same_leg}
+use Rattle.rh_shell.specs.Shells.{Shell, begun, end_at, same_leg}
 use Rattle.rh_shell.specs.Wires.{of_leg}
-use Rattle.rh_reading.specs.Reading.{messages_read}
+use Rattle.rh_reading.specs.Reading.{IsWholeText, begin, messages_read, reading, reading_after}
 use Rattle.rh_history.specs.Carried.{heard_on, drawn_on, end_drawn_on, came_up, happened}
 use Rattle.rh_streams.specs.Turns.{AreInTurn, RefusesInTurn}
 pub use Rattle.rh_streams.specs.Turns.{is_head_on}
@@ -78,9 +83,66 @@ IsDrawn put bytes =
     IsPrefix bytes (spelled put)
     ⊎ ((put ≡ []) × (refusal : Refusal) × IsPrefix bytes (refusal_text refusal))
 
+-- where bytes are read
+abbrev pub is_live : Stage → Bool
+is_live stage.Head = true
+is_live stage.Greeting = true
+is_live stage.Frames = true
+is_live stage.PassedOver = false
+is_live stage.Shut = false
+
+-- the text is the head with which the bytes begin
+pub record IsFirstHead (text bytes : List ℕ) : Type 0 where
+  pub whole : IsWholeText is_whole_head text
+  pub front : IsPrefix text bytes
+
+-- a head that came on the leg by the move is the one with which the bytes there begin
+abbrev pub IsHeadOf : Leg → List ℕ → Move → Type 0
+IsHeadOf leg heard (HeadCame other text) = same_leg other leg ≡ true → IsFirstHead text heard
+IsHeadOf leg heard move = Unit {0}
+
+-- a head with which the bytes begin was refused on the leg, by the role as it was then
+pub record RefusesText {S : Type 0} (rules : Rules S) (leg : Leg) (heard : List ℕ) : Type 0 where
+  pub role : S
+  pub text : List ℕ
+  pub stands : IsFirstHead text heard
+  pub fault : HttpFault
+  pub refuses : (rules.head role leg text).1 ≡ Err (head.Request fault)
+
+-- what was drawn is a front of a refusal alone, for a leg that cannot be connected or for a head
+-- that was refused
+pub record RefusalDrawn {S : Type 0} (rules : Rules S) (leg : Leg) (put : List Message)
+    (heard drawn : List ℕ) : Type 0 where
+  pub none : put ≡ []
+  pub refusal : Refusal
+  pub front : IsPrefix drawn (refusal_text refusal)
+  pub why : (refusal ≡ Unavailable) ⊎ RefusesText rules leg heard
+
+-- all messages in the bytes came, and the intake stands where their reading does
+pub record IsReadTo (pipe : Option Pipe) (came : List Message) (heard : List ℕ) (intake : Intake)
+    : Type 0 where
+  pub all : came ≡ messages_read pipe heard
+  pub after : reading_after pipe (begin pipe) heard ≡ reading intake.stage intake.held
+
+-- what a node that goes on keeps of a leg, of which it reads the pipe: what was put there spells
+-- what was drawn, and then what is begun; and while the leg is of use and its bytes are read, they
+-- are read to where it stands
+pub record Seated {S : Type 0} (rules : Rules S) (role : S) (pipe : Option Pipe)
+    (came put : List Message) (heard drawn : List ℕ) (end : NearEnd) : Type 0 where
+  pub pipe_is : end.pipe ≡ pipe
+  pub spells : spelled put ≡ drawn ++ end.begun
+  pub reads : is_over rules end role ≡ false → is_live end.intake.stage ≡ true
+      → IsReadTo pipe came heard end.intake
+
+-- the node draws a refusal on the leg
+abbrev pub is_refused_on : Leg → Course → Bool
+is_refused_on leg Going = false
+is_refused_on leg (Closed why) = false
+is_refused_on leg (Refusing why client rest) = same_leg client leg
+
 -- moves that are allowed lead to the node's role, each in its turn; what they took on each leg is a
 -- front of what is read in the bytes that were heard there, and the bytes that were drawn are those
--- that they put
+-- that they put, all while the node goes on, and where it refuses nobody on the leg
 pub record Stream {S : Type 0} (rules : Rules S) (first : S) (rooms : Rooms)
     (pipe : Leg → Option Pipe) (events : List Event) : Type 0 where
   pub passage : Passage S
@@ -93,6 +155,26 @@ pub record Stream {S : Type 0} (rules : Rules S) (first : S) (rooms : Rooms)
       → IsPrefix (of_leg leg passage.came) (messages_read (pipe leg) (heard_on leg events))
   pub drawn : (leg : Leg) → RefusesInTurn rules first pipe leg
       → IsDrawn (of_leg leg passage.put) (drawn_on rules (begun first rooms) leg events)
+  -- so each head that came, and why the client was refused
+  pub heads : (leg : Leg) → AllByRecursion (IsHeadOf leg (heard_on leg events)) leads.moves
+  pub refused : (leg : Leg) → RefusesInTurn rules first pipe leg
+      → (let bytes = drawn_on rules (begun first rooms) leg events in
+      IsPrefix bytes (spelled (of_leg leg passage.put))
+      ⊎ RefusalDrawn rules leg (of_leg leg passage.put) (heard_on leg events) bytes)
+  pub goes : (leg : Leg) → (after_events rules (begun first rooms) events).course ≡ Going
+      → IsPrefix (drawn_on rules (begun first rooms) leg events)
+      (spelled (of_leg leg passage.put))
+  pub unrefused : (leg : Leg)
+      → is_refused_on leg (after_events rules (begun first rooms) events).course ≡ false
+      → IsPrefix (drawn_on rules (begun first rooms) leg events)
+      (spelled (of_leg leg passage.put))
+  pub seats : (leg : Leg) (end : NearEnd)
+      → (let node = after_events rules (begun first rooms) events in
+      node.course ≡ Going → end_at node leg ≡ Some end
+      → Seated rules node.role (pipe leg) (of_leg leg passage.came) (of_leg leg passage.put)
+      (heard_on leg events) (drawn_on rules (begun first rooms) leg events) end)
+  -- nothing was put on a leg that did not come up
+  pub unput : (leg : Leg) → came_up leg events ≡ false → of_leg leg passage.put ≡ []
 
 -- ---- and at an end
 
@@ -179,3 +261,11 @@ pub record EndStream {S : Type 0} (rules : Rules S) (acts : Acts S) (first : S) 
   pub drawn : (leg : Leg)
       → IsPrefix (end_drawn_on rules acts (begun first rooms) leg events)
       (spelled (of_leg leg passage.passage.put))
+  pub seats : (leg : Leg) (end : NearEnd)
+      → (let node = after_end_events rules acts (begun first rooms) events in
+      node.course ≡ Going → end_at node leg ≡ Some end
+      → Seated rules node.role (pipe leg) (of_leg leg passage.passage.came)
+      (of_leg leg passage.passage.put) (heard_on leg (happened events))
+      (end_drawn_on rules acts (begun first rooms) leg events) end)
+  pub unput : (leg : Leg) → came_up leg (happened events) ≡ false
+      → of_leg leg passage.passage.put ≡ []

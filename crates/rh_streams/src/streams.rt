@@ -19,6 +19,11 @@ use rh_shell::{EndRole, Role};
 /// front of the messages in the bytes that were heard; the bytes that were drawn are a front of
 /// those that they put, or of a refusal where nothing was put.
 ///
+/// Each head that came on a leg is the one with which the bytes there begin, whole at its end and
+/// not before; and the client is refused for a leg that cannot be connected, or for such a head.
+/// While the node goes on, it drew a front of what its role put, and what an end of it holds is
+/// what is left of all bytes that it heard there.
+///
 /// It rests on what each role has to see to: the pipe of a leg never changes, a leg that is not in
 /// use comes in use by coming up alone, and each comes up once. And for what was drawn: where the
 /// client is refused on a leg by moves in their turn, nothing was put there before.
@@ -31,7 +36,8 @@ pub fn a_nodes_stream<R: Role>()
 
 /// The same at an end, which refuses no client: what was drawn is a front of what its role put. The
 /// PDUs that were given and taken are those that the end accepted, and those that it handed out.
-/// Where the legs came up by events with cookies of 16 bytes alone, so they did by the moves.
+/// Where the legs came up by events with cookies of 16 bytes alone, so they did by the moves. While
+/// it goes on, what is held on a leg is what is left of all bytes that it heard there.
 pub fn an_ends_stream<R: EndRole>()
     ensures { (first : R) (rooms : Rooms) (pipe : Leg → Option Pipe) (events : List EndEvent)
         → ((s : R) (leg : Leg) → R.rules.pipe s leg ≡ pipe leg) → NeverRefuses R.rules

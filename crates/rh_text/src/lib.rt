@@ -7,8 +7,6 @@ pub mod ends;
 pub mod grammar;
 pub mod lines;
 pub mod numbers;
-#[cfg(test)]
-mod tests;
 pub mod writing;
 
 pub use bytes::Bytes;

@@ -3,6 +3,8 @@ mod InTurn
 mod HeardBefore
 mod Readers
 mod Openings
+mod Led
+pub mod ByChanges
 mod Remembering
-mod LostLegs
+pub mod LostLegs
 mod RefusedDraws

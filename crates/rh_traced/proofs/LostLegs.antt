@@ -27,7 +27,7 @@ use Rattle.rh_causes.specs.Closings.{ClosesWith}
 use Rattle.rh_causes.specs.Refusals.{MayRefuseOn}
 use Rattle.rh_traced.specs.Refusals.{IsAmong, HasReason}
 
-one_cause : (c : Course) (a b : Cause) → ClosedWith a c → ClosedWith b c → a ≡ b
+pub one_cause : (c : Course) (a b : Cause) → ClosedWith a c → ClosedWith b c → a ≡ b
 one_cause Going a b h k = absurd h
 one_cause (Closed first) a b h k = sym h ∙ k
 one_cause (Refusing first leg rest) a b h k = sym h ∙ k
@@ -78,6 +78,58 @@ module _ {S : Type 0} (rules : Rules S) (s : Shell S) (going : s.course ≡ Goin
   goes_on (moving.Breaks other) q = absurd (true≢false q)
   goes_on (moving.Ticks now) q = absurd (true≢false q)
 
+-- an event that closes a node is told it
+pub record ClosesNow {S : Type 0} (rules : Rules S) (s : Shell S) (why : Cause) (e : moving.Event)
+    : Type 0 where
+  pub news : Event
+  pub is : heard news ≡ e
+  pub closing : ClosesWith rules s news why
+
+module _ {S : Type 0} (rules : Rules S) (s : Shell S) (going : s.course ≡ Going) (why : Cause) where
+  verdict_is : (t : Shell S) → ClosedWith why t.course
+      → verdict_by (state_of rules t) ≡ verdict.Closed why
+  verdict_is t h = by t.course h
+    where
+      by : (c : Course) → ClosedWith why c
+          → verdict_by (state_by c (rules.phase t.role)) ≡ verdict.Closed why
+      by Going h = absurd h
+      by (Closed first) h = ap verdict.Closed h
+      by (Refusing first leg rest) h = ap verdict.Closed h
+
+  -- what closes a node that goes on closes it with the cause that it has then
+  closes : (t : Shell S) → ClosedWith why t.course
+      → (told (state_of rules s) (with_verdict rules t)).1 ≡ Some why
+  closes t h =
+      ap (λ c. closing (state_by c (rules.phase s.role)) (verdict_by (state_of rules t))) going
+      ∙ closing_is (rules.phase s.role) (verdict_by (state_of rules t)) why (verdict_is t h)
+
+  pub closes_now : (e : moving.Event) → ClosedWith why (after_event rules s e).course
+      → ClosesNow rules s why e
+  closes_now (moving.ComesUp other cookie) h =
+      absurd (subst (ClosedWith why) (comes_up rules s going other cookie) h)
+  closes_now (moving.Hears other piece) h = record {
+    news = Comes other piece;
+    is = refl;
+    closing = closes (after_event rules s (moving.Hears other piece)) h;
+  }
+  closes_now (moving.Ends other) h = record {
+    news = Ends other;
+    is = refl;
+    closing = closes (after_event rules s (moving.Ends other)) h;
+  }
+  closes_now (moving.Breaks other) h = record {
+    news = Breaks other;
+    is = refl;
+    closing = closes (after_event rules s (moving.Breaks other)) h;
+  }
+  closes_now (moving.Draws other room) h =
+      absurd (subst (ClosedWith why) (draws rules s going other room) h)
+  closes_now (moving.Ticks now) h = record {
+    news = Passes now;
+    is = refl;
+    closing = closes (after_event rules s (moving.Ticks now)) h;
+  }
+
 -- ---- a node that closed
 
 module _ {S : Type 0} (rules : Rules S)
@@ -85,49 +137,11 @@ module _ {S : Type 0} (rules : Rules S)
     → ClosesWith rules node event (cause.LegBroken leg) → event ≡ Breaks leg)
     (kept : (node : Shell S) (why : Cause) (later : List moving.Event)
     → ClosedWith why node.course → ClosedWith why (after_events rules node later).course) where
-  verdict_is : (s : Shell S) (why : Cause) → ClosedWith why s.course
-      → verdict_by (state_of rules s) ≡ verdict.Closed why
-  verdict_is s why h = by s.course h
-    where
-      by : (c : Course) → ClosedWith why c
-          → verdict_by (state_by c (rules.phase s.role)) ≡ verdict.Closed why
-      by Going h = absurd h
-      by (Closed first) h = ap verdict.Closed h
-      by (Refusing first leg rest) h = ap verdict.Closed h
-
-  module _ (s : Shell S) (going : s.course ≡ Going) (leg : Leg) where
-    abbrev why : Cause
-    why = cause.LegBroken leg
-
-    -- what closes a node that goes on closes it with the cause that it has then
-    closes : (t : Shell S) → ClosedWith why t.course
-        → (told (state_of rules s) (with_verdict rules t)).1 ≡ Some why
-    closes t h =
-        ap (λ c. closing (state_by c (rules.phase s.role)) (verdict_by (state_of rules t))) going
-        ∙ closing_is (rules.phase s.role) (verdict_by (state_of rules t)) why
-        (verdict_is t why h)
-
-    still_going : ClosedWith why s.course → ⊥
-    still_going h = subst (ClosedWith why) going h
-
-    pub broke_now : (e : moving.Event) → ClosedWith why (after_event rules s e).course
-        → e ≡ moving.Breaks leg
-    broke_now (moving.ComesUp other cookie) h =
-        absurd (subst (ClosedWith why) (comes_up rules s going other cookie) h)
-    broke_now (moving.Hears other piece) h =
-        let is = comes_from s (Comes other piece) leg
-        (closes (after_event rules s (moving.Hears other piece)) h) in absurd cc
-    broke_now (moving.Ends other) h =
-        let is = comes_from s (Ends other) leg
-        (closes (after_event rules s (moving.Ends other)) h) in absurd cc
-    broke_now (moving.Breaks other) h =
-        ap heard (comes_from s (Breaks other) leg
-        (closes (after_event rules s (moving.Breaks other)) h))
-    broke_now (moving.Draws other room) h =
-        absurd (subst (ClosedWith why) (draws rules s going other room) h)
-    broke_now (moving.Ticks now) h =
-        let is = comes_from s (Passes now) leg
-        (closes (after_event rules s (moving.Ticks now)) h) in absurd cc
+  pub broke_now : (s : Shell S) → s.course ≡ Going → (leg : Leg) (e : moving.Event)
+      → ClosedWith (cause.LegBroken leg) (after_event rules s e).course → e ≡ moving.Breaks leg
+  broke_now s going leg e h =
+      let now = closes_now rules s going (cause.LegBroken leg) e h in
+      sym now.is ∙ ap heard (comes_from s now.news leg now.closing)
 
   -- the first event that closed the node, or one behind it
   broke_here : (s : Shell S) (e : moving.Event) (events : List moving.Event) (leg : Leg)
@@ -164,7 +178,7 @@ module _ {S : Type 0} (rules : Rules S)
   pub broke : (s : Shell S) (events : List moving.Event) (leg : Leg) → s.course ≡ Going
       → ClosedWith (cause.LegBroken leg) (after_events rules s events).course
       → IsAmong (moving.Breaks leg) events
-  broke s [] leg going h = absurd (still_going s going leg h)
+  broke s [] leg going h = absurd (subst (ClosedWith (cause.LegBroken leg)) going h)
   broke s (e ∷ events) leg going h =
       broke_here s e events leg going h
       (λ next. broke (after_event rules s e) events leg next h)

@@ -31,20 +31,15 @@ pub record AreRead (readers : List ℕ) (made : ℕ → Bool) : Type 0 where
   -- there is no channel 0
   pub none : reader_of readers 0 ≡ 0
 
--- ---- where lines have legs up
+-- ---- where legs come up
 
--- a channel that came up at the client has an in proxy of its own; or it has the reader of the
--- channel before it, and came up there as well
+-- a channel that has a reader has an in proxy of its own; or it has the reader of the channel
+-- before it, and came up there
 abbrev pub AreOpened : List ℕ → (ℕ → Bool) → History → Type 0
 AreOpened readers made h =
-    (n : ℕ) → 0 < n → came_up (leg_at ClientIn n) (happened h.client) ≡ true
+    (n : ℕ) → reader_of readers n ≢ 0
     → (made n ≡ true) ⊎ ((reader_of readers n ≡ reader_of readers (n - 1))
     × (came_up (leg_at ClientIn n) (h.ins (reader_of readers n)) ≡ true))
-
--- a leg of an in proxy that came up at the server is of one that was made
-abbrev pub AreJoined : (ℕ → Bool) → History → Type 0
-AreJoined made h =
-    (n : ℕ) → came_up (leg_at InServer n) (happened h.server) ≡ true → made n ≡ true
 
 -- a leg comes up under a cookie of 16 bytes (MS-RPCH 2.2.3.1)
 abbrev pub HasWholeCookie : Event → Type 0
@@ -54,7 +49,7 @@ HasWholeCookie event = Unit {0}
 abbrev pub HaveWholeCookies : List Event → Type 0
 HaveWholeCookies events = AllByRecursion HasWholeCookie events
 
--- which channels and legs came up where, in a world that lines led to
+-- which channels came up where, in a world that changes led to
 pub record ComeUpInOrder {K C S I O : Type 0} (v : World K C S I O) (h : History)
     : Type 0 where
   -- there is no in proxy 0, and nothing happens at one that was not made
@@ -65,6 +60,26 @@ pub record ComeUpInOrder {K C S I O : Type 0} (v : World K C S I O) (h : History
   pub reads : (m n : ℕ) → came_up (leg_at ClientIn n) (h.ins m) ≡ true
       → reader_of v.readers n ≡ m
   pub opened : AreOpened v.readers (is_made v.company) h
-  pub joined : AreJoined (is_made v.company) h
+  -- there is no channel 0
+  pub unread : reader_of v.readers 0 ≡ 0
   -- the client has the cookies of its legs
   pub cookies : HaveWholeCookies (happened h.client)
+
+-- ---- where lines have legs up
+
+-- a channel that came up at the client is read
+abbrev pub AreLed : List ℕ → History → Type 0
+AreLed readers h =
+    (n : ℕ) → 0 < n → came_up (leg_at ClientIn n) (happened h.client) ≡ true
+    → reader_of readers n ≢ 0
+
+-- a leg of an in proxy that came up at the server is of one that was made
+abbrev pub AreJoined : (ℕ → Bool) → History → Type 0
+AreJoined made h =
+    (n : ℕ) → came_up (leg_at InServer n) (happened h.server) ≡ true → made n ≡ true
+
+-- in a world that lines led to; half steps need not keep it
+pub record ComeUpByLines {K C S I O : Type 0} (v : World K C S I O) (h : History)
+    : Type 0 where
+  pub led : AreLed v.readers h
+  pub joined : AreJoined (is_made v.company) h

@@ -2,13 +2,15 @@
 //! are together. Its functions do nothing: their contracts are the laws.
 #![tactic(auto)]
 
+pub mod changes;
 pub mod numbers;
 pub mod once;
 pub mod recordings;
 pub mod refusals;
 pub mod turns;
 
-pub use numbers::{lines_come_up_in_order, proxies_are_numbered};
+pub use changes::turns_are_changes;
+pub use numbers::{channels_come_up_in_order, proxies_are_numbered};
 pub use once::legs_of_roles_come_up_once;
 pub use recordings::a_recording_of_roles_is_known;
 pub use refusals::{

@@ -12,7 +12,8 @@ ghost use Rattle.rh_nodes.specs.World.{World};
 ghost use Rattle.rh_history.specs.Carried.{IsTraced, LegsComeUpOnce, came_up, events_of};
 ghost use Rattle.rh_history.specs.Changes.{ByLines, Change, Leads, MayChange, changed};
 ghost use Rattle.rh_history.specs.Histories.{History, IsNew, all_noted, nothing};
-ghost use Rattle.rh_traced.specs.Numbers.{AreRead, ComeUpInOrder, is_made};
+ghost use Rattle.rh_traced.specs.Cookies.{ByChanges};
+ghost use Rattle.rh_traced.specs.Numbers.{AreRead, ComeUpByLines, ComeUpInOrder, is_made};
 
 /// In every world that is reached from a new one an in proxy that was made reads the channel of its
 /// number. Each channel that has a reader came up at the client, and is read by an in proxy that
@@ -33,13 +34,18 @@ pub fn proxies_are_numbered<K, C, S, I, O>()
         → came_up (leg_at ClientIn n) (events_of h Client) ≡ true }
 {}
 
-/// In every world that lines lead to from a new one each IN channel that came up at the client has
-/// an in proxy of its own number; or it has the reader of the channel before it, and came up there
-/// as well. A leg of an in proxy came up at the server where that was made, and each leg of the
-/// client under a cookie of 16 bytes. Half steps need not keep it.
-pub fn lines_come_up_in_order<K, C, S, I, O>()
-    ensures { (r : Rulebook C S I O) (m : Makers K I O) (d : Deeds C S)
+/// In every world that changes lead to from a new one, of lines and half steps, each IN channel that
+/// has a reader has an in proxy of its own number; or it has the reader of the channel before it,
+/// and came up there as well. Each leg of the client came up under a cookie of 16 bytes, as those of
+/// the changes are. Where lines alone led there, each IN channel that came up at the client is read, and each
+/// leg of an in proxy that came up at the server is of one that was made.
+pub fn channels_come_up_in_order<K, C, S, I, O>()
+    ensures changes { (r : Rulebook C S I O) (m : Makers K I O) (d : Deeds C S)
+        (w v : World K C S I O) → IsNew w → LegsComeUpOnce r m d w.company w.cast
+        → (by : ByChanges r m d w v)
+        → ComeUpInOrder v (all_noted r m d w nothing by.leads.changes) }
+    ensures lines { (r : Rulebook C S I O) (m : Makers K I O) (d : Deeds C S)
         (w v : World K C S I O) → IsNew w → LegsComeUpOnce r m d w.company w.cast
         → (lines : ByLines r m d w v)
-        → ComeUpInOrder v (all_noted r m d w nothing lines.leads.changes) }
+        → ComeUpByLines v (all_noted r m d w nothing lines.leads.changes) }
 {}

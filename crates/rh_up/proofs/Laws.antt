@@ -1,5 +1,5 @@
 -- the laws of the roles and of reading on which the route stands, each as its own crate says it
-use Rattle.std.specs.Prelude.{ℕ, ◌≡◌, ◌≢◌, ◌<◌, ◌≤◌, List, [], Bool, false, true, Some}
+use Rattle.std.specs.Prelude.{ℕ, ◌≡◌, ◌≢◌, List, [], Bool, false, Some}
 use Rattle.std.proofs.Common.{refl, sym, ◌∙◌, subst}
 use Rattle.rh_http.specs.declared.config.ClientConfig.{ClientConfig}
 use Rattle.std.specs.declared.option.Option.{Option}
@@ -25,11 +25,10 @@ use Rattle.rh_server.specs.Servers as server
 use Rattle.rh_server.specs.States.{Server}
 use Rattle.rh_streams.specs.Streams.{RefusesFirst}
 use Rattle.rh_streams.specs.Turns.{RefusesInTurn}
-use Rattle.rh_ends_begin.specs.Begins.{BeginsLegs, WritesOnUp}
+use Rattle.rh_ends_begin.specs.Begins.{BeginsLegs}
 use Rattle.rh_proxies_begin.specs.Pipes.{ci as client_leg, is as server_leg, in_pipe}
 use Rattle.rh_up.specs.Up.{GoesUp}
 use Rattle.rh_up.proofs.JoinedLegs.{Carries, ComesToNothing}
-use Rattle.rh_up.proofs.Rising.{end_rose}
 
 abbrev proxy_moved : InProxyConfig → List Move → Passage InProxy
 proxy_moved config moves = all_moved proxy.rules (started (first config)) moves
@@ -52,8 +51,6 @@ pub record Laws : Type 0 where
   -- what is put first on each leg
   pub requests : (config : ClientConfig) (moves : List EndMove) → AreAllowedMoves config moves
       → BeginsLegs pipe_put (client_moved config moves).passage.put
-  pub writes : (config : ClientConfig) (moves : List EndMove) → AreAllowedMoves config moves
-      → WritesOnUp moves (client_moved config moves)
   pub begins : (config : InProxyConfig) (moves : List Move)
       → AreAllowed proxy.rules (started (first config)) moves
       → Begins (Some IsU) (of_leg (server_leg config.number) (proxy_moved config moves).put)
@@ -69,23 +66,17 @@ pub record Laws : Type 0 where
   pub carries : Carries
   pub nothing : ComesToNothing
 
--- what is put first on each leg; and a client writes on a channel behind the first only once its
--- leg came up
-pub record AreBegun (config : ClientConfig) (in_config : ℕ → InProxyConfig)
-    (client_moves : List EndMove) (c : EndPassage ClientRole) (i : ℕ → Passage InProxy)
-    : Type 0 where
+-- what is put first on each leg
+pub record AreBegun (c : EndPassage ClientRole) (i : ℕ → Passage InProxy) : Type 0 where
   pub client : (n : ℕ) → Begins (Some CiU) (of_leg (client_leg n) c.passage.put)
   pub proxies : (m : ℕ) → Begins (Some IsU) (of_leg (server_leg m) (i m).put)
   pub lone : (m n : ℕ) → n ≢ m → of_leg (server_leg n) (i m).put ≡ []
-  pub wrote : (n : ℕ) → 0 < n → n ≤ c.passage.role.writing.number
-      → 1 < c.passage.role.writing.number → end_rose (client_leg n) client_moves ≡ true
 
 module _ (laws : Laws) (config : ClientConfig) (window : ℕ) (in_config : ℕ → InProxyConfig)
     (client_events server_events : List EndEvent) (ins : ℕ → List Event) (made : ℕ → Bool)
     (reader : ℕ → ℕ)
     (g : GoesUp config window in_config client_events server_events ins made reader) where
-  pub are_begun : AreBegun config in_config g.giver.leads.moves g.giver.passage
-      (λ n. (g.proxies n).passage)
+  pub are_begun : AreBegun g.giver.passage (λ n. (g.proxies n).passage)
   are_begun = record {
     client = λ n. requests.begins (client_leg n);
     proxies = λ m.
@@ -100,14 +91,9 @@ module _ (laws : Laws) (config : ClientConfig) (window : ℕ) (in_config : ℕ �
         (laws.elsewhere (in_config m) (g.proxies m).leads.moves (server_leg n)
         (g.proxies m).leads.allowed refl
         (test_other (in_config m).number n (λ e. other (sym e ∙ g.numbered m))));
-    wrote = writes.writing;
   }
     where
       requests : BeginsLegs pipe_put g.giver.passage.passage.put
       requests = subst (λ (p : EndPassage ClientRole). BeginsLegs pipe_put p.passage.put)
           g.giver.leads.reached
           (laws.requests config g.giver.leads.moves g.giver.leads.allowed)
-
-      writes : WritesOnUp g.giver.leads.moves g.giver.passage
-      writes = subst (WritesOnUp g.giver.leads.moves) g.giver.leads.reached
-          (laws.writes config g.giver.leads.moves g.giver.leads.allowed)

@@ -1,14 +1,14 @@
-mod LegLogs
+pub mod LegLogs
 mod Rising
 mod Counts
 mod Told
 mod Unread
-mod JoinedLegs
+pub mod JoinedLegs
 mod ServerLegs
 mod ServerPuts
 mod ServerMoves
 mod InProxySteps
 mod InProxyMoves
-mod Laws
+pub mod Laws
 mod Passed
 mod Numbered

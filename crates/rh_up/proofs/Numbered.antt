@@ -1,20 +1,18 @@
 -- which in proxy reads which channel, and which legs the server knows
-use Rattle.std.proofs.Common.{◌≡◌, ◌⊎◌, ℕ, zero, suc, ◌+◌, ◌-◌, ◌==◌, ◌<◌, ◌≤◌, ◌||◌, List, [], Bool, true, false, nat_eq, nat_lt, refl, sym, ap, ◌∙◌, subst, arith, inl, inr}
-use Rattle.std.proofs.lemmas.Bool.{or_right}
+use Rattle.std.proofs.Common.{◌≡◌, ◌≢◌, ◌⊎◌, ℕ, zero, suc, ◌+◌, ◌-◌, ◌==◌, ◌<◌, ◌≤◌, ◌&&◌, ◌||◌, List, [], Bool, true, false, not, nat_eq, nat_lt, refl, sym, ap, ◌∙◌, subst, arith, inl, inr, ⊎_elim}
+use Rattle.std.proofs.lemmas.Bool.{true≢false, cases_eq, and_parts, eq-eqb, lt-ltb, ltb-true, or_right}
 use Rattle.std.proofs.lemmas.Bool.Decides.{nat_tests}
 use Rattle.std.specs.Prelude.{if◌then◌else◌}
-use mathlib.Core.List.{IsPrefix}
 use Rattle.rh_http.specs.declared.config.ClientConfig.{ClientConfig}
 use Rattle.rh_order.specs.Items.{Item, has_handover}
-use Rattle.rh_order.specs.Giving.{GiverLaw}
+use Rattle.rh_order.specs.Logs.{Log}
 use Rattle.rh_order.specs.Passing.{PasserLaw}
 use Rattle.rh_order.specs.Routes.{Route, IsRoute}
+use Rattle.rh_order.specs.Taking.{Taker, TakerLaw}
 use Rattle.rh_order.proofs.ByNumber.{same_number, other_number, test_other}
-use Rattle.rh_order.proofs.ItemLists.{has_handover-append}
 use Rattle.rh_shell.specs.Moves.{EndPassage, end_started}
 use Rattle.rh_shell.specs.Moving.{Event, EndEvent}
-use Rattle.rh_history.specs.Carried.{came_up, happened}
-use Rattle.rh_client.specs.Order as client_order
+use Rattle.rh_history.specs.Carried.{came_up}
 use Rattle.rh_inproxy.specs.declared.state.InProxyConfig.{InProxyConfig}
 use Rattle.rh_inproxy.specs.declared.state.Successor.{Successor}
 use Rattle.rh_inproxy.specs.declared.state.Successor.TheVariants.{Absent, Up, Joined}
@@ -24,14 +22,14 @@ use Rattle.rh_inproxy.specs.Order as proxy_order
 use Rattle.rh_server.specs.Order as server_order
 use Rattle.rh_server.specs.Servers as server
 use Rattle.rh_server.specs.States.{Server}
-use Rattle.rh_proxies_begin.specs.Pipes.{ci as client_leg, is as server_leg}
-use Rattle.rh_up.specs.Up.{GoesUp, has_proxy, up_route}
-use Rattle.rh_up.proofs.Counts.{AreRead, IsCarried, Counted, none_counted}
+use Rattle.rh_proxies_begin.specs.Pipes.{ci as client_leg}
+use Rattle.rh_up.specs.Up.{GoesUp, has_leg, is_known, up_route}
+use Rattle.rh_up.proofs.Counts.{AreRead, AreMade, IsCarried, Counted, none_counted}
 use Rattle.rh_up.proofs.InProxyMoves as proxy_moves
 use Rattle.rh_up.proofs.InProxySteps.{top}
 use Rattle.rh_up.proofs.Laws.{Laws, AreBegun}
-use Rattle.rh_up.proofs.Passed.{gives, keeps, takes, proxy_holds, near, far, told_less, idle_came}
-use Rattle.rh_up.proofs.Rising.{rose, server_rose}
+use Rattle.rh_up.proofs.Passed.{gives, keeps, takes, proxy_holds, near, far, told_less, idle_came, idle_got, spoke_made, has_own}
+use Rattle.rh_up.proofs.Rising.{rose}
 use Rattle.rh_up.proofs.ServerMoves as server_moves
 use Rattle.rh_up.proofs.ServerMoves.{moves_hold}
 use Rattle.rh_up.proofs.Told.{carried}
@@ -42,17 +40,44 @@ top_alone n Absent e = refl
 top_alone n (Up number) e = absurd cc
 top_alone n (Joined leg stage) e = absurd cc
 
-handed_front : (a b : List Item) → IsPrefix a b → has_handover a ≡ true → has_handover b ≡ true
-handed_front a b p e =
-    sym (ap has_handover p.1) ∙ has_handover-append a p.0
-    ∙ ap (λ t. t || has_handover p.0) e
+neither_of : (a b c : Bool) → b ≡ false → c ≡ false → a && (b || c) ≡ false
+neither_of true b c p q = ap (λ t. t || c) p ∙ q
+neither_of false b c p q = refl
+
+either_of : (a b c : Bool) → a && (b || c) ≡ true → (b ≡ true) ⊎ (c ≡ true)
+either_of true true c e = inl refl
+either_of true false c e = inr e
+either_of false b c e = absurd cc
+
+-- a taker asks of no number behind the one that follows whether it has a leg
+known_before : (following n : ℕ) (legs : ℕ → Bool) → n < following
+    → not (nat_lt n following) || legs n ≡ legs n
+known_before following n legs below =
+    ap (λ b. not b || legs n) (lt-ltb n following below)
+
+knows_less : (t : Taker) (legs : ℕ → Bool) (came : Log) → TakerLaw t legs came
+    → TakerLaw t (λ n. not (nat_lt n t.shelves.following) || legs n) came
+knows_less t legs came law =
+    let above = law.above in
+    record {
+      holds = law.holds;
+      above = law.above;
+      past = λ n below is.
+          law.past n below (sym (known_before t.shelves.following n legs
+          (omega (arith, below, above))) ∙ is);
+      between = λ n more less.
+          let one = law.between n more less in
+          (known_before t.shelves.following n legs less ∙ one.0, one.1);
+      unfinished = law.unfinished;
+      later = law.later;
+      channel = law.channel;
+    }
 
 module _ (laws : Laws) (config : ClientConfig) (window : ℕ) (in_config : ℕ → InProxyConfig)
     (client_events server_events : List EndEvent) (ins : ℕ → List Event) (made : ℕ → Bool)
     (reader : ℕ → ℕ)
     (g : GoesUp config window in_config client_events server_events ins made reader)
-    (begun : AreBegun config in_config g.giver.leads.moves g.giver.passage
-    (λ n. (g.proxies n).passage)) where
+    (begun : AreBegun g.giver.passage (λ n. (g.proxies n).passage)) where
   -- ---- in proxies
 
   abbrev newest : ℕ → ℕ
@@ -68,31 +93,35 @@ module _ (laws : Laws) (config : ClientConfig) (window : ℕ) (in_config : ℕ �
   reads_on m n above below =
       sym ((g.proxies m).ups (client_leg n)) ∙ (holds m).all n above below
 
-  has_own : (n : ℕ) → made n ≡ true → has_proxy made n ≡ true
-  has_own n e = ap (λ b. b || (n == 1)) e
+  own : (n : ℕ) → made n ≡ true → has_leg reader n ≡ true
+  own = has_own laws config window in_config client_events server_events ins made reader g begun
 
-  first_has : (n : ℕ) → n ≡ 1 → has_proxy made n ≡ true
-  first_has n e = subst (λ k. has_proxy made k ≡ true) (sym e)
-      (or_right (made 1) true refl)
+  above_none : (m : ℕ) → has_leg reader m ≡ true → 0 < m
+  above_none m e =
+      ltb-true 0 m (and_parts (nat_lt 0 m) (reader m == m || reader m == 0) e).0
 
-  none : has_proxy made 0 ≡ false
-  none = ap (λ b. b || false) g.readers.none
+  -- a channel with no reader has a far leg
+  none_reads : (n : ℕ) → 0 < n → reader n ≡ 0 → has_leg reader n ≡ true
+  none_reads n above unread =
+      ap (λ b. b && (reader n == n || reader n == 0)) (lt-ltb 0 n above)
+      ∙ or_right (reader n == n) (reader n == 0) (eq-eqb (reader n) 0 unread)
 
-  above_none : (m : ℕ) → has_proxy made m ≡ true → 0 < m
-  above_none zero e = absurd (let f = sym none ∙ e in cc)
-  above_none (suc m) e = omega arith
+  first : has_leg reader 1 ≡ true
+  first =
+      ⊎_elim (none_reads 1 (omega arith))
+      (λ some. ⊎_elim (own 1)
+      (λ before. absurd (some (before.0 ∙ g.readers.unread))) (g.readers.opened 1 some))
+      (cases_eq (reader 1) 0)
 
   -- one behind another has none, where that one reads it
-  not_own : (m n : ℕ) → 0 < m → m < n → reader n ≡ m → has_proxy made n ≡ false
-  not_own m n some above read = by (made n) refl
-    where
-      by : (b : Bool) → made n ≡ b → has_proxy made n ≡ false
-      by true e = absurd (let own = g.readers.own n e in omega (arith, own, read, above))
-      by false e =
-          ap (λ b. b || (n == 1)) e ∙ test_other n 1 (λ f. absurd (omega (arith, f, some, above)))
+  not_own : (m n : ℕ) → 0 < m → m < n → reader n ≡ m → has_leg reader n ≡ false
+  not_own m n some above read =
+      neither_of (nat_lt 0 n) (reader n == n) (reader n == 0)
+      (test_other (reader n) n (λ e. absurd (omega (arith, e, read, above))))
+      (test_other (reader n) 0 (λ e. absurd (omega (arith, e, read, some))))
 
-  reads : (m n : ℕ) → has_proxy made m ≡ true → m < n
-      → n ≤ (g.proxies m).passage.role.current.number → has_proxy made n ≡ false
+  reads : (m n : ℕ) → has_leg reader m ≡ true → m < n
+      → n ≤ (g.proxies m).passage.role.current.number → has_leg reader n ≡ false
   reads m n has above below =
       not_own m n (above_none m has) above
       (g.readers.reads m n (reads_on m n above
@@ -101,7 +130,7 @@ module _ (laws : Laws) (config : ClientConfig) (window : ℕ) (in_config : ℕ �
   -- ---- a mark
 
   -- what came on the current ci leg of an in proxy that put its mark
-  module _ (m : ℕ) (has : has_proxy made m ≡ true)
+  module _ (m : ℕ) (has : has_leg reader m ≡ true)
       (put : has_passed (g.proxies m).passage.role.handover ≡ true) where
     abbrev current : ℕ
     current = (g.proxies m).passage.role.current.number
@@ -114,62 +143,22 @@ module _ (laws : Laws) (config : ClientConfig) (window : ℕ) (in_config : ℕ �
     marked : has_handover (proxy_order.came_log (g.proxies m).passage.came current) ≡ true
     marked = sym law.shelved.holds.finished ∙ (law.handover_came put).0
 
-    sent : has_handover (client_order.put_log g.giver.passage.passage.put current) ≡ true
-    sent = handed_front (proxy_order.came_log (g.proxies m).passage.came current)
-        (client_order.put_log g.giver.passage.passage.put current)
-        (near laws config window in_config client_events server_events ins made reader g begun m
-        current) marked
-
-    abbrev writing : ℕ
-    writing = g.giver.passage.passage.role.writing.number
-
-    giver : GiverLaw (client_order.giver_of g.giver.passage.given g.giver.passage.passage.role)
-        (client_order.put_log g.giver.passage.passage.put)
-    giver = gives laws config window in_config client_events server_events ins made reader g begun
-
-    nothing : (items : List Item) → items ≡ [] → has_handover items ≡ true → ⊥
-    nothing items e f = let same : false ≡ true = sym (ap has_handover e) ∙ f in absurd cc
-
-    some : 0 < current
-    some = by current refl
+    -- so it was made, and reads it
+    was_made : made m ≡ true
+    was_made = by (made m) refl
       where
-        by : (n : ℕ) → current ≡ n → 0 < n
-        by zero e =
-            absurd (nothing (client_order.put_log g.giver.passage.passage.put current)
-            (ap (client_order.put_log g.giver.passage.passage.put) e ∙ giver.unused) sent)
-        by (suc n) e = omega arith
+        by : (b : Bool) → made m ≡ b → b ≡ true
+        by true e = refl
+        by false e =
+            absurd (true≢false (sym marked ∙ ap has_handover (idle_came laws config window in_config
+            client_events server_events ins made reader g begun m current e)))
 
-    -- the client writes on a later channel
-    below : current < writing
-    below = by (nat_lt current writing) (nat_eq current writing) refl refl
-      where
-        by : (a b : Bool) → nat_lt current writing ≡ a → nat_eq current writing ≡ b
-            → current < writing
-        by true b p q = grind (arith, nat_tests)
-        by false true p q =
-            let same = same_number current writing q in
-            let unhanded = ap (λ n. has_handover
-            (client_order.put_log g.giver.passage.passage.put n)) same ∙ giver.unhanded in
-            absurd (let e = sym unhanded ∙ sent in cc)
-        by false false p q =
-            let above : writing < current = grind (arith, nat_tests) in
-            absurd (nothing (client_order.put_log g.giver.passage.passage.put current)
-            (giver.later current above) sent)
-
-    -- in proxy m reads it
     is_reader : reader current ≡ m
     is_reader = by (nat_eq current m) refl
       where
-        own : (b : Bool) → made m ≡ b → reader m ≡ m
-        own true e = g.readers.own m e
-        own false e =
-            absurd (nothing (proxy_order.came_log (g.proxies m).passage.came current)
-            (idle_came laws config window in_config client_events server_events ins made reader g
-            begun m current e) marked)
-
         by : (b : Bool) → nat_eq current m ≡ b → reader current ≡ m
         by true e =
-            subst (λ n. reader n ≡ m) (sym (same_number current m e)) (own (made m) refl)
+            subst (λ n. reader n ≡ m) (sym (same_number current m e)) (g.readers.own m was_made)
         by false e =
             let other = other_number current m e in
             let from = law.from in
@@ -184,20 +173,16 @@ module _ (laws : Laws) (config : ClientConfig) (window : ℕ) (in_config : ℕ �
         let alone = top_alone current (g.proxies m).passage.role.successor ((holds m).last put) in
         absurd (omega (arith, most, alone))
 
-    handed : has_proxy made (suc current) ≡ true
-    handed = by (g.readers.opened (suc current) (omega arith) opened)
+    handed : has_leg reader (suc current) ≡ true
+    handed =
+        ⊎_elim (none_reads (suc current) (omega arith))
+        (λ some. ⊎_elim (own (suc current)) by (g.readers.opened (suc current) some))
+        (cases_eq (reader (suc current)) 0)
       where
-        opened : came_up (client_leg (suc current)) (happened client_events) ≡ true
-        opened = sym (g.giver.ups (client_leg (suc current)))
-            ∙ begun.wrote (suc current) (omega arith) (omega (arith, below))
-            (omega (arith, below, some))
-
-        by : (made (suc current) ≡ true)
-            ⊎ ((reader (suc current) ≡ reader (suc current - 1))
-            × (came_up (client_leg (suc current)) (ins (reader (suc current))) ≡ true))
-            → has_proxy made (suc current) ≡ true
-        by (inl e) = has_own (suc current) e
-        by (inr e) =
+        by : (reader (suc current) ≡ reader (suc current - 1))
+            × (came_up (client_leg (suc current)) (ins (reader (suc current))) ≡ true)
+            → has_leg reader (suc current) ≡ true
+        by e =
             let back : suc current - 1 ≡ current = omega arith in
             let same : reader (suc current) ≡ m = e.0 ∙ ap reader back ∙ is_reader in
             absurd (not_later (subst (λ k. came_up (client_leg (suc current)) (ins k) ≡ true) same
@@ -239,33 +224,70 @@ module _ (laws : Laws) (config : ClientConfig) (window : ℕ) (in_config : ℕ �
           next = λ e. absurd cc;
           newest = refl;
         };
-        counted = λ within makes.
+        counted = λ within.
             none_counted made reader came_up_at told_by are_read (λ n. false) (carried [])
             (λ n. refl) (λ n. refl);
       }))
-
-  makes : (n : ℕ) → server_ups n ≡ true → made n ≡ true
-  makes n e =
-      g.readers.joined n
-      (sym (g.taker.ups (server_leg n)) ∙ sym (server_rose n g.taker.leads.moves) ∙ e)
 
   counted : Counted made reader came_up_at told_by are_read server_ups
       (carried g.taker.passage.passage.came) server_role.newest_in
   counted = server_holds.counted
       (λ n. told_less laws config window in_config client_events server_events ins made reader g
       begun n)
-      makes
 
-  here : has_proxy made server_role.current.leg ≡ true
-  here = by server_holds.kept.current
+  -- the leg of the current channel
+  abbrev at : ℕ
+  at = server_role.current.leg
+
+  at_made : at ≢ 1 → made at ≡ true
+  at_made later =
+      ⊎_elim (spoke_made laws config window in_config client_events server_events ins made reader g
+      begun at) (λ first. absurd (later first)) server_holds.kept.current
+
+  here : has_leg reader at ≡ true
+  here =
+      ⊎_elim (λ one. subst (λ n. has_leg reader n ≡ true) (sym one) first)
+      (λ later. own at (at_made later)) (cases_eq at 1)
+
+  abbrev following : ℕ
+  following = server_order.following server_role
+
+  law_there : TakerLaw (server_order.taker_of g.taker.passage.taken server_role)
+      (server_order.has_leg g.taker.leads.moves server_role) (server_order.got g.taker.passage)
+  law_there =
+      takes laws config window in_config client_events server_events ins made reader g begun
+
+  knows_up : (n : ℕ) → server_ups n ≡ true
+      → server_order.has_leg g.taker.leads.moves server_role n ≡ true
+  knows_up n e = or_right (nat_lt server_role.newest_in n) (server_ups n) e
+
+  -- a leg that came up below the channel that follows is that of an in proxy that was made: its
+  -- mark came, or it is the current one
+  made_below : (k n : ℕ) → 1 < k → k < n → n < following → server_ups k ≡ true → made k ≡ true
+  made_below k n some below within up =
+      by (nat_lt k at) (nat_eq k at) refl refl
     where
-      by : (server_ups server_role.current.leg ≡ true) ⊎ (server_role.current.leg ≡ 1)
-          → has_proxy made server_role.current.leg ≡ true
-      by (inl e) = has_own server_role.current.leg (makes server_role.current.leg e)
-      by (inr e) = first_has server_role.current.leg e
+      by_made : (b : Bool) → made k ≡ b → has_handover (server_order.got g.taker.passage k) ≡ true
+          → b ≡ true
+      by_made true e mark = refl
+      by_made false e mark =
+          absurd (true≢false (sym mark ∙ ap has_handover (idle_got laws config window in_config
+          client_events server_events ins made reader g begun k e)))
 
-  -- a number with an in proxy of its own is that of a leg
-  is_given : (n : ℕ) → has_proxy made n ≡ true
+      by : (a b : Bool) → nat_lt k at ≡ a → nat_eq k at ≡ b → made k ≡ true
+      by true b p q =
+          by_made (made k) refl (law_there.past k (ltb-true k at p) (knows_up k up))
+      by false true p q =
+          let same = same_number k at q in
+          subst (λ j. made j ≡ true) (sym same)
+          (at_made (λ one. absurd (omega (arith, one, same, some))))
+      by false false p q =
+          let above : at < k = grind (arith, nat_tests) in
+          absurd (true≢false (sym (knows_up k up)
+          ∙ (law_there.between k above (omega (arith, below, within))).0))
+
+  -- a number with a leg of its own is that of a leg which came up
+  is_given : (n : ℕ) → has_leg reader n ≡ true
       → (server_ups n ≡ true)
       ⊎ IsCarried made reader came_up_at told_by are_read (carried g.taker.passage.passage.came) n
       → server_ups n ≡ true
@@ -276,28 +298,48 @@ module _ (laws : Laws) (config : ClientConfig) (window : ℕ) (in_config : ℕ �
       by zero same =
           let none_there : ins e.on ≡ [] =
           subst (λ k. ins k ≡ []) (sym same) (g.readers.unmade 0 g.readers.none) in
-          let up : false ≡ true =
-          sym (ap (came_up (client_leg n)) none_there) ∙ e.read in
-          absurd cc
+          true≢false (sym e.read ∙ ap (came_up (client_leg n)) none_there)
       by (suc k) same =
-          let alone = not_own e.on n (omega (arith, same)) e.above
-          (g.readers.reads e.on n e.read) in
-          absurd (let f = sym alone ∙ has in cc)
+          true≢false (sym has ∙ not_own e.on n (omega (arith, same)) e.above
+          (g.readers.reads e.on n e.read))
 
-  known : (n : ℕ) → has_proxy made n ≡ true
-      → server_order.has_leg g.taker.leads.moves server_role n ≡ true
-  known n has = by (nat_lt server_role.newest_in n) refl
+  known : (n : ℕ) → has_leg reader n ≡ true
+      → is_known g.taker.leads.moves server_role n ≡ true
+  known n has = behind (nat_lt n following) refl
     where
-      by : (b : Bool) → nat_lt server_role.newest_in n ≡ b → b || server_ups n ≡ true
-      by true e = refl
-      by false e =
-          let low : n ≤ server_role.newest_in = grind (arith, nat_tests) in
-          is_given n has (counted.given n (above_none n has) low)
+      -- up to n all legs that came up are those of in proxies, where it did not come up
+      up : server_ups n ≡ false → n < following
+          → AreMade made reader came_up_at told_by are_read server_ups n
+      up down within k some low e =
+          made_below k n some (below (nat_eq k n) refl) within e
+        where
+          below : (b : Bool) → nat_eq k n ≡ b → k < n
+          below true same =
+              absurd (true≢false (sym e ∙ ap server_ups (same_number k n same) ∙ down))
+          below false same =
+              let other = other_number k n same in omega (arith, other, low)
+
+      by_up : (b : Bool) → server_ups n ≡ b → n < following → n ≤ server_role.newest_in
+          → b ≡ true
+      by_up true e within low = refl
+      by_up false e within low =
+          sym e ∙ is_given n has
+          (counted.given n low (up e within) n (above_none n has) (omega arith))
+
+      by : (b : Bool) → nat_lt server_role.newest_in n ≡ b → n < following
+          → b || server_ups n ≡ true
+      by true e within = refl
+      by false e within = by_up (server_ups n) refl within (grind (arith, nat_tests))
+
+      behind : (b : Bool) → nat_lt n following ≡ b
+          → not b || server_order.has_leg g.taker.leads.moves server_role n ≡ true
+      behind false e = refl
+      behind true e = by (nat_lt server_role.newest_in n) refl (ltb-true n following e)
 
   -- ---- the route
 
   abbrev route : Route
-  route = up_route made g.giver.passage (λ m. (g.proxies m).passage) g.taker.leads.moves
+  route = up_route reader g.giver.passage (λ m. (g.proxies m).passage) g.taker.leads.moves
       g.taker.passage
 
   pub goes_up : IsRoute route
@@ -308,13 +350,16 @@ module _ (laws : Laws) (config : ClientConfig) (window : ℕ) (in_config : ℕ �
         (proxy_order.came_log (g.proxies m).passage.came) put)
         (sym (ap (λ b. if b then proxy_order.put_items (g.proxies m).passage.put else []) has))
         (keeps laws config window in_config client_events server_events ins made reader g begun m);
-    taker = takes laws config window in_config client_events server_events ins made reader g begun;
+    taker =
+        knows_less (server_order.taker_of g.taker.passage.taken server_role)
+        (server_order.has_leg g.taker.leads.moves server_role) (server_order.got g.taker.passage)
+        law_there;
     near = λ m n has.
         near laws config window in_config client_events server_events ins made reader g begun m n;
     far = far laws config window in_config client_events server_events ins made reader g begun;
     numbered = record {
-      none = none;
-      first = first_has 1 refl;
+      none = refl;
+      first = first;
       reads = reads;
       handed = handed;
       unused = λ n e.

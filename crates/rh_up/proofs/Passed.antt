@@ -1,6 +1,7 @@
 -- what passed the client, the in proxies and the server keeps the laws of each, and comes from the
 -- one to the next in order
-use Rattle.std.proofs.Common.{◌≡◌, ℕ, ◌+◌, ◌==◌, ◌≤◌, List, [], length, Bool, false, Some, sym, ap, ◌∙◌, subst, arith, refl}
+use Rattle.std.proofs.Common.{◌≡◌, ◌⊎◌, ℕ, zero, suc, ◌+◌, ◌==◌, ◌<◌, ◌≤◌, ◌&&◌, ◌||◌, List, [], length, Bool, true, false, Some, sym, ap, ◌∙◌, subst, arith, refl, inl, inr, ⊎_elim}
+use Rattle.std.proofs.lemmas.Bool.{true≢false, eq-eqb, lt-ltb, or_left}
 use Rattle.std.proofs.lemmas.List.{length-append, append-nil}
 use Rattle.std.specs.Prelude.{if◌then◌else◌}
 use mathlib.Core.List.{IsPrefix}
@@ -12,7 +13,7 @@ use Rattle.rh_order.specs.Logs.{seen, IsLeg}
 use Rattle.rh_order.specs.Passing.{PasserLaw}
 use Rattle.rh_order.specs.Taking.{TakerLaw}
 use Rattle.rh_order.proofs.ByNumber.{by_test}
-use Rattle.rh_order.proofs.ItemLists.{neither, nil_front}
+use Rattle.rh_order.proofs.ItemLists.{nil_front}
 use Rattle.rh_shell.specs.Moves.{Passage}
 use Rattle.rh_shell.specs.Moving.{Event, EndEvent}
 use Rattle.rh_shell.specs.Rules.{Message}
@@ -31,21 +32,20 @@ use Rattle.rh_inproxy.specs.State.{InProxy, first}
 use Rattle.rh_server.specs.Order as server_order
 use Rattle.rh_server.specs.Order.{in_items}
 use Rattle.rh_proxies_begin.specs.Pipes.{ci as client_leg, is as server_leg, in_pipe}
-use Rattle.rh_up.specs.Up.{GoesUp, has_proxy}
+use Rattle.rh_up.specs.Up.{GoesUp, has_leg}
 use Rattle.rh_up.proofs.InProxyMoves as proxy_moves
 use Rattle.rh_up.proofs.InProxyMoves.{in_proxy_holds}
 use Rattle.rh_up.proofs.JoinedLegs.{AgreeOn, up_views, in_views, told_views, client_put, proxy_came, server_came, proxy_put, drawn_leg}
 use Rattle.rh_up.proofs.Laws.{Laws, AreBegun}
 use Rattle.rh_up.proofs.LegLogs.{leg_reads_back}
 use Rattle.rh_up.proofs.Rising.{rose}
-use Rattle.rh_up.proofs.Told.{told_items, carried}
+use Rattle.rh_up.proofs.Told.{told_items, carried, has_any, spoke}
 
 module _ (laws : Laws) (config : ClientConfig) (window : ℕ) (in_config : ℕ → InProxyConfig)
     (client_events server_events : List EndEvent) (ins : ℕ → List Event) (made : ℕ → Bool)
     (reader : ℕ → ℕ)
     (g : GoesUp config window in_config client_events server_events ins made reader)
-    (begun : AreBegun config in_config g.giver.leads.moves g.giver.passage
-    (λ n. (g.proxies n).passage)) where
+    (begun : AreBegun g.giver.passage (λ n. (g.proxies n).passage)) where
   abbrev pub in_passage : ℕ → Passage InProxy
   in_passage m = (g.proxies m).passage
 
@@ -149,8 +149,9 @@ module _ (laws : Laws) (config : ClientConfig) (window : ℕ) (in_config : ℕ �
       proxy_came (in_passage m).came n
       ∙ ap (seen item_came) (nil_front (of_leg (client_leg n) (in_passage m).came) read.0 read.1)
 
-  idle_got : (m : ℕ) → made m ≡ false → server_order.got g.taker.passage m ≡ []
-  idle_got m e =
+  idle_leg : (m : ℕ) → made m ≡ false
+      → of_leg (server_leg m) g.taker.passage.passage.came ≡ []
+  idle_leg m e =
       let none : ins m ≡ [] = g.readers.unmade m e in
       let far = subst (λ (events : List Event).
       IsPrefix (heard_on (server_leg m) (happened server_events))
@@ -160,18 +161,42 @@ module _ (laws : Laws) (config : ClientConfig) (window : ℕ) (in_config : ℕ �
       let read = subst (λ (bytes : List ℕ).
       IsPrefix (of_leg (server_leg m) g.taker.passage.passage.came)
       (messages_read (Some IsU) bytes)) heard (g.taker.read (server_leg m)) in
-      server_came g.taker.passage.passage.came m
-      ∙ ap (seen in_items)
-      (nil_front (of_leg (server_leg m) g.taker.passage.passage.came) read.0 read.1)
+      nil_front (of_leg (server_leg m) g.taker.passage.passage.came) read.0 read.1
+
+  pub idle_got : (m : ℕ) → made m ≡ false → server_order.got g.taker.passage m ≡ []
+  idle_got m e = server_came g.taker.passage.passage.came m ∙ ap (seen in_items) (idle_leg m e)
+
+  -- so a leg on which the server took a message is that of one that was made
+  pub spoke_made : (m : ℕ) → spoke g.taker.passage.passage.came m ≡ true → made m ≡ true
+  spoke_made m e = by (made m) refl
+    where
+      by : (b : Bool) → made m ≡ b → b ≡ true
+      by true f = refl
+      by false f = absurd (true≢false (sym e ∙ ap has_any (idle_leg m f)))
+
+  -- it reads the channel of its number
+  pub has_own : (m : ℕ) → made m ≡ true → has_leg reader m ≡ true
+  has_own m e =
+      ap (λ b. b && (reader m == m || reader m == 0)) (lt-ltb 0 m (above m e))
+      ∙ or_left (reader m == m) (reader m == 0) (eq-eqb (reader m) m (g.readers.own m e))
+    where
+      above : (n : ℕ) → made n ≡ true → 0 < n
+      above zero f = absurd (true≢false (sym f ∙ g.readers.none))
+      above (suc n) f = omega arith
 
   pub far : (m : ℕ) → IsLeg
-      (if has_proxy made m then proxy_order.put_items (in_passage m).put else [])
+      (if has_leg reader m then proxy_order.put_items (in_passage m).put else [])
       (server_order.got g.taker.passage m)
   far m =
       by_test (λ (put : List Item). IsLeg put (server_order.got g.taker.passage m))
-      (has_proxy made m) (proxy_order.put_items (in_passage m).put) [] (λ e. far_leg m)
+      (has_leg reader m) (proxy_order.put_items (in_passage m).put) [] (λ e. far_leg m)
       (λ e. (
         [],
         append-nil (server_order.got g.taker.passage m)
-            ∙ idle_got m (neither (made m) (m == 1) e).0,
+            ∙ idle_got m (⊎_elim (λ f. f)
+            (λ f. absurd (true≢false (sym (has_own m f) ∙ e))) (either (made m))),
       ))
+    where
+      either : (b : Bool) → (b ≡ false) ⊎ (b ≡ true)
+      either true = inr refl
+      either false = inl refl

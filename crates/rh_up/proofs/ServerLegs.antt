@@ -1,4 +1,4 @@
--- the is legs that a server keeps, and those of its channels, came up
+-- the is legs that a server keeps came up, and on those of its channels a message came
 use Rattle.std.proofs.Common.{◌≡◌, ◌⊎◌, ℕ, zero, suc, ◌+◌, ◌==◌, ◌&&◌, ◌||◌, List, [], ◌∷◌, ◌++◌, length, Bool, true, false, not, Some, None, Ok, Err, refl, sym, subst, rules, arith, inl, inr}
 use Rattle.std.specs.Prelude.{slice_get, slice_set, remove, position, IfSome, if◌then◌else◌, nat_lt}
 use Rattle.std.specs.List.{AllByRecursion, position_or_len}
@@ -94,9 +94,14 @@ place_passes test legs =
 
 -- ---- legs that came up
 
--- where u tells which numbers came up
-abbrev pub IsUp : (ℕ → Bool) → InLeg → Type 0
-IsUp u leg = u leg.number ≡ true
+or_more : (b p q : Bool) → (p ≡ true → q ≡ true) → b || p ≡ true → b || q ≡ true
+or_more true p q more e = refl
+or_more false p q more e = more e
+
+-- where u tells which numbers came up, and x on which legs a message came: the leg came up, and one
+-- came on it, or none may have
+abbrev pub Stands : (ℕ → Bool) → (ℕ → Bool) → InLeg → Type 0
+Stands u x leg = (u leg.number ≡ true) × (is_fresh leg.stage || x leg.number ≡ true)
 
 -- a leg that is kept has its number, and came up
 pub number_found : (n : ℕ) (legs : List InLeg)
@@ -108,34 +113,34 @@ number_found n legs = by (in_leg n legs) (place_passes (λ (leg : InLeg). leg.nu
     by None h = tt
     by (Some leg) h = same_number leg.number n h
 
-leg_up : (u : ℕ → Bool) (legs : List InLeg) (place : Option ℕ) → AllByRecursion (IsUp u) legs
-    → IfSome (in_at legs place) (IsUp u)
-leg_up u legs None h = tt
-leg_up u legs (Some place) h = each_got (IsUp u) legs place h
+leg_at : (P : InLeg → Type 0) (legs : List InLeg) (place : Option ℕ) → AllByRecursion P legs
+    → IfSome (in_at legs place) P
+leg_at P legs None h = tt
+leg_at P legs (Some place) h = each_got P legs place h
 
-set_up : (u : ℕ → Bool) (legs : List InLeg) (leg : InLeg) (place : Option ℕ) → IsUp u leg
-    → AllByRecursion (IsUp u) legs → AllByRecursion (IsUp u) (set_at legs leg place)
-set_up u legs leg None is h = h
-set_up u legs leg (Some place) is h = each_set (IsUp u) legs place leg is h
+leg_set : (P : InLeg → Type 0) (legs : List InLeg) (leg : InLeg) (place : Option ℕ) → P leg
+    → AllByRecursion P legs → AllByRecursion P (set_at legs leg place)
+leg_set P legs leg None is h = h
+leg_set P legs leg (Some place) is h = each_set P legs place leg is h
 
-removed_up : (u : ℕ → Bool) (legs : List InLeg) (place : Option ℕ)
-    → AllByRecursion (IsUp u) legs → AllByRecursion (IsUp u) (removed_at legs place)
-removed_up u legs None h = h
-removed_up u legs (Some place) h = each_removed (IsUp u) legs place h
+leg_removed : (P : InLeg → Type 0) (legs : List InLeg) (place : Option ℕ)
+    → AllByRecursion P legs → AllByRecursion P (removed_at legs place)
+leg_removed P legs None h = h
+leg_removed P legs (Some place) h = each_removed P legs place h
 
 -- ---- what a server keeps
 
--- the legs that it keeps came up; so did that of the next channel, where there is one, and that of
--- the current one, or this is the first; and the newest number is this one
-pub record Placed (u : ℕ → Bool) (n : ℕ) (legs : List InLeg) (here there : ℕ) (has_next : Bool)
+-- of the legs that it keeps; on that of the next channel, where there is one, a message came, and on
+-- that of the current one, or this is the first; and the newest number is this one
+pub record Placed (u x : ℕ → Bool) (n : ℕ) (legs : List InLeg) (here there : ℕ) (has_next : Bool)
     (number : ℕ) : Type 0 where
-  pub ins : AllByRecursion (IsUp u) legs
-  pub current : (u here ≡ true) ⊎ (here ≡ 1)
-  pub next : has_next ≡ true → u there ≡ true
+  pub ins : AllByRecursion (Stands u x) legs
+  pub current : (x here ≡ true) ⊎ (here ≡ 1)
+  pub next : has_next ≡ true → x there ≡ true
   pub newest : number ≡ n
 
-abbrev pub Kept : (ℕ → Bool) → ℕ → Server → Type 0
-Kept u n s = Placed u n s.ins s.current.leg s.next.leg s.line.has_next s.newest_in
+abbrev pub Kept : (ℕ → Bool) → (ℕ → Bool) → ℕ → Server → Type 0
+Kept u x n s = Placed u x n s.ins s.current.leg s.next.leg s.line.has_next s.newest_in
 
 pub record Seen : Type 0 where
   pub ins : List InLeg
@@ -156,22 +161,25 @@ seen s = record {
 abbrev pub Same : Server → Server → Type 0
 Same s t = seen t ≡ seen s
 
-pub same_kept : (u : ℕ → Bool) (n : ℕ) (s t : Server) → Same s t → Kept u n s → Kept u n t
-same_kept u n s t same k =
-    subst (λ (x : Seen). Placed u n x.ins x.current x.next x.has_next x.newest) (sym same) k
+pub same_kept : (u x : ℕ → Bool) (n : ℕ) (s t : Server) → Same s t → Kept u x n s → Kept u x n t
+same_kept u x n s t same k =
+    subst (λ (z : Seen). Placed u x n z.ins z.current z.next z.has_next z.newest) (sym same) k
 
-pub more_kept : (u v : ℕ → Bool) (n : ℕ) (s : Server) → ((k : ℕ) → u k ≡ true → v k ≡ true)
-    → Kept u n s → Kept v n s
-more_kept u v n s more k = record {
-  ins = each_more (IsUp u) (IsUp v) (λ leg h. more leg.number h) s.ins k.ins;
+pub more_kept : (u v x y : ℕ → Bool) (n : ℕ) (s : Server) → ((k : ℕ) → u k ≡ true → v k ≡ true)
+    → ((k : ℕ) → x k ≡ true → y k ≡ true) → Kept u x n s → Kept v y n s
+more_kept u v x y n s ups spoken k = record {
+  ins = each_more (Stands u x) (Stands v y) (λ leg h. (
+    ups leg.number h.0,
+    or_more (is_fresh leg.stage) (x leg.number) (y leg.number) (spoken leg.number) h.1,
+  )) s.ins k.ins;
   current = by k.current;
-  next = λ e. more s.next.leg (k.next e);
+  next = λ e. spoken s.next.leg (k.next e);
   newest = k.newest;
 }
   where
-    by : (u s.current.leg ≡ true) ⊎ (s.current.leg ≡ 1)
-        → (v s.current.leg ≡ true) ⊎ (s.current.leg ≡ 1)
-    by (inl h) = inl (more s.current.leg h)
+    by : (x s.current.leg ≡ true) ⊎ (s.current.leg ≡ 1)
+        → (y s.current.leg ≡ true) ⊎ (s.current.leg ≡ 1)
+    by (inl h) = inl (spoken s.current.leg h)
     by (inr h) = inr h
 
 -- ---- lines
@@ -235,69 +243,71 @@ same_pdu s n bytes =
     by None = refl
     by (Some which) = same_admitted s which bytes
 
-module _ (u : ℕ → Bool) (newest : ℕ) where
+module _ (u x : ℕ → Bool) (newest : ℕ) where
   -- ---- a leg is changed, or goes
 
-  pub with_kept : (s : Server) (leg : InLeg) → IsUp u leg → Kept u newest s
-      → Kept u newest (with_in s leg)
+  pub with_kept : (s : Server) (leg : InLeg) → Stands u x leg → Kept u x newest s
+      → Kept u x newest (with_in s leg)
   with_kept s leg is k = record {
-    ins = set_up u s.ins leg (in_place leg.number s.ins) is k.ins;
+    ins = leg_set (Stands u x) s.ins leg (in_place leg.number s.ins) is k.ins;
     current = k.current;
     next = k.next;
     newest = k.newest;
   }
 
-  pub without_kept : (s : Server) (n : ℕ) → Kept u newest s → Kept u newest (without_in s n)
+  pub without_kept : (s : Server) (n : ℕ) → Kept u x newest s → Kept u x newest (without_in s n)
   without_kept s n k = record {
-    ins = removed_up u s.ins (in_place n s.ins) k.ins;
+    ins = leg_removed (Stands u x) s.ins (in_place n s.ins) k.ins;
     current = k.current;
     next = k.next;
     newest = k.newest;
   }
 
   -- a leg that is kept came up
-  pub found_up : (s : Server) (n : ℕ) → Kept u newest s → IfSome (in_leg n s.ins) (IsUp u)
-  found_up s n k = leg_up u s.ins (in_place n s.ins) k.ins
+  pub found_up : (s : Server) (n : ℕ) → Kept u x newest s → IfSome (in_leg n s.ins) (Stands u x)
+  found_up s n k = leg_at (Stands u x) s.ins (in_place n s.ins) k.ins
 
   -- ---- the next channel
 
-  opens_kept : (s : Server) (leg : InLeg) (x : InStage) → IsUp u leg → Kept u newest s
-      → Kept u newest (opens_next s leg x)
-  opens_kept s leg Fresh is k = k
-  opens_kept s leg Opened is k = k
-  opens_kept s leg (Waits window timeout ended) is k =
+  opens_kept : (s : Server) (leg : InLeg) (z : InStage) → u leg.number ≡ true
+      → is_fresh z || x leg.number ≡ true → Kept u x newest s
+      → Kept u x newest (opens_next s leg z)
+  opens_kept s leg Fresh is spoke k = k
+  opens_kept s leg Opened is spoke k = k
+  opens_kept s leg (Waits window timeout ended) is spoke k =
       with_kept
       (record s {
         line = ended_if ended (after_open_next s.line true);
         next = record { leg = leg.number; number = leg.number; cookie = leg.cookie };
         waiting = added s.waiting (named.InR1A3 0 1 window timeout);
       })
-      _ is (record { ins = k.ins; current = k.current; next = λ e. is; newest = k.newest })
+      _ (is, spoke)
+      (record { ins = k.ins; current = k.current; next = λ e. spoke; newest = k.newest })
 
-  next_opened_kept : (s : Server) → Kept u newest s → Kept u newest (next_opened s)
+  next_opened_kept : (s : Server) → Kept u x newest s → Kept u x newest (next_opened s)
   next_opened_kept s k =
-      by_test (Kept u newest) (s.line.has_next || waits kind.InR1A3 s.waiting) s
+      by_test (Kept u x newest) (s.line.has_next || waits kind.InR1A3 s.waiting) s
       (opens_leg s (first_waiting s.ins)) (λ e. k)
-      (λ e. by (first_waiting s.ins) (leg_up u s.ins (waiting_place s.ins) k.ins))
+      (λ e. by (first_waiting s.ins) (leg_at (Stands u x) s.ins (waiting_place s.ins) k.ins))
     where
-      by : (o : Option InLeg) → IfSome o (IsUp u) → Kept u newest (opens_leg s o)
+      by : (o : Option InLeg) → IfSome o (Stands u x) → Kept u x newest (opens_leg s o)
       by None is = k
-      by (Some leg) is = opens_kept s leg leg.stage is k
+      by (Some leg) is = opens_kept s leg leg.stage is.0 is.1 k
 
-  moved_kept : (had : Bool) (s : Server) → (had ≡ true → u s.next.leg ≡ true) → Kept u newest s
-      → Kept u newest (moved_if had s)
+  moved_kept : (had : Bool) (s : Server) → (had ≡ true → x s.next.leg ≡ true) → Kept u x newest s
+      → Kept u x newest (moved_if had s)
   moved_kept had s is k =
-      by_test (Kept u newest) (had && not s.line.has_next) (becomes_current s) s (λ e. by had e is)
+      by_test (Kept u x newest) (had && not s.line.has_next) (becomes_current s) s (λ e. by had e is)
       (λ e. k)
     where
-      by : (h : Bool) → h && not s.line.has_next ≡ true → (h ≡ true → u s.next.leg ≡ true)
-          → Kept u newest (becomes_current s)
+      by : (h : Bool) → h && not s.line.has_next ≡ true → (h ≡ true → x s.next.leg ≡ true)
+          → Kept u x newest (becomes_current s)
       by true e is =
           next_opened_kept (record s { current = s.next; edge = Shut })
           (record { ins = k.ins; current = inl (is refl); next = λ f. is refl; newest = k.newest })
       by false e is = absurd cc
 
-  pub take_kept : (s : Server) → Kept u newest s → Kept u newest (take s)
+  pub take_kept : (s : Server) → Kept u x newest s → Kept u x newest (take s)
   take_kept s k =
       moved_kept s.line.has_next (record s { line = after_take s.line }) k.next
       (record {
@@ -307,56 +317,18 @@ module _ (u : ℕ → Bool) (newest : ℕ) where
         newest = k.newest;
       })
 
-  -- ---- rows
-
-  in_r1_a2_kept : (s : Server) (n : ℕ) (count : Count) (a b c : Cookie) (d f : ℕ) → Kept u newest s
-      → Kept u newest (on_in_r1_a2 s n count a b c d f).0
-  in_r1_a2_kept s n count a b c d f k =
-      by_test (λ (r : Done). Kept u newest r.0) (is_first count && not (has_fresh_below n s.ins))
-      (in_r1_a2_at s s.stage n a b c d f) (unexpected s) (λ e. by_stage s.stage) (λ e. k)
-    where
-      by_leg : (first : Cookie) (o : Option InLeg) → IfSome o (IsUp u)
-          → Kept u newest (in_r1_a2_by s first a b c d f o).0
-      by_leg first None is = k
-      by_leg first (Some leg) is =
-          by_test (λ (r : Done). Kept u newest r.0) (not (is_fresh leg.stage)) (unexpected s)
-          (if not (same_cookie first a) then refuse s (refused.Cookie first a)
-          else (if not (same_cookie s.newest.cookie b)
-          then refuse s (refused.Cookie s.newest.cookie b)
-          else took (announced s leg c d f)))
-          (λ e. k)
-          (λ e. by_test (λ (r : Done). Kept u newest r.0) (not (same_cookie first a))
-          (refuse s (refused.Cookie first a))
-          (if not (same_cookie s.newest.cookie b)
-          then refuse s (refused.Cookie s.newest.cookie b)
-          else took (announced s leg c d f))
-          (λ e. k)
-          (λ e. by_test (λ (r : Done). Kept u newest r.0) (not (same_cookie s.newest.cookie b))
-          (refuse s (refused.Cookie s.newest.cookie b)) (took (announced s leg c d f)) (λ e. k)
-          (λ e. next_opened_kept
-          (with_in (record s { newest = record { leg = leg.number; cookie = c } })
-          (record leg { cookie = c; stage = Waits d f false }))
-          (with_kept (record s { newest = record { leg = leg.number; cookie = c } })
-          (record leg { cookie = c; stage = Waits d f false }) is
-          (record { ins = k.ins; current = k.current; next = k.next; newest = k.newest })))))
-
-      by_stage : (x : Stage) → Kept u newest (in_r1_a2_at s x n a b c d f).0
-      by_stage (stage.Open first) = by_leg first (in_leg n s.ins) (found_up s n k)
-      by_stage stage.Waits = k
-      by_stage (stage.OutCame first) = k
-      by_stage (stage.InCame first window timeout) = k
-      by_stage stage.Ended = k
+  -- ---- rows that open no leg
 
   -- IN_R1/A6: a next channel is there
-  in_r1_a6_kept : (s : Server) (n : ℕ) (a : Cookie) → Kept u newest s
-      → Kept u newest (on_in_r1_a6 s n a).0
+  in_r1_a6_kept : (s : Server) (n : ℕ) (a : Cookie) → Kept u x newest s
+      → Kept u x newest (on_in_r1_a6 s n a).0
   in_r1_a6_kept s n a k =
-      by_test (λ (r : Done). Kept u newest r.0)
+      by_test (λ (r : Done). Kept u x newest r.0)
       ((n == s.current.leg)
       && (not s.line.finished && (s.line.has_next && not (waits kind.InR1A3 s.waiting))))
       (if same_cookie s.next.cookie a then took (hands_over s n)
       else refuse s (refused.Cookie s.next.cookie a)) (unexpected s)
-      (λ e. by_test (λ (r : Done). Kept u newest r.0) (same_cookie s.next.cookie a)
+      (λ e. by_test (λ (r : Done). Kept u x newest r.0) (same_cookie s.next.cookie a)
       (took (hands_over s n)) (refuse s (refused.Cookie s.next.cookie a))
       (λ f. by (in_leg n s.ins) (found_up s n k)
       (third (n == s.current.leg) (not s.line.finished) s.line.has_next
@@ -370,8 +342,8 @@ module _ (u : ℕ → Bool) (newest : ℕ) where
       third true false c d e = absurd cc
       third false b c d e = absurd cc
 
-      by : (o : Option InLeg) → IfSome o (IsUp u) → s.line.has_next ≡ true
-          → Kept u newest (moved_if true (record (leaves_by s o) { line = after_finish s.line }))
+      by : (o : Option InLeg) → IfSome o (Stands u x) → s.line.has_next ≡ true
+          → Kept u x newest (moved_if true (record (leaves_by s o) { line = after_finish s.line }))
       by None is there =
           moved_kept true (record s { line = after_finish s.line }) (λ e. k.next there)
           (record { ins = k.ins; current = k.current; next = λ e. k.next there; newest = k.newest })
@@ -389,199 +361,77 @@ module _ (u : ℕ → Bool) (newest : ℕ) where
             newest = left.newest;
           })
 
-  -- CONN/B2: the first channel is that of leg 1
-  first_kept : (s : Server) (cookie : Cookie) (o : Option InLeg) → IfSome o (IsUp u)
-      → Kept u newest s → Kept u newest (first_in s cookie o)
-  first_kept s cookie None is k = k
-  first_kept s cookie (Some leg) is k =
-      with_kept
-      (record s {
-        current = record { leg = 1; number = 1; cookie = cookie };
-        newest = record { leg = 1; cookie = cookie };
-      })
-      (record leg { cookie = cookie; stage = Opened; tells = tells.ConnB3 }) is
-      (record { ins = k.ins; current = inr refl; next = k.next; newest = k.newest })
-
-  conn_b2_kept : (s : Server) (n : ℕ) (count : Count) (a b : Cookie) (c d : ℕ) → Kept u newest s
-      → Kept u newest (on_conn_b2 s n count a b c d).0
-  conn_b2_kept s n count a b c d k =
-      by_test (λ (r : Done). Kept u newest r.0)
-      (is_first count && ((n == 1) && not (waits kind.ConnC1 s.waiting)))
-      (conn_b2_at s s.stage a b c d) (unexpected s) (λ e. by s.stage) (λ e. k)
-    where
-      begun : Kept u newest (with_first_in s b)
-      begun = first_kept s b (in_leg 1 s.ins) (found_up s 1 k) k
-
-      -- whatever the stage is
-      staged : Placed u newest (with_first_in s b).ins (with_first_in s b).current.leg
-          (with_first_in s b).next.leg (with_first_in s b).line.has_next
-          (with_first_in s b).newest_in
-      staged = begun
-
-      by : (x : Stage) → Kept u newest (conn_b2_at s x a b c d).0
-      by stage.Waits = staged
-      by (stage.OutCame first) =
-          by_test (λ (r : Done). Kept u newest r.0) (same_cookie first a)
-          (took (opens (with_first_in s b) first c d)) (refuse s (refused.Cookie first a))
-          (λ e. staged)
-          (λ e. k)
-      by (stage.InCame first window timeout) = k
-      by (stage.Open first) = k
-      by stage.Ended = k
-
   -- END/A2 on a channel of the line, or on a leg whose channel waits
-  end_a2_kept : (s : Server) (n : ℕ) (count : Count) → Kept u newest s
-      → Kept u newest (on_end_a2 s n count).0
+  end_a2_kept : (s : Server) (n : ℕ) (count : Count) → Kept u x newest s
+      → Kept u x newest (on_end_a2 s n count).0
   end_a2_kept s n count k =
-      by_test (λ (r : Done). Kept u newest r.0) (is_first count) (unexpected s)
+      by_test (λ (r : Done). Kept u x newest r.0) (is_first count) (unexpected s)
       (end_a2_at s n (channel_at s n)) (λ e. k) (λ e. by_channel (channel_at s n))
     where
-      by_stage : (leg : InLeg) (x : InStage) → IsUp u leg → Kept u newest (end_a2_on_leg s leg x).0
-      by_stage leg Fresh is = k
-      by_stage leg Opened is = k
-      by_stage leg (Waits window timeout ended) is =
-          by_test (λ (r : Done). Kept u newest r.0) ended (unexpected s)
+      by_stage : (leg : InLeg) (z : InStage) → u leg.number ≡ true
+          → is_fresh z || x leg.number ≡ true → Kept u x newest (end_a2_on_leg s leg z).0
+      by_stage leg Fresh is spoke = k
+      by_stage leg Opened is spoke = k
+      by_stage leg (Waits window timeout ended) is spoke =
+          by_test (λ (r : Done). Kept u x newest r.0) ended (unexpected s)
           (took (with_in s (record leg { stage = Waits window timeout true }))) (λ e. k)
-          (λ e. with_kept s (record leg { stage = Waits window timeout true }) is k)
+          (λ e. with_kept s (record leg { stage = Waits window timeout true }) (is, spoke) k)
 
-      by_leg : (o : Option InLeg) → IfSome o (IsUp u) → Kept u newest (end_a2_waiting s o).0
+      by_leg : (o : Option InLeg) → IfSome o (Stands u x) → Kept u x newest (end_a2_waiting s o).0
       by_leg None is = k
-      by_leg (Some leg) is = by_stage leg leg.stage is
+      by_leg (Some leg) is = by_stage leg leg.stage is.0 is.1
 
-      by_channel : (o : Option Which) → Kept u newest (end_a2_at s n o).0
+      by_channel : (o : Option Which) → Kept u x newest (end_a2_at s n o).0
       by_channel None = by_leg (in_leg n s.ins) (found_up s n k)
       by_channel (Some Current) =
-          by_test (λ (r : Done). Kept u newest r.0) s.line.current.ended (unexpected s)
+          by_test (λ (r : Done). Kept u x newest r.0) s.line.current.ended (unexpected s)
           (took (record s { line = after_end s.line Current })) (λ e. k)
           (λ e. record { ins = k.ins; current = k.current; next = k.next; newest = k.newest })
       by_channel (Some Next) =
-          by_test (λ (r : Done). Kept u newest r.0) s.line.next.ended (unexpected s)
+          by_test (λ (r : Done). Kept u x newest r.0) s.line.next.ended (unexpected s)
           (took (record s { line = after_end s.line Next })) (λ e. k)
           (λ e. record { ins = k.ins; current = k.current; next = k.next; newest = k.newest })
 
-  -- the row takes what came and gives as many numbers as it carries channels, or refuses
-  abbrev pub KeptRow : Named → Done → Type 0
-  KeptRow packet (t, Ok taken) = Kept u (newest + tells (Packet packet)) t
-  KeptRow packet (t, Err why) = Kept u newest t
-
-  other_row : (packet : Named) (d : Done) → tells (Packet packet) ≡ 0 → Kept u newest d.0
-      → KeptRow packet d
-  other_row packet (t, Ok taken) none k =
-      let same : newest ≡ newest + tells (Packet packet) = omega (arith, none) in
-      subst (λ (n : ℕ). Kept u n t) same k
-  other_row packet (t, Err why) none k = k
-
-  in_r2_a2_row : (s : Server) (n : ℕ) (count : Count) (a : Cookie) → Kept u newest s
-      → KeptRow (named.InR2A2 a) (on_in_r2_a2 s n count a)
-  in_r2_a2_row s n count a k =
-      by_test (KeptRow (named.InR2A2 a))
-      (not (is_first count) && (is_open s.stage
-      && (not (waits kind.InR2A3 s.waiting) && nat_lt s.newest_in 4294967295)))
-      (in_r2_a2_on s n a (channel_at s n)) (unexpected s) (λ e. by (channel_at s n)) (λ e. k)
-    where
-      carried : Placed u (newest + 1) s.ins s.current.leg s.next.leg s.line.has_next
-          (s.newest_in + 1)
-      carried = record {
-        ins = k.ins;
-        current = k.current;
-        next = k.next;
-        newest = omega (arith, k.newest);
-      }
-
-      by : (o : Option Which) → KeptRow (named.InR2A2 a) (in_r2_a2_on s n a o)
-      by None = k
-      by (Some Current) = carried
-      by (Some Next) = carried
-
-  is_row : (s : Server) (n : ℕ) (count : Count) (packet : Named) → Kept u newest s
-      → KeptRow packet (on_is s n count packet)
-  is_row s n count (named.ConnB2 v1 v2 v3 v4 v5 v6 v7 v8) k =
-      other_row (named.ConnB2 v1 v2 v3 v4 v5 v6 v7 v8) (on_conn_b2 s n count v2 v3 v4 v5) refl
-      (conn_b2_kept s n count v2 v3 v4 v5 k)
-  is_row s n count (named.InR1A2 v1 v2 v3 v4 v5 v6) k =
-      other_row (named.InR1A2 v1 v2 v3 v4 v5 v6) (on_in_r1_a2 s n count v2 v3 v4 v5 v6) refl
-      (in_r1_a2_kept s n count v2 v3 v4 v5 v6 k)
-  is_row s n count (named.InR1A6 v1) k =
-      other_row (named.InR1A6 v1) (on_in_r1_a6 s n v1) refl (in_r1_a6_kept s n v1 k)
-  is_row s n count (named.InR2A2 v1) k = in_r2_a2_row s n count v1 k
-  is_row s n count (named.OutR1A8 v1 v2) k =
-      other_row (named.OutR1A8 v1 v2) (on_out_r1_a8 s count v1 v2) refl
-      (same_kept u newest s (on_out_r1_a8 s count v1 v2).0 (same_out_r1_a8 s count v1 v2) k)
-  is_row s n count named.EndA2 k =
-      other_row named.EndA2 (on_end_a2 s n count) refl (end_a2_kept s n count k)
-  is_row s n count (named.AckTo v1 v2 v3 v4) k =
-      other_row (named.AckTo v1 v2 v3 v4) (on_ack_to s count v1 v2 v3 v4) refl
-      (same_kept u newest s (on_ack_to s count v1 v2 v3 v4).0 (same_ack_to s count v1 v2 v3 v4) k)
-  is_row s n count packet k = k
-
-  os_row : (s : Server) (n : ℕ) (count : Count) (packet : Named) → Kept u newest s
-      → KeptRow packet (on_os s n count packet)
-  os_row s n count (named.ConnA2 v1 v2 v3 v4 v5) k =
-      other_row (named.ConnA2 v1 v2 v3 v4 v5) (on_conn_a2 s n count v2 v3 v4 v5) refl
-      (same_kept u newest s (on_conn_a2 s n count v2 v3 v4 v5).0
-      (same_conn_a2 s n count v2 v3 v4 v5) k)
-  os_row s n count (named.OutR1A4 v1 v2 v3 v4 v5 v6 v7) k =
-      other_row (named.OutR1A4 v1 v2 v3 v4 v5 v6 v7) (on_out_r1_a4 s n count v2 v3 v4 v5 v6 v7) refl
-      (same_kept u newest s (on_out_r1_a4 s n count v2 v3 v4 v5 v6 v7).0
-      (same_out_r1_a4 s n count v2 v3 v4 v5 v6 v7) k)
-  os_row s n count (named.Ack v1 v2 v3) k =
-      other_row (named.Ack v1 v2 v3) (on_ack s n count v1 v2 v3) refl
-      (same_kept u newest s (on_ack s n count v1 v2 v3).0 (same_ack s n count v1 v2 v3) k)
-  os_row s n count (named.PingTraffic v1) k =
-      other_row (named.PingTraffic v1) (on_ping_traffic s count) refl
-      (same_kept u newest s (on_ping_traffic s count).0 (same_ping_traffic s count) k)
-  os_row s n count packet k = k
-
-  pub packet_row : (s : Server) (leg : Leg) (count : Count) (named : Named) → Kept u newest s
-      → KeptRow named (packet s leg count named)
-  packet_row s leg count named k = by leg.kind
-    where
-      by : (kind : LegKind) → KeptRow named (packet_by s leg.number count named kind)
-      by InServer = is_row s leg.number count named k
-      by OutServer = os_row s leg.number count named k
-      by ClientIn = k
-      by ClientOut = k
-
-  pub pdu_kept : (s : Server) (leg : Leg) (bytes : List ℕ) → Kept u newest s
-      → Kept u newest (pdu_by s leg.number bytes leg.kind).0
+  pub pdu_kept : (s : Server) (leg : Leg) (bytes : List ℕ) → Kept u x newest s
+      → Kept u x newest (pdu_by s leg.number bytes leg.kind).0
   pdu_kept s leg bytes k = by leg.kind
     where
-      by : (kind : LegKind) → Kept u newest (pdu_by s leg.number bytes kind).0
+      by : (kind : LegKind) → Kept u x newest (pdu_by s leg.number bytes kind).0
       by InServer =
-          same_kept u newest s (on_pdu s leg.number bytes).0 (same_pdu s leg.number bytes) k
+          same_kept u x newest s (on_pdu s leg.number bytes).0 (same_pdu s leg.number bytes) k
       by OutServer = k
       by ClientIn = k
       by ClientOut = k
 
   -- ---- what is drawn and lost
 
-  settled_kept : (s : Server) → Kept u newest s → Kept u newest (settled s)
-  settled_kept s k = same_kept u newest s (settled s) (same_settled s) k
+  settled_kept : (s : Server) → Kept u x newest s → Kept u x newest (settled s)
+  settled_kept s k = same_kept u x newest s (settled s) (same_settled s) k
 
-  pub drawn_kept : (s : Server) (leg : Leg) → Kept u newest s → Kept u newest (drawn s leg)
+  pub drawn_kept : (s : Server) (leg : Leg) → Kept u x newest s → Kept u x newest (drawn s leg)
   drawn_kept s leg k = by leg.kind
     where
-      by : (kind : LegKind) → Kept u newest (drawn_by s leg.number kind)
+      by : (kind : LegKind) → Kept u x newest (drawn_by s leg.number kind)
       by InServer =
-          by_test (Kept u newest) (in_is_drawn (in_leg leg.number s.ins))
+          by_test (Kept u x newest) (in_is_drawn (in_leg leg.number s.ins))
           (settled (without_in s leg.number)) s
           (λ e. settled_kept (without_in s leg.number) (without_kept s leg.number k)) (λ e. k)
       by OutServer = k
       by ClientIn = k
       by ClientOut = k
 
-  pub mark_kept : (s : Server) (leg : Leg) → Kept u newest s → Kept u newest (mark s leg)
+  pub mark_kept : (s : Server) (leg : Leg) → Kept u x newest s → Kept u x newest (mark s leg)
   mark_kept s leg k = by leg.kind
     where
-      lost : (o : Option InLeg) → IfSome o (IsUp u) → Kept u newest (lost_in s leg.number o)
+      lost : (o : Option InLeg) → IfSome o (Stands u x) → Kept u x newest (lost_in s leg.number o)
       lost None is = without_kept s leg.number k
       lost (Some one) is =
-          by_test (Kept u newest) (is_waiting one.stage && stays one.leaving)
+          by_test (Kept u x newest) (is_waiting one.stage && stays one.leaving)
           (with_in s (record one { leaving = leaving.Lost })) (without_in s leg.number)
           (λ e. with_kept s (record one { leaving = leaving.Lost }) is k)
           (λ e. without_kept s leg.number k)
 
-      by : (kind : LegKind) → Kept u newest (mark_by s leg.number kind)
+      by : (kind : LegKind) → Kept u x newest (mark_by s leg.number kind)
       by InServer =
           settled_kept (lost_in s leg.number (in_leg leg.number s.ins))
           (lost (in_leg leg.number s.ins) (found_up s leg.number k))
@@ -590,3 +440,215 @@ module _ (u : ℕ → Bool) (newest : ℕ) where
           (record { ins = k.ins; current = k.current; next = k.next; newest = k.newest })
       by ClientIn = k
       by ClientOut = k
+
+-- ---- rows
+
+-- y: the legs on which a message came, with that of the row
+module _ (u x y : ℕ → Bool) (newest : ℕ) (spoken : (k : ℕ) → x k ≡ true → y k ≡ true) where
+  -- the row takes what came and gives so many numbers, or refuses
+  abbrev pub KeptBy : ℕ → Done → Type 0
+  KeptBy count (t, Ok taken) = Kept u y (newest + count) t
+  KeptBy count (t, Err why) = Kept u x newest t
+
+  -- as many as the packet tells of
+  abbrev pub KeptRow : Named → Done → Type 0
+  KeptRow packet d = KeptBy (tells (Packet packet)) d
+
+  later : (s : Server) → Kept u x newest s → Kept u y newest s
+  later s k = more_kept u u x y newest s (λ n e. e) spoken k
+
+  none_given : (legs : List InLeg) (here there : ℕ) (has_next : Bool) (number count : ℕ)
+      → count ≡ 0 → Placed u y newest legs here there has_next number
+      → Placed u y (newest + count) legs here there has_next number
+  none_given legs here there has_next number count none k =
+      let same : newest ≡ newest + count = omega (arith, none) in
+      subst (λ (n : ℕ). Placed u y n legs here there has_next number) same k
+
+  -- a row that opens no leg
+  other_row : (packet : Named) (d : Done) → tells (Packet packet) ≡ 0 → Kept u x newest d.0
+      → KeptRow packet d
+  other_row packet (t, Ok taken) none k =
+      none_given t.ins t.current.leg t.next.leg t.line.has_next t.newest_in (tells (Packet packet))
+      none (later t k)
+  other_row packet (t, Err why) none k = k
+
+  -- the message came on this leg
+  in_r1_a2_row : (s : Server) (n : ℕ) (count : Count) (a b c : Cookie) (d f : ℕ) → y n ≡ true
+      → Kept u x newest s → KeptBy 0 (on_in_r1_a2 s n count a b c d f)
+  in_r1_a2_row s n count a b c d f came k =
+      by_test (KeptBy 0) (is_first count && not (has_fresh_below n s.ins))
+      (in_r1_a2_at s s.stage n a b c d f) (unexpected s) (λ e. by_stage s.stage) (λ e. k)
+    where
+      tells_it : (leg : InLeg) → u leg.number ≡ true → leg.number ≡ n
+          → Placed u y (newest + 0) (announced s leg c d f).ins (announced s leg c d f).current.leg
+          (announced s leg c d f).next.leg (announced s leg c d f).line.has_next
+          (announced s leg c d f).newest_in
+      tells_it leg is same =
+          let t = announced s leg c d f in
+          let started = record s { newest = record { leg = leg.number; cookie = c } } in
+          let now = later s k in
+          none_given t.ins t.current.leg t.next.leg t.line.has_next t.newest_in 0 refl
+          (next_opened_kept u y newest
+          (with_in started (record leg { cookie = c; stage = Waits d f false }))
+          (with_kept u y newest started (record leg { cookie = c; stage = Waits d f false })
+          (is, subst (λ k. y k ≡ true) (sym same) came)
+          (record {
+            ins = now.ins;
+            current = now.current;
+            next = now.next;
+            newest = now.newest;
+          })))
+
+      by_leg : (first : Cookie) (o : Option InLeg) → IfSome o (Stands u x)
+          → IfSome o (λ (leg : InLeg). leg.number ≡ n)
+          → KeptBy 0 (in_r1_a2_by s first a b c d f o)
+      by_leg first None is same = k
+      by_leg first (Some leg) is same =
+          by_test (KeptBy 0) (not (is_fresh leg.stage)) (unexpected s)
+          (if not (same_cookie first a) then refuse s (refused.Cookie first a)
+          else (if not (same_cookie s.newest.cookie b)
+          then refuse s (refused.Cookie s.newest.cookie b)
+          else took (announced s leg c d f)))
+          (λ e. k)
+          (λ e. by_test (KeptBy 0) (not (same_cookie first a))
+          (refuse s (refused.Cookie first a))
+          (if not (same_cookie s.newest.cookie b)
+          then refuse s (refused.Cookie s.newest.cookie b)
+          else took (announced s leg c d f))
+          (λ e. k)
+          (λ e. by_test (KeptBy 0) (not (same_cookie s.newest.cookie b))
+          (refuse s (refused.Cookie s.newest.cookie b)) (took (announced s leg c d f)) (λ e. k)
+          (λ e. tells_it leg is.0 same)))
+
+      by_stage : (z : Stage) → KeptBy 0 (in_r1_a2_at s z n a b c d f)
+      by_stage (stage.Open first) =
+          by_leg first (in_leg n s.ins) (found_up u x newest s n k) (number_found n s.ins)
+      by_stage stage.Waits = k
+      by_stage (stage.OutCame first) = k
+      by_stage (stage.InCame first window timeout) = k
+      by_stage stage.Ended = k
+
+  -- CONN/B2: the first channel is that of leg 1
+  first_kept : (s : Server) (cookie : Cookie) (o : Option InLeg) → IfSome o (Stands u y)
+      → IfSome o (λ (leg : InLeg). leg.number ≡ 1) → y 1 ≡ true
+      → Kept u y newest s → Kept u y newest (first_in s cookie o)
+  first_kept s cookie None is same came k = k
+  first_kept s cookie (Some leg) is same came k =
+      with_kept u y newest
+      (record s {
+        current = record { leg = 1; number = 1; cookie = cookie };
+        newest = record { leg = 1; cookie = cookie };
+      })
+      (record leg { cookie = cookie; stage = Opened; tells = tells.ConnB3 })
+      (is.0, subst (λ k. y k ≡ true) (sym same) came)
+      (record { ins = k.ins; current = inr refl; next = k.next; newest = k.newest })
+
+  conn_b2_row : (s : Server) (n : ℕ) (count : Count) (a b : Cookie) (c d : ℕ) → y n ≡ true
+      → Kept u x newest s → KeptBy 0 (on_conn_b2 s n count a b c d)
+  conn_b2_row s n count a b c d came k =
+      by_test (KeptBy 0) (is_first count && ((n == 1) && not (waits kind.ConnC1 s.waiting)))
+      (conn_b2_at s s.stage a b c d) (unexpected s)
+      (λ e. by (second (is_first count) (n == 1) (not (waits kind.ConnC1 s.waiting)) e) s.stage)
+      (λ e. k)
+    where
+      second : (a b c : Bool) → a && (b && c) ≡ true → b ≡ true
+      second true true c e = refl
+      second true false c e = absurd cc
+      second false b c e = absurd cc
+
+      -- whatever the stage is
+      staged : n == 1 ≡ true
+          → Placed u y (newest + 0) (with_first_in s b).ins (with_first_in s b).current.leg
+          (with_first_in s b).next.leg (with_first_in s b).line.has_next
+          (with_first_in s b).newest_in
+      staged e =
+          let t = with_first_in s b in
+          let now = later s k in
+          none_given t.ins t.current.leg t.next.leg t.line.has_next t.newest_in 0 refl
+          (first_kept s b (in_leg 1 s.ins) (found_up u y newest s 1 now) (number_found 1 s.ins)
+          (subst (λ k. y k ≡ true) (same_number n 1 e) came) now)
+
+      by : n == 1 ≡ true → (z : Stage) → KeptBy 0 (conn_b2_at s z a b c d)
+      by e stage.Waits = staged e
+      by e (stage.OutCame first) =
+          by_test (KeptBy 0) (same_cookie first a)
+          (took (opens (with_first_in s b) first c d)) (refuse s (refused.Cookie first a))
+          (λ f. staged e)
+          (λ f. k)
+      by e (stage.InCame first window timeout) = k
+      by e (stage.Open first) = k
+      by e stage.Ended = k
+
+  in_r2_a2_row : (s : Server) (n : ℕ) (count : Count) (a : Cookie) → Kept u x newest s
+      → KeptRow (named.InR2A2 a) (on_in_r2_a2 s n count a)
+  in_r2_a2_row s n count a k =
+      by_test (KeptRow (named.InR2A2 a))
+      (not (is_first count) && (is_open s.stage
+      && (not (waits kind.InR2A3 s.waiting) && nat_lt s.newest_in 4294967295)))
+      (in_r2_a2_on s n a (channel_at s n)) (unexpected s) (λ e. by (channel_at s n)) (λ e. k)
+    where
+      now : Kept u y newest s
+      now = later s k
+
+      carried : Placed u y (newest + 1) s.ins s.current.leg s.next.leg s.line.has_next
+          (s.newest_in + 1)
+      carried = record {
+        ins = now.ins;
+        current = now.current;
+        next = now.next;
+        newest = omega (arith, k.newest);
+      }
+
+      by : (o : Option Which) → KeptRow (named.InR2A2 a) (in_r2_a2_on s n a o)
+      by None = k
+      by (Some Current) = carried
+      by (Some Next) = carried
+
+  is_row : (s : Server) (n : ℕ) (count : Count) (packet : Named) → y n ≡ true
+      → Kept u x newest s → KeptRow packet (on_is s n count packet)
+  is_row s n count (named.ConnB2 v1 v2 v3 v4 v5 v6 v7 v8) came k =
+      conn_b2_row s n count v2 v3 v4 v5 came k
+  is_row s n count (named.InR1A2 v1 v2 v3 v4 v5 v6) came k =
+      in_r1_a2_row s n count v2 v3 v4 v5 v6 came k
+  is_row s n count (named.InR1A6 v1) came k =
+      other_row (named.InR1A6 v1) (on_in_r1_a6 s n v1) refl (in_r1_a6_kept u x newest s n v1 k)
+  is_row s n count (named.InR2A2 v1) came k = in_r2_a2_row s n count v1 k
+  is_row s n count (named.OutR1A8 v1 v2) came k =
+      other_row (named.OutR1A8 v1 v2) (on_out_r1_a8 s count v1 v2) refl
+      (same_kept u x newest s (on_out_r1_a8 s count v1 v2).0 (same_out_r1_a8 s count v1 v2) k)
+  is_row s n count named.EndA2 came k =
+      other_row named.EndA2 (on_end_a2 s n count) refl (end_a2_kept u x newest s n count k)
+  is_row s n count (named.AckTo v1 v2 v3 v4) came k =
+      other_row (named.AckTo v1 v2 v3 v4) (on_ack_to s count v1 v2 v3 v4) refl
+      (same_kept u x newest s (on_ack_to s count v1 v2 v3 v4).0 (same_ack_to s count v1 v2 v3 v4) k)
+  is_row s n count packet came k = k
+
+  os_row : (s : Server) (n : ℕ) (count : Count) (packet : Named) → Kept u x newest s
+      → KeptRow packet (on_os s n count packet)
+  os_row s n count (named.ConnA2 v1 v2 v3 v4 v5) k =
+      other_row (named.ConnA2 v1 v2 v3 v4 v5) (on_conn_a2 s n count v2 v3 v4 v5) refl
+      (same_kept u x newest s (on_conn_a2 s n count v2 v3 v4 v5).0
+      (same_conn_a2 s n count v2 v3 v4 v5) k)
+  os_row s n count (named.OutR1A4 v1 v2 v3 v4 v5 v6 v7) k =
+      other_row (named.OutR1A4 v1 v2 v3 v4 v5 v6 v7) (on_out_r1_a4 s n count v2 v3 v4 v5 v6 v7) refl
+      (same_kept u x newest s (on_out_r1_a4 s n count v2 v3 v4 v5 v6 v7).0
+      (same_out_r1_a4 s n count v2 v3 v4 v5 v6 v7) k)
+  os_row s n count (named.Ack v1 v2 v3) k =
+      other_row (named.Ack v1 v2 v3) (on_ack s n count v1 v2 v3) refl
+      (same_kept u x newest s (on_ack s n count v1 v2 v3).0 (same_ack s n count v1 v2 v3) k)
+  os_row s n count (named.PingTraffic v1) k =
+      other_row (named.PingTraffic v1) (on_ping_traffic s count) refl
+      (same_kept u x newest s (on_ping_traffic s count).0 (same_ping_traffic s count) k)
+  os_row s n count packet k = k
+
+  pub packet_row : (s : Server) (leg : Leg) (count : Count) (named : Named)
+      → (leg.kind ≡ InServer → y leg.number ≡ true) → Kept u x newest s
+      → KeptRow named (packet s leg count named)
+  packet_row s leg count named came k = by leg.kind came
+    where
+      by : (kind : LegKind) → (kind ≡ InServer → y leg.number ≡ true)
+          → KeptRow named (packet_by s leg.number count named kind)
+      by InServer here = is_row s leg.number count named (here refl) k
+      by OutServer here = os_row s leg.number count named k
+      by ClientIn here = k
+      by ClientOut here = k

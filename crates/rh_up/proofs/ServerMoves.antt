@@ -32,10 +32,10 @@ use Rattle.rh_server.specs.Putting.{Pick, put}
 use Rattle.rh_server.specs.Servers.{packet, packet_by, pdu}
 use Rattle.rh_server.specs.Servers.{rules as server_rules, acts as server_acts}
 use Rattle.rh_proxies_begin.specs.Pipes.{is as server_leg}
-use Rattle.rh_up.proofs.Told.{tells, told_more, carried, carried_less}
+use Rattle.rh_up.proofs.Told.{tells, told_more, carried, carried_less, spoke, spoke_more, spoke_last}
 use Rattle.rh_up.proofs.Counts.{AreRead, Counted, same_counted, risen_counted, carried_counted}
 use Rattle.rh_up.proofs.Rising.{or_assoc, or_nothing}
-use Rattle.rh_up.proofs.ServerLegs.{IsUp, Kept, Same, same_kept, more_kept, number_found, found_up, each_pushed, take_kept, KeptRow, packet_row, pdu_kept, drawn_kept, mark_kept}
+use Rattle.rh_up.proofs.ServerLegs.{Stands, Kept, Same, same_kept, more_kept, number_found, found_up, each_pushed, take_kept, KeptRow, packet_row, pdu_kept, drawn_kept, mark_kept}
 use Rattle.rh_up.proofs.ServerPuts.{PickKept, put_kept}
 
 -- ---- calls that leave the legs
@@ -59,43 +59,43 @@ same_recycle s = search rules
 
 -- ---- what holds behind moves
 
-renewed : (u : ℕ → Bool) (n : ℕ) (s : Server) → Kept u n s → Kept u s.newest_in s
-renewed u n s k =
+renewed : (u x : ℕ → Bool) (n : ℕ) (s : Server) → Kept u x n s → Kept u x s.newest_in s
+renewed u x n s k =
     record { ins = k.ins; current = k.current; next = k.next; newest = refl }
 
 -- a leg in use came up
-in_use_up : (u : ℕ → Bool) (newest : ℕ) (s : Server) (n : ℕ) → Kept u newest s
+in_use_up : (u x : ℕ → Bool) (newest : ℕ) (s : Server) (n : ℕ) → Kept u x newest s
     → (is_at_work server_rules s && not (in_is_done (in_leg n s.ins))) ≡ true → u n ≡ true
-in_use_up u newest s n k may =
-    by (in_leg n s.ins) (number_found n s.ins) (found_up u newest s n k)
+in_use_up u x newest s n k may =
+    by (in_leg n s.ins) (number_found n s.ins) (found_up u x newest s n k)
     (and_parts (is_at_work server_rules s) (not (in_is_done (in_leg n s.ins))) may).1
   where
-    by : (o : Option InLeg) → IfSome o (λ (leg : InLeg). leg.number ≡ n) → IfSome o (IsUp u)
+    by : (o : Option InLeg) → IfSome o (λ (leg : InLeg). leg.number ≡ n) → IfSome o (Stands u x)
         → not (in_is_done o) ≡ true → u n ≡ true
     by None same up e = absurd cc
-    by (Some leg) same up e = subst (λ k. u k ≡ true) same up
+    by (Some leg) same up e = subst (λ k. u k ≡ true) same up.0
 
 module _ (made : ℕ → Bool) (reader : ℕ → ℕ) (reads : ℕ → ℕ → Bool) (final : ℕ → ℕ)
     (are : AreRead made reader reads final) where
-  -- u: the is legs that came up; and numbers were given as they were told, if all of them are
-  -- numbers of in proxies that told no more than they did
+  -- u: the is legs that came up; and numbers were given as they were told, if in proxies told no
+  -- more than they did
   pub record Holds (u : ℕ → Bool) (p : Passage Server) : Type 0 where
-    pub kept : Kept u p.role.newest_in p.role
-    pub counted : ((n : ℕ) → carried p.came n ≤ final n) → ((n : ℕ) → u n ≡ true → made n ≡ true)
+    pub kept : Kept u (spoke p.came) p.role.newest_in p.role
+    pub counted : ((n : ℕ) → carried p.came n ≤ final n)
         → Counted made reader reads final are u (carried p.came) p.role.newest_in
 
   -- nothing that counts was taken, and no number was given
   quiet : (u v : ℕ → Bool) (p q : Passage Server) → ((n : ℕ) → v n ≡ u n)
-      → ((n : ℕ) → carried q.came n ≡ carried p.came n) → Kept u p.role.newest_in q.role
-      → Holds u p → Holds v q
+      → ((n : ℕ) → carried q.came n ≡ carried p.came n)
+      → Kept u (spoke q.came) p.role.newest_in q.role → Holds u p → Holds v q
   quiet u v p q ups counts k h = record {
-    kept = renewed v p.role.newest_in q.role
-        (more_kept u v p.role.newest_in q.role (λ n e. ups n ∙ e) k);
-    counted = λ within makes.
+    kept = renewed v (spoke q.came) p.role.newest_in q.role
+        (more_kept u v (spoke q.came) (spoke q.came) p.role.newest_in q.role (λ n e. ups n ∙ e)
+        (λ n e. e) k);
+    counted = λ within.
         same_counted made reader reads final are u v (carried p.came) (carried q.came)
         p.role.newest_in q.role.newest_in ups counts k.newest
-        (h.counted (λ n. let e = counts n in let w = within n in omega (arith, e, w))
-        (λ n e. makes n (ups n ∙ e)));
+        (h.counted (λ n. let e = counts n in let w = within n in omega (arith, e, w)));
   }
 
   -- no leg came up
@@ -105,11 +105,14 @@ module _ (made : ℕ → Bool) (reader : ℕ → ℕ) (reads : ℕ → ℕ → B
   -- ---- rows
 
   pdu_holds : (u : ℕ → Bool) (p : Passage Server) (leg : Leg) (bytes : List ℕ) (d : Done)
-      → Kept u p.role.newest_in d.0 → Holds u p → Holds u (taken_by p leg (Pdu bytes) d)
+      → Kept u (spoke p.came) p.role.newest_in d.0 → Holds u p
+      → Holds u (taken_by p leg (Pdu bytes) d)
   pdu_holds u p leg bytes (t, Ok taken) k h =
       quiet u u p (taken_by p leg (Pdu bytes) (t, Ok taken)) (λ n. refl)
       (λ n. told_more (server_leg n) p.came (leg, Pdu bytes) ∙ none n (same_leg leg (server_leg n)))
-      k h
+      (more_kept u u (spoke p.came) (spoke (p.came ++ (leg, Pdu bytes) ∷ [])) p.role.newest_in t
+      (λ n e. e) (spoke_more p.came (leg, Pdu bytes)) k)
+      h
     where
       none : (n : ℕ) (b : Bool) → carried p.came n + (if b then 0 else 0) ≡ carried p.came n
       none n true = omega arith
@@ -118,8 +121,18 @@ module _ (made : ℕ → Bool) (reader : ℕ → ℕ) (reads : ℕ → ℕ → B
       quiet u u p (taken_by p leg (Pdu bytes) (t, Err why)) (λ n. refl) (λ n. refl) k h
 
   -- a packet that tells of no channel
+  -- the message came, with others
+  spoken : (p : Passage Server) (leg : Leg) (packet : Named) (n : ℕ) → spoke p.came n ≡ true
+      → spoke (p.came ++ (leg, Packet packet) ∷ []) n ≡ true
+  spoken p leg packet = spoke_more p.came (leg, Packet packet)
+
+  abbrev RowOf : (ℕ → Bool) → Passage Server → Leg → Named → Done → Type 0
+  RowOf u p leg packet d =
+      KeptRow u (spoke p.came) (spoke (p.came ++ (leg, Packet packet) ∷ [])) p.role.newest_in
+      (spoken p leg packet) packet d
+
   other_holds : (u : ℕ → Bool) (p : Passage Server) (leg : Leg) (packet : Named) (d : Done)
-      → tells (Packet packet) ≡ 0 → KeptRow u p.role.newest_in packet d → Holds u p
+      → tells (Packet packet) ≡ 0 → RowOf u p leg packet d → Holds u p
       → Holds u (taken_by p leg (Packet packet) d)
   other_holds u p leg packet (t, Ok taken) zero k h =
       quiet u u p (taken_by p leg (Packet packet) (t, Ok taken)) (λ n. refl)
@@ -142,25 +155,25 @@ module _ (made : ℕ → Bool) (reader : ℕ → ℕ) (reads : ℕ → ℕ → B
 
   -- IN_R2/A2 on a leg that came up
   told_holds : (u : ℕ → Bool) (p : Passage Server) (n : ℕ) (cookie : Cookie) (d : Done)
-      → u n ≡ true → KeptRow u p.role.newest_in (named.InR2A2 cookie) d → Holds u p
+      → u n ≡ true → RowOf u p (server_leg n) (named.InR2A2 cookie) d → Holds u p
       → Holds u (taken_by p (server_leg n) (Packet (named.InR2A2 cookie)) d)
   told_holds u p n cookie (t, Err why) up k h =
       quiet u u p (taken_by p (server_leg n) (Packet (named.InR2A2 cookie)) (t, Err why))
       (λ n. refl) (λ n. refl) k h
   told_holds u p n cookie (t, Ok taken) up k h = record {
-    kept = renewed u (p.role.newest_in + 1) t k;
-    counted = λ within makes.
+    kept = renewed u (spoke (p.came ++ one ∷ [])) (p.role.newest_in + 1) t k;
+    counted = λ within.
         subst (Counted made reader reads final are u (carried (p.came ++ one ∷ [])))
         (sym k.newest)
         (carried_counted made reader reads final are u (carried p.came)
-        (carried (p.came ++ one ∷ [])) p.role.newest_in n up makes
+        (carried (p.came ++ one ∷ [])) p.role.newest_in n up
         (more n ∙ ap (λ b. carried p.came n + (if b then 1 else 0)) (test_same n))
         (λ m o. more m
         ∙ ap (λ b. carried p.came m + (if b then 1 else 0))
         (test_other n m (λ e. o (sym e))) ∙ nothing m)
         (within n)
         (h.counted (λ m. let e = carried_less p.came one m in let w = within m in
-        omega (arith, e, w)) makes));
+        omega (arith, e, w))));
   }
     where
       one : OnLeg
@@ -178,19 +191,27 @@ module _ (made : ℕ → Bool) (reader : ℕ → ℕ) (reads : ℕ → ℕ → B
       → Holds u (taken_by p leg (Packet packet) (packet_by p.role leg.number count packet leg.kind))
   packet_holds u p leg count packet may h = by packet
     where
-      row : (x : Named) → KeptRow u p.role.newest_in x
-          (packet_by p.role leg.number count x leg.kind)
-      row x = packet_row u p.role.newest_in p.role leg count x h.kept
+      came : (x : Named) → leg.kind ≡ InServer
+          → spoke (p.came ++ (leg, Packet x) ∷ []) leg.number ≡ true
+      came x e =
+          spoke_last p.came (leg, Packet x) leg.number
+          (ap (λ (kind : LegKind). same_leg (record { kind = kind; number = leg.number })
+          (server_leg leg.number)) e ∙ test_same leg.number)
+
+      row : (x : Named) → RowOf u p leg x (packet_by p.role leg.number count x leg.kind)
+      row x =
+          packet_row u (spoke p.came) (spoke (p.came ++ (leg, Packet x) ∷ [])) p.role.newest_in
+          (spoken p leg x) p.role leg count x (came x) h.kept
 
       by_kind : (kind : LegKind) (n : ℕ) (cookie : Cookie)
           → (is_at_work server_rules p.role && not (is_done_by p.role n kind)) ≡ true
-          → KeptRow u p.role.newest_in (named.InR2A2 cookie)
+          → RowOf u p (record { kind = kind; number = n }) (named.InR2A2 cookie)
           (packet_by p.role n count (named.InR2A2 cookie) kind)
           → Holds u (taken_by p (record { kind = kind; number = n })
           (Packet (named.InR2A2 cookie)) (packet_by p.role n count (named.InR2A2 cookie) kind))
       by_kind InServer n cookie e k =
           told_holds u p n cookie (packet_by p.role n count (named.InR2A2 cookie) InServer)
-          (in_use_up u p.role.newest_in p.role n h.kept e) k h
+          (in_use_up u (spoke p.came) p.role.newest_in p.role n h.kept e) k h
       by_kind OutServer n cookie e k = h
       by_kind ClientIn n cookie e k = h
       by_kind ClientOut n cookie e k = h
@@ -209,15 +230,15 @@ module _ (made : ℕ → Bool) (reader : ℕ → ℕ) (reads : ℕ → ℕ → B
       → Holds v (record p { role = up_by p.role n InServer })
   in_up u v p n may ups h = record {
     kept = record {
-      ins = each_pushed (IsUp v) p.role.ins (in_leg_up n) later.ins
-          (ups n ∙ or_right (u n) (nat_eq n n) (test_same n));
+      ins = each_pushed (Stands v (spoke p.came)) p.role.ins (in_leg_up n) later.ins
+          (ups n ∙ or_right (u n) (nat_eq n n) (test_same n), refl);
       current = later.current;
       next = later.next;
       newest = refl;
     };
-    counted = λ within makes.
+    counted = λ within.
         risen_counted made reader reads final are u v (carried p.came) p.role.newest_in n next ups
-        (h.counted within (λ k e. makes k (more k e)));
+        (h.counted within);
   }
     where
       next : n ≡ p.role.newest_in + 1
@@ -227,8 +248,9 @@ module _ (made : ℕ → Bool) (reader : ℕ → ℕ) (reads : ℕ → ℕ → B
       more : (k : ℕ) → u k ≡ true → v k ≡ true
       more k e = ups k ∙ or_left (u k) (nat_eq k n) e
 
-      later : Kept v p.role.newest_in p.role
-      later = more_kept u v p.role.newest_in p.role more h.kept
+      later : Kept v (spoke p.came) p.role.newest_in p.role
+      later =
+          more_kept u v (spoke p.came) (spoke p.came) p.role.newest_in p.role more (λ k e. e) h.kept
 
   up_holds : (u v : ℕ → Bool) (p : Passage Server) (leg : Leg) (cookie : Cookie)
       → may_up p.role leg ≡ true
@@ -260,7 +282,7 @@ module _ (made : ℕ → Bool) (reader : ℕ → ℕ) (reads : ℕ → ℕ → B
   -- ---- moves
 
   put_holds : (u : ℕ → Bool) (p : Passage Server) (leg : Leg) (pick : Pick)
-      → PickKept u p.role.newest_in pick → Holds u p → Holds u (put_by p leg pick)
+      → PickKept u (spoke p.came) p.role.newest_in pick → Holds u p → Holds u (put_by p leg pick)
   put_holds u p leg None k h = h
   put_holds u p leg (Some pick) k h =
       quiet u u p (put_by p leg (Some pick)) (λ n. refl) (λ n. refl) k h
@@ -275,7 +297,7 @@ module _ (made : ℕ → Bool) (reader : ℕ → ℕ) (reads : ℕ → ℕ → B
       let q = taken_by p leg (Pdu bytes) (pdu p.role leg count bytes) in
       let held : Holds u q =
       pdu_holds u p leg bytes (pdu p.role leg count bytes)
-      (pdu_kept u p.role.newest_in p.role leg bytes h.kept) h in
+      (pdu_kept u (spoke p.came) p.role.newest_in p.role leg bytes h.kept) h in
       quiet u v q q (not_up u v ups) (λ n. refl) held.kept held
   move_holds u v p (PacketCame leg count packet) may ups h =
       let q = taken_by p leg (Packet packet) (packet_by p.role leg.number count packet leg.kind) in
@@ -284,14 +306,14 @@ module _ (made : ℕ → Bool) (reader : ℕ → ℕ) (reads : ℕ → ℕ → B
   move_holds u v p (Puts leg) may ups h =
       let q = put_by p leg (put p.role leg) in
       let held : Holds u q =
-      put_holds u p leg (put p.role leg) (put_kept u p.role.newest_in p.role leg h.kept) h in
+      put_holds u p leg (put p.role leg) (put_kept u (spoke p.came) p.role.newest_in p.role leg h.kept) h in
       quiet u v q q (not_up u v ups) (λ n. refl) held.kept held
   move_holds u v p (IsDrawn leg) may ups h =
       quiet u v p (record p { role = drawn p.role leg }) (not_up u v ups) (λ n. refl)
-      (drawn_kept u p.role.newest_in p.role leg h.kept) h
+      (drawn_kept u (spoke p.came) p.role.newest_in p.role leg h.kept) h
   move_holds u v p (Marks leg) may ups h =
       quiet u v p (record p { role = mark p.role leg }) (not_up u v ups) (λ n. refl)
-      (mark_kept u p.role.newest_in p.role leg h.kept) h
+      (mark_kept u (spoke p.came) p.role.newest_in p.role leg h.kept) h
   move_holds u v p (Pings leg) may ups h =
       quiet u v p p (not_up u v ups) (λ n. refl) h.kept h
 
@@ -299,7 +321,7 @@ module _ (made : ℕ → Bool) (reader : ℕ → ℕ) (reads : ℕ → ℕ → B
 
   given_holds : (u v : ℕ → Bool) (p : EndPassage Server) (pdu : List ℕ)
       (x : Server × Result (Unit {0}) GiveRefused) → ((k : ℕ) → v k ≡ u k || false)
-      → Kept u p.passage.role.newest_in x.0 → Holds u p.passage
+      → Kept u (spoke p.passage.came) p.passage.role.newest_in x.0 → Holds u p.passage
       → Holds v (given_by p pdu x).passage
   given_holds u v p pdu (t, Ok accepted) ups k h =
       quiet u v p.passage (record (p.passage) { role = t }) (not_up u v ups) (λ n. refl) k h
@@ -317,12 +339,12 @@ module _ (made : ℕ → Bool) (reader : ℕ → ℕ) (reads : ℕ → ℕ → B
   end_move_holds u v p (Moves move) may ups h = move_holds u v p.passage move may ups h
   end_move_holds u v p (Gives bytes) may ups h =
       given_holds u v p bytes (give p.passage.role bytes) ups
-      (same_kept u p.passage.role.newest_in p.passage.role (give p.passage.role bytes).0
+      (same_kept u (spoke p.passage.came) p.passage.role.newest_in p.passage.role (give p.passage.role bytes).0
       (same_give p.passage.role bytes) h.kept) h
   end_move_holds u v p Takes may ups h =
       taken_holds v (end_now_at p (take p.passage.role)) p.passage.role.line.current.pdus
       (quiet u v p.passage (record (p.passage) { role = take p.passage.role }) (not_up u v ups)
-      (λ n. refl) (take_kept u p.passage.role.newest_in p.passage.role h.kept) h)
+      (λ n. refl) (take_kept u (spoke p.passage.came) p.passage.role.newest_in p.passage.role h.kept) h)
   end_move_holds u v p Closes may ups h =
       quiet u v p.passage (end_moved server_rules server_acts p Closes).passage (not_up u v ups)
       (λ n. refl)
@@ -330,7 +352,7 @@ module _ (made : ℕ → Bool) (reader : ℕ → ℕ) (reads : ℕ → ℕ → B
   end_move_holds u v p Recycles may ups h =
       quiet u v p.passage (record (p.passage) { role = (recycle p.passage.role).0 })
       (not_up u v ups) (λ n. refl)
-      (same_kept u p.passage.role.newest_in p.passage.role (recycle p.passage.role).0
+      (same_kept u (spoke p.passage.came) p.passage.role.newest_in p.passage.role (recycle p.passage.role).0
       (same_recycle p.passage.role) h.kept) h
 
   -- ---- all moves

@@ -29,7 +29,7 @@ use Rattle.rh_server.specs.declared.state.Tells.TheVariants as tells
 use Rattle.rh_server.specs.States.{Server, is_due, is_open, is_shut, in_leg, with_in, out_place}
 use Rattle.rh_server.specs.OutLines.{Gate, lets, length_of}
 use Rattle.rh_server.specs.Putting.{Pick, or_else, put, put_by, put_in_by, put_in_greeting, told_by, was_current, put_tells, put_tells_by, put_b1, put_b1_by, put_ack, put_ack_by, ack_due, next_in, put_out, put_out_at, put_open, next_out, out_greeting_at, put_out_greeting, put_waiting, waiting_at, waiting_by, was_put, goes, with_out, counts, counts_at, may_go_at, may_end_at, is_end_due, gate_at, put_pdu, pdu_by, put_end, put_pdu_or_end, settled_pick}
-use Rattle.rh_up.proofs.ServerLegs.{IsUp, Kept, Same, same_kept, with_kept, found_up, same_settled}
+use Rattle.rh_up.proofs.ServerLegs.{Stands, Kept, Same, same_kept, with_kept, found_up, same_settled}
 
 -- ---- on an os leg
 
@@ -113,75 +113,75 @@ out_same s n = by (out_place n s.outs)
 
 -- ---- on an is leg
 
-abbrev pub PickKept : (ℕ → Bool) → ℕ → Pick → Type 0
-PickKept u newest pick = IfSome pick (λ (put : Server × Message). Kept u newest put.0)
+abbrev pub PickKept : (ℕ → Bool) → (ℕ → Bool) → ℕ → Pick → Type 0
+PickKept u x newest pick = IfSome pick (λ (put : Server × Message). Kept u x newest put.0)
 
-pick_kept : (u : ℕ → Bool) (newest : ℕ) (s : Server) (pick : Pick) → Kept u newest s
-    → SamePick s pick → PickKept u newest pick
-pick_kept u newest s None k same = tt
-pick_kept u newest s (Some pick) k same = same_kept u newest s pick.0 same k
+pick_kept : (u x : ℕ → Bool) (newest : ℕ) (s : Server) (pick : Pick) → Kept u x newest s
+    → SamePick s pick → PickKept u x newest pick
+pick_kept u x newest s None k same = tt
+pick_kept u x newest s (Some pick) k same = same_kept u x newest s pick.0 same k
 
-module _ (u : ℕ → Bool) (newest : ℕ) where
-  or_kept : (a b : Pick) → PickKept u newest a → PickKept u newest b
-      → PickKept u newest (or_else a b)
+module _ (u x : ℕ → Bool) (newest : ℕ) where
+  or_kept : (a b : Pick) → PickKept u x newest a → PickKept u x newest b
+      → PickKept u x newest (or_else a b)
   or_kept None b p q = q
   or_kept (Some pick) b p q = p
 
-  tells_kept : (s : Server) (leg : InLeg) (t : Tells) → IsUp u leg → Kept u newest s
-      → PickKept u newest (put_tells_by s leg t)
+  tells_kept : (s : Server) (leg : InLeg) (t : Tells) → Stands u x leg → Kept u x newest s
+      → PickKept u x newest (put_tells_by s leg t)
   tells_kept s leg tells.Nothing is k = tt
   tells_kept s leg tells.ConnB3 is k =
-      by_test (PickKept u newest) (is_open s.stage)
+      by_test (PickKept u x newest) (is_open s.stage)
       (Some (
         with_in s (record leg { tells = tells.Nothing }),
         Packet (named.ConnB3 s.line.size 1),
       )) None
-      (λ e. with_kept u newest s (record leg { tells = tells.Nothing }) is k) (λ e. tt)
+      (λ e. with_kept u x newest s (record leg { tells = tells.Nothing }) is k) (λ e. tt)
   tells_kept s leg tells.InR1B2 is k =
-      by_test (PickKept u newest) (was_current s leg)
+      by_test (PickKept u x newest) (was_current s leg)
       (Some (
         with_in (told_by s leg.number) (record leg { tells = tells.Nothing }),
         Packet (named.InR1B2 s.line.size),
       )) None
-      (λ e. with_kept u newest (told_by s leg.number) (record leg { tells = tells.Nothing }) is
-      (by_test (Kept u newest) ((leg.number == s.current.leg) && is_shut s.edge)
+      (λ e. with_kept u x newest (told_by s leg.number) (record leg { tells = tells.Nothing }) is
+      (by_test (Kept u x newest) ((leg.number == s.current.leg) && is_shut s.edge)
       (record s { line = after_tell s.line Current; edge = Told }) s
       (λ f. record { ins = k.ins; current = k.current; next = k.next; newest = k.newest })
       (λ f. k)))
       (λ e. tt)
 
-  in_kept : (s : Server) (leg : InLeg) → IsUp u leg → Kept u newest s
-      → PickKept u newest (next_in s leg)
+  in_kept : (s : Server) (leg : InLeg) → Stands u x leg → Kept u x newest s
+      → PickKept u x newest (next_in s leg)
   in_kept s leg is k =
       or_kept (put_in_greeting s leg) (or_else (put_tells s leg) (or_else (put_b1 s leg)
       (put_ack s leg)))
-      (by_test (PickKept u newest) (is_due leg.greeting)
+      (by_test (PickKept u x newest) (is_due leg.greeting)
       (Some (with_in s (record leg { greeting = greeting.Put }), Text greeting_text)) None
-      (λ e. with_kept u newest s (record leg { greeting = greeting.Put }) is k) (λ e. tt))
+      (λ e. with_kept u x newest s (record leg { greeting = greeting.Put }) is k) (λ e. tt))
       (or_kept (put_tells s leg) (or_else (put_b1 s leg) (put_ack s leg))
       (tells_kept s leg leg.tells is k)
       (or_kept (put_b1 s leg) (put_ack s leg) (by_leaving leg.leaving) (by_ack (ack_due s leg))))
     where
-      by_leaving : (l : Leaving) → PickKept u newest (put_b1_by s leg l)
+      by_leaving : (l : Leaving) → PickKept u x newest (put_b1_by s leg l)
       by_leaving leaving.Stays = tt
-      by_leaving leaving.InR1B1 = with_kept u newest s (record leg { leaving = leaving.Left }) is k
+      by_leaving leaving.InR1B1 = with_kept u x newest s (record leg { leaving = leaving.Left }) is k
       by_leaving leaving.Left = tt
       by_leaving leaving.Lost = tt
 
-      by_ack : (o : Option Ack) → PickKept u newest (put_ack_by s o)
+      by_ack : (o : Option Ack) → PickKept u x newest (put_ack_by s o)
       by_ack None = tt
       by_ack (Some ack) =
           record { ins = k.ins; current = k.current; next = k.next; newest = k.newest }
 
-  pub put_kept : (s : Server) (leg : Leg) → Kept u newest s → PickKept u newest (put s leg)
+  pub put_kept : (s : Server) (leg : Leg) → Kept u x newest s → PickKept u x newest (put s leg)
   put_kept s leg k = by leg.kind
     where
-      by_leg : (o : Option InLeg) → IfSome o (IsUp u) → PickKept u newest (put_in_by s o)
+      by_leg : (o : Option InLeg) → IfSome o (Stands u x) → PickKept u x newest (put_in_by s o)
       by_leg None is = tt
       by_leg (Some one) is = in_kept s one is k
 
-      by : (kind : LegKind) → PickKept u newest (put_by s leg.number kind)
-      by InServer = by_leg (in_leg leg.number s.ins) (found_up u newest s leg.number k)
-      by OutServer = pick_kept u newest s (put_out s leg.number) k (out_same s leg.number)
+      by : (kind : LegKind) → PickKept u x newest (put_by s leg.number kind)
+      by InServer = by_leg (in_leg leg.number s.ins) (found_up u x newest s leg.number k)
+      by OutServer = pick_kept u x newest s (put_out s leg.number) k (out_same s leg.number)
       by ClientIn = tt
       by ClientOut = tt

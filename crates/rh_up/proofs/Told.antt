@@ -1,7 +1,9 @@
--- how often an in proxy tells the server that a leg carries one channel more (profile)
+-- how often an in proxy tells the server that a leg carries one channel more, and on which legs
+-- the server took a message (profile)
 use Rattle.std.proofs.Common.{◌≡◌, ℕ, ◌+◌, ◌≤◌, arith, List, [], ◌∷◌, ◌++◌, length, refl, ap, ◌∙◌}
+use Rattle.std.proofs.lemmas.Bool.{or_left, or_right}
 use Rattle.std.proofs.lemmas.List.{append-nil, length-append}
-use Rattle.std.specs.Prelude.{Bool, true, false, if◌then◌else◌}
+use Rattle.std.specs.Prelude.{Bool, true, false, ◌||◌, if◌then◌else◌}
 use Rattle.rh_sig.specs.declared.named.Named.TheVariants.{InR2A2}
 use Rattle.rh_order.specs.Items.{Item, Stop}
 use Rattle.rh_order.specs.Logs.{seen}
@@ -52,3 +54,35 @@ pub carried_less : (came : List OnLeg) (one : OnLeg) (n : ℕ)
     → carried came n ≤ carried (came ++ one ∷ []) n
 carried_less came one n =
     let e = told_more (server_leg n) came one in omega (arith, e)
+
+-- ---- legs on which a message was taken
+
+abbrev pub has_any : List Message → Bool
+has_any [] = false
+has_any (message ∷ messages) = true
+
+any-append : (a b : List Message) → has_any (a ++ b) ≡ has_any a || has_any b
+any-append [] b = refl
+any-append (message ∷ a) b = refl
+
+abbrev pub spoke : List OnLeg → ℕ → Bool
+spoke came n = has_any (of_leg (server_leg n) came)
+
+spoke_by : (came : List OnLeg) (one : OnLeg) (n : ℕ)
+    → spoke (came ++ one ∷ []) n ≡ spoke came n || has_any (of_leg (server_leg n) (one ∷ []))
+spoke_by came one n =
+    ap has_any (one_more (server_leg n) came one)
+    ∙ any-append (of_leg (server_leg n) came) (of_leg (server_leg n) (one ∷ []))
+
+pub spoke_more : (came : List OnLeg) (one : OnLeg) (n : ℕ) → spoke came n ≡ true
+    → spoke (came ++ one ∷ []) n ≡ true
+spoke_more came one n e =
+    spoke_by came one n
+    ∙ or_left (spoke came n) (has_any (of_leg (server_leg n) (one ∷ []))) e
+
+pub spoke_last : (came : List OnLeg) (one : OnLeg) (n : ℕ) → same_leg one.0 (server_leg n) ≡ true
+    → spoke (came ++ one ∷ []) n ≡ true
+spoke_last came one n same =
+    spoke_by came one n
+    ∙ or_right (spoke came n) (has_any (of_leg (server_leg n) (one ∷ [])))
+    (ap (λ b. has_any (if b then one.1 ∷ [] else [])) same)

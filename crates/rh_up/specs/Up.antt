@@ -1,5 +1,5 @@
 -- what goes up: a client, in proxies and a server, joined by legs that carry bytes (profile)
-use Rattle.std.specs.Prelude.{ℕ, ◌≡◌, ◌⊎◌, ◌<◌, ◌-◌, ◌==◌, ◌||◌, List, [], Bool, true, false, if◌then◌else◌}
+use Rattle.std.specs.Prelude.{ℕ, ◌≡◌, ◌≢◌, ◌⊎◌, ◌-◌, ◌==◌, ◌&&◌, ◌||◌, not, nat_lt, List, [], Bool, true, false, if◌then◌else◌}
 use mathlib.Core.List.{IsPrefix}
 use Rattle.rh_http.specs.declared.config.ClientConfig.{ClientConfig}
 use Rattle.rh_order.specs.Routes.{Route}
@@ -27,42 +27,47 @@ use Rattle.rh_proxies_begin.specs.Pipes.{ci as client_leg, is as server_leg, in_
 
 -- ---- the route
 
--- a channel has a far leg where an in proxy of its own was made; the first one has one in any case
-abbrev pub has_proxy : (ℕ → Bool) → ℕ → Bool
-has_proxy made n = made n || (n == 1)
+-- a channel has a far leg where its in proxy is that of its number; or where it has none, so that
+-- nothing is put there. There is no channel 0
+abbrev pub has_leg : (ℕ → ℕ) → ℕ → Bool
+has_leg reader n = nat_lt 0 n && (reader n == n || reader n == 0)
+
+-- the server comes to the channels before the one that follows its current one; of those it knows
+-- which have a leg
+abbrev pub is_known : List EndMove → Server → ℕ → Bool
+is_known moves s n =
+    not (nat_lt n (server_order.following s)) || server_order.has_leg moves s n
 
 -- what a client gave, by the in proxies, to what a server took by these moves
-abbrev pub up_route : (ℕ → Bool) → EndPassage ClientRole → (ℕ → Passage InProxy) → List EndMove
+abbrev pub up_route : (ℕ → ℕ) → EndPassage ClientRole → (ℕ → Passage InProxy) → List EndMove
     → EndPassage Server → Route
-up_route made c i moves s = record {
+up_route reader c i moves s = record {
   giver = client_order.giver_of c.given c.passage.role;
   proxies = λ m. proxy_order.passer_of (i m).role;
   taker = server_order.taker_of s.taken s.passage.role;
-  legs = has_proxy made;
-  known = server_order.has_leg moves s.passage.role;
+  legs = has_leg reader;
+  known = is_known moves s.passage.role;
   sent = client_order.put_log c.passage.put;
   came = λ m. proxy_order.came_log (i m).came;
-  put = λ m. if has_proxy made m then proxy_order.put_items (i m).put else [];
+  put = λ m. if has_leg reader m then proxy_order.put_items (i m).put else [];
   got = server_order.got s;
 }
 
 -- ---- which in proxy reads which channel
 
--- which in proxies were made, and the number of the one that reads each channel
-pub record AreReaders (client_events server_events : List EndEvent) (ins : ℕ → List Event)
-    (made : ℕ → Bool) (reader : ℕ → ℕ) : Type 0 where
+-- which in proxies were made, and the number of the one that reads each channel, 0 where none does
+pub record AreReaders (ins : ℕ → List Event) (made : ℕ → Bool) (reader : ℕ → ℕ) : Type 0 where
   pub none : made 0 ≡ false
   -- nothing happens at one that was not made
   pub unmade : (n : ℕ) → made n ≡ false → ins n ≡ []
   -- one that was made reads the channel of its number
   pub own : (n : ℕ) → made n ≡ true → reader n ≡ n
   pub reads : (m n : ℕ) → came_up (client_leg n) (ins m) ≡ true → reader n ≡ m
-  -- a channel whose leg came up has an in proxy of its own, or is read by that of the one before it
-  pub opened : (n : ℕ) → 0 < n → came_up (client_leg n) (happened client_events) ≡ true
+  -- a channel that is read has an in proxy of its own, or came up at that of the one before it
+  pub opened : (n : ℕ) → reader n ≢ 0
       → (made n ≡ true)
       ⊎ ((reader n ≡ reader (n - 1)) × (came_up (client_leg n) (ins (reader n)) ≡ true))
-  -- an is leg is that of an in proxy
-  pub joined : (n : ℕ) → came_up (server_leg n) (happened server_events) ≡ true → made n ≡ true
+  pub unread : reader 0 ≡ 0
 
 -- ---- what happened
 
@@ -84,7 +89,7 @@ pub record GoesUp (config : ClientConfig) (window : ℕ) (in_config : ℕ → In
       client_events)
   pub far : (m : ℕ) → IsPrefix (heard_on (server_leg m) (happened server_events))
       (drawn_on proxy.rules (proxy.first_node (in_config m)) (server_leg m) (ins m))
-  pub readers : AreReaders client_events server_events ins made reader
+  pub readers : AreReaders ins made reader
   -- what was put reads back
   pub client_legible : AreLegible client_legible.pipe_put giver.passage.passage.put
   pub proxies_legible : (n : ℕ) → AreLegible proxy_legible.pipe_put (proxies n).passage.put

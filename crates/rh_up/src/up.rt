@@ -11,7 +11,7 @@ ghost use Rattle.rh_server.specs.Order.{taker_of};
 ghost use Rattle.rh_up.specs.Up.{GoesUp, up_route};
 
 use rh_client::a_client_gives_in_order;
-use rh_ends_begin::{a_client_begins_with_a_request, a_client_writes_on_a_leg_that_came_up};
+use rh_ends_begin::a_client_begins_with_a_request;
 use rh_inproxy::{InProxyRole, an_in_proxy_keeps_order};
 use rh_order::{all_is_taken_at_a_clean_end, taken_is_a_front_of_given};
 use rh_proxies_begin::{an_in_proxy_begins, an_in_proxy_refuses_first};
@@ -20,21 +20,20 @@ use rh_server::a_server_takes_in_order;
 use rh_streams::what_refuses_first_refuses_in_turn;
 
 /// A client, the in proxies and a server, joined by legs that carry bytes, are a route: each keeps
-/// its law of order, what each took is a front of what was put for it, and each channel has an in
-/// proxy of its own or is read by that of the one before it.
+/// its law of order, what each took is a front of what was put for it, and each channel that is read
+/// has an in proxy of its own or is read by that of the one before it.
 pub fn what_goes_up_is_a_route()
     ensures { (config : ClientConfig) (window : ℕ) (in_config : ℕ → InProxyConfig)
         (client_events server_events : List EndEvent) (ins : ℕ → List Event) (made : ℕ → Bool)
         (reader : ℕ → ℕ)
         (g : GoesUp config window in_config client_events server_events ins made reader)
-        → IsRoute (up_route made g.giver.passage (λ n. (g.proxies n).passage) g.taker.leads.moves
+        → IsRoute (up_route reader g.giver.passage (λ n. (g.proxies n).passage) g.taker.leads.moves
         g.taker.passage) }
 {
     a_client_gives_in_order();
     an_in_proxy_keeps_order();
     a_server_takes_in_order();
     a_client_begins_with_a_request();
-    a_client_writes_on_a_leg_that_came_up();
     an_in_proxy_begins();
     an_in_proxy_refuses_first();
     what_refuses_first_refuses_in_turn::<InProxyRole>();

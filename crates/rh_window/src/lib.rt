@@ -7,8 +7,6 @@ pub mod laws;
 pub mod range;
 pub mod recv_window;
 pub mod send_window;
-#[cfg(test)]
-mod tests;
 
 pub use fault::{BadAck, WindowExceeded};
 pub use laws::{hop_goes_on, hop_is_announced, hop_is_honest, hop_is_kept};

@@ -15,6 +15,3 @@ pub use config::WorldConfig;
 pub use roles::Roles;
 pub use roles_world::RolesWorld;
 pub use world::World;
-
-#[cfg(test)]
-mod tests;

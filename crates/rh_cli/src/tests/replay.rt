@@ -1,5 +1,6 @@
 use super::{ROOM, answered, tells_failures};
 use crate::laws::run_in_memory;
+use crate::output::PIECE;
 use crate::run::run;
 use crate::status::Status;
 use rh_io::{MemSink, MemSource, Sink, SinkFailed};
@@ -288,6 +289,55 @@ fn a_setting_out_of_place_is_bad_input(rt: HostRuntime) -> Result<(), Fail> {
     ] {
         assert!(rt; is_bad_input(&rt, text, 3)?, "{text}");
     }
+    Ok(())
+}
+
+// Eight PDUs of 8,192 bytes, which a settling moves over both legs: a report of several pieces.
+fn settling(rt: &HostRuntime) -> Result<String, Fail> {
+    let greatest = pdu_hex(rt, 8192)?;
+    let mut text = String::from_str(rt.alloc(), "rh 1 roles\n")?;
+    for _ in 0..8 {
+        let line = format!(in rt.alloc(); "give c {}\n", greatest.as_str())?;
+        text.push_str(line.as_str())?;
+    }
+    text.push_str("settle 100\n")?;
+    Ok(text)
+}
+
+#[test]
+fn a_settling_with_room_for_its_report_is_written_whole(rt: HostRuntime) -> Result<(), Fail> {
+    let text = settling(&rt)?;
+    let (status, whole) = replay(&rt, text.as_bytes())?;
+    assert_eq!(rt; status, Status::Done);
+    assert!(rt; whole.written().len() > 4 * PIECE);
+    let words = vec![in rt.alloc(); String::from_str(rt.alloc(), "replay")?]?;
+    let room = whole.written().len();
+    let (status, output) = run_in_memory(rt.alloc(), &words, text.into_bytes(), room)?;
+    assert_eq!(rt; status, Status::Done);
+    assert!(rt; output.written() == whole.written());
+    Ok(())
+}
+
+#[test]
+fn a_settling_in_a_small_room_leaves_a_front_of_its_report(rt: HostRuntime) -> Result<(), Fail> {
+    let text = settling(&rt)?;
+    let (_, whole) = replay(&rt, text.as_bytes())?;
+    let all = whole.written().len();
+    for (room, least) in [
+        (0, 0),
+        (1, 0),
+        (PIECE, 0),
+        (3 * PIECE, PIECE),
+        (all.saturating_sub(1), all / 2),
+    ] {
+        let words = vec![in rt.alloc(); String::from_str(rt.alloc(), "replay")?]?;
+        let bytes = text.as_bytes().to_vec(rt.alloc())?;
+        let (status, output) = run_in_memory(rt.alloc(), &words, bytes, room)?;
+        assert_eq!(rt; status, Status::WriteFault);
+        assert!(rt; whole.written().starts_with(output.written()), "{room}");
+        assert!(rt; output.written().len() >= least, "{room}");
+    }
+    assert!(rt; tells_failures(&rt, "replay", text.as_bytes(), whole.written())?);
     Ok(())
 }
 

@@ -18,6 +18,28 @@ returns c = λ lines. record {
     refused = c.only_a_client_of_a_recording_is_refused.ensures before line;
     silent = c.a_node_of_a_recording_falls_silent.ensures before line;
   };
+  ways = λ before behind is. c.every_recording_keeps_what_is_on_its_way.ensures before;
+  refusals = λ before behind line is. record {
+    out_channel = c.a_refused_client_of_a_recording_lost_its_server.ensures.out_channel before line;
+    in_channel = c.a_refused_client_of_a_recording_lost_its_server.ensures.in_channel before line;
+  };
+  reads = λ before behind line is. record {
+    frame = c.no_node_of_a_recording_closes_for_bad_bytes.ensures.frame before line;
+    packet = c.no_node_of_a_recording_closes_for_bad_bytes.ensures.packet before line;
+    head = c.no_node_of_a_recording_closes_for_bad_bytes.ensures.head before line;
+    range = c.only_acknowledgements_of_a_recording_are_out_of_range.ensures before line;
+  };
+  bodies = λ before behind line is. c.no_body_of_a_recording_is_too_long.ensures before line;
+  hops = λ before behind line is. record {
+    server_window =
+        c.no_hop_on_one_leg_closes_a_node_of_a_recording.ensures.server_window before line;
+    server_range =
+        c.no_hop_on_one_leg_closes_a_node_of_a_recording.ensures.server_range before line;
+    in_range =
+        c.no_hop_on_one_leg_closes_a_node_of_a_recording.ensures.in_range before line;
+    out_window =
+        c.no_hop_on_one_leg_closes_a_node_of_a_recording.ensures.out_window before line;
+  };
   once = c.a_recording_reports_a_node_closed_once.ensures lines;
   named = c.an_end_of_a_recording_names_its_cause.ensures lines;
 }

@@ -1,8 +1,3 @@
-use Rattle.rh_fifo.proofs.Legs.{Reads}
-use Rattle.rh_fifo.proofs.Unread.{refusal_unread}
-use Rattle.rh_fifo.proofs.Flowing.{Streaming}
-use Rattle.rh_fifo.proofs.Starting.{Beginning}
-use Rattle.rh_fifo.proofs.Legal.{Legalities}
 use Rattle.rh_fifo.proofs.Reaching.{Tracing}
 use Rattle.rh_fifo.proofs.Moments.{Known, directions}
 use Rattle.rh_traced.specs.Ours.{deeds, rules}
@@ -10,43 +5,6 @@ use Rattle.rh_fifo.proofs.directions.directions_are_joined.Goals as goal
 
 pub returns : goal.returns
 returns g c = λ m w new ours ranges v lines.
-    let reads : Reads = record {
-      put = c.what_was_put_is_read.ensures;
-      fine = c.what_is_read_is_fine.ensures;
-      refusal = refusal_unread;
-    } in
-    let streaming : Streaming = record {
-      clients = c.an_ends_stream.ensures;
-      servers = c.an_ends_stream-2.ensures;
-      ins = c.a_nodes_stream.ensures;
-      outs = c.a_nodes_stream-2.ensures;
-      client_refuses = c.an_end_never_refuses.ensures.client;
-      server_refuses = c.an_end_never_refuses.ensures.server;
-      in_pipes = c.proxies_keep_their_pipes.ensures.in_proxy;
-      out_pipes = c.proxies_keep_their_pipes.ensures.out_proxy;
-      client_unused = c.a_leg_that_a_client_left_stays_unused.ensures.calls;
-      server_unused = c.a_leg_that_a_server_left_stays_unused.ensures.calls;
-      in_unused = c.a_leg_that_an_in_proxy_left_stays_unused.ensures;
-      out_unused = c.a_leg_that_an_out_proxy_left_stays_unused.ensures;
-    } in
-    let begins : Beginning = record {
-      client = c.a_client_begins_with_a_request.ensures;
-      server = c.a_server_begins_with_a_greeting.ensures;
-      in_server = c.an_in_proxy_begins.ensures.server;
-      in_client = c.an_in_proxy_begins.ensures.client;
-      out_server = c.an_out_proxy_begins.ensures.server;
-      out_client = c.an_out_proxy_begins.ensures.client;
-      in_refuses = c.an_in_proxy_refuses_first.ensures.client;
-      in_refuses_else = c.an_in_proxy_refuses_first.ensures.elsewhere;
-      out_refuses = c.an_out_proxy_refuses_first.ensures.client;
-      out_refuses_else = c.an_out_proxy_refuses_first.ensures.elsewhere;
-    } in
-    let legal : Legalities = record {
-      client = c.what_a_client_puts_reads_back.ensures;
-      server = c.what_a_server_puts_reads_back.ensures;
-      ins = c.what_an_in_proxy_puts_reads_back.ensures;
-      outs = c.what_an_out_proxy_puts_reads_back.ensures;
-    } in
     let tracing : Tracing g.row.K.Denot = record {
       turns = λ m. c.nodes_hear_in_turn.ensures.change rules m deeds;
       before = λ m. c.what_is_heard_was_drawn_before.ensures rules m deeds;
@@ -55,7 +13,8 @@ returns g c = λ m w new ours ranges v lines.
     let known : Known g.row.K.Denot = record {
       known = c.a_recording_of_roles_is_known.ensures.changes;
       once = λ m w. c.legs_of_roles_come_up_once.ensures m w.company w.cast;
-      order = λ m. c.lines_come_up_in_order.ensures rules m deeds;
+      order = λ m. c.channels_come_up_in_order.ensures.changes rules m deeds;
       drew = λ m w v h. c.what_is_heard_was_drawn.ensures rules m deeds w.company v h;
     } in
-    directions reads streaming begins legal tracing known m w new ours ranges v lines
+    directions tracing known m w new ours v lines
+    (c.what_is_put_is_legible.ensures m w new ours ranges v lines)

@@ -1,9 +1,11 @@
 use Rattle.rh_world.specs.Roles as roles
+use Rattle.rh_fifo.proofs.Kept.{lines_keep_order}
 use Rattle.rh_fifo.proofs.Recorded.{in_range, new, ours}
 use Rattle.rh_fifo.proofs.recordings.every_recording_is_ordered.Goals as goal
 
 pub returns : goal.returns
 returns c =
     c.a_recording_is_ordered.ensures
-    (λ config range. c.roles_keep_order.ensures roles.makers (roles.begun config) (new config)
-    (ours config) (in_range config range))
+    (λ config range. lines_keep_order roles.makers (roles.begun config)
+    (c.roles_keep_order.ensures roles.makers (roles.begun config) (new config) (ours config)
+    (in_range config range)))

@@ -13,5 +13,5 @@ returns g c = λ m w new ours ranges.
       up_ended = c.what_came_up_was_given.ensures.ended;
     } in
     keeps_order m w ours ended (c.directions_are_joined.ensures m w new ours ranges)
-    (λ v lines.
-    (c.a_recording_of_roles_is_known.ensures.changes m w v new ours lines.leads).traced.runs)
+    (λ v by.
+    (c.a_recording_of_roles_is_known.ensures.changes m w v new ours by.leads).traced.runs)

@@ -9,7 +9,6 @@ returns c = λ config window in_config client_events server_events ins made read
       keeps = c.an_in_proxy_keeps_order.ensures;
       takes = c.a_server_takes_in_order.ensures;
       requests = c.a_client_begins_with_a_request.ensures;
-      writes = c.a_client_writes_on_a_leg_that_came_up.ensures;
       begins = c.an_in_proxy_begins.ensures.server;
       elsewhere = c.an_in_proxy_begins.ensures.elsewhere;
       refuses = c.an_in_proxy_refuses_first.ensures.elsewhere;

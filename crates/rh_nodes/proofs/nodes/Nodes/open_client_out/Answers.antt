@@ -1,14 +1,14 @@
--- the client wants the leg, and its proxy was made
-use Rattle.std.proofs.Common.{◌≡◌, ◌<◌, true, nat_lt, ap, arith}
+-- the client wants the leg, and its proxy was not made
+use Rattle.std.proofs.Common.{◌≡◌, ◌<◌, Bool, true, nat_lt, ap, subst, arith}
+use Rattle.std.specs.Prelude.{IfOk}
 use Rattle.std.proofs.lemmas.Bool.{lt-ltb}
 use Rattle.rh_record.specs.declared.answer.Who.TheVariants as who
-use Rattle.rh_shell.specs.Shells as shell
 use Rattle.rh_nodes.specs.Company as company
 use Rattle.rh_nodes.specs.Company.{rules_of}
 use Rattle.rh_nodes.specs.Numbered.{ask}
 use Rattle.rh_nodes.specs.Places.{is_absent}
 use Rattle.rh_nodes.specs.World.{World}
-use Rattle.rh_nodes.proofs.Opened.{all_three, opened_out}
+use Rattle.rh_nodes.proofs.Opened.{all_three, made_out}
 use Rattle.rh_nodes.proofs.nodes.Nodes.open_client_out.Goals as goal
 
 pub returns : goal.returns
@@ -28,11 +28,9 @@ returns g c =
     let none = c.if-not-is_absent.false in
     let place = ap (λ (v : World _ _ _ _ _). ask is_absent true v.company.outs leg.number) view in
     let absent : ask is_absent true w.company.outs leg.number ≡ true = cc in
-    let allowed = c.may_up.ensures in
-    let free = c.if-not-may_up.false in
-    let up : shell.may_up r.out_proxy c.in_ok-node.node leg ≡ true = cc in
-    opened_out r g.K.Cast.out_proxy w c.make_out.new.self c.connect_client.new.self leg
-    c.in_ok-node.node
-    (all_three (nat_lt 0 leg.number) (company.wants r w.company who.Client leg)
-    (ask is_absent true w.company.outs leg.number) (lt-ltb 0 leg.number numbered) wanted absent)
-    c.in_ok-node.ensures up c.in_ok-make_out.ensures c.in_ok-connect_client.ensures
+    let may =
+    all_three (nat_lt 0 leg.number) (company.wants r w.company who.Client leg)
+    (ask is_absent true w.company.outs leg.number) (lt-ltb 0 leg.number numbered) wanted absent in
+    subst (λ (did : World _ _ _ _ _ × Bool). IfOk c.open_out_to_new.result
+    (λ ok. (c.open_out_to_new.new.self, ok) ≡ did))
+    (made_out r g.K.Cast.out_proxy w leg may) c.open_out_to_new.ensures

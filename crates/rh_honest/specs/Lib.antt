@@ -1,0 +1,4 @@
+pub mod Heads
+pub mod Causes
+pub mod Rows
+pub mod Honest

@@ -1,3 +1,0 @@
-//! Small recordings.
-
-mod making;

@@ -1,0 +1,18 @@
+-- the proxy was made, and may have the leg up
+use Rattle.std.proofs.Common.{◌≡◌, true}
+use Rattle.rh_shell.specs.Shells as shell
+use Rattle.rh_nodes.specs.Company.{rules_of}
+use Rattle.rh_nodes.proofs.Opened.{opened_out}
+use Rattle.rh_nodes.proofs.nodes.Nodes.open_out_to_new.Goals as goal
+
+pub returns : goal.returns
+returns g c =
+    let r = rules_of g.K.Client.Role.rules g.K.Server.Role.rules g.K.InProxy.Role.rules
+    g.K.OutProxy.Role.rules in
+    let leg = c.args.leg in
+    let allowed = c.may_up.ensures in
+    let free = c.if-not-may_up.false in
+    let up : shell.may_up r.out_proxy c.in_ok-node.node leg ≡ true = cc in
+    opened_out r g.K.Cast.out_proxy c.args.self.now c.make_out.new.self
+    c.connect_client.new.self leg c.in_ok-node.node c.in_ok-node.ensures up
+    c.in_ok-make_out.ensures c.in_ok-connect_client.ensures

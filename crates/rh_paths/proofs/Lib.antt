@@ -1,0 +1,11 @@
+mod Legs
+mod Ends
+mod Used
+mod Carriages
+mod OnPath
+mod Down
+mod ReadBy
+mod Up
+mod Worlds
+mod InUse
+mod Recorded

@@ -1,0 +1,33 @@
+use Rattle.std.proofs.Common.{refl}
+use Rattle.rh_text.specs.declared.ends.Dir.TheVariants.{D}
+use Rattle.rh_line.specs.declared.leg.LegKind.TheVariants.{ClientOut}
+use Rattle.rh_nodes.specs.Settling.{leg_at}
+use Rattle.rh_shell.specs.Shells.{begun}
+use Rattle.rh_shell.specs.Wires.{of_leg}
+use Rattle.rh_outproxy.specs.declared.out_proxy.TheConstants.{ROOMS}
+use Rattle.rh_outproxy.specs.Machine as out_proxy
+use Rattle.rh_outproxy.specs.OutProxy.{new_proxy}
+use Rattle.rh_history.specs.Carried.{drawn_on, happened, heard_on}
+use Rattle.rh_ordered.specs.Premises.{history_at}
+use Rattle.rh_traced.specs.Ours.{deeds, rules}
+use Rattle.rh_refused.proofs.Drawn.{heard_refused, refused_more}
+use Rattle.rh_refused.proofs.OutRefusals.{out_refused}
+use Rattle.rh_refused.proofs.OutTexts.{puts_200}
+use Rattle.rh_refused.proofs.recordings.a_refused_out_channel_was_refused_by_its_proxy.Goals as goal
+
+pub returns : goal.returns
+returns g c = λ m w new ours ranges v by n status h.
+    let here = history_at m w v by.leads in
+    let leg = leg_at ClientOut n in
+    let down = (c.directions_are_joined.ensures m w new ours ranges v by).down in
+    let heard = heard_refused c.what_a_client_holds_of_a_head.ensures.closed
+    c.a_recording_of_roles_is_known.ensures.changes
+    (λ m first w h traced leg.
+    c.what_is_heard_was_drawn.ensures rules m deeds first w h traced leg D) m w v new ours
+    by.leads leg status h in
+    let drawn = drawn_on out_proxy.rules (begun (new_proxy (ours.out_config n)) ROOMS) leg
+    (here.outs n) in
+    out_refused (ours.out_config n) (of_leg leg (down.proxies n).passage.put) drawn leg status
+    (ranges.outs n) refl (puts_200 (ours.out_config n) (down.proxies n).passage leg
+    (down.proxies n).leads) (down.proxies_begin n) (down.proxies_drew n)
+    (refused_more (heard_on leg (happened here.client)) drawn leg status (down.far n) heard)

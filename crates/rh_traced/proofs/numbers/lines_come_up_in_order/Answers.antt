@@ -1,5 +1,0 @@
-use Rattle.rh_traced.proofs.Openings.{reached_in_order}
-use Rattle.rh_traced.proofs.numbers.lines_come_up_in_order.Goals as goal
-
-pub returns : goal.returns
-returns g c = reached_in_order

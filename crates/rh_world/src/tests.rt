@@ -1,3 +1,0 @@
-//! Worlds driven by hand.
-
-mod world;
