@@ -8,7 +8,7 @@ mod Reaching
 mod Routing
 mod Moments
 mod Fronts
-mod Marked
+pub mod Marked
 mod Unread
 mod Kept
 pub mod Recorded

@@ -33,7 +33,7 @@ use Rattle.rh_nodes.specs.World.{World, at}
 use Rattle.rh_history.specs.Changes.{Change, IsTold, IsFed, IsDrawn, GoesUp, RaisesAlone, GoesDown, OpensIn, OpensOut, OpensSame, Gives, Takes, Closes, RecyclesIn, RecyclesOut, MovesTo, Draws, Reports, MayChange, AreAllowed, changed, all_changed, Leads}
 use Rattle.rh_history.specs.Histories.{History, nothing, heard, to_node, told_to, made_by, at_place, acts_by, in_place, out_place, noted, all_noted, IsRun, AreRuns, IsNew}
 use Rattle.rh_history.proofs.Numbers.{asked, put_here, put_elsewhere, changed_here, changes_elsewhere}
-use Rattle.rh_history.proofs.Runs.{end_events_append, end_events_happen, runs_none, run_on, tell_meets, draw_meets, up_meets}
+use Rattle.rh_history.proofs.Runs.{Meets, end_events_append, end_events_happen, runs_none, run_on, tell_meets, draw_meets, up_meets}
 
 -- ---- the place of a proxy
 
@@ -166,6 +166,26 @@ module _ {K C S I O : Type 0} (r : Rulebook C S I O) (m : Makers K I O) (d : Dee
 
   -- ---- an event happens to a node
 
+  module _ (w : World K C S I O) (after : Company C S I O) (node : Who) (event : moving.Event)
+      (me : Meets r w.company after node event) where
+    met_ins : (n : ℕ) (events : List moving.Event)
+        → IsRun r.in_proxy (m.in_proxy w.cast n) events (in_place w.company n)
+        → IsRun r.in_proxy (m.in_proxy w.cast n)
+        (events ++ at_place (in_place w.company n) (to_node node (In n) event) [])
+        (in_place after n)
+    met_ins n events run =
+        run_on r.in_proxy (m.in_proxy w.cast n) events (in_place w.company n) (in_place after n)
+        (to_node node (In n) event) run (me.ins n)
+
+    met_outs : (n : ℕ) (events : List moving.Event)
+        → IsRun r.out_proxy (m.out_proxy w.cast n) events (out_place w.company n)
+        → IsRun r.out_proxy (m.out_proxy w.cast n)
+        (events ++ at_place (out_place w.company n) (to_node node (Out n) event) [])
+        (out_place after n)
+    met_outs n events run =
+        run_on r.out_proxy (m.out_proxy w.cast n) events (out_place w.company n)
+        (out_place after n) (to_node node (Out n) event) run (me.outs n)
+
   does_told : (w : World K C S I O) (node : Who) (event : Event)
       → Does w (changed r m d w (IsTold node event)) (IsTold node event)
   does_told w node event =
@@ -174,12 +194,8 @@ module _ {K C S I O : Type 0} (r : Rulebook C S I O) (m : Makers K I O) (d : Dee
       record {
         client = me.client;
         server = me.server;
-        ins = λ n events run. run_on r.in_proxy (m.in_proxy w.cast n) events (in_place w.company n)
-            (in_place v.company n) (to_node node (In n) (heard event))
-            run (me.ins n);
-        outs = λ n events run. run_on r.out_proxy (m.out_proxy w.cast n) events
-            (out_place w.company n) (out_place v.company n) (to_node node (Out n) (heard event))
-            run (me.outs n);
+        ins = met_ins w v.company node (heard event) me;
+        outs = met_outs w v.company node (heard event) me;
       }
 
   does_fed : (w : World K C S I O) (leg : Leg) (dir : Dir) (count : ℕ)
@@ -192,12 +208,8 @@ module _ {K C S I O : Type 0} (r : Rulebook C S I O) (m : Makers K I O) (d : Dee
       record {
         client = me.client;
         server = me.server;
-        ins = λ n events run. run_on r.in_proxy (m.in_proxy w.cast n) events (in_place w.company n)
-            (in_place v.company n) (to_node node (In n) (heard event))
-            run (me.ins n);
-        outs = λ n events run. run_on r.out_proxy (m.out_proxy w.cast n) events
-            (out_place w.company n) (out_place v.company n) (to_node node (Out n) (heard event))
-            run (me.outs n);
+        ins = met_ins w v.company node (heard event) me;
+        outs = met_outs w v.company node (heard event) me;
       }
 
   does_drawn : (w : World K C S I O) (leg : Leg) (dir : Dir) (count : ℕ)
@@ -210,12 +222,8 @@ module _ {K C S I O : Type 0} (r : Rulebook C S I O) (m : Makers K I O) (d : Dee
       record {
         client = me.client;
         server = me.server;
-        ins = λ n events run. run_on r.in_proxy (m.in_proxy w.cast n) events (in_place w.company n)
-            (in_place v.company n) (to_node node (In n) event)
-            run (me.ins n);
-        outs = λ n events run. run_on r.out_proxy (m.out_proxy w.cast n) events
-            (out_place w.company n) (out_place v.company n) (to_node node (Out n) event)
-            run (me.outs n);
+        ins = met_ins w v.company node event me;
+        outs = met_outs w v.company node event me;
       }
 
   does_up : (w : World K C S I O) (node : Who) (leg : Leg) (end : Side) (cookie : Cookie)
@@ -227,12 +235,8 @@ module _ {K C S I O : Type 0} (r : Rulebook C S I O) (m : Makers K I O) (d : Dee
       record {
         client = me.client;
         server = me.server;
-        ins = λ n events run. run_on r.in_proxy (m.in_proxy w.cast n) events (in_place w.company n)
-            (in_place v.company n) (to_node node (In n) event)
-            run (me.ins n);
-        outs = λ n events run. run_on r.out_proxy (m.out_proxy w.cast n) events
-            (out_place w.company n) (out_place v.company n) (to_node node (Out n) event)
-            run (me.outs n);
+        ins = met_ins w v.company node event me;
+        outs = met_outs w v.company node event me;
       }
 
   -- ---- nothing happens to the proxies

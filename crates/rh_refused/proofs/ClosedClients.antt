@@ -34,36 +34,37 @@ module _ {S : Type 0} (rules : Rules S) (s : Shell S) (going : s.course ≡ Goin
   goes_on : (t : Shell S) → t.course ≡ Going → ClosedWith why t.course → ⊥
   goes_on t on h = subst (ClosedWith why) on h
 
-  acts_close_none : (acts : Acts S) (e : EndEvent)
-      → ((event : Event) → e ≡ Happens event → ⊥)
-      → ClosedWith why (after_end_event rules acts s e).course → ⊥
-  acts_close_none acts (Happens event) none h = none event refl
-  acts_close_none acts (IsGiven pdu) none h =
-      goes_on (after_end_event rules acts s (IsGiven pdu)) (by (cause_of s.course)) h
-    where
-      by : (o : Option Cause) → (give_where acts s pdu o).0.course ≡ Going
-      by (Some why) = going
-      by None = going
-  acts_close_none acts IsTaken none h =
-      goes_on (after_end_event rules acts s IsTaken) (by (cause_of s.course)) h
-    where
-      by : (o : Option Cause) → (take_where acts s o).course ≡ Going
-      by (Some why) = going
-      by None = going
-  acts_close_none acts IsClosed none h =
-      goes_on (after_end_event rules acts s IsClosed) (by (cause_of s.course)) h
-    where
-      by : (o : Option Cause) → (close_where acts s o).course ≡ Going
-      by (Some why) = going
-      by None = going
-  acts_close_none acts IsRecycled none h =
-      goes_on (after_end_event rules acts s IsRecycled) (by (state_of rules s)) h
-    where
-      by : (x : State) → (recycle_where acts s x).0.course ≡ Going
-      by state.Open = going
-      by state.Opening = going
-      by state.Ended = going
-      by (state.Closed why) = going
+  -- whatever is answered for the cause that it has
+  module _ (acts : Acts S) where
+    given : (pdu : List ℕ) (o : Option Cause) → (give_where acts s pdu o).0.course ≡ Going
+    given pdu (Some why) = going
+    given pdu None = going
+
+    taken : (o : Option Cause) → (take_where acts s o).course ≡ Going
+    taken (Some why) = going
+    taken None = going
+
+    closed : (o : Option Cause) → (close_where acts s o).course ≡ Going
+    closed (Some why) = going
+    closed None = going
+
+    recycled : (x : State) → (recycle_where acts s x).0.course ≡ Going
+    recycled state.Open = going
+    recycled state.Opening = going
+    recycled state.Ended = going
+    recycled (state.Closed why) = going
+
+    acts_close_none : (e : EndEvent) → ((event : Event) → e ≡ Happens event → ⊥)
+        → ClosedWith why (after_end_event rules acts s e).course → ⊥
+    acts_close_none e none h = goes_on (after_end_event rules acts s e) (by e none) h
+      where
+        by : (e : EndEvent) → ((event : Event) → e ≡ Happens event → ⊥)
+            → (after_end_event rules acts s e).course ≡ Going
+        by (Happens event) none = absurd (none event refl)
+        by (IsGiven pdu) none = given pdu (cause_of s.course)
+        by IsTaken none = taken (cause_of s.course)
+        by IsClosed none = closed (cause_of s.course)
+        by IsRecycled none = recycled (state_of rules s)
 
 accepted_front : {S : Type 0} (rules : Rules S) (acts : Acts S) (s : Shell S)
     (es fs : List EndEvent) → AreAcceptedAtEnd rules acts s (es ++ fs)

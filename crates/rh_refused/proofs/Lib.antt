@@ -2,10 +2,10 @@ mod Told
 mod Heard
 mod ClosedClients
 mod Drawn
+mod PutAll
 mod OutTexts
-mod OutRefusals
 mod InTexts
-mod InRefusals
+mod Refusals
 mod Unreached
 mod Unavailables
 mod Fronts
@@ -13,6 +13,5 @@ mod Lost
 mod Requests
 mod Moments
 mod Taken
-mod Reasons
 mod Losses
 mod Reporting

@@ -1,5 +1,4 @@
-pub mod LegLogs
-mod Rising
+pub mod Rising
 mod Counts
 mod Told
 mod Unread
