@@ -138,6 +138,13 @@ module _ {K C S I O : Type 0} (r : Rulebook C S I O) (m : Makers K I O) (d : Dee
         server_led w leg.kind leg.number cookie client,
       ) whole
 
+  -- what is done where both hold
+  two_tests : (w v : World K C S I O) (a b : Bool) → (a ≡ true → b ≡ true → Connects w v)
+      → ConnectsOk w (if a then (if b then (v, true) else (w, false)) else (w, false))
+  two_tests w v true true both = both refl refl
+  two_tests w v true false both = works_none r m d w
+  two_tests w v false b both = works_none r m d w
+
   -- ---- a leg of the client, to a proxy of its own
 
   module _ (w : World K C S I O) (n : ℕ) where
@@ -211,34 +218,14 @@ module _ {K C S I O : Type 0} (r : Rulebook C S I O) (m : Makers K I O) (d : Dee
         ) refl
 
     open_out : Connects w (open_leg r m w out_leg).0
-    open_out = by_make (may_make r w w.company.outs out_leg) refl
-      where
-        by_up : (t : Bool) → may_make r w w.company.outs out_leg ≡ true
-            → shell.may_up r.out_proxy new_out out_leg ≡ t
-            → ConnectsOk w (if t then (connect_client r (with_out w n new_out) out_leg, true)
-            else (w, false))
-        by_up true e f = out_made e f
-        by_up false e f = works_none r m d w
-
-        by_make : (t : Bool) → may_make r w w.company.outs out_leg ≡ t
-            → Connects w (if t then open_out_to r w out_leg new_out else (w, false)).0
-        by_make true e = by_up (shell.may_up r.out_proxy new_out out_leg) e refl
-        by_make false e = works_none r m d w
+    open_out =
+        two_tests w (connect_client r (with_out w n new_out) out_leg)
+        (may_make r w w.company.outs out_leg) (shell.may_up r.out_proxy new_out out_leg) out_made
 
     open_in : Connects w (open_leg r m w in_leg).0
-    open_in = by_make (may_make r w w.company.ins in_leg) refl
-      where
-        by_up : (t : Bool) → may_make r w w.company.ins in_leg ≡ true
-            → shell.may_up r.in_proxy new_in in_leg ≡ t
-            → ConnectsOk w (if t then (connect_client r (with_in w n new_in) in_leg, true)
-            else (w, false))
-        by_up true e f = in_made e f
-        by_up false e f = works_none r m d w
-
-        by_make : (t : Bool) → may_make r w w.company.ins in_leg ≡ t
-            → Connects w (if t then open_in_to r w in_leg new_in else (w, false)).0
-        by_make true e = by_up (shell.may_up r.in_proxy new_in in_leg) e refl
-        by_make false e = works_none r m d w
+    open_in =
+        two_tests w (connect_client r (with_in w n new_in) in_leg)
+        (may_make r w w.company.ins in_leg) (shell.may_up r.in_proxy new_in in_leg) in_made
 
     -- ---- to the proxy that reads the channel before it
 

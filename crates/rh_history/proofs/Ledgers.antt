@@ -130,6 +130,18 @@ module _ (g new : Ledger) (all : Legs) (readers : List ℕ) (each : Each g all r
       (wire_at all leg) (wire_at later leg) (d from) (h to) (u from) (u to) w (each leg dir)
 
   module _ (leg : Leg) where
+    -- both directions of the leg, and all others
+    each_at : (later : Legs) (dir : Dir) → IsCarried (carriage new later readers leg dir)
+        → ((back : Dir) → sender dir ≡ receiver back → receiver dir ≡ sender back
+        → IsCarried (carriage new later readers leg back))
+        → ((other : Leg) (at : Dir) → same_leg leg other ≡ false
+        → IsCarried (carriage new later readers other at))
+        → Each new later readers
+    each_at later dir along back beside other at =
+        ⊎_elim (λ e. subst (λ x. IsCarried (carriage new later readers x at)) e
+        (⊎_elim (λ f. subst (λ x. IsCarried (carriage new later readers leg x)) f along)
+        (λ f. back at f.0 f.1) (two_dirs dir at))) (beside other at) (cases_leg leg other)
+
     -- ---- bytes are drawn
 
     module _ (dir : Dir) (bytes : List ℕ)
@@ -176,20 +188,15 @@ module _ (g new : Ledger) (all : Legs) (readers : List ℕ) (each : Each g all r
           (subst IsCarried (sym (put_aside dir back bytes (wire_at all leg) (g.drawn from leg)
           (g.fed to leg) (g.was_up from leg) (g.was_up to leg) e)) (each leg back))
 
-      draw_here : (at : Dir) → IsCarried (carriage new put_later readers leg at)
-      draw_here at =
-          ⊎_elim (λ e. subst (λ x. IsCarried (carriage new put_later readers leg x)) e draw_along)
-          (λ e. draw_back at e.0 e.1) (two_dirs dir at)
-
       pub each_drawn : Each new put_later readers
-      each_drawn other at =
-          ⊎_elim (λ e. subst (λ x. IsCarried (carriage new put_later readers x at)) e
-          (draw_here at)) (λ e. same_on put_later other at
+      each_drawn =
+          each_at put_later dir draw_along draw_back
+          (λ other at e. same_on put_later other at
           (λ node. none_added (g.drawn node other) bytes (new.drawn node other)
           (is_here (end_node readers leg (sender dir)) leg node other)
           (not_beside (end_node readers leg (sender dir)) leg node other e) (d node other))
           (λ node. sym (h node other)) (λ node. sym (u node other))
-          (sym (wired.put_beside all leg dir bytes other e))) (cases_leg leg other)
+          (sym (wired.put_beside all leg dir bytes other e)))
 
     -- ---- bytes are fed
 
@@ -241,21 +248,16 @@ module _ (g new : Ledger) (all : Legs) (readers : List ℕ) (each : Each g all r
           (subst IsCarried (sym (take_aside dir back count (wire_at all leg) (g.drawn from leg)
           (g.fed to leg) (g.was_up from leg) (g.was_up to leg) e)) (each leg back))
 
-      feed_here : (at : Dir) → IsCarried (carriage new take_later readers leg at)
-      feed_here at =
-          ⊎_elim (λ e. subst (λ x. IsCarried (carriage new take_later readers leg x)) e feed_along)
-          (λ e. feed_back at e.0 e.1) (two_dirs dir at)
-
       pub each_fed : Each new take_later readers
-      each_fed other at =
-          ⊎_elim (λ e. subst (λ x. IsCarried (carriage new take_later readers x at)) e
-          (feed_here at)) (λ e. same_on take_later other at
+      each_fed =
+          each_at take_later dir feed_along feed_back
+          (λ other at e. same_on take_later other at
           (λ node. sym (d node other))
           (λ node. none_added (g.fed node other) piece (new.fed node other)
           (is_here (end_node readers leg (receiver dir)) leg node other)
           (not_beside (end_node readers leg (receiver dir)) leg node other e) (h node other))
           (λ node. sym (u node other))
-          (sym (wired.take_beside all leg dir count other e))) (cases_leg leg other)
+          (sym (wired.take_beside all leg dir count other e)))
 
     -- ---- an end goes up, or down
 

@@ -54,32 +54,27 @@ module _ (d f : List ℕ) (p t : Bool) (w : Wire) where
   seen_up_take U first k = carry_up_take (seen d f p t w U) k first
   seen_up_take D first k = carry_up_take (seen d f p t w D) k first
 
+  -- where one end fell, all is lost if the other end is not up
+  fallen : (other : Bool) (left : Wire) (dir : Dir) → IsCarried (seen d f p t left dir)
+      → IsCarried (seen d f p t blank dir)
+      → IsCarried (seen d f p t (if other then left else blank) dir)
+  fallen true left dir stays lost = stays
+  fallen false left dir stays lost = lost
+
   pub seen_down : (end : Side) (dir : Dir) → is_up end w ≡ true → IsCarried (seen d f p t w dir)
       → IsCarried (seen d f p t (lower end w) dir)
-  seen_down Client U up k = by w.server
-    where
-      by : (b : Bool)
-          → IsCarried (seen d f p t (if b then record w { client = false } else blank) U)
-      by true = carry_down_put (seen d f p t w U) k up
-      by false = carry_lost (seen d f p t w U) k (inl up)
-  seen_down Client D up k = by w.server
-    where
-      by : (b : Bool)
-          → IsCarried (seen d f p t (if b then record w { client = false } else blank) D)
-      by true = carry_down_take (seen d f p t w D) k up
-      by false = carry_lost (seen d f p t w D) k (inr up)
-  seen_down Server U up k = by w.client
-    where
-      by : (b : Bool)
-          → IsCarried (seen d f p t (if b then record w { server = false } else blank) U)
-      by true = carry_down_take (seen d f p t w U) k up
-      by false = carry_lost (seen d f p t w U) k (inr up)
-  seen_down Server D up k = by w.client
-    where
-      by : (b : Bool)
-          → IsCarried (seen d f p t (if b then record w { server = false } else blank) D)
-      by true = carry_down_put (seen d f p t w D) k up
-      by false = carry_lost (seen d f p t w D) k (inl up)
+  seen_down Client U up k =
+      fallen w.server (record w { client = false }) U (carry_down_put (seen d f p t w U) k up)
+      (carry_lost (seen d f p t w U) k (inl up))
+  seen_down Client D up k =
+      fallen w.server (record w { client = false }) D (carry_down_take (seen d f p t w D) k up)
+      (carry_lost (seen d f p t w D) k (inr up))
+  seen_down Server U up k =
+      fallen w.client (record w { server = false }) U (carry_down_take (seen d f p t w U) k up)
+      (carry_lost (seen d f p t w U) k (inr up))
+  seen_down Server D up k =
+      fallen w.client (record w { server = false }) D (carry_down_put (seen d f p t w D) k up)
+      (carry_lost (seen d f p t w D) k (inl up))
 
 -- ---- what the other direction does
 
