@@ -21,6 +21,17 @@ module _ {S : Type 0} (rules : Rules S) where
     pub put : passage.put ≡ p.put
     pub leaves : LeavesStages rules anything p way.moves
 
+  -- where nothing moves
+  stands : (p : Passage S) (role : S) → p.role ≡ role → Reaches p role
+  stands p role is = record {
+    passage = p;
+    way = way_none rules nowhere p;
+    role_is = is;
+    came = refl;
+    put = refl;
+    leaves = leaves_none rules anything p;
+  }
+
   ping_one : (p : Passage S) (role : S) (k : Leg) (t : Bool) → p.role ≡ role
       → (t ≡ true → is_some (rules.ping_after role k) ≡ true)
       → Reaches p (cond t (rules.ping role k) role)
@@ -36,14 +47,7 @@ module _ {S : Type 0} (rules : Rules S) where
       stays = λ g. refl;
     };
   }
-  ping_one p role k false is after = record {
-    passage = p;
-    way = way_none rules nowhere p;
-    role_is = is;
-    came = refl;
-    put = refl;
-    leaves = leaves_none rules anything p;
-  }
+  ping_one p role k false is after = stands p role is
 
   -- a Ping becomes due where the role says after which time
   quiet_some : (now : ℕ) (role : S) (end : NearEnd) → is_quiet rules role now end ≡ true
@@ -58,14 +62,7 @@ module _ {S : Type 0} (rules : Rules S) where
 
   pub pings : (now : ℕ) (ends : List NearEnd) (p : Passage S) (role : S) → p.role ≡ role
       → Reaches p (pinged rules now ends role)
-  pings now [] p role is = record {
-    passage = p;
-    way = way_none rules nowhere p;
-    role_is = is;
-    came = refl;
-    put = refl;
-    leaves = leaves_none rules anything p;
-  }
+  pings now [] p role is = stands p role is
   pings now (end ∷ ends) p role is =
       let one = ping_one p role end.leg (is_quiet rules role now end) is
       (quiet_some now role end) in
