@@ -9,15 +9,12 @@ use Rattle.rh_nodes.specs.World.{World}
 use Rattle.rh_history.specs.Closes.{IsOneOf}
 use Rattle.rh_closes.specs.Shows.{ShownWorks}
 use Rattle.rh_closes.proofs.Showing.{shown_none, shown_then}
+use Rattle.rh_history.proofs.Reported.{one_behind}
 
 pub one_before : {X : Type 0} (x : X) (xs ys : List X) → IsOneOf x xs → IsOneOf x (xs ++ ys)
 one_before x [] ys h = absurd h
 one_before x (z ∷ xs) ys (inl here) = inl here
 one_before x (z ∷ xs) ys (inr behind) = inr (one_before x xs ys behind)
-
-pub one_behind : {X : Type 0} (x : X) (xs ys : List X) → IsOneOf x ys → IsOneOf x (xs ++ ys)
-one_behind x [] ys h = h
-one_behind x (z ∷ xs) ys h = inr (one_behind x xs ys h)
 
 -- each of a list is one of the other
 abbrev pub AreIn : List Answer → List Answer → Type 0

@@ -9,6 +9,5 @@ mod Routing
 mod Moments
 mod Fronts
 pub mod Marked
-mod Unread
 mod Kept
 pub mod Recorded

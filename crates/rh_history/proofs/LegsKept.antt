@@ -25,6 +25,7 @@ use Rattle.rh_history.proofs.Numbers.{asked, put_here, put_elsewhere}
 use Rattle.rh_history.proofs.Seen.{seen_as}
 use Rattle.rh_history.proofs.Wired.{cases_leg}
 use Rattle.rh_history.proofs.Ledgers.{Each, is_here, bytes_here, here_itself, not_other, none_added, or_false, or_true, same_on, each_drawn, each_fed, each_raised, each_lowered}
+use Rattle.rh_order.proofs.ItemLists.{neither}
 
 -- ---- tests
 
@@ -34,10 +35,6 @@ not_both b e f = absurd (true≢false (sym e ∙ f))
 or_first : (a b : Bool) → a ≡ true → (a || b) ≡ true
 or_first true b e = refl
 or_first false b e = absurd cc
-
-neither : (a b : Bool) → (a || b) ≡ false → (a ≡ false) × (b ≡ false)
-neither true b e = absurd cc
-neither false b e = (refl, e)
 
 -- the node and the leg at which something is
 here_is : (node : Who) (leg : Leg) (other : Who) (beside : Leg)
@@ -268,16 +265,7 @@ module _ (g new : Ledger) (all : Legs) (readers : List ℕ) (k : AreCarried g al
           ≡ g.was_up (end_node later leg end) leg)
           → IsCarried (carriage g all later leg dir)
       seen_later leg dir drawn fed up =
-          seen_as dir (g.drawn (end_node readers leg (sender dir)) leg)
-          (g.drawn (end_node later leg (sender dir)) leg)
-          (g.fed (end_node readers leg (receiver dir)) leg)
-          (g.fed (end_node later leg (receiver dir)) leg)
-          (g.was_up (end_node readers leg (sender dir)) leg)
-          (g.was_up (end_node later leg (sender dir)) leg)
-          (g.was_up (end_node readers leg (receiver dir)) leg)
-          (g.was_up (end_node later leg (receiver dir)) leg)
-          (wire_at all leg) (wire_at all leg) drawn fed (up (sender dir)) (up (receiver dir)) refl
-          (k.each leg dir)
+          seen_as dir drawn fed (up (sender dir)) (up (receiver dir)) refl (k.each leg dir)
 
       each_later : Each g all later
       each_later leg dir =

@@ -166,14 +166,10 @@ is_comes (moving.ComesUp leg cookie) = true
 is_comes event = false
 
 module _ {S : Type 0} (rules : Rules S) where
-  draws_none : (s : Shell S) (leg : Leg) (e : moving.Event) → is_draws e ≡ false
+  pub draws_none : (s : Shell S) (leg : Leg) (e : moving.Event) → is_draws e ≡ false
       → drawn_in rules s leg e ≡ []
   draws_none s leg (moving.Draws other room) q = absurd (true≢false q)
-  draws_none s leg (moving.ComesUp other cookie) q = refl
-  draws_none s leg (moving.Hears other piece) q = refl
-  draws_none s leg (moving.Ends other) q = refl
-  draws_none s leg (moving.Breaks other) q = refl
-  draws_none s leg (moving.Ticks now) q = refl
+  draws_none s leg e q = refl
 
   one_drawn : (s : Shell S) (leg : Leg) (e : moving.Event) → is_draws e ≡ false → (b : Bool)
       → drawn_on rules s leg (if b then e ∷ [] else []) ≡ []
@@ -190,11 +186,7 @@ module _ {S : Type 0} (rules : Rules S) where
       → came_up leg (if b then e ∷ [] else []) ≡ false
   comes_none leg e q false = refl
   comes_none leg (moving.ComesUp other cookie) q true = absurd (true≢false q)
-  comes_none leg (moving.Draws other room) q true = refl
-  comes_none leg (moving.Hears other piece) q true = refl
-  comes_none leg (moving.Ends other) q true = refl
-  comes_none leg (moving.Breaks other) q true = refl
-  comes_none leg (moving.Ticks now) q true = refl
+  comes_none leg e q true = refl
 
   place_comes_none : (p : Place S) (leg : Leg) (e : moving.Event) → is_comes e ≡ false
       → (b : Bool) → place_up rules p leg (if b then e ∷ [] else []) ≡ false
@@ -209,11 +201,7 @@ module _ {S : Type 0} (rules : Rules S) where
 
   other_accepted : (s : Shell S) (e : moving.Event) → is_comes e ≡ false → IsAccepted rules s e
   other_accepted s (moving.ComesUp other cookie) q = absurd (true≢false q)
-  other_accepted s (moving.Draws other room) q = tt
-  other_accepted s (moving.Hears other piece) q = tt
-  other_accepted s (moving.Ends other) q = tt
-  other_accepted s (moving.Breaks other) q = tt
-  other_accepted s (moving.Ticks now) q = tt
+  other_accepted s e q = tt
 
   place_other_accepted : (p : Place S) (e : moving.Event) → is_comes e ≡ false → (b : Bool)
       → place_accepts rules p (if b then e ∷ [] else [])

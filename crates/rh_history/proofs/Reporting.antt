@@ -29,7 +29,7 @@ use Rattle.rh_history.proofs.Lines.{goes_step_line}
 
 -- ---- lists
 
-one_of_both : {X : Type 0} (x : X) (xs ys : List X) → IsOneOf x (xs ++ ys)
+pub one_of_both : {X : Type 0} (x : X) (xs ys : List X) → IsOneOf x (xs ++ ys)
     → IsOneOf x xs ⊎ IsOneOf x ys
 one_of_both x [] ys h = inr h
 one_of_both x (z ∷ xs) ys (inl here) = inl (inl here)

@@ -23,9 +23,9 @@ seen drawn fed put take wire dir = record {
   did_take = take;
 }
 
-pub seen_as : (dir : Dir) (d e f g : List ℕ) (p q s t : Bool) (w v : Wire) → d ≡ e → f ≡ g
+pub seen_as : {d e f g : List ℕ} {p q s t : Bool} {w v : Wire} (dir : Dir) → d ≡ e → f ≡ g
     → p ≡ q → s ≡ t → w ≡ v → IsCarried (seen d f p s w dir) → IsCarried (seen e g q t v dir)
-seen_as dir d e f g p q s t w v drawn fed put take wire =
+seen_as dir drawn fed put take wire =
     subst IsCarried (λ i. seen (drawn i) (fed i) (put i) (take i) (wire i) dir)
 
 module _ (d f : List ℕ) (p t : Bool) (w : Wire) where

@@ -18,14 +18,14 @@ use Rattle.rh_shell.specs.Rules.{Rules, Acts}
 use Rattle.rh_shell.specs.Shells.{Shell, state_of}
 use Rattle.rh_history.specs.Carried.{AreAcceptedAtEnd, happened, heard_in, heard_on}
 use Rattle.rh_history.specs.Histories.{heard}
-use Rattle.rh_history.proofs.Appended.{heard_append}
+use Rattle.rh_history.proofs.Appended.{heard_append, happened_append}
 use Rattle.rh_client.specs.declared.state.ClientRole.{ClientRole}
 use Rattle.rh_client.specs.Client as client
 use Rattle.rh_streams.specs.Streams.{HearsInTurn}
 use Rattle.rh_refused.specs.Refused.{BeginsRefused, HeardRefusal}
-use Rattle.rh_streams.proofs.Ends.{leg_itself}
 use Rattle.rh_traced.proofs.LostLegs.{closes_now, one_cause}
 use Rattle.rh_refused.proofs.Heard.{ClientLaws, heard_refusal}
+use Rattle.rh_history.proofs.Wired.{same_itself}
 
 -- ---- an act of an end closes nothing
 
@@ -73,15 +73,6 @@ accepted_front rules acts s [] fs a = tt
 accepted_front rules acts s (e ∷ es) fs a =
     (a.0, accepted_front rules acts (after_end_event rules acts s e) es fs a.1)
 
-happened_append : (es fs : List EndEvent) → happened (es ++ fs) ≡ happened es ++ happened fs
-happened_append [] fs = refl
-happened_append (Happens e ∷ es) fs =
-    ap (λ (x : List Event). e ∷ x) (happened_append es fs)
-happened_append (IsGiven pdu ∷ es) fs = happened_append es fs
-happened_append (IsTaken ∷ es) fs = happened_append es fs
-happened_append (IsClosed ∷ es) fs = happened_append es fs
-happened_append (IsRecycled ∷ es) fs = happened_append es fs
-
 pub turns_front : (xs ys : List Event) → HearsInTurn (xs ++ ys) → HearsInTurn xs
 turns_front xs ys turns before behind leg piece at =
     turns before (behind ++ ys) leg piece
@@ -119,7 +110,7 @@ module _ (law : ClientLaws) (config : ClientConfig) (leg : Leg) (status : ℕ) w
         now.news leg status now.closing in
         let hears : event ≡ Hears leg r.piece = sym now.is ∙ ap heard r.is in
         let piece : heard_in leg event ≡ r.piece =
-        ap (heard_in leg) hears ∙ ap (λ (t : Bool). cond t r.piece []) (leg_itself leg) in
+        ap (heard_in leg) hears ∙ ap (λ (t : Bool). cond t r.piece []) (same_itself leg) in
         let bytes : (heard_on leg (happened events) ++ r.piece) ++ heard_on leg (happened later)
         ≡ heard_on leg (happened all) =
         append_assoc (heard_on leg (happened events)) r.piece (heard_on leg (happened later))

@@ -60,6 +60,7 @@ use Rattle.rh_closes.proofs.Going.{one_before}
 use Rattle.rh_fifo.proofs.Recorded.{new}
 use Rattle.rh_refused.specs.Refused.{IsUnreached}
 use Rattle.rh_refused.specs.Reported.{ReportsBreak}
+use Rattle.rh_history.proofs.Reporting.{one_of_both}
 
 -- ---- what changes tell
 
@@ -302,16 +303,6 @@ module _ (shown : (line : Line) (w : roles.World)
 
 -- ---- what happened at a proxy was told it by a change
 
-one_split : {X : Type 0} (x : X) (xs ys : List X) → IsOneOf x (xs ++ ys)
-    → IsOneOf x xs ⊎ IsOneOf x ys
-one_split x [] ys h = inr h
-one_split x (z ∷ xs) ys (inl here) = inl (inl here)
-one_split x (z ∷ xs) ys (inr behind) = by (one_split x xs ys behind)
-  where
-    by : IsOneOf x xs ⊎ IsOneOf x ys → IsOneOf x (z ∷ xs) ⊎ IsOneOf x ys
-    by (inl h) = inl (inr h)
-    by (inr h) = inr h
-
 among_one : (event : moving.Event) (events before behind : List moving.Event)
     → events ≡ before ++ event ∷ behind → IsOneOf event events
 among_one event events before behind is = subst (IsOneOf event) (sym is) (by before)
@@ -367,7 +358,7 @@ module _ (P : Who → Event → Type 0) (node : Who) (leg : Leg) where
   told_broke w (OpensOut number cookie) h one =
       up_broke who.Client (leg_at ClientOut number) cookie one
   told_broke w (OpensSame number cookie) h one =
-      by (one_split (moving.Breaks leg)
+      by (one_of_both (moving.Breaks leg)
       (to_node who.Client node (moving.ComesUp (leg_at ClientIn number) cookie))
       (to_node (who.In (reader_before w number)) node
       (moving.ComesUp (leg_at ClientIn number) cookie)) one)

@@ -7,9 +7,9 @@ use Rattle.rh_shell.specs.Moves.{Passage, Pings, moved}
 use Rattle.rh_shell.specs.NearEnds.{NearEnd, is_finished}
 use Rattle.rh_shell.specs.Rules.{Rules}
 use Rattle.rh_shell.specs.Shells.{is_quiet, is_quiet_by, pinged}
-use Rattle.rh_streams.proofs.Ends.{both}
 use Rattle.rh_streams.proofs.Staging.{LeavesStages, anything, leaves_none, leaves_then}
 use Rattle.rh_streams.proofs.Ways.{Way, nowhere, way_none, way_one, way_then}
+use Rattle.std.proofs.lemmas.Bool.{and_parts}
 
 module _ {S : Type 0} (rules : Rules S) where
   -- moves lead to this role, and log nothing
@@ -53,7 +53,7 @@ module _ {S : Type 0} (rules : Rules S) where
   quiet_some : (now : ℕ) (role : S) (end : NearEnd) → is_quiet rules role now end ≡ true
       → is_some (rules.ping_after role end.leg) ≡ true
   quiet_some now role end quiet =
-      by (rules.ping_after role end.leg) (both (not (is_finished rules role end))
+      by (rules.ping_after role end.leg) (and_parts (not (is_finished rules role end))
       (is_quiet_by (rules.ping_after role end.leg) end.put_at now) quiet).1
     where
       by : (o : Option ℕ) → is_quiet_by o end.put_at now ≡ true → is_some o ≡ true

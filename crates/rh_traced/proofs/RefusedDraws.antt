@@ -28,7 +28,7 @@ use Rattle.rh_nodes.specs.Settling.{leg_at}
 use Rattle.rh_history.specs.Carried.{drawn_in, drawn_on}
 use Rattle.rh_history.proofs.Wired.{cases_leg, same_itself}
 use Rattle.rh_nodes.specs.declared.event.Event.{Event}
-use Rattle.rh_history.proofs.NodeTraces.{is_draws}
+use Rattle.rh_history.proofs.NodeTraces.{is_draws, draws_none}
 use Rattle.rh_order.proofs.Prefixes.{prefix_behind}
 use Rattle.rh_causes.specs.Closings.{ClosesWith}
 use Rattle.rh_shell.specs.Laws.{ClosedWith}
@@ -108,12 +108,6 @@ module _ {S : Type 0} (rules : Rules S) where
       && nat_le s.now now then passed rules (record s { now = now }) else s) ≡ s) (λ why. refl)
       (λ why client rest. refl) s.course g
 
-  -- what such an event draws, where the node does not draw
-  undrawn : (s : Shell S) (leg : Leg) (e : moving.Event) → is_draws e ≡ false
-      → drawn_in rules s leg e ≡ []
-  undrawn s leg (moving.Draws other room) q = absurd (true≢false q)
-  undrawn s leg e q = refl
-
   -- ---- a closed one draws nothing
 
   closed_event : (s : Shell S) (why : Cause) (leg : Leg) (e : moving.Event) → s.course ≡ Closed why
@@ -124,7 +118,7 @@ module _ {S : Type 0} (rules : Rules S) where
     ap (λ c. (drawn_by rules s other room c).0) h,
   )
   closed_event s why leg e h =
-      (undrawn s leg e refl, still s e (ap is_going h) refl)
+      (draws_none rules s leg e refl, still s e (ap is_going h) refl)
 
   closed_draws : (s : Shell S) (why : Cause) (leg : Leg) (es : List moving.Event)
       → s.course ≡ Closed why → drawn_on rules s leg es ≡ []
@@ -193,7 +187,7 @@ module _ {S : Type 0} (rules : Rules S) where
         refusing_draw s rest room es h later other
     refusing_event s rest e es h later =
         subst (λ x. IsPrefix (x ++ drawn_on rules (after_event rules s e) leg es) (of rest))
-        (sym (undrawn s leg e refl))
+        (sym (draws_none rules s leg e refl))
         (later (after_event rules s e) rest
         (ap (λ (t : Shell S). t.course) (still s e (ap is_going h) refl) ∙ h))
 

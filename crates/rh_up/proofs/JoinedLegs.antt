@@ -182,5 +182,5 @@ drawn_leg carries nothing put_view came_view agree put came drawn heard begins b
 drawn_leg carries nothing put_view came_view agree put came drawn heard begins back (inr p) h r =
     subst (λ (items : List Item). IsPrefix items (seen put_view put))
     (sym (nothing came_view (Some IsU) came (refusal_text p.1) drawn heard
-    (refusal_unread p.1) p.2 h r))
+    (refusal_unread (Some IsU) p.1) p.2 h r))
     (seen put_view put, refl)

@@ -1,7 +1,7 @@
 pub mod Rising
 mod Counts
 mod Told
-mod Unread
+pub mod Unread
 pub mod JoinedLegs
 mod ServerLegs
 mod ServerPuts

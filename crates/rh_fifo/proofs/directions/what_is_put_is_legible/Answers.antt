@@ -1,5 +1,5 @@
 use Rattle.rh_fifo.proofs.Legs.{Reads}
-use Rattle.rh_fifo.proofs.Unread.{refusal_unread}
+use Rattle.rh_up.proofs.Unread.{refusal_unread}
 use Rattle.rh_fifo.proofs.Flowing.{Streaming}
 use Rattle.rh_fifo.proofs.Starting.{Beginning}
 use Rattle.rh_fifo.proofs.Legal.{Legalities}
