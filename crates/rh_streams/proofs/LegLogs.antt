@@ -1,5 +1,5 @@
 -- the messages of one leg in a log, and what order sees of them
-use Rattle.std.proofs.Common.{◌≡◌, Bool, true, false, true≢false, if◌then◌else◌, List, [], ◌∷◌, ◌++◌, refl, sym, ap, ◌∙◌, subst, ◌⊎◌, inl, inr}
+use Rattle.std.proofs.Common.{◌≡◌, ◌⊎◌, inl, inr, Bool, true, false, if◌then◌else◌, List, [], ◌∷◌, ◌++◌, refl, sym, ap, ◌∙◌, subst}
 use Rattle.std.specs.List.{AllByRecursion}
 use Rattle.std.specs.declared.option.Option.{Option}
 use Rattle.rh_sig.specs.declared.name.Pipe.{Pipe}
@@ -13,15 +13,9 @@ use Rattle.rh_shell.specs.Shells.{same_leg}
 use Rattle.rh_shell.specs.Wires.{of_leg}
 use Rattle.rh_legible.specs.Legible.{ReadsBack, AllReadBack}
 use Rattle.rh_history.proofs.Wired.{cases_leg}
+use Rattle.rh_streams.proofs.Ends.{leg_is}
 
 -- ---- legs that are the same
-
-pub same_is : (a b : Leg) → same_leg a b ≡ true → a ≡ b
-same_is a b h = by (cases_leg a b)
-  where
-    by : (a ≡ b) ⊎ (same_leg a b ≡ false) → a ≡ b
-    by (inl same) = same
-    by (inr other) = absurd (true≢false (sym h ∙ other))
 
 pub same_back : (a b : Leg) → same_leg a b ≡ same_leg b a
 same_back a b = by (cases_leg a b) (cases_leg b a)
@@ -40,10 +34,10 @@ pub leg_items : (view : Message → List Item) (leg : Leg) (items : List OnLeg �
     → ((one : OnLeg) (log : List OnLeg) → items (one ∷ log)
     ≡ (if same_leg leg one.0 then view one.1 else []) ++ items log)
     → (log : List OnLeg) → items log ≡ seen view (of_leg leg log)
-leg_items view leg items none more [] = none
-leg_items view leg items none more (one ∷ log) =
-    more one log
-    ∙ rw (same_back leg one.0, leg_items view leg items none more log)
+leg_items view leg items none one' [] = none
+leg_items view leg items none one' (one ∷ log) =
+    one' one log
+    ∙ rw (same_back leg one.0, leg_items view leg items none one' log)
     (by_leg (same_leg one.0 leg) (view one.1) (of_leg leg log) one.1 refl)
   where
     by_leg : (t : Bool) (items : List Item) (messages : List Message) (m : Message)
@@ -53,19 +47,25 @@ leg_items view leg items none more (one ∷ log) =
     by_leg true items messages m e = rw e refl
     by_leg false items messages m e = refl
 
--- ---- what was put on the leg reads back
+-- ---- what holds of each message by the pipe of its leg
 
-pub leg_reads_back : (pipe : Leg → Option Pipe) (leg : Leg) (log : List OnLeg)
-    → AllReadBack pipe log → AllByRecursion (ReadsBack (pipe leg)) (of_leg leg log)
-leg_reads_back pipe leg [] all = tt
-leg_reads_back pipe leg (one ∷ log) all =
-    by_test (λ (messages : List Message). AllByRecursion (ReadsBack (pipe leg)) messages)
+pub on_leg : (pipe : Leg → Option Pipe) (P : Option Pipe → Message → Type 0) (leg : Leg)
+    (log : List OnLeg) → AllByRecursion (λ (one : OnLeg). P (pipe one.0) one.1) log
+    → AllByRecursion (P (pipe leg)) (of_leg leg log)
+on_leg pipe P leg [] all = tt
+on_leg pipe P leg (one ∷ log) all =
+    by_test (λ (messages : List Message). AllByRecursion (P (pipe leg)) messages)
     (same_leg one.0 leg) (one.1 ∷ of_leg leg log) (of_leg leg log)
     (λ e. (
-      subst (λ (x : Leg). ReadsBack (pipe x) one.1) (same_is one.0 leg e) all.0,
-      leg_reads_back pipe leg log all.1,
+      subst (λ (x : Leg). P (pipe x) one.1) (leg_is one.0 leg e) all.0,
+      on_leg pipe P leg log all.1,
     ))
-    (λ e. leg_reads_back pipe leg log all.1)
+    (λ e. on_leg pipe P leg log all.1)
+
+-- so what was put reads back
+pub leg_reads_back : (pipe : Leg → Option Pipe) (leg : Leg) (log : List OnLeg)
+    → AllReadBack pipe log → AllByRecursion (ReadsBack (pipe leg)) (of_leg leg log)
+leg_reads_back pipe = on_leg pipe ReadsBack
 
 -- ---- a message more
 
@@ -76,3 +76,16 @@ of_other leg [] one e = rw e refl
 of_other leg (other ∷ log) one e =
     ap (λ (messages : List Message).
     if same_leg other.0 leg then other.1 ∷ messages else messages) (of_other leg log one e)
+
+-- on whichever leg
+pub one_more : (leg : Leg) (log : List OnLeg) (one : OnLeg)
+    → of_leg leg (log ++ one ∷ []) ≡ of_leg leg log ++ of_leg leg (one ∷ [])
+one_more leg [] one = refl
+one_more leg (first ∷ log) one =
+    by (same_leg first.0 leg) (one_more leg log one)
+  where
+    by : (b : Bool) → of_leg leg (log ++ one ∷ []) ≡ of_leg leg log ++ of_leg leg (one ∷ [])
+        → (if b then first.1 ∷ of_leg leg (log ++ one ∷ []) else of_leg leg (log ++ one ∷ []))
+        ≡ (if b then first.1 ∷ of_leg leg log else of_leg leg log) ++ of_leg leg (one ∷ [])
+    by true rest = ap (λ messages. first.1 ∷ messages) rest
+    by false rest = rest
