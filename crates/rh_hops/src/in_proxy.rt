@@ -13,5 +13,6 @@ ghost use Rattle.rh_hops.specs.Hops.{SendsWithin, is_leg};
 pub fn an_in_proxy_sends_within_the_servers_window()
     ensures { (config : InProxyConfig) (moves : List Move)
         → AreAllowed rules (started (first config)) moves
-        → SendsWithin rules (is_leg config.number) (all_moved rules (started (first config)) moves) }
+        → SendsWithin rules (is_leg config.number)
+        (all_moved rules (started (first config)) moves) }
 {}
