@@ -121,8 +121,8 @@ false_of came put other_came other_put named j acks false_ack =
 
 module _ {S T : Type 0} (rules : Rules S) (others : Rules T) (leg : Leg) (p : Passage S)
     (q : Passage T) (m : Message)
-    (j : IsJoined (of_leg leg p.came) (of_leg leg p.put) (of_leg leg q.came) (of_leg leg q.put) m)
-    where
+    (j : IsJoined (of_leg leg p.came) (of_leg leg p.put) (of_leg leg q.came) (of_leg leg q.put)
+    m) where
   -- where the role receives
   pub never_exceeded : (exceeded : WindowExceeded) → ReceivesWithin rules leg p
       → SendsWithin others leg q

@@ -142,9 +142,12 @@ module _ {K : Type 0} (m : Makers K InProxy OutProxy)
       drawn = end_drawn_on server.rules server.acts first leg then_history.server;
       spells = then_flowing.flows.server.drawn leg;
       front = prefix_trans other_heard (end_drawn_on server.rules server.acts first leg h.server)
-          (end_drawn_on server.rules server.acts first leg then_history.server) other_front (_, sym
-          (end_drawn_more server.rules server.acts first v.company.server h.server
-          (told_to v (IsFed leg U short) who.Server) (IsFed leg U short) side.Server run leg));
+          (end_drawn_on server.rules server.acts first leg then_history.server) other_front (
+            _,
+            sym
+                (end_drawn_more server.rules server.acts first v.company.server h.server
+                (told_to v (IsFed leg U short) who.Server) (IsFed leg U short) side.Server run leg),
+          );
     }
 
     well : ReadsWell (well_on leg.kind U) pipe (heard short ++ byte.byte ∷ [])

@@ -20,9 +20,7 @@ ghost use Rattle.rh_hops.specs.Hops.{is_leg, os_leg};
 
 use crate::in_proxy::an_in_proxy_sends_within_the_servers_window;
 use crate::out_proxy::an_out_proxy_receives_within_its_window;
-use crate::server::{
-    a_server_receives_within_its_window, a_server_sends_within_the_proxys_window,
-};
+use crate::server::{a_server_receives_within_its_window, a_server_sends_within_the_proxys_window};
 use rh_causes::{
     a_node_closes_once, a_proxy_refuses_for_a_reason, causes_come_from_their_events,
     events_close_with_their_causes,
