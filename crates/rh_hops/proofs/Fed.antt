@@ -56,7 +56,8 @@ module _ {K : Type 0} (v : World K ClientRole Server InProxy OutProxy) (h : Hist
 -- ---- the server
 
 module _ {K : Type 0} (first : Shell Server) (v : World K ClientRole Server InProxy OutProxy)
-    (h : History) (run : v.company.server ≡ after_end_events rules.server deeds.server first h.server)
+    (h : History)
+    (run : v.company.server ≡ after_end_events rules.server deeds.server first h.server)
     (leg : Leg) (dir : Dir) (here : at v leg (receiver dir) ≡ who.Server) (count : ℕ) where
   pub server_heard : heard_on leg (happened (noted v h (IsFed leg dir count)).server)
       ≡ heard_on leg (happened h.server) ++ piece v h leg dir who.Server here count
@@ -87,7 +88,8 @@ module _ {K : Type 0} (v : World K ClientRole Server InProxy OutProxy) (h : Hist
       ≡ h.ins n ++ moving.Hears leg (piece v h leg dir (who.In n) here count) ∷ []
   in_events here now up there =
       ap (λ (p : Place InProxy). h.ins n ++ at_place p
-      (told_to v (IsFed leg dir count) (who.In n)) (made_by v (IsFed leg dir count) (who.In n))) there
+      (told_to v (IsFed leg dir count) (who.In n)) (made_by v (IsFed leg dir count) (who.In n)))
+      there
       ∙ ap (λ (es : List moving.Event). h.ins n ++ es) (told_here v h leg dir (who.In n) here count)
 
   pub out_events : (here : at v leg (receiver dir) ≡ who.Out n) (now : Shell OutProxy) (up : ℕ)
@@ -98,7 +100,8 @@ module _ {K : Type 0} (v : World K ClientRole Server InProxy OutProxy) (h : Hist
       ap (λ (p : Place OutProxy). h.outs n ++ at_place p
       (told_to v (IsFed leg dir count) (who.Out n))
       (made_by v (IsFed leg dir count) (who.Out n))) there
-      ∙ ap (λ (es : List moving.Event). h.outs n ++ es) (told_here v h leg dir (who.Out n) here count)
+      ∙ ap (λ (es : List moving.Event). h.outs n ++ es)
+      (told_here v h leg dir (who.Out n) here count)
 
 -- ---- any node
 

@@ -121,41 +121,41 @@ false_of came put other_came other_put named j acks false_ack =
 
 module _ {S T : Type 0} (rules : Rules S) (others : Rules T) (leg : Leg) (p : Passage S)
     (q : Passage T) (m : Message)
-    (j : IsJoined (of_leg leg p.came) (of_leg leg p.put) (of_leg leg q.came) (of_leg leg q.put) m)
-  where
-    -- where the role receives
-    pub never_exceeded : (exceeded : WindowExceeded) → ReceivesWithin rules leg p
-        → SendsWithin others leg q
-        → RefusesMessage rules p.role leg (refused.Window exceeded) m → ⊥
-    never_exceeded exceeded receives sends is = by m j is
-      where
-        by : (x : Message)
-            → IsJoined (of_leg leg p.came) (of_leg leg p.put) (of_leg leg q.came) (of_leg leg q.put) x
-            → RefusesMessage rules p.role leg (refused.Window exceeded) x → ⊥
-        by (Text bytes) k refuses = refuses
-        by (Pdu pdu) k refuses =
-            within_edge (of_leg leg p.came) (of_leg leg p.put) (of_leg leg q.came) (of_leg leg q.put)
-            pdu k sends.within
-            (subst (RefusesBehind (greatest_edge (of_leg leg p.put))
-            (pdu_bytes (of_leg leg p.came) + length pdu)) refuses.1
-            (receives.refuses refuses.0 pdu))
-        by (Packet named) k refuses =
-            subst IsNoWindow refuses.1 (receives.packets refuses.0 named)
+    (j : IsJoined (of_leg leg p.came) (of_leg leg p.put) (of_leg leg q.came) (of_leg leg q.put)
+    m) where
+  -- where the role receives
+  pub never_exceeded : (exceeded : WindowExceeded) → ReceivesWithin rules leg p
+      → SendsWithin others leg q
+      → RefusesMessage rules p.role leg (refused.Window exceeded) m → ⊥
+  never_exceeded exceeded receives sends is = by m j is
+    where
+      by : (x : Message)
+          → IsJoined (of_leg leg p.came) (of_leg leg p.put) (of_leg leg q.came) (of_leg leg q.put) x
+          → RefusesMessage rules p.role leg (refused.Window exceeded) x → ⊥
+      by (Text bytes) k refuses = refuses
+      by (Pdu pdu) k refuses =
+          within_edge (of_leg leg p.came) (of_leg leg p.put) (of_leg leg q.came) (of_leg leg q.put)
+          pdu k sends.within
+          (subst (RefusesBehind (greatest_edge (of_leg leg p.put))
+          (pdu_bytes (of_leg leg p.came) + length pdu)) refuses.1
+          (receives.refuses refuses.0 pdu))
+      by (Packet named) k refuses =
+          subst IsNoWindow refuses.1 (receives.packets refuses.0 named)
 
-    -- where it sends
-    pub never_out_of_range : (command value : ℕ) → SendsWithin rules leg p
-        → ReceivesWithin others leg q
-        → RefusesMessage rules p.role leg (refused.OutOfRange command value) m → ⊥
-    never_out_of_range command value sends receives is = by m j is
-      where
-        by : (x : Message)
-            → IsJoined (of_leg leg p.came) (of_leg leg p.put) (of_leg leg q.came) (of_leg leg q.put) x
-            → RefusesMessage rules p.role leg (refused.OutOfRange command value) x → ⊥
-        by (Text bytes) k refuses = refuses
-        by (Pdu pdu) k refuses =
-            absurd (let bad = sym refuses.1 ∙ sends.pdus refuses.0 pdu in cc)
-        by (Packet named) k refuses =
-            false_of (of_leg leg p.came) (of_leg leg p.put) (of_leg leg q.came) (of_leg leg q.put)
-            named k receives.acks
-            (subst (RefusesFalseAcks (pdu_bytes (of_leg leg p.put)) named) refuses.1
-            (sends.refuses refuses.0 named))
+  -- where it sends
+  pub never_out_of_range : (command value : ℕ) → SendsWithin rules leg p
+      → ReceivesWithin others leg q
+      → RefusesMessage rules p.role leg (refused.OutOfRange command value) m → ⊥
+  never_out_of_range command value sends receives is = by m j is
+    where
+      by : (x : Message)
+          → IsJoined (of_leg leg p.came) (of_leg leg p.put) (of_leg leg q.came) (of_leg leg q.put) x
+          → RefusesMessage rules p.role leg (refused.OutOfRange command value) x → ⊥
+      by (Text bytes) k refuses = refuses
+      by (Pdu pdu) k refuses =
+          absurd (let bad = sym refuses.1 ∙ sends.pdus refuses.0 pdu in cc)
+      by (Packet named) k refuses =
+          false_of (of_leg leg p.came) (of_leg leg p.put) (of_leg leg q.came) (of_leg leg q.put)
+          named k receives.acks
+          (subst (RefusesFalseAcks (pdu_bytes (of_leg leg p.put)) named) refuses.1
+          (sends.refuses refuses.0 named))

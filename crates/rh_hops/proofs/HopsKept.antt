@@ -142,7 +142,8 @@ module _ {K : Type 0} (hop : HopLaws) (m : Makers K InProxy OutProxy)
         → ReceivesWithin out_proxy.rules (os_leg n) (flowing.flows.outs n).passage
     out_receives n =
         let f = flowing.flows.outs n in
-        subst (λ (p : Passage OutProxy). ReceivesWithin out_proxy.rules (os_leg n) p) f.leads.reached
+        subst (λ (p : Passage OutProxy). ReceivesWithin out_proxy.rules (os_leg n) p)
+        f.leads.reached
         (subst (λ (k : ℕ). ReceivesWithin out_proxy.rules (os_leg k)
         (all_moved out_proxy.rules (started (new_proxy (ours.out_config n))) f.leads.moves))
         (ours.out_number n)
@@ -266,7 +267,8 @@ module _ {K : Type 0} (hop : HopLaws) (m : Makers K InProxy OutProxy)
         f = flowing m w v ours law by (is_leg n) U may
 
         k : ℕ
-        k = short m w v ours law by (is_leg n) may refl hop.readings hop.server r why refl count closes
+        k = short m w v ours law by (is_leg n) may refl hop.readings hop.server r why refl count
+            closes
 
         u : World K ClientRole Server InProxy OutProxy
         u = changed rules m deeds v (IsFed (is_leg n) U k)
@@ -317,7 +319,8 @@ module _ {K : Type 0} (hop : HopLaws) (m : Makers K InProxy OutProxy)
         f = flowing m w v ours law by (os_leg n) U may
 
         k : ℕ
-        k = short m w v ours law by (os_leg n) may refl hop.readings hop.server r why refl count closes
+        k = short m w v ours law by (os_leg n) may refl hop.readings hop.server r why refl count
+            closes
 
         u : World K ClientRole Server InProxy OutProxy
         u = changed rules m deeds v (IsFed (os_leg n) U k)
@@ -433,8 +436,8 @@ module _ {K : Type 0} (hop : HopLaws) (m : Makers K InProxy OutProxy)
             (of_leg (is_leg n) (server_at v h f).came) (of_leg (is_leg n) (server_at v h f).put)
         stops = node_stops hop.readings (well_on InServer D) (strict_on InServer D).ranges
             in_proxy.rules (in_state.first config) in_proxy.rooms (pipes.in_pipe config) leg
-            (h.ins n) node run r why refl (legs.take_out (is_leg n) D count v.legs).1 byte (Some IsU)
-            X before (server_at v h f) (Some IsD)
+            (h.ins n) node run r why refl (legs.take_out (is_leg n) D count v.legs).1 byte
+            (Some IsU) X before (server_at v h f) (Some IsD)
             (sym (reads_on ours n n InServer D))
             (heard_on leg (happened h.server))
             (subst (ReadsWell (well_on InServer D) (Some IsD)) next

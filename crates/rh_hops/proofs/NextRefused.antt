@@ -284,7 +284,8 @@ module _ {S : Type 0} (well : Answers)
   unfolding hear hear_byte read_byte
   byte_refused s why end came put heard_so drawn going at here sits fits parts closed tells =
       by (is_over rules end s.role) refl
-      (turns (subst (λ (o : Option NearEnd). ClosedWith why (bytes_at rules s leg (b ∷ []) o).course)
+      (turns (subst (λ (o : Option NearEnd).
+      ClosedWith why (bytes_at rules s leg (b ∷ []) o).course)
       at (subst (λ (c : Course). ClosedWith why (bytes_by rules s leg (b ∷ []) c).course) going
       closed)))
     where
@@ -316,7 +317,8 @@ module _ {S : Type 0} (well : Answers)
             message = says.1.message;
             next =
                 parts heard_so (b ∷ [])
-                ∙ ap (λ (q : Reading). messages_read pipe heard_so ++ ((read_byte pipe q b).1 ++ []))
+                ∙ ap (λ (q : Reading).
+                messages_read pipe heard_so ++ ((read_byte pipe q b).1 ++ []))
                 seat.after
                 ∙ ap (λ (ms : List Message). messages_read pipe heard_so ++ ms)
                 (append-nil (read s.role end) ∙ one)

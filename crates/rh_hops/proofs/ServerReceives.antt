@@ -63,7 +63,8 @@ use Rattle.rh_server.specs.Servers.{rules as server_rules}
 use Rattle.rh_server.specs.Order.{taker_of}
 use Rattle.rh_held.specs.Holding.{Holds}
 use Rattle.rh_hops.specs.Hops.{is_leg, pdu_bytes, edge_told, edge_in, greatest_edge, IsNoWindow, IsTrueAck, RefusesBehind, ReceivesWithin}
-use Rattle.rh_hops.proofs.Legs.{on, itself}
+use Rattle.rh_streams.proofs.Ends.{leg_itself}
+use Rattle.rh_hops.proofs.Legs.{on}
 use Rattle.rh_hops.proofs.Counts.{bytes_rise, edges_within, all_later, all_append}
 use Rattle.rh_hops.proofs.Places.{all_at, all_set, all_removed, all_weaken, found_passes}
 use Rattle.rh_hops.proofs.Receiving.{Receives, came_more, put_within, admitted_told, admitted_size, received_more, IsBehind, refused_behind, IsDueAck, due_is}
@@ -451,7 +452,7 @@ module _ (window n : ℕ) (is : IsWindow window) where
   here : (number : ℕ) (m : Message) → number ≡ n → on leg (is_leg number) m ≡ m ∷ []
   here number m e =
       ap (λ (t : Bool). if t then m ∷ [] else [])
-      (subst (λ (k : ℕ). same_leg (is_leg k) leg ≡ true) (sym e) (itself leg))
+      (subst (λ (k : ℕ). same_leg (is_leg k) leg ≡ true) (sym e) (leg_itself leg))
 
   came_pdu : (c : Incoming) (number : ℕ) (came : List Message) (bytes : List ℕ) → number ≡ n
       → c.window.received ≤ pdu_bytes came
@@ -843,7 +844,8 @@ module _ (window n : ℕ) (is : IsWindow window) where
       (came put : List Message) → Known window s → Fine s came put
       → Fine (on_in_r1_a2 s number count a b c d e).0 came put
   in_r1_a2_kept s number count a b c d e came put k h =
-      by_test (λ (x : Done). Fine x.0 came put) (is_first count && not (has_fresh_below number s.ins))
+      by_test (λ (x : Done). Fine x.0 came put)
+      (is_first count && not (has_fresh_below number s.ins))
       (in_r1_a2_at s s.stage number a b c d e) (unexpected s)
       (λ f. a2_stage s s.stage number a b c d e came put refl k h) (λ f. h)
 
@@ -1270,7 +1272,8 @@ module _ (window n : ℕ) (is : IsWindow window) where
             next_shut = w.next_shut;
             followed = w.followed;
             shut = λ f.
-                let none = (w.shut f).0 in let some = d.opened in absurd (omega (arith, none, some));
+                let none = (w.shut f).0 in let some = d.opened in
+                absurd (omega (arith, none, some));
             told = λ f. let before = w.told f in omega (arith, before, more);
             legs = w.legs;
             acks = w.acks;

@@ -53,7 +53,8 @@ use Rattle.rh_server.specs.Putting.{put_by as put_by_kind}
 use Rattle.rh_server.specs.Servers.{on_is, on_os, packet_by, pdu_by, first, acts as server_acts}
 use Rattle.rh_server.specs.Servers.{rules as server_rules}
 use Rattle.rh_hops.specs.Hops.{os_leg, pdu_bytes, edge_told, greatest_edge, RefusesFalseAcks, SendsWithin}
-use Rattle.rh_hops.proofs.Legs.{on, itself}
+use Rattle.rh_streams.proofs.Ends.{leg_itself}
+use Rattle.rh_hops.proofs.Legs.{on}
 use Rattle.rh_hops.proofs.Counts.{bytes_append, edges_rise}
 use Rattle.rh_hops.proofs.Numbered.{Absent, Once, absent_at, absent_push, absent_removed, absent_set, once_at, once_first, once_map, once_push, once_removed, once_set}
 use Rattle.rh_hops.proofs.Places.{found_passes}
@@ -288,7 +289,7 @@ module _ (n : ℕ) where
   on_leg_n : (number : ℕ) (m : Message) → number ≡ n → on leg (os_leg number) m ≡ m ∷ []
   on_leg_n number m e =
       ap (λ (t : Bool). if t then m ∷ [] else [])
-      (subst (λ (k : ℕ). same_leg (os_leg k) leg ≡ true) (sym e) (itself leg))
+      (subst (λ (k : ℕ). same_leg (os_leg k) leg ≡ true) (sym e) (leg_itself leg))
 
   -- ---- a channel opens
 
@@ -514,7 +515,8 @@ module _ (n : ℕ) where
     where
       Row : Done → Type 0
       Row x =
-          RowKeeps Fine leg (os_leg number) (Packet (named.Ack received available cookie)) came put x
+          RowKeeps Fine leg (os_leg number) (Packet (named.Ack received available cookie)) came put
+          x
 
       by_leg : (place : ℕ) (o : Option OutLeg) → out_place number s.outs ≡ Some place
           → slice_get s.outs place ≡ o → Row (acked_at s place received available o)
@@ -741,7 +743,8 @@ module _ (n : ℕ) where
   waiting_put s number place (w, None) came put h = tt
   waiting_put s number place (w, Some due) came put h =
       let m : Message = Packet due.packet in
-      was_put_kept (record s { waiting = w }) place due.packet came (put ++ on leg (os_leg number) m)
+      was_put_kept (record s { waiting = w }) place due.packet came
+      (put ++ on leg (os_leg number) m)
       (put_on (record s { waiting = w }) came put (on leg (os_leg number) m)
       (no_pdu (os_leg number) m refl) (record { of_leg_n = h.of_leg_n; opening = h.opening }))
 
@@ -829,7 +832,8 @@ module _ (n : ℕ) where
                 (w.unborn f).0,
                 absent_set number_of n s.outs place x y at.at refl (w.unborn f).1,
               );
-              window = once_set number_of n (Window came put) (Window came put) s.outs place x y at.at
+              window = once_set number_of n (Window came put) (Window came put) s.outs place x y
+                  at.at
                   refl
                   (λ g before. absurd (true≢false (sym g ∙ ap (λ (k : ℕ). k == n) is ∙ e)))
                   (λ g z before. before) w.window;
@@ -891,7 +895,8 @@ module _ (n : ℕ) where
       or_put number came put (put_out_greeting s place) (put_open s place)
       (greeting_put s number place (slice_get s.outs place) came put refl h)
       (by_test (Puts number came put) (is_open s.stage) (settled_pick (next_out s place)) None
-      (λ e. settled_put number came put (next_out s place) (next_put s number place came put at e h))
+      (λ e. settled_put number came put (next_out s place)
+      (next_put s number place came put at e h))
       (λ e. tt))
 
   put_kept : (s : Server) (number : ℕ) (kind : LegKind) (came put : List Message)

@@ -78,7 +78,8 @@ module _ {K : Type 0} (m : Makers K InProxy OutProxy)
       ∙ ap (λ (s : Shell Server). after_end_events server.rules server.acts s h.server) ours.server
 
   -- the byte that closes it, and what was fed before
-  abbrev pub byte : AtByte server.rules leg v.company.server (legs.take_out leg U count v.legs).1 why
+  abbrev pub byte : AtByte server.rules leg v.company.server
+      (legs.take_out leg U count v.legs).1 why
   byte = closes_at server.rules node v.company.server leg (legs.take_out leg U count v.legs).1 why
       closes
 
@@ -91,7 +92,8 @@ module _ {K : Type 0} (m : Makers K InProxy OutProxy)
   abbrev pub then_history : History
   then_history = behind m w v ours law by leg U may short
 
-  abbrev pub then_flowing : IsFlowing (numbers_of ours) w (changed rules m deeds v (IsFed leg U short))
+  abbrev pub then_flowing : IsFlowing (numbers_of ours) w
+      (changed rules m deeds v (IsFed leg U short))
       then_history
   then_flowing = flowing_behind m w v ours law by leg U may short
 
@@ -126,7 +128,8 @@ module _ {K : Type 0} (m : Makers K InProxy OutProxy)
       (ahead : (bytes : List ℕ) → IsPrefix bytes (drawn_by rules m deeds w.company w.cast h
       (end_node v.readers leg (sender U)) leg) → Way pipe (of_leg leg q.put) bytes)
       (other_heard : List ℕ)
-      (other_front : IsPrefix other_heard (end_drawn_on server.rules server.acts first leg h.server))
+      (other_front : IsPrefix other_heard
+      (end_drawn_on server.rules server.acts first leg h.server))
       (other_came : IsPrefix (of_leg leg q.came) (messages_read back_pipe other_heard))
       (begins : Begins back_pipe (of_leg leg server_passage.put)) where
     back : Way back_pipe (of_leg leg server_passage.put) other_heard

@@ -14,7 +14,8 @@ use Rattle.rh_shell.specs.Rules.{Rules, Acts, Row, Message, Pdu, Packet}
 use Rattle.rh_shell.specs.Moves.{Move, Up, HeadCame, PduCame, PacketCame, Puts, IsDrawn, Marks, Pings, Passage, MayMove, AreAllowed, moved, all_moved, taken_by, put_by, EndMove, Moves, Gives, Takes, Closes, Recycles, EndPassage, MayEndMove, AreAllowedAtEnd, end_moved, all_end_moved, end_now_at, given_by, with_first}
 use Rattle.rh_shell.specs.Shells.{same_leg}
 use Rattle.rh_shell.specs.Wires.{of_leg}
-use Rattle.rh_hops.proofs.Legs.{on, one_more}
+use Rattle.rh_up.proofs.LegLogs.{one_more}
+use Rattle.rh_hops.proofs.Legs.{on}
 
 -- a fact of a role, of what came on the leg, and of what was put there
 abbrev pub Fact : Type 0 → Type 1
@@ -111,7 +112,8 @@ module _ {S : Type 0} (rules : Rules S) (leg : Leg) (Known : S → Type 0) (P : 
       → RowKeeps P leg other m (of_leg leg p.came) (of_leg leg p.put) row
       → HoldsAt (taken_by p other m row)
   by_row p other m (s, Ok taken) h =
-      subst (λ (came : List Message). P s came (of_leg leg p.put)) (sym (one_more leg p.came (other, m)))
+      subst (λ (came : List Message). P s came (of_leg leg p.put))
+      (sym (one_more leg p.came (other, m)))
       h
   by_row p other m (s, Err refused) h = h
 

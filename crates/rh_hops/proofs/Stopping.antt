@@ -99,6 +99,7 @@ module _ (law : Readings) (well : Answers)
           → StopsAt rules s.role leg r came put other_came other_put
       by None at closes = absurd (subst (ClosedWith why) going closes)
       by (Some end) at closes =
-          refused (byte_refused well strict rules leg pipe r b s why end came put heard drawn going at
-          (leg_is end.leg leg (end_leg leg s.legs end (sym (end_is leg s.legs) ∙ at))) (seats end going at)
+          refused (byte_refused well strict rules leg pipe r b s why end came put heard drawn going
+          at (leg_is end.leg leg (end_leg leg s.legs end (sym (end_is leg s.legs) ∙ at)))
+          (seats end going at)
           (law.piece well pipe heard (b ∷ []) fits).0 (law.parts pipe) closed tells)
