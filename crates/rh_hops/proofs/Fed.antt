@@ -28,7 +28,7 @@ use Rattle.rh_history.specs.Changes.{IsFed}
 use Rattle.rh_history.specs.Histories.{History, at_place, in_place, made_by, noted, out_place, told_to}
 use Rattle.rh_history.proofs.Appended.{happened_more, heard_append}
 use Rattle.rh_history.proofs.Runs.{end_events_append, events_append}
-use Rattle.rh_streams.proofs.Ends.{leg_itself}
+use Rattle.rh_history.proofs.Wired.{same_itself}
 use Rattle.rh_traced.specs.Ours.{deeds, rules}
 use Rattle.rh_honest.proofs.Fed.{same_who}
 
@@ -50,7 +50,7 @@ module _ {K : Type 0} (v : World K ClientRole Server InProxy OutProxy) (h : Hist
       → heard_on leg (told_to v (IsFed leg dir count) node) ≡ piece count
   heard_told count =
       ap (heard_on leg) (told_here count)
-      ∙ ap (λ (t : Bool). (if t then piece count else []) ++ []) (leg_itself leg)
+      ∙ ap (λ (t : Bool). (if t then piece count else []) ++ []) (same_itself leg)
       ∙ append-nil (piece count)
 
 -- ---- the server
@@ -109,5 +109,5 @@ pub heard_behind : (leg : Leg) (es : List moving.Event) (bytes : List ℕ)
     → heard_on leg (es ++ moving.Hears leg bytes ∷ []) ≡ heard_on leg es ++ bytes
 heard_behind leg es bytes =
     heard_append leg es (moving.Hears leg bytes ∷ [])
-    ∙ ap (λ (t : Bool). heard_on leg es ++ ((if t then bytes else []) ++ [])) (leg_itself leg)
+    ∙ ap (λ (t : Bool). heard_on leg es ++ ((if t then bytes else []) ++ [])) (same_itself leg)
     ∙ ap (λ (xs : List ℕ). heard_on leg es ++ xs) (append-nil bytes)

@@ -54,13 +54,13 @@ use Rattle.rh_history.specs.Histories.{History, IsRun, in_place, out_place}
 use Rattle.rh_reading.specs.Reading.{Begins, messages_read}
 use Rattle.rh_reading.specs.Well.{ReadsWell}
 use Rattle.rh_streams.specs.Streams.{Stream}
+use Rattle.rh_streams.proofs.LegLogs.{on_leg}
 use Rattle.rh_proxies_begin.specs.Pipes as pipes
 use Rattle.rh_down.specs.Down as down
 use Rattle.rh_traced.specs.Cookies.{ByChanges}
 use Rattle.rh_traced.specs.Ours.{AreOurs, deeds, rules}
 use Rattle.rh_fifo.specs.Flows.{IsFlowing, numbers_of}
 use Rattle.rh_fifo.specs.Premises.{AreInRange}
-use Rattle.rh_fifo.proofs.Fine.{on_leg}
 use Rattle.rh_fifo.proofs.Heard.{from_in, from_out, from_server}
 use Rattle.rh_honest.specs.Honest.{read_on, well_on}
 use Rattle.rh_honest.proofs.Drawn.{free_by}

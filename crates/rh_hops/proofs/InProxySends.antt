@@ -47,9 +47,9 @@ use Rattle.rh_inproxy.specs.Putting.{put as put_of, next, waiting_by, put_waitin
 use Rattle.rh_inproxy.specs.Time.{ping, put_ping}
 use Rattle.rh_inproxy.specs.Machine.{pdu, packet, on_channel, on_channel_by, on_ci, on_is}
 use Rattle.rh_inproxy.specs.Machine.{rules as proxy_rules}
+use Rattle.rh_history.proofs.Wired.{same_itself}
+use Rattle.rh_streams.proofs.LegLogs.{same_back}
 use Rattle.rh_hops.specs.Hops.{is_leg, pdu_bytes, edge_told, RefusesFalseAcks, SendsWithin}
-use Rattle.rh_streams.proofs.Ends.{leg_itself}
-use Rattle.rh_down.proofs.LegLogs.{same_back}
 use Rattle.rh_hops.proofs.Legs.{on}
 use Rattle.rh_hops.proofs.Sending.{Sends, unsent_sends, heard_more, put_more, opens_sends, acked_sends, refused_sends, sent_sends, sends_within, IsFalse, verdict_false}
 use Rattle.rh_hops.proofs.Steps.{RowKeeps, PutKeeps, RowHere, PutHere, row_here, put_here, StepsKeep, moves_keep}

@@ -41,9 +41,9 @@ use Rattle.rh_outproxy.specs.Putting.{Pick, ping_room, or_else, answer_by, put_a
 use Rattle.rh_outproxy.specs.Putting.{put as put_of}
 use Rattle.rh_outproxy.specs.Machine.{packet, pdu, on_co, on_os}
 use Rattle.rh_outproxy.specs.Machine.{rules as proxy_rules}
+use Rattle.rh_streams.proofs.LegLogs.{same_back}
 use Rattle.rh_held.specs.Holding.{Holds}
 use Rattle.rh_hops.specs.Hops.{os_leg, pdu_bytes, edge_in, edge_told, greatest_edge, IsTrueAck, IsNoWindow, RefusesBehind, ReceivesWithin}
-use Rattle.rh_down.proofs.LegLogs.{same_back}
 use Rattle.rh_hops.proofs.Legs.{on, same_other}
 use Rattle.rh_hops.proofs.Counts.{bytes_rise, all_later, all_append}
 use Rattle.rh_hops.proofs.Receiving.{Receives, came_more, put_within, admitted_told, admitted_size, received_more, refused_same, IsBehind, refused_behind, due_is}

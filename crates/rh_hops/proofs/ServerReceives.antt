@@ -61,9 +61,9 @@ use Rattle.rh_server.specs.Putting.{put_by as put_by_kind}
 use Rattle.rh_server.specs.Servers.{on_is, on_os, packet_by, pdu_by, first, acts as server_acts}
 use Rattle.rh_server.specs.Servers.{rules as server_rules}
 use Rattle.rh_server.specs.Order.{taker_of}
+use Rattle.rh_history.proofs.Wired.{same_itself}
 use Rattle.rh_held.specs.Holding.{Holds}
 use Rattle.rh_hops.specs.Hops.{is_leg, pdu_bytes, edge_told, edge_in, greatest_edge, IsNoWindow, IsTrueAck, RefusesBehind, ReceivesWithin}
-use Rattle.rh_streams.proofs.Ends.{leg_itself}
 use Rattle.rh_hops.proofs.Legs.{on}
 use Rattle.rh_hops.proofs.Counts.{bytes_rise, edges_within, all_later, all_append}
 use Rattle.rh_hops.proofs.Places.{all_at, all_set, all_removed, all_weaken, found_passes}
@@ -452,7 +452,7 @@ module _ (window n : ℕ) (is : IsWindow window) where
   here : (number : ℕ) (m : Message) → number ≡ n → on leg (is_leg number) m ≡ m ∷ []
   here number m e =
       ap (λ (t : Bool). if t then m ∷ [] else [])
-      (subst (λ (k : ℕ). same_leg (is_leg k) leg ≡ true) (sym e) (leg_itself leg))
+      (subst (λ (k : ℕ). same_leg (is_leg k) leg ≡ true) (sym e) (same_itself leg))
 
   came_pdu : (c : Incoming) (number : ℕ) (came : List Message) (bytes : List ℕ) → number ≡ n
       → c.window.received ≤ pdu_bytes came

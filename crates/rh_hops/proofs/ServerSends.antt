@@ -52,8 +52,8 @@ use Rattle.rh_server.specs.Putting.{Pick, or_else, put_in_greeting, was_current,
 use Rattle.rh_server.specs.Putting.{put_by as put_by_kind}
 use Rattle.rh_server.specs.Servers.{on_is, on_os, packet_by, pdu_by, first, acts as server_acts}
 use Rattle.rh_server.specs.Servers.{rules as server_rules}
+use Rattle.rh_history.proofs.Wired.{same_itself}
 use Rattle.rh_hops.specs.Hops.{os_leg, pdu_bytes, edge_told, greatest_edge, RefusesFalseAcks, SendsWithin}
-use Rattle.rh_streams.proofs.Ends.{leg_itself}
 use Rattle.rh_hops.proofs.Legs.{on}
 use Rattle.rh_hops.proofs.Counts.{bytes_append, edges_rise}
 use Rattle.rh_hops.proofs.Numbered.{Absent, Once, absent_at, absent_push, absent_removed, absent_set, once_at, once_first, once_map, once_push, once_removed, once_set}
@@ -289,7 +289,7 @@ module _ (n : ℕ) where
   on_leg_n : (number : ℕ) (m : Message) → number ≡ n → on leg (os_leg number) m ≡ m ∷ []
   on_leg_n number m e =
       ap (λ (t : Bool). if t then m ∷ [] else [])
-      (subst (λ (k : ℕ). same_leg (os_leg k) leg ≡ true) (sym e) (leg_itself leg))
+      (subst (λ (k : ℕ). same_leg (os_leg k) leg ≡ true) (sym e) (same_itself leg))
 
   -- ---- a channel opens
 

@@ -42,11 +42,11 @@ use Rattle.rh_history.proofs.Appended.{end_drawn_more}
 use Rattle.rh_reading.specs.Reading.{Begins, messages_read}
 use Rattle.rh_reading.specs.Well.{Answers, ReadsWell}
 use Rattle.rh_streams.specs.Streams.{EndStream, Seated}
+use Rattle.rh_streams.proofs.LegLogs.{on_leg}
 use Rattle.rh_down.specs.Down as down
 use Rattle.rh_traced.specs.Cookies.{ByChanges}
 use Rattle.rh_traced.specs.Ours.{AreOurs, deeds, rules}
 use Rattle.rh_fifo.specs.Flows.{IsFlowing, numbers_of}
-use Rattle.rh_fifo.proofs.Fine.{on_leg}
 use Rattle.rh_fifo.proofs.Heard.{from_server}
 use Rattle.rh_honest.specs.Honest.{read_on, well_on}
 use Rattle.rh_honest.proofs.Fed.{strict_on}

@@ -14,7 +14,7 @@ use Rattle.rh_shell.specs.Rules.{Rules, Acts, Row, Message, Pdu, Packet}
 use Rattle.rh_shell.specs.Moves.{Move, Up, HeadCame, PduCame, PacketCame, Puts, IsDrawn, Marks, Pings, Passage, MayMove, AreAllowed, moved, all_moved, taken_by, put_by, EndMove, Moves, Gives, Takes, Closes, Recycles, EndPassage, MayEndMove, AreAllowedAtEnd, end_moved, all_end_moved, end_now_at, given_by, with_first}
 use Rattle.rh_shell.specs.Shells.{same_leg}
 use Rattle.rh_shell.specs.Wires.{of_leg}
-use Rattle.rh_up.proofs.LegLogs.{one_more}
+use Rattle.rh_streams.proofs.LegLogs.{one_more}
 use Rattle.rh_hops.proofs.Legs.{on}
 
 -- a fact of a role, of what came on the leg, and of what was put there
