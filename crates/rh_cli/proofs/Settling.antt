@@ -48,8 +48,8 @@ settled_given (Roles world) rounds = omega arith
 abbrev pub IsSettling : (first : AnyWorld) (rounds count : ℕ) (now : AnyWorld)
     (told : List Answer) → Type 0
 IsSettling first rounds count now told =
-    Settles (rounds_from rounds 0 round (begun first)) (rounds_from (rounds - count) count round now)
-    [] told
+    Settles (rounds_from rounds 0 round (begun first))
+    (rounds_from (rounds - count) count round now) [] told
 
 settling_begins : (first : AnyWorld) (rounds : ℕ) → IsSettling first rounds 0 (begun first) []
 settling_begins first rounds =
@@ -123,7 +123,8 @@ settling_is_spent first rounds now told is h =
 
 -- the next round is reported first
 next_first : (left count : ℕ) (now : AnyWorld)
-    → (behind : List Answer) × ((rounds_from (suc left) count round now).1 ≡ (round now).1 ++ behind)
+    → (behind : List Answer)
+    × ((rounds_from (suc left) count round now).1 ≡ (round now).1 ++ behind)
 unfolding rounds_from
 next_first left count now =
     by (round now) (λ later. rounds_from left (count + 1) round later)

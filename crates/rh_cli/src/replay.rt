@@ -73,7 +73,8 @@ impl Replay {
             → Rose (W.faults output.old) (W.faults output.new) }
         ensures no_failure { result ≢ Err Unfinished.WriteFault
             → W.faults output.new ≡ W.faults output.old }
-        ensures takes { length (string_bytes gathered.old ++ report_text (seen.step self.old line.now).1)
+        ensures takes { length
+            (string_bytes gathered.old ++ report_text (seen.step self.old line.now).1)
             ≤ W.takes output.old → result ≢ Err Unfinished.WriteFault }
     {
         if let Line::Settle { rounds } = line {
@@ -106,7 +107,8 @@ impl Replay {
             → Rose (W.faults output.old) (W.faults output.new) }
         ensures no_failure { result ≢ Err Unfinished.WriteFault
             → W.faults output.new ≡ W.faults output.old }
-        ensures takes { length (string_bytes gathered.old ++ report_text (seen.step self.old (Settle rounds)).1)
+        ensures takes { length
+            (string_bytes gathered.old ++ report_text (seen.step self.old (Settle rounds)).1)
             ≤ W.takes output.old → result ≢ Err Unfinished.WriteFault }
     {
         if !self.world.begin(alloc)? {

@@ -54,8 +54,8 @@ pub fn nothing_on_its_way_is_lost<K>()
     a_recording_of_roles_is_known::<K>();
 }
 
-/// So it is while each leg of these channels is in use, or its handover mark or END passed: it is up
-/// for both its ends, both nodes go on and keep it, and the one that takes has use for it.
+/// So it is while each leg of these channels is in use, or its handover mark or END passed: it is
+/// up for both its ends, both nodes go on and keep it, and the one that takes has use for it.
 pub fn legs_in_use_lose_nothing<K>()
     ensures down { (numbers : Numbers) (v : World K ClientRole Server InProxy OutProxy)
         (h : History) (ways : AreOnTheirWay numbers v h)

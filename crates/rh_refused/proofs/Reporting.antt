@@ -449,7 +449,8 @@ once_stays first w once c =
     subst (Once first) (sym (cast_stays roles.rules roles.makers roles.deeds w c)) once
 
 -- a proxy that is at the client's end of this leg to the server, by its place in a world
-pub record IsProxy {S : Type 0} (node : Who) (leg : Leg) (place : roles.World → Place S) : Type 0 where
+pub record IsProxy {S : Type 0} (node : Who) (leg : Leg) (place : roles.World → Place S)
+    : Type 0 where
   pub starts : events_of nothing node ≡ []
   pub grows : (w : roles.World) (h : History) (c : Change)
       → events_of (noted w h c) node

@@ -39,7 +39,8 @@ two : (words : List (String Global)) (word number : String Global) → 2 ≤ len
 two [] word number some few is then = absurd (omega (arith, some))
 two (w ∷ []) word number some few is then = absurd (omega (arith, some))
 two (w ∷ v ∷ []) word number some few is then =
-    ap (λ (x : String Global). x ∷ v ∷ []) (sym is) ∙ ap (λ (x : String Global). word ∷ x ∷ []) (sym then)
+    ap (λ (x : String Global). x ∷ v ∷ []) (sym is)
+    ∙ ap (λ (x : String Global). word ∷ x ∷ []) (sym then)
 two (w ∷ v ∷ u ∷ words) word number some few is then = absurd (omega (arith, few))
 
 two_words : (found : Option Form) (word number : String Global)

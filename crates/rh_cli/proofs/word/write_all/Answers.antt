@@ -67,7 +67,8 @@ returns-in_err-place-clause-takes g c = λ all said.
     g.met.X.Word.comes_to_end all
     (writing_line g.G.Grammar.rules g.X.Word.deeds c.args.text.now g.met.G.Grammar.one
     g.met.G.Grammar.some next l told c.split_line.ensures.begins spelled did
-    c.lines.invariant.writing)) (ap Err (sym (of_err _ c.from_residual.result said c.from_residual.ensures.1)))
+    c.lines.invariant.writing))
+    (ap Err (sym (of_err _ c.from_residual.result said c.from_residual.ensures.1)))
 
 pub returns-in_err-finish-clause-err : goal.returns-in_err-finish-clause-err
 returns-in_err-finish-clause-err g c =

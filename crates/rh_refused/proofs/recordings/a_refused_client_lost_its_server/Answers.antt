@@ -64,7 +64,8 @@ returns g c =
           (is_asked ours.config here.client down.taker leg refl (heard_on leg events) t.text near
           t.stands) t.refuses)
           (subst (λ (s : Shell OutProxy). BeginsRefused (drawn_on out_proxy.rules s leg events) leg
-          status) (ap (λ cast. m.out_proxy cast n) (cast_kept rules m deeds w v by.leads) ∙ ours.outs n)
+          status)
+          (ap (λ cast. m.out_proxy cast n) (cast_kept rules m deeds w v by.leads) ∙ ours.outs n)
           (c.a_refused_client_heard_what_was_drawn.ensures.out_leg m w v new ours by.leads n
           status h)) in (
             is_503,
@@ -98,7 +99,8 @@ returns g c =
           (λ t. in_taken ours.config t.role leg t.text t.fault ranges.client port
           (is_honest t.text t.stands) t.refuses)
           (subst (λ (s : Shell InProxy). BeginsRefused (drawn_on in_proxy.rules s leg events) leg
-          status) (ap (λ cast. m.in_proxy cast k) (cast_kept rules m deeds w v by.leads) ∙ ours.ins k)
+          status)
+          (ap (λ cast. m.in_proxy cast k) (cast_kept rules m deeds w v by.leads) ∙ ours.ins k)
           (c.a_refused_client_heard_what_was_drawn.ensures.in_leg m w v new ours by.leads n
           status h)) in
           let own =

@@ -62,8 +62,8 @@ returns-then-branch-clause-world g c =
     let ending = quiet_ends c.rounds.invariant.settles below none round.world
     c.rounds.invariant.settling round.ok in
     map_ok c.end_line.result
-    (λ (moved : c.end_line.new.self ≡ (seen.end_line c.round.new.self).0). ending_world ending moved)
-    c.end_line.ensures.world
+    (λ (moved : c.end_line.new.self ≡ (seen.end_line c.round.new.self).0).
+    ending_world ending moved) c.end_line.ensures.world
 
 pub returns-then-branch-clause-given : goal.returns-then-branch-clause-given
 returns-then-branch-clause-given g c =
@@ -74,8 +74,8 @@ returns-then-branch-clause-given g c =
     let ending = quiet_ends c.rounds.invariant.settles below none round.world
     c.rounds.invariant.settling round.ok in
     map_ok c.end_line.result
-    (λ (moved : c.end_line.new.self ≡ (seen.end_line c.round.new.self).0). ending_given ending moved)
-    c.end_line.ensures.world
+    (λ (moved : c.end_line.new.self ≡ (seen.end_line c.round.new.self).0).
+    ending_given ending moved) c.end_line.ensures.world
 
 pub returns-then-branch-clause-ok : goal.returns-then-branch-clause-ok
 returns-then-branch-clause-ok g c =
