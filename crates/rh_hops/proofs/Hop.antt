@@ -1,20 +1,19 @@
 -- what a row refuses on a hop cannot come from the other end
-use Rattle.std.proofs.Common.{◌≡◌, ◌⊎◌, inl, inr, ℕ, ◌+◌, ◌≤◌, ◌<◌, Bool, true, false, if◌then◌else◌, List, [], ◌∷◌, ◌++◌, length, Ok, Err, arith, refl, sym, ap, ◌∙◌, subst, rules}
+use Rattle.std.proofs.Common.{◌≡◌, inl, inr, ℕ, ◌+◌, ◌≤◌, ◌<◌, Bool, true, false, if◌then◌else◌, List, [], ◌∷◌, ◌++◌, length, arith, refl, sym, ap, ◌∙◌, subst, rules}
 use Rattle.std.specs.List.{AllByRecursion}
 use Rattle.std.proofs.lemmas.Bool.Decides.{nat_tests}
 use mathlib.Core.List.{IsPrefix}
 use Rattle.rh_window.specs.declared.fault.WindowExceeded.{WindowExceeded}
-use Rattle.rh_window.specs.declared.range.TheConstants.{GREATEST_WINDOW}
 use Rattle.rh_sig.specs.declared.named.Named.{Named}
 use Rattle.rh_sig.specs.declared.named.Named.TheVariants.{Ack}
 use Rattle.rh_line.specs.declared.leg.Leg.{Leg}
 use Rattle.rh_shell.specs.declared.answers.Refused.TheVariants as refused
 use Rattle.rh_shell.specs.Hearing.{is_ping}
 use Rattle.rh_shell.specs.Moves.{Passage}
-use Rattle.rh_shell.specs.Rules.{Message, Text, Pdu, Packet, Row, Rules}
+use Rattle.rh_shell.specs.Rules.{Message, Text, Pdu, Packet, Rules}
 use Rattle.rh_shell.specs.Wires.{of_leg}
-use Rattle.rh_reading.specs.Reading.{all_read_of, read_of}
-use Rattle.rh_hops.specs.Hops.{pdu_bytes, edge_in, greatest_edge, IsFalseAck, RefusesFalseAcks, IsTrueAck, IsNoWindow, RefusesBehind, SendsWithin, ReceivesWithin}
+use Rattle.rh_reading.specs.Reading.{all_read_of}
+use Rattle.rh_hops.specs.Hops.{pdu_bytes, greatest_edge, IsFalseAck, RefusesFalseAcks, IsTrueAck, IsNoWindow, RefusesBehind, SendsWithin, ReceivesWithin}
 use Rattle.rh_hops.specs.Refusing.{RefusesMessage}
 use Rattle.rh_hops.proofs.Counts.{bytes_append, bytes_rise, edges_rise}
 

@@ -1,11 +1,9 @@
 -- legs, and what is on them
-use Rattle.std.proofs.Common.{◌≡◌, ℕ, Bool, true, false, true≢false, if◌then◌else◌, List, [], ◌∷◌, ◌++◌, refl, sym, ap, ◌∙◌, subst, arith}
+use Rattle.std.proofs.Common.{◌≡◌, true, false, if◌then◌else◌, List, [], ◌∷◌, arith}
 use Rattle.std.proofs.lemmas.Bool.Decides.{nat_tests}
 use Rattle.rh_line.specs.declared.leg.Leg.{Leg}
 use Rattle.rh_shell.specs.Rules.{Message}
-use Rattle.rh_shell.specs.Moves.{OnLeg}
 use Rattle.rh_shell.specs.Shells.{same_leg}
-use Rattle.rh_shell.specs.Wires.{of_leg}
 
 pub same_other : (a b c : Leg) → same_leg a b ≡ true → same_leg a c ≡ false
     → same_leg b c ≡ false

@@ -1,11 +1,10 @@
 -- a server closes for no window and no acknowledgement of a hop
-use Rattle.std.proofs.Common.{◌≡◌, ℕ, ◌+◌, List, [], ◌∷◌, ◌++◌, length, refl, sym, ap, ◌∙◌, subst}
-use Rattle.std.specs.Prelude.{Some, None, Err}
+use Rattle.std.proofs.Common.{◌≡◌, ℕ, ◌+◌, List, [], ◌∷◌, ◌++◌, length, sym, ap, ◌∙◌, subst}
+use Rattle.std.specs.Prelude.{Some}
 use Rattle.std.specs.List.{AllByRecursion}
 use Rattle.std.specs.declared.option.Option.{Option}
 use mathlib.Core.List.{IsPrefix}
-use Rattle.rh_text.specs.declared.ends.Dir.{Dir}
-use Rattle.rh_text.specs.declared.ends.Dir.TheVariants.{U, D}
+use Rattle.rh_text.specs.declared.ends.Dir.TheVariants.{U}
 use Rattle.rh_text.specs.declared.ends.Side.TheVariants as side
 use Rattle.rh_sig.specs.declared.name.Pipe.{Pipe}
 use Rattle.rh_line.specs.declared.cause.Cause.{Cause}
@@ -14,13 +13,10 @@ use Rattle.rh_record.specs.declared.answer.Who.{Who}
 use Rattle.rh_record.specs.declared.answer.Who.TheVariants as who
 use Rattle.rh_order.proofs.Prefixes.{prefix_trans}
 use Rattle.rh_shell.specs.declared.answers.Refused.{Refused}
-use Rattle.rh_shell.specs.declared.course.Course.TheVariants.{Going}
 use Rattle.rh_shell.specs.Laws.{ClosedWith}
 use Rattle.rh_shell.specs.Moves.{Passage}
 use Rattle.rh_shell.specs.Moving.{after_end_events}
-use Rattle.rh_shell.specs.NearEnds.{NearEnd}
-use Rattle.rh_shell.specs.Rules.{Message}
-use Rattle.rh_shell.specs.Shells.{Shell, bytes, end_at}
+use Rattle.rh_shell.specs.Shells.{Shell, bytes}
 use Rattle.rh_shell.specs.Wires.{of_leg}
 use Rattle.rh_legible.specs.Legible.{ReadsBack}
 use Rattle.rh_nodes.specs.declared.event.Event.TheVariants.{Comes}
@@ -40,19 +36,18 @@ use Rattle.rh_history.specs.Changes.{IsFed, MayChange, changed}
 use Rattle.rh_history.specs.Histories.{History, told_to}
 use Rattle.rh_history.proofs.Appended.{end_drawn_more}
 use Rattle.rh_reading.specs.Reading.{Begins, messages_read}
-use Rattle.rh_reading.specs.Well.{Answers, ReadsWell}
-use Rattle.rh_streams.specs.Streams.{EndStream, Seated}
+use Rattle.rh_reading.specs.Well.{ReadsWell}
+use Rattle.rh_streams.specs.Streams.{Seated}
 use Rattle.rh_streams.proofs.LegLogs.{on_leg}
 use Rattle.rh_down.specs.Down as down
 use Rattle.rh_traced.specs.Cookies.{ByChanges}
 use Rattle.rh_traced.specs.Ours.{AreOurs, deeds, rules}
 use Rattle.rh_fifo.specs.Flows.{IsFlowing, numbers_of}
-use Rattle.rh_fifo.proofs.Heard.{from_server}
 use Rattle.rh_honest.specs.Honest.{read_on, well_on}
 use Rattle.rh_honest.proofs.Fed.{strict_on}
 use Rattle.rh_hops.specs.Refusing.{refused_by}
 use Rattle.rh_hops.proofs.Fed.{piece, server_heard, server_behind}
-use Rattle.rh_hops.proofs.Moment.{Laws, NodeLaws, now, known, flowing, behind, flowing_behind, well_behind, drawn_before, closes_at, one_behind}
+use Rattle.rh_hops.proofs.Moment.{Laws, NodeLaws, now, known, behind, flowing_behind, well_behind, drawn_before, closes_at, one_behind}
 use Rattle.rh_hops.proofs.OneByte.{AtByte}
 use Rattle.rh_hops.proofs.Pieces.{FedFronts, fed_fronts}
 use Rattle.rh_hops.proofs.Stopping.{Readings, StopsAt, Way, stops_at}
