@@ -1,5 +1,5 @@
-//! Tests of worlds, of generated recordings and of the program's words. They stand here so that such
-//! a crate is proved once, and not once more with its tests.
+//! Tests of worlds, of generated recordings and of the program's words. They stand here so that
+//! such a crate is proved once, and not once more with its tests.
 #![tactic(auto)]
 
 #[cfg(test)]
