@@ -1,0 +1,5 @@
+mod Logs
+mod Waiting
+mod InProxyPasses
+-- mod OutProxyPasses
+-- mod ServerPasses

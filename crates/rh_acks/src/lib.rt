@@ -1,0 +1,10 @@
+//! The hops of a client, whose acknowledgements pass other nodes. Its functions do nothing: their
+//! contracts are the laws.
+#![tactic(auto)]
+
+pub mod forwarders;
+
+pub use forwarders::{
+    a_server_passes_acknowledgements_on, an_in_proxy_passes_acknowledgements_on,
+    an_out_proxy_passes_acknowledgements_on,
+};
