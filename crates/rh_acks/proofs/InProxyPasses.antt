@@ -44,18 +44,18 @@ use Rattle.rh_inproxy.specs.Machine.{pdu, packet, on_channel, on_channel_by, on_
 use Rattle.rh_inproxy.specs.Machine.{rules as proxy_rules}
 use Rattle.rh_acks.specs.Acks.{HasCome, IsPassedOn, IsPassedOnIn, PassesOn}
 use Rattle.rh_acks.proofs.Logs.{RowKeeps, PutKeeps, StepsKeep, moves_keep}
-use Rattle.rh_acks.proofs.Waiting.{Joins, forwarded_joins, comes_last, Passes, starts, came_one, put_one, now_wait}
+use Rattle.rh_acks.proofs.Waiting.{comes_last}
+use Rattle.rh_acks.proofs.Passing.{Passes, starts, first_put}
+use Rattle.rh_acks.proofs.Passing as passing
+
+abbrev waiting : InProxy → waits.Waiting
+waiting s = s.waiting
 
 abbrev Holds : InProxy → List OnLeg → List OnLeg → Type 0
-Holds s came put = Passes 3 s.waiting.due came put
+Holds = passing.Holds 3 waiting
 
 abbrev Same : InProxy → InProxy → Type 0
-Same s t = t.waiting ≡ s.waiting
-
-same_holds : (s t : InProxy) (came put : List OnLeg) → Same s t → Holds s came put
-    → Holds t came put
-same_holds s t came put same h =
-    subst (λ (w : waits.Waiting). Passes 3 w.due came put) (sym same) h
+Same = passing.Same 3 waiting
 
 -- ---- what leaves these alone
 
@@ -104,28 +104,22 @@ same_ping s leg = search rules
 
 -- ---- rows
 
-module _ (s : InProxy) (one : OnLeg) (came put : List OnLeg) (h : Holds s came put) where
-  abbrev Row : Done → Type 0
-  Row x = RowKeeps Holds one came put x
+same_row : (s : InProxy) (one : OnLeg) (came put : List OnLeg) → Holds s came put → (x : Done)
+    → Same s x.0 → RowKeeps Holds one came put x
+same_row = passing.same_row 3 waiting
 
-  same_row : (x : Done) → Same s x.0 → Row x
-  same_row (t, Ok taken) same =
-      came_one 3 t.waiting.due came put one (same_holds s t came put same h)
-  same_row (t, Err why) same = same_holds s t came put same h
+follows : (s : InProxy) (r : waits.Waiting × Bool)
+    → passing.Follows 3 waiting s r (forward_by s r)
+follows s (w, true) = (refl, refl)
+follows s (w, false) = (λ e. e, refl)
 
-  -- a packet is to be forwarded
-  forward_row : (named : Named) → IsPassedOn 3 (came ++ one ∷ []) named → Row (forwarded s named)
-  forward_row named is =
-      by (waits.forwarded s.waiting named) (forwarded_joins Is s.waiting named)
-    where
-      Is : Named → Type 0
-      Is n = IsPassedOn 3 (came ++ one ∷ []) n
-
-      by : (r : waits.Waiting × Bool) → Joins Is named s.waiting r → Row (forward_by s r)
-      by (w, true) joins =
-          now_wait 3 s.waiting.due w.due (came ++ one ∷ []) put (joins is)
-          (came_one 3 s.waiting.due came put one h)
-      by (w, false) same = same_holds s (record s { waiting = w }) came put same h
+-- a packet is to be forwarded
+forward_row : (s : InProxy) (one : OnLeg) (came put : List OnLeg) → Holds s came put
+    → (named : Named) → IsPassedOn 3 (came ++ one ∷ []) named
+    → RowKeeps Holds one came put (forwarded s named)
+forward_row s one came put h named is =
+    passing.forward_row 3 waiting s one came put h named is (forwarded s named)
+    (follows s (waits.forwarded s.waiting named))
 
 ack_row : (s : InProxy) (leg : Leg) (which : Which) (to received available : ℕ) (channel : Cookie)
     (came put : List OnLeg) → Holds s came put
@@ -200,17 +194,11 @@ module _ (leg : Leg) (came put : List OnLeg) where
   abbrev Puts : Pick → Type 0
   Puts pick = PutKeeps Holds leg came put pick
 
-  -- what did not wait
   abbrev Quiet : InProxy → Pick → Type 0
-  Quiet s pick =
-      IfSome pick
-      (λ (one : InProxy × Message). Same s one.0 × IsPassedOnIn 3 came (leg, one.1))
+  Quiet = passing.Quiet 3 waiting came leg
 
   quiet_put : (s : InProxy) (pick : Pick) → Quiet s pick → Holds s came put → Puts pick
-  quiet_put s None quiet h = tt
-  quiet_put s (Some one) quiet h =
-      put_one 3 one.0.waiting.due came put (leg, one.1) quiet.1
-      (same_holds s one.0 came put quiet.0 h)
+  quiet_put = passing.quiet_put 3 waiting leg came put
 
   or_put : (a b : Pick) → Puts a → Puts b → Puts (or_else a b)
   or_put None b h k = k
@@ -245,9 +233,7 @@ module _ (leg : Leg) (came put : List OnLeg) where
   waiting_put : (s : InProxy) (dues : List Due) → Passes 3 dues came put
       → Puts (waiting_by s dues)
   waiting_put s [] h = tt
-  waiting_put s (due ∷ dues) h =
-      put_one 3 dues came put (leg, Packet due.packet) h.waits.0
-      (now_wait 3 (due ∷ dues) dues came put (λ all. all.1) h)
+  waiting_put s (due ∷ dues) h = first_put 3 waiting leg came put due dues h
 
   ack_put : (s : InProxy) (which : Which) (cookie : Cookie) → Holds s came put
       → Puts (put_ack s which cookie)
@@ -285,7 +271,7 @@ module _ (leg : Leg) (came put : List OnLeg) where
   settled_put : (pick : Pick) → Puts pick → Puts (settled_pick pick)
   settled_put None h = tt
   settled_put (Some pick) h =
-      same_holds pick.0 (settled pick.0) came (put ++ (leg, pick.1) ∷ []) (same_settled pick.0) h
+      passing.same_holds 3 waiting pick.0 (settled pick.0) came (put ++ (leg, pick.1) ∷ []) (same_settled pick.0) h
 
   puts : (s : InProxy) → Holds s came put → Puts (put_of s leg)
   puts s h =
@@ -299,15 +285,15 @@ module _ (leg : Leg) (came put : List OnLeg) where
 
 keeps : StepsKeep proxy_rules Holds
 keeps = record {
-  up = λ s leg cookie came put. same_holds s (up s leg) came put (same_up s leg);
-  head = λ s leg text came put. same_holds s (head s leg text).0 came put (same_head s leg text);
+  up = λ s leg cookie came put. passing.same_holds 3 waiting s (up s leg) came put (same_up s leg);
+  head = λ s leg text came put. passing.same_holds 3 waiting s (head s leg text).0 came put (same_head s leg text);
   pdu = λ s leg count bytes came put h.
       same_row s (leg, Pdu bytes) came put h (pdu s leg count bytes) (same_pdu s leg count bytes);
   packet = packet_row;
   put = λ s leg came put. puts leg came put s;
-  drawn = λ s leg came put. same_holds s (drawn s leg) came put (same_drawn s leg);
-  mark = λ s leg came put. same_holds s (mark s leg) came put (same_mark s leg);
-  ping = λ s leg came put. same_holds s (ping s leg) came put (same_ping s leg);
+  drawn = λ s leg came put. passing.same_holds 3 waiting s (drawn s leg) came put (same_drawn s leg);
+  mark = λ s leg came put. passing.same_holds 3 waiting s (mark s leg) came put (same_mark s leg);
+  ping = λ s leg came put. passing.same_holds 3 waiting s (ping s leg) came put (same_ping s leg);
 }
 
 pub in_proxy_passes : (config : InProxyConfig) (moves : List Move)

@@ -1,5 +1,6 @@
 mod Logs
 mod Waiting
+mod Passing
 mod InProxyPasses
--- mod OutProxyPasses
+mod OutProxyPasses
 -- mod ServerPasses

@@ -94,35 +94,3 @@ pub passed_in_more : (to : ℕ) (came more : List OnLeg) (one : OnLeg) → IsPas
 passed_in_more to came more (leg, Text bytes) h = tt
 passed_in_more to came more (leg, Pdu pdu) h = tt
 passed_in_more to came more (leg, Packet named) h = passed_more to came more named h
-
--- what waits is passed on, and what was put was
-pub record Passes (to : ℕ) (dues : List Due) (came put : List OnLeg) : Type 0 where
-  pub waits : EachIs (IsPassedOn to came) dues
-  pub puts : AllByRecursion (IsPassedOnIn to came) put
-
-pub starts : (to : ℕ) → Passes to [] [] []
-starts to = record { waits = tt; puts = tt }
-
-pub came_one : (to : ℕ) (dues : List Due) (came put : List OnLeg) (one : OnLeg)
-    → Passes to dues came put → Passes to dues (came ++ one ∷ []) put
-came_one to dues came put one h = record {
-  waits = each_so (λ (due : Due). IsPassedOn to came due.packet)
-      (λ (due : Due). IsPassedOn to (came ++ one ∷ []) due.packet)
-      (λ due. passed_more to came (one ∷ []) due.packet) dues h.waits;
-  puts = each_so (IsPassedOnIn to came) (IsPassedOnIn to (came ++ one ∷ []))
-      (passed_in_more to came (one ∷ [])) put h.puts;
-}
-
-pub put_one : (to : ℕ) (dues : List Due) (came put : List OnLeg) (one : OnLeg)
-    → IsPassedOnIn to came one → Passes to dues came put
-    → Passes to dues came (put ++ one ∷ [])
-put_one to dues came put one is h = record {
-  waits = h.waits;
-  puts = each_push (IsPassedOnIn to came) put one h.puts is;
-}
-
--- other packets wait
-pub now_wait : (to : ℕ) (dues others : List Due) (came put : List OnLeg)
-    → (EachIs (IsPassedOn to came) dues → EachIs (IsPassedOn to came) others)
-    → Passes to dues came put → Passes to others came put
-now_wait to dues others came put so h = record { waits = so h.waits; puts = h.puts }
