@@ -3,4 +3,4 @@ mod Waiting
 mod Passing
 mod InProxyPasses
 mod OutProxyPasses
--- mod ServerPasses
+mod ServerPasses
