@@ -4,3 +4,5 @@ mod Passing
 mod InProxyPasses
 mod OutProxyPasses
 mod ServerPasses
+mod InChannels
+mod InProxyTells
