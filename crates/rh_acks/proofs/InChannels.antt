@@ -1,6 +1,5 @@
 -- the IN channels that an in proxy reads, and what came on their legs
-use Rattle.std.proofs.Common.{◌≡◌, ℕ, ◌+◌, ◌-◌, ◌≤◌, ◌==◌, Bool, true, false, true≢false, not, ◌&&◌, ◌||◌, List, [], ◌∷◌, ◌++◌, length, Some, None, Ok, Err, inl, inr, arith, refl, rules, sym, ap, ◌∙◌, subst}
-use Rattle.std.proofs.lemmas.Bool.{and_parts, eqb-true}
+use Rattle.std.proofs.Common.{◌≡◌, ℕ, ◌+◌, ◌-◌, ◌≤◌, Bool, true, false, true≢false, ◌&&◌, List, [], ◌∷◌, ◌++◌, length, Some, None, Ok, Err, inl, inr, arith, refl, rules, sym, ap, ◌∙◌, subst}
 use Rattle.std.proofs.lemmas.Bool.Decides.{nat_tests}
 use Rattle.std.specs.Prelude.{if◌then◌else◌, IfSome, is_ok, nat_le}
 use Rattle.std.specs.List.{AllByRecursion}
@@ -8,11 +7,9 @@ use Rattle.std.specs.declared.option.Option.{Option}
 use Rattle.std.specs.declared.result.Result.{Result}
 use Rattle.rh_rts.specs.declared.command.Cookie.{Cookie}
 use Rattle.rh_sig.specs.declared.named.Named.{Named}
-use Rattle.rh_sig.specs.declared.named.Named.TheVariants.{ConnB1, InR1A1, InR1A5, AckTo, OutR1A7, OutR1A8, KeepAlive, EndA1}
-use Rattle.rh_window.specs.Sides.{IsWindow, Receiver}
+use Rattle.rh_sig.specs.declared.named.Named.TheVariants.{AckTo}
+use Rattle.rh_window.specs.Sides.{IsWindow}
 use Rattle.rh_window.specs.Receiving as windows
-use Rattle.rh_window.specs.Sending.{may_send}
-use Rattle.rh_window.specs.declared.range.TheConstants.{GREATEST_WINDOW}
 use Rattle.rh_window.specs.declared.recv_window.Ack as told
 use Rattle.rh_window.specs.declared.fault.WindowExceeded.{WindowExceeded}
 use Rattle.rh_line.specs.Lines as line
@@ -20,8 +17,6 @@ use Rattle.rh_line.specs.Lines.{Line, Incoming}
 use Rattle.rh_line.specs.Queue.{total}
 use Rattle.rh_line.specs.declared.leg.Leg.{Leg}
 use Rattle.rh_line.specs.declared.leg.LegKind.TheVariants.{ClientIn}
-use Rattle.rh_line.specs.declared.which.Which.{Which}
-use Rattle.rh_line.specs.declared.which.Which.TheVariants.{Current, Next}
 use Rattle.rh_line.specs.declared.line_fault.LineFault.TheVariants.{Over}
 use Rattle.rh_line.proofs.Queues.{total_push}
 use Rattle.rh_order.proofs.ByNumber.{by_test}
@@ -31,10 +26,9 @@ use Rattle.rh_shell.specs.Shells.{same_leg}
 use Rattle.rh_shell.specs.Moves.{OnLeg}
 use Rattle.rh_shell.specs.Wires.{of_leg}
 use Rattle.rh_inproxy.specs.declared.state.ClientLeg.{ClientLeg}
-use Rattle.rh_inproxy.specs.declared.state.Opening.{Opening}
 use Rattle.rh_inproxy.specs.declared.state.Successor.{Successor}
 use Rattle.rh_inproxy.specs.declared.state.Successor.TheVariants.{Absent, Up, Joined}
-use Rattle.rh_inproxy.specs.State.{has_opened, is_joined, follows}
+use Rattle.rh_inproxy.specs.State.{is_joined, follows}
 use Rattle.rh_hops.specs.Hops.{pdu_bytes}
 use Rattle.rh_hops.proofs.Counts.{bytes_append, bytes_rise}
 use Rattle.rh_hops.proofs.Legs.{one_more}
@@ -144,8 +138,8 @@ pub released_counts : (window : ℕ) (c : Incoming) (pdus : List (List ℕ)) (ms
 released_counts window c [] ms is h = h
 released_counts window c (pdu ∷ pdus) ms is h =
     let counted =
-        subst (λ (all : List (List ℕ)). c.window.released + total all ≡ c.window.received) is
-        h.counted in
+    subst (λ (all : List (List ℕ)). c.window.released + total all ≡ c.window.received) is
+    h.counted in
     record {
       received = h.received;
       counted = omega (arith, counted);
@@ -221,7 +215,7 @@ channel_more : (window : ℕ) (leg : ClientLeg) (c : Incoming) (came : List OnLe
     → IsChannel window leg c came → IsChannel window leg c (came ++ one ∷ [])
 channel_more window leg c came one h = (
   counts_more window c (of_leg (ci leg.number) came)
-  (of_leg (ci leg.number) (came ++ one ∷ [])) (leg_rises (ci leg.number) came one) h.0,
+      (of_leg (ci leg.number) (came ++ one ∷ [])) (leg_rises (ci leg.number) came one) h.0,
   leg_begun (ci leg.number) leg.cookie came one h.1,
 )
 
@@ -249,14 +243,16 @@ true_more came one (leg, Text bytes) h = tt
 true_more came one (leg, Pdu pdu) h = tt
 true_more came one (leg, Packet (AckTo destination received available cookie)) h = λ e.
     let is = h e in
-    let on = ci is.0 in
-    (is.0, record {
-      begun = leg_begun on cookie came one is.1.begun;
-      came =
-          let before = is.1.came in
-          let rise = leg_rises on came one in omega (arith, before, rise);
-      window = is.1.window;
-    })
+    let on = ci is.0 in (
+      is.0,
+      record {
+        begun = leg_begun on cookie came one is.1.begun;
+        came =
+            let before = is.1.came in
+            let rise = leg_rises on came one in omega (arith, before, rise);
+        window = is.1.window;
+      },
+    )
 true_more came one (leg, Packet named) h = search rules
 
 pub tells_more : (window : ℕ) (opened : Bool) (l : Line) (current : ClientLeg) (z : Successor)

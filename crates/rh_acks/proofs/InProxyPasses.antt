@@ -1,48 +1,38 @@
 -- an in proxy passes on the acknowledgements of the client
-use Rattle.std.proofs.Common.{◌≡◌, ℕ, ◌==◌, Bool, true, false, ◌&&◌, not, List, [], ◌∷◌, ◌++◌, length, Some, None, Ok, Err, arith, refl, sym, ◌∙◌, subst, rules}
+use Rattle.std.proofs.Common.{◌≡◌, ℕ, ◌==◌, Bool, true, false, ◌&&◌, not, List, [], ◌∷◌, ◌++◌, Some, None, arith, refl, ◌∙◌, subst, rules}
 use Rattle.std.proofs.lemmas.Bool.{and_parts, eqb-true}
-use Rattle.std.specs.Prelude.{if◌then◌else◌, IfSome}
+use Rattle.std.specs.Prelude.{if◌then◌else◌}
 use Rattle.std.specs.declared.option.Option.{Option}
 use Rattle.rh_rts.specs.declared.command.Cookie.{Cookie}
 use Rattle.rh_sig.specs.declared.named.Named.{Named}
 use Rattle.rh_sig.specs.declared.named.Named.TheVariants.{ConnB1, InR1A1, InR1A5, AckTo, OutR1A7, OutR1A8, KeepAlive, EndA1}
-use Rattle.rh_window.specs.Sending.{may_send}
 use Rattle.rh_window.specs.declared.recv_window.Ack as told
-use Rattle.rh_line.specs.Lines as line
 use Rattle.rh_line.specs.declared.leg.Leg.{Leg}
 use Rattle.rh_line.specs.declared.which.Which.{Which}
 use Rattle.rh_line.specs.declared.which.Which.TheVariants.{Current, Next}
 use Rattle.rh_order.proofs.ByNumber.{by_test}
 use Rattle.rh_shell.specs.declared.answers.Count.{Count}
 use Rattle.rh_shell.specs.declared.due.Due.{Due}
-use Rattle.rh_shell.specs.Rules.{Message, Text, Pdu, Packet}
+use Rattle.rh_shell.specs.Rules.{Pdu, Packet}
 use Rattle.rh_shell.specs.Moves.{OnLeg, Move, started, all_moved}
 use Rattle.rh_shell.specs.Waiting as waits
-use Rattle.rh_inproxy.specs.declared.state.Entry.{Entry}
-use Rattle.rh_inproxy.specs.declared.state.Entry.TheVariants.{Connects, Replaces}
-use Rattle.rh_inproxy.specs.declared.state.Handover.{Handover}
-use Rattle.rh_inproxy.specs.declared.state.Handover.TheVariants.{Before, Came, Passed}
 use Rattle.rh_inproxy.specs.declared.state.InProxyConfig.{InProxyConfig}
-use Rattle.rh_inproxy.specs.declared.state.Joining.TheVariants.{TellsServer, Told, Follows}
-use Rattle.rh_inproxy.specs.declared.state.Opener.{Opener}
 use Rattle.rh_inproxy.specs.declared.state.Opening.{Opening}
-use Rattle.rh_inproxy.specs.declared.state.Opening.TheVariants as openings
 use Rattle.rh_inproxy.specs.declared.state.Successor.{Successor}
 use Rattle.rh_inproxy.specs.declared.state.Successor.TheVariants as successors
 use Rattle.rh_inproxy.specs.declared.state.Work.{Work}
-use Rattle.rh_inproxy.specs.declared.state.Work.TheVariants as works
 use Rattle.rh_inproxy.specs.Answers.{Done, Pick, or_else, unexpected}
 use Rattle.rh_inproxy.specs.State.{InProxy, first, channel_of, has_a5, is_client_leg, is_server_leg}
-use Rattle.rh_inproxy.specs.Opening.{up, head, drawn, announcement, first_by, put_first, echo_by, put_echo, is_absent, on_conn_b1}
+use Rattle.rh_inproxy.specs.Opening.{up, head, drawn, first_by, put_first, echo_by, put_echo, on_conn_b1}
 use Rattle.rh_inproxy.specs.Acknowledging.{forward_by, forwarded, ack_due, ack_by, put_ack, current_ack, next_ack, put_acks}
 use Rattle.rh_inproxy.specs.Ending.{is_newest, mark, on_end_a1, put_end, settled, settled_pick}
-use Rattle.rh_inproxy.specs.InReplacement.{on_in_r1_a1, on_in_r1_a5, told_by, put_in_r2_a2, mark_by, put_in_r1_a6}
-use Rattle.rh_inproxy.specs.Passing.{next_pdu, passed, put_pdu}
+use Rattle.rh_inproxy.specs.InReplacement.{on_in_r1_a1, on_in_r1_a5, told_by, put_in_r2_a2, put_in_r1_a6}
+use Rattle.rh_inproxy.specs.Passing.{next_pdu, put_pdu}
 use Rattle.rh_inproxy.specs.Putting.{put as put_of, next, waiting_by, put_waiting, put_control, put_early, put_stream, put_behind, put_mark}
 use Rattle.rh_inproxy.specs.Time.{ping, put_ping, on_keep_alive}
 use Rattle.rh_inproxy.specs.Machine.{pdu, packet, on_channel, on_channel_by, on_ci, on_is}
 use Rattle.rh_inproxy.specs.Machine.{rules as proxy_rules}
-use Rattle.rh_acks.specs.Acks.{HasCome, IsPassedOn, IsPassedOnIn, PassesOn}
+use Rattle.rh_acks.specs.Acks.{HasCome, IsPassedOn, PassesOn}
 use Rattle.rh_acks.proofs.Logs.{RowKeeps, PutKeeps, StepsKeep, moves_keep}
 use Rattle.rh_acks.proofs.Waiting.{comes_last}
 use Rattle.rh_acks.proofs.Passing.{Passes, starts, first_put}
@@ -265,13 +255,14 @@ module _ (leg : Leg) (came put : List OnLeg) where
   server_put : (s : InProxy) → Holds s came put → Puts (next s)
   server_put s h =
       or_put (put_control s) (put_stream s) (control_put s h)
-      (or_put (put_pdu s) (put_behind s) 
+      (or_put (put_pdu s) (put_behind s)
       (quiet_put s (put_pdu s) (quiet_pdu s s.line.current.pdus) h) (behind_put s h))
 
   settled_put : (pick : Pick) → Puts pick → Puts (settled_pick pick)
   settled_put None h = tt
   settled_put (Some pick) h =
-      passing.same_holds 3 waiting pick.0 (settled pick.0) came (put ++ (leg, pick.1) ∷ []) (same_settled pick.0) h
+      passing.same_holds 3 waiting pick.0 (settled pick.0) came (put ++ (leg, pick.1) ∷ [])
+      (same_settled pick.0) h
 
   puts : (s : InProxy) → Holds s came put → Puts (put_of s leg)
   puts s h =
@@ -286,12 +277,14 @@ module _ (leg : Leg) (came put : List OnLeg) where
 keeps : StepsKeep proxy_rules Holds
 keeps = record {
   up = λ s leg cookie came put. passing.same_holds 3 waiting s (up s leg) came put (same_up s leg);
-  head = λ s leg text came put. passing.same_holds 3 waiting s (head s leg text).0 came put (same_head s leg text);
+  head = λ s leg text came put.
+      passing.same_holds 3 waiting s (head s leg text).0 came put (same_head s leg text);
   pdu = λ s leg count bytes came put h.
       same_row s (leg, Pdu bytes) came put h (pdu s leg count bytes) (same_pdu s leg count bytes);
   packet = packet_row;
   put = λ s leg came put. puts leg came put s;
-  drawn = λ s leg came put. passing.same_holds 3 waiting s (drawn s leg) came put (same_drawn s leg);
+  drawn = λ s leg came put.
+      passing.same_holds 3 waiting s (drawn s leg) came put (same_drawn s leg);
   mark = λ s leg came put. passing.same_holds 3 waiting s (mark s leg) came put (same_mark s leg);
   ping = λ s leg came put. passing.same_holds 3 waiting s (ping s leg) came put (same_ping s leg);
 }

@@ -1,6 +1,6 @@
 -- an in proxy acknowledges what came from the client
 use Rattle.std.proofs.Common.{◌≡◌, ℕ, ◌+◌, ◌-◌, ◌==◌, Bool, true, false, true≢false, not, ◌&&◌, ◌||◌, List, [], ◌∷◌, ◌++◌, length, Some, None, Ok, Err, arith, refl, rules, sym, ap, ◌∙◌, subst}
-use Rattle.std.proofs.lemmas.Bool.{and_parts, eqb-true}
+use Rattle.std.proofs.lemmas.Bool.{and_parts}
 use Rattle.std.proofs.lemmas.Bool.Decides.{nat_tests}
 use Rattle.std.specs.Prelude.{if◌then◌else◌, IfSome, nat_le}
 use Rattle.std.specs.List.{AllByRecursion}
@@ -25,7 +25,7 @@ use Rattle.rh_order.proofs.ByNumber.{by_test}
 use Rattle.rh_shell.specs.declared.answers.Count.{Count}
 use Rattle.rh_shell.specs.declared.answers.Refused.TheVariants as refused
 use Rattle.rh_shell.specs.declared.due.Due.{Due}
-use Rattle.rh_shell.specs.Rules.{Message, Text, Pdu, Packet}
+use Rattle.rh_shell.specs.Rules.{Message, Pdu, Packet}
 use Rattle.rh_shell.specs.Shells.{same_leg}
 use Rattle.rh_shell.specs.Moves.{OnLeg, Move, started, all_moved}
 use Rattle.rh_shell.specs.Waiting as waits
@@ -46,10 +46,9 @@ use Rattle.rh_inproxy.specs.declared.state.Work.{Work}
 use Rattle.rh_inproxy.specs.Answers.{Done, Pick, or_else, taken, refuse, unexpected}
 use Rattle.rh_inproxy.specs.State.{InProxy, first, channel_of, next_of, has_opened, has_come, has_a5, is_joined, same_cookie, is_client_leg, is_server_leg}
 use Rattle.rh_inproxy.specs.Opening.{up, accepts, accepts_later, accepted, connected, wants, may_accept, head, drawn, announcement, first_by, put_first, echo_by, put_echo, is_absent, is_first, awaits_packet, opener_of, opener, opened, kept_for, on_conn_b1, on_first_in_r1_a1}
-use Rattle.rh_inproxy.specs.Acknowledging.{forward_by, forwarded, on_ack_to, ack_due, ack_by, put_ack, current_ack, next_ack, put_acks}
+use Rattle.rh_inproxy.specs.Acknowledging.{forward_by, forwarded, ack_due, ack_by, current_ack, next_ack, put_acks}
 use Rattle.rh_inproxy.specs.Ending.{has_later, is_newest, mark, on_end_a1, put_end, settled, settled_pick}
 use Rattle.rh_inproxy.specs.InReplacement.{is_newcomer, joined, join, on_later_in_r1_a1, on_in_r1_a1, on_in_r1_a5, finished, finish_by, hand_over, told_by, put_in_r2_a2, one_less, put_in_r1_a6}
-use Rattle.rh_inproxy.specs.OutReplacement.{on_out_r1_a7}
 use Rattle.rh_inproxy.specs.Passing.{on_pdu, pdu_by, passed, next_pdu, put_pdu}
 use Rattle.rh_inproxy.specs.Putting.{put as put_of, next, waiting_by, put_waiting, put_control, put_early, put_stream, put_behind, put_mark}
 use Rattle.rh_inproxy.specs.Time.{on_keep_alive, ping, put_ping}
@@ -60,7 +59,7 @@ use Rattle.rh_hops.proofs.Receiving.{refused_same}
 use Rattle.rh_acks.specs.Acks.{Begins, HasBegun, IsTrue, IsTrueOn}
 use Rattle.rh_acks.proofs.Logs.{RowKeeps, PutKeeps, StepsKeep, moves_keep}
 use Rattle.rh_acks.proofs.Waiting.{EachIs, Joins, forwarded_joins}
-use Rattle.rh_acks.proofs.InChannels.{ci, Counts, IsBehind, IsOther, Channels, Tells, admitted_counts, counts_more, leg_counts, leg_begins, leg_rises, tells_more, other_true, opened_joined, opened_held, first_due, current_true, due_true, moved_channels, moved_begun, taken_channels}
+use Rattle.rh_acks.proofs.InChannels.{ci, Counts, IsBehind, IsOther, Channels, Tells, admitted_counts, leg_counts, leg_begins, tells_more, other_true, opened_joined, opened_held, first_due, current_true, due_true, moved_channels, moved_begun, taken_channels}
 
 record Seen : Type 0 where
   opened : Bool
@@ -248,10 +247,12 @@ module _ (window : ℕ) (is : IsWindow window) where
                 now = k.channels.now;
                 behind =
                     subst (λ (y : Successor).
-                    IsBehind window y (line.admitted c bytes) after) same
-                    (admitted_counts window c bytes (of_leg (ci client.number) came)
-                    (of_leg (ci client.number) after)
-                    (leg_counts (ci client.number) leg came bytes on) old.0, now.1);
+                    IsBehind window y (line.admitted c bytes) after) same (
+                      admitted_counts window c bytes (of_leg (ci client.number) came)
+                          (of_leg (ci client.number) after)
+                          (leg_counts (ci client.number) leg came bytes on) old.0,
+                      now.1,
+                    );
               };
               shut = λ f. absurd (true≢false (sym opened ∙ f));
               begun = k.begun;
@@ -412,11 +413,14 @@ module _ (window : ℕ) (is : IsWindow window) where
       where
         ended : (z : Successor) → IsBehind window z s.line.next came
             → IsBehind window z (line.with_end s.line.next) came
-        ended (Joined client stage) b = (record {
-          received = b.0.received;
-          counted = b.0.counted;
-          size = b.0.size;
-        }, b.1)
+        ended (Joined client stage) b = (
+          record {
+            received = b.0.received;
+            counted = b.0.counted;
+            size = b.0.size;
+          },
+          b.1,
+        )
         ended (Up number) b = λ ms. record {
           received = (b ms).received;
           counted = (b ms).counted;
@@ -451,7 +455,7 @@ module _ (window : ℕ) (is : IsWindow window) where
         → Holds (finished s client) came put
     finish client stage e =
         let behind =
-            subst (λ (z : Successor). IsBehind window z s.line.next came) e h.channels.behind in
+        subst (λ (z : Successor). IsBehind window z s.line.next came) e h.channels.behind in
         let there : s.line.has_next ≡ true = h.channels.there ∙ ap is_joined e in
         let opened' = opened_by s came put h (ap is_joined e) in
         let l = record (s.line) { finished = true } in
@@ -792,7 +796,7 @@ module _ (window : ℕ) (is : IsWindow window) where
     next_put s (Up number) e h = tt
     next_put s (Joined client stage) e h =
         let behind =
-            subst (λ (z : Successor). IsBehind window z s.line.next came) e h.channels.behind in
+        subst (λ (z : Successor). IsBehind window z s.line.next came) e h.channels.behind in
         ack_put s Next client (ack_due s Next) (opened_by s came put h (ap is_joined e))
         (due_else (s.line.next.ended || has_a5 s Next) (line.due s.line Next) (True client)
         (due_true window s.line.next (of_leg (ci client.number) came) client.cookie is behind.0

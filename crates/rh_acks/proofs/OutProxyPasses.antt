@@ -1,7 +1,7 @@
 -- an out proxy passes on the acknowledgements of an in proxy
-use Rattle.std.proofs.Common.{◌≡◌, ℕ, ◌==◌, Bool, true, false, ◌&&◌, List, [], ◌∷◌, ◌++◌, Some, None, Ok, Err, refl, rules, sym, subst}
+use Rattle.std.proofs.Common.{◌≡◌, ℕ, ◌==◌, Bool, true, false, ◌&&◌, List, [], ◌∷◌, ◌++◌, Some, None, refl, rules, subst}
 use Rattle.std.proofs.lemmas.Bool.{and_parts, eqb-true}
-use Rattle.std.specs.Prelude.{if◌then◌else◌, IfSome}
+use Rattle.std.specs.Prelude.{if◌then◌else◌}
 use Rattle.std.specs.declared.option.Option.{Option}
 use Rattle.rh_rts.specs.declared.command.Cookie.{Cookie}
 use Rattle.rh_sig.specs.declared.named.Named.{Named}
@@ -11,7 +11,7 @@ use Rattle.rh_line.specs.declared.leg.Leg.{Leg}
 use Rattle.rh_order.proofs.ByNumber.{by_test}
 use Rattle.rh_shell.specs.declared.answers.Count.{Count}
 use Rattle.rh_shell.specs.declared.due.Due.{Due}
-use Rattle.rh_shell.specs.Rules.{Message, Text, Pdu, Packet}
+use Rattle.rh_shell.specs.Rules.{Pdu, Packet}
 use Rattle.rh_shell.specs.Moves.{OnLeg, Move, started, all_moved}
 use Rattle.rh_shell.specs.Waiting as waits
 use Rattle.rh_outproxy.specs.declared.state.Answer.{Answer}
@@ -24,12 +24,11 @@ use Rattle.rh_outproxy.specs.Opening.{up, head, conn_c1_by, first_packet}
 use Rattle.rh_outproxy.specs.Acknowledging.{out_proxy, on_ack, on_ack_to, ack_due}
 use Rattle.rh_outproxy.specs.Ending.{drawn, mark, on_end_b1}
 use Rattle.rh_outproxy.specs.OutReplacement.{on_out_r1_a9}
-use Rattle.rh_outproxy.specs.Time.{ping}
 use Rattle.rh_outproxy.specs.Putting.{Pick, or_else, answer_by, put_answer, waiting_by, put_waiting, pdu_by, put_pdu, put_end, put_handover, put_mark, put_ping, next_co, first_by, put_first, ack_by, put_ack, next_os}
 use Rattle.rh_outproxy.specs.Putting.{put as put_of}
 use Rattle.rh_outproxy.specs.Machine.{pdu, packet, on_co, on_os}
 use Rattle.rh_outproxy.specs.Machine.{rules as proxy_rules}
-use Rattle.rh_acks.specs.Acks.{HasCome, IsPassedOn, IsPassedOnIn, PassesOn}
+use Rattle.rh_acks.specs.Acks.{HasCome, IsPassedOn, PassesOn}
 use Rattle.rh_acks.proofs.Logs.{RowKeeps, PutKeeps, StepsKeep, moves_keep}
 use Rattle.rh_acks.proofs.Waiting.{comes_last}
 use Rattle.rh_acks.proofs.Passing.{Passes, starts, first_put}

@@ -1,7 +1,7 @@
 -- a server passes on the acknowledgements of in proxies and of the client
 use Rattle.std.proofs.Common.{◌≡◌, ℕ, ◌+◌, ◌==◌, Bool, true, false, not, ◌&&◌, ◌||◌, List, [], ◌∷◌, ◌++◌, Some, None, Ok, Err, refl, rules, sym, subst}
 use Rattle.std.proofs.lemmas.Bool.{eqb-true}
-use Rattle.std.specs.Prelude.{if◌then◌else◌, IfSome, find, slice_get, nat_lt}
+use Rattle.std.specs.Prelude.{if◌then◌else◌, IfSome, slice_get, nat_lt}
 use Rattle.std.specs.declared.option.Option.{Option}
 use Rattle.std.specs.declared.result.Result.{Result}
 use Rattle.rh_rts.specs.declared.command.Cookie.{Cookie}
@@ -21,7 +21,7 @@ use Rattle.rh_shell.specs.declared.answers.Refused.TheVariants as refused
 use Rattle.rh_shell.specs.declared.due.Due.{Due}
 use Rattle.rh_shell.specs.declared.end_role.RecycleRefused.{RecycleRefused}
 use Rattle.rh_shell.specs.declared.end_role.RecycleRefused.TheVariants.{Busy, Last}
-use Rattle.rh_shell.specs.Rules.{Message, Text, Pdu, Packet}
+use Rattle.rh_shell.specs.Rules.{Pdu, Packet}
 use Rattle.rh_shell.specs.Moves.{OnLeg, EndMove, end_started, all_end_moved}
 use Rattle.rh_shell.specs.Waiting.{Waiting, own, takes, taken, forwarded}
 use Rattle.rh_server.specs.declared.state.Stage.{Stage}
@@ -38,11 +38,10 @@ use Rattle.rh_server.specs.OutLines.{Gate, lets, has, waits, is_ack_of}
 use Rattle.rh_server.specs.States.{Server, is_open, is_fresh, same_cookie, in_leg, out_at, out_place, out_cookie, with_in, without_in, without_out}
 use Rattle.rh_server.specs.Opening.{Done, took, refuse, unexpected, is_first, up, opens, with_first_out, conn_a2_at, on_conn_a2, with_first_in, conn_b2_at, on_conn_b2}
 use Rattle.rh_server.specs.Acknowledging.{channel_at, forward_by, forwards, forwards_writing, forwards_to, channel_leg, is_full, out_server, on_ack_to, on_ack, on_ping_traffic}
-use Rattle.rh_server.specs.InReplacement.{opens_next, opens_leg, first_waiting, next_opened, becomes_current, moved_if, take, announced, in_r1_a2_by, in_r1_a2_at, on_in_r1_a2, has_fresh_below, leaves, hands_over, on_in_r1_a6, carries_next, in_r2_a2_on, on_in_r2_a2}
-use Rattle.rh_server.specs.OutReplacement.{asks, recycle, is_under_way, last_number, wishes, wished, answered, answered_by, answered_on, out_r1_a4_by, out_r1_a4_at, may_answer, on_out_r1_a4, confirms, out_r1_a8_at, on_out_r1_a8}
-use Rattle.rh_server.specs.Ending.{give, close, on_end_a2, is_complete, completed, settled, drawn, drawn_by, in_is_drawn, mark, mark_by, lost_in, without_ack_of, with_ack_dropped}
-use Rattle.rh_server.specs.Putting.{Pick, or_else, put_in_greeting, put_tells_by, put_tells, put_b1_by, put_b1, put_ack_by, put_ack, ack_due, next_in, put_in_by, out_greeting_at, put_out_greeting, was_put, waiting_by, waiting_at, put_waiting, gate_at, pdu_by, put_pdu, put_end, put_pdu_or_end, next_out, settled_pick, put_open, put_out_place, put_out_at, put_by}
-use Rattle.rh_server.specs.Putting.{put as put_of}
+use Rattle.rh_server.specs.InReplacement.{opens_next, opens_leg, first_waiting, next_opened, becomes_current, moved_if, take, announced, in_r1_a2_by, in_r1_a2_at, on_in_r1_a2, has_fresh_below, leaves, hands_over, on_in_r1_a6, in_r2_a2_on, on_in_r2_a2}
+use Rattle.rh_server.specs.OutReplacement.{asks, recycle, is_under_way, last_number, wishes, wished, answered_by, answered_on, out_r1_a4_by, out_r1_a4_at, may_answer, on_out_r1_a4, confirms, out_r1_a8_at, on_out_r1_a8}
+use Rattle.rh_server.specs.Ending.{give, on_end_a2, is_complete, completed, settled, drawn, drawn_by, in_is_drawn, mark, mark_by, lost_in, without_ack_of, with_ack_dropped}
+use Rattle.rh_server.specs.Putting.{Pick, or_else, put_in_greeting, put_tells_by, put_tells, put_b1_by, put_b1, put_ack_by, put_ack, ack_due, put_in_by, out_greeting_at, put_out_greeting, was_put, waiting_by, waiting_at, put_waiting, gate_at, pdu_by, put_pdu, put_end, put_pdu_or_end, next_out, settled_pick, put_open, put_out_at, put_by}
 use Rattle.rh_server.specs.declared.state.Leaving.{Leaving}
 use Rattle.rh_server.specs.declared.state.Tells.{Tells}
 use Rattle.rh_server.specs.Servers.{acts, first, pdu, packet, packet_by, on_is, on_os}

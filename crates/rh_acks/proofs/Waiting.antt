@@ -1,5 +1,5 @@
 -- the packets that wait for a leg, and what each of them is
-use Rattle.std.proofs.Common.{◌≡◌, ℕ, Bool, true, false, nat_lt, List, [], ◌∷◌, ◌++◌, Some, None, inl, inr, refl, rules}
+use Rattle.std.proofs.Common.{◌≡◌, ℕ, Bool, true, false, nat_lt, List, [], ◌∷◌, ◌++◌, Some, inl, inr, refl, rules}
 use Rattle.std.specs.Prelude.{if◌then◌else◌, IfSome, find}
 use Rattle.std.specs.List.{AllByRecursion, list_any}
 use Rattle.rh_sig.specs.declared.named.Named.{Named}
@@ -9,7 +9,7 @@ use Rattle.rh_line.proofs.Queues.{each_push}
 use Rattle.rh_order.proofs.ByNumber.{by_test}
 use Rattle.rh_shell.specs.declared.due.Due.{Due}
 use Rattle.rh_shell.specs.declared.due.Origin.TheVariants.{Forwarded}
-use Rattle.rh_shell.specs.Rules.{Message, Text, Pdu, Packet}
+use Rattle.rh_shell.specs.Rules.{Text, Pdu, Packet}
 use Rattle.rh_shell.specs.Moves.{OnLeg}
 use Rattle.rh_shell.specs.Waiting.{Waiting, better, edge_of, merged, takes, with_due, pushed, to_forward, count, forwarded, without_first}
 use Rattle.rh_acks.specs.Acks.{HasCome, IsPassedOn, IsPassedOnIn}

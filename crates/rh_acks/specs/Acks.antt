@@ -1,5 +1,6 @@
 -- acknowledgements that pass other nodes: those of an in proxy go to the client by the server and
--- an out proxy, and those of the client to an out proxy by an in proxy and the server (MS-RPCH 3.2.1)
+-- an out proxy, and those of the client to an out proxy by an in proxy and the server (MS-RPCH
+-- 3.2.1)
 use Rattle.std.specs.Prelude.{◌≡◌, ◌≤◌, ℕ, ◌⊎◌, List, [], ◌∷◌}
 use Rattle.std.specs.List.{AllByRecursion}
 use Rattle.rh_rts.specs.declared.command.Cookie.{Cookie}
