@@ -1,5 +1,5 @@
 -- the IN channels that an in proxy reads, and what came on their legs
-use Rattle.std.proofs.Common.{◌≡◌, ℕ, ◌+◌, ◌-◌, ◌≤◌, Bool, true, false, true≢false, ◌&&◌, List, [], ◌∷◌, ◌++◌, length, Some, None, Ok, Err, inl, inr, arith, refl, rules, sym, ap, ◌∙◌, subst}
+use Rattle.std.proofs.Common.{◌≡◌, ℕ, ◌+◌, ◌-◌, ◌≤◌, Bool, true, false, true≢false, ◌&&◌, List, [], ◌∷◌, ◌++◌, length, Some, None, Ok, Err, arith, refl, rules, sym, ap, ◌∙◌, subst}
 use Rattle.std.proofs.lemmas.Bool.Decides.{nat_tests}
 use Rattle.std.specs.Prelude.{if◌then◌else◌, IfSome, is_ok, nat_le}
 use Rattle.std.specs.List.{AllByRecursion}
@@ -16,7 +16,7 @@ use Rattle.rh_line.specs.Lines as line
 use Rattle.rh_line.specs.Lines.{Line, Incoming}
 use Rattle.rh_line.specs.Queue.{total}
 use Rattle.rh_line.specs.declared.leg.Leg.{Leg}
-use Rattle.rh_line.specs.declared.leg.LegKind.TheVariants.{ClientIn}
+use Rattle.rh_line.specs.declared.line_fault.LineFault.{LineFault}
 use Rattle.rh_line.specs.declared.line_fault.LineFault.TheVariants.{Over}
 use Rattle.rh_line.proofs.Queues.{total_push}
 use Rattle.rh_order.proofs.ByNumber.{by_test}
@@ -29,46 +29,50 @@ use Rattle.rh_inproxy.specs.declared.state.ClientLeg.{ClientLeg}
 use Rattle.rh_inproxy.specs.declared.state.Successor.{Successor}
 use Rattle.rh_inproxy.specs.declared.state.Successor.TheVariants.{Absent, Up, Joined}
 use Rattle.rh_inproxy.specs.State.{is_joined, follows}
-use Rattle.rh_hops.specs.Hops.{pdu_bytes}
-use Rattle.rh_hops.proofs.Counts.{bytes_append, bytes_rise}
-use Rattle.rh_hops.proofs.Legs.{one_more}
-use Rattle.rh_acks.specs.Acks.{Begins, HasBegun, IsTrueOn, IsTrue}
-use Rattle.rh_acks.proofs.Waiting.{EachIs, each_so}
+use Rattle.rh_passages.specs.Passing.{pdu_bytes, BeginsIn, HasBegunIn}
+use Rattle.rh_passages.proofs.Messages.{bytes_append, bytes_rise, each_so, one_more_so, last_one_so}
+use Rattle.rh_acks.specs.Acks.{ci_leg as ci, IsTrueOn, IsTrue}
+use Rattle.rh_acks.proofs.Legs.{on_more, on_last}
+use Rattle.rh_acks.proofs.Waiting.{EachIs}
 
 -- ---- the messages of a leg
 
-pub begun_more : (cookie : Cookie) (a b : List Message) → HasBegun cookie a
-    → HasBegun cookie (a ++ b)
-begun_more cookie [] b h = absurd h
-begun_more cookie (Text bytes ∷ a) b h = begun_more cookie a b h
-begun_more cookie (Pdu pdu ∷ a) b h = begun_more cookie a b h
-begun_more cookie (Packet named ∷ a) b (inl is) = inl is
-begun_more cookie (Packet named ∷ a) b (inr rest) = inr (begun_more cookie a b rest)
-
 pub leg_begun : (leg : Leg) (cookie : Cookie) (came : List OnLeg) (one : OnLeg)
-    → HasBegun cookie (of_leg leg came) → HasBegun cookie (of_leg leg (came ++ one ∷ []))
-leg_begun leg cookie came one h =
-    subst (HasBegun cookie) (sym (one_more leg came one))
-    (begun_more cookie (of_leg leg came) (of_leg leg (one ∷ [])) h)
+    → HasBegunIn cookie (of_leg leg came) → HasBegunIn cookie (of_leg leg (came ++ one ∷ []))
+leg_begun leg cookie = on_more (HasBegunIn cookie) (one_more_so (BeginsIn cookie)) leg
 
 pub leg_rises : (leg : Leg) (came : List OnLeg) (one : OnLeg)
     → pdu_bytes (of_leg leg came) ≤ pdu_bytes (of_leg leg (came ++ one ∷ []))
 leg_rises leg came one =
-    subst (λ (ms : List Message). pdu_bytes (of_leg leg came) ≤ pdu_bytes ms)
-    (sym (one_more leg came one)) (bytes_rise (of_leg leg came) (of_leg leg (one ∷ [])))
+    on_more (λ (ms : List Message). pdu_bytes (of_leg leg came) ≤ pdu_bytes ms)
+    (λ a b h. let rise = bytes_rise a b in omega (arith, h, rise)) leg came one (omega arith)
 
 pub leg_counts : (leg other : Leg) (came : List OnLeg) (pdu : List ℕ)
     → same_leg other leg ≡ true
     → pdu_bytes (of_leg leg (came ++ (other, Pdu pdu) ∷ []))
     ≡ pdu_bytes (of_leg leg came) + length pdu
 leg_counts leg other came pdu same =
-    subst (λ (ms : List Message). pdu_bytes ms ≡ pdu_bytes (of_leg leg came) + length pdu)
-    (sym (one_more leg came (other, Pdu pdu)))
-    (subst (λ (b : Bool).
-    pdu_bytes (of_leg leg came ++ (if b then Pdu pdu ∷ [] else []))
-    ≡ pdu_bytes (of_leg leg came) + length pdu)
-    (sym same)
-    (let all = bytes_append (of_leg leg came) (Pdu pdu ∷ []) in omega (arith, all)))
+    on_last (λ (ms : List Message). pdu_bytes ms ≡ pdu_bytes (of_leg leg came) + length pdu) leg
+    other came (Pdu pdu) same
+    (let all = bytes_append (of_leg leg came) (Pdu pdu ∷ []) in omega (arith, all))
+
+-- a packet begins a channel on its leg
+pub leg_begins : (leg other : Leg) (cookie : Cookie) (came : List OnLeg) (named : Named)
+    → same_leg other leg ≡ true → BeginsIn cookie named
+    → HasBegunIn cookie (of_leg leg (came ++ (other, Packet named) ∷ []))
+leg_begins leg other cookie came named same begins =
+    on_last (HasBegunIn cookie) leg other came (Packet named) same
+    (last_one_so (BeginsIn cookie) (of_leg leg came) named begins)
+
+-- a PDU that is refused changes nothing
+pub refused_same : (c : Incoming) (pdu : List ℕ) (fault : LineFault)
+    → line.channel_verdict c pdu ≡ Err fault → line.admitted c pdu ≡ c
+refused_same c pdu fault e =
+    ap (λ (v : Result (Unit {0}) LineFault).
+    if is_ok v then record c {
+      pdus = c.pdus ++ pdu ∷ [];
+      window = windows.after_admit c.window (length pdu);
+    } else c) e
 
 -- ---- a channel counts no more than came on its leg
 
@@ -149,7 +153,7 @@ released_counts window c (pdu ∷ pdus) ms is h =
 -- ---- an acknowledgement that is due is true
 
 pub due_true : (window : ℕ) (c : Incoming) (ms : List Message) (cookie : Cookie)
-    → IsWindow window → Counts window c ms → HasBegun cookie ms
+    → IsWindow window → Counts window c ms → HasBegunIn cookie ms
     → IfSome (windows.due c.window)
     (λ (ack : told.Ack). IsTrueOn ms ack.received ack.available cookie)
 due_true window c ms cookie is h begun =
@@ -174,13 +178,10 @@ due_true window c ms cookie is h begun =
 
 -- ---- the channels of an in proxy
 
-abbrev pub ci : ℕ → Leg
-ci n = record { kind = ClientIn; number = n }
-
 abbrev pub IsChannel : ℕ → ClientLeg → Incoming → List OnLeg → Type 0
 IsChannel window leg c came =
     Counts window c (of_leg (ci leg.number) came)
-    × HasBegun leg.cookie (of_leg (ci leg.number) came)
+    × HasBegunIn leg.cookie (of_leg (ci leg.number) came)
 
 -- the channel behind the current one; where there is none, nothing came on it
 abbrev pub IsBehind : ℕ → Successor → Incoming → List OnLeg → Type 0
@@ -205,7 +206,7 @@ pub record Tells (window : ℕ) (opened : Bool) (l : Line) (current : ClientLeg)
     (successor : Successor) (dues : List Due) (came put : List OnLeg) : Type 0 where
   pub channels : Channels window l current successor came
   pub shut : opened ≡ false → l ≡ line.first_line window
-  pub begun : opened ≡ true → HasBegun current.cookie (of_leg (ci current.number) came)
+  pub begun : opened ≡ true → HasBegunIn current.cookie (of_leg (ci current.number) came)
   pub others : EachIs IsOther dues
   pub acks : AllByRecursion (IsTrue came) put
 
@@ -266,22 +267,6 @@ tells_more window opened l current z dues came put one h = record {
   others = h.others;
   acks = each_so (IsTrue came) (IsTrue (came ++ one ∷ [])) (true_more came one) put h.acks;
 }
-
--- a packet begins a channel on its leg
-pub leg_begins : (leg other : Leg) (cookie : Cookie) (came : List OnLeg) (named : Named)
-    → same_leg other leg ≡ true → Begins cookie named
-    → HasBegun cookie (of_leg leg (came ++ (other, Packet named) ∷ []))
-leg_begins leg other cookie came named same begins =
-    subst (HasBegun cookie) (sym (one_more leg came (other, Packet named)))
-    (subst (λ (b : Bool).
-    HasBegun cookie (of_leg leg came ++ (if b then Packet named ∷ [] else []))) (sym same)
-    (last (of_leg leg came)))
-  where
-    last : (ms : List Message) → HasBegun cookie (ms ++ Packet named ∷ [])
-    last [] = inl begins
-    last (Text bytes ∷ ms) = last ms
-    last (Pdu pdu ∷ ms) = last ms
-    last (Packet other_named ∷ ms) = inr (last ms)
 
 pub other_true : (came : List OnLeg) (leg : Leg) (named : Named) → IsOther named
     → IsTrue came (leg, Packet named)
@@ -382,8 +367,8 @@ moved_channels window l current z came h =
 
 pub moved_begun : (window : ℕ) (b : Bool) (current : ClientLeg) (z : Successor) (c : Incoming)
     (came : List OnLeg) → IsBehind window z c came
-    → HasBegun current.cookie (of_leg (ci current.number) came)
-    → HasBegun (follows b current z).0.cookie (of_leg (ci (follows b current z).0.number) came)
+    → HasBegunIn current.cookie (of_leg (ci current.number) came)
+    → HasBegunIn (follows b current z).0.cookie (of_leg (ci (follows b current z).0.number) came)
 moved_begun window true current z c came behind begun = begun
 moved_begun window false current Absent c came behind begun = begun
 moved_begun window false current (Up number) c came behind begun = begun

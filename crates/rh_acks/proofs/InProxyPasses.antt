@@ -1,5 +1,5 @@
 -- an in proxy passes on the acknowledgements of the client
-use Rattle.std.proofs.Common.{◌≡◌, ℕ, ◌==◌, Bool, true, false, ◌&&◌, not, List, [], ◌∷◌, ◌++◌, Some, None, arith, refl, ◌∙◌, subst, rules}
+use Rattle.std.proofs.Common.{◌≡◌, ℕ, ◌==◌, Bool, true, false, ◌&&◌, not, List, [], ◌∷◌, ◌++◌, Some, None, arith, refl, sym, ◌∙◌, subst, rules}
 use Rattle.std.proofs.lemmas.Bool.{and_parts, eqb-true}
 use Rattle.std.specs.Prelude.{if◌then◌else◌}
 use Rattle.std.specs.declared.option.Option.{Option}
@@ -8,6 +8,7 @@ use Rattle.rh_sig.specs.declared.named.Named.{Named}
 use Rattle.rh_sig.specs.declared.named.Named.TheVariants.{ConnB1, InR1A1, InR1A5, AckTo, OutR1A7, OutR1A8, KeepAlive, EndA1}
 use Rattle.rh_window.specs.declared.recv_window.Ack as told
 use Rattle.rh_line.specs.declared.leg.Leg.{Leg}
+use Rattle.rh_line.specs.declared.leg.LegKind.TheVariants.{ClientIn}
 use Rattle.rh_line.specs.declared.which.Which.{Which}
 use Rattle.rh_line.specs.declared.which.Which.TheVariants.{Current, Next}
 use Rattle.rh_order.proofs.ByNumber.{by_test}
@@ -26,26 +27,34 @@ use Rattle.rh_inproxy.specs.State.{InProxy, first, channel_of, has_a5, is_client
 use Rattle.rh_inproxy.specs.Opening.{up, head, drawn, first_by, put_first, echo_by, put_echo, on_conn_b1}
 use Rattle.rh_inproxy.specs.Acknowledging.{forward_by, forwarded, ack_due, ack_by, put_ack, current_ack, next_ack, put_acks}
 use Rattle.rh_inproxy.specs.Ending.{is_newest, mark, on_end_a1, put_end, settled, settled_pick}
-use Rattle.rh_inproxy.specs.InReplacement.{on_in_r1_a1, on_in_r1_a5, told_by, put_in_r2_a2, put_in_r1_a6}
+use Rattle.rh_inproxy.specs.InReplacement.{on_in_r1_a1, on_in_r1_a5, told_by, put_in_r2_a2, one_less, put_in_r1_a6}
 use Rattle.rh_inproxy.specs.Passing.{next_pdu, put_pdu}
 use Rattle.rh_inproxy.specs.Putting.{put as put_of, next, waiting_by, put_waiting, put_control, put_early, put_stream, put_behind, put_mark}
 use Rattle.rh_inproxy.specs.Time.{ping, put_ping, on_keep_alive}
 use Rattle.rh_inproxy.specs.Machine.{pdu, packet, on_channel, on_channel_by, on_ci, on_is}
 use Rattle.rh_inproxy.specs.Machine.{rules as proxy_rules}
-use Rattle.rh_acks.specs.Acks.{HasCome, IsPassedOn, PassesOn}
-use Rattle.rh_acks.proofs.Logs.{RowKeeps, PutKeeps, StepsKeep, moves_keep}
-use Rattle.rh_acks.proofs.Waiting.{comes_last}
-use Rattle.rh_acks.proofs.Passing.{Passes, starts, first_put}
+use Rattle.rh_passages.specs.Passing.{HasOn}
+use Rattle.rh_passages.proofs.Logs.{RowKeeps, PutKeeps, StepsKeep, moves_keep}
+use Rattle.rh_acks.specs.Acks.{IsPassedOn, PassesOn}
+use Rattle.rh_acks.proofs.Waiting.{EachIs, Joins, forwarded_joins}
+use Rattle.rh_acks.proofs.Sources.{has_on_last, passed_stays}
+use Rattle.rh_acks.proofs.Passing.{Of, each_stays, put_one}
 use Rattle.rh_acks.proofs.Passing as passing
 
 abbrev waiting : InProxy → waits.Waiting
 waiting s = s.waiting
 
+abbrev Is : Of Named
+Is = IsPassedOn ClientIn 3
+
+abbrev Sound : Of waits.Waiting
+Sound came w = EachIs (Is came) w.due
+
 abbrev Holds : InProxy → List OnLeg → List OnLeg → Type 0
-Holds = passing.Holds 3 waiting
+Holds = passing.Holds waiting Is Sound
 
 abbrev Same : InProxy → InProxy → Type 0
-Same = passing.Same 3 waiting
+Same = passing.Same waiting Is Sound
 
 -- ---- what leaves these alone
 
@@ -94,28 +103,40 @@ same_ping s leg = search rules
 
 -- ---- rows
 
+sound_stays : (came : List OnLeg) (one : OnLeg) (w : waits.Waiting) → Sound came w
+    → Sound (came ++ one ∷ []) w
+sound_stays came one w h = each_stays Is (passed_stays ClientIn 3) came one w.due h
+
+came_one : (s : InProxy) (one : OnLeg) (came put : List OnLeg) → Holds s came put
+    → Holds s (came ++ one ∷ []) put
+came_one = passing.came_one waiting Is Sound (passed_stays ClientIn 3) sound_stays
+
 same_row : (s : InProxy) (one : OnLeg) (came put : List OnLeg) → Holds s came put → (x : Done)
     → Same s x.0 → RowKeeps Holds one came put x
-same_row = passing.same_row 3 waiting
+same_row = passing.same_row waiting Is Sound (passed_stays ClientIn 3) sound_stays
 
-follows : (s : InProxy) (r : waits.Waiting × Bool)
-    → passing.Follows 3 waiting s r (forward_by s r)
-follows s (w, true) = (refl, refl)
-follows s (w, false) = (λ e. e, refl)
+same_holds : (s t : InProxy) (came put : List OnLeg) → Same s t → Holds s came put
+    → Holds t came put
+same_holds = passing.same_holds waiting Is Sound
 
 -- a packet is to be forwarded
 forward_row : (s : InProxy) (one : OnLeg) (came put : List OnLeg) → Holds s came put
-    → (named : Named) → IsPassedOn 3 (came ++ one ∷ []) named
+    → (named : Named) → Is (came ++ one ∷ []) named
     → RowKeeps Holds one came put (forwarded s named)
 forward_row s one came put h named is =
-    passing.forward_row 3 waiting s one came put h named is (forwarded s named)
-    (follows s (waits.forwarded s.waiting named))
+    by (waits.forwarded s.waiting named) (forwarded_joins (Is (came ++ one ∷ [])) s.waiting named)
+  where
+    by : (r : waits.Waiting × Bool) → Joins (Is (came ++ one ∷ [])) named s.waiting r
+        → RowKeeps Holds one came put (forward_by s r)
+    by (w, true) joins = let k = came_one s one came put h in (joins is k.0, k.1)
+    by (w, false) same =
+        subst (λ (v : waits.Waiting). Holds (record s { waiting = v }) came put) (sym same) h
 
 ack_row : (s : InProxy) (leg : Leg) (which : Which) (to received available : ℕ) (channel : Cookie)
-    (came put : List OnLeg) → Holds s came put
+    (came put : List OnLeg) → is_client_leg leg ≡ true → Holds s came put
     → RowKeeps Holds (leg, Packet (AckTo to received available channel)) came put
     (on_channel s which (AckTo to received available channel))
-ack_row s leg which to received available channel came put h =
+ack_row s leg which to received available channel came put on h =
     by_test (RowKeeps Holds one came put) (not (has_a5 s which) && (to == 3))
     (forwarded s (AckTo 3 received available channel)) (unexpected s)
     (λ t. forward_row s one came put h (AckTo 3 received available channel)
@@ -125,47 +146,49 @@ ack_row s leg which to received available channel came put h =
     one = (leg, Packet (AckTo to received available channel))
 
     here : (not (has_a5 s which) && (to == 3)) ≡ true
-        → HasCome (AckTo 3 received available channel) (came ++ one ∷ [])
+        → HasOn ClientIn (AckTo 3 received available channel) (came ++ one ∷ [])
     here t =
         let is : to ≡ 3 = eqb-true to 3 (and_parts (not (has_a5 s which)) (to == 3) t).1 in
-        subst (λ (n : ℕ). HasCome (AckTo n received available channel) (came ++ one ∷ [])) is
-        (comes_last (AckTo to received available channel) came leg)
+        subst (λ (n : ℕ).
+        HasOn ClientIn (AckTo n received available channel) (came ++ one ∷ [])) is
+        (has_on_last ClientIn leg (AckTo to received available channel) came on)
 
 channel_row : (s : InProxy) (leg : Leg) (which : Which) (named : Named) (came put : List OnLeg)
-    → Holds s came put
+    → is_client_leg leg ≡ true → Holds s came put
     → RowKeeps Holds (leg, Packet named) came put (on_channel s which named)
-channel_row s leg which (AckTo to received available channel) came put h =
-    ack_row s leg which to received available channel came put h
-channel_row s leg which (OutR1A7 to successor) came put h =
+channel_row s leg which (AckTo to received available channel) came put on h =
+    ack_row s leg which to received available channel came put on h
+channel_row s leg which (OutR1A7 to successor) came put on h =
     by_test (RowKeeps Holds (leg, Packet (OutR1A7 to successor)) came put)
     (not (has_a5 s which) && (to == 2)) (forwarded s (OutR1A8 2 successor)) (unexpected s)
     (λ t. forward_row s (leg, Packet (OutR1A7 to successor)) came put h (OutR1A8 2 successor) tt)
     (λ t. h)
-channel_row s leg which (KeepAlive keepalive) came put h =
+channel_row s leg which (KeepAlive keepalive) came put on h =
     same_row s (leg, Packet (KeepAlive keepalive)) came put h (on_keep_alive s which keepalive)
     (same_keep_alive s which keepalive)
-channel_row s leg which EndA1 came put h =
+channel_row s leg which EndA1 came put on h =
     same_row s (leg, Packet EndA1) came put h (on_end_a1 s which) (same_end_a1 s which)
-channel_row s leg which (InR1A5 successor) came put h =
+channel_row s leg which (InR1A5 successor) came put on h =
     same_row s (leg, Packet (InR1A5 successor)) came put h (on_in_r1_a5 s which successor)
     (same_in_r1_a5 s which successor)
-channel_row s leg which packet came put h = h
+channel_row s leg which packet came put on h = h
 
 on_row : (s : InProxy) (leg : Leg) (o : Option Which) (named : Named) (came put : List OnLeg)
-    → Holds s came put
+    → is_client_leg leg ≡ true → Holds s came put
     → RowKeeps Holds (leg, Packet named) came put (on_channel_by s o named)
-on_row s leg None named came put h = h
-on_row s leg (Some which) named came put h = channel_row s leg which named came put h
+on_row s leg None named came put on h = h
+on_row s leg (Some which) named came put on h = channel_row s leg which named came put on h
 
 ci_row : (s : InProxy) (leg : Leg) (n : ℕ) (named : Named) (came put : List OnLeg)
-    → Holds s came put → RowKeeps Holds (leg, Packet named) came put (on_ci s n named)
-ci_row s leg n (ConnB1 v1 v2 v3 v4 v5 v6) came put h =
+    → is_client_leg leg ≡ true → Holds s came put
+    → RowKeeps Holds (leg, Packet named) came put (on_ci s n named)
+ci_row s leg n (ConnB1 v1 v2 v3 v4 v5 v6) came put on h =
     same_row s (leg, Packet (ConnB1 v1 v2 v3 v4 v5 v6)) came put h (on_conn_b1 s n v2 v3 v5 v6)
     (same_conn_b1 s n v2 v3 v5 v6)
-ci_row s leg n (InR1A1 v1 v2 v3 v4) came put h =
+ci_row s leg n (InR1A1 v1 v2 v3 v4) came put on h =
     same_row s (leg, Packet (InR1A1 v1 v2 v3 v4)) came put h (on_in_r1_a1 s n v2 v3 v4)
     (same_in_r1_a1 s n v2 v3 v4)
-ci_row s leg n packet came put h = on_row s leg (channel_of s n) packet came put h
+ci_row s leg n packet came put on h = on_row s leg (channel_of s n) packet came put on h
 
 packet_row : (s : InProxy) (leg : Leg) (count : Count) (named : Named) (came put : List OnLeg)
     → Holds s came put
@@ -173,7 +196,7 @@ packet_row : (s : InProxy) (leg : Leg) (count : Count) (named : Named) (came put
 packet_row s leg count named came put h =
     by_test (RowKeeps Holds (leg, Packet named) came put) (is_client_leg leg)
     (on_ci s leg.number named) (if is_server_leg s leg then on_is s named else unexpected s)
-    (λ t. ci_row s leg leg.number named came put h)
+    (λ t. ci_row s leg leg.number named came put t h)
     (λ t. by_test (RowKeeps Holds (leg, Packet named) came put) (is_server_leg s leg)
     (on_is s named) (unexpected s)
     (λ u. same_row s (leg, Packet named) came put h (on_is s named) (same_is s named)) (λ u. h))
@@ -185,10 +208,10 @@ module _ (leg : Leg) (came put : List OnLeg) where
   Puts pick = PutKeeps Holds leg came put pick
 
   abbrev Quiet : InProxy → Pick → Type 0
-  Quiet = passing.Quiet 3 waiting came leg
+  Quiet = passing.Quiet waiting Is Sound came leg
 
   quiet_put : (s : InProxy) (pick : Pick) → Quiet s pick → Holds s came put → Puts pick
-  quiet_put = passing.quiet_put 3 waiting leg came put
+  quiet_put = passing.quiet_put waiting Is Sound leg came put
 
   or_put : (a b : Pick) → Puts a → Puts b → Puts (or_else a b)
   or_put None b h k = k
@@ -220,10 +243,13 @@ module _ (leg : Leg) (came put : List OnLeg) where
   quiet_echo : (s : InProxy) (work : Work) (n : ℕ) → Quiet s (echo_by s work n)
   quiet_echo s work n = search rules
 
-  waiting_put : (s : InProxy) (dues : List Due) → Passes 3 dues came put
+  waiting_put : (s : InProxy) (dues : List Due) → EachIs (Is came) dues → Holds s came put
       → Puts (waiting_by s dues)
-  waiting_put s [] h = tt
-  waiting_put s (due ∷ dues) h = first_put 3 waiting leg came put due dues h
+  waiting_put s [] all h = tt
+  waiting_put s (due ∷ dues) all h =
+      let w = waits.with_due s.waiting dues in
+      put_one waiting Is Sound (record s { waiting = w; successor = one_less s.successor }) came
+      put (leg, Packet due.packet) all.0 (all.1, h.1)
 
   ack_put : (s : InProxy) (which : Which) (cookie : Cookie) → Holds s came put
       → Puts (put_ack s which cookie)
@@ -241,7 +267,7 @@ module _ (leg : Leg) (came put : List OnLeg) where
       (or_put (put_first s) _ (quiet_put s (put_first s) (quiet_first s s.opening) h)
       (or_put (put_in_r2_a2 s) (put_waiting s)
       (quiet_put s (put_in_r2_a2 s) (quiet_told s s.successor) h)
-      (waiting_put s s.waiting.due h)))
+      (waiting_put s s.waiting.due h.0 h)))
       (or_put (current_ack s) (next_ack s s.successor) (ack_put s Current s.current.cookie h)
       (next_put s s.successor h))
 
@@ -261,7 +287,7 @@ module _ (leg : Leg) (came put : List OnLeg) where
   settled_put : (pick : Pick) → Puts pick → Puts (settled_pick pick)
   settled_put None h = tt
   settled_put (Some pick) h =
-      passing.same_holds 3 waiting pick.0 (settled pick.0) came (put ++ (leg, pick.1) ∷ [])
+      same_holds pick.0 (settled pick.0) came (put ++ (leg, pick.1) ∷ [])
       (same_settled pick.0) h
 
   puts : (s : InProxy) → Holds s came put → Puts (put_of s leg)
@@ -276,20 +302,20 @@ module _ (leg : Leg) (came put : List OnLeg) where
 
 keeps : StepsKeep proxy_rules Holds
 keeps = record {
-  up = λ s leg cookie came put. passing.same_holds 3 waiting s (up s leg) came put (same_up s leg);
+  up = λ s leg cookie came put. same_holds s (up s leg) came put (same_up s leg);
   head = λ s leg text came put.
-      passing.same_holds 3 waiting s (head s leg text).0 came put (same_head s leg text);
+      same_holds s (head s leg text).0 came put (same_head s leg text);
   pdu = λ s leg count bytes came put h.
       same_row s (leg, Pdu bytes) came put h (pdu s leg count bytes) (same_pdu s leg count bytes);
   packet = packet_row;
   put = λ s leg came put. puts leg came put s;
   drawn = λ s leg came put.
-      passing.same_holds 3 waiting s (drawn s leg) came put (same_drawn s leg);
-  mark = λ s leg came put. passing.same_holds 3 waiting s (mark s leg) came put (same_mark s leg);
-  ping = λ s leg came put. passing.same_holds 3 waiting s (ping s leg) came put (same_ping s leg);
+      same_holds s (drawn s leg) came put (same_drawn s leg);
+  mark = λ s leg came put. same_holds s (mark s leg) came put (same_mark s leg);
+  ping = λ s leg came put. same_holds s (ping s leg) came put (same_ping s leg);
 }
 
 pub in_proxy_passes : (config : InProxyConfig) (moves : List Move)
-    → PassesOn 3 (all_moved proxy_rules (started (first config)) moves)
+    → PassesOn ClientIn 3 (all_moved proxy_rules (started (first config)) moves)
 in_proxy_passes config moves =
-    (moves_keep proxy_rules Holds keeps (started (first config)) moves (starts 3)).puts
+    (moves_keep proxy_rules Holds keeps (started (first config)) moves (tt, tt)).1

@@ -55,11 +55,11 @@ use Rattle.rh_inproxy.specs.Time.{on_keep_alive, ping, put_ping}
 use Rattle.rh_inproxy.specs.Machine as machine
 use Rattle.rh_inproxy.specs.Machine.{pdu, packet, on_channel, on_channel_by, on_ci, on_is}
 use Rattle.rh_inproxy.specs.Machine.{rules as proxy_rules}
-use Rattle.rh_hops.proofs.Receiving.{refused_same}
-use Rattle.rh_acks.specs.Acks.{Begins, HasBegun, IsTrue, IsTrueOn}
-use Rattle.rh_acks.proofs.Logs.{RowKeeps, PutKeeps, StepsKeep, moves_keep}
+use Rattle.rh_passages.specs.Passing.{BeginsIn, HasBegunIn}
+use Rattle.rh_acks.specs.Acks.{ci_leg as ci, IsTrue, IsTrueOn}
+use Rattle.rh_passages.proofs.Logs.{RowKeeps, PutKeeps, StepsKeep, moves_keep}
 use Rattle.rh_acks.proofs.Waiting.{EachIs, Joins, forwarded_joins}
-use Rattle.rh_acks.proofs.InChannels.{ci, Counts, IsBehind, IsOther, Channels, Tells, admitted_counts, leg_counts, leg_begins, tells_more, other_true, opened_joined, opened_held, first_due, current_true, due_true, moved_channels, moved_begun, taken_channels}
+use Rattle.rh_acks.proofs.InChannels.{refused_same, Counts, IsBehind, IsOther, Channels, Tells, admitted_counts, leg_counts, leg_begins, tells_more, other_true, opened_joined, opened_held, first_due, current_true, due_true, moved_channels, moved_begun, taken_channels}
 
 record Seen : Type 0 where
   opened : Bool
@@ -280,7 +280,7 @@ module _ (window : ℕ) (is : IsWindow window) where
     -- ---- the first packet of a channel
 
     opens_row : (m : Named) (o : Opener) (keepalive : ℕ)
-        → HasBegun o.channel (of_leg (ci s.current.number) (came ++ (leg, Packet m) ∷ []))
+        → HasBegunIn o.channel (of_leg (ci s.current.number) (came ++ (leg, Packet m) ∷ []))
         → RowKeeps Holds (leg, Packet m) came put (opened s o keepalive)
     opens_row m o keepalive begun =
         let k = more (Packet m) in
@@ -298,8 +298,8 @@ module _ (window : ℕ) (is : IsWindow window) where
         }
 
     begins_here : (m : Named) (cookie : Cookie) (n : ℕ) → is_client_leg leg ≡ true
-        → (n == leg.number) ≡ true → Begins cookie m
-        → HasBegun cookie (of_leg (ci n) (came ++ (leg, Packet m) ∷ []))
+        → (n == leg.number) ≡ true → BeginsIn cookie m
+        → HasBegunIn cookie (of_leg (ci n) (came ++ (leg, Packet m) ∷ []))
     begins_here m cookie n e f begins = leg_begins (ci n) leg cookie came m (here n e f) begins
 
     b1_row : (v1 : ℕ) (v2 v3 : Cookie) (v4 v5 : ℕ) (v6 : Cookie) → is_client_leg leg ≡ true

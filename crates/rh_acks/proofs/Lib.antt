@@ -1,6 +1,7 @@
-mod Logs
+mod Legs
 mod Waiting
 mod Passing
+mod Sources
 mod InProxyPasses
 mod OutProxyPasses
 mod ServerPasses

@@ -1,5 +1,5 @@
 -- a server passes on the acknowledgements of in proxies and of the client
-use Rattle.std.proofs.Common.{◌≡◌, ℕ, ◌+◌, ◌==◌, Bool, true, false, not, ◌&&◌, ◌||◌, List, [], ◌∷◌, ◌++◌, Some, None, Ok, Err, refl, rules, sym, subst}
+use Rattle.std.proofs.Common.{◌≡◌, ℕ, ◌+◌, ◌==◌, Bool, true, false, not, ◌&&◌, ◌||◌, List, [], ◌∷◌, ◌++◌, Some, None, Ok, Err, refl, rules, ap, subst}
 use Rattle.std.proofs.lemmas.Bool.{eqb-true}
 use Rattle.std.specs.Prelude.{if◌then◌else◌, IfSome, slice_get, nat_lt}
 use Rattle.std.specs.declared.option.Option.{Option}
@@ -22,6 +22,7 @@ use Rattle.rh_shell.specs.declared.due.Due.{Due}
 use Rattle.rh_shell.specs.declared.end_role.RecycleRefused.{RecycleRefused}
 use Rattle.rh_shell.specs.declared.end_role.RecycleRefused.TheVariants.{Busy, Last}
 use Rattle.rh_shell.specs.Rules.{Pdu, Packet}
+use Rattle.rh_shell.specs.Shells.{kind_number, is_of}
 use Rattle.rh_shell.specs.Moves.{OnLeg, EndMove, end_started, all_end_moved}
 use Rattle.rh_shell.specs.Waiting.{Waiting, own, takes, taken, forwarded}
 use Rattle.rh_server.specs.declared.state.Stage.{Stage}
@@ -46,38 +47,54 @@ use Rattle.rh_server.specs.declared.state.Leaving.{Leaving}
 use Rattle.rh_server.specs.declared.state.Tells.{Tells}
 use Rattle.rh_server.specs.Servers.{acts, first, pdu, packet, packet_by, on_is, on_os}
 use Rattle.rh_server.specs.Servers.{rules as server_rules}
-use Rattle.rh_acks.specs.Acks.{HasCome, IsPassedOn, PassesOn}
-use Rattle.rh_acks.proofs.Logs.{RowKeeps, PutKeeps, StepsKeep, ActsKeep, end_moves_keep}
-use Rattle.rh_acks.proofs.Waiting.{EachIs, comes_last, others_are, found_is}
-use Rattle.rh_acks.proofs.Passing.{Passes, starts, came_one, put_one, now_wait}
+use Rattle.rh_passages.specs.Passing.{HasOn}
+use Rattle.rh_passages.proofs.Logs.{RowKeeps, PutKeeps, StepsKeep, ActsKeep, end_moves_keep}
+use Rattle.rh_acks.specs.Acks.{IsPassedOn, PassesOn}
+use Rattle.rh_acks.proofs.Waiting.{EachIs, Joins, forwarded_joins, others_are, found_is}
+use Rattle.rh_acks.proofs.Sources.{has_on_last, passed_stays}
+use Rattle.rh_acks.proofs.Passing.{Of, each_stays, put_one}
 use Rattle.rh_acks.proofs.Passing as passing
 
 abbrev waiting : Server → Waiting
 waiting s = s.waiting
 
+of_server : (leg : Leg) → leg.kind ≡ InServer → is_of InServer leg ≡ true
+of_server leg is = ap (λ (kind : LegKind). kind_number InServer == kind_number kind) is
+
 module _ (to : ℕ) where
+  abbrev Is : Of Named
+  Is = IsPassedOn InServer to
+
+  abbrev Sound : Of Waiting
+  Sound came w = EachIs (Is came) w.due
+
   abbrev Holds : Server → List OnLeg → List OnLeg → Type 0
-  Holds = passing.Holds to waiting
+  Holds = passing.Holds waiting Is Sound
 
   abbrev Same : Server → Server → Type 0
-  Same = passing.Same to waiting
+  Same = passing.Same waiting Is Sound
 
   -- what waits more is no acknowledgement
   abbrev Keeps : Server → Server → Type 0
-  Keeps s t =
-      (came : List OnLeg) → EachIs (IsPassedOn to came) s.waiting.due
-      → EachIs (IsPassedOn to came) t.waiting.due
+  Keeps = passing.Keeps waiting Is Sound
 
   keeps_same : (s t : Server) → Same s t → Keeps s t
-  keeps_same s t same came h =
-      subst (λ (w : Waiting). EachIs (IsPassedOn to came) w.due) (sym same) h
+  keeps_same = passing.keeps_same waiting Is Sound
+
+  keeps_holds : (s t : Server) (came put : List OnLeg) → Keeps s t → Holds s came put
+      → Holds t came put
+  keeps_holds = passing.keeps_holds waiting Is Sound
+
+  sound_stays : (came : List OnLeg) (one : OnLeg) (w : Waiting) → Sound came w
+      → Sound (came ++ one ∷ []) w
+  sound_stays came one w h = each_stays Is (passed_stays InServer to) came one w.due h
 
   -- one more of its own
-  adds : (came : List OnLeg) (dues : List Due) (packet : Named) → IsPassedOn to came packet
-      → EachIs (IsPassedOn to came) dues
-      → EachIs (IsPassedOn to came) (dues ++ own packet ∷ [])
+  adds : (came : List OnLeg) (dues : List Due) (packet : Named) → Is came packet
+      → EachIs (Is came) dues
+      → EachIs (Is came) (dues ++ own packet ∷ [])
   adds came dues packet is h =
-      each_push (λ (due : Due). IsPassedOn to came due.packet) dues (own packet) h is
+      each_push (λ (due : Due). Is came due.packet) dues (own packet) h is
 
   keeps_if : (s : Server) (b : Bool) (x y : Done) → Keeps s x.0 → Keeps s y.0
       → Keeps s (if b then x else y).0
@@ -357,31 +374,30 @@ module _ (to : ℕ) where
     after = came ++ (leg, Packet m) ∷ []
 
     keep_row : (s : Server) → Holds s came put → (x : Done) → Keeps s x.0 → Row x
-    keep_row s h (t, Ok taken') keeps =
-        now_wait to s.waiting.due t.waiting.due after put (keeps after)
-        (came_one to s.waiting.due came put (leg, Packet m) h)
-    keep_row s h (t, Err why) keeps =
-        now_wait to s.waiting.due t.waiting.due came put (keeps came) h
+    keep_row s h =
+        passing.keep_row waiting Is Sound (passed_stays InServer to) sound_stays s (leg, Packet m)
+        came put h
 
-    follows : (s : Server) (n : ℕ) (r : Waiting × Bool)
-        → passing.Follows to waiting s r (forward_by s n r)
-    follows s n (w, true) = (refl, refl)
-    follows s n (w, false) = (λ e. refl, refl)
-
-    forward_row : (s : Server) → Holds s came put → (n : ℕ) (named : Named)
-        → IsPassedOn to after named → Row (forwards s n named)
+    forward_row : (s : Server) → Holds s came put → (n : ℕ) (named : Named) → Is after named
+        → Row (forwards s n named)
     forward_row s h n named is =
-        passing.forward_row to waiting s (leg, Packet m) came put h named is (forwards s n named)
-        (follows s n (forwarded s.waiting named))
+        by (forwarded s.waiting named) (forwarded_joins (Is after) s.waiting named)
+      where
+        k : Holds s after put
+        k = keep_row s h (took s) (λ log all. all)
+
+        by : (r : Waiting × Bool) → Joins (Is after) named s.waiting r → Row (forward_by s n r)
+        by (w, true) joins = (joins is k.0, k.1)
+        by (w, false) same = h
 
     writing_row : (s : Server) → Holds s came put → (named : Named)
-        → IsPassedOn to after named → Row (forwards_writing s named)
+        → Is after named → Row (forwards_writing s named)
     writing_row s h named is =
         by_test Row (is_full s && not (has (takes named) s.waiting))
         (refuse s (refused.Full (out_server s.writing))) (forwards s s.writing named)
         (λ t. h) (λ t. forward_row s h s.writing named is)
 
-    to_row : (s : Server) → Holds s came put → (named : Named) → IsPassedOn to after named
+    to_row : (s : Server) → Holds s came put → (named : Named) → Is after named
         → (o : Option ℕ) → Row (forwards_to s named o)
     to_row s h named is None = keep_row s h (took s) (λ log all. all)
     to_row s h named is (Some n) =
@@ -389,10 +405,10 @@ module _ (to : ℕ) where
         (λ t. writing_row s h named is) (λ t. forward_row s h n named is)
 
   ack_row : (s : Server) (leg : Leg) (count : Count) (destination received window : ℕ)
-      (cookie : Cookie) (came put : List OnLeg) → Holds s came put
+      (cookie : Cookie) (came put : List OnLeg) → leg.kind ≡ InServer → Holds s came put
       → Row leg (named.AckTo destination received window cookie) came put
       (on_ack_to s count destination received window cookie)
-  ack_row s leg count destination received window cookie came put h =
+  ack_row s leg count destination received window cookie came put on h =
       by_test (Row leg m came put) (is_first count) (unexpected s) other (λ t. h)
       (λ t. by_test (Row leg m came put) (destination == 0)
       (forwards_writing s (named.AckTo 0 received window cookie)) third
@@ -421,39 +437,39 @@ module _ (to : ℕ) where
           else third
 
       here : (n : ℕ) → destination ≡ n
-          → HasCome (named.AckTo n received window cookie) (came ++ (leg, Packet m) ∷ [])
+          → HasOn InServer (named.AckTo n received window cookie) (came ++ (leg, Packet m) ∷ [])
       here n is =
           subst (λ (k : ℕ).
-          HasCome (named.AckTo k received window cookie) (came ++ (leg, Packet m) ∷ [])) is
-          (comes_last m came leg)
+          HasOn InServer (named.AckTo k received window cookie) (came ++ (leg, Packet m) ∷ [])) is
+          (has_on_last InServer leg m came (of_server leg on))
 
   is_row : (s : Server) (leg : Leg) (n : ℕ) (count : Count) (m : Named) (came put : List OnLeg)
-      → Holds s came put → Row leg m came put (on_is s n count m)
+      → leg.kind ≡ InServer → Holds s came put → Row leg m came put (on_is s n count m)
   is_row s leg n count (named.ConnB2 v connection cookie window timeout group address padding)
-      came put h =
+      came put on h =
       keep_row leg (named.ConnB2 v connection cookie window timeout group address padding) came
       put s h (on_conn_b2 s n count connection cookie window timeout)
       (keeps_conn_b2 s n count connection cookie window timeout)
   is_row s leg n count (named.InR1A2 v connection predecessor successor window timeout) came put
-      h =
+      on h =
       keep_row leg (named.InR1A2 v connection predecessor successor window timeout) came put s h
       (on_in_r1_a2 s n count connection predecessor successor window timeout)
       (keeps_in_r1_a2 s n count connection predecessor successor window timeout)
-  is_row s leg n count (named.InR1A6 successor) came put h =
+  is_row s leg n count (named.InR1A6 successor) came put on h =
       keep_row leg (named.InR1A6 successor) came put s h (on_in_r1_a6 s n successor)
       (keeps_in_r1_a6 s n successor)
-  is_row s leg n count (named.InR2A2 successor) came put h =
+  is_row s leg n count (named.InR2A2 successor) came put on h =
       keep_row leg (named.InR2A2 successor) came put s h (on_in_r2_a2 s n count successor)
       (keeps_in_r2_a2 s n count successor)
-  is_row s leg n count (named.AckTo destination received window cookie) came put h =
-      ack_row s leg count destination received window cookie came put h
-  is_row s leg n count (named.OutR1A8 destination successor) came put h =
+  is_row s leg n count (named.AckTo destination received window cookie) came put on h =
+      ack_row s leg count destination received window cookie came put on h
+  is_row s leg n count (named.OutR1A8 destination successor) came put on h =
       keep_row leg (named.OutR1A8 destination successor) came put s h
       (on_out_r1_a8 s count destination successor) (keeps_out_r1_a8 s count destination successor)
-  is_row s leg n count named.EndA2 came put h =
+  is_row s leg n count named.EndA2 came put on h =
       keep_row leg named.EndA2 came put s h (on_end_a2 s n count)
       (keeps_same s (on_end_a2 s n count).0 (same_end_a2 s n count))
-  is_row s leg n count m came put h = h
+  is_row s leg n count m came put on h = h
 
   os_row : (s : Server) (leg : Leg) (n : ℕ) (count : Count) (m : Named) (came put : List OnLeg)
       → Holds s came put → Row leg m came put (on_os s n count m)
@@ -477,11 +493,12 @@ module _ (to : ℕ) where
   os_row s leg n count m came put h = h
 
   packet_row_by : (s : Server) (leg : Leg) (n : ℕ) (count : Count) (m : Named) (k : LegKind)
-      (came put : List OnLeg) → Holds s came put → Row leg m came put (packet_by s n count m k)
-  packet_row_by s leg n count m InServer came put h = is_row s leg n count m came put h
-  packet_row_by s leg n count m OutServer came put h = os_row s leg n count m came put h
-  packet_row_by s leg n count m ClientIn came put h = h
-  packet_row_by s leg n count m ClientOut came put h = h
+      (came put : List OnLeg) → leg.kind ≡ k → Holds s came put
+      → Row leg m came put (packet_by s n count m k)
+  packet_row_by s leg n count m InServer came put on h = is_row s leg n count m came put on h
+  packet_row_by s leg n count m OutServer came put on h = os_row s leg n count m came put h
+  packet_row_by s leg n count m ClientIn came put on h = h
+  packet_row_by s leg n count m ClientOut came put on h = h
 
   -- ---- what is put
 
@@ -490,10 +507,10 @@ module _ (to : ℕ) where
     Puts pick = PutKeeps Holds leg came put pick
 
     abbrev Quiet : Server → Pick → Type 0
-    Quiet = passing.Quiet to waiting came leg
+    Quiet = passing.Quiet waiting Is Sound came leg
 
     quiet_put : (s : Server) (pick : Pick) → Quiet s pick → Holds s came put → Puts pick
-    quiet_put = passing.quiet_put to waiting leg came put
+    quiet_put = passing.quiet_put waiting Is Sound leg came put
 
     or_put : (a b : Pick) → Puts a → Puts b → Puts (or_else a b)
     or_put None b h k = k
@@ -529,23 +546,22 @@ module _ (to : ℕ) where
     same_was_put s place m = search rules
 
     waiting_found : (s : Server) (place : ℕ) (w : Waiting) (o : Option Due)
-        → IfSome o (λ (due : Due). IsPassedOn to came due.packet) → Passes to w.due came put
+        → IfSome o (λ (due : Due). Is came due.packet) → Holds (record s { waiting = w }) came put
         → Puts (waiting_by s place (w, o))
     waiting_found s place w None is h = tt
     waiting_found s place w (Some due) is h =
         let t : Server = record s { waiting = w } in
         let u : Server = was_put t place due.packet in
-        put_one to u.waiting.due came put (leg, Packet due.packet) is
-        (passing.same_holds to waiting t u came put (same_was_put t place due.packet) h)
+        put_one waiting Is Sound u came put (leg, Packet due.packet) is
+        (keeps_holds t u came put (keeps_same t u (same_was_put t place due.packet)) h)
 
     waiting_put : (s : Server) (place : ℕ) (o : Option Gate) → Holds s came put
         → Puts (waiting_at s place o)
     waiting_put s place None h = tt
     waiting_put s place (Some gate) h =
         waiting_found s place (taken (lets gate) s.waiting).0 (taken (lets gate) s.waiting).1
-        (found_is (IsPassedOn to came) (lets gate) s.waiting.due h.waits)
-        (now_wait to s.waiting.due (taken (lets gate) s.waiting).0.due came put
-        (others_are (IsPassedOn to came) (lets gate) s.waiting.due) h)
+        (found_is (Is came) (lets gate) s.waiting.due h.0)
+        (others_are (Is came) (lets gate) s.waiting.due h.0, h.1)
 
     quiet_pdu : (s : Server) (place : ℕ) (o : Option ℕ) → Quiet s (pdu_by s place o)
     quiet_pdu s place o = search rules
@@ -564,8 +580,8 @@ module _ (to : ℕ) where
     settled_put : (pick : Pick) → Puts pick → Puts (settled_pick pick)
     settled_put None h = tt
     settled_put (Some pick) h =
-        now_wait to pick.0.waiting.due (settled pick.0).waiting.due came
-        (put ++ (leg, pick.1) ∷ []) (keeps_settled pick.0 came) h
+        keeps_holds pick.0 (settled pick.0) came (put ++ (leg, pick.1) ∷ [])
+        (keeps_settled pick.0) h
 
     out_put : (s : Server) (o : Option ℕ) → Holds s came put → Puts (put_out_at s o)
     out_put s None h = tt
@@ -584,11 +600,6 @@ module _ (to : ℕ) where
 
   -- ---- ends, breaks and calls
 
-  keeps_holds : (s t : Server) (came put : List OnLeg) → Keeps s t → Holds s came put
-      → Holds t came put
-  keeps_holds s t came put keeps h =
-      now_wait to s.waiting.due t.waiting.due came put (keeps came) h
-
   keeps_drawn : (s : Server) (n : ℕ) (k : LegKind) → Keeps s (drawn_by s n k)
   keeps_drawn s n InServer =
       keeps_test s (in_is_drawn (in_leg n s.ins)) (settled (without_in s n)) s
@@ -601,11 +612,11 @@ module _ (to : ℕ) where
   same_lost s n o = search rules
 
   keeps_dropped : (w : Waiting) (o : Option Cookie) (came : List OnLeg)
-      → EachIs (IsPassedOn to came) w.due
-      → EachIs (IsPassedOn to came) (without_ack_of w o).due
+      → EachIs (Is came) w.due
+      → EachIs (Is came) (without_ack_of w o).due
   keeps_dropped w None came h = h
   keeps_dropped w (Some cookie) came h =
-      others_are (IsPassedOn to came) (is_ack_of cookie) w.due h
+      others_are (Is came) (is_ack_of cookie) w.due h
 
   keeps_mark : (s : Server) (n : ℕ) (k : LegKind) → Keeps s (mark_by s n k)
   keeps_mark s n InServer came h =
@@ -639,12 +650,14 @@ module _ (to : ℕ) where
   keeps : StepsKeep server_rules Holds
   keeps = record {
     up = λ s leg cookie came put.
-        passing.same_holds to waiting s (up s leg cookie) came put (same_up s leg cookie);
+        keeps_holds s (up s leg cookie) came put
+        (keeps_same s (up s leg cookie) (same_up s leg cookie));
     head = λ s leg text came put h. h;
     pdu = λ s leg count bytes came put h.
-        passing.same_row to waiting s (leg, Pdu bytes) came put h (pdu s leg count bytes)
-        (same_pdu s leg count bytes);
-    packet = λ s leg count m. packet_row_by s leg leg.number count m leg.kind;
+        passing.same_row waiting Is Sound (passed_stays InServer to) sound_stays s
+        (leg, Pdu bytes) came put h (pdu s leg count bytes) (same_pdu s leg count bytes);
+    packet = λ s leg count m came put.
+        packet_row_by s leg leg.number count m leg.kind came put refl;
     put = λ s leg came put. puts_by leg came put s leg.number leg.kind;
     drawn = λ s leg came put.
         keeps_holds s (drawn s leg) came put (keeps_drawn s leg.number leg.kind);
@@ -656,7 +669,8 @@ module _ (to : ℕ) where
   calls : ActsKeep acts Holds
   calls = record {
     give = λ s bytes came put.
-        passing.same_holds to waiting s (give s bytes).0 came put (same_give s bytes);
+        keeps_holds s (give s bytes).0 came put
+        (keeps_same s (give s bytes).0 (same_give s bytes));
     take = λ s came put.
         keeps_holds s (take s) came put
         (keeps_moved s.line.has_next (record s { line = after_take s.line }));
@@ -665,8 +679,8 @@ module _ (to : ℕ) where
   }
 
 pub server_passes : (window : ℕ) (moves : List EndMove) (to : ℕ)
-    → PassesOn to
+    → PassesOn InServer to
     (all_end_moved server_rules acts (end_started (first window)) moves).passage
 server_passes window moves to =
     (end_moves_keep server_rules (Holds to) (keeps to) acts (calls to)
-    (end_started (first window)) moves (starts to)).puts
+    (end_started (first window)) moves (tt, tt)).1
