@@ -2,8 +2,10 @@ mod Legs
 mod Waiting
 mod Passing
 mod Sources
+mod Lists
 mod InProxyPasses
 mod OutProxyPasses
+mod ServerSounds
 mod ServerPasses
 mod InChannels
 mod InProxyTells

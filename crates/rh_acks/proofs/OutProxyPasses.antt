@@ -2,6 +2,7 @@
 use Rattle.std.proofs.Common.{◌≡◌, ℕ, ◌==◌, Bool, true, false, ◌&&◌, List, [], ◌∷◌, ◌++◌, Some, None, refl, sym, rules, subst}
 use Rattle.std.proofs.lemmas.Bool.{and_parts, eqb-true}
 use Rattle.std.specs.Prelude.{if◌then◌else◌}
+use Rattle.std.specs.List.{AllByRecursion}
 use Rattle.std.specs.declared.option.Option.{Option}
 use Rattle.rh_rts.specs.declared.command.Cookie.{Cookie}
 use Rattle.rh_sig.specs.declared.named.Named.{Named}
@@ -32,9 +33,10 @@ use Rattle.rh_outproxy.specs.Machine.{pdu, packet, on_co, on_os}
 use Rattle.rh_outproxy.specs.Machine.{rules as proxy_rules}
 use Rattle.rh_passages.specs.Passing.{HasOn}
 use Rattle.rh_passages.proofs.Logs.{RowKeeps, PutKeeps, StepsKeep, moves_keep}
-use Rattle.rh_acks.specs.Acks.{IsPassedOn, PassesOn}
+use Rattle.rh_acks.specs.Acks.{OfPacket}
+use Rattle.rh_acks.specs.Windows.{ByConnC1, ByInR1A3}
 use Rattle.rh_acks.proofs.Waiting.{EachIs, Joins, forwarded_joins}
-use Rattle.rh_acks.proofs.Sources.{has_on_last, passed_stays}
+use Rattle.rh_acks.proofs.Sources.{IsFrom, has_on_last, tells_on_last, from_stays}
 use Rattle.rh_acks.proofs.Passing.{Of, each_stays, put_one}
 use Rattle.rh_acks.proofs.Passing as passing
 
@@ -43,7 +45,7 @@ waiting s = s.waiting
 
 module _ (to : ℕ) where
   abbrev Is : Of Named
-  Is = IsPassedOn OutServer to
+  Is = IsFrom OutServer to 0
 
   abbrev Sound : Of waits.Waiting
   Sound came w = EachIs (Is came) w.due
@@ -56,7 +58,7 @@ module _ (to : ℕ) where
 
   sound_stays : (came : List OnLeg) (one : OnLeg) (w : waits.Waiting) → Sound came w
       → Sound (came ++ one ∷ []) w
-  sound_stays came one w h = each_stays Is (passed_stays OutServer to) came one w.due h
+  sound_stays came one w h = each_stays Is (from_stays OutServer to 0) came one w.due h
 
   same_holds : (s t : OutProxy) (came put : List OnLeg) → Same s t → Holds s came put
       → Holds t came put
@@ -104,7 +106,7 @@ module _ (to : ℕ) where
 
     same_row : (s : OutProxy) → Holds s came put → (x : Done) → Same s x.0 → Row x
     same_row s h =
-        passing.same_row waiting Is Sound (passed_stays OutServer to) sound_stays s (leg, Packet m)
+        passing.same_row waiting Is Sound (from_stays OutServer to 0) sound_stays s (leg, Packet m)
         came put h
 
     -- a packet is to be forwarded, or dropped
@@ -133,13 +135,14 @@ module _ (to : ℕ) where
         (λ t. h)
 
     c1_row : (s : OutProxy) → Holds s came put → (channel : Channel) (version size timeout : ℕ)
+        → Is after (named.ConnC2 version size timeout)
         → Row (conn_c1_by channel s version size timeout)
-    c1_row s h channels.Unknown version size timeout = h
-    c1_row s h (channels.New connection cookie) version size timeout =
+    c1_row s h channels.Unknown version size timeout is = h
+    c1_row s h (channels.New connection cookie) version size timeout is =
         forward_row (record s { channel = channels.Joined connection cookie }) h
-        (named.ConnC2 version size timeout) tt
-    c1_row s h (channels.Joined connection cookie) version size timeout = h
-    c1_row s h (channels.Successor connection predecessor cookie) version size timeout = h
+        (named.ConnC2 version size timeout) is
+    c1_row s h (channels.Joined connection cookie) version size timeout is = h
+    c1_row s h (channels.Successor connection predecessor cookie) version size timeout is = h
 
   ack_row : (s : OutProxy) (leg : Leg) (destination received available : ℕ) (channel : Cookie)
       (came put : List OnLeg) → is_of OutServer leg ≡ true → Holds s came put
@@ -169,11 +172,14 @@ module _ (to : ℕ) where
       → is_of OutServer leg ≡ true → Holds s came put → Row leg m came put (on_os s m)
   os_row s leg (named.ConnC1 version size timeout) came put on h =
       c1_row leg (named.ConnC1 version size timeout) came put s h s.channel version size timeout
+      (tells_on_last ByConnC1 OutServer size leg (named.ConnC1 version size timeout) came on refl)
   os_row s leg (named.AckTo destination received available channel) came put on h =
       ack_row s leg destination received available channel came put on h
   os_row s leg (named.InR1A3 destination version size timeout) came put on h =
       passed_row leg (named.InR1A3 destination version size timeout) came put s h destination
-      (named.InR1A4 0 version size timeout) (λ is. tt)
+      (named.InR1A4 0 version size timeout)
+      (λ is. tells_on_last ByInR1A3 OutServer size leg
+      (named.InR1A3 destination version size timeout) came on refl)
   os_row s leg (named.InR2A3 destination) came put on h =
       passed_row leg (named.InR2A3 destination) came put s h destination (named.InR2A4 0)
       (λ is. tt)
@@ -280,7 +286,7 @@ module _ (to : ℕ) where
     head = λ s leg text came put.
         same_holds s (head s leg text).0 came put (same_head s leg text);
     pdu = λ s leg count bytes came put h.
-        passing.same_row waiting Is Sound (passed_stays OutServer to) sound_stays s
+        passing.same_row waiting Is Sound (from_stays OutServer to 0) sound_stays s
         (leg, Pdu bytes) came put h (pdu s leg count bytes) (same_pdu s leg count bytes);
     packet = packet_row;
     put = λ s leg came put. puts leg came put s;
@@ -291,8 +297,12 @@ module _ (to : ℕ) where
     ping = λ s leg came put h. h;
   }
 
-pub out_proxy_passes : (config : OutProxyConfig) (moves : List Move) (to : ℕ)
-    → PassesOn OutServer to (all_moved proxy_rules (started (new_proxy config)) moves)
-out_proxy_passes config moves to =
+-- behind all moves
+pub out_proxy_from : (config : OutProxyConfig) (moves : List Move) (to : ℕ)
+    → AllByRecursion
+    (OfPacket (IsFrom OutServer to 0
+    (all_moved proxy_rules (started (new_proxy config)) moves).came))
+    (all_moved proxy_rules (started (new_proxy config)) moves).put
+out_proxy_from config moves to =
     (moves_keep proxy_rules (Holds to) (keeps to) (started (new_proxy config)) moves
     (tt, tt)).1
