@@ -7,5 +7,9 @@ mod InProxyPasses
 mod OutProxyPasses
 mod ServerSounds
 mod ServerPasses
+mod InAcks
 mod InChannels
+mod InRows
+mod InPuts
+mod InRefuses
 mod InProxyTells

@@ -30,6 +30,16 @@ each_stays Is stays came one dues h =
     each_so (λ (due : Due). Is came due.packet) (λ (due : Due). Is (came ++ one ∷ []) due.packet)
     (λ due. stays came one due.packet) dues h
 
+-- what is so of each packet of a log
+pub packets_so : (P Q : Named → Type 0) → ((named : Named) → P named → Q named)
+    → (log : List OnLeg) → AllByRecursion (OfPacket P) log → AllByRecursion (OfPacket Q) log
+packets_so P Q so log all = each_so (OfPacket P) (OfPacket Q) of_one log all
+  where
+    of_one : (one : OnLeg) → OfPacket P one → OfPacket Q one
+    of_one (leg, Text bytes) is = tt
+    of_one (leg, Pdu pdu) is = tt
+    of_one (leg, Packet named) is = so named is
+
 -- ---- a role
 
 -- what is seen of a state is sound, and each packet that was put is so
@@ -62,13 +72,8 @@ module _ {S V : Type 0} (seen : S → V) (Is : Of Named) (Sound : Of V) where
         → Holds s (came ++ one ∷ []) put
     came_one s one came put h = (
       sound_stays came one (seen s) h.0,
-      each_so (OfPacket (Is came)) (OfPacket (Is (came ++ one ∷ []))) more put h.1,
+      packets_so (Is came) (Is (came ++ one ∷ [])) (stays came one) put h.1,
     )
-      where
-        more : (m : OnLeg) → OfPacket (Is came) m → OfPacket (Is (came ++ one ∷ [])) m
-        more (leg, Text bytes) is = tt
-        more (leg, Pdu pdu) is = tt
-        more (leg, Packet named) is = stays came one named is
 
     pub keep_row : (s : S) (one : OnLeg) (came put : List OnLeg) → Holds s came put
         → (x : S × Row) → Keeps s x.0 → RowKeeps Holds one came put x

@@ -11,11 +11,11 @@ use Rattle.rh_shell.specs.Moves.{OnLeg}
 use Rattle.rh_shell.specs.Shells.{same_leg, is_of}
 use Rattle.rh_shell.specs.Wires.{of_leg}
 use Rattle.rh_passages.specs.Passing.{Has, HasOn, HasOne}
-use Rattle.rh_passages.proofs.Messages.{each_so, has_more, has_last, one_more_so, last_one_so}
+use Rattle.rh_passages.proofs.Messages.{has_more, has_last, one_more_so, last_one_so}
 use Rattle.rh_acks.specs.Acks.{IsPassedOn, OfPacket}
 use Rattle.rh_acks.specs.Windows.{Telling, Tells, TellsOn, EachTold, ByConnB2, ByConnC1, ByConnC2, ByInR1A2, ByInR1A3, ByInR1A4}
 use Rattle.rh_acks.proofs.Legs.{some_more, some_last}
-use Rattle.rh_acks.proofs.Passing.{Of, Stays}
+use Rattle.rh_acks.proofs.Passing.{Of, Stays, packets_so}
 
 -- the packet came, or one that told the same window; the window of one that tells its own is that
 abbrev pub IsFrom : LegKind → ℕ → ℕ → Of Named
@@ -76,17 +76,11 @@ pub all_passed : (kind : LegKind) (to own : ℕ) (came put : List OnLeg)
     → AllByRecursion (OfPacket (IsFrom kind to own came)) put
     → AllByRecursion (OfPacket (IsPassedOn kind to came)) put
 all_passed kind to own came put all =
-    each_so (OfPacket (IsFrom kind to own came)) (OfPacket (IsPassedOn kind to came)) in_one put all
+    packets_so (IsFrom kind to own came) (IsPassedOn kind to came) passed put all
   where
     passed : (named : Named) → IsFrom kind to own came named → IsPassedOn kind to came named
     passed (AckTo destination received available channel) is = is
     passed named is = tt
-
-    in_one : (one : OnLeg) → OfPacket (IsFrom kind to own came) one
-        → OfPacket (IsPassedOn kind to came) one
-    in_one (leg, Text bytes) is = tt
-    in_one (leg, Pdu pdu) is = tt
-    in_one (leg, Packet named) is = passed named is
 
 -- what is so of each packet of a log is so of one on a leg
 pub found_on : (Is Q : Named → Type 0) (R : Type 0) → ((named : Named) → Is named → Q named → R)
@@ -103,6 +97,18 @@ found_on Is Q R so leg ((other, m) ∷ log) all h =
     by true (Pdu pdu) is rest one = rest one
     by true (Packet named) is rest (inl here) = so named is here
     by true (Packet named) is rest (inr more) = rest more
+
+pub has_found : (Is : Named → Type 0) (named : Named) (leg : Leg) (log : List OnLeg)
+    → AllByRecursion (OfPacket Is) log → Has named (of_leg leg log) → Is named
+has_found Is named leg [] all h = absurd h
+has_found Is named leg ((other, m) ∷ log) all h =
+    by (same_leg other leg) (has_found Is named leg log all.1) h
+  where
+    by : (b : Bool) → (Has named (of_leg leg log) → Is named)
+        → Has named (if b then m ∷ of_leg leg log else of_leg leg log) → Is named
+    by false rest one = rest one
+    by true rest (inl e) = subst (λ (n : Message). OfPacket Is (other, n)) e all.0
+    by true rest (inr more) = rest more
 
 module _ (kind : LegKind) (to own : ℕ) (came put : List OnLeg)
     (all : AllByRecursion (OfPacket (IsFrom kind to own came)) put) where
