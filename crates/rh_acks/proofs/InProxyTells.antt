@@ -1,5 +1,5 @@
 -- an in proxy acknowledges what came from the client, and receives within its window
-use Rattle.std.proofs.Common.{◌≡◌, ℕ, true≢false, arith, refl, sym, List, []}
+use Rattle.std.proofs.Common.{ℕ, true≢false, arith, refl, sym, List, []}
 use Rattle.std.specs.List.{AllByRecursion}
 use Rattle.rh_window.specs.Sides.{IsWindow}
 use Rattle.rh_shell.specs.Moves.{Move, Passage, started, all_moved}
@@ -14,7 +14,8 @@ use Rattle.rh_acks.specs.Acks.{IsTrue}
 use Rattle.rh_acks.specs.Receiving.{ReceivesOn}
 use Rattle.rh_acks.proofs.InAcks.{all_true}
 use Rattle.rh_acks.proofs.InChannels.{WasTold}
-use Rattle.rh_acks.proofs.InRows.{Holds, same_holds, same_head, same_drawn, same_mark, same_ping, up_holds, pdu_row, packet_row}
+use Rattle.rh_acks.proofs.InPdus.{Holds, same_holds, same_head, same_drawn, same_mark, same_ping, up_holds, pdu_row}
+use Rattle.rh_acks.proofs.InRows.{packet_row}
 use Rattle.rh_acks.proofs.InPuts.{puts}
 use Rattle.rh_acks.proofs.InRefuses.{pdu_refuses, packet_refuses}
 

@@ -1,40 +1,26 @@
 -- what an in proxy puts, and the channels that it reads
-use Rattle.std.proofs.Common.{◌≡◌, ℕ, ◌+◌, ◌-◌, ◌≤◌, ◌==◌, Bool, true, false, true≢false, not, ◌&&◌, ◌||◌, List, [], ◌∷◌, ◌++◌, length, Some, None, Ok, Err, arith, refl, rules, sym, ap, ◌∙◌, subst}
-use Rattle.std.proofs.lemmas.Bool.{and_parts}
-use Rattle.std.proofs.lemmas.Bool.Decides.{nat_tests}
-use Rattle.std.specs.Prelude.{if◌then◌else◌, IfSome, nat_le}
-use Rattle.std.specs.List.{AllByRecursion}
+use Rattle.std.proofs.Common.{◌≡◌, ℕ, ◌+◌, ◌-◌, ◌≤◌, ◌==◌, Bool, true, false, true≢false, ◌||◌, List, [], ◌∷◌, ◌++◌, length, Some, None, arith, refl, rules, sym, ap, ◌∙◌, subst}
+use Rattle.std.specs.Prelude.{if◌then◌else◌, IfSome}
 use Rattle.std.specs.declared.option.Option.{Option}
-use Rattle.std.specs.declared.result.Result.{Result}
-use Rattle.rh_rts.specs.declared.command.Cookie.{Cookie}
-use Rattle.rh_sig.specs.declared.named.Named.{Named}
-use Rattle.rh_sig.specs.declared.named.Named.TheVariants.{ConnB1, InR1A1, InR1A5, InR2A2, AckTo, OutR1A7, OutR1A8, KeepAlive, EndA1}
+use Rattle.rh_sig.specs.declared.named.Named.TheVariants.{InR2A2, AckTo}
 use Rattle.rh_window.specs.Sides.{IsWindow}
 use Rattle.rh_window.specs.Receiving as windows
 use Rattle.rh_window.specs.Sending.{may_send}
 use Rattle.rh_window.specs.declared.recv_window.Ack.{Ack}
 use Rattle.rh_line.specs.Lines as line
 use Rattle.rh_line.specs.Lines.{Line, Incoming}
-use Rattle.rh_line.specs.declared.line_fault.LineFault.{LineFault}
-use Rattle.rh_line.specs.declared.line_fault.LineFault.TheVariants.{Window, Over}
 use Rattle.rh_line.specs.declared.leg.Leg.{Leg}
 use Rattle.rh_line.specs.declared.which.Which.{Which}
 use Rattle.rh_line.specs.declared.which.Which.TheVariants.{Current, Next}
-use Rattle.rh_line.proofs.Queues.{each_push}
 use Rattle.rh_order.proofs.ByNumber.{by_test}
-use Rattle.rh_shell.specs.declared.answers.Count.{Count}
-use Rattle.rh_shell.specs.declared.answers.Refused.TheVariants as refused
 use Rattle.rh_shell.specs.declared.due.Due.{Due}
 use Rattle.rh_shell.specs.Rules.{Message, Pdu, Packet}
-use Rattle.rh_shell.specs.Shells.{same_leg}
-use Rattle.rh_shell.specs.Moves.{OnLeg, Move, started, all_moved}
+use Rattle.rh_shell.specs.Moves.{OnLeg}
 use Rattle.rh_shell.specs.Waiting as waits
 use Rattle.rh_shell.specs.Wires.{of_leg}
-use Rattle.rh_inproxy.specs.declared.opening.TheConstants.{GREATEST_LENGTHS, KEEPALIVE}
 use Rattle.rh_inproxy.specs.declared.state.ClientLeg.{ClientLeg}
 use Rattle.rh_inproxy.specs.declared.state.Entry.{Entry}
 use Rattle.rh_inproxy.specs.declared.state.Entry.TheVariants.{Connects, Replaces}
-use Rattle.rh_inproxy.specs.declared.state.InProxyConfig.{InProxyConfig}
 use Rattle.rh_inproxy.specs.declared.state.Joining.{Joining}
 use Rattle.rh_inproxy.specs.declared.state.Joining.TheVariants.{TellsServer, Told, Follows}
 use Rattle.rh_inproxy.specs.declared.state.Opener.{Opener}
@@ -43,30 +29,27 @@ use Rattle.rh_inproxy.specs.declared.state.Opening.TheVariants as openings
 use Rattle.rh_inproxy.specs.declared.state.Successor.{Successor}
 use Rattle.rh_inproxy.specs.declared.state.Successor.TheVariants.{Absent, Up, Joined}
 use Rattle.rh_inproxy.specs.declared.state.Work.{Work}
-use Rattle.rh_inproxy.specs.Answers.{Done, Pick, or_else, taken, refuse, unexpected}
-use Rattle.rh_inproxy.specs.State.{InProxy, first, channel_of, next_of, has_opened, has_come, has_a5, is_joined, same_cookie, is_client_leg, is_server_leg}
-use Rattle.rh_inproxy.specs.Opening.{up, accepts, accepts_later, accepted, connected, wants, may_accept, head, drawn, announcement, first_by, put_first, echo_by, put_echo, is_absent, is_first, awaits_packet, opener_of, opener, opened, kept_for, on_conn_b1, on_first_in_r1_a1}
-use Rattle.rh_inproxy.specs.Acknowledging.{forward_by, forwarded, ack_due, ack_by, current_ack, next_ack, put_acks}
-use Rattle.rh_inproxy.specs.Ending.{has_later, is_newest, mark, on_end_a1, put_end, settled, settled_pick}
-use Rattle.rh_inproxy.specs.InReplacement.{is_newcomer, joined, join, on_later_in_r1_a1, on_in_r1_a1, on_in_r1_a5, finished, finish_by, hand_over, told_by, put_in_r2_a2, one_less, put_in_r1_a6}
-use Rattle.rh_inproxy.specs.Passing.{on_pdu, pdu_by, passed, next_pdu, put_pdu}
+use Rattle.rh_inproxy.specs.Answers.{Pick, or_else}
+use Rattle.rh_inproxy.specs.State.{InProxy, has_opened, has_a5, is_joined, is_client_leg, is_server_leg}
+use Rattle.rh_inproxy.specs.Opening.{announcement, first_by, put_first, echo_by, put_echo}
+use Rattle.rh_inproxy.specs.Acknowledging.{ack_due, ack_by, current_ack, next_ack, put_acks}
+use Rattle.rh_inproxy.specs.Ending.{put_end, settled, settled_pick}
+use Rattle.rh_inproxy.specs.InReplacement.{told_by, put_in_r2_a2, one_less, put_in_r1_a6}
+use Rattle.rh_inproxy.specs.Passing.{passed, next_pdu, put_pdu}
 use Rattle.rh_inproxy.specs.Putting.{put as put_of, next, waiting_by, put_waiting, put_control, put_early, put_stream, put_behind, put_mark}
-use Rattle.rh_inproxy.specs.Time.{on_keep_alive, ping, put_ping}
-use Rattle.rh_inproxy.specs.Machine as machine
-use Rattle.rh_inproxy.specs.Machine.{pdu, packet, on_channel, on_channel_by, on_ci, on_is}
-use Rattle.rh_inproxy.specs.Machine.{rules as proxy_rules}
-use Rattle.rh_passages.specs.Passing.{HasBegunIn}
+use Rattle.rh_inproxy.specs.Time.{put_ping}
+use Rattle.rh_inproxy.specs.Machine.{pdu}
 use Rattle.rh_passages.proofs.Logs.{PutKeeps}
 use Rattle.rh_acks.specs.Acks.{ci_leg as ci, OfPacket}
 use Rattle.rh_acks.proofs.Waiting.{EachIs}
 use Rattle.rh_acks.proofs.InAcks.{IsNextNumber, IsTold, now_told, IsAck, AreAcks, IsOther, other_ack}
-use Rattle.rh_acks.proofs.InChannels.{Counts, told_counts, IsDue, due_is, IsBehind, WasTold, Channels, channels_put, opened_held, first_due, current_due, moved_begun, taken_channels}
-use Rattle.rh_acks.proofs.InRows.{seen, Same, same_settled, same_holds, opened_by, acks_rise}
-use Rattle.rh_acks.proofs.InRows as rows
+use Rattle.rh_acks.proofs.InChannels.{told_counts, IsDue, due_is, IsBehind, WasTold, Channels, channels_put, opened_held, first_due, current_due, moved_begun, taken_channels}
+use Rattle.rh_acks.proofs.InPdus.{seen, Same, same_settled, same_holds, opened_by, acks_rise}
+use Rattle.rh_acks.proofs.InPdus as pdus
 
 module _ (window : ℕ) (is : IsWindow window) where
   abbrev Holds : InProxy → List OnLeg → List OnLeg → Type 0
-  Holds = rows.Holds window
+  Holds = pdus.Holds window
 
   module _ (leg : Leg) (came put : List OnLeg) where
     abbrev Puts : Pick → Type 0

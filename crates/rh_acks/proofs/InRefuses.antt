@@ -1,6 +1,6 @@
 -- an in proxy refuses a PDU of the client for its window only where that ends behind all that it
 -- told
-use Rattle.std.proofs.Common.{◌≡◌, ℕ, ◌+◌, ◌<◌, ◌≤◌, ◌==◌, Bool, true, false, ◌&&◌, ◌||◌, List, [], ◌∷◌, length, Some, None, Ok, Err, arith, refl, rules, sym, subst}
+use Rattle.std.proofs.Common.{◌≡◌, ℕ, ◌+◌, ◌<◌, ◌≤◌, ◌==◌, Bool, true, false, ◌&&◌, ◌||◌, List, length, Some, None, Ok, Err, arith, refl, rules, sym, subst}
 use Rattle.std.proofs.lemmas.Bool.{and_parts, eqb-true}
 use Rattle.std.proofs.lemmas.Bool.Decides.{nat_tests}
 use Rattle.std.specs.Prelude.{if◌then◌else◌, nat_le}
@@ -32,9 +32,9 @@ use Rattle.rh_passages.specs.Passing.{pdu_bytes}
 use Rattle.rh_acks.specs.Acks.{ci_leg as ci}
 use Rattle.rh_acks.specs.Receiving.{EndsBehind, RefusesOnly}
 use Rattle.rh_acks.proofs.Sources.{has_found}
-use Rattle.rh_acks.proofs.InAcks.{IsTold, told_now, IsAck, AreAcks}
+use Rattle.rh_acks.proofs.InAcks.{told_now, IsAck, AreAcks}
 use Rattle.rh_acks.proofs.InChannels.{Counts, IsBehind, WasTold}
-use Rattle.rh_acks.proofs.InRows as rows
+use Rattle.rh_acks.proofs.InPdus.{Holds}
 
 -- ---- packets
 
@@ -104,7 +104,7 @@ ends_behind window n c came put All len counts within acks over =
           omega (arith, below, received, over);
     }
 
-module _ (window : ℕ) (s : InProxy) (came put : List OnLeg) (h : rows.Holds window s came put)
+module _ (window : ℕ) (s : InProxy) (came put : List OnLeg) (h : Holds window s came put)
   where
     abbrev Behind : ℕ → ℕ → Type 0
     Behind n len = EndsBehind window n came put (pdu_bytes (of_leg (ci n) came) + len)

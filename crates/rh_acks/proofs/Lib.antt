@@ -9,6 +9,7 @@ mod ServerSounds
 mod ServerPasses
 mod InAcks
 mod InChannels
+mod InPdus
 mod InRows
 mod InPuts
 mod InRefuses

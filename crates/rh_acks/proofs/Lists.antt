@@ -1,5 +1,5 @@
 -- what holds of all of a list holds of one that is found, and of all behind a change
-use Rattle.std.proofs.Common.{ℕ, zero, suc, List, [], ◌∷◌, Some}
+use Rattle.std.proofs.Common.{ℕ, zero, suc, List, [], ◌∷◌}
 use Rattle.std.specs.Prelude.{slice_get, slice_set, remove, IfSome}
 use Rattle.std.specs.List.{AllByRecursion}
 

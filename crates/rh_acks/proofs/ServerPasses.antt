@@ -1,10 +1,9 @@
 -- a server passes on the acknowledgements of in proxies and of the client
-use Rattle.std.proofs.Common.{◌≡◌, ℕ, ◌+◌, ◌==◌, Bool, true, false, not, ◌&&◌, ◌||◌, List, [], ◌∷◌, ◌++◌, Some, None, Ok, Err, refl, rules, ap, subst}
+use Rattle.std.proofs.Common.{◌≡◌, ℕ, ◌==◌, Bool, true, false, not, ◌&&◌, List, [], ◌∷◌, ◌++◌, Some, None, refl, rules, ap, subst}
 use Rattle.std.proofs.lemmas.Bool.{eqb-true}
-use Rattle.std.specs.Prelude.{if◌then◌else◌, IfSome, slice_get, nat_lt}
+use Rattle.std.specs.Prelude.{if◌then◌else◌, IfSome, slice_get}
 use Rattle.std.specs.List.{AllByRecursion}
 use Rattle.std.specs.declared.option.Option.{Option}
-use Rattle.std.specs.declared.result.Result.{Result}
 use Rattle.rh_rts.specs.declared.command.Cookie.{Cookie}
 use Rattle.rh_sig.specs.declared.named.Named.{Named}
 use Rattle.rh_sig.specs.declared.named.Named.TheVariants as named
@@ -12,51 +11,43 @@ use Rattle.rh_window.specs.declared.recv_window.Ack.{Ack}
 use Rattle.rh_line.specs.declared.leg.Leg.{Leg}
 use Rattle.rh_line.specs.declared.leg.LegKind.{LegKind}
 use Rattle.rh_line.specs.declared.leg.LegKind.TheVariants.{ClientOut, OutServer, ClientIn, InServer}
-use Rattle.rh_line.specs.declared.which.Which.{Which}
 use Rattle.rh_line.specs.Queue.{front_length}
-use Rattle.rh_line.specs.Lines.{after_finish, after_take}
-use Rattle.rh_line.proofs.Queues.{each_push}
+use Rattle.rh_line.specs.Lines.{after_take}
 use Rattle.rh_order.proofs.ByNumber.{by_test}
 use Rattle.rh_shell.specs.declared.answers.Count.{Count}
 use Rattle.rh_shell.specs.declared.answers.Refused.TheVariants as refused
 use Rattle.rh_shell.specs.declared.due.Due.{Due}
-use Rattle.rh_shell.specs.declared.end_role.RecycleRefused.{RecycleRefused}
-use Rattle.rh_shell.specs.declared.end_role.RecycleRefused.TheVariants.{Busy, Last}
 use Rattle.rh_shell.specs.Hearing.{greeting as greeting_text}
 use Rattle.rh_shell.specs.Rules.{Message, Text, Pdu, Packet}
 use Rattle.rh_shell.specs.Shells.{kind_number, is_of}
 use Rattle.rh_shell.specs.Moves.{OnLeg, EndMove, end_started, all_end_moved}
-use Rattle.rh_shell.specs.Waiting.{Waiting, own, takes, taken, forwarded}
+use Rattle.rh_shell.specs.Waiting.{Waiting, takes, taken, forwarded}
 use Rattle.rh_server.specs.declared.state.Stage.{Stage}
 use Rattle.rh_server.specs.declared.state.Stage.TheVariants as stage
-use Rattle.rh_server.specs.declared.state.Edge.TheVariants.{Shut}
-use Rattle.rh_server.specs.declared.state.InStage.{InStage}
 use Rattle.rh_server.specs.declared.state.InStage.TheVariants as in_stage
 use Rattle.rh_server.specs.declared.state.InLeg.{InLeg}
 use Rattle.rh_server.specs.declared.state.OutLeg.{OutLeg}
-use Rattle.rh_server.specs.declared.state.Replacement.{Replacement}
-use Rattle.rh_server.specs.declared.state.Replacement.TheVariants.{Steady, Asked, Answered, Confirmed}
 use Rattle.rh_server.specs.declared.out_line.Kind.TheVariants as kind
-use Rattle.rh_server.specs.OutLines.{Gate, lets, has, waits, is_ack_of}
-use Rattle.rh_server.specs.States.{Server, is_due, is_shut, is_open, is_fresh, same_cookie, in_leg, out_at, out_place, out_cookie, with_in, without_in, without_out}
-use Rattle.rh_server.specs.Opening.{Done, took, refuse, unexpected, is_first, up, opens, with_first_out, conn_a2_at, on_conn_a2, with_first_in, conn_b2_at, on_conn_b2}
-use Rattle.rh_server.specs.Acknowledging.{channel_at, forward_by, forwards, forwards_writing, forwards_to, channel_leg, is_full, out_server, on_ack_to, on_ack, on_ping_traffic}
-use Rattle.rh_server.specs.InReplacement.{opens_next, opens_leg, first_waiting, next_opened, becomes_current, moved_if, take, announced, in_r1_a2_by, in_r1_a2_at, on_in_r1_a2, has_fresh_below, leaves, hands_over, on_in_r1_a6, in_r2_a2_on, on_in_r2_a2}
-use Rattle.rh_server.specs.OutReplacement.{asks, recycle, is_under_way, last_number, wishes, wished, answered_by, answered_on, out_r1_a4_by, out_r1_a4_at, may_answer, on_out_r1_a4, confirms, out_r1_a8_at, on_out_r1_a8}
-use Rattle.rh_server.specs.Ending.{give, on_end_a2, is_complete, completed, settled, drawn, drawn_by, in_is_drawn, mark, mark_by, lost_in, without_ack_of, with_ack_dropped}
+use Rattle.rh_server.specs.OutLines.{Gate, lets, has, waits}
+use Rattle.rh_server.specs.States.{Server, is_due, is_open, is_fresh, same_cookie, in_leg, out_place, with_in}
+use Rattle.rh_server.specs.Opening.{Done, took, refuse, unexpected, is_first, up, opens, on_conn_a2, with_first_in, conn_b2_at, on_conn_b2}
+use Rattle.rh_server.specs.Acknowledging.{forward_by, forwards, forwards_writing, forwards_to, channel_leg, is_full, out_server, on_ack_to, on_ack, on_ping_traffic}
+use Rattle.rh_server.specs.InReplacement.{take, announced, in_r1_a2_by, in_r1_a2_at, on_in_r1_a2, has_fresh_below, on_in_r1_a6, on_in_r2_a2}
+use Rattle.rh_server.specs.OutReplacement.{recycle, on_out_r1_a4, on_out_r1_a8}
+use Rattle.rh_server.specs.Ending.{give, on_end_a2, settled, drawn, mark}
 use Rattle.rh_server.specs.Putting.{Pick, or_else, told_by, was_current, put_in_greeting, put_tells_by, put_tells, put_b1_by, put_b1, put_ack_by, put_ack, ack_due, put_in_by, out_greeting_at, put_out_greeting, was_put, waiting_by, waiting_at, put_waiting, gate_at, pdu_by, put_pdu, put_end, put_pdu_or_end, next_out, settled_pick, put_open, put_out_at, put_by}
 use Rattle.rh_server.specs.declared.state.Greeting.TheVariants.{Put}
 use Rattle.rh_server.specs.declared.state.Leaving.{Leaving}
 use Rattle.rh_server.specs.declared.state.Leaving.TheVariants as leaving
 use Rattle.rh_server.specs.declared.state.Tells.{Tells}
 use Rattle.rh_server.specs.declared.state.Tells.TheVariants as tells
-use Rattle.rh_server.specs.Servers.{acts, first, pdu, packet, packet_by, on_is, on_os}
+use Rattle.rh_server.specs.Servers.{acts, first, pdu, packet_by, on_is, on_os}
 use Rattle.rh_server.specs.Servers.{rules as server_rules}
 use Rattle.rh_passages.specs.Passing.{HasOn}
 use Rattle.rh_passages.proofs.Logs.{RowKeeps, PutKeeps, StepsKeep, ActsKeep, end_moves_keep}
 use Rattle.rh_acks.specs.Acks.{OfPacket}
 use Rattle.rh_acks.specs.Windows.{TellsOn, ByConnB2, ByInR1A2}
-use Rattle.rh_acks.proofs.Waiting.{EachIs, Joins, forwarded_joins, others_are, found_is}
+use Rattle.rh_acks.proofs.Waiting.{Joins, forwarded_joins, others_are, found_is}
 use Rattle.rh_acks.proofs.Sources.{IsFrom, has_on_last, tells_on_last, from_stays}
 use Rattle.rh_acks.proofs.Passing as passing
 use Rattle.rh_acks.proofs.ServerSounds.{Seen, seen, OfStage, OfLeg, found}

@@ -1,21 +1,18 @@
 -- what a server keeps of acknowledgements and windows came to it
-use Rattle.std.proofs.Common.{◌≡◌, ℕ, ◌+◌, ◌==◌, Bool, true, false, not, ◌&&◌, ◌||◌, List, [], ◌∷◌, ◌++◌, Some, None, Ok, Err, refl, rules, ap, subst}
-use Rattle.std.proofs.lemmas.Bool.{eqb-true}
-use Rattle.std.specs.Prelude.{if◌then◌else◌, IfSome, slice_get, nat_lt}
+use Rattle.std.proofs.Common.{ℕ, ◌+◌, ◌==◌, Bool, true, not, ◌&&◌, ◌||◌, List, [], ◌∷◌, ◌++◌, Some, None, Ok, Err, rules}
+use Rattle.std.specs.Prelude.{if◌then◌else◌, IfSome, nat_lt}
 use Rattle.std.specs.List.{AllByRecursion}
 use Rattle.std.specs.declared.option.Option.{Option}
 use Rattle.std.specs.declared.result.Result.{Result}
 use Rattle.rh_rts.specs.declared.command.Cookie.{Cookie}
 use Rattle.rh_sig.specs.declared.named.Named.{Named}
 use Rattle.rh_sig.specs.declared.named.Named.TheVariants as named
-use Rattle.rh_window.specs.declared.recv_window.Ack.{Ack}
 use Rattle.rh_line.specs.declared.leg.Leg.{Leg}
 use Rattle.rh_line.specs.declared.leg.LegKind.{LegKind}
 use Rattle.rh_line.specs.declared.leg.LegKind.TheVariants.{ClientOut, OutServer, ClientIn, InServer}
 use Rattle.rh_line.specs.declared.which.Which.{Which}
 use Rattle.rh_line.specs.declared.which.Which.TheVariants.{Current, Next}
-use Rattle.rh_line.specs.Queue.{front_length}
-use Rattle.rh_line.specs.Lines.{after_end, after_finish, after_take}
+use Rattle.rh_line.specs.Lines.{after_end, after_finish}
 use Rattle.rh_line.proofs.Queues.{each_push}
 use Rattle.rh_order.proofs.ByNumber.{by_test}
 use Rattle.rh_shell.specs.declared.answers.Count.{Count}
@@ -23,10 +20,8 @@ use Rattle.rh_shell.specs.declared.answers.Refused.TheVariants as refused
 use Rattle.rh_shell.specs.declared.due.Due.{Due}
 use Rattle.rh_shell.specs.declared.end_role.RecycleRefused.{RecycleRefused}
 use Rattle.rh_shell.specs.declared.end_role.RecycleRefused.TheVariants.{Busy, Last}
-use Rattle.rh_shell.specs.Rules.{Pdu, Packet}
-use Rattle.rh_shell.specs.Shells.{kind_number, is_of}
-use Rattle.rh_shell.specs.Moves.{OnLeg, EndMove, end_started, all_end_moved}
-use Rattle.rh_shell.specs.Waiting.{Waiting, own, added, takes, taken, forwarded}
+use Rattle.rh_shell.specs.Moves.{OnLeg}
+use Rattle.rh_shell.specs.Waiting.{Waiting, own, added}
 use Rattle.rh_server.specs.declared.state.Stage.{Stage}
 use Rattle.rh_server.specs.declared.state.Stage.TheVariants as stage
 use Rattle.rh_server.specs.declared.state.Edge.TheVariants.{Shut}
@@ -37,13 +32,13 @@ use Rattle.rh_server.specs.declared.state.OutLeg.{OutLeg}
 use Rattle.rh_server.specs.declared.state.Replacement.{Replacement}
 use Rattle.rh_server.specs.declared.state.Replacement.TheVariants.{Steady, Asked, Answered, Confirmed}
 use Rattle.rh_server.specs.declared.out_line.Kind.TheVariants as kind
-use Rattle.rh_server.specs.OutLines.{Gate, lets, has, waits, is_ack_of}
-use Rattle.rh_server.specs.States.{Server, is_open, is_fresh, is_waiting, stays, in_at, in_place, set_at, removed_at, same_cookie, in_leg, out_at, out_place, out_cookie, with_in, without_in, without_out}
-use Rattle.rh_server.specs.Opening.{Done, took, refuse, unexpected, is_first, may_up, up, up_by, in_leg_up, first_in, opens, with_first_out, conn_a2_at, on_conn_a2, with_first_in, conn_b2_at, on_conn_b2}
-use Rattle.rh_server.specs.Acknowledging.{channel_at, forward_by, forwards, forwards_writing, forwards_to, channel_leg, is_full, out_server, on_ack_to, on_ack, on_ping_traffic}
-use Rattle.rh_server.specs.InReplacement.{opens_next, opens_leg, first_waiting, waiting_place, next_opened, becomes_current, moved_if, take, announced, in_r1_a2_by, in_r1_a2_at, on_in_r1_a2, has_fresh_below, leaves_by, leaves, hands_over, on_in_r1_a6, in_r2_a2_on, on_in_r2_a2}
+use Rattle.rh_server.specs.OutLines.{waits, is_ack_of}
+use Rattle.rh_server.specs.States.{Server, is_open, is_waiting, stays, in_at, in_place, set_at, removed_at, same_cookie, in_leg, out_at, out_place, out_cookie, with_in, without_in, without_out}
+use Rattle.rh_server.specs.Opening.{Done, took, refuse, unexpected, is_first, may_up, up, up_by, in_leg_up, first_in, opens, with_first_out, conn_a2_at, on_conn_a2, with_first_in}
+use Rattle.rh_server.specs.Acknowledging.{channel_at, out_server}
+use Rattle.rh_server.specs.InReplacement.{opens_next, opens_leg, first_waiting, waiting_place, next_opened, becomes_current, moved_if, leaves_by, leaves, hands_over, on_in_r1_a6, in_r2_a2_on, on_in_r2_a2}
 use Rattle.rh_server.specs.OutReplacement.{asks, recycle, is_under_way, last_number, wishes, wished, answered_by, answered_on, out_r1_a4_by, out_r1_a4_at, may_answer, on_out_r1_a4, confirms, out_r1_a8_at, on_out_r1_a8}
-use Rattle.rh_server.specs.Ending.{give, is_over_on, end_a2_on_leg, end_a2_waiting, end_a2_at, on_end_a2, is_complete, completed, settled, drawn, drawn_by, in_is_drawn, mark, mark_by, lost_in, without_ack_of, with_ack_dropped}
+use Rattle.rh_server.specs.Ending.{is_over_on, end_a2_on_leg, end_a2_waiting, end_a2_at, on_end_a2, is_complete, completed, settled, drawn_by, in_is_drawn, mark_by, lost_in, without_ack_of, with_ack_dropped}
 use Rattle.rh_server.specs.declared.state.Tells.TheVariants as tells
 use Rattle.rh_server.specs.declared.state.Leaving.TheVariants as leaving
 use Rattle.rh_passages.proofs.Messages.{each_so}

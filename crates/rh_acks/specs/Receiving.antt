@@ -12,7 +12,8 @@ use Rattle.rh_shell.specs.Wires.{of_leg}
 use Rattle.rh_passages.specs.Passing.{pdu_bytes, HasOn, HasBegunIn}
 use Rattle.rh_acks.specs.Acks.{ci_leg}
 
--- a channel of this cookie began on no other leg of the client
+-- a channel of this cookie began on no other leg of the client; one that has it on two legs can't
+-- tell for which of them it is told something
 abbrev pub IsOnlyOn : ℕ → Cookie → List OnLeg → Type 0
 IsOnlyOn n cookie came = (m : ℕ) → HasBegunIn cookie (of_leg (ci_leg m) came) → m ≡ n
 
