@@ -31,7 +31,7 @@ use Rattle.rh_inproxy.specs.State.{InProxy, channel_of, next_of, has_opened, has
 use Rattle.rh_passages.specs.Passing.{pdu_bytes}
 use Rattle.rh_acks.specs.Acks.{ci_leg as ci}
 use Rattle.rh_acks.specs.Receiving.{EndsBehind, RefusesOnly}
-use Rattle.rh_acks.proofs.Sources.{has_found}
+use Rattle.rh_acks.proofs.Found.{has_found}
 use Rattle.rh_acks.proofs.InAcks.{told_now, IsAck, AreAcks}
 use Rattle.rh_acks.proofs.InChannels.{Counts, IsBehind, WasTold}
 use Rattle.rh_acks.proofs.InPdus.{Holds}

@@ -1,6 +1,7 @@
 mod Legs
 mod Waiting
 mod Passing
+pub mod Found
 mod Sources
 mod Lists
 mod InProxyPasses

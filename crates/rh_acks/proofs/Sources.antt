@@ -1,19 +1,18 @@
 -- what a packet has from one that came, and more that comes
-use Rattle.std.proofs.Common.{◌≡◌, ℕ, Bool, true, false, List, [], ◌∷◌, ◌++◌, inl, inr, sym, ◌∙◌, subst}
-use Rattle.std.specs.Prelude.{if◌then◌else◌}
+use Rattle.std.proofs.Common.{◌≡◌, ℕ, true, List, [], ◌∷◌, ◌++◌, sym, ◌∙◌, subst}
 use Rattle.std.specs.List.{AllByRecursion}
 use Rattle.rh_sig.specs.declared.named.Named.{Named}
 use Rattle.rh_sig.specs.declared.named.Named.TheVariants.{AckTo, ConnB2, ConnC1, ConnC2, InR1A2, InR1A3, InR1A4}
 use Rattle.rh_line.specs.declared.leg.Leg.{Leg}
 use Rattle.rh_line.specs.declared.leg.LegKind.{LegKind}
-use Rattle.rh_shell.specs.Rules.{Message, Text, Pdu, Packet}
+use Rattle.rh_shell.specs.Rules.{Packet}
 use Rattle.rh_shell.specs.Moves.{OnLeg}
-use Rattle.rh_shell.specs.Shells.{same_leg, is_of}
-use Rattle.rh_shell.specs.Wires.{of_leg}
+use Rattle.rh_shell.specs.Shells.{is_of}
 use Rattle.rh_passages.specs.Passing.{Has, HasOn, HasOne}
 use Rattle.rh_passages.proofs.Messages.{has_more, has_last, one_more_so, last_one_so}
 use Rattle.rh_acks.specs.Acks.{IsPassedOn, OfPacket}
 use Rattle.rh_acks.specs.Windows.{Telling, Tells, TellsOn, EachTold, ByConnB2, ByConnC1, ByConnC2, ByInR1A2, ByInR1A3, ByInR1A4}
+use Rattle.rh_acks.proofs.Found.{found_on}
 use Rattle.rh_acks.proofs.Legs.{some_more, some_last}
 use Rattle.rh_acks.proofs.Passing.{Of, Stays, packets_so}
 
@@ -81,34 +80,6 @@ all_passed kind to own came put all =
     passed : (named : Named) → IsFrom kind to own came named → IsPassedOn kind to came named
     passed (AckTo destination received available channel) is = is
     passed named is = tt
-
--- what is so of each packet of a log is so of one on a leg
-pub found_on : (Is Q : Named → Type 0) (R : Type 0) → ((named : Named) → Is named → Q named → R)
-    → (leg : Leg) (log : List OnLeg) → AllByRecursion (OfPacket Is) log
-    → HasOne Q (of_leg leg log) → R
-found_on Is Q R so leg [] all h = absurd h
-found_on Is Q R so leg ((other, m) ∷ log) all h =
-    by (same_leg other leg) m all.0 (found_on Is Q R so leg log all.1) h
-  where
-    by : (b : Bool) (n : Message) → OfPacket Is (other, n) → (HasOne Q (of_leg leg log) → R)
-        → HasOne Q (if b then n ∷ of_leg leg log else of_leg leg log) → R
-    by false n is rest one = rest one
-    by true (Text bytes) is rest one = rest one
-    by true (Pdu pdu) is rest one = rest one
-    by true (Packet named) is rest (inl here) = so named is here
-    by true (Packet named) is rest (inr more) = rest more
-
-pub has_found : (Is : Named → Type 0) (named : Named) (leg : Leg) (log : List OnLeg)
-    → AllByRecursion (OfPacket Is) log → Has named (of_leg leg log) → Is named
-has_found Is named leg [] all h = absurd h
-has_found Is named leg ((other, m) ∷ log) all h =
-    by (same_leg other leg) (has_found Is named leg log all.1) h
-  where
-    by : (b : Bool) → (Has named (of_leg leg log) → Is named)
-        → Has named (if b then m ∷ of_leg leg log else of_leg leg log) → Is named
-    by false rest one = rest one
-    by true rest (inl e) = subst (λ (n : Message). OfPacket Is (other, n)) e all.0
-    by true rest (inr more) = rest more
 
 module _ (kind : LegKind) (to own : ℕ) (came put : List OnLeg)
     (all : AllByRecursion (OfPacket (IsFrom kind to own came)) put) where
