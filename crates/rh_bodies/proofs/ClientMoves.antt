@@ -28,8 +28,7 @@ use Rattle.rh_client.specs.Putting as putting
 use Rattle.rh_client.specs.Putting.{Pick}
 use Rattle.rh_client.specs.Client.{rules as client_rules, acts, packet, pdu}
 use Rattle.rh_client.specs.Order.{client_started, client_moved, AreAllowedMoves}
-use Rattle.rh_up.proofs.LegLogs.{of_other, one_more}
-use Rattle.rh_fifo.proofs.Fine.{on_leg}
+use Rattle.rh_streams.proofs.LegLogs.{of_other, on_leg, one_more}
 use Rattle.rh_ends_begin.specs.Begins.{BeginsLegs}
 use Rattle.rh_bodies.specs.Bodies.{KeepsLength, RequestTells}
 use Rattle.rh_bodies.proofs.Sizes.{spelled_total}

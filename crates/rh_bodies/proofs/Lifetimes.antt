@@ -37,13 +37,13 @@ use Rattle.rh_server.specs.States.{Server}
 use Rattle.rh_causes.specs.Refusals.{MayRefuseOn}
 use Rattle.rh_history.specs.Carried.{drawn_by, drawn_on, end_drawn_on, end_node, events_of, happened, heard_on}
 use Rattle.rh_history.specs.Histories.{History}
+use Rattle.rh_history.proofs.Wired.{same_itself}
 use Rattle.rh_legible.specs.Legible.{MayGoOn, ReadsBack}
 use Rattle.rh_reading.specs.Reading.{Begins, all_read_of, messages_read}
+use Rattle.rh_streams.proofs.LegLogs.{on_leg}
 use Rattle.rh_down.specs.Down as down
-use Rattle.rh_streams.proofs.Ends.{leg_itself}
 use Rattle.rh_traced.specs.Ours.{AreOurs, deeds, rules}
 use Rattle.rh_fifo.specs.Flows.{IsFlowing, numbers_of}
-use Rattle.rh_fifo.proofs.Fine.{on_leg}
 use Rattle.rh_fifo.proofs.Heard.{from_client, from_out, from_server}
 use Rattle.rh_honest.proofs.Drawn.{free_by}
 use Rattle.rh_refused.proofs.OutTexts.{puts_200}
@@ -102,7 +102,7 @@ module _ {K : Type 0} (m : Makers K InProxy OutProxy)
   reads_client =
       subst (λ (k : ℕ). down.proxy_reads (record (ours.out_config n) { number = k }) (co n)
       ≡ Some CoU) (sym (ours.out_number n))
-      (ap (λ (b : Bool). if b then Some CoU else Some OsD) (leg_itself (co n)))
+      (ap (λ (b : Bool). if b then Some CoU else Some OsD) (same_itself (co n)))
 
   of_client : IsPrefix asked (all_read_of client_put)
   of_client =

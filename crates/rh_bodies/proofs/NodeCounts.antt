@@ -30,7 +30,8 @@ use Rattle.rh_shell.specs.NearEnds.{NearEnd, is_empty, is_finished, is_ended, is
 use Rattle.rh_shell.specs.Rules.{Rules, Acts, put_into}
 use Rattle.rh_shell.specs.Shells.{Shell, bytes_at, bytes_by, close, drawn_at, drawn_by, end_at, ended_at, ended_by, broken_at, broken_by, first_silent, free_place, is_heard, is_working, lose, lost, may_up, passed_by, place, same_leg, state_of, stop_by, stopped, ticked, unreached_by, up, wants, with_end, with_leg}
 use Rattle.rh_history.specs.Carried.{happened, heard_in, heard_on}
-use Rattle.rh_streams.proofs.Ends.{end_is, end_leg, end_of, leg_is, leg_itself}
+use Rattle.rh_history.proofs.Wired.{same_itself}
+use Rattle.rh_streams.proofs.Ends.{end_is, end_leg, end_of, leg_is}
 use Rattle.rh_bodies.specs.Behind.{BodyIs, HasBody}
 use Rattle.rh_bodies.proofs.Behind.{IsBehind, OverIs, StopIs, Waited, body_more, bytes_heard}
 
@@ -203,7 +204,7 @@ module _ {S : Type 0} (rules : Rules S) (pipe : Leg → Option Pipe) where
           let t = hear rules s.now (goes end s.role) piece in
           let is = turn_behind heard s leg end piece waits all going at in
           let heard_here : heard leg ++ piece ≡ after leg =
-          ap (λ (b : Bool). heard leg ++ cond b piece []) (sym (leg_itself leg)) in
+          ap (λ (b : Bool). heard leg ++ cond b piece []) (sym (same_itself leg)) in
           subst (AreBehind after)
           (sym (stop_legs (with_end s leg t.end t.role) leg t.stop))
           (each_set (EndIs after) s.legs (place leg s.legs) t.end old

@@ -33,8 +33,9 @@ use Rattle.rh_outproxy.specs.Putting as putting
 use Rattle.rh_outproxy.specs.Putting.{Pick}
 use Rattle.rh_outproxy.proofs.OrderKept.{starts, step}
 use Rattle.rh_outproxy.proofs.ProxyLaw.{Law}
-use Rattle.rh_streams.proofs.Ends.{leg_is, leg_itself}
-use Rattle.rh_up.proofs.LegLogs.{of_other, one_more}
+use Rattle.rh_history.proofs.Wired.{same_itself}
+use Rattle.rh_streams.proofs.Ends.{leg_is}
+use Rattle.rh_streams.proofs.LegLogs.{of_other, one_more}
 use Rattle.rh_bodies.proofs.OutBooks.{Books, RowKeeps, asks, co_keeps, goes_on, is_opening, is_response_due, is_risen, is_timeout_due, os_keeps, pdu_keeps, same}
 use Rattle.rh_bodies.proofs.OutPuts.{ToClient, ToServer, behind, client_keeps, server_keeps}
 
@@ -72,7 +73,7 @@ pub sum_here : (f : Message → ℕ) (leg other : Leg) (log : List OnLeg) (m : M
 sum_here f leg other log m e =
     ap (sum f) (one_more other log (leg, m)
     ∙ ap (λ (t : Bool). of_leg other log ++ (if t then m ∷ [] else []))
-    (ap (λ (l : Leg). same_leg l other) e ∙ leg_itself other))
+    (ap (λ (l : Leg). same_leg l other) e ∙ same_itself other))
     ∙ sum_push f (of_leg other log) m
 
 pub sum_other : (f : Message → ℕ) (leg other : Leg) (log : List OnLeg) (m : Message)

@@ -1,5 +1,5 @@
 -- each node of a world of roles holds at most its window, whatever happened there
-use Rattle.std.proofs.Common.{◌≡◌, ℕ, List, refl, sym, ◌∙◌, subst}
+use Rattle.std.proofs.Common.{◌≡◌, ℕ, List, refl, sym, subst}
 use Rattle.rh_window.specs.Sides.{IsWindow}
 use Rattle.rh_http.specs.declared.config.ClientConfig.{ClientConfig}
 use Rattle.rh_line.specs.Lines as lines
@@ -22,11 +22,11 @@ use Rattle.rh_outproxy.specs.OutProxy.{OutProxy, new_proxy}
 use Rattle.rh_nodes.specs.declared.place.Place.{Place}
 use Rattle.rh_nodes.specs.declared.place.Place.TheVariants.{Absent, Here, Gone}
 use Rattle.rh_nodes.specs.Cookies.{cookie_of}
-use Rattle.rh_text.specs.declared.ends.Side.TheVariants.{Client, Server}
-use Rattle.rh_history.specs.Changes.{Change, IsTold, IsFed, IsDrawn, GoesUp, RaisesAlone, GoesDown, OpensIn, OpensOut, OpensSame, Gives, Takes, Closes, RecyclesIn, RecyclesOut, MovesTo, Draws, Reports, MayChange, changed, Leads, Turn, after_turns}
+use Rattle.rh_text.specs.declared.ends.Side.TheVariants.{Server}
+use Rattle.rh_history.specs.Changes.{Leads, Turn, after_turns}
 use Rattle.rh_history.specs.Histories.{History, AreRuns, IsRun, all_noted, nothing, in_place, out_place}
-use Rattle.rh_history.proofs.Leading.{leads_keep}
-use Rattle.rh_history.proofs.Lines.{leads_turns}
+use Rattle.rh_history.proofs.Leading.{cast_kept}
+use Rattle.rh_history.proofs.Halves.{leads_turns}
 use Rattle.rh_history.proofs.Noting.{begins, changes_are_noted}
 use Rattle.rh_world.specs.declared.any_world.AnyWorld.{AnyWorld}
 use Rattle.rh_world.specs.declared.any_world.AnyWorld.TheVariants.{Before, Direct, Settings, Roles}
@@ -60,39 +60,10 @@ LeadsTo config world = Leads roles.rules roles.makers roles.deeds (roles.begun c
 
 -- ---- the numbers stay
 
-cast_of : (world : roles.World) (change : Change)
-    → (changed roles.rules roles.makers roles.deeds world change).cast ≡ world.cast
-cast_of world (IsTold node event) = refl
-cast_of world (IsFed leg dir count) = refl
-cast_of world (IsDrawn leg dir count) = refl
-cast_of world (GoesUp node leg end cookie) = refl
-cast_of world (RaisesAlone node leg end cookie) = refl
-cast_of world (GoesDown node leg end) = refl
-cast_of world (OpensIn number cookie) = refl
-cast_of world (OpensOut number cookie) = refl
-cast_of world (OpensSame number cookie) = refl
-cast_of world (Gives Client pdu) = refl
-cast_of world (Gives Server pdu) = refl
-cast_of world (Takes Client) = refl
-cast_of world (Takes Server) = refl
-cast_of world (Closes Client) = refl
-cast_of world (Closes Server) = refl
-cast_of world RecyclesIn = refl
-cast_of world RecyclesOut = refl
-cast_of world (MovesTo now) = refl
-cast_of world (Draws cookies) = refl
-cast_of world Reports = refl
-
-cast_stays : (config : WorldConfig) (world : roles.World) (change : Change)
-    → world.cast ≡ config → MayChange roles.rules world change
-    → (changed roles.rules roles.makers roles.deeds world change).cast ≡ config
-cast_stays config world change same may = cast_of world change ∙ same
-
 pub same_cast : (config : WorldConfig) (world : roles.World) → LeadsTo config world
     → world.cast ≡ config
 same_cast config world leads =
-    leads_keep roles.rules roles.makers roles.deeds (λ (w : roles.World). w.cast ≡ config)
-    (cast_stays config) (roles.begun config) world leads refl
+    cast_kept roles.rules roles.makers roles.deeds (roles.begun config) world leads
 
 -- ---- the nodes
 

@@ -3,11 +3,11 @@ use Rattle.std.proofs.Common.{◌≡◌, ◌≢◌, ◌⊎◌, ℕ, List, [], le
 use Rattle.std.proofs.lemmas.Fmt.{decimal_injective}
 use Rattle.std.specs.declared.string.String.{String}
 use Rattle.std.specs.Global.{Global}
-use Rattle.rh_cli.specs.declared.form.Form.{Form}
-use Rattle.rh_cli.specs.declared.form.Form.TheVariants.{Replay, Show, Make, Help, Version}
-use Rattle.rh_cli.specs.declared.status.Status.{Status}
-use Rattle.rh_cli.specs.declared.status.Status.TheVariants.{Done, Usage, BadInput, ReadFault, WriteFault, NoMemory, TooLong}
-use Rattle.rh_cli.specs.Forms.{IsForm, form_words}
+use Rattle.rh_words.specs.declared.form.Form.{Form}
+use Rattle.rh_words.specs.declared.form.Form.TheVariants.{Replay, Show, Make, Help, Version}
+use Rattle.rh_words.specs.declared.status.Status.{Status}
+use Rattle.rh_words.specs.declared.status.Status.TheVariants.{Done, Usage, BadInput, ReadFault, WriteFault, NoMemory, TooLong}
+use Rattle.rh_words.specs.Forms.{IsForm, form_words}
 
 -- two forms have the same words
 two : (a b : Form) (words : List (String Global)) → IsForm a words → IsForm b words

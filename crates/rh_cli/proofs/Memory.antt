@@ -8,19 +8,19 @@ use Rattle.rh_text.specs.Lines.{Rules, IsText}
 use Rattle.rh_record.specs.Places.{recording}
 use Rattle.rh_show.specs.Lines.{packets}
 use Rattle.rh_make.specs.Summaries.{summary, summary_text}
-use Rattle.rh_cli.specs.declared.form.Form.{Form}
-use Rattle.rh_cli.specs.declared.form.Form.TheVariants.{Replay, Show, Make, Help, Version}
-use Rattle.rh_cli.specs.declared.status.Status.{Status}
-use Rattle.rh_cli.specs.declared.status.Status.TheVariants as statuses
-use Rattle.rh_cli.specs.declared.word.Ended.{Ended}
-use Rattle.rh_cli.specs.declared.word.Ended.TheVariants as ends
-use Rattle.rh_cli.specs.Words.{most_input}
-use Rattle.rh_cli.specs.Statuses.{status_of}
-use Rattle.rh_cli.specs.Replay.{IsReplayed}
-use Rattle.rh_cli.specs.Show.{IsShown}
-use Rattle.rh_cli.specs.Forms.{Outside, Reads, Tells, Ran}
+use Rattle.rh_words.specs.declared.form.Form.{Form}
+use Rattle.rh_words.specs.declared.form.Form.TheVariants.{Replay, Show, Make, Help, Version}
+use Rattle.rh_words.specs.declared.status.Status.{Status}
+use Rattle.rh_words.specs.declared.status.Status.TheVariants as statuses
+use Rattle.rh_words.specs.declared.word.Ended.{Ended}
+use Rattle.rh_words.specs.declared.word.Ended.TheVariants as ends
+use Rattle.rh_words.specs.Words.{most_input}
+use Rattle.rh_words.specs.Statuses.{status_of}
+use Rattle.rh_words.specs.Replay.{IsReplayed}
+use Rattle.rh_words.specs.Show.{IsShown}
+use Rattle.rh_words.specs.Forms.{Outside, Reads, Tells, Ran}
 use Rattle.rh_cli.specs.Memory.{IsRoomFor, NoneFailed, RanInMemory}
-use Rattle.rh_cli.proofs.Coming.{all_came}
+use Rattle.rh_words.proofs.Coming.{all_came}
 
 -- where nothing was written before, all is what was appended
 all_written : (before after : Option (List ℕ)) (written : List ℕ) → before ≡ Some []

@@ -5,13 +5,13 @@ use Rattle.rh_text.specs.Lines.{IsText}
 use Rattle.rh_record.specs.Places.{recording}
 use Rattle.rh_show.specs.Lines.{packets}
 use Rattle.rh_make.specs.Summaries.{summary, summary_text}
-use Rattle.rh_cli.specs.declared.form.Form.{Form}
-use Rattle.rh_cli.specs.declared.form.Form.TheVariants.{Replay, Show, Make, Help, Version}
-use Rattle.rh_cli.specs.declared.status.Status.{Status}
-use Rattle.rh_cli.specs.declared.status.Status.TheVariants as statuses
-use Rattle.rh_cli.specs.Words.{most_input}
-use Rattle.rh_cli.specs.Replay.{IsReplayed}
-use Rattle.rh_cli.specs.Show.{IsShown}
+use Rattle.rh_words.specs.declared.form.Form.{Form}
+use Rattle.rh_words.specs.declared.form.Form.TheVariants.{Replay, Show, Make, Help, Version}
+use Rattle.rh_words.specs.declared.status.Status.{Status}
+use Rattle.rh_words.specs.declared.status.Status.TheVariants as statuses
+use Rattle.rh_words.specs.Words.{most_input}
+use Rattle.rh_words.specs.Replay.{IsReplayed}
+use Rattle.rh_words.specs.Show.{IsShown}
 
 -- what a form writes of a text, whole; `help` and `version` are what the program tells of itself
 abbrev pub IsOutput : (help version : List ℕ) → Form → List ℕ → List ℕ → Type 0

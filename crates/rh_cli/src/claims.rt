@@ -26,9 +26,9 @@ use rh_refused::a_refused_client_of_a_recording_lost_its_server;
 /// In every recording what each end takes is what the other end gave, each PDU once and in order,
 /// whatever its lines cut, delay, break and replace; what was given and not taken is on its way,
 /// unless a leg is lost. No more is held for a channel than its window, and each node is reported
-/// as closed once at most, by a line whose answers show why; each later answer of that end names the
-/// same cause (MS-RPCH 3.2). No node closes for bytes that read badly, for a body that is too long,
-/// or for the window of a hop that lies on one leg.
+/// as closed once at most, by a line whose answers show why; each later answer of that end names
+/// the same cause (MS-RPCH 3.2). No node closes for bytes that read badly, for a body that is too
+/// long, or for the window of a hop that lies on one leg.
 pub fn recordings_keep_to_their_claims()
     ensures { (lines : List Line) → Claims lines }
 {

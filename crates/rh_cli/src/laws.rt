@@ -1,13 +1,13 @@
 //! What holds of runs in memory of which no call is to fail.
 
 ghost use Rattle.std.specs.Prelude.{◌≡◌, IfOk};
-ghost use Rattle.rh_cli.specs.declared.form.Form.{Form};
-ghost use Rattle.rh_cli.specs.Forms.{IsForm};
+ghost use Rattle.rh_words.specs.declared.form.Form.{Form};
+ghost use Rattle.rh_words.specs.Forms.{IsForm};
 ghost use Rattle.rh_cli.specs.Memory.{IsRoomFor, RanInMemory};
 
-use crate::run::{HELP, VERSION, run};
-use crate::status::Status;
+use crate::run::{VERSION, run};
 use rh_io::{MemSink, MemSource, NoMemory, Sink};
+use rh_words::{HELP, Status};
 use std::alloc::Global;
 
 /// Does what the words say, from bytes in memory to at most `room` bytes in memory.

@@ -2,19 +2,13 @@
 #![tactic(auto)]
 
 mod claims;
-mod form;
 mod laws;
-mod output;
-mod replay;
 mod run;
-mod show;
-mod status;
 #[cfg(test)]
 mod tests;
-mod word;
 
 use rh_io::{ReaderSource, WriterSink};
-use status::Status;
+use rh_words::Status;
 use std::env;
 use std::io::ErrorKind;
 use std::process::ExitCode;

@@ -1,255 +1,50 @@
 -- the lines that connect a leg are changes that tell no node anything
-use Rattle.std.proofs.Common.{◌≡◌, ℕ, List, Bool, true, false, ◌&&◌, ◌||◌, if◌then◌else◌, IsTrue, refl, sym, subst, ap, ◌∙◌, inl}
-use Rattle.std.specs.Prelude.{nat_lt}
+use Rattle.std.proofs.Common.{◌≡◌, List, [], ◌∷◌, true}
+use Rattle.std.specs.List.{list_all}
 use Rattle.std.proofs.lemmas.Bool.{and_parts}
-use Rattle.rh_rts.specs.declared.command.Cookie.{Cookie}
-use Rattle.rh_text.specs.declared.ends.Side.TheVariants as side
 use Rattle.rh_line.specs.declared.leg.Leg.{Leg}
-use Rattle.rh_line.specs.declared.leg.LegKind.{LegKind}
-use Rattle.rh_line.specs.declared.leg.LegKind.TheVariants.{ClientOut, OutServer, ClientIn, InServer}
 use Rattle.rh_record.specs.declared.answer.Answer.{Answer}
-use Rattle.rh_record.specs.declared.answer.Who.TheVariants as who
-use Rattle.rh_shell.specs.Shells as shell
-use Rattle.rh_shell.specs.Shells.{Shell}
-use Rattle.rh_nodes.specs.declared.opening.TheConstants.{NO_COOKIE}
-use Rattle.rh_nodes.specs.declared.place.Place.TheVariants.{Absent, Here}
-use Rattle.rh_nodes.specs.Company as company
 use Rattle.rh_nodes.specs.Company.{Rulebook}
-use Rattle.rh_nodes.specs.Cookies.{draw}
 use Rattle.rh_nodes.specs.Giving.{Deeds}
-use Rattle.rh_nodes.specs.Halves.{up_at}
-use Rattle.rh_nodes.specs.Numbered.{ask}
-use Rattle.rh_nodes.specs.Opening.{Makers, at_moment, with_in, with_out, connect, up_at_both, connect_client, may_make, open_out_to, open_in_to, is_wanted, open_server, open_leg, reader_before, may_open_same, read_on, open_same}
-use Rattle.rh_nodes.specs.Places as places
-use Rattle.rh_nodes.specs.Places.{is_absent}
-use Rattle.rh_nodes.specs.Readers.{reader_of, with_reader}
-use Rattle.rh_nodes.specs.Settling.{leg_at}
-use Rattle.rh_nodes.specs.World.{World, at}
-use Rattle.rh_history.specs.Changes.{GoesUp, OpensIn, OpensOut, OpensSame, Draws, may_have, is_led, is_whole, changed}
-use Rattle.rh_history.proofs.Connecting.{or_left, or_right, server_led}
-use Rattle.rh_history.proofs.Numbers.{put_here, asked}
-use Rattle.rh_closes.specs.Shows.{ShownWorks}
-use Rattle.rh_closes.proofs.Showing.{ShownOk, shown_none, shown_one, shown_more}
-
--- ---- tests
-
--- the node at one end wants the leg, and the one at the other may have it up, or the other way
--- round
-wanted : (a b c d : Bool) → (a && b || c && d) ≡ true
-    → (IsTrue (d || a)) × (IsTrue (b || c))
-wanted true true c d h = (or_right d true refl, refl)
-wanted true false true true h = (refl, refl)
-wanted true false true false h = absurd cc
-wanted true false false d h = absurd cc
-wanted false b true true h = (refl, or_right b true refl)
-wanted false b true false h = absurd cc
-wanted false b false d h = absurd cc
+use Rattle.rh_nodes.specs.Opening.{Makers, open_leg, open_same}
+use Rattle.rh_nodes.specs.World.{World}
+use Rattle.rh_history.specs.Changes.{Change, IsTold, IsFed, changed, is_work}
+use Rattle.rh_history.specs.Closes.{told_by}
+use Rattle.rh_history.proofs.Connecting.{Connects, connects, connects_open_leg, connects_open_same, quiet_connects}
+use Rattle.rh_history.proofs.Working.{all_wider, quiet_work}
+use Rattle.rh_closes.specs.Shows.{AreShown, IsShown, ShownWorks}
 
 module _ {K C S I O : Type 0} (r : Rulebook C S I O) (m : Makers K I O) (d : Deeds C S)
     (all : List Answer) where
-  -- ---- a leg is up at both ends
+  untold : (w : World K C S I O) (change : Change) → connects change ≡ true
+      → IsShown all w (told_by w change)
+  untold w (IsTold node event) is = absurd cc
+  untold w (IsFed leg dir count) is = absurd cc
+  untold w change is = tt
 
-  -- the other end's node isn't touched
-  untouched : (kind : LegKind) (n : ℕ) (w : World K C S I O) (cookie : Cookie)
-      → may_have r (up_at r w (at w (leg_at kind n) side.Client) (leg_at kind n) side.Client cookie)
-      (at w (leg_at kind n) side.Server) (leg_at kind n)
-      ≡ may_have r w (at w (leg_at kind n) side.Server) (leg_at kind n)
-  untouched ClientOut n w cookie = refl
-  untouched OutServer n w cookie = refl
-  untouched ClientIn n w cookie = refl
-  untouched InServer n w cookie = refl
+  all_untold : (w : World K C S I O) (changes : List Change) → list_all connects changes ≡ true
+      → AreShown r m d all w changes
+  all_untold w [] is = tt
+  all_untold w (change ∷ changes) is =
+      let parts = and_parts (connects change) (list_all connects changes) is in
+      (untold w change parts.0, all_untold (changed r m d w change) changes parts.1)
 
-  shown_connect : (w : World K C S I O) (leg : Leg) (cookie : Cookie)
-      → IsTrue (may_have r w (at w leg side.Client) leg)
-      → IsTrue (may_have r w (at w leg side.Server) leg)
-      → IsTrue (is_led w (at w leg side.Client) leg) → is_whole cookie ≡ true
-      → ShownWorks r m d all w (connect r w leg cookie)
-  shown_connect w leg cookie client server led whole =
-      let v = up_at r w (at w leg side.Client) leg side.Client cookie in
-      shown_more r m d all w v (GoesUp (at w leg side.Server) leg side.Server cookie)
-      (shown_one r m d all w (GoesUp (at w leg side.Client) leg side.Client cookie)
-      (client, inl refl, led) whole tt) (
-        untouched leg.kind leg.number w cookie ∙ server,
-        inl refl,
-        server_led r m d w leg.kind leg.number cookie client,
-      ) whole tt
-
-  -- ---- a leg of the client, to a proxy of its own
-
-  module _ (w : World K C S I O) (n : ℕ) where
-    abbrev out_leg : Leg
-    out_leg = leg_at ClientOut n
-
-    abbrev in_leg : Leg
-    in_leg = leg_at ClientIn n
-
-    abbrev new_out : Shell O
-    new_out = at_moment r.out_proxy (m.out_proxy w.cast n) w.now
-
-    abbrev new_in : Shell I
-    new_in = at_moment r.in_proxy (m.in_proxy w.cast n) w.now
-
-    -- what is known where a proxy may be made
-    may_parts : (absent : Bool) (leg : Leg)
-        → (nat_lt 0 n && company.wants r w.company who.Client leg && absent) ≡ true
-        → IsTrue (nat_lt 0 n) × IsTrue absent × IsTrue (may_have r w who.Client leg)
-    may_parts absent leg e =
-        let first = and_parts (nat_lt 0 n && company.wants r w.company who.Client leg) absent e in
-        let more = and_parts (nat_lt 0 n) (company.wants r w.company who.Client leg) first.0 in (
-          more.0,
-          first.1,
-          or_right (company.may_up r w.company who.Client leg)
-              (company.wants r w.company who.Client leg) more.1,
-        )
-
-    out_made : may_make r w w.company.outs out_leg ≡ true
-        → shell.may_up r.out_proxy new_out out_leg ≡ true
-        → ShownWorks r m d all w (connect_client r (with_out w n new_out) out_leg)
-    out_made e f =
-        let drawn = draw w.cookies in
-        let x = record w { cookies = drawn.0 } in
-        let v = changed r m d x (OpensOut n drawn.1) in
-        let up : company.may_up r v.company (who.Out n) out_leg ≡ true =
-        asked Absent (places.may_up r.out_proxy out_leg) v.company.outs n
-        ∙ ap (places.may_up r.out_proxy out_leg)
-        (put_here Absent w.company.outs n (Here new_out 0)) ∙ f in
-        shown_more r m d all w v (GoesUp (who.Out n) out_leg side.Server drawn.1)
-        (shown_more r m d all w x (OpensOut n drawn.1)
-        (shown_one r m d all w (Draws drawn.0) tt refl tt)
-        (may_parts (ask is_absent true w.company.outs n) out_leg e) refl tt) (
-          or_left (company.may_up r v.company (who.Out n) out_leg)
-              (company.wants r v.company (who.Out n) out_leg) up,
-          inl refl,
-          refl,
-        ) refl tt
-
-    in_made : may_make r w w.company.ins in_leg ≡ true
-        → shell.may_up r.in_proxy new_in in_leg ≡ true
-        → ShownWorks r m d all w (connect_client r (with_in w n new_in) in_leg)
-    in_made e f =
-        let drawn = draw w.cookies in
-        let x = record w { cookies = drawn.0 } in
-        let v = changed r m d x (OpensIn n drawn.1) in
-        let reader = who.In (reader_of v.readers n) in
-        let is : reader_of v.readers n ≡ n =
-        asked 0 (λ k. k) v.readers n ∙ put_here 0 w.readers n n in
-        let up : company.may_up r v.company (who.In n) in_leg ≡ true =
-        asked Absent (places.may_up r.in_proxy in_leg) v.company.ins n
-        ∙ ap (places.may_up r.in_proxy in_leg)
-        (put_here Absent w.company.ins n (Here new_in 0)) ∙ f in
-        shown_more r m d all w v (GoesUp reader in_leg side.Server drawn.1)
-        (shown_more r m d all w x (OpensIn n drawn.1)
-        (shown_one r m d all w (Draws drawn.0) tt refl tt)
-        (may_parts (ask is_absent true w.company.ins n) in_leg e) refl tt) (
-          or_left (company.may_up r v.company reader in_leg)
-              (company.wants r v.company reader in_leg)
-              (ap (λ k. company.may_up r v.company (who.In k) in_leg) is ∙ up),
-          inl refl,
-          refl,
-        ) refl tt
-
-    shown_open_out : ShownWorks r m d all w (open_leg r m w out_leg).0
-    shown_open_out = by_make (may_make r w w.company.outs out_leg) refl
-      where
-        by_up : (t : Bool) → may_make r w w.company.outs out_leg ≡ true
-            → shell.may_up r.out_proxy new_out out_leg ≡ t
-            → ShownOk r m d all w (if t then (connect_client r (with_out w n new_out) out_leg, true)
-            else (w, false))
-        by_up true e f = out_made e f
-        by_up false e f = shown_none r m d all w
-
-        by_make : (t : Bool) → may_make r w w.company.outs out_leg ≡ t
-            → ShownWorks r m d all w (if t then open_out_to r w out_leg new_out else (w, false)).0
-        by_make true e = by_up (shell.may_up r.out_proxy new_out out_leg) e refl
-        by_make false e = shown_none r m d all w
-
-    shown_open_in : ShownWorks r m d all w (open_leg r m w in_leg).0
-    shown_open_in = by_make (may_make r w w.company.ins in_leg) refl
-      where
-        by_up : (t : Bool) → may_make r w w.company.ins in_leg ≡ true
-            → shell.may_up r.in_proxy new_in in_leg ≡ t
-            → ShownOk r m d all w (if t then (connect_client r (with_in w n new_in) in_leg, true)
-            else (w, false))
-        by_up true e f = in_made e f
-        by_up false e f = shown_none r m d all w
-
-        by_make : (t : Bool) → may_make r w w.company.ins in_leg ≡ t
-            → ShownWorks r m d all w (if t then open_in_to r w in_leg new_in else (w, false)).0
-        by_make true e = by_up (shell.may_up r.in_proxy new_in in_leg) e refl
-        by_make false e = shown_none r m d all w
-
-    -- ---- to the proxy that reads the channel before it
-
-    same_proxy : company.wants r w.company who.Client in_leg ≡ true
-        → may_open_same r w in_leg ≡ true
-        → ShownWorks r m d all w (connect_client r (read_on w n) in_leg)
-    same_proxy e f =
-        let drawn = draw w.cookies in
-        let x = record w { cookies = drawn.0 } in
-        let before = reader_before w n in
-        let readers = with_reader w.readers n before in
-        let client = or_right (company.may_up r w.company who.Client in_leg)
-        (company.wants r w.company who.Client in_leg) e in
-        let server = or_left (company.may_up r w.company (who.In before) in_leg)
-        (company.wants r w.company (who.In before) in_leg) f in
-        let is : reader_of readers n ≡ before =
-        asked 0 (λ k. k) readers n ∙ put_here 0 w.readers n before in
-        subst (λ k. ShownWorks r m d all w (up_at_both r (read_on x n) in_leg drawn.1 who.Client
-        (who.In k))) (sym is)
-        (shown_more r m d all w x (OpensSame n drawn.1)
-        (shown_one r m d all w (Draws drawn.0) tt refl tt) (client, server) refl tt)
-
-  -- ---- a leg of the server
-
-  shown_open_server : (w : World K C S I O) (leg : Leg)
-      → IsTrue (is_led w (at w leg side.Client) leg)
-      → ShownWorks r m d all w (open_server r w leg).0
-  shown_open_server w leg led = by (nat_lt 0 leg.number && is_wanted r w leg) refl
-    where
-      by : (t : Bool) → (nat_lt 0 leg.number && is_wanted r w leg) ≡ t
-          → ShownOk r m d all w (if t then (connect r w leg NO_COOKIE, true) else (w, false))
-      by true e =
-          let client = at w leg side.Client in
-          let server = at w leg side.Server in
-          let may = wanted (company.wants r w.company client leg)
-          (company.may_up r w.company server leg) (company.wants r w.company server leg)
-          (company.may_up r w.company client leg)
-          (and_parts (nat_lt 0 leg.number) (is_wanted r w leg) e).1 in
-          shown_connect w leg NO_COOKIE may.0 may.1 led refl
-      by false e = shown_none r m d all w
-
-  -- ---- the lines
-
-  shown_open_by : (w : World K C S I O) (kind : LegKind) (n : ℕ)
-      → ShownWorks r m d all w (open_leg r m w (leg_at kind n)).0
-  shown_open_by w ClientOut n = shown_open_out w n
-  shown_open_by w OutServer n = shown_open_server w (leg_at OutServer n) refl
-  shown_open_by w ClientIn n = shown_open_in w n
-  shown_open_by w InServer n = shown_open_server w (leg_at InServer n) refl
+  shown_connects : (w v : World K C S I O) → Connects r m d w v → ShownWorks r m d all w v
+  shown_connects w v a = record {
+    works = record {
+      leads = a.leads;
+      work =
+          all_wider connects is_work
+          (λ change is. quiet_work change (quiet_connects change is)) a.leads.changes a.work;
+    };
+    shown = all_untold w a.leads.changes a.work;
+  }
 
   pub shown_open_leg : (w : World K C S I O) (leg : Leg)
       → ShownWorks r m d all w (open_leg r m w leg).0
-  shown_open_leg w leg = shown_open_by w leg.kind leg.number
-
-  shown_same_by : (w : World K C S I O) (kind : LegKind) (n : ℕ)
-      → ShownWorks r m d all w (open_same r w (leg_at kind n)).0
-  shown_same_by w ClientOut n = shown_none r m d all w
-  shown_same_by w OutServer n = shown_none r m d all w
-  shown_same_by w InServer n = shown_none r m d all w
-  shown_same_by w ClientIn n =
-      by (company.wants r w.company who.Client (in_leg w n) && may_open_same r w (in_leg w n)) refl
-    where
-      by : (t : Bool)
-          → (company.wants r w.company who.Client (in_leg w n) && may_open_same r w (in_leg w n))
-          ≡ t
-          → ShownOk r m d all w (if t then (connect_client r (read_on w n) (in_leg w n), true)
-          else (w, false))
-      by true e =
-          let may = and_parts (company.wants r w.company who.Client (in_leg w n))
-          (may_open_same r w (in_leg w n)) e in
-          same_proxy w n may.0 may.1
-      by false e = shown_none r m d all w
+  shown_open_leg w leg = shown_connects w (open_leg r m w leg).0 (connects_open_leg r m d w leg)
 
   pub shown_open_same : (w : World K C S I O) (leg : Leg)
       → ShownWorks r m d all w (open_same r w leg).0
-  shown_open_same w leg = shown_same_by w leg.kind leg.number
+  shown_open_same w leg =
+      shown_connects w (open_same r w leg).0 (connects_open_same r m d w leg)

@@ -1,23 +1,20 @@
 -- what is done, and answers that show what it tells
-use Rattle.std.proofs.Common.{ℕ, zero, suc, List, [], ◌∷◌, ◌++◌, inl, inr}
+use Rattle.std.proofs.Common.{List, [], ◌∷◌, ◌++◌, inl, inr}
 use Rattle.rh_record.specs.declared.answer.Answer.{Answer}
 use Rattle.rh_nodes.specs.Company.{Rulebook}
 use Rattle.rh_nodes.specs.Giving.{Deeds}
 use Rattle.rh_nodes.specs.Opening.{Makers}
-use Rattle.rh_nodes.specs.Reports.{and_then, each}
+use Rattle.rh_nodes.specs.Reports.{and_then}
 use Rattle.rh_nodes.specs.World.{World}
 use Rattle.rh_history.specs.Closes.{IsOneOf}
 use Rattle.rh_closes.specs.Shows.{ShownWorks}
 use Rattle.rh_closes.proofs.Showing.{shown_none, shown_then}
+use Rattle.rh_history.proofs.Reported.{one_behind}
 
 pub one_before : {X : Type 0} (x : X) (xs ys : List X) → IsOneOf x xs → IsOneOf x (xs ++ ys)
 one_before x [] ys h = absurd h
 one_before x (z ∷ xs) ys (inl here) = inl here
 one_before x (z ∷ xs) ys (inr behind) = inr (one_before x xs ys behind)
-
-pub one_behind : {X : Type 0} (x : X) (xs ys : List X) → IsOneOf x ys → IsOneOf x (xs ++ ys)
-one_behind x [] ys h = h
-one_behind x (z ∷ xs) ys h = inr (one_behind x xs ys h)
 
 -- each of a list is one of the other
 abbrev pub AreIn : List Answer → List Answer → Type 0
@@ -42,10 +39,3 @@ module _ {K C S I O : Type 0} (r : Rulebook C S I O) (m : Makers K I O) (d : Dee
       shown_then r m d all w did.0 (act did.0).0
       (a all (λ x h. are_in x (one_before x did.1 (act did.0).1 h)))
       (b did.0 all (λ x h. are_in x (one_behind x did.1 (act did.0).1 h)))
-
-  pub goes_each : (n : ℕ) (act : ℕ → World K C S I O → World K C S I O × List Answer)
-      (w : World K C S I O) → ((k : ℕ) (v : World K C S I O) → Goes v (act k v))
-      → Goes w (each n act w)
-  goes_each zero act w a = goes_none w
-  goes_each (suc n) act w a =
-      goes_and_then w (each n act w) (act n) (goes_each n act w a) (a n)

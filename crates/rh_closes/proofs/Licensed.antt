@@ -1,5 +1,5 @@
 -- each close that a line reports shows in the line's answers
-use Rattle.std.proofs.Common.{◌≡◌, ℕ, List, [], ◌∷◌, ◌++◌, true, Some, None, refl, sym, ap, ap₂, ◌∙◌, subst, inl, inr, ⊎_elim}
+use Rattle.std.proofs.Common.{◌≡◌, ℕ, List, [], ◌∷◌, ◌++◌, true, Some, None, refl, sym, ap, ◌∙◌, subst, inl, inr, ⊎_elim}
 use Rattle.std.specs.List.{list_all}
 use Rattle.std.proofs.lemmas.Bool.{and_parts, false≢true}
 use Rattle.std.specs.declared.option.Option.{Option}
@@ -40,7 +40,7 @@ use Rattle.rh_history.proofs.Answering.{is_other}
 use Rattle.rh_history.proofs.Closed.{told_closes, told_silent}
 use Rattle.rh_history.proofs.Lines.{goes_step_line as goes_lines}
 use Rattle.rh_history.proofs.Numbers.{answered}
-use Rattle.rh_history.proofs.Reporting.{changes_close}
+use Rattle.rh_history.proofs.Reporting.{changes_close, one_of_lines}
 use Rattle.rh_causes.specs.Closings.{ClosesWith, MayClose}
 use Rattle.rh_causes.specs.Reasons.{RefusesHead, IsOfPiece}
 use Rattle.rh_closes.specs.Shows.{Shows, ShowsPiece, IsShown, AreShown, ShownWorks}
@@ -52,32 +52,12 @@ some_none x e = absurd cc
 
 -- ---- what is reported closed was noted
 
--- what an answer tells
-told_who : Answer → Who
-told_who (answer.NodeClosed node why) = node
-told_who one = Client
-
-told_cause : Cause → Answer → Cause
-told_cause other (answer.NodeClosed node why) = why
-told_cause other one = other
-
-of_lines : (node : Who) (why : Cause) (list : List Closing)
-    → IsOneOf (answer.NodeClosed node why) (lines list)
-    → IsOneOf (record { who = node; cause = why }) list
-unfolding told_who told_cause
-of_lines node why [] h = absurd h
-of_lines node why (closing ∷ list) (inl here) =
-    let w : closing.who ≡ node = ap told_who here in
-    let c : closing.cause ≡ why = ap (told_cause why) here in
-    inl (ap₂ (λ a b. record { who = a; cause = b }) w c)
-of_lines node why (closing ∷ list) (inr behind) = inr (of_lines node why list behind)
-
 -- behind answers that tell of no closed node
 noted_of : (node : Who) (why : Cause) (answers : List Answer) (list : List Closing)
     → list_all is_other answers ≡ true
     → IsOneOf (answer.NodeClosed node why) (answers ++ lines list)
     → IsOneOf (record { who = node; cause = why }) list
-noted_of node why [] list others h = of_lines node why list h
+noted_of node why [] list others h = one_of_lines node why list h
 noted_of node why (one ∷ answers) list others (inl here) =
     absurd (false≢true (ap is_other (sym here)
     ∙ (and_parts (is_other one) (list_all is_other answers) others).0))

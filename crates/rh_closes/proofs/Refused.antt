@@ -1,5 +1,5 @@
 -- only a client is refused, by what moved towards it
-use Rattle.std.proofs.Common.{◌≡◌, ℕ, List, [], ◌∷◌, ◌++◌, Some, None, refl, ap, sym, ◌∙◌, subst}
+use Rattle.std.proofs.Common.{◌≡◌, ℕ, List, [], ◌∷◌, ◌++◌, get_or, Some, None, refl, ap, sym, ◌∙◌, subst}
 use Rattle.rh_text.specs.declared.ends.Dir.{Dir}
 use Rattle.rh_text.specs.declared.ends.Dir.TheVariants.{U, D}
 use Rattle.rh_text.specs.declared.ends.Side.{Side}
@@ -23,6 +23,7 @@ use Rattle.rh_nodes.specs.declared.place.Place.{Place}
 use Rattle.rh_nodes.specs.declared.place.Place.TheVariants.{Absent, Here, Gone}
 use Rattle.rh_nodes.specs.Company as company
 use Rattle.rh_nodes.specs.Company.{Rulebook}
+use Rattle.rh_nodes.specs.Numbered.{act}
 use Rattle.rh_nodes.specs.Giving.{Deeds}
 use Rattle.rh_nodes.specs.Opening.{Makers}
 use Rattle.rh_nodes.specs.Places as places
@@ -125,12 +126,20 @@ midst_runs line w node why h is =
 
 -- ---- only a client is refused
 
-pub never_there : {S : Type 0} (rules : Rules S) (event : Event) (why : Cause)
+never_there : {S : Type 0} (rules : Rules S) (event : Event) (why : Cause)
     → ((node : Shell S) → ClosesWith rules node event why → ⊥)
     → (p : Place S) → (places.tell rules event p).1 ≡ Some why → ⊥
 never_there rules event why never Absent e = absurd cc
 never_there rules event why never (Here node legs) e = never node e
 never_there rules event why never (Gone now) e = absurd cc
+
+-- wherever the proxy of a number is
+pub never_at : {S : Type 0} (rules : Rules S) (event : Event) (why : Cause)
+    → ((node : Shell S) → ClosesWith rules node event why → ⊥) → (list : List (Place S)) (n : ℕ)
+    → (act (places.tell rules event) None list n).1 ≡ Some why → ⊥
+never_at rules event why never list n e =
+    never_there rules event why never (get_or list n Absent)
+    (sym (answered Absent (places.tell rules event) None refl list n) ∙ e)
 
 -- what each role's rules say of it
 pub record RefusedEach : Type 0 where
@@ -175,16 +184,12 @@ module _ (law : RefusedEach) (line : Line) (w : roles.World) (h : IsReached w) (
       (subst (λ s. ClosesWith servers.rules s is.closed.closes.event why) runs.1.server e))
   refuses_by (In n) is e =
       let event = is.closed.closes.event in
-      let c = (mid (In n) is).company in
-      absurd (never_there in_proxies.rules event why
-      (λ node. law.in_proxy node event leg status) (in_place c n)
-      (sym (answered Absent (places.tell in_proxies.rules event) None refl c.ins n) ∙ e))
+      absurd (never_at in_proxies.rules event why (λ node. law.in_proxy node event leg status)
+      (mid (In n) is).company.ins n e)
   refuses_by (Out n) is e =
       let event = is.closed.closes.event in
-      let c = (mid (Out n) is).company in
-      absurd (never_there out_proxies.rules event why
-      (λ node. law.out_proxy node event leg status) (out_place c n)
-      (sym (answered Absent (places.tell out_proxies.rules event) None refl c.outs n) ∙ e))
+      absurd (never_at out_proxies.rules event why (λ node. law.out_proxy node event leg status)
+      (mid (Out n) is).company.outs n e)
 
   pub refuses : (node : Who) (is : IsLicensedAt w line node why)
       → RefusesClient w line node leg status is

@@ -1,14 +1,9 @@
 -- what each round of settling tells shows in what it reports
-use Rattle.std.proofs.Common.{ℕ, zero, suc, ◌+◌, List, [], ◌∷◌, Bool, true, false, ◌&&◌, if◌then◌else◌, length, Some, None, refl, sym, ap, subst, ◌≡◌, ◌⊎◌, inl, inr}
-use Rattle.std.specs.Prelude.{nat_le}
+use Rattle.std.proofs.Common.{ℕ, List, [], ◌∷◌, Bool, true, false, Some, None, refl, sym, ap, subst, ◌≡◌, ◌⊎◌, inl, inr}
 use Rattle.std.specs.declared.option.Option.{Option}
 use Rattle.rh_text.specs.declared.ends.Dir.{Dir}
-use Rattle.rh_text.specs.declared.ends.Dir.TheVariants.{U, D}
 use Rattle.rh_text.specs.declared.ends.Side.{Side}
-use Rattle.rh_text.specs.declared.ends.Side.TheVariants.{Client, Server}
 use Rattle.rh_line.specs.declared.leg.Leg.{Leg}
-use Rattle.rh_line.specs.declared.leg.LegKind.{LegKind}
-use Rattle.rh_line.specs.declared.leg.LegKind.TheVariants.{ClientOut, OutServer, ClientIn, InServer}
 use Rattle.rh_record.specs.declared.answer.Answer.{Answer}
 use Rattle.rh_record.specs.declared.answer.Answer.TheVariants as answer
 use Rattle.rh_record.specs.declared.answer.TakeAnswer.{TakeAnswer}
@@ -16,22 +11,19 @@ use Rattle.rh_record.specs.declared.answer.TakeAnswer.TheVariants as takes
 use Rattle.rh_nodes.specs.Carrying.{send, feed}
 use Rattle.rh_nodes.specs.Company.{Rulebook}
 use Rattle.rh_nodes.specs.Giving.{Deeds, take, has_ended}
-use Rattle.rh_nodes.specs.Legs as legs
-use Rattle.rh_nodes.specs.Opening.{Makers, open_leg, open_same, may_open_same}
-use Rattle.rh_nodes.specs.Reports.{and_then}
-use Rattle.rh_nodes.specs.Settling.{leg_at, opened, opened_same, open_next, open_next_in, next_number, open_client_outs, open_client_ins, open_out_servers, open_in_servers, open_all, most_bytes, carry_bytes, carried, carry, carry_both, carry_kind, carry_all, took, take_one, take_both, ends_now, ended, end_where, end_one, end_kind, end_all, round, behind_round, rounds_from, settle}
+use Rattle.rh_nodes.specs.Opening.{Makers, open_leg, open_same}
+use Rattle.rh_nodes.specs.Settling.{opened, opened_same, most_bytes, carry_bytes, carried, carry, took, take_one, ended, end_where, settle}
 use Rattle.rh_nodes.specs.World.{World}
 use Rattle.rh_history.specs.Changes.{Takes}
 use Rattle.rh_history.specs.Closes.{IsOneOf}
+use Rattle.rh_history.proofs.Rounds.{carries_go, ends_go, opens_go, rounds_go}
 use Rattle.rh_closes.specs.Shows.{ShownWorks}
 use Rattle.rh_closes.proofs.Showing.{shown_none, shown_one, shown_then}
-use Rattle.rh_closes.proofs.Going.{Goes, Quiet, goes_none, goes_and_then, goes_each}
+use Rattle.rh_closes.proofs.Going.{Goes, Quiet, goes_none, goes_and_then}
 use Rattle.rh_closes.proofs.Losing.{shown_end_leg, shown_send, shown_feed}
 use Rattle.rh_closes.proofs.Connected.{shown_open_leg, shown_open_same}
 
 module _ {K C S I O : Type 0} (r : Rulebook C S I O) (m : Makers K I O) (d : Deeds C S) where
-  -- ---- part 1
-
   opened_goes : (w : World K C S I O) (leg : Leg) (did : World K C S I O × Bool)
       → Quiet r m d w did.0 → Goes r m d w (opened leg did)
   opened_goes w leg (v, true) a = λ all are_in. a all
@@ -41,56 +33,6 @@ module _ {K C S I O : Type 0} (r : Rulebook C S I O) (m : Makers K I O) (d : Dee
       → Quiet r m d w did.0 → Goes r m d w (opened_same leg did)
   opened_same_goes w leg (v, true) a = λ all are_in. a all
   opened_same_goes w leg (v, false) a = λ all are_in. a all
-
-  next_goes : (leg : Leg) (w : World K C S I O) → Goes r m d w (open_next r m leg w)
-  next_goes leg w =
-      opened_goes w leg (open_leg r m w leg) (λ all. shown_open_leg r m d all w leg)
-
-  next_in_goes : (leg : Leg) (w : World K C S I O) → Goes r m d w (open_next_in r m leg w)
-  next_in_goes leg w = by (w.same && may_open_same r w leg)
-    where
-      by : (t : Bool) → Goes r m d w (if t then opened_same leg (open_same r w leg)
-          else open_next r m leg w)
-      by true =
-          opened_same_goes w leg (open_same r w leg) (λ all. shown_open_same r m d all w leg)
-      by false = next_goes leg w
-
-  client_outs_go : (w : World K C S I O) → Goes r m d w (open_client_outs r m w)
-  client_outs_go w = by (nat_le (next_number (length w.legs.client_out)) 4294967295)
-    where
-      by : (t : Bool) → Goes r m d w (if t
-          then open_next r m (leg_at ClientOut (next_number (length w.legs.client_out))) w
-          else (w, []))
-      by true = next_goes (leg_at ClientOut (next_number (length w.legs.client_out))) w
-      by false = goes_none r m d w
-
-  client_ins_go : (w : World K C S I O) → Goes r m d w (open_client_ins r m w)
-  client_ins_go w = by (nat_le (next_number (length w.legs.client_in)) 4294967295)
-    where
-      by : (t : Bool) → Goes r m d w (if t
-          then open_next_in r m (leg_at ClientIn (next_number (length w.legs.client_in))) w
-          else (w, []))
-      by true = next_in_goes (leg_at ClientIn (next_number (length w.legs.client_in))) w
-      by false = goes_none r m d w
-
-  open_goes : (w : World K C S I O) → Goes r m d w (open_all r m w)
-  open_goes w =
-      goes_and_then r m d w
-      (and_then (and_then (open_client_outs r m w) (open_out_servers r m)) (open_client_ins r m))
-      (open_in_servers r m)
-      (goes_and_then r m d w (and_then (open_client_outs r m w) (open_out_servers r m))
-      (open_client_ins r m)
-      (goes_and_then r m d w (open_client_outs r m w) (open_out_servers r m)
-      (client_outs_go w)
-      (λ v. goes_each r m d (length v.company.outs)
-      (λ number. open_next r m (leg_at OutServer number)) v
-      (λ number. next_goes (leg_at OutServer number))))
-      client_ins_go)
-      (λ v. goes_each r m d (length v.company.ins)
-      (λ number. open_next r m (leg_at InServer number)) v
-      (λ number. next_goes (leg_at InServer number)))
-
-  -- ---- part 2
 
   -- the bytes that were fed, where there were some
   some_of : List ℕ → Option (List ℕ) → List ℕ
@@ -120,29 +62,6 @@ module _ {K C S I O : Type 0} (r : Rulebook C S I O) (m : Makers K I O) (d : Dee
       (λ all told. shown_then r m d all w v (feed r v leg dir most_bytes).0
       (shown_send r m d all w leg dir most_bytes) (shown_feed r m d all v leg dir most_bytes told))
 
-  both_go : (leg : Leg) (w : World K C S I O) → Goes r m d w (carry_both r leg w)
-  both_go leg w =
-      goes_and_then r m d w (carry r leg U w) (carry r leg D) (carry_goes leg U w)
-      (carry_goes leg D)
-
-  kind_carries : (kind : LegKind) (w : World K C S I O) → Goes r m d w (carry_kind r kind w)
-  kind_carries kind w =
-      goes_each r m d (length (legs.of kind w.legs))
-      (λ number. carry_both r (leg_at kind number)) w (λ number. both_go (leg_at kind number))
-
-  carry_all_goes : (w : World K C S I O) → Goes r m d w (carry_all r w)
-  carry_all_goes w =
-      goes_and_then r m d w
-      (and_then (and_then (carry_kind r ClientOut w) (carry_kind r OutServer))
-      (carry_kind r ClientIn)) (carry_kind r InServer)
-      (goes_and_then r m d w (and_then (carry_kind r ClientOut w) (carry_kind r OutServer))
-      (carry_kind r ClientIn)
-      (goes_and_then r m d w (carry_kind r ClientOut w) (carry_kind r OutServer)
-      (kind_carries ClientOut w) (kind_carries OutServer)) (kind_carries ClientIn))
-      (kind_carries InServer)
-
-  -- ---- part 3
-
   took_goes : (w : World K C S I O) (end : Side) (ended : Bool)
       (did : World K C S I O × TakeAnswer) → Quiet r m d w did.0
       → Goes r m d w (took end ended did)
@@ -157,63 +76,20 @@ module _ {K C S I O : Type 0} (r : Rulebook C S I O) (m : Makers K I O) (d : Dee
       took_goes w end (has_ended w end) (take d w end)
       (λ all. shown_one r m d all w (Takes end) tt refl tt)
 
-  take_both_goes : (w : World K C S I O) → Goes r m d w (take_both d w)
-  take_both_goes w =
-      goes_and_then r m d w (take_one d Client w) (take_one d Server) (take_goes Client w)
-      (take_goes Server)
-
-  -- ---- part 4
-
-  where_goes : (leg : Leg) (w : World K C S I O) (o : Option Dir)
-      → Goes r m d w (end_where r leg w o)
-  where_goes leg w None = goes_none r m d w
-  where_goes leg w (Some dir) =
-      λ all are_in.
+  end_goes : (leg : Leg) (dir : Dir) (w : World K C S I O)
+      → Goes r m d w (end_where r leg w (Some dir))
+  end_goes leg dir w = λ all are_in.
       shown_end_leg r m d all w leg dir
       (λ e. are_in (answer.EndLeg leg dir true) (inl (ap (λ ok. answer.EndLeg leg dir ok) e)))
 
-  kind_ends : (kind : LegKind) (w : World K C S I O) → Goes r m d w (end_kind r kind w)
-  kind_ends kind w =
-      goes_each r m d (length (legs.of kind w.legs)) (λ number. end_one r (leg_at kind number)) w
-      (λ number v. where_goes (leg_at kind number) v (ends_now r (leg_at kind number) v))
-
-  end_all_goes : (w : World K C S I O) → Goes r m d w (end_all r w)
-  end_all_goes w =
-      goes_and_then r m d w
-      (and_then (and_then (end_kind r ClientOut w) (end_kind r OutServer)) (end_kind r ClientIn))
-      (end_kind r InServer)
-      (goes_and_then r m d w (and_then (end_kind r ClientOut w) (end_kind r OutServer))
-      (end_kind r ClientIn)
-      (goes_and_then r m d w (end_kind r ClientOut w) (end_kind r OutServer)
-      (kind_ends ClientOut w) (kind_ends OutServer)) (kind_ends ClientIn))
-      (kind_ends InServer)
-
-  -- ---- rounds
-
-  pub goes_round : (w : World K C S I O) → Goes r m d w (round r m d w)
-  goes_round w =
-      goes_and_then r m d w
-      (and_then (and_then (open_all r m w) (carry_all r)) (take_both d)) (end_all r)
-      (goes_and_then r m d w (and_then (open_all r m w) (carry_all r)) (take_both d)
-      (goes_and_then r m d w (open_all r m w) (carry_all r) (open_goes w) carry_all_goes)
-      take_both_goes) end_all_goes
-
-  behind_goes : (w : World K C S I O) (count : ℕ) (did : World K C S I O × List Answer)
-      (rest : World K C S I O → World K C S I O × List Answer) → Goes r m d w did
-      → ((v : World K C S I O) → Goes r m d v (rest v))
-      → Goes r m d w (behind_round count did rest)
-  behind_goes w count (v, []) rest a b = λ all are_in. a all (λ x h. absurd h)
-  behind_goes w count (v, one ∷ more) rest a b =
-      goes_and_then r m d w (v, one ∷ more) rest a b
-
-  rounds_go : (n count : ℕ) (w : World K C S I O)
-      → Goes r m d w (rounds_from n count (round r m d) w)
-  unfolding rounds_from
-  rounds_go zero count w = λ all are_in. shown_none r m d all w
-  rounds_go (suc n) count w =
-      behind_goes w count (round r m d w)
-      (λ next. rounds_from n (count + 1) (round r m d) next) (goes_round w)
-      (rounds_go n (count + 1))
-
   pub goes_settle : (rounds : ℕ) (w : World K C S I O) → Goes r m d w (settle r m d rounds w)
-  goes_settle rounds w = rounds_go rounds 0 w
+  goes_settle rounds =
+      rounds_go r m d (Goes r m d) (goes_none r m d) (goes_and_then r m d)
+      (opens_go r m d (Goes r m d) (goes_none r m d) (goes_and_then r m d)
+      (λ w leg. opened_goes w leg (open_leg r m w leg) (λ all. shown_open_leg r m d all w leg))
+      (λ w leg.
+      opened_same_goes w leg (open_same r w leg) (λ all. shown_open_same r m d all w leg)))
+      (carries_go r m d (Goes r m d) (goes_none r m d) (goes_and_then r m d) carry_goes) take_goes
+      (ends_go r m d (Goes r m d) (goes_none r m d) (goes_and_then r m d) end_goes)
+      (λ w v count a. λ all are_in. a all (λ x h. absurd h))
+      (λ w count. λ all are_in. shown_none r m d all w) rounds 0

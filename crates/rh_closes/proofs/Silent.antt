@@ -1,7 +1,6 @@
 -- only a client and an in proxy fall silent, by what happened at them
 use Rattle.std.proofs.Common.{◌≡◌, ℕ, List, Some, None, refl, sym, ◌∙◌, subst}
 use Rattle.rh_http.specs.declared.config.ClientConfig.{ClientConfig}
-use Rattle.rh_text.specs.declared.ends.Side.TheVariants as side
 use Rattle.rh_line.specs.declared.cause.Cause.{Cause}
 use Rattle.rh_line.specs.declared.cause.Cause.TheVariants as cause
 use Rattle.rh_line.specs.declared.leg.Leg.{Leg}
@@ -16,15 +15,11 @@ use Rattle.rh_nodes.specs.declared.event.Event.{Event}
 use Rattle.rh_nodes.specs.declared.place.Place.{Place}
 use Rattle.rh_nodes.specs.declared.place.Place.TheVariants.{Absent, Here, Gone}
 use Rattle.rh_nodes.specs.Company as company
-use Rattle.rh_nodes.specs.Company.{Rulebook}
 use Rattle.rh_nodes.specs.Cookies.{cookie_of}
-use Rattle.rh_nodes.specs.Giving.{Deeds}
-use Rattle.rh_nodes.specs.Opening.{Makers}
 use Rattle.rh_nodes.specs.Places as places
 use Rattle.rh_nodes.specs.World.{World}
-use Rattle.rh_history.specs.Changes.{Change, IsTold, IsFed, IsDrawn, GoesUp, RaisesAlone, GoesDown, OpensIn, OpensOut, OpensSame, Gives, Takes, Closes, RecyclesIn, RecyclesOut, MovesTo, Draws, Reports, Leads, changed}
-use Rattle.rh_history.specs.Histories.{IsRun, all_noted, in_place, out_place, nothing}
-use Rattle.rh_history.proofs.Leading.{leads_keep}
+use Rattle.rh_history.specs.Histories.{IsRun, all_noted, in_place, nothing}
+use Rattle.rh_history.proofs.Leading.{cast_kept}
 use Rattle.rh_history.proofs.Numbers.{answered}
 use Rattle.rh_world.specs.declared.any_world.AnyWorld.{AnyWorld}
 use Rattle.rh_world.specs.declared.any_world.AnyWorld.TheVariants.{Before, Direct, Settings, Roles}
@@ -42,38 +37,7 @@ use Rattle.rh_closes.specs.Licences.{midst}
 use Rattle.rh_closes.specs.Recordings.{IsLicensedAt, IsLicensedIn}
 use Rattle.rh_closes.specs.Silences.{FellSilent, IsSilentAt, IsSilentIn}
 use Rattle.rh_closes.proofs.Recorded.{IsReached, Reached}
-use Rattle.rh_closes.proofs.Refused.{midst_runs, never_there}
-
--- ---- the configuration stays
-
-module _ {K C S I O : Type 0} (r : Rulebook C S I O) (m : Makers K I O) (d : Deeds C S) where
-  cast_stays : (w : World K C S I O) (change : Change)
-      → (changed r m d w change).cast ≡ w.cast
-  cast_stays w (IsTold node event) = refl
-  cast_stays w (IsFed leg dir count) = refl
-  cast_stays w (IsDrawn leg dir count) = refl
-  cast_stays w (GoesUp node leg end cookie) = refl
-  cast_stays w (RaisesAlone node leg end cookie) = refl
-  cast_stays w (GoesDown node leg end) = refl
-  cast_stays w (OpensIn n cookie) = refl
-  cast_stays w (OpensOut n cookie) = refl
-  cast_stays w (OpensSame n cookie) = refl
-  cast_stays w (Gives side.Client pdu) = refl
-  cast_stays w (Gives side.Server pdu) = refl
-  cast_stays w (Takes side.Client) = refl
-  cast_stays w (Takes side.Server) = refl
-  cast_stays w (Closes side.Client) = refl
-  cast_stays w (Closes side.Server) = refl
-  cast_stays w RecyclesIn = refl
-  cast_stays w RecyclesOut = refl
-  cast_stays w (MovesTo now) = refl
-  cast_stays w (Draws cookies) = refl
-  cast_stays w Reports = refl
-
-  cast_kept : (w v : World K C S I O) → Leads r m d w v → v.cast ≡ w.cast
-  cast_kept w v leads =
-      leads_keep r m d (λ (u : World K C S I O). u.cast ≡ w.cast)
-      (λ u change same may. cast_stays u change ∙ same) w v leads refl
+use Rattle.rh_closes.proofs.Refused.{midst_runs, never_at}
 
 -- ---- nodes
 
@@ -133,8 +97,8 @@ module _ (law : SilentEach) (line : Line) (w : roles.World) (h : IsReached w) (l
       let runs = midst_runs line w (In n) why h is in
       let past = (all_noted roles.rules roles.makers roles.deeds (roles.begun h.config) nothing
       runs.0.changes).ins n in
-      let cast : v.cast ≡ h.config = cast_kept roles.rules roles.makers roles.deeds (roles.begun h.config) v
-      runs.0 in
+      let cast : v.cast ≡ h.config =
+      cast_kept roles.rules roles.makers roles.deeds (roles.begun h.config) v runs.0 in
       subst (λ config. InProxyFellSilent (roles.in_config config n) past event leg since now) cast
       (law.in_proxy (roles.in_config v.cast n) past event leg since now
       (run_closes in_proxies.rules (roles.in_proxy v.cast n) past event why (in_place v.company n)
@@ -143,9 +107,8 @@ module _ (law : SilentEach) (line : Line) (w : roles.World) (h : IsReached w) (l
   fell_by (Out n) is e =
       let event = is.closed.closes.event in
       let c = (midst roles.rules roles.makers roles.deeds line w (Out n) why is).company in
-      absurd (never_there out_proxies.rules event why
-      (λ node. law.out_proxy node event leg since now) (out_place c n)
-      (sym (answered Absent (places.tell out_proxies.rules event) None refl c.outs n) ∙ e))
+      absurd (never_at out_proxies.rules event why
+      (λ node. law.out_proxy node event leg since now) c.outs n e)
 
   pub silent_at : (node : Who) (is : IsLicensedAt w line node why)
       → IsSilentAt w line node leg since now is

@@ -30,7 +30,8 @@ use Rattle.rh_client.specs.Time.{ping_by}
 use Rattle.rh_client.specs.Putting.{Pick, put, put_by}
 use Rattle.rh_client.specs.Client.{rules as client_rules, acts, packet, on_packet, pdu, pdu_by}
 use Rattle.rh_client.specs.Order.{client_started, client_moved}
-use Rattle.rh_down.proofs.LegLogs.{same_is, of_other}
+use Rattle.rh_streams.proofs.Ends.{leg_is}
+use Rattle.rh_streams.proofs.LegLogs.{of_other}
 use Rattle.rh_down.proofs.ClientNumbers.{Above, PickAbove, same_above, recycle_above, passed_above, packet_above, put_by_above, settled_pick_above}
 
 -- ---- what is refused on a leg of number 0
@@ -136,7 +137,7 @@ ping_above s n InServer a = a
 
 -- on that leg what comes is refused
 on_leg : (P : Leg → Type 0) (leg : Leg) → P (co 0) → same_leg leg (co 0) ≡ true → P leg
-on_leg P leg p h = subst P (sym (same_is leg (co 0) h)) p
+on_leg P leg p h = subst P (sym (leg_is leg (co 0) h)) p
 
 move_quiet : (p : Passage ClientRole) (move : Move) → IsQuiet p
     → IsQuiet (moved client_rules p move)

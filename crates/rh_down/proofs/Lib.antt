@@ -1,4 +1,3 @@
-pub mod LegLogs
 pub mod Sides
 mod ClientNumbers
 mod ClientLegs

@@ -20,7 +20,7 @@ use Rattle.rh_outproxy.specs.Order as proxy
 use Rattle.rh_outproxy.specs.Order.{from_server, to_client, client_leg, server_leg}
 use Rattle.rh_server.specs.Order as server
 use Rattle.rh_server.specs.Order.{items_if, out_items}
-use Rattle.rh_down.proofs.LegLogs.{leg_items}
+use Rattle.rh_streams.proofs.LegLogs.{leg_items}
 
 -- ---- logs
 

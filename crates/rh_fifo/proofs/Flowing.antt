@@ -7,6 +7,7 @@ use Rattle.rh_line.specs.declared.leg.Leg.{Leg}
 use Rattle.rh_shell.specs.declared.rooms.Rooms.{Rooms}
 use Rattle.rh_shell.specs.Moves.{started}
 use Rattle.rh_shell.specs.Moving.{Event, EndEvent, after_events}
+use Rattle.rh_shell.specs.NearEnds.{NearEnd}
 use Rattle.rh_shell.specs.Rules.{Rules, Acts}
 use Rattle.rh_shell.specs.Shells.{Shell, begun}
 use Rattle.rh_http.specs.declared.config.ClientConfig.{ClientConfig}
@@ -53,31 +54,38 @@ EndStreams {S} rules acts =
     → AreAcceptedAtEnd rules acts (begun first rooms) events
     → HearsInTurn (happened events) → EndStream rules acts first rooms pipe events
 
-pub record Streaming : Type 0 where
-  pub clients : EndStreams client.rules client.acts
-  pub servers : EndStreams server.rules server.acts
+pub record ProxyStreaming : Type 0 where
   pub ins : NodeStreams in_proxy.rules
   pub outs : NodeStreams out_proxy.rules
-  pub client_refuses : NeverRefuses client.rules
-  pub server_refuses : NeverRefuses server.rules
   pub in_pipes : (config : InProxyConfig)
       → HasPipes in_proxy.rules (in_state.first config) (in_pipe config)
   pub out_pipes : (config : OutProxyConfig)
       → HasPipes out_proxy.rules (new_proxy config) (out_pipe config)
+  pub in_unused : (config : InProxyConfig) → StaysUnused in_proxy.rules (in_state.first config)
+  pub out_unused : (config : OutProxyConfig) → StaysUnused out_proxy.rules (new_proxy config)
+
+pub record Streaming : Type 0 where
+  pub proxies : ProxyStreaming
+  pub clients : EndStreams client.rules client.acts
+  pub servers : EndStreams server.rules server.acts
+  pub client_refuses : NeverRefuses client.rules
+  pub server_refuses : NeverRefuses server.rules
   pub client_unused : (config : ClientConfig)
       → StaysUnusedAtEnd client.rules client.acts (client_state.first config)
   pub server_unused : (window : ℕ)
       → StaysUnusedAtEnd server.rules server.acts (server.first window)
-  pub in_unused : (config : InProxyConfig) → StaysUnused in_proxy.rules (in_state.first config)
-  pub out_unused : (config : OutProxyConfig) → StaysUnused out_proxy.rules (new_proxy config)
 
 -- what a proxy reads at first it reads always
-pub out_reads : Streaming → (config : OutProxyConfig)
+pub out_reads : ProxyStreaming → (config : OutProxyConfig)
     → HasPipes out_proxy.rules (new_proxy config) (down.proxy_reads config)
 out_reads law config moves leg allowed =
     law.out_pipes config moves leg allowed ∙ sym (law.out_pipes config [] leg tt)
 
 -- ---- the streams
+
+-- where there is none, there is no end
+pub no_end : (end : NearEnd) → ◌≡◌ {A = Option NearEnd} None (Some end) → ⊥
+no_end end e = absurd (cc)
 
 -- of a node at which nothing happened
 abbrev pub still : {S : Type 0} (rules : Rules S) (first : S) (rooms : Rooms)
@@ -104,9 +112,10 @@ still rules first rooms pipe events none = record {
       subst (λ (e : List Event). IsPrefix (drawn_on rules (begun first rooms) leg e) []) (sym none)
       ([], refl);
   seats = λ leg end going at.
-      absurd (let bad : None ≡ Some end =
-      ap (λ (e : List Event). end_of leg (after_events rules (begun first rooms) e).legs) (sym none)
-      ∙ sym (end_is leg (after_events rules (begun first rooms) events).legs) ∙ at in cc);
+      absurd (no_end end
+      (ap (λ (e : List Event). end_of leg (after_events rules (begun first rooms) e).legs)
+      (sym none)
+      ∙ sym (end_is leg (after_events rules (begun first rooms) events).legs) ∙ at));
   unput = λ leg none. refl;
 }
 
@@ -122,9 +131,10 @@ module _ {K : Type 0} (law : Streaming) (m : Makers K InProxy OutProxy)
       still in_proxy.rules (in_state.first (ours.in_config 0)) in_proxy.rooms
       (in_pipe (ours.in_config 0)) (h.ins 0) none
   in_stream (suc n) =
-      law.ins (in_state.first (ours.in_config (suc n))) in_proxy.rooms
-      (in_pipe (ours.in_config (suc n))) (h.ins (suc n)) (law.in_pipes (ours.in_config (suc n)))
-      (law.in_unused (ours.in_config (suc n)))
+      law.proxies.ins (in_state.first (ours.in_config (suc n))) in_proxy.rooms
+      (in_pipe (ours.in_config (suc n))) (h.ins (suc n))
+      (law.proxies.in_pipes (ours.in_config (suc n)))
+      (law.proxies.in_unused (ours.in_config (suc n)))
       (subst (λ (node : Shell InProxy). ComesUpOnce in_proxy.rules node) (ours.ins (suc n))
       (once.ins (suc n)))
       (subst (λ (node : Shell InProxy). AreAccepted in_proxy.rules node (h.ins (suc n)))
@@ -149,8 +159,9 @@ module _ {K : Type 0} (law : Streaming) (m : Makers K InProxy OutProxy)
         ours.server accepted.server) turns.server;
     ins = in_stream;
     outs = λ n.
-        law.outs (new_proxy (ours.out_config n)) ROOMS (down.proxy_reads (ours.out_config n))
-        (h.outs n) (out_reads law (ours.out_config n)) (law.out_unused (ours.out_config n))
+        law.proxies.outs (new_proxy (ours.out_config n)) ROOMS
+        (down.proxy_reads (ours.out_config n)) (h.outs n)
+        (out_reads law.proxies (ours.out_config n)) (law.proxies.out_unused (ours.out_config n))
         (subst (λ (node : Shell OutProxy). ComesUpOnce out_proxy.rules node) (ours.outs n)
         (once.outs n))
         (subst (λ (node : Shell OutProxy). AreAccepted out_proxy.rules node (h.outs n))

@@ -1,10 +1,10 @@
 -- one more change leaves all that came to the nodes fine
-use Rattle.std.proofs.Common.{◌≡◌, ◌⊎◌, ℕ, Bool, List, [], refl, sym, ap, subst, inl, inr}
+use Rattle.std.proofs.Common.{◌≡◌, ℕ, Bool, true, false, List, [], refl, sym, ap, ◌∙◌, subst, inl}
 use Rattle.std.specs.Prelude.{if◌then◌else◌, Some, None}
 use Rattle.std.specs.List.{AllByRecursion}
 use Rattle.std.specs.declared.option.Option.{Option}
 use mathlib.Core.List.{IsPrefix}
-use Rattle.std.proofs.lemmas.Bool.{cases_eq, eq-eqb}
+use Rattle.std.proofs.lemmas.Bool.{eq-eqb, true≢false}
 use Rattle.rh_text.specs.declared.ends.Dir.{Dir}
 use Rattle.rh_text.specs.declared.ends.Dir.TheVariants.{U, D}
 use Rattle.rh_text.specs.declared.ends.Side.{Side}
@@ -21,6 +21,7 @@ use Rattle.rh_shell.specs.Shells.{Shell, begun}
 use Rattle.rh_shell.specs.Wires.{of_leg}
 use Rattle.rh_legible.specs.Legible.{IsFineMessage}
 use Rattle.rh_nodes.specs.Company.{Company}
+use Rattle.rh_nodes.specs.Halves.{is_same}
 use Rattle.rh_nodes.specs.Opening.{Makers}
 use Rattle.rh_nodes.specs.Readers.{reader_of}
 use Rattle.rh_nodes.specs.Settling.{leg_at}
@@ -38,11 +39,13 @@ use Rattle.rh_outproxy.specs.declared.out_proxy.TheConstants.{ROOMS}
 use Rattle.rh_server.specs.Legible as server_legible
 use Rattle.rh_server.specs.Servers as server
 use Rattle.rh_server.specs.States.{Server}
-use Rattle.rh_history.specs.Carried.{drawn_by, drawn_on, end_drawn_on, end_node, events_of, happened, heard_on}
+use Rattle.rh_history.specs.Carried.{drawn_by, drawn_on, end_drawn_on, end_node, events_of, heard_on}
 use Rattle.rh_history.specs.Histories.{History}
+use Rattle.rh_history.proofs.Ledgers.{who_itself}
+use Rattle.rh_history.proofs.Lines.{same_who}
 use Rattle.rh_history.proofs.Wired.{same_itself}
 use Rattle.rh_traced.specs.Ours.{AreOurs, deeds, rules}
-use Rattle.rh_reading.specs.Reading.{messages_read}
+use Rattle.rh_reading.specs.Reading.{Begins, messages_read}
 use Rattle.rh_down.specs.Down as down
 use Rattle.rh_proxies_begin.specs.Pipes as pipes
 use Rattle.rh_fifo.specs.Flows.{AllFine, AllLegible, AreBegun, Flows, numbers_of}
@@ -96,279 +99,179 @@ module _ {K : Type 0} (law : Reads) (m : Makers K InProxy OutProxy)
     → heard_on leg (events_of behind node) ≡ [])
     (f : Flows (numbers_of ours) h) (starts : AreBegun (numbers_of ours) h f)
     (legible : AllLegible (numbers_of ours) h f) (g : Flows (numbers_of ours) behind) where
-  -- ---- the client
+  -- ---- each node, on each leg
 
-  client_leg : (kind : LegKind) (n : ℕ)
-      → AllByRecursion IsFineMessage (of_leg (leg_at kind n) g.client.passage.passage.came)
-  client_leg ClientOut n =
-      let leg = leg_at ClientOut n in
-      from_source law (Some CoD) (of_leg leg (f.outs n).passage.put)
-      (of_leg leg g.client.passage.passage.came)
-      (drawn_on out_proxy.rules (begun (new_proxy (ours.out_config n)) ROOMS) leg (h.outs n))
-      (heard_on leg (happened behind.client))
-      (sourced out_legible.pipe_put (f.outs n).passage.put (legible.outs n) leg _
-      (starts.out_client n) (starts.out_client_drew n))
-      (from_out m first cast ours h n leg (heard_on leg (happened behind.client)) (before leg D))
-      (g.client.read leg)
-  client_leg ClientIn n =
-      let leg = leg_at ClientIn n in
-      let reader = reader_of readers n in
-      from_source law None (of_leg leg (f.ins reader).passage.put)
-      (of_leg leg g.client.passage.passage.came)
-      (drawn_on in_proxy.rules (in_proxy.first_node (ours.in_config reader)) leg (h.ins reader))
-      (heard_on leg (happened behind.client))
-      (sourced in_legible.pipe_put (f.ins reader).passage.put (legible.ins reader) leg _
-      (starts.in_client reader n) (starts.in_client_drew reader n))
-      (from_in m first cast ours h reader leg (heard_on leg (happened behind.client))
-      (before leg D))
-      (g.client.read leg)
-  client_leg OutServer n =
-      let leg = leg_at OutServer n in
-      from_nothing None (of_leg leg g.client.passage.passage.came)
-      (heard_on leg (happened behind.client)) (alone who.Client leg (λ end. by end))
-      (g.client.read leg)
-    where
-      by : (end : Side) → end_node later (leg_at OutServer n) end ≡ who.Client → ⊥
-      by side.Client e = absurd (cc)
-      by side.Server e = absurd (cc)
-  client_leg InServer n =
-      let leg = leg_at InServer n in
-      from_nothing None (of_leg leg g.client.passage.passage.came)
-      (heard_on leg (happened behind.client)) (alone who.Client leg (λ end. by end))
-      (g.client.read leg)
-    where
-      by : (end : Side) → end_node later (leg_at InServer n) end ≡ who.Client → ⊥
-      by side.Client e = absurd (cc)
-      by side.Server e = absurd (cc)
+  abbrev put_by : Who → Leg → List Message
+  put_by who.Client leg = of_leg leg f.client.passage.passage.put
+  put_by who.Server leg = of_leg leg f.server.passage.passage.put
+  put_by (who.In n) leg = of_leg leg (f.ins n).passage.put
+  put_by (who.Out n) leg = of_leg leg (f.outs n).passage.put
 
-  -- ---- the server
+  abbrev came_to : Who → Leg → List Message
+  came_to who.Client leg = of_leg leg g.client.passage.passage.came
+  came_to who.Server leg = of_leg leg g.server.passage.passage.came
+  came_to (who.In n) leg = of_leg leg (g.ins n).passage.came
+  came_to (who.Out n) leg = of_leg leg (g.outs n).passage.came
 
-  server_leg : (kind : LegKind) (n : ℕ)
-      → AllByRecursion IsFineMessage (of_leg (leg_at kind n) g.server.passage.passage.came)
-  server_leg InServer n =
-      let leg = leg_at InServer n in
-      from_source law (Some IsU) (of_leg leg (f.ins n).passage.put)
-      (of_leg leg g.server.passage.passage.came)
-      (drawn_on in_proxy.rules (in_proxy.first_node (ours.in_config n)) leg (h.ins n))
-      (heard_on leg (happened behind.server))
-      (sourced in_legible.pipe_put (f.ins n).passage.put (legible.ins n) leg _
-      (starts.in_server n) (starts.in_server_drew n))
-      (from_in m first cast ours h n leg (heard_on leg (happened behind.server)) (before leg U))
-      (g.server.read leg)
-  server_leg OutServer n =
-      let leg = leg_at OutServer n in
-      from_source law (Some OsU) (of_leg leg (f.outs n).passage.put)
-      (of_leg leg g.server.passage.passage.came)
-      (drawn_on out_proxy.rules (begun (new_proxy (ours.out_config n)) ROOMS) leg (h.outs n))
-      (heard_on leg (happened behind.server))
-      (sourced out_legible.pipe_put (f.outs n).passage.put (legible.outs n) leg _
-      (starts.out_server n) (starts.out_server_drew n))
-      (from_out m first cast ours h n leg (heard_on leg (happened behind.server)) (before leg U))
-      (g.server.read leg)
-  server_leg ClientOut n =
-      let leg = leg_at ClientOut n in
-      from_nothing None (of_leg leg g.server.passage.passage.came)
-      (heard_on leg (happened behind.server)) (alone who.Server leg (λ end. by end))
-      (g.server.read leg)
-    where
-      by : (end : Side) → end_node later (leg_at ClientOut n) end ≡ who.Server → ⊥
-      by side.Client e = absurd (cc)
-      by side.Server e = absurd (cc)
-  server_leg ClientIn n =
-      let leg = leg_at ClientIn n in
-      from_nothing None (of_leg leg g.server.passage.passage.came)
-      (heard_on leg (happened behind.server)) (alone who.Server leg (λ end. by end))
-      (g.server.read leg)
-    where
-      by : (end : Side) → end_node later (leg_at ClientIn n) end ≡ who.Server → ⊥
-      by side.Client e = absurd (cc)
-      by side.Server e = absurd (cc)
+  abbrev pipe_read : Who → Leg → Option Pipe
+  pipe_read who.Client leg = down.client_reads leg
+  pipe_read who.Server leg = down.server_reads leg
+  pipe_read (who.In n) leg = pipes.in_pipe (ours.in_config n) leg
+  pipe_read (who.Out n) leg = down.proxy_reads (ours.out_config n) leg
 
-  -- ---- an out proxy, which stands at the legs of its number
+  is_read : (node : Who) (leg : Leg)
+      → IsPrefix (came_to node leg)
+      (messages_read (pipe_read node leg) (heard_on leg (events_of behind node)))
+  is_read who.Client leg = g.client.read leg
+  is_read who.Server leg = g.server.read leg
+  is_read (who.In n) leg = (g.ins n).read leg
+  is_read (who.Out n) leg = (g.outs n).read leg
 
-  out_here : (k : ℕ) (leg : Leg) (pipe : Option Pipe) (put : List Message) (drawn : List ℕ)
-      → Source pipe put drawn → IsPrefix (heard_on leg (behind.outs k)) drawn
-      → down.proxy_reads (ours.out_config k) leg ≡ pipe
-      → AllByRecursion IsFineMessage (of_leg leg (g.outs k).passage.came)
-  out_here k leg pipe put drawn source p is =
-      from_source law pipe put (of_leg leg (g.outs k).passage.came) drawn
-      (heard_on leg (behind.outs k)) source p
-      (subst (λ (at : Option Pipe). IsPrefix (of_leg leg (g.outs k).passage.came)
-      (messages_read at (heard_on leg (behind.outs k)))) is ((g.outs k).read leg))
+  abbrev drawn_there : Who → Leg → List ℕ
+  drawn_there who.Client leg =
+      end_drawn_on client.rules client.acts (client.first_client ours.config) leg h.client
+  drawn_there who.Server leg =
+      end_drawn_on server.rules server.acts (server.new_server ours.window) leg h.server
+  drawn_there (who.In n) leg =
+      drawn_on in_proxy.rules (in_proxy.first_node (ours.in_config n)) leg (h.ins n)
+  drawn_there (who.Out n) leg =
+      drawn_on out_proxy.rules (begun (new_proxy (ours.out_config n)) ROOMS) leg (h.outs n)
 
-  out_none : (k : ℕ) (leg : Leg) → ((end : Side) → end_node later leg end ≡ who.Out k → ⊥)
-      → AllByRecursion IsFineMessage (of_leg leg (g.outs k).passage.came)
-  out_none k leg apart =
-      from_nothing (down.proxy_reads (ours.out_config k) leg)
-      (of_leg leg (g.outs k).passage.came) (heard_on leg (behind.outs k))
-      (alone (who.Out k) leg apart) ((g.outs k).read leg)
+  from_node : (node : Who) (leg : Leg) (heard : List ℕ)
+      → IsPrefix heard (drawn_by rules m deeds first cast h node leg)
+      → IsPrefix heard (drawn_there node leg)
+  from_node who.Client = from_client m first cast ours h
+  from_node who.Server = from_server m first cast ours h
+  from_node (who.In n) = from_in m first cast ours h n
+  from_node (who.Out n) = from_out m first cast ours h n
 
-  -- what it reads on the legs of its number
-  reads_client : (k : ℕ)
-      → down.proxy_reads (ours.out_config k) (leg_at ClientOut k) ≡ Some CoU
-  reads_client k =
+  -- ---- each direction of a leg: the pipe that is read there, and what was put
+
+  abbrev pipe_on : LegKind → Dir → Option Pipe
+  pipe_on ClientIn U = Some CiU
+  pipe_on ClientIn D = None
+  pipe_on InServer U = Some IsU
+  pipe_on InServer D = Some IsD
+  pipe_on ClientOut U = Some CoU
+  pipe_on ClientOut D = Some CoD
+  pipe_on OutServer U = Some OsU
+  pipe_on OutServer D = Some OsD
+
+  -- a proxy reads these on the legs of its number
+  reads_co : (k : ℕ) → down.proxy_reads (ours.out_config k) (leg_at ClientOut k) ≡ Some CoU
+  reads_co k =
       subst (λ (n : ℕ). down.proxy_reads (record (ours.out_config k) { number = n })
-      (leg_at ClientOut k) ≡ Some CoU) (sym (ours.out_number k)) (by k)
-    where
-      by : (n : ℕ) → down.proxy_reads (record (ours.out_config k) { number = n })
-          (leg_at ClientOut n) ≡ Some CoU
-      by n = ap (λ (b : Bool). if b then Some CoU else Some OsD) (same_itself (leg_at ClientOut n))
-
-  reads_server : (k n : ℕ)
-      → down.proxy_reads (ours.out_config k) (leg_at OutServer n) ≡ Some OsD
-  reads_server k n = refl
-
-  out_leg : (k : ℕ) (kind : LegKind) (n : ℕ)
-      → AllByRecursion IsFineMessage (of_leg (leg_at kind n) (g.outs k).passage.came)
-  out_leg k ClientOut n = by (cases_eq k n)
-    where
-      here : AllByRecursion IsFineMessage (of_leg (leg_at ClientOut k) (g.outs k).passage.came)
-      here =
-          let leg = leg_at ClientOut k in
-          out_here k leg (Some CoU) (of_leg leg f.client.passage.passage.put)
-          (end_drawn_on client.rules client.acts (client.first_client ours.config) leg h.client)
-          (sourced client_legible.pipe_put f.client.passage.passage.put legible.client leg _
-          (starts.client_out k) (inl (f.client.drawn leg)))
-          (from_client m first cast ours h leg (heard_on leg (behind.outs k))
-          (before leg U)) (reads_client k)
-
-      by : (k ≡ n) ⊎ (k ≡ n → ⊥)
-          → AllByRecursion IsFineMessage (of_leg (leg_at ClientOut n) (g.outs k).passage.came)
-      by (inl e) =
-          subst (λ (i : ℕ). AllByRecursion IsFineMessage
-          (of_leg (leg_at ClientOut i) (g.outs k).passage.came)) e here
-      by (inr apart) = out_none k (leg_at ClientOut n) (λ end. at end)
-        where
-          at : (end : Side) → end_node later (leg_at ClientOut n) end ≡ who.Out k → ⊥
-          at side.Client e = absurd (cc)
-          at side.Server e = apart (sym (let same = e in cc))
-  out_leg k OutServer n = by (cases_eq k n)
-    where
-      here : AllByRecursion IsFineMessage (of_leg (leg_at OutServer k) (g.outs k).passage.came)
-      here =
-          let leg = leg_at OutServer k in
-          out_here k leg (Some OsD) (of_leg leg f.server.passage.passage.put)
-          (end_drawn_on server.rules server.acts (server.new_server ours.window) leg h.server)
-          (sourced server_legible.pipe_put f.server.passage.passage.put legible.server leg _
-          (starts.server_out k) (inl (f.server.drawn leg)))
-          (from_server m first cast ours h leg (heard_on leg (behind.outs k))
-          (before leg D)) (reads_server k k)
-
-      by : (k ≡ n) ⊎ (k ≡ n → ⊥)
-          → AllByRecursion IsFineMessage (of_leg (leg_at OutServer n) (g.outs k).passage.came)
-      by (inl e) =
-          subst (λ (i : ℕ). AllByRecursion IsFineMessage
-          (of_leg (leg_at OutServer i) (g.outs k).passage.came)) e here
-      by (inr apart) = out_none k (leg_at OutServer n) (λ end. at end)
-        where
-          at : (end : Side) → end_node later (leg_at OutServer n) end ≡ who.Out k → ⊥
-          at side.Client e = apart (sym (let same = e in cc))
-          at side.Server e = absurd (cc)
-  out_leg k ClientIn n = out_none k (leg_at ClientIn n) (λ end. at end)
-    where
-      at : (end : Side) → end_node later (leg_at ClientIn n) end ≡ who.Out k → ⊥
-      at side.Client e = absurd (cc)
-      at side.Server e = absurd (cc)
-  out_leg k InServer n = out_none k (leg_at InServer n) (λ end. at end)
-    where
-      at : (end : Side) → end_node later (leg_at InServer n) end ≡ who.Out k → ⊥
-      at side.Client e = absurd (cc)
-      at side.Server e = absurd (cc)
-
-  -- ---- an in proxy, which reads each IN leg of which it is the reader
-
-  in_here : (k : ℕ) (leg : Leg) (pipe : Option Pipe) (put : List Message) (drawn : List ℕ)
-      → Source pipe put drawn → IsPrefix (heard_on leg (behind.ins k)) drawn
-      → pipes.in_pipe (ours.in_config k) leg ≡ pipe
-      → AllByRecursion IsFineMessage (of_leg leg (g.ins k).passage.came)
-  in_here k leg pipe put drawn source p is =
-      from_source law pipe put (of_leg leg (g.ins k).passage.came) drawn
-      (heard_on leg (behind.ins k)) source p
-      (subst (λ (at : Option Pipe). IsPrefix (of_leg leg (g.ins k).passage.came)
-      (messages_read at (heard_on leg (behind.ins k)))) is ((g.ins k).read leg))
-
-  in_none : (k : ℕ) (leg : Leg) → ((end : Side) → end_node later leg end ≡ who.In k → ⊥)
-      → AllByRecursion IsFineMessage (of_leg leg (g.ins k).passage.came)
-  in_none k leg apart =
-      from_nothing (pipes.in_pipe (ours.in_config k) leg)
-      (of_leg leg (g.ins k).passage.came) (heard_on leg (behind.ins k))
-      (alone (who.In k) leg apart) ((g.ins k).read leg)
-
-  reads_ci : (k n : ℕ) → pipes.in_pipe (ours.in_config k) (leg_at ClientIn n) ≡ Some CiU
-  reads_ci k n = refl
+      (leg_at ClientOut k) ≡ Some CoU) (sym (ours.out_number k))
+      (ap (λ (b : Bool). if b then Some CoU else Some OsD) (same_itself (leg_at ClientOut k)))
 
   reads_is : (k : ℕ) → pipes.in_pipe (ours.in_config k) (leg_at InServer k) ≡ Some IsD
   reads_is k =
       subst (λ (n : ℕ). pipes.in_pipe (record (ours.in_config k) { number = n })
-      (leg_at InServer k) ≡ Some IsD) (sym (ours.in_number k)) (by k)
-    where
-      by : (n : ℕ) → pipes.in_pipe (record (ours.in_config k) { number = n })
-          (leg_at InServer n) ≡ Some IsD
-      by n = ap (λ (b : Bool). if b then Some IsD else None) (eq-eqb n n refl)
+      (leg_at InServer k) ≡ Some IsD) (sym (ours.in_number k))
+      (ap (λ (b : Bool). if b then Some IsD else None) (eq-eqb k k refl))
 
-  in_leg : (k : ℕ) (kind : LegKind) (n : ℕ)
-      → AllByRecursion IsFineMessage (of_leg (leg_at kind n) (g.ins k).passage.came)
-  in_leg k ClientIn n = by (cases_eq (reader_of later n) k)
-    where
-      by : (reader_of later n ≡ k) ⊎ (reader_of later n ≡ k → ⊥)
-          → AllByRecursion IsFineMessage (of_leg (leg_at ClientIn n) (g.ins k).passage.came)
-      by (inl e) =
-          let leg = leg_at ClientIn n in
-          in_here k leg (Some CiU) (of_leg leg f.client.passage.passage.put)
-          (end_drawn_on client.rules client.acts (client.first_client ours.config) leg h.client)
-          (sourced client_legible.pipe_put f.client.passage.passage.put legible.client leg _
-          (starts.client_in n) (inl (f.client.drawn leg)))
-          (from_client m first cast ours h leg (heard_on leg (behind.ins k))
-          (subst (λ (i : ℕ). IsPrefix (heard_on leg (behind.ins i))
-          (drawn_by rules m deeds first cast h who.Client leg)) e (before leg U))) (reads_ci k n)
-      by (inr apart) = in_none k (leg_at ClientIn n) (λ end. at end)
-        where
-          at : (end : Side) → end_node later (leg_at ClientIn n) end ≡ who.In k → ⊥
-          at side.Client e = absurd (cc)
-          at side.Server e = apart (let same = e in cc)
-  in_leg k InServer n = by (cases_eq k n)
-    where
-      here : AllByRecursion IsFineMessage (of_leg (leg_at InServer k) (g.ins k).passage.came)
-      here =
-          let leg = leg_at InServer k in
-          in_here k leg (Some IsD) (of_leg leg f.server.passage.passage.put)
-          (end_drawn_on server.rules server.acts (server.new_server ours.window) leg h.server)
-          (sourced server_legible.pipe_put f.server.passage.passage.put legible.server leg _
-          (starts.server_in k) (inl (f.server.drawn leg)))
-          (from_server m first cast ours h leg (heard_on leg (behind.ins k))
-          (before leg D)) (reads_is k)
+  reads_pipe : (kind : LegKind) (n : ℕ) (dir : Dir)
+      → pipe_read (end_node later (leg_at kind n) (receiver dir)) (leg_at kind n)
+      ≡ pipe_on kind dir
+  reads_pipe ClientIn n U = refl
+  reads_pipe ClientIn n D = refl
+  reads_pipe InServer n U = refl
+  reads_pipe InServer n D = reads_is n
+  reads_pipe ClientOut n U = reads_co n
+  reads_pipe ClientOut n D = refl
+  reads_pipe OutServer n U = refl
+  reads_pipe OutServer n D = refl
 
-      by : (k ≡ n) ⊎ (k ≡ n → ⊥)
-          → AllByRecursion IsFineMessage (of_leg (leg_at InServer n) (g.ins k).passage.came)
-      by (inl e) =
-          subst (λ (i : ℕ). AllByRecursion IsFineMessage
-          (of_leg (leg_at InServer i) (g.ins k).passage.came)) e here
-      by (inr apart) = in_none k (leg_at InServer n) (λ end. at end)
+  module _ (leg : Leg) where
+    client_source : Begins (client_legible.pipe_put leg) (put_by who.Client leg)
+        → Source (client_legible.pipe_put leg) (put_by who.Client leg) (drawn_there who.Client leg)
+    client_source begins =
+        sourced client_legible.pipe_put f.client.passage.passage.put legible.client leg
+        (drawn_there who.Client leg) begins (inl (f.client.drawn leg))
+
+    server_source : Begins (server_legible.pipe_put leg) (put_by who.Server leg)
+        → Source (server_legible.pipe_put leg) (put_by who.Server leg) (drawn_there who.Server leg)
+    server_source begins =
+        sourced server_legible.pipe_put f.server.passage.passage.put legible.server leg
+        (drawn_there who.Server leg) begins (inl (f.server.drawn leg))
+
+  source : (kind : LegKind) (n : ℕ) (dir : Dir)
+      → (let node = end_node readers (leg_at kind n) (sender dir) in
+      Source (pipe_on kind dir) (put_by node (leg_at kind n)) (drawn_there node (leg_at kind n)))
+  source ClientIn n U = client_source (leg_at ClientIn n) (starts.client_in n)
+  source ClientOut n U = client_source (leg_at ClientOut n) (starts.client_out n)
+  source InServer n D = server_source (leg_at InServer n) (starts.server_in n)
+  source OutServer n D = server_source (leg_at OutServer n) (starts.server_out n)
+  source ClientIn n D =
+      let k = reader_of readers n in
+      sourced in_legible.pipe_put (f.ins k).passage.put (legible.ins k) (leg_at ClientIn n)
+      (drawn_there (who.In k) (leg_at ClientIn n)) (starts.in_client k n)
+      (starts.in_client_drew k n)
+  source InServer n U =
+      sourced in_legible.pipe_put (f.ins n).passage.put (legible.ins n) (leg_at InServer n)
+      (drawn_there (who.In n) (leg_at InServer n)) (starts.in_server n) (starts.in_server_drew n)
+  source ClientOut n D =
+      sourced out_legible.pipe_put (f.outs n).passage.put (legible.outs n) (leg_at ClientOut n)
+      (drawn_there (who.Out n) (leg_at ClientOut n)) (starts.out_client n)
+      (starts.out_client_drew n)
+  source OutServer n U =
+      sourced out_legible.pipe_put (f.outs n).passage.put (legible.outs n) (leg_at OutServer n)
+      (drawn_there (who.Out n) (leg_at OutServer n)) (starts.out_server n)
+      (starts.out_server_drew n)
+
+  -- so what the node at its end took of that is fine
+  end_fine : (leg : Leg) (dir : Dir)
+      → AllByRecursion IsFineMessage (came_to (end_node later leg (receiver dir)) leg)
+  end_fine leg dir =
+      let puts = end_node readers leg (sender dir) in
+      let takes = end_node later leg (receiver dir) in
+      let heard = heard_on leg (events_of behind takes) in
+      from_source law (pipe_on leg.kind dir) (put_by puts leg) (came_to takes leg)
+      (drawn_there puts leg) heard (source leg.kind leg.number dir)
+      (from_node puts leg heard (before leg dir))
+      (subst (λ (pipe : Option Pipe). IsPrefix (came_to takes leg) (messages_read pipe heard))
+      (reads_pipe leg.kind leg.number dir) (is_read takes leg))
+
+  node_fine : (node : Who) (leg : Leg) → AllByRecursion IsFineMessage (came_to node leg)
+  node_fine node leg =
+      by (is_same (end_node later leg side.Client) node) refl
+      (is_same (end_node later leg side.Server) node) refl
+    where
+      here : (end : Side) → is_same (end_node later leg end) node ≡ true
+          → AllByRecursion IsFineMessage (came_to (end_node later leg end) leg)
+          → AllByRecursion IsFineMessage (came_to node leg)
+      here end e fine =
+          subst (λ (x : Who). AllByRecursion IsFineMessage (came_to x leg))
+          (same_who (end_node later leg end) node e) fine
+
+      apart : (end : Side) → is_same (end_node later leg end) node ≡ false
+          → end_node later leg end ≡ node → ⊥
+      apart end e is =
+          true≢false (sym (who_itself node) ∙ sym (ap (λ (x : Who). is_same x node) is) ∙ e)
+
+      by : (c : Bool) → is_same (end_node later leg side.Client) node ≡ c → (s : Bool)
+          → is_same (end_node later leg side.Server) node ≡ s
+          → AllByRecursion IsFineMessage (came_to node leg)
+      by true e s k = here side.Client e (end_fine leg D)
+      by false e true k = here side.Server k (end_fine leg U)
+      by false e false k =
+          from_nothing (pipe_read node leg) (came_to node leg)
+          (heard_on leg (events_of behind node)) (alone node leg none) (is_read node leg)
         where
-          at : (end : Side) → end_node later (leg_at InServer n) end ≡ who.In k → ⊥
-          at side.Client e = apart (sym (let same = e in cc))
-          at side.Server e = absurd (cc)
-  in_leg k ClientOut n = in_none k (leg_at ClientOut n) (λ end. at end)
-    where
-      at : (end : Side) → end_node later (leg_at ClientOut n) end ≡ who.In k → ⊥
-      at side.Client e = absurd (cc)
-      at side.Server e = absurd (cc)
-  in_leg k OutServer n = in_none k (leg_at OutServer n) (λ end. at end)
-    where
-      at : (end : Side) → end_node later (leg_at OutServer n) end ≡ who.In k → ⊥
-      at side.Client e = absurd (cc)
-      at side.Server e = absurd (cc)
+          none : (end : Side) → end_node later leg end ≡ node → ⊥
+          none side.Client = apart side.Client e
+          none side.Server = apart side.Server k
 
   -- ---- all of it
 
   pub heard_fine : AllFine (numbers_of ours) behind g
   heard_fine = record {
     client = of_legs IsFineMessage same_itself g.client.passage.passage.came
-        (λ leg. client_leg leg.kind leg.number);
+        (λ leg. node_fine who.Client leg);
     server = of_legs IsFineMessage same_itself g.server.passage.passage.came
-        (λ leg. server_leg leg.kind leg.number);
+        (λ leg. node_fine who.Server leg);
     ins = λ k. of_legs IsFineMessage same_itself (g.ins k).passage.came
-        (λ leg. in_leg k leg.kind leg.number);
+        (λ leg. node_fine (who.In k) leg);
     outs = λ k. of_legs IsFineMessage same_itself (g.outs k).passage.came
-        (λ leg. out_leg k leg.kind leg.number);
+        (λ leg. node_fine (who.Out k) leg);
   }

@@ -76,35 +76,44 @@ module _ {K : Type 0} (m : Makers K InProxy OutProxy)
       (all_given rules.client deeds.client c h.client))
       (front_of _ _ (moment v by).up)
 
+  -- the ends are what their histories made of the first ones
+  client_is : (v : World K ClientRole Server InProxy OutProxy) (by : ByChanges rules m deeds w v)
+      → v.company.client
+      ≡ after_end_events rules.client deeds.client (client.first_client ours.config)
+      (history_at m w v by.leads).client
+  client_is v by =
+      (runs v by).client
+      ∙ ap (λ (c : Shell ClientRole). after_end_events rules.client deeds.client c
+      (history_at m w v by.leads).client) ours.client
+
+  server_is : (v : World K ClientRole Server InProxy OutProxy) (by : ByChanges rules m deeds w v)
+      → v.company.server
+      ≡ after_end_events rules.server deeds.server (server.new_server ours.window)
+      (history_at m w v by.leads).server
+  server_is v by =
+      (runs v by).server
+      ∙ ap (λ (s : Shell Server). after_end_events rules.server deeds.server s
+      (history_at m w v by.leads).server) ours.server
+
   clean : (v : World K ClientRole Server InProxy OutProxy) (by : ByChanges rules m deeds w v)
       (end : Side) → next_take deeds v end ≡ takes.Ended → HasAll m w v by.leads end
   clean v by side.Client ended =
       let h = history_at m w v by.leads in
-      let is = (runs v by) in
-      let all = (moment v by).down_ended v.company.client
-      (is.client ∙ ap (λ (c : Shell ClientRole).
-      after_end_events rules.client deeds.client c h.client) ours.client) ended in
+      let all = (moment v by).down_ended v.company.client (client_is v by) ended in
       record {
         all = at_ends (λ (c : Shell ClientRole) (s : Shell Server).
             all_taken rules.client deeds.client c h.client
             ≡ all_given rules.server deeds.server s h.server) all.0;
-        closing = ap (λ (s : Shell Server). is_closing s.role.giving)
-            (is.server ∙ ap (λ (s : Shell Server).
-            after_end_events rules.server deeds.server s h.server) ours.server) ∙ all.1;
+        closing = ap (λ (s : Shell Server). is_closing s.role.giving) (server_is v by) ∙ all.1;
       }
   clean v by side.Server ended =
       let h = history_at m w v by.leads in
-      let is = (runs v by) in
-      let all = (moment v by).up_ended v.company.server
-      (is.server ∙ ap (λ (s : Shell Server).
-      after_end_events rules.server deeds.server s h.server) ours.server) ended in
+      let all = (moment v by).up_ended v.company.server (server_is v by) ended in
       record {
         all = at_ends (λ (c : Shell ClientRole) (s : Shell Server).
             all_taken rules.server deeds.server s h.server
             ≡ all_given rules.client deeds.client c h.client) all.0;
-        closing = ap (λ (c : Shell ClientRole). c.role.is_closing)
-            (is.client ∙ ap (λ (c : Shell ClientRole).
-            after_end_events rules.client deeds.client c h.client) ours.client) ∙ all.1;
+        closing = ap (λ (c : Shell ClientRole). c.role.is_closing) (client_is v by) ∙ all.1;
       }
 
   pub keeps_order : KeepsOrder has_whole_cookie m w

@@ -1,5 +1,5 @@
 -- what comes on a leg is fine where what was put there may go
-use Rattle.std.proofs.Common.{◌≡◌, ℕ, Bool, true, false, List, [], ◌∷◌, refl, ◌∙◌, inl, inr, if◌then◌else◌}
+use Rattle.std.proofs.Common.{◌≡◌, ℕ, Bool, true, false, List, [], ◌∷◌, ◌∙◌, inl, inr, if◌then◌else◌}
 use Rattle.std.specs.List.{AllByRecursion}
 use Rattle.std.specs.declared.option.Option.{Option}
 use mathlib.Core.List.{IsPrefix}
@@ -73,9 +73,3 @@ module _ (P : Message → Type 0) where
     of_legs same log
         (λ leg. rest_of (same_leg one.0 leg) one.1 (of_leg leg log) (each leg)),
   )
-
-  -- and the other way
-  split : (b : Bool) (one : Message) (rest : List Message) → (b ≡ true → P one)
-      → AllByRecursion P rest → AllByRecursion P (if b then one ∷ rest else rest)
-  split true one rest p all = (p refl, all)
-  split false one rest p all = all

@@ -8,7 +8,6 @@ mod Reaching
 mod Routing
 mod Moments
 mod Fronts
-mod Marked
-mod Unread
+pub mod Marked
 mod Kept
 pub mod Recorded

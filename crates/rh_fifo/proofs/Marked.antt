@@ -19,7 +19,7 @@ use Rattle.rh_up.specs.Up.{GoesUp, up_route}
 use Rattle.rh_fifo.specs.Directions.{BothMark, Directions, MarksAreLast, down_route_of, up_route_of}
 use Rattle.rh_fifo.specs.Flows.{Numbers}
 
-pub record MarkLaw : Type 0 where
+pub record RouteLaws : Type 0 where
   pub down : (config : ClientConfig) (window : ℕ) (out_config : ℕ → OutProxyConfig)
       (client server : List EndEvent) (outs : ℕ → List Event)
       (d : GoesDown config window out_config client server outs) → IsRoute (route_of d)
@@ -29,6 +29,20 @@ pub record MarkLaw : Type 0 where
       (g : GoesUp config window in_config client_events server_events ins made reader)
       → IsRoute (up_route reader g.giver.passage (λ n. (g.proxies n).passage) g.taker.leads.moves
       g.taker.passage)
+
+module _ {K : Type 0} {numbers : Numbers} {v : World K ClientRole Server InProxy OutProxy}
+    {h : History} (law : RouteLaws) (directions : Directions numbers v h) where
+  pub down_is_route : IsRoute (down_route_of directions)
+  down_is_route =
+      law.down numbers.client numbers.window numbers.outs h.client h.server h.outs directions.down
+
+  pub up_is_route : IsRoute (up_route_of directions)
+  up_is_route =
+      law.up numbers.client numbers.window numbers.ins h.client h.server h.ins
+      (is_made v.company) (reader_of v.readers) directions.up
+
+pub record MarkLaw : Type 0 where
+  pub routes : RouteLaws
   pub near : (r : Route) (m n : ℕ) → IsRoute r → r.legs m ≡ true
       → IsChannel (r.sent n) × IsChannel (r.came m n)
   pub far : (r : Route) (m : ℕ) → IsRoute r → IsChannel (r.put m) × IsChannel (r.got m)
@@ -42,12 +56,8 @@ marks law r is = record {
 pub both_mark : {K : Type 0} {numbers : Numbers}
     {v : World K ClientRole Server InProxy OutProxy} {h : History} → MarkLaw
     → Directions numbers v h → BothMark numbers v h
-both_mark {K} {numbers} {v} {h} law directions = record {
+both_mark law directions = record {
   directions = directions;
-  down = marks law (down_route_of directions)
-      (law.down numbers.client numbers.window numbers.outs h.client h.server h.outs
-      directions.down);
-  up = marks law (up_route_of directions)
-      (law.up numbers.client numbers.window numbers.ins h.client h.server h.ins
-      (is_made v.company) (reader_of v.readers) directions.up);
+  down = marks law (down_route_of directions) (down_is_route law.routes directions);
+  up = marks law (up_route_of directions) (up_is_route law.routes directions);
 }

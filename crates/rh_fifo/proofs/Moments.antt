@@ -31,7 +31,7 @@ use Rattle.rh_fifo.proofs.Legs.{Reads}
 use Rattle.rh_fifo.proofs.Flowing.{Streaming}
 use Rattle.rh_fifo.proofs.Starting.{Beginning, starts}
 use Rattle.rh_fifo.proofs.Legal.{Legalities, all_legible}
-use Rattle.rh_fifo.proofs.Reaching.{IsSized, Keeps, Tracing, flows_here, have_cookies, keeps_first, one_more}
+use Rattle.rh_fifo.proofs.Reaching.{Apart, IsSized, Keeps, Tracing, flows_here, have_cookies, keeps_first, one_more}
 use Rattle.rh_fifo.proofs.Routing.{goes_down, goes_up}
 
 -- ---- the laws that this stands on
@@ -47,10 +47,13 @@ pub record Known (K : Type 0) : Type 0 where
   pub order : (m : Makers K InProxy OutProxy) (w v : OurWorld K) → IsNew w
       → LegsComeUpOnce rules m deeds w.company w.cast → (by : ByChanges rules m deeds w v)
       → ComeUpInOrder v (all_noted rules m deeds w nothing by.leads.changes)
-  pub drew : (m : Makers K InProxy OutProxy) (w v : OurWorld K) (h : History)
-      → IsTraced rules m deeds w.company v h → (leg : Leg) (dir : Dir)
-      → IsPrefix (heard_on leg (events_of h (end_node v.readers leg (receiver dir))))
-      (drawn_by rules m deeds w.company v.cast h (end_node v.readers leg (sender dir)) leg)
+
+abbrev pub Drew : Type 0 → Type 0
+Drew K =
+    (m : Makers K InProxy OutProxy) (w v : OurWorld K) (h : History)
+    → IsTraced rules m deeds w.company v h → (leg : Leg) (dir : Dir)
+    → IsPrefix (heard_on leg (events_of h (end_node v.readers leg (receiver dir))))
+    (drawn_by rules m deeds w.company v.cast h (end_node v.readers leg (sender dir)) leg)
 
 -- ---- cookies
 
@@ -119,7 +122,7 @@ module _ {K : Type 0} (reads : Reads) (streaming : Streaming) (begins : Beginnin
 
 -- ---- and both directions
 
-module _ {K : Type 0} (tracing : Tracing K) (known : Known K)
+module _ {K : Type 0} (apart : Apart K) (drawn : Drew K) (known : Known K)
     (m : Makers K InProxy OutProxy) (w : OurWorld K) (new : IsNew w)
     (ours : AreOurs m w.company w.cast) (v : OurWorld K) (by : ByChanges rules m deeds w v)
     (flowing : IsFlowing (numbers_of ours) w v
@@ -141,13 +144,13 @@ module _ {K : Type 0} (tracing : Tracing K) (known : Known K)
       subst (λ (c : K). IsPrefix (heard_on leg (events_of h
       (end_node v.readers leg (receiver dir))))
       (drawn_by rules m deeds w.company c h (end_node v.readers leg (sender dir)) leg)) flowing.cast
-      (known.drew m w v h known_here.traced leg dir)
+      (drawn m w v h known_here.traced leg dir)
 
   alone : (node : Who) (leg : Leg) → ((end : Side) → end_node v.readers leg end ≡ node → ⊥)
       → heard_on leg (events_of (all_noted rules m deeds w nothing by.leads.changes) node) ≡ []
-  alone node leg apart =
-      (tracing.alone m w.company v (all_noted rules m deeds w nothing by.leads.changes)
-      known_here.traced node leg apart).1
+  alone node leg away =
+      (apart m w.company v (all_noted rules m deeds w nothing by.leads.changes) known_here.traced
+      node leg away).1
 
   pub directions : Directions (numbers_of ours) v
       (all_noted rules m deeds w nothing by.leads.changes)

@@ -24,7 +24,8 @@ use Rattle.rh_history.specs.Carried.{AllAccepted, IsTraced, LegsComeUpOnce, draw
 use Rattle.rh_history.specs.Changes.{Change, MayChange, changed}
 use Rattle.rh_nodes.specs.declared.place.Place.{Place}
 use Rattle.rh_history.specs.Histories.{History, IsRun, noted, nothing}
-use Rattle.rh_history.proofs.Tracing.{cast_stays, change_is_traced}
+use Rattle.rh_history.proofs.Leading.{cast_stays}
+use Rattle.rh_history.proofs.Tracing.{change_is_traced}
 use Rattle.rh_history.proofs.Wired.{same_itself}
 use Rattle.rh_streams.specs.Streams.{ComesUpWith, IsCookie, RisesWith}
 use Rattle.rh_traced.specs.Ours.{AreOurs, deeds, rules}
@@ -79,6 +80,15 @@ happened_front P (IsRecycled ∷ es) fs all = happened_front P es fs all
 abbrev OurWorld : Type 0 → Type 0
 OurWorld K = World K ClientRole Server InProxy OutProxy
 
+-- nothing was drawn or heard on a leg away from its ends
+abbrev pub Apart : Type 0 → Type 0
+Apart K =
+    (m : Makers K InProxy OutProxy) (first : Company ClientRole Server InProxy OutProxy)
+    (w : OurWorld K) (h : History) → IsTraced rules m deeds first w h → (node : Who) (leg : Leg)
+    → ((end : Side) → end_node w.readers leg end ≡ node → ⊥)
+    → (drawn_by rules m deeds first w.cast h node leg ≡ [])
+    × (heard_on leg (events_of h node) ≡ [])
+
 pub record Tracing (K : Type 0) : Type 0 where
   pub turns : (m : Makers K InProxy OutProxy)
       (first : Company ClientRole Server InProxy OutProxy) (w : OurWorld K) (h : History)
@@ -91,12 +101,7 @@ pub record Tracing (K : Type 0) : Type 0 where
       → IsPrefix (heard_on leg (events_of (noted w h change)
       (end_node (changed rules m deeds w change).readers leg (receiver dir))))
       (drawn_by rules m deeds first w.cast h (end_node w.readers leg (sender dir)) leg)
-  pub alone : (m : Makers K InProxy OutProxy)
-      (first : Company ClientRole Server InProxy OutProxy) (w : OurWorld K) (h : History)
-      → IsTraced rules m deeds first w h → (node : Who) (leg : Leg)
-      → ((end : Side) → end_node w.readers leg end ≡ node → ⊥)
-      → (drawn_by rules m deeds first w.cast h node leg ≡ [])
-      × (heard_on leg (events_of h node) ≡ [])
+  pub alone : Apart K
 
 -- ---- nothing came where nothing happened
 
@@ -172,7 +177,7 @@ module _ {K : Type 0} (m : Makers K InProxy OutProxy)
         → MayChange rules w change
         → Keeps (changed rules m deeds w change) (noted w h change)
     one_more w h traced once keeps change may = record {
-      same = cast_stays rules m deeds first w h traced once change ∙ keeps.same;
+      same = cast_stays rules m deeds w change ∙ keeps.same;
       turns = tracing.turns m first w h traced keeps.turns change may;
       fine = λ sized g.
           let v = changed rules m deeds w change in

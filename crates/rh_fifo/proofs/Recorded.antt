@@ -3,32 +3,12 @@ use Rattle.std.proofs.Common.{ℕ, suc, ◌≤◌, IsTrue, ◌||◌, ◌==◌, a
 use Rattle.std.proofs.lemmas.Bool.Decides.{nat_tests}
 use Rattle.rh_record.specs.Words.{most_number, within}
 use Rattle.rh_sig.specs.Values.{IsKeepalive, IsLifetime}
-use Rattle.rh_nodes.specs.Cookies.{cookie_of}
 use Rattle.rh_world.specs.declared.config.WorldConfig.{WorldConfig}
 use Rattle.rh_world.specs.Config as config
-use Rattle.rh_world.specs.Roles as roles
 use Rattle.rh_world.proofs.Ranges.{in_timeout, in_window}
-use Rattle.rh_history.specs.Histories.{IsNew}
-use Rattle.rh_traced.specs.Ours.{AreOurs}
+pub use Rattle.rh_ordered.proofs.Recorded.{new, ours}
 use Rattle.rh_fifo.specs.Flows.{numbers_of}
 use Rattle.rh_fifo.specs.Premises.{AreInRange}
-
-abbrev pub ours : (config : WorldConfig) → AreOurs roles.makers (roles.begun config).company config
-ours config = record {
-  config = roles.client_config config (cookie_of 1) (cookie_of 2);
-  window = config.swin;
-  in_config = roles.in_config config;
-  out_config = roles.out_config config;
-  client = refl;
-  server = refl;
-  ins = λ n. refl;
-  outs = λ n. refl;
-  in_number = λ n. refl;
-  out_number = λ n. refl;
-}
-
-pub new : (config : WorldConfig) → IsNew (roles.begun config)
-new config = record { ins = refl; outs = refl; low = refl; unread = refl }
 
 in_lifetime : (n : ℕ) → IsTrue (within 131072 2147483648 n) → IsLifetime n
 in_lifetime n h = grind (arith, nat_tests)

@@ -1,5 +1,5 @@
 -- what was put on each leg begins as it is read at the other end
-use Rattle.std.proofs.Common.{◌≡◌, ℕ, false, List, [], sym, subst, refl}
+use Rattle.std.proofs.Common.{◌≡◌, ℕ, false, List, [], sym, ap, subst, refl}
 use Rattle.std.specs.Prelude.{Some, None}
 use Rattle.std.specs.declared.option.Option.{Option}
 use mathlib.Core.Path.{fun_ext}
@@ -85,13 +85,19 @@ in_turn rules first pipe leg r = record {
   unreached = λ moves wanted allowed turns on wants. r.unreached moves wanted allowed on wants;
 }
 
+-- what begins in one passage does in another that is the same
+begun_at : {S : Type 0} (leg : Leg) (pipe : Option Pipe) {p q : Passage S} → p ≡ q
+    → Begins pipe (of_leg leg p.put) → Begins pipe (of_leg leg q.put)
+begun_at {S} leg pipe same b =
+    subst (λ (x : Passage S). Begins pipe (of_leg leg x.put)) same b
+
 module _ (law : Streaming) (begins : Beginning) {K : Type 0} (m : Makers K InProxy OutProxy)
     (first : Company ClientRole Server InProxy OutProxy) (cast : K)
     (ours : AreOurs m first cast) (h : History) (f : Flows (numbers_of ours) h) where
   -- ---- the pipes
 
   out_same : (n : ℕ) → out_pipe (ours.out_config n) ≡ down.proxy_reads (ours.out_config n)
-  out_same n = fun_ext (λ leg. sym (law.out_pipes (ours.out_config n) [] leg tt))
+  out_same n = fun_ext (λ leg. sym (law.proxies.out_pipes (ours.out_config n) [] leg tt))
 
   out_refusing : (n : ℕ) (leg : Leg)
       → RefusesInTurn out_proxy.rules (new_proxy (ours.out_config n))
@@ -107,28 +113,16 @@ module _ (law : Streaming) (begins : Beginning) {K : Type 0} (m : Makers K InPro
   client_leg : (leg : Leg)
       → Begins (client_legible.pipe_put leg) (of_leg leg f.client.passage.passage.put)
   client_leg leg =
-      subst (λ (p : EndPassage ClientRole). Begins (client_legible.pipe_put leg)
-      (of_leg leg p.passage.put)) f.client.leads.reached
+      begun_at leg (client_legible.pipe_put leg)
+      (ap (λ (p : EndPassage ClientRole). p.passage) f.client.leads.reached)
       ((begins.client ours.config f.client.leads.moves f.client.leads.allowed).begins leg)
 
   server_leg : (leg : Leg)
       → Begins (server_legible.pipe_put leg) (of_leg leg f.server.passage.passage.put)
   server_leg leg =
-      subst (λ (p : EndPassage Server). Begins (server_legible.pipe_put leg)
-      (of_leg leg p.passage.put)) f.server.leads.reached
+      begun_at leg (server_legible.pipe_put leg)
+      (ap (λ (p : EndPassage Server). p.passage) f.server.leads.reached)
       ((begins.server ours.window f.server.leads.moves f.server.leads.allowed).begins leg)
-
-  in_passage : (n : ℕ) (leg : Leg) (pipe : Option Pipe)
-      → Begins pipe (of_leg leg (in_moved (ours.in_config n) (f.ins n).leads.moves).put)
-      → Begins pipe (of_leg leg (f.ins n).passage.put)
-  in_passage n leg pipe b =
-      subst (λ (p : Passage InProxy). Begins pipe (of_leg leg p.put)) (f.ins n).leads.reached b
-
-  out_passage : (n : ℕ) (leg : Leg) (pipe : Option Pipe)
-      → Begins pipe (of_leg leg (out_moved (ours.out_config n) (f.outs n).leads.moves).put)
-      → Begins pipe (of_leg leg (f.outs n).passage.put)
-  out_passage n leg pipe b =
-      subst (λ (p : Passage OutProxy). Begins pipe (of_leg leg p.put)) (f.outs n).leads.reached b
 
   pub starts : AreBegun (numbers_of ours) h f
   starts = record {
@@ -136,19 +130,19 @@ module _ (law : Streaming) (begins : Beginning) {K : Type 0} (m : Makers K InPro
     client_out = λ n. client_leg (leg_at ClientOut n);
     server_in = λ n. server_leg (leg_at InServer n);
     server_out = λ n. server_leg (leg_at OutServer n);
-    in_client = λ k n. in_passage k (leg_at ClientIn n) None
+    in_client = λ k n. begun_at (leg_at ClientIn n) None (f.ins k).leads.reached
         (begins.in_client (ours.in_config k) (f.ins k).leads.moves n (f.ins k).leads.allowed
         (f.ins k).in_turn);
-    in_server = λ k. in_passage k (leg_at InServer k) (Some IsU)
+    in_server = λ k. begun_at (leg_at InServer k) (Some IsU) (f.ins k).leads.reached
         (subst (λ (n : ℕ). Begins (Some IsU) (of_leg (leg_at InServer n)
         (in_moved (ours.in_config k) (f.ins k).leads.moves).put)) (ours.in_number k)
         (begins.in_server (ours.in_config k) (f.ins k).leads.moves (f.ins k).leads.allowed));
-    out_client = λ k. out_passage k (leg_at ClientOut k) (Some CoD)
+    out_client = λ k. begun_at (leg_at ClientOut k) (Some CoD) (f.outs k).leads.reached
         (subst (λ (n : ℕ). Begins (Some CoD) (of_leg (leg_at ClientOut n)
         (out_moved (ours.out_config k) (f.outs k).leads.moves).put)) (ours.out_number k)
         (begins.out_client (ours.out_config k) (f.outs k).leads.moves (f.outs k).leads.allowed
         (f.outs k).in_turn));
-    out_server = λ k. out_passage k (leg_at OutServer k) (Some OsU)
+    out_server = λ k. begun_at (leg_at OutServer k) (Some OsU) (f.outs k).leads.reached
         (subst (λ (n : ℕ). Begins (Some OsU) (of_leg (leg_at OutServer n)
         (out_moved (ours.out_config k) (f.outs k).leads.moves).put)) (ours.out_number k)
         (begins.out_server (ours.out_config k) (f.outs k).leads.moves (f.outs k).leads.allowed));

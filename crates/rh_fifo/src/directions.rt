@@ -74,7 +74,6 @@ pub fn what_is_put_is_legible<K>()
     nodes_hear_in_turn::<K, ClientRole, ServerRole, InProxyRole, OutProxyRole>();
     what_is_heard_was_drawn_before::<K, ClientRole, ServerRole, InProxyRole, OutProxyRole>();
     a_leg_is_read_at_its_ends::<K, ClientRole, ServerRole, InProxyRole, OutProxyRole>();
-    what_is_heard_was_drawn::<K, ClientRole, ServerRole, InProxyRole, OutProxyRole>();
     a_recording_of_roles_is_known::<K>();
     legs_of_roles_come_up_once::<K>();
     channels_come_up_in_order::<K, ClientRole, ServerRole, InProxyRole, OutProxyRole>();
@@ -90,8 +89,6 @@ pub fn directions_are_joined<K>()
         → Directions (numbers_of ours) v (history_at m w v by.leads) }
 {
     what_is_put_is_legible::<K>();
-    nodes_hear_in_turn::<K, ClientRole, ServerRole, InProxyRole, OutProxyRole>();
-    what_is_heard_was_drawn_before::<K, ClientRole, ServerRole, InProxyRole, OutProxyRole>();
     a_leg_is_read_at_its_ends::<K, ClientRole, ServerRole, InProxyRole, OutProxyRole>();
     what_is_heard_was_drawn::<K, ClientRole, ServerRole, InProxyRole, OutProxyRole>();
     a_recording_of_roles_is_known::<K>();

@@ -1,5 +1,5 @@
 -- changes of one kind, and answers of one kind
-use Rattle.std.proofs.Common.{◌≡◌, ℕ, zero, suc, List, [], ◌∷◌, Bool, true, false, refl, ◌∙◌}
+use Rattle.std.proofs.Common.{◌≡◌, List, [], ◌∷◌, Bool, true, false, refl, ◌∙◌}
 use Rattle.std.specs.List.{list_all}
 use Rattle.std.proofs.lemmas.List.Folds.{list_all-append}
 use Rattle.std.proofs.lemmas.Bool.{and_from}
@@ -8,7 +8,7 @@ use Rattle.rh_record.specs.declared.answer.Answer.TheVariants.{NodeClosed}
 use Rattle.rh_nodes.specs.Company.{Rulebook}
 use Rattle.rh_nodes.specs.Giving.{Deeds}
 use Rattle.rh_nodes.specs.Opening.{Makers}
-use Rattle.rh_nodes.specs.Reports.{and_then, each}
+use Rattle.rh_nodes.specs.Reports.{and_then}
 use Rattle.rh_nodes.specs.World.{World}
 use Rattle.rh_history.specs.Changes.{Change, is_work, is_silent, WorksBy, GoesBy, GoesQuietly}
 use Rattle.rh_history.proofs.Working.{all_wider, works_none, works_then, works_quietly}
@@ -46,14 +46,6 @@ module _ {K C S I O : Type 0} {kind : Change → Bool} {tells : Answer → Bool}
         ∙ and_from (list_all tells did.1) (list_all tells (act did.0).1) a.others
         (b did.0).others;
   }
-
-  pub goes_each : (n : ℕ) (act : ℕ → World K C S I O → World K C S I O × List Answer)
-      (w : World K C S I O)
-      → ((k : ℕ) (v : World K C S I O) → GoesBy kind tells r m d v (act k v))
-      → GoesBy kind tells r m d w (each n act w)
-  goes_each zero act w a = goes_none w
-  goes_each (suc n) act w a =
-      goes_and_then w (each n act w) (act n) (goes_each n act w a) (a n)
 
 module _ {K C S I O : Type 0} (r : Rulebook C S I O) (m : Makers K I O) (d : Deeds C S) where
   -- no report, and answers that tell of no closed node

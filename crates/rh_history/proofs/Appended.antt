@@ -57,7 +57,7 @@ pub came_append : (leg : Leg) (es fs : List moving.Event)
     → came_up leg (es ++ fs) ≡ (came_up leg es || came_up leg fs)
 came_append leg es fs = list_any-append (is_up_of leg) es fs
 
-happened_append : (es fs : List EndEvent) → happened (es ++ fs) ≡ happened es ++ happened fs
+pub happened_append : (es fs : List EndEvent) → happened (es ++ fs) ≡ happened es ++ happened fs
 happened_append [] fs = refl
 happened_append (Happens e ∷ es) fs = ap (λ x. e ∷ x) (happened_append es fs)
 happened_append (IsGiven pdu ∷ es) fs = happened_append es fs
@@ -76,7 +76,7 @@ accepted_append rules s [] fs a b = b
 accepted_append rules s (e ∷ es) fs a b =
     (a.0, accepted_append rules (after_event rules s e) es fs a.1 b)
 
-end_accepted_append : {S : Type 0} (rules : Rules S) (acts : Acts S) (s : Shell S)
+pub end_accepted_append : {S : Type 0} (rules : Rules S) (acts : Acts S) (s : Shell S)
     (es fs : List EndEvent) → AreAcceptedAtEnd rules acts s es
     → AreAcceptedAtEnd rules acts (after_end_events rules acts s es) fs
     → AreAcceptedAtEnd rules acts s (es ++ fs)

@@ -26,8 +26,8 @@ use Rattle.rh_nodes.specs.Places.{is_absent}
 use Rattle.rh_nodes.specs.Readers.{reader_of, with_reader}
 use Rattle.rh_nodes.specs.Settling.{leg_at}
 use Rattle.rh_nodes.specs.World.{World, at}
-use Rattle.rh_history.specs.Changes.{GoesUp, OpensIn, OpensOut, OpensSame, Draws, may_have, is_led, is_whole, changed, Quietly}
-use Rattle.rh_history.proofs.Working.{QuietlyOk, works_none, works_one, works_more}
+use Rattle.rh_history.specs.Changes.{Change, GoesUp, OpensIn, OpensOut, OpensSame, Draws, may_have, is_led, is_quiet, is_whole, changed, Quietly, WorksBy}
+use Rattle.rh_history.proofs.Working.{all_wider, works_none, works_one, works_more}
 use Rattle.rh_history.proofs.Numbers.{put_here, asked, changed_here}
 
 -- ---- tests
@@ -59,7 +59,32 @@ there rules leg cookie Absent may = absurd cc
 there rules leg cookie (Here node legs) may = refl
 there rules leg cookie (Gone now) may = absurd cc
 
+-- a change by which a leg comes up, or its cookie is drawn
+abbrev pub connects : Change → Bool
+connects (GoesUp node leg end cookie) = is_whole cookie
+connects (OpensIn number cookie) = is_whole cookie
+connects (OpensOut number cookie) = is_whole cookie
+connects (OpensSame number cookie) = is_whole cookie
+connects (Draws cookies) = true
+connects change = false
+
+pub quiet_connects : (change : Change) → connects change ≡ true → is_quiet change ≡ true
+quiet_connects (GoesUp node leg end cookie) is = is
+quiet_connects (OpensIn number cookie) is = is
+quiet_connects (OpensOut number cookie) is = is
+quiet_connects (OpensSame number cookie) is = is
+quiet_connects (Draws cookies) is = refl
+quiet_connects change is = absurd cc
+
 module _ {K C S I O : Type 0} (r : Rulebook C S I O) (m : Makers K I O) (d : Deeds C S) where
+  -- such changes lead to the world
+  abbrev pub Connects : World K C S I O → World K C S I O → Type 0
+  Connects w v = WorksBy connects r m d w v
+
+  -- behind something that was done or refused
+  abbrev ConnectsOk : World K C S I O → World K C S I O × Bool → Type 0
+  ConnectsOk w did = Connects w did.0
+
   -- ---- a leg is up at both ends
 
   -- the other end's node isn't touched
@@ -88,7 +113,7 @@ module _ {K C S I O : Type 0} (r : Rulebook C S I O) (m : Makers K I O) (d : Dee
       (asked Absent (places.wants r.in_proxy leg) ins n)) ∙ may)
 
   -- a leg leads to no client as to a server, and where it leads from an in proxy, that is there
-  pub server_led : (w : World K C S I O) (kind : LegKind) (n : ℕ) (cookie : Cookie)
+  server_led : (w : World K C S I O) (kind : LegKind) (n : ℕ) (cookie : Cookie)
       → IsTrue (may_have r w (at w (leg_at kind n) side.Client) (leg_at kind n))
       → IsTrue (is_led (up_at r w (at w (leg_at kind n) side.Client) (leg_at kind n) side.Client
       cookie) (at w (leg_at kind n) side.Server) (leg_at kind n))
@@ -98,12 +123,12 @@ module _ {K C S I O : Type 0} (r : Rulebook C S I O) (m : Makers K I O) (d : Dee
   server_led w InServer n cookie may =
       ap (λ b. not b) (in_there w n (leg_at InServer n) cookie may)
 
-  works_connect : (w : World K C S I O) (leg : Leg) (cookie : Cookie)
+  connect_leg : (w : World K C S I O) (leg : Leg) (cookie : Cookie)
       → IsTrue (may_have r w (at w leg side.Client) leg)
       → IsTrue (may_have r w (at w leg side.Server) leg)
       → IsTrue (is_led w (at w leg side.Client) leg) → is_whole cookie ≡ true
-      → Quietly r m d w (connect r w leg cookie)
-  works_connect w leg cookie client server led whole =
+      → Connects w (connect r w leg cookie)
+  connect_leg w leg cookie client server led whole =
       let v = up_at r w (at w leg side.Client) leg side.Client cookie in
       works_more r m d w v (GoesUp (at w leg side.Server) leg side.Server cookie)
       (works_one r m d w (GoesUp (at w leg side.Client) leg side.Client cookie)
@@ -112,6 +137,13 @@ module _ {K C S I O : Type 0} (r : Rulebook C S I O) (m : Makers K I O) (d : Dee
         inl refl,
         server_led w leg.kind leg.number cookie client,
       ) whole
+
+  -- what is done where both hold
+  two_tests : (w v : World K C S I O) (a b : Bool) → (a ≡ true → b ≡ true → Connects w v)
+      → ConnectsOk w (if a then (if b then (v, true) else (w, false)) else (w, false))
+  two_tests w v true true both = both refl refl
+  two_tests w v true false both = works_none r m d w
+  two_tests w v false b both = works_none r m d w
 
   -- ---- a leg of the client, to a proxy of its own
 
@@ -143,7 +175,7 @@ module _ {K C S I O : Type 0} (r : Rulebook C S I O) (m : Makers K I O) (d : Dee
 
     out_made : may_make r w w.company.outs out_leg ≡ true
         → shell.may_up r.out_proxy new_out out_leg ≡ true
-        → Quietly r m d w (connect_client r (with_out w n new_out) out_leg)
+        → Connects w (connect_client r (with_out w n new_out) out_leg)
     out_made e f =
         let drawn = draw w.cookies in
         let x = record w { cookies = drawn.0 } in
@@ -163,7 +195,7 @@ module _ {K C S I O : Type 0} (r : Rulebook C S I O) (m : Makers K I O) (d : Dee
 
     in_made : may_make r w w.company.ins in_leg ≡ true
         → shell.may_up r.in_proxy new_in in_leg ≡ true
-        → Quietly r m d w (connect_client r (with_in w n new_in) in_leg)
+        → Connects w (connect_client r (with_in w n new_in) in_leg)
     in_made e f =
         let drawn = draw w.cookies in
         let x = record w { cookies = drawn.0 } in
@@ -185,41 +217,21 @@ module _ {K C S I O : Type 0} (r : Rulebook C S I O) (m : Makers K I O) (d : Dee
           refl,
         ) refl
 
-    works_open_out : Quietly r m d w (open_leg r m w out_leg).0
-    works_open_out = by_make (may_make r w w.company.outs out_leg) refl
-      where
-        by_up : (t : Bool) → may_make r w w.company.outs out_leg ≡ true
-            → shell.may_up r.out_proxy new_out out_leg ≡ t
-            → QuietlyOk r m d w (if t then (connect_client r (with_out w n new_out) out_leg, true)
-            else (w, false))
-        by_up true e f = out_made e f
-        by_up false e f = works_none r m d w
+    open_out : Connects w (open_leg r m w out_leg).0
+    open_out =
+        two_tests w (connect_client r (with_out w n new_out) out_leg)
+        (may_make r w w.company.outs out_leg) (shell.may_up r.out_proxy new_out out_leg) out_made
 
-        by_make : (t : Bool) → may_make r w w.company.outs out_leg ≡ t
-            → Quietly r m d w (if t then open_out_to r w out_leg new_out else (w, false)).0
-        by_make true e = by_up (shell.may_up r.out_proxy new_out out_leg) e refl
-        by_make false e = works_none r m d w
-
-    works_open_in : Quietly r m d w (open_leg r m w in_leg).0
-    works_open_in = by_make (may_make r w w.company.ins in_leg) refl
-      where
-        by_up : (t : Bool) → may_make r w w.company.ins in_leg ≡ true
-            → shell.may_up r.in_proxy new_in in_leg ≡ t
-            → QuietlyOk r m d w (if t then (connect_client r (with_in w n new_in) in_leg, true)
-            else (w, false))
-        by_up true e f = in_made e f
-        by_up false e f = works_none r m d w
-
-        by_make : (t : Bool) → may_make r w w.company.ins in_leg ≡ t
-            → Quietly r m d w (if t then open_in_to r w in_leg new_in else (w, false)).0
-        by_make true e = by_up (shell.may_up r.in_proxy new_in in_leg) e refl
-        by_make false e = works_none r m d w
+    open_in : Connects w (open_leg r m w in_leg).0
+    open_in =
+        two_tests w (connect_client r (with_in w n new_in) in_leg)
+        (may_make r w w.company.ins in_leg) (shell.may_up r.in_proxy new_in in_leg) in_made
 
     -- ---- to the proxy that reads the channel before it
 
     same_proxy : company.wants r w.company who.Client in_leg ≡ true
         → may_open_same r w in_leg ≡ true
-        → Quietly r m d w (connect_client r (read_on w n) in_leg)
+        → Connects w (connect_client r (read_on w n) in_leg)
     same_proxy e f =
         let drawn = draw w.cookies in
         let x = record w { cookies = drawn.0 } in
@@ -231,20 +243,20 @@ module _ {K C S I O : Type 0} (r : Rulebook C S I O) (m : Makers K I O) (d : Dee
         (company.wants r w.company (who.In before) in_leg) f in
         let is : reader_of readers n ≡ before =
         asked 0 (λ k. k) readers n ∙ put_here 0 w.readers n before in
-        subst (λ k. Quietly r m d w (up_at_both r (read_on x n) in_leg drawn.1 who.Client
+        subst (λ k. Connects w (up_at_both r (read_on x n) in_leg drawn.1 who.Client
         (who.In k))) (sym is)
         (works_more r m d w x (OpensSame n drawn.1) (works_one r m d w (Draws drawn.0) tt refl)
         (client, server) refl)
 
   -- ---- a leg of the server
 
-  works_open_server : (w : World K C S I O) (leg : Leg)
+  open_server_leg : (w : World K C S I O) (leg : Leg)
       → IsTrue (is_led w (at w leg side.Client) leg)
-      → Quietly r m d w (open_server r w leg).0
-  works_open_server w leg led = by (nat_lt 0 leg.number && is_wanted r w leg) refl
+      → Connects w (open_server r w leg).0
+  open_server_leg w leg led = by (nat_lt 0 leg.number && is_wanted r w leg) refl
     where
       by : (t : Bool) → (nat_lt 0 leg.number && is_wanted r w leg) ≡ t
-          → QuietlyOk r m d w (if t then (connect r w leg NO_COOKIE, true) else (w, false))
+          → ConnectsOk w (if t then (connect r w leg NO_COOKIE, true) else (w, false))
       by true e =
           let client = at w leg side.Client in
           let server = at w leg side.Server in
@@ -252,33 +264,33 @@ module _ {K C S I O : Type 0} (r : Rulebook C S I O) (m : Makers K I O) (d : Dee
           (company.may_up r w.company server leg) (company.wants r w.company server leg)
           (company.may_up r w.company client leg)
           (and_parts (nat_lt 0 leg.number) (is_wanted r w leg) e).1 in
-          works_connect w leg NO_COOKIE may.0 may.1 led refl
+          connect_leg w leg NO_COOKIE may.0 may.1 led refl
       by false e = works_none r m d w
 
   -- ---- the lines
 
-  works_open_by : (w : World K C S I O) (kind : LegKind) (n : ℕ)
-      → Quietly r m d w (open_leg r m w (leg_at kind n)).0
-  works_open_by w ClientOut n = works_open_out w n
-  works_open_by w OutServer n = works_open_server w (leg_at OutServer n) refl
-  works_open_by w ClientIn n = works_open_in w n
-  works_open_by w InServer n = works_open_server w (leg_at InServer n) refl
+  open_by : (w : World K C S I O) (kind : LegKind) (n : ℕ)
+      → Connects w (open_leg r m w (leg_at kind n)).0
+  open_by w ClientOut n = open_out w n
+  open_by w OutServer n = open_server_leg w (leg_at OutServer n) refl
+  open_by w ClientIn n = open_in w n
+  open_by w InServer n = open_server_leg w (leg_at InServer n) refl
 
-  pub works_open_leg : (w : World K C S I O) (leg : Leg) → Quietly r m d w (open_leg r m w leg).0
-  works_open_leg w leg = works_open_by w leg.kind leg.number
+  pub connects_open_leg : (w : World K C S I O) (leg : Leg) → Connects w (open_leg r m w leg).0
+  connects_open_leg w leg = open_by w leg.kind leg.number
 
-  works_same_by : (w : World K C S I O) (kind : LegKind) (n : ℕ)
-      → Quietly r m d w (open_same r w (leg_at kind n)).0
-  works_same_by w ClientOut n = works_none r m d w
-  works_same_by w OutServer n = works_none r m d w
-  works_same_by w InServer n = works_none r m d w
-  works_same_by w ClientIn n =
+  same_by : (w : World K C S I O) (kind : LegKind) (n : ℕ)
+      → Connects w (open_same r w (leg_at kind n)).0
+  same_by w ClientOut n = works_none r m d w
+  same_by w OutServer n = works_none r m d w
+  same_by w InServer n = works_none r m d w
+  same_by w ClientIn n =
       by (company.wants r w.company who.Client (in_leg w n) && may_open_same r w (in_leg w n)) refl
     where
       by : (t : Bool)
           → (company.wants r w.company who.Client (in_leg w n) && may_open_same r w (in_leg w n))
           ≡ t
-          → QuietlyOk r m d w (if t then (connect_client r (read_on w n) (in_leg w n), true)
+          → ConnectsOk w (if t then (connect_client r (read_on w n) (in_leg w n), true)
           else (w, false))
       by true e =
           let may = and_parts (company.wants r w.company who.Client (in_leg w n))
@@ -286,5 +298,19 @@ module _ {K C S I O : Type 0} (r : Rulebook C S I O) (m : Makers K I O) (d : Dee
           same_proxy w n may.0 may.1
       by false e = works_none r m d w
 
+  pub connects_open_same : (w : World K C S I O) (leg : Leg) → Connects w (open_same r w leg).0
+  connects_open_same w leg = same_by w leg.kind leg.number
+
+  -- ---- and so they are quiet
+
+  quiet_of : (w v : World K C S I O) → Connects w v → Quietly r m d w v
+  quiet_of w v a = record {
+    leads = a.leads;
+    work = all_wider connects is_quiet quiet_connects a.leads.changes a.work;
+  }
+
+  pub works_open_leg : (w : World K C S I O) (leg : Leg) → Quietly r m d w (open_leg r m w leg).0
+  works_open_leg w leg = quiet_of w (open_leg r m w leg).0 (connects_open_leg w leg)
+
   pub works_open_same : (w : World K C S I O) (leg : Leg) → Quietly r m d w (open_same r w leg).0
-  works_open_same w leg = works_same_by w leg.kind leg.number
+  works_open_same w leg = quiet_of w (open_same r w leg).0 (connects_open_same w leg)

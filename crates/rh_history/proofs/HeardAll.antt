@@ -29,11 +29,7 @@ pub unheard : (leg : Leg) (e : moving.Event) → is_hears e ≡ false → (b : B
     → heard_on leg (if b then e ∷ [] else []) ≡ []
 unheard leg e q false = refl
 unheard leg (moving.Hears other piece) q true = absurd (true≢false q)
-unheard leg (moving.ComesUp other cookie) q true = refl
-unheard leg (moving.Draws other room) q true = refl
-unheard leg (moving.Ends other) q true = refl
-unheard leg (moving.Breaks other) q true = refl
-unheard leg (moving.Ticks now) q true = refl
+unheard leg e q true = refl
 
 pub heard_piece : (leg other : Leg) (piece : List ℕ) (b : Bool)
     → heard_on leg (if b then moving.Hears other piece ∷ [] else [])

@@ -1,10 +1,11 @@
 -- changes behind changes
 use Rattle.std.proofs.Common.{◌≡◌, List, [], ◌∷◌, ◌++◌, refl, sym, ap, ◌∙◌, subst}
+use Rattle.rh_text.specs.declared.ends.Side.TheVariants as side
 use Rattle.rh_nodes.specs.Company.{Rulebook}
 use Rattle.rh_nodes.specs.Giving.{Deeds}
 use Rattle.rh_nodes.specs.Opening.{Makers}
 use Rattle.rh_nodes.specs.World.{World}
-use Rattle.rh_history.specs.Changes.{Change, MayChange, AreAllowed, changed, all_changed, Leads}
+use Rattle.rh_history.specs.Changes.{Change, IsTold, IsFed, IsDrawn, GoesUp, RaisesAlone, GoesDown, OpensIn, OpensOut, OpensSame, Gives, Takes, Closes, RecyclesIn, RecyclesOut, MovesTo, Draws, Reports, MayChange, AreAllowed, changed, all_changed, Leads}
 
 module _ {K C S I O : Type 0} (r : Rulebook C S I O) (m : Makers K I O) (d : Deeds C S) where
   pub changed_append : (w : World K C S I O) (cs ds : List Change)
@@ -60,3 +61,31 @@ module _ {K C S I O : Type 0} (r : Rulebook C S I O) (m : Makers K I O) (d : Dee
       → (w v : World K C S I O) → Leads r m d w v → P w → P v
   leads_keep P keeps w v leads holds =
       subst P leads.reached (all_keep P keeps w leads.changes leads.allowed holds)
+
+  -- the cast stays
+  pub cast_stays : (w : World K C S I O) (change : Change) → (changed r m d w change).cast ≡ w.cast
+  cast_stays w (IsTold node event) = refl
+  cast_stays w (IsFed leg dir count) = refl
+  cast_stays w (IsDrawn leg dir count) = refl
+  cast_stays w (GoesUp node leg end cookie) = refl
+  cast_stays w (RaisesAlone node leg end cookie) = refl
+  cast_stays w (GoesDown node leg end) = refl
+  cast_stays w (OpensIn n cookie) = refl
+  cast_stays w (OpensOut n cookie) = refl
+  cast_stays w (OpensSame n cookie) = refl
+  cast_stays w (Gives side.Client pdu) = refl
+  cast_stays w (Gives side.Server pdu) = refl
+  cast_stays w (Takes side.Client) = refl
+  cast_stays w (Takes side.Server) = refl
+  cast_stays w (Closes side.Client) = refl
+  cast_stays w (Closes side.Server) = refl
+  cast_stays w RecyclesIn = refl
+  cast_stays w RecyclesOut = refl
+  cast_stays w (MovesTo now) = refl
+  cast_stays w (Draws cookies) = refl
+  cast_stays w Reports = refl
+
+  pub cast_kept : (w v : World K C S I O) → Leads r m d w v → v.cast ≡ w.cast
+  cast_kept w v leads =
+      leads_keep (λ (u : World K C S I O). u.cast ≡ w.cast)
+      (λ u change same may. cast_stays u change ∙ same) w v leads refl

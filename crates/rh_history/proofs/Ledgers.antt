@@ -125,11 +125,21 @@ module _ (g new : Ledger) (all : Legs) (readers : List ℕ) (each : Each g all r
   same_on later leg dir d h u w =
       let from = end_node readers leg (sender dir) in
       let to = end_node readers leg (receiver dir) in
-      seen_as dir (g.drawn from leg) (new.drawn from leg) (g.fed to leg) (new.fed to leg)
-      (g.was_up from leg) (new.was_up from leg) (g.was_up to leg) (new.was_up to leg)
-      (wire_at all leg) (wire_at later leg) (d from) (h to) (u from) (u to) w (each leg dir)
+      seen_as dir (d from) (h to) (u from) (u to) w (each leg dir)
 
   module _ (leg : Leg) where
+    -- both directions of the leg, and all others
+    each_at : (later : Legs) (dir : Dir) → IsCarried (carriage new later readers leg dir)
+        → ((back : Dir) → sender dir ≡ receiver back → receiver dir ≡ sender back
+        → IsCarried (carriage new later readers leg back))
+        → ((other : Leg) (at : Dir) → same_leg leg other ≡ false
+        → IsCarried (carriage new later readers other at))
+        → Each new later readers
+    each_at later dir along back beside other at =
+        ⊎_elim (λ e. subst (λ x. IsCarried (carriage new later readers x at)) e
+        (⊎_elim (λ f. subst (λ x. IsCarried (carriage new later readers leg x)) f along)
+        (λ f. back at f.0 f.1) (two_dirs dir at))) (beside other at) (cases_leg leg other)
+
     -- ---- bytes are drawn
 
     module _ (dir : Dir) (bytes : List ℕ)
@@ -146,9 +156,7 @@ module _ (g new : Ledger) (all : Legs) (readers : List ℕ) (each : Each g all r
       draw_along =
           let from = end_node readers leg (sender dir) in
           let to = end_node readers leg (receiver dir) in
-          seen_as dir (g.drawn from leg ++ bytes) (new.drawn from leg) (g.fed to leg)
-          (new.fed to leg) (g.was_up from leg) (new.was_up from leg) (g.was_up to leg)
-          (new.was_up to leg) (wires.put dir bytes (wire_at all leg)) (wire_at put_later leg)
+          seen_as dir
           (added (g.drawn from leg) bytes (new.drawn from leg) (is_here from leg from leg)
           (here_itself from leg) (d from leg))
           (sym (h to leg)) (sym (u from leg)) (sym (u to leg))
@@ -166,9 +174,7 @@ module _ (g new : Ledger) (all : Legs) (readers : List ℕ) (each : Each g all r
           let apart : is_same puts from ≡ false =
           ap (λ end. is_same puts (end_node readers leg end)) (sym f)
           ∙ ends_apart readers leg dir in
-          seen_as back (g.drawn from leg) (new.drawn from leg) (g.fed to leg)
-          (new.fed to leg) (g.was_up from leg) (new.was_up from leg) (g.was_up to leg)
-          (new.was_up to leg) (wires.put dir bytes (wire_at all leg)) (wire_at put_later leg)
+          seen_as back
           (none_added (g.drawn from leg) bytes (new.drawn from leg) (is_here puts leg from leg)
           (not_other puts leg from leg apart) (d from leg))
           (sym (h to leg)) (sym (u from leg)) (sym (u to leg))
@@ -176,20 +182,15 @@ module _ (g new : Ledger) (all : Legs) (readers : List ℕ) (each : Each g all r
           (subst IsCarried (sym (put_aside dir back bytes (wire_at all leg) (g.drawn from leg)
           (g.fed to leg) (g.was_up from leg) (g.was_up to leg) e)) (each leg back))
 
-      draw_here : (at : Dir) → IsCarried (carriage new put_later readers leg at)
-      draw_here at =
-          ⊎_elim (λ e. subst (λ x. IsCarried (carriage new put_later readers leg x)) e draw_along)
-          (λ e. draw_back at e.0 e.1) (two_dirs dir at)
-
       pub each_drawn : Each new put_later readers
-      each_drawn other at =
-          ⊎_elim (λ e. subst (λ x. IsCarried (carriage new put_later readers x at)) e
-          (draw_here at)) (λ e. same_on put_later other at
+      each_drawn =
+          each_at put_later dir draw_along draw_back
+          (λ other at e. same_on put_later other at
           (λ node. none_added (g.drawn node other) bytes (new.drawn node other)
           (is_here (end_node readers leg (sender dir)) leg node other)
           (not_beside (end_node readers leg (sender dir)) leg node other e) (d node other))
           (λ node. sym (h node other)) (λ node. sym (u node other))
-          (sym (wired.put_beside all leg dir bytes other e))) (cases_leg leg other)
+          (sym (wired.put_beside all leg dir bytes other e)))
 
     -- ---- bytes are fed
 
@@ -211,10 +212,7 @@ module _ (g new : Ledger) (all : Legs) (readers : List ℕ) (each : Each g all r
       feed_along =
           let from = end_node readers leg (sender dir) in
           let to = end_node readers leg (receiver dir) in
-          seen_as dir (g.drawn from leg) (new.drawn from leg) (g.fed to leg ++ piece)
-          (new.fed to leg) (g.was_up from leg) (new.was_up from leg) (g.was_up to leg)
-          (new.was_up to leg) (wires.take_out dir count (wire_at all leg)).0
-          (wire_at take_later leg) (sym (d from leg))
+          seen_as dir (sym (d from leg))
           (added (g.fed to leg) piece (new.fed to leg) (is_here to leg to leg)
           (here_itself to leg) (h to leg))
           (sym (u from leg)) (sym (u to leg))
@@ -230,10 +228,7 @@ module _ (g new : Ledger) (all : Legs) (readers : List ℕ) (each : Each g all r
           let takes = end_node readers leg (receiver dir) in
           let apart : is_same takes to ≡ false =
           ap (λ end. is_same (end_node readers leg end) to) f ∙ ends_apart readers leg back in
-          seen_as back (g.drawn from leg) (new.drawn from leg) (g.fed to leg)
-          (new.fed to leg) (g.was_up from leg) (new.was_up from leg) (g.was_up to leg)
-          (new.was_up to leg) (wires.take_out dir count (wire_at all leg)).0
-          (wire_at take_later leg) (sym (d from leg))
+          seen_as back (sym (d from leg))
           (none_added (g.fed to leg) piece (new.fed to leg) (is_here takes leg to leg)
           (not_other takes leg to leg apart) (h to leg))
           (sym (u from leg)) (sym (u to leg))
@@ -241,21 +236,16 @@ module _ (g new : Ledger) (all : Legs) (readers : List ℕ) (each : Each g all r
           (subst IsCarried (sym (take_aside dir back count (wire_at all leg) (g.drawn from leg)
           (g.fed to leg) (g.was_up from leg) (g.was_up to leg) e)) (each leg back))
 
-      feed_here : (at : Dir) → IsCarried (carriage new take_later readers leg at)
-      feed_here at =
-          ⊎_elim (λ e. subst (λ x. IsCarried (carriage new take_later readers leg x)) e feed_along)
-          (λ e. feed_back at e.0 e.1) (two_dirs dir at)
-
       pub each_fed : Each new take_later readers
-      each_fed other at =
-          ⊎_elim (λ e. subst (λ x. IsCarried (carriage new take_later readers x at)) e
-          (feed_here at)) (λ e. same_on take_later other at
+      each_fed =
+          each_at take_later dir feed_along feed_back
+          (λ other at e. same_on take_later other at
           (λ node. sym (d node other))
           (λ node. none_added (g.fed node other) piece (new.fed node other)
           (is_here (end_node readers leg (receiver dir)) leg node other)
           (not_beside (end_node readers leg (receiver dir)) leg node other e) (h node other))
           (λ node. sym (u node other))
-          (sym (wired.take_beside all leg dir count other e))) (cases_leg leg other)
+          (sym (wired.take_beside all leg dir count other e)))
 
     -- ---- an end goes up, or down
 
@@ -279,10 +269,7 @@ module _ (g new : Ledger) (all : Legs) (readers : List ℕ) (each : Each g all r
             let not : is_here here leg to leg ≡ false =
             not_other here leg to leg
             (ap (λ x. is_same (end_node readers leg x) to) e ∙ ends_apart readers leg dir) in
-            seen_as dir (g.drawn from leg) (new.drawn from leg) (g.fed to leg)
-            (new.fed to leg) true (new.was_up from leg) (g.was_up to leg) (new.was_up to leg)
-            (wires.raise (sender dir) (wire_at all leg)) (wire_at raise_later leg)
-            (sym (d from leg)) (sym (h to leg))
+            seen_as dir (sym (d from leg)) (sym (h to leg))
             (sym (u from leg ∙ or_true (g.was_up from leg) (is_here here leg from leg) is))
             (sym (u to leg ∙ or_false (g.was_up to leg) (is_here here leg to leg) not))
             (sym (wired.raise_here all leg end ∙ ap (λ x. wires.raise x (wire_at all leg)) e))
@@ -301,10 +288,7 @@ module _ (g new : Ledger) (all : Legs) (readers : List ℕ) (each : Each g all r
             let not : is_here here leg from leg ≡ false =
             not_other here leg from leg
             (ap (λ x. is_same (end_node readers leg x) from) e ∙ ends_apart_back readers leg dir) in
-            seen_as dir (g.drawn from leg) (new.drawn from leg) (g.fed to leg)
-            (new.fed to leg) (g.was_up from leg) (new.was_up from leg) true (new.was_up to leg)
-            (wires.raise (receiver dir) (wire_at all leg)) (wire_at raise_later leg)
-            (sym (d from leg)) (sym (h to leg))
+            seen_as dir (sym (d from leg)) (sym (h to leg))
             (sym (u from leg ∙ or_false (g.was_up from leg) (is_here here leg from leg) not))
             (sym (u to leg ∙ or_true (g.was_up to leg) (is_here here leg to leg) is))
             (sym (wired.raise_here all leg end ∙ ap (λ x. wires.raise x (wire_at all leg)) e))
@@ -332,10 +316,7 @@ module _ (g new : Ledger) (all : Legs) (readers : List ℕ) (each : Each g all r
         lower_on dir =
             let from = end_node readers leg (sender dir) in
             let to = end_node readers leg (receiver dir) in
-            seen_as dir (g.drawn from leg) (new.drawn from leg) (g.fed to leg)
-            (new.fed to leg) (g.was_up from leg) (new.was_up from leg) (g.was_up to leg)
-            (new.was_up to leg) (wires.lower end (wire_at all leg)) (wire_at lower_later leg)
-            (sym (d from leg)) (sym (h to leg)) (sym (u from leg)) (sym (u to leg))
+            seen_as dir (sym (d from leg)) (sym (h to leg)) (sym (u from leg)) (sym (u to leg))
             (sym (wired.lower_here all leg end))
             (seen_down (g.drawn from leg) (g.fed to leg) (g.was_up from leg) (g.was_up to leg)
             (wire_at all leg) end dir up (each leg dir))

@@ -25,6 +25,7 @@ use Rattle.rh_history.proofs.Numbers.{asked, put_here, put_elsewhere}
 use Rattle.rh_history.proofs.Seen.{seen_as}
 use Rattle.rh_history.proofs.Wired.{cases_leg}
 use Rattle.rh_history.proofs.Ledgers.{Each, is_here, bytes_here, here_itself, not_other, none_added, or_false, or_true, same_on, each_drawn, each_fed, each_raised, each_lowered}
+use Rattle.rh_order.proofs.ItemLists.{neither}
 
 -- ---- tests
 
@@ -34,10 +35,6 @@ not_both b e f = absurd (true≢false (sym e ∙ f))
 or_first : (a b : Bool) → a ≡ true → (a || b) ≡ true
 or_first true b e = refl
 or_first false b e = absurd cc
-
-neither : (a b : Bool) → (a || b) ≡ false → (a ≡ false) × (b ≡ false)
-neither true b e = absurd cc
-neither false b e = (refl, e)
 
 -- the node and the leg at which something is
 here_is : (node : Who) (leg : Leg) (other : Who) (beside : Leg)
@@ -259,37 +256,26 @@ module _ (g new : Ledger) (all : Legs) (readers : List ℕ) (k : AreCarried g al
           let now = k.idle (who.In (reader_of later n)) in_leg b in
           (old.0 ∙ sym now.0, old.1 ∙ sym now.1, a ∙ sym b)
 
+      seen_later : (leg : Leg) (dir : Dir)
+          → g.drawn (end_node readers leg (sender dir)) leg
+          ≡ g.drawn (end_node later leg (sender dir)) leg
+          → g.fed (end_node readers leg (receiver dir)) leg
+          ≡ g.fed (end_node later leg (receiver dir)) leg
+          → ((end : Side) → g.was_up (end_node readers leg end) leg
+          ≡ g.was_up (end_node later leg end) leg)
+          → IsCarried (carriage g all later leg dir)
+      seen_later leg dir drawn fed up =
+          seen_as dir drawn fed (up (sender dir)) (up (receiver dir)) refl (k.each leg dir)
+
       each_later : Each g all later
       each_later leg dir =
-          ⊎_elim (λ e. subst (λ (x : Leg). IsCarried (carriage g all later x dir)) e this)
-          (λ e. let from = node_apart leg (sender dir) e in
-          let to = node_apart leg (receiver dir) e in
-          seen_as dir (g.drawn (end_node readers leg (sender dir)) leg)
-          (g.drawn (end_node later leg (sender dir)) leg)
-          (g.fed (end_node readers leg (receiver dir)) leg)
-          (g.fed (end_node later leg (receiver dir)) leg)
-          (g.was_up (end_node readers leg (sender dir)) leg)
-          (g.was_up (end_node later leg (sender dir)) leg)
-          (g.was_up (end_node readers leg (receiver dir)) leg)
-          (g.was_up (end_node later leg (receiver dir)) leg)
-          (wire_at all leg) (wire_at all leg) (ap (λ x. g.drawn x leg) (sym from))
-          (ap (λ x. g.fed x leg) (sym to)) (ap (λ x. g.was_up x leg) (sym from))
-          (ap (λ x. g.was_up x leg) (sym to)) refl (k.each leg dir)) (cases_leg in_leg leg)
-        where
-          this : IsCarried (carriage g all later in_leg dir)
-          this =
-              let from = did_same (sender dir) in
-              let to = did_same (receiver dir) in
-              seen_as dir (g.drawn (end_node readers in_leg (sender dir)) in_leg)
-              (g.drawn (end_node later in_leg (sender dir)) in_leg)
-              (g.fed (end_node readers in_leg (receiver dir)) in_leg)
-              (g.fed (end_node later in_leg (receiver dir)) in_leg)
-              (g.was_up (end_node readers in_leg (sender dir)) in_leg)
-              (g.was_up (end_node later in_leg (sender dir)) in_leg)
-              (g.was_up (end_node readers in_leg (receiver dir)) in_leg)
-              (g.was_up (end_node later in_leg (receiver dir)) in_leg)
-              (wire_at all in_leg) (wire_at all in_leg) from.0 to.1 from.2 to.2 refl
-              (k.each in_leg dir)
+          ⊎_elim (λ e. subst (λ (x : Leg). IsCarried (carriage g all later x dir)) e
+          (seen_later in_leg dir (did_same (sender dir)).0 (did_same (receiver dir)).1
+          (λ end. (did_same end).2)))
+          (λ e. seen_later leg dir
+          (ap (λ x. g.drawn x leg) (sym (node_apart leg (sender dir) e)))
+          (ap (λ x. g.fed x leg) (sym (node_apart leg (receiver dir) e)))
+          (λ end. ap (λ x. g.was_up x leg) (sym (node_apart leg end e)))) (cases_leg in_leg leg)
 
       stood_here : (node : Who) (end : Side) → g.was_up node in_leg ≡ true
           → end_node readers in_leg end ≡ node → end_node later in_leg end ≡ node

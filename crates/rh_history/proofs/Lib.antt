@@ -6,6 +6,7 @@ pub mod Connecting
 pub mod Answering
 pub mod Rounds
 pub mod Lines
+pub mod Halves
 pub mod Runs
 pub mod Noting
 pub mod Closed

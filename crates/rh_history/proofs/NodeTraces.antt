@@ -1,5 +1,5 @@
 -- what a change is to the legs of each node
-use Rattle.std.proofs.Common.{◌≡◌, ℕ, List, [], ◌∷◌, ◌++◌, Bool, true, false, ◌&&◌, ◌||◌, if◌then◌else◌, IsTrue, refl, sym, ap, ◌∙◌, subst, ⊎_elim}
+use Rattle.std.proofs.Common.{◌≡◌, ◌==◌, ℕ, List, [], ◌∷◌, ◌++◌, Bool, true, false, ◌&&◌, ◌||◌, if◌then◌else◌, get_or, IsTrue, refl, sym, ap, ◌∙◌, subst, ⊎_elim}
 use Rattle.std.proofs.lemmas.Bool.{true≢false, false≢true, cases_Bool, or_cases, eq-eqb}
 use Rattle.std.proofs.lemmas.List.{append-nil}
 use Rattle.rh_rts.specs.declared.command.Cookie.{Cookie}
@@ -8,7 +8,7 @@ use Rattle.rh_line.specs.declared.leg.Leg.{Leg}
 use Rattle.rh_record.specs.declared.answer.Who.{Who}
 use Rattle.rh_record.specs.declared.answer.Who.TheVariants.{Client, Server, In, Out}
 use Rattle.rh_shell.specs.Moving as moving
-use Rattle.rh_shell.specs.Moving.{after_events, after_end_events}
+use Rattle.rh_shell.specs.Moving.{after_events}
 use Rattle.rh_shell.specs.Rules.{Rules}
 use Rattle.rh_shell.specs.Shells as shell
 use Rattle.rh_shell.specs.Shells.{Shell, same_leg}
@@ -19,6 +19,7 @@ use Rattle.rh_nodes.specs.Company.{Company, Rulebook}
 use Rattle.rh_nodes.specs.Giving.{Deeds}
 use Rattle.rh_nodes.specs.Halves.{is_same}
 use Rattle.rh_nodes.specs.Opening.{Makers}
+use Rattle.rh_nodes.specs.Numbered.{act}
 use Rattle.rh_nodes.specs.Places as places
 use Rattle.rh_nodes.specs.World.{World}
 use Rattle.rh_history.specs.Changes.{Change, OpensIn, OpensOut, may_have}
@@ -165,14 +166,10 @@ is_comes (moving.ComesUp leg cookie) = true
 is_comes event = false
 
 module _ {S : Type 0} (rules : Rules S) where
-  draws_none : (s : Shell S) (leg : Leg) (e : moving.Event) → is_draws e ≡ false
+  pub draws_none : (s : Shell S) (leg : Leg) (e : moving.Event) → is_draws e ≡ false
       → drawn_in rules s leg e ≡ []
   draws_none s leg (moving.Draws other room) q = absurd (true≢false q)
-  draws_none s leg (moving.ComesUp other cookie) q = refl
-  draws_none s leg (moving.Hears other piece) q = refl
-  draws_none s leg (moving.Ends other) q = refl
-  draws_none s leg (moving.Breaks other) q = refl
-  draws_none s leg (moving.Ticks now) q = refl
+  draws_none s leg e q = refl
 
   one_drawn : (s : Shell S) (leg : Leg) (e : moving.Event) → is_draws e ≡ false → (b : Bool)
       → drawn_on rules s leg (if b then e ∷ [] else []) ≡ []
@@ -189,11 +186,7 @@ module _ {S : Type 0} (rules : Rules S) where
       → came_up leg (if b then e ∷ [] else []) ≡ false
   comes_none leg e q false = refl
   comes_none leg (moving.ComesUp other cookie) q true = absurd (true≢false q)
-  comes_none leg (moving.Draws other room) q true = refl
-  comes_none leg (moving.Hears other piece) q true = refl
-  comes_none leg (moving.Ends other) q true = refl
-  comes_none leg (moving.Breaks other) q true = refl
-  comes_none leg (moving.Ticks now) q true = refl
+  comes_none leg e q true = refl
 
   place_comes_none : (p : Place S) (leg : Leg) (e : moving.Event) → is_comes e ≡ false
       → (b : Bool) → place_up rules p leg (if b then e ∷ [] else []) ≡ false
@@ -208,11 +201,7 @@ module _ {S : Type 0} (rules : Rules S) where
 
   other_accepted : (s : Shell S) (e : moving.Event) → is_comes e ≡ false → IsAccepted rules s e
   other_accepted s (moving.ComesUp other cookie) q = absurd (true≢false q)
-  other_accepted s (moving.Draws other room) q = tt
-  other_accepted s (moving.Hears other piece) q = tt
-  other_accepted s (moving.Ends other) q = tt
-  other_accepted s (moving.Breaks other) q = tt
-  other_accepted s (moving.Ticks now) q = tt
+  other_accepted s e q = tt
 
   place_other_accepted : (p : Place S) (e : moving.Event) → is_comes e ≡ false → (b : Bool)
       → place_accepts rules p (if b then e ∷ [] else [])
@@ -360,6 +349,23 @@ module _ {C S I O : Type 0} (r : Rulebook C S I O) (c : Company C S I O) where
 
   -- ---- bytes are drawn
 
+  place_itself : {P : Type 0} (rules : Rules P) (list : List (Place P)) (n : ℕ) (other : Leg)
+      (room : ℕ) (leg : Leg)
+      → place_drawn rules (get_or list n Absent) leg
+      (if n == n then moving.Draws other room ∷ [] else [])
+      ≡ (if same_leg other leg && (n == n)
+      then (act (places.draw rules other room) [] list n).1 else [])
+  place_itself rules list n other room leg =
+      let e = moving.Draws other room in
+      let p = get_or list n Absent in
+      let is = eq-eqb n n refl in
+      ap (λ b. place_drawn rules p leg (if b then e ∷ [] else [])) is
+      ∙ place_drawn_same rules p leg other room
+      ∙ ap (λ x. if same_leg other leg && true then x else [])
+      (sym (answered Absent (places.draw rules other room) [] refl list n))
+      ∙ ap (λ b. if same_leg other leg && b
+      then (act (places.draw rules other room) [] list n).1 else []) (sym is)
+
   drawn_itself : (here : Who) (other : Leg) (room : ℕ) (leg : Leg)
       → drawn_of (told_here here (moving.Draws other room)) here leg
       ≡ bytes_here here other (company.draw r c here other room).1 here leg
@@ -367,26 +373,8 @@ module _ {C S I O : Type 0} (r : Rulebook C S I O) (c : Company C S I O) where
       both_same r.client (same_leg other leg) (shell.drawn r.client c.client other room).1
   drawn_itself Server other room leg =
       both_same r.server (same_leg other leg) (shell.drawn r.server c.server other room).1
-  drawn_itself (In n) other room leg =
-      let e = moving.Draws other room in
-      let p = in_place c n in
-      let is = eq-eqb n n refl in
-      ap (λ b. place_drawn r.in_proxy p leg (if b then e ∷ [] else [])) is
-      ∙ place_drawn_same r.in_proxy p leg other room
-      ∙ ap (λ x. if same_leg other leg && true then x else [])
-      (sym (answered Absent (places.draw r.in_proxy other room) [] refl c.ins n))
-      ∙ ap (λ b. if same_leg other leg && b
-      then (company.draw r c (In n) other room).1 else []) (sym is)
-  drawn_itself (Out n) other room leg =
-      let e = moving.Draws other room in
-      let p = out_place c n in
-      let is = eq-eqb n n refl in
-      ap (λ b. place_drawn r.out_proxy p leg (if b then e ∷ [] else [])) is
-      ∙ place_drawn_same r.out_proxy p leg other room
-      ∙ ap (λ x. if same_leg other leg && true then x else [])
-      (sym (answered Absent (places.draw r.out_proxy other room) [] refl c.outs n))
-      ∙ ap (λ b. if same_leg other leg && b
-      then (company.draw r c (Out n) other room).1 else []) (sym is)
+  drawn_itself (In n) other room leg = place_itself r.in_proxy c.ins n other room leg
+  drawn_itself (Out n) other room leg = place_itself r.out_proxy c.outs n other room leg
 
   pub drawn_there : (here : Who) (other : Leg) (room : ℕ) (node : Who) (leg : Leg)
       → drawn_of (told_here here (moving.Draws other room)) node leg

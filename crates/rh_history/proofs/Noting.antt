@@ -33,7 +33,7 @@ use Rattle.rh_nodes.specs.World.{World, at}
 use Rattle.rh_history.specs.Changes.{Change, IsTold, IsFed, IsDrawn, GoesUp, RaisesAlone, GoesDown, OpensIn, OpensOut, OpensSame, Gives, Takes, Closes, RecyclesIn, RecyclesOut, MovesTo, Draws, Reports, MayChange, AreAllowed, changed, all_changed, Leads}
 use Rattle.rh_history.specs.Histories.{History, nothing, heard, to_node, told_to, made_by, at_place, acts_by, in_place, out_place, noted, all_noted, IsRun, AreRuns, IsNew}
 use Rattle.rh_history.proofs.Numbers.{asked, put_here, put_elsewhere, changed_here, changes_elsewhere}
-use Rattle.rh_history.proofs.Runs.{end_events_append, end_events_happen, runs_none, run_on, tell_meets, draw_meets, up_meets}
+use Rattle.rh_history.proofs.Runs.{Meets, end_events_append, end_events_happen, runs_none, run_on, tell_meets, draw_meets, up_meets}
 
 -- ---- the place of a proxy
 
@@ -141,99 +141,71 @@ module _ {S : Type 0} (rules : Rules S) where
           (quiet_run (make n) events (get_or list n Absent) h))
 
 module _ {K C S I O : Type 0} (r : Rulebook C S I O) (m : Makers K I O) (d : Deeds C S) where
-  -- what a change does to each node is what the history notes of it
-  pub record Does (w v : World K C S I O) (change : Change) : Type 0 where
-    pub client : v.company.client
+  -- what is done to each node is what the history notes of it
+  pub record DoesBy (w : World K C S I O) (cast : K) (after : Company C S I O)
+      (told made : Who → List moving.Event) (acts : Side → List EndEvent) : Type 0 where
+    pub client : after.client
         ≡ after_end_events r.client d.client
-        (after_events r.client w.company.client (told_to w change Client))
-        (acts_by change side.Client)
-    pub server : v.company.server
+        (after_events r.client w.company.client (told Client)) (acts side.Client)
+    pub server : after.server
         ≡ after_end_events r.server d.server
-        (after_events r.server w.company.server (told_to w change Server))
-        (acts_by change side.Server)
+        (after_events r.server w.company.server (told Server)) (acts side.Server)
     pub ins : (n : ℕ) (events : List moving.Event)
         → IsRun r.in_proxy (m.in_proxy w.cast n) events (in_place w.company n)
-        → IsRun r.in_proxy (m.in_proxy v.cast n)
-        (events ++ at_place (in_place w.company n) (told_to w change (In n))
-        (made_by w change (In n)))
-        (in_place v.company n)
+        → IsRun r.in_proxy (m.in_proxy cast n)
+        (events ++ at_place (in_place w.company n) (told (In n)) (made (In n)))
+        (in_place after n)
     pub outs : (n : ℕ) (events : List moving.Event)
         → IsRun r.out_proxy (m.out_proxy w.cast n) events (out_place w.company n)
-        → IsRun r.out_proxy (m.out_proxy v.cast n)
-        (events ++ at_place (out_place w.company n) (told_to w change (Out n))
-        (made_by w change (Out n)))
-        (out_place v.company n)
+        → IsRun r.out_proxy (m.out_proxy cast n)
+        (events ++ at_place (out_place w.company n) (told (Out n)) (made (Out n)))
+        (out_place after n)
+
+  -- by a change
+  abbrev pub Does : World K C S I O → World K C S I O → Change → Type 0
+  Does w v change =
+      DoesBy w v.cast v.company (told_to w change) (made_by w change) (acts_by change)
 
   -- ---- an event happens to a node
+
+  met : (w : World K C S I O) (after : Company C S I O) (node : Who) (event : moving.Event)
+      → Meets r w.company after node event
+      → DoesBy w w.cast after (λ other. to_node node other event) (λ other. []) (λ end. [])
+  met w after node event me = record {
+    client = me.client;
+    server = me.server;
+    ins = λ n events run. run_on r.in_proxy (m.in_proxy w.cast n) events (in_place w.company n)
+        (in_place after n) (to_node node (In n) event) run (me.ins n);
+    outs = λ n events run. run_on r.out_proxy (m.out_proxy w.cast n) events
+        (out_place w.company n) (out_place after n) (to_node node (Out n) event) run (me.outs n);
+  }
 
   does_told : (w : World K C S I O) (node : Who) (event : Event)
       → Does w (changed r m d w (IsTold node event)) (IsTold node event)
   does_told w node event =
-      let v = changed r m d w (IsTold node event) in
-      let me = tell_meets r w.company node event in
-      record {
-        client = me.client;
-        server = me.server;
-        ins = λ n events run. run_on r.in_proxy (m.in_proxy w.cast n) events (in_place w.company n)
-            (in_place v.company n) (to_node node (In n) (heard event))
-            run (me.ins n);
-        outs = λ n events run. run_on r.out_proxy (m.out_proxy w.cast n) events
-            (out_place w.company n) (out_place v.company n) (to_node node (Out n) (heard event))
-            run (me.outs n);
-      }
+      met w (company.tell r w.company node event).0 node (heard event)
+      (tell_meets r w.company node event)
 
   does_fed : (w : World K C S I O) (leg : Leg) (dir : Dir) (count : ℕ)
       → Does w (changed r m d w (IsFed leg dir count)) (IsFed leg dir count)
   does_fed w leg dir count =
-      let v = changed r m d w (IsFed leg dir count) in
       let node = at w leg (receiver dir) in
       let event = Comes leg (legs.take_out leg dir count w.legs).1 in
-      let me = tell_meets r w.company node event in
-      record {
-        client = me.client;
-        server = me.server;
-        ins = λ n events run. run_on r.in_proxy (m.in_proxy w.cast n) events (in_place w.company n)
-            (in_place v.company n) (to_node node (In n) (heard event))
-            run (me.ins n);
-        outs = λ n events run. run_on r.out_proxy (m.out_proxy w.cast n) events
-            (out_place w.company n) (out_place v.company n) (to_node node (Out n) (heard event))
-            run (me.outs n);
-      }
+      met w (company.tell r w.company node event).0 node (heard event)
+      (tell_meets r w.company node event)
 
   does_drawn : (w : World K C S I O) (leg : Leg) (dir : Dir) (count : ℕ)
       → Does w (changed r m d w (IsDrawn leg dir count)) (IsDrawn leg dir count)
   does_drawn w leg dir count =
-      let v = changed r m d w (IsDrawn leg dir count) in
       let node = at w leg (sender dir) in
-      let event = moving.Draws leg count in
-      let me = draw_meets r w.company node leg count in
-      record {
-        client = me.client;
-        server = me.server;
-        ins = λ n events run. run_on r.in_proxy (m.in_proxy w.cast n) events (in_place w.company n)
-            (in_place v.company n) (to_node node (In n) event)
-            run (me.ins n);
-        outs = λ n events run. run_on r.out_proxy (m.out_proxy w.cast n) events
-            (out_place w.company n) (out_place v.company n) (to_node node (Out n) event)
-            run (me.outs n);
-      }
+      met w (company.draw r w.company node leg count).0 node (moving.Draws leg count)
+      (draw_meets r w.company node leg count)
 
   does_up : (w : World K C S I O) (node : Who) (leg : Leg) (end : Side) (cookie : Cookie)
       → Does w (changed r m d w (GoesUp node leg end cookie)) (GoesUp node leg end cookie)
   does_up w node leg end cookie =
-      let v = changed r m d w (GoesUp node leg end cookie) in
-      let event = moving.ComesUp leg cookie in
-      let me = up_meets r w.company node leg cookie in
-      record {
-        client = me.client;
-        server = me.server;
-        ins = λ n events run. run_on r.in_proxy (m.in_proxy w.cast n) events (in_place w.company n)
-            (in_place v.company n) (to_node node (In n) event)
-            run (me.ins n);
-        outs = λ n events run. run_on r.out_proxy (m.out_proxy w.cast n) events
-            (out_place w.company n) (out_place v.company n) (to_node node (Out n) event)
-            run (me.outs n);
-      }
+      met w (company.up r w.company node leg cookie) node (moving.ComesUp leg cookie)
+      (up_meets r w.company node leg cookie)
 
   -- ---- nothing happens to the proxies
 

@@ -28,9 +28,10 @@ use Rattle.rh_history.specs.Changes.{Change, AreAllowed, all_changed, Leads, Tur
 use Rattle.rh_history.specs.Histories.{History, heard, in_place, out_place, noted, all_noted, nothing, IsRun, IsNew}
 use Rattle.rh_history.specs.Carriages.{IsCarried}
 use Rattle.rh_history.specs.Carried.{carriage, ledger, drawn_by, heard_on, events_of, end_node, IsHeard, LegsComeUpOnce, IsTraced, HasTrace}
-use Rattle.rh_history.proofs.Lines.{leads_turns}
+use Rattle.rh_history.proofs.Halves.{leads_turns}
 use Rattle.rh_history.proofs.Noting.{begins}
-use Rattle.rh_history.proofs.Tracing.{cast_stays, change_is_traced}
+use Rattle.rh_history.proofs.Leading.{cast_stays}
+use Rattle.rh_history.proofs.Tracing.{change_is_traced}
 
 -- a leg on which nothing happened yet
 fresh_carriage : IsCarried (record {
@@ -59,7 +60,7 @@ module _ {K C S I O : Type 0} (r : Rulebook C S I O) (m : Makers K I O) (d : Dee
   all_are_traced first w h (change ∷ changes) allowed once t =
       all_are_traced first (changed r m d w change) (noted w h change) changes allowed.1
       (subst (λ (x : K). LegsComeUpOnce r m d first x)
-      (sym (cast_stays r m d first w h t once change)) once)
+      (sym (cast_stays r m d w change)) once)
       (change_is_traced r m d first w h t once change allowed.0)
 
   pub changes_are_traced : (first : Company C S I O) (w v : World K C S I O) (h : History)

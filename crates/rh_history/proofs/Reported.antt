@@ -27,7 +27,7 @@ use Rattle.rh_history.proofs.Leading.{changed_append}
 
 -- ---- lists
 
-one_behind : {X : Type 0} (x : X) (xs ys : List X) → IsOneOf x ys → IsOneOf x (xs ++ ys)
+pub one_behind : {X : Type 0} (x : X) (xs ys : List X) → IsOneOf x ys → IsOneOf x (xs ++ ys)
 one_behind x [] ys h = h
 one_behind x (z ∷ xs) ys h = inr (one_behind x xs ys h)
 

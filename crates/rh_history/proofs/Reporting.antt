@@ -11,6 +11,7 @@ use Rattle.rh_record.specs.declared.answer.Who.{Who}
 use Rattle.rh_record.specs.declared.answer.Who.TheVariants as who
 use Rattle.rh_record.specs.declared.line.Line.{Line}
 use Rattle.rh_nodes.specs.declared.closing.Closing.{Closing}
+use Rattle.rh_nodes.specs.declared.event.Event.{Event}
 use Rattle.rh_nodes.specs.declared.event.Event.TheVariants.{Comes}
 use Rattle.rh_nodes.specs.Closings.{noted, place, lines}
 use Rattle.rh_nodes.specs.Company as company
@@ -22,13 +23,13 @@ use Rattle.rh_nodes.specs.Steps.{step, step_line}
 use Rattle.rh_nodes.specs.Wires.{receiver}
 use Rattle.rh_nodes.specs.World.{World, at}
 use Rattle.rh_history.specs.Changes.{Change, IsTold, IsFed, IsDrawn, GoesUp, RaisesAlone, GoesDown, OpensIn, OpensOut, OpensSame, Gives, Takes, Closes, RecyclesIn, RecyclesOut, MovesTo, Draws, Reports, changed, all_changed}
-use Rattle.rh_history.specs.Closes.{IsOneOf, ClosesNode, IsClosedBy, LineCloses}
+use Rattle.rh_history.specs.Closes.{told_by, IsOneOf, ClosesNode, IsClosedBy, LineCloses}
 use Rattle.rh_history.proofs.Answering.{is_other}
 use Rattle.rh_history.proofs.Lines.{goes_step_line}
 
 -- ---- lists
 
-one_of_both : {X : Type 0} (x : X) (xs ys : List X) → IsOneOf x (xs ++ ys)
+pub one_of_both : {X : Type 0} (x : X) (xs ys : List X) → IsOneOf x (xs ++ ys)
     → IsOneOf x xs ⊎ IsOneOf x ys
 one_of_both x [] ys h = inr h
 one_of_both x (z ∷ xs) ys (inl here) = inl (inl here)
@@ -67,7 +68,7 @@ told_cause : Cause → Answer → Cause
 told_cause other (NodeClosed node why) = why
 told_cause other one = other
 
-one_of_lines : (node : Who) (why : Cause) (list : List Closing)
+pub one_of_lines : (node : Who) (why : Cause) (list : List Closing)
     → IsOneOf (NodeClosed node why) (lines list)
     → IsOneOf (record { who = node; cause = why }) list
 unfolding told_who told_cause
@@ -95,24 +96,25 @@ module _ {K C S I O : Type 0} (r : Rulebook C S I O) (m : Makers K I O) (d : Dee
   abbrev pub Found : World K C S I O → Change → Closing → Type 0
   Found w change x = IsOneOf x w.closed ⊎ ClosesNode r w change x.who x.cause
 
+  told_closes : (w : World K C S I O) (change : Change) (node : Who) (event : Event) (x : Closing)
+      → told_by w change ≡ Some (node, event)
+      → IsOneOf x (noted w.closed node (company.tell r w.company node event).1)
+      → Found w change x
+  told_closes w change node event x is h =
+      ⊎_elim (λ old. inl old) (λ (new : (node ≡ x.who)
+      × ((company.tell r w.company node event).1 ≡ Some x.cause)). inr (record {
+        event = event;
+        told = is ∙ ap (λ n. Some (n, event)) new.0;
+        closes = ap (λ n. (company.tell r w.company n event).1) (sym new.0) ∙ new.1;
+      })) (one_of_noted x w.closed node (company.tell r w.company node event).1 h)
+
   pub change_closes : (w : World K C S I O) (change : Change) (x : Closing)
       → IsOneOf x (changed r m d w change).closed → Found w change x
   change_closes w (IsTold node event) x h =
-      ⊎_elim (λ old. inl old) (λ (new : (node ≡ x.who)
-      × ((company.tell r w.company node event).1 ≡ Some x.cause)). inr (record {
-        event = event;
-        told = ap (λ n. Some (n, event)) new.0;
-        closes = ap (λ n. (company.tell r w.company n event).1) (sym new.0) ∙ new.1;
-      })) (one_of_noted x w.closed node (company.tell r w.company node event).1 h)
+      told_closes w (IsTold node event) node event x refl h
   change_closes w (IsFed leg dir count) x h =
-      let node = at w leg (receiver dir) in
-      let event = Comes leg (legs.take_out leg dir count w.legs).1 in
-      ⊎_elim (λ old. inl old) (λ (new : (node ≡ x.who)
-      × ((company.tell r w.company node event).1 ≡ Some x.cause)). inr (record {
-        event = event;
-        told = ap (λ n. Some (n, event)) new.0;
-        closes = ap (λ n. (company.tell r w.company n event).1) (sym new.0) ∙ new.1;
-      })) (one_of_noted x w.closed node (company.tell r w.company node event).1 h)
+      told_closes w (IsFed leg dir count) (at w leg (receiver dir))
+      (Comes leg (legs.take_out leg dir count w.legs).1) x refl h
   change_closes w (IsDrawn leg dir count) x h = inl h
   change_closes w (GoesUp node leg end cookie) x h = inl h
   change_closes w (RaisesAlone node leg end cookie) x h = inl h

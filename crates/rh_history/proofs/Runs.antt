@@ -17,6 +17,7 @@ use Rattle.rh_nodes.specs.declared.place.Place.{Place}
 use Rattle.rh_nodes.specs.declared.place.Place.TheVariants.{Absent, Here, Gone}
 use Rattle.rh_nodes.specs.Company as company
 use Rattle.rh_nodes.specs.Company.{Company, Rulebook}
+use Rattle.rh_nodes.specs.Numbered.{act, change}
 use Rattle.rh_nodes.specs.Places as places
 use Rattle.rh_nodes.specs.Telling as telling
 use Rattle.rh_history.specs.Histories.{heard, to_node, at_place, in_place, out_place, IsRun, WasLetGo}
@@ -125,6 +126,32 @@ module _ {S : Type 0} (rules : Rules S) (list after : List (Place S)) (number : 
           (subst (λ (x : Place S). Runs rules (get_or list n Absent) x [])
           (sym (elsewhere n (λ e. other (sym e)))) (runs_none rules (get_or list n Absent)))
 
+-- by an act there, or by a change
+module _ {S : Type 0} (rules : Rules S) where
+  at_acted : {A : Type 0} (does : Place S → Place S × A) (none : A) → does Absent ≡ (Absent, none)
+      → (list : List (Place S)) (number : ℕ) (event : moving.Event)
+      → Runs rules (get_or list number Absent) (does (get_or list number Absent)).0 (event ∷ [])
+      → (n : ℕ)
+      → Runs rules (get_or list n Absent) (get_or (act does none list number).0 n Absent)
+      (if number == n then event ∷ [] else [])
+  at_acted does none idle list number event runs =
+      at_number rules list (act does none list number).0 number event
+      (λ n other. acts_elsewhere Absent does none list number n other)
+      (subst (λ (x : Place S). Runs rules (get_or list number Absent) x (event ∷ []))
+      (sym (acted Absent does none idle list number)) runs)
+
+  at_changed : (does : Place S → Place S) → does Absent ≡ Absent → (list : List (Place S))
+      (number : ℕ) (event : moving.Event)
+      → Runs rules (get_or list number Absent) (does (get_or list number Absent)) (event ∷ [])
+      → (n : ℕ)
+      → Runs rules (get_or list n Absent) (get_or (change does list number) n Absent)
+      (if number == n then event ∷ [] else [])
+  at_changed does idle list number event runs =
+      at_number rules list (change does list number) number event
+      (λ n other. changes_elsewhere Absent does list number n other)
+      (subst (λ (x : Place S). Runs rules (get_or list number Absent) x (event ∷ []))
+      (sym (changed_here Absent does idle list number)) runs)
+
 -- ---- all nodes
 
 -- an event happens to the node that it is for, where that is there, and to no other
@@ -158,32 +185,20 @@ module _ {C S I O : Type 0} (r : Rulebook C S I O) (c : Company C S I O) where
     ins = no_ins;
     outs = no_outs;
   }
-  tell_meets (In number) event =
-      let does = places.tell r.in_proxy event in
-      let after = (company.tell r c (In number) event).0.ins in
-      record {
-        client = refl;
-        server = refl;
-        ins = at_number r.in_proxy c.ins after number (heard event)
-            (λ n other. acts_elsewhere Absent does None c.ins number n other)
-            (subst (λ (x : Place I). Runs r.in_proxy (in_place c number) x (heard event ∷ []))
-            (sym (acted Absent does None refl c.ins number))
-            (told_runs r.in_proxy event (in_place c number)));
-        outs = no_outs;
-      }
-  tell_meets (Out number) event =
-      let does = places.tell r.out_proxy event in
-      let after = (company.tell r c (Out number) event).0.outs in
-      record {
-        client = refl;
-        server = refl;
-        ins = no_ins;
-        outs = at_number r.out_proxy c.outs after number (heard event)
-            (λ n other. acts_elsewhere Absent does None c.outs number n other)
-            (subst (λ (x : Place O). Runs r.out_proxy (out_place c number) x (heard event ∷ []))
-            (sym (acted Absent does None refl c.outs number))
-            (told_runs r.out_proxy event (out_place c number)));
-      }
+  tell_meets (In number) event = record {
+    client = refl;
+    server = refl;
+    ins = at_acted r.in_proxy (places.tell r.in_proxy event) None refl c.ins number (heard event)
+        (told_runs r.in_proxy event (in_place c number));
+    outs = no_outs;
+  }
+  tell_meets (Out number) event = record {
+    client = refl;
+    server = refl;
+    ins = no_ins;
+    outs = at_acted r.out_proxy (places.tell r.out_proxy event) None refl c.outs number
+        (heard event) (told_runs r.out_proxy event (out_place c number));
+  }
 
   pub draw_meets : (node : Who) (leg : Leg) (room : ℕ)
       → Meets r c (company.draw r c node leg room).0 node (moving.Draws leg room)
@@ -191,34 +206,20 @@ module _ {C S I O : Type 0} (r : Rulebook C S I O) (c : Company C S I O) where
       record { client = refl; server = refl; ins = no_ins; outs = no_outs }
   draw_meets Server leg room =
       record { client = refl; server = refl; ins = no_ins; outs = no_outs }
-  draw_meets (In number) leg room =
-      let does = places.draw r.in_proxy leg room in
-      let after = (company.draw r c (In number) leg room).0.ins in
-      let event = moving.Draws leg room in
-      record {
-        client = refl;
-        server = refl;
-        ins = at_number r.in_proxy c.ins after number event
-            (λ n other. acts_elsewhere Absent does [] c.ins number n other)
-            (subst (λ (x : Place I). Runs r.in_proxy (in_place c number) x (event ∷ []))
-            (sym (acted Absent does [] refl c.ins number))
-            (drawn_runs r.in_proxy leg room (in_place c number)));
-        outs = no_outs;
-      }
-  draw_meets (Out number) leg room =
-      let does = places.draw r.out_proxy leg room in
-      let after = (company.draw r c (Out number) leg room).0.outs in
-      let event = moving.Draws leg room in
-      record {
-        client = refl;
-        server = refl;
-        ins = no_ins;
-        outs = at_number r.out_proxy c.outs after number event
-            (λ n other. acts_elsewhere Absent does [] c.outs number n other)
-            (subst (λ (x : Place O). Runs r.out_proxy (out_place c number) x (event ∷ []))
-            (sym (acted Absent does [] refl c.outs number))
-            (drawn_runs r.out_proxy leg room (out_place c number)));
-      }
+  draw_meets (In number) leg room = record {
+    client = refl;
+    server = refl;
+    ins = at_acted r.in_proxy (places.draw r.in_proxy leg room) [] refl c.ins number
+        (moving.Draws leg room) (drawn_runs r.in_proxy leg room (in_place c number));
+    outs = no_outs;
+  }
+  draw_meets (Out number) leg room = record {
+    client = refl;
+    server = refl;
+    ins = no_ins;
+    outs = at_acted r.out_proxy (places.draw r.out_proxy leg room) [] refl c.outs number
+        (moving.Draws leg room) (drawn_runs r.out_proxy leg room (out_place c number));
+  }
 
   pub up_meets : (node : Who) (leg : Leg) (cookie : Cookie)
       → Meets r c (company.up r c node leg cookie) node (moving.ComesUp leg cookie)
@@ -226,31 +227,17 @@ module _ {C S I O : Type 0} (r : Rulebook C S I O) (c : Company C S I O) where
       record { client = refl; server = refl; ins = no_ins; outs = no_outs }
   up_meets Server leg cookie =
       record { client = refl; server = refl; ins = no_ins; outs = no_outs }
-  up_meets (In number) leg cookie =
-      let does = places.up r.in_proxy leg cookie in
-      let after = (company.up r c (In number) leg cookie).ins in
-      let event = moving.ComesUp leg cookie in
-      record {
-        client = refl;
-        server = refl;
-        ins = at_number r.in_proxy c.ins after number event
-            (λ n other. changes_elsewhere Absent does c.ins number n other)
-            (subst (λ (x : Place I). Runs r.in_proxy (in_place c number) x (event ∷ []))
-            (sym (changed_here Absent does refl c.ins number))
-            (up_runs r.in_proxy leg cookie (in_place c number)));
-        outs = no_outs;
-      }
-  up_meets (Out number) leg cookie =
-      let does = places.up r.out_proxy leg cookie in
-      let after = (company.up r c (Out number) leg cookie).outs in
-      let event = moving.ComesUp leg cookie in
-      record {
-        client = refl;
-        server = refl;
-        ins = no_ins;
-        outs = at_number r.out_proxy c.outs after number event
-            (λ n other. changes_elsewhere Absent does c.outs number n other)
-            (subst (λ (x : Place O). Runs r.out_proxy (out_place c number) x (event ∷ []))
-            (sym (changed_here Absent does refl c.outs number))
-            (up_runs r.out_proxy leg cookie (out_place c number)));
-      }
+  up_meets (In number) leg cookie = record {
+    client = refl;
+    server = refl;
+    ins = at_changed r.in_proxy (places.up r.in_proxy leg cookie) refl c.ins number
+        (moving.ComesUp leg cookie) (up_runs r.in_proxy leg cookie (in_place c number));
+    outs = no_outs;
+  }
+  up_meets (Out number) leg cookie = record {
+    client = refl;
+    server = refl;
+    ins = no_ins;
+    outs = at_changed r.out_proxy (places.up r.out_proxy leg cookie) refl c.outs number
+        (moving.ComesUp leg cookie) (up_runs r.out_proxy leg cookie (out_place c number));
+  }

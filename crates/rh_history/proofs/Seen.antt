@@ -23,9 +23,9 @@ seen drawn fed put take wire dir = record {
   did_take = take;
 }
 
-pub seen_as : (dir : Dir) (d e f g : List ℕ) (p q s t : Bool) (w v : Wire) → d ≡ e → f ≡ g
+pub seen_as : {d e f g : List ℕ} {p q s t : Bool} {w v : Wire} (dir : Dir) → d ≡ e → f ≡ g
     → p ≡ q → s ≡ t → w ≡ v → IsCarried (seen d f p s w dir) → IsCarried (seen e g q t v dir)
-seen_as dir d e f g p q s t w v drawn fed put take wire =
+seen_as dir drawn fed put take wire =
     subst IsCarried (λ i. seen (drawn i) (fed i) (put i) (take i) (wire i) dir)
 
 module _ (d f : List ℕ) (p t : Bool) (w : Wire) where
@@ -54,32 +54,27 @@ module _ (d f : List ℕ) (p t : Bool) (w : Wire) where
   seen_up_take U first k = carry_up_take (seen d f p t w U) k first
   seen_up_take D first k = carry_up_take (seen d f p t w D) k first
 
+  -- where one end fell, all is lost if the other end is not up
+  fallen : (other : Bool) (left : Wire) (dir : Dir) → IsCarried (seen d f p t left dir)
+      → IsCarried (seen d f p t blank dir)
+      → IsCarried (seen d f p t (if other then left else blank) dir)
+  fallen true left dir stays lost = stays
+  fallen false left dir stays lost = lost
+
   pub seen_down : (end : Side) (dir : Dir) → is_up end w ≡ true → IsCarried (seen d f p t w dir)
       → IsCarried (seen d f p t (lower end w) dir)
-  seen_down Client U up k = by w.server
-    where
-      by : (b : Bool)
-          → IsCarried (seen d f p t (if b then record w { client = false } else blank) U)
-      by true = carry_down_put (seen d f p t w U) k up
-      by false = carry_lost (seen d f p t w U) k (inl up)
-  seen_down Client D up k = by w.server
-    where
-      by : (b : Bool)
-          → IsCarried (seen d f p t (if b then record w { client = false } else blank) D)
-      by true = carry_down_take (seen d f p t w D) k up
-      by false = carry_lost (seen d f p t w D) k (inr up)
-  seen_down Server U up k = by w.client
-    where
-      by : (b : Bool)
-          → IsCarried (seen d f p t (if b then record w { server = false } else blank) U)
-      by true = carry_down_take (seen d f p t w U) k up
-      by false = carry_lost (seen d f p t w U) k (inr up)
-  seen_down Server D up k = by w.client
-    where
-      by : (b : Bool)
-          → IsCarried (seen d f p t (if b then record w { server = false } else blank) D)
-      by true = carry_down_put (seen d f p t w D) k up
-      by false = carry_lost (seen d f p t w D) k (inl up)
+  seen_down Client U up k =
+      fallen w.server (record w { client = false }) U (carry_down_put (seen d f p t w U) k up)
+      (carry_lost (seen d f p t w U) k (inl up))
+  seen_down Client D up k =
+      fallen w.server (record w { client = false }) D (carry_down_take (seen d f p t w D) k up)
+      (carry_lost (seen d f p t w D) k (inr up))
+  seen_down Server U up k =
+      fallen w.client (record w { server = false }) U (carry_down_take (seen d f p t w U) k up)
+      (carry_lost (seen d f p t w U) k (inr up))
+  seen_down Server D up k =
+      fallen w.client (record w { server = false }) D (carry_down_put (seen d f p t w D) k up)
+      (carry_lost (seen d f p t w D) k (inl up))
 
 -- ---- what the other direction does
 

@@ -37,6 +37,7 @@ use Rattle.rh_nodes.specs.World.{World, at}
 use Rattle.rh_history.specs.Changes.{Change, may_have, IsTold, IsFed, IsDrawn, GoesUp, RaisesAlone, GoesDown, OpensIn, OpensOut, OpensSame, Gives, Takes, Closes, RecyclesIn, RecyclesOut, MovesTo, Draws, Reports, MayChange, StandsAt, changed}
 use Rattle.rh_history.specs.Histories.{History, heard, to_node, told_to, made_by, at_place, fed_by, in_place, out_place, noted, IsRun}
 use Rattle.rh_history.specs.Carried.{Ledger, ledger, heard_on, came_up, happened, wire_at, end_node, AreCarried, IsHeard, AreHeard, LegsComeUpOnce, AllAccepted, IsTraced, is_of_client}
+use Rattle.rh_history.proofs.Leading.{cast_stays}
 use Rattle.rh_history.proofs.Appended.{heard_append, happened_more}
 use Rattle.rh_history.proofs.HeardAll.{is_hears, unheard, heard_piece, hear_on, hear_none, hear_leaving, hear_made}
 use Rattle.rh_history.proofs.Ledgers.{is_here, not_other, or_false}
@@ -627,6 +628,12 @@ module _ {K C S I O : Type 0} (r : Rulebook C S I O) (m : Makers K I O) (d : Dee
       kept_quiet old (new c) w.legs w.readers t.carried (same_drawn c drawn) (same_fed c fed)
       (same_up c up)
 
+  acted : {c : Change} {v : World K C S I O} → AreCarried (new c) v.legs v.readers
+      → AllAccept r w.company (told_to w c) → Hears c v.company → in_place v.company 0 ≡ Absent
+      → Traces c v
+  acted carried accepts hears zero =
+      record { accepts = accepts; carried = carried; hears = hears; zero = zero }
+
   traces : (change : Change) → MayChange r w change
       → Traces change (changed r m d w change)
   traces (IsTold node event) may = traces_told node event may
@@ -650,169 +657,50 @@ module _ {K C S I O : Type 0} (r : Rulebook C S I O) (m : Makers K I O) (d : Dee
   traces (OpensIn n cookie) may = traces_open_in n cookie may
   traces (OpensOut n cookie) may = traces_open_out n cookie may
   traces (OpensSame n cookie) may = traces_open_same n cookie may
-  traces (Gives side.Client pdu) may = record {
-    accepts = silent_accepts r w.company;
-    carried = quiet_carried (Gives side.Client pdu) (silent_drawn r w.company)
-        (λ other beside. refl) (silent_up r w.company);
-    hears = record {
-      client = λ other. refl;
-      server = λ other. refl;
-      ins = quiet_in;
-      outs = quiet_out;
-    };
-    zero = t.zero;
-  }
-  traces (Gives side.Server pdu) may = record {
-    accepts = silent_accepts r w.company;
-    carried = quiet_carried (Gives side.Server pdu) (silent_drawn r w.company)
-        (λ other beside. refl) (silent_up r w.company);
-    hears = record {
-      client = λ other. refl;
-      server = λ other. refl;
-      ins = quiet_in;
-      outs = quiet_out;
-    };
-    zero = t.zero;
-  }
-  traces (Takes side.Client) may = record {
-    accepts = silent_accepts r w.company;
-    carried = quiet_carried (Takes side.Client) (silent_drawn r w.company) (λ other beside. refl)
-        (silent_up r w.company);
-    hears = record {
-      client = λ other. refl;
-      server = λ other. refl;
-      ins = quiet_in;
-      outs = quiet_out;
-    };
-    zero = t.zero;
-  }
-  traces (Takes side.Server) may = record {
-    accepts = silent_accepts r w.company;
-    carried = quiet_carried (Takes side.Server) (silent_drawn r w.company) (λ other beside. refl)
-        (silent_up r w.company);
-    hears = record {
-      client = λ other. refl;
-      server = λ other. refl;
-      ins = quiet_in;
-      outs = quiet_out;
-    };
-    zero = t.zero;
-  }
-  traces (Closes side.Client) may = record {
-    accepts = silent_accepts r w.company;
-    carried = quiet_carried (Closes side.Client) (silent_drawn r w.company) (λ other beside. refl)
-        (silent_up r w.company);
-    hears = record {
-      client = λ other. refl;
-      server = λ other. refl;
-      ins = quiet_in;
-      outs = quiet_out;
-    };
-    zero = t.zero;
-  }
-  traces (Closes side.Server) may = record {
-    accepts = silent_accepts r w.company;
-    carried = quiet_carried (Closes side.Server) (silent_drawn r w.company) (λ other beside. refl)
-        (silent_up r w.company);
-    hears = record {
-      client = λ other. refl;
-      server = λ other. refl;
-      ins = quiet_in;
-      outs = quiet_out;
-    };
-    zero = t.zero;
-  }
-  traces RecyclesIn may = record {
-    accepts = silent_accepts r w.company;
-    carried = quiet_carried RecyclesIn (silent_drawn r w.company) (λ other beside. refl)
-        (silent_up r w.company);
-    hears = record {
-      client = λ other. refl;
-      server = λ other. refl;
-      ins = quiet_in;
-      outs = quiet_out;
-    };
-    zero = t.zero;
-  }
-  traces RecyclesOut may = record {
-    accepts = silent_accepts r w.company;
-    carried = quiet_carried RecyclesOut (silent_drawn r w.company) (λ other beside. refl)
-        (silent_up r w.company);
-    hears = record {
-      client = λ other. refl;
-      server = λ other. refl;
-      ins = quiet_in;
-      outs = quiet_out;
-    };
-    zero = t.zero;
-  }
-  traces (MovesTo now) may = record {
-    accepts = silent_accepts r w.company;
-    carried = quiet_carried (MovesTo now) (silent_drawn r w.company) (λ other beside. refl)
-        (silent_up r w.company);
-    hears = record {
-      client = λ other. refl;
-      server = λ other. refl;
-      ins = quiet_in;
-      outs = quiet_out;
-    };
-    zero = t.zero;
-  }
-  traces (Draws cookies) may = record {
-    accepts = silent_accepts r w.company;
-    carried = quiet_carried (Draws cookies) (silent_drawn r w.company) (λ other beside. refl)
-        (silent_up r w.company);
-    hears = record {
-      client = λ other. refl;
-      server = λ other. refl;
-      ins = quiet_in;
-      outs = quiet_out;
-    };
-    zero = t.zero;
-  }
-  traces Reports may = record {
-    accepts = silent_accepts r w.company;
-    carried = quiet_carried Reports (silent_drawn r w.company) (λ other beside. refl)
-        (silent_up r w.company);
-    hears = record {
-      client = λ other. refl;
-      server = λ other. refl;
-      ins = quiet_in;
-      outs = quiet_out;
-    };
-    zero = t.zero;
-  }
+  traces (Gives side.Client pdu) may =
+      acted (quiet_carried (Gives side.Client pdu) (silent_drawn r w.company) (λ other beside. refl)
+      (silent_up r w.company)) (silent_accepts r w.company)
+      (record { client = λ other. refl; server = λ other. refl; ins = quiet_in; outs = quiet_out })
+      t.zero
+  traces (Gives side.Server pdu) may =
+      acted (quiet_carried (Gives side.Server pdu) (silent_drawn r w.company) (λ other beside. refl)
+      (silent_up r w.company)) (silent_accepts r w.company)
+      (record { client = λ other. refl; server = λ other. refl; ins = quiet_in; outs = quiet_out })
+      t.zero
+  traces (Takes side.Client) may =
+      acted (quiet_carried (Takes side.Client) (silent_drawn r w.company) (λ other beside. refl)
+      (silent_up r w.company)) (silent_accepts r w.company)
+      (record { client = λ other. refl; server = λ other. refl; ins = quiet_in; outs = quiet_out })
+      t.zero
+  traces (Takes side.Server) may =
+      acted (quiet_carried (Takes side.Server) (silent_drawn r w.company) (λ other beside. refl)
+      (silent_up r w.company)) (silent_accepts r w.company)
+      (record { client = λ other. refl; server = λ other. refl; ins = quiet_in; outs = quiet_out })
+      t.zero
+  traces (Closes side.Client) may =
+      acted (quiet_carried (Closes side.Client) (silent_drawn r w.company) (λ other beside. refl)
+      (silent_up r w.company)) (silent_accepts r w.company)
+      (record { client = λ other. refl; server = λ other. refl; ins = quiet_in; outs = quiet_out })
+      t.zero
+  traces (Closes side.Server) may =
+      acted (quiet_carried (Closes side.Server) (silent_drawn r w.company) (λ other beside. refl)
+      (silent_up r w.company)) (silent_accepts r w.company)
+      (record { client = λ other. refl; server = λ other. refl; ins = quiet_in; outs = quiet_out })
+      t.zero
+  traces change may =
+      acted (quiet_carried change (silent_drawn r w.company) (λ other beside. refl)
+      (silent_up r w.company)) (silent_accepts r w.company)
+      (record { client = λ other. refl; server = λ other. refl; ins = quiet_in; outs = quiet_out })
+      t.zero
 
   -- ---- all of it
-
-  pub cast_stays : (change : Change) → (changed r m d w change).cast ≡ w.cast
-  cast_stays (IsTold node event) = refl
-  cast_stays (IsFed leg dir count) = refl
-  cast_stays (IsDrawn leg dir count) = refl
-  cast_stays (GoesUp node leg end cookie) = refl
-  cast_stays (RaisesAlone node leg end cookie) = refl
-  cast_stays (GoesDown node leg end) = refl
-  cast_stays (OpensIn n cookie) = refl
-  cast_stays (OpensOut n cookie) = refl
-  cast_stays (OpensSame n cookie) = refl
-  cast_stays (Gives side.Client pdu) = refl
-  cast_stays (Gives side.Server pdu) = refl
-  cast_stays (Takes side.Client) = refl
-  cast_stays (Takes side.Server) = refl
-  cast_stays (Closes side.Client) = refl
-  cast_stays (Closes side.Server) = refl
-  cast_stays RecyclesIn = refl
-  cast_stays RecyclesOut = refl
-  cast_stays (MovesTo now) = refl
-  cast_stays (Draws cookies) = refl
-  cast_stays Reports = refl
 
   pub change_is_traced : (change : Change) → MayChange r w change
       → IsTraced r m d first (changed r m d w change) (noted w h change)
   change_is_traced change may =
       let v = changed r m d w change in
       let k = traces change may in
-      let cast = sym (cast_stays change) in
+      let cast = sym (cast_stays r m d w change) in
       record {
         runs = change_is_noted r m d first w h change may t.runs;
         accepted = subst (λ (x : K). AllAccepted r m d first x (noted w h change)) cast

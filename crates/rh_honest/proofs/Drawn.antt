@@ -59,11 +59,11 @@ use Rattle.rh_reading.specs.Reading.{Begins}
 use Rattle.rh_reading.specs.Well.{Answers, AreTaken, IsWellText, ReadsWell, TextIsWell, is_named, is_packet}
 use Rattle.rh_streams.specs.Streams.{EndStream, IsDrawn, Stream, is_refused_on}
 use Rattle.rh_streams.specs.Turns.{AreInTurn}
+use Rattle.rh_streams.proofs.LegLogs.{on_leg}
 use Rattle.rh_proxies_begin.specs.Pipes as pipes
 use Rattle.rh_down.specs.Down as down
 use Rattle.rh_traced.specs.Ours.{AreOurs, deeds, rules}
 use Rattle.rh_fifo.specs.Flows.{IsFlowing, numbers_of}
-use Rattle.rh_fifo.proofs.Fine.{on_leg}
 use Rattle.rh_fifo.proofs.Heard.{from_client, from_in, from_out, from_server}
 use Rattle.rh_honest.specs.Honest.{read_on, well_on}
 

@@ -22,9 +22,11 @@ use Rattle.rh_line.specs.declared.leg.LegKind.TheVariants.{ClientOut, OutServer,
 use Rattle.rh_record.specs.declared.answer.Who.{Who}
 use Rattle.rh_record.specs.declared.answer.Who.TheVariants as who
 use Rattle.rh_order.proofs.Prefixes.{prefix_trans}
+use Rattle.rh_shell.specs.declared.stage.Stage.TheVariants as stage
 use Rattle.rh_shell.specs.Carrying.{spelled}
 use Rattle.rh_shell.specs.Intakes.{is_whole_head}
 use Rattle.rh_shell.specs.Moves.{EndMove}
+use Rattle.rh_shell.specs.NearEnds.{first_stage}
 use Rattle.rh_shell.specs.Rules.{Message, Text, Pdu, Packet}
 use Rattle.rh_shell.specs.Shells.{begun}
 use Rattle.rh_shell.specs.Wires.{of_leg}
@@ -33,7 +35,6 @@ use Rattle.rh_nodes.specs.Settling.{leg_at}
 use Rattle.rh_nodes.specs.Wires.{sender}
 use Rattle.rh_nodes.specs.World.{World}
 use Rattle.rh_client.specs.declared.state.ClientRole.{ClientRole}
-use Rattle.rh_client.specs.Client as client
 use Rattle.rh_client.specs.Legible.{pipe_put}
 use Rattle.rh_client.specs.Order.{AreAllowedMoves, client_moved}
 use Rattle.rh_inproxy.specs.Machine as in_proxy
@@ -45,11 +46,11 @@ use Rattle.rh_outproxy.specs.Legible.{IsConfig}
 use Rattle.rh_outproxy.specs.Machine as out_proxy
 use Rattle.rh_outproxy.specs.OutProxy.{OutProxy, new_proxy}
 use Rattle.rh_server.specs.States.{Server}
-use Rattle.rh_history.specs.Carried.{drawn_by, drawn_on, end_drawn_on, end_node}
+use Rattle.rh_history.specs.Carried.{drawn_by, drawn_on, end_node}
 use Rattle.rh_history.specs.Histories.{History}
 use Rattle.rh_reading.specs.Reading.{Begins, IsWholeText}
 use Rattle.rh_streams.specs.Streams.{IsDrawn, IsFirstHead}
-use Rattle.rh_ends_begin.specs.Begins.{Asks, BeginsLegs}
+use Rattle.rh_ends_begin.specs.Begins.{Asks, BeginsLegs, IsRequestOf}
 use Rattle.rh_traced.specs.Ours.{AreOurs, deeds, rules}
 use Rattle.rh_fifo.specs.Flows.{IsFlowing, numbers_of}
 use Rattle.rh_fifo.specs.Premises.{AreInRange}
@@ -57,9 +58,9 @@ use Rattle.rh_fifo.proofs.Heard.{from_client, from_in, from_out}
 use Rattle.rh_refused.specs.Refused.{IsPort}
 use Rattle.rh_refused.proofs.InTexts.{IsEcho, echo_begins, echoes_alone}
 use Rattle.rh_refused.proofs.Losses.{whole_requests}
-use Rattle.rh_refused.proofs.Moments.{in_begun, out_begun}
+use Rattle.rh_refused.proofs.Moments.{head_is}
 use Rattle.rh_refused.proofs.OutTexts.{Succeeds, in_range, puts_200, success_begins}
-use Rattle.rh_refused.proofs.Requests.{BegunBy, answered, head_asked, head_holds, short, whole_verdict}
+use Rattle.rh_refused.proofs.Requests.{BegunBy, answered, head_holds, short, whole_verdict}
 use Rattle.rh_refused.proofs.Taken.{asked_for, in_asks, out_asks}
 use Rattle.rh_honest.specs.Heads.{HeadIsRead, IsRequest, IsResponse}
 use Rattle.rh_honest.proofs.Drawn.{as_first}
@@ -166,35 +167,26 @@ module _ {K : Type 0} (law : Heads) (m : Makers K InProxy OutProxy)
 
   -- ---- requests
 
-  abbrev client_put : Leg → List ℕ
-  client_put leg = spelled (of_leg leg flowing.flows.client.passage.passage.put)
-
-  client_drew : (leg : Leg) (bytes : List ℕ) → Drew who.Client leg bytes
-      → IsPrefix bytes (client_put leg)
-  client_drew leg bytes p =
-      prefix_trans bytes
-      (end_drawn_on client.rules client.acts (client.first_client ours.config) leg h.client)
-      (client_put leg) (from_client m w.company w.cast ours h leg bytes p)
-      (flowing.flows.client.drawn leg)
+  -- the head with which what the client drew on the leg of a channel begins is its request
+  of_client : (leg : Leg) (bytes text : List ℕ) → first_stage (pipe_put leg) ≡ stage.Head
+      → Drew who.Client leg bytes → IsFirstHead text bytes
+      → IsRequestOf ours.config leg.kind text
+  of_client leg bytes text asks p =
+      head_is law.begins law.asks (whole_requests law.in_requests law.out_requests) ours.config
+      h.client flowing.flows.client leg asks bytes text
+      (from_client m w.company w.cast ours h leg bytes p)
 
   of_out_request : (n : ℕ) (bytes text : List ℕ) → Drew who.Client (leg_at ClientOut n) bytes
       → IsFirstHead text bytes → IsRequest false text
   of_out_request n bytes text p first =
-      out_asks ours.config text port
-      (head_asked ours.config ClientOut (client_put (leg_at ClientOut n)) bytes text
-      (whole_requests law.in_requests law.out_requests ours.config ClientOut)
-      (out_begun law.begins law.asks ours.config h.client flowing.flows.client n)
-      (client_drew (leg_at ClientOut n) bytes p) first)
+      out_asks ours.config text port (of_client (leg_at ClientOut n) bytes text refl p first)
 
   of_in_request : (n : ℕ) (bytes text : List ℕ) → Drew who.Client (leg_at ClientIn n) bytes
       → IsFirstHead text bytes → IsRequest true text
   of_in_request n bytes text p first = (
     asked_for ours.config ours.config.lifetime,
     in_asks ours.config text ranges.client port
-        (head_asked ours.config ClientIn (client_put (leg_at ClientIn n)) bytes text
-        (whole_requests law.in_requests law.out_requests ours.config ClientIn)
-        (in_begun law.begins law.asks ours.config h.client flowing.flows.client n)
-        (client_drew (leg_at ClientIn n) bytes p) first),
+        (of_client (leg_at ClientIn n) bytes text refl p first),
   )
 
   -- ---- responses

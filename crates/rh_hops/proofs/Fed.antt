@@ -1,7 +1,6 @@
 -- a node that a fed piece closes, by the byte that closes it: what it heard until then
-use Rattle.std.proofs.Common.{◌≡◌, ℕ, ◌+◌, Bool, true, false, List, [], ◌∷◌, ◌++◌, length, map, refl, sym, ap, ◌∙◌, subst, append_assoc}
-use Rattle.std.specs.Prelude.{Some, None, if◌then◌else◌}
-use Rattle.std.specs.declared.option.Option.{Option}
+use Rattle.std.proofs.Common.{◌≡◌, ℕ, Bool, List, [], ◌∷◌, ◌++◌, map, sym, ap, ◌∙◌}
+use Rattle.std.specs.Prelude.{if◌then◌else◌}
 use Rattle.std.proofs.lemmas.List.{append-nil}
 use Rattle.rh_text.specs.declared.ends.Dir.{Dir}
 use Rattle.rh_text.specs.declared.ends.Side.TheVariants as side
@@ -10,13 +9,11 @@ use Rattle.rh_record.specs.declared.answer.Who.{Who}
 use Rattle.rh_record.specs.declared.answer.Who.TheVariants as who
 use Rattle.rh_shell.specs.Moving as moving
 use Rattle.rh_shell.specs.Moving.{EndEvent, Happens, after_end_event, after_end_events, after_event, after_events}
-use Rattle.rh_shell.specs.Rules.{Acts, Rules}
 use Rattle.rh_shell.specs.Shells.{Shell, bytes}
 use Rattle.rh_nodes.specs.declared.place.Place.{Place}
-use Rattle.rh_nodes.specs.declared.place.Place.TheVariants.{Absent, Here, Gone}
+use Rattle.rh_nodes.specs.declared.place.Place.TheVariants.{Here}
 use Rattle.rh_nodes.specs.Halves.{is_same}
 use Rattle.rh_nodes.specs.Legs as legs
-use Rattle.rh_nodes.specs.Opening.{Makers}
 use Rattle.rh_nodes.specs.Wires.{receiver}
 use Rattle.rh_nodes.specs.World.{World, at}
 use Rattle.rh_client.specs.declared.state.ClientRole.{ClientRole}
@@ -27,8 +24,8 @@ use Rattle.rh_history.specs.Carried.{happened, heard_on}
 use Rattle.rh_history.specs.Changes.{IsFed}
 use Rattle.rh_history.specs.Histories.{History, at_place, in_place, made_by, noted, out_place, told_to}
 use Rattle.rh_history.proofs.Appended.{happened_more, heard_append}
-use Rattle.rh_history.proofs.Runs.{end_events_append, events_append}
-use Rattle.rh_streams.proofs.Ends.{leg_itself}
+use Rattle.rh_history.proofs.Runs.{end_events_append}
+use Rattle.rh_history.proofs.Wired.{same_itself}
 use Rattle.rh_traced.specs.Ours.{deeds, rules}
 use Rattle.rh_honest.proofs.Fed.{same_who}
 
@@ -50,13 +47,14 @@ module _ {K : Type 0} (v : World K ClientRole Server InProxy OutProxy) (h : Hist
       → heard_on leg (told_to v (IsFed leg dir count) node) ≡ piece count
   heard_told count =
       ap (heard_on leg) (told_here count)
-      ∙ ap (λ (t : Bool). (if t then piece count else []) ++ []) (leg_itself leg)
+      ∙ ap (λ (t : Bool). (if t then piece count else []) ++ []) (same_itself leg)
       ∙ append-nil (piece count)
 
 -- ---- the server
 
 module _ {K : Type 0} (first : Shell Server) (v : World K ClientRole Server InProxy OutProxy)
-    (h : History) (run : v.company.server ≡ after_end_events rules.server deeds.server first h.server)
+    (h : History)
+    (run : v.company.server ≡ after_end_events rules.server deeds.server first h.server)
     (leg : Leg) (dir : Dir) (here : at v leg (receiver dir) ≡ who.Server) (count : ℕ) where
   pub server_heard : heard_on leg (happened (noted v h (IsFed leg dir count)).server)
       ≡ heard_on leg (happened h.server) ++ piece v h leg dir who.Server here count
@@ -87,7 +85,8 @@ module _ {K : Type 0} (v : World K ClientRole Server InProxy OutProxy) (h : Hist
       ≡ h.ins n ++ moving.Hears leg (piece v h leg dir (who.In n) here count) ∷ []
   in_events here now up there =
       ap (λ (p : Place InProxy). h.ins n ++ at_place p
-      (told_to v (IsFed leg dir count) (who.In n)) (made_by v (IsFed leg dir count) (who.In n))) there
+      (told_to v (IsFed leg dir count) (who.In n)) (made_by v (IsFed leg dir count) (who.In n)))
+      there
       ∙ ap (λ (es : List moving.Event). h.ins n ++ es) (told_here v h leg dir (who.In n) here count)
 
   pub out_events : (here : at v leg (receiver dir) ≡ who.Out n) (now : Shell OutProxy) (up : ℕ)
@@ -98,7 +97,8 @@ module _ {K : Type 0} (v : World K ClientRole Server InProxy OutProxy) (h : Hist
       ap (λ (p : Place OutProxy). h.outs n ++ at_place p
       (told_to v (IsFed leg dir count) (who.Out n))
       (made_by v (IsFed leg dir count) (who.Out n))) there
-      ∙ ap (λ (es : List moving.Event). h.outs n ++ es) (told_here v h leg dir (who.Out n) here count)
+      ∙ ap (λ (es : List moving.Event). h.outs n ++ es)
+      (told_here v h leg dir (who.Out n) here count)
 
 -- ---- any node
 
@@ -106,5 +106,5 @@ pub heard_behind : (leg : Leg) (es : List moving.Event) (bytes : List ℕ)
     → heard_on leg (es ++ moving.Hears leg bytes ∷ []) ≡ heard_on leg es ++ bytes
 heard_behind leg es bytes =
     heard_append leg es (moving.Hears leg bytes ∷ [])
-    ∙ ap (λ (t : Bool). heard_on leg es ++ ((if t then bytes else []) ++ [])) (leg_itself leg)
+    ∙ ap (λ (t : Bool). heard_on leg es ++ ((if t then bytes else []) ++ [])) (same_itself leg)
     ∙ ap (λ (xs : List ℕ). heard_on leg es ++ xs) (append-nil bytes)

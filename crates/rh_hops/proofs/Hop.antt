@@ -1,20 +1,19 @@
 -- what a row refuses on a hop cannot come from the other end
-use Rattle.std.proofs.Common.{◌≡◌, ◌⊎◌, inl, inr, ℕ, ◌+◌, ◌≤◌, ◌<◌, Bool, true, false, if◌then◌else◌, List, [], ◌∷◌, ◌++◌, length, Ok, Err, arith, refl, sym, ap, ◌∙◌, subst, rules}
+use Rattle.std.proofs.Common.{◌≡◌, inl, inr, ℕ, ◌+◌, ◌≤◌, ◌<◌, Bool, true, false, if◌then◌else◌, List, [], ◌∷◌, ◌++◌, length, arith, refl, sym, ap, ◌∙◌, subst, rules}
 use Rattle.std.specs.List.{AllByRecursion}
 use Rattle.std.proofs.lemmas.Bool.Decides.{nat_tests}
 use mathlib.Core.List.{IsPrefix}
 use Rattle.rh_window.specs.declared.fault.WindowExceeded.{WindowExceeded}
-use Rattle.rh_window.specs.declared.range.TheConstants.{GREATEST_WINDOW}
 use Rattle.rh_sig.specs.declared.named.Named.{Named}
 use Rattle.rh_sig.specs.declared.named.Named.TheVariants.{Ack}
 use Rattle.rh_line.specs.declared.leg.Leg.{Leg}
 use Rattle.rh_shell.specs.declared.answers.Refused.TheVariants as refused
 use Rattle.rh_shell.specs.Hearing.{is_ping}
 use Rattle.rh_shell.specs.Moves.{Passage}
-use Rattle.rh_shell.specs.Rules.{Message, Text, Pdu, Packet, Row, Rules}
+use Rattle.rh_shell.specs.Rules.{Message, Text, Pdu, Packet, Rules}
 use Rattle.rh_shell.specs.Wires.{of_leg}
-use Rattle.rh_reading.specs.Reading.{all_read_of, read_of}
-use Rattle.rh_hops.specs.Hops.{pdu_bytes, edge_in, greatest_edge, IsFalseAck, RefusesFalseAcks, IsTrueAck, IsNoWindow, RefusesBehind, SendsWithin, ReceivesWithin}
+use Rattle.rh_reading.specs.Reading.{all_read_of}
+use Rattle.rh_hops.specs.Hops.{pdu_bytes, greatest_edge, IsFalseAck, RefusesFalseAcks, IsTrueAck, IsNoWindow, RefusesBehind, SendsWithin, ReceivesWithin}
 use Rattle.rh_hops.specs.Refusing.{RefusesMessage}
 use Rattle.rh_hops.proofs.Counts.{bytes_append, bytes_rise, edges_rise}
 
@@ -121,41 +120,41 @@ false_of came put other_came other_put named j acks false_ack =
 
 module _ {S T : Type 0} (rules : Rules S) (others : Rules T) (leg : Leg) (p : Passage S)
     (q : Passage T) (m : Message)
-    (j : IsJoined (of_leg leg p.came) (of_leg leg p.put) (of_leg leg q.came) (of_leg leg q.put) m)
-  where
-    -- where the role receives
-    pub never_exceeded : (exceeded : WindowExceeded) → ReceivesWithin rules leg p
-        → SendsWithin others leg q
-        → RefusesMessage rules p.role leg (refused.Window exceeded) m → ⊥
-    never_exceeded exceeded receives sends is = by m j is
-      where
-        by : (x : Message)
-            → IsJoined (of_leg leg p.came) (of_leg leg p.put) (of_leg leg q.came) (of_leg leg q.put) x
-            → RefusesMessage rules p.role leg (refused.Window exceeded) x → ⊥
-        by (Text bytes) k refuses = refuses
-        by (Pdu pdu) k refuses =
-            within_edge (of_leg leg p.came) (of_leg leg p.put) (of_leg leg q.came) (of_leg leg q.put)
-            pdu k sends.within
-            (subst (RefusesBehind (greatest_edge (of_leg leg p.put))
-            (pdu_bytes (of_leg leg p.came) + length pdu)) refuses.1
-            (receives.refuses refuses.0 pdu))
-        by (Packet named) k refuses =
-            subst IsNoWindow refuses.1 (receives.packets refuses.0 named)
+    (j : IsJoined (of_leg leg p.came) (of_leg leg p.put) (of_leg leg q.came) (of_leg leg q.put)
+    m) where
+  -- where the role receives
+  pub never_exceeded : (exceeded : WindowExceeded) → ReceivesWithin rules leg p
+      → SendsWithin others leg q
+      → RefusesMessage rules p.role leg (refused.Window exceeded) m → ⊥
+  never_exceeded exceeded receives sends is = by m j is
+    where
+      by : (x : Message)
+          → IsJoined (of_leg leg p.came) (of_leg leg p.put) (of_leg leg q.came) (of_leg leg q.put) x
+          → RefusesMessage rules p.role leg (refused.Window exceeded) x → ⊥
+      by (Text bytes) k refuses = refuses
+      by (Pdu pdu) k refuses =
+          within_edge (of_leg leg p.came) (of_leg leg p.put) (of_leg leg q.came) (of_leg leg q.put)
+          pdu k sends.within
+          (subst (RefusesBehind (greatest_edge (of_leg leg p.put))
+          (pdu_bytes (of_leg leg p.came) + length pdu)) refuses.1
+          (receives.refuses refuses.0 pdu))
+      by (Packet named) k refuses =
+          subst IsNoWindow refuses.1 (receives.packets refuses.0 named)
 
-    -- where it sends
-    pub never_out_of_range : (command value : ℕ) → SendsWithin rules leg p
-        → ReceivesWithin others leg q
-        → RefusesMessage rules p.role leg (refused.OutOfRange command value) m → ⊥
-    never_out_of_range command value sends receives is = by m j is
-      where
-        by : (x : Message)
-            → IsJoined (of_leg leg p.came) (of_leg leg p.put) (of_leg leg q.came) (of_leg leg q.put) x
-            → RefusesMessage rules p.role leg (refused.OutOfRange command value) x → ⊥
-        by (Text bytes) k refuses = refuses
-        by (Pdu pdu) k refuses =
-            absurd (let bad = sym refuses.1 ∙ sends.pdus refuses.0 pdu in cc)
-        by (Packet named) k refuses =
-            false_of (of_leg leg p.came) (of_leg leg p.put) (of_leg leg q.came) (of_leg leg q.put)
-            named k receives.acks
-            (subst (RefusesFalseAcks (pdu_bytes (of_leg leg p.put)) named) refuses.1
-            (sends.refuses refuses.0 named))
+  -- where it sends
+  pub never_out_of_range : (command value : ℕ) → SendsWithin rules leg p
+      → ReceivesWithin others leg q
+      → RefusesMessage rules p.role leg (refused.OutOfRange command value) m → ⊥
+  never_out_of_range command value sends receives is = by m j is
+    where
+      by : (x : Message)
+          → IsJoined (of_leg leg p.came) (of_leg leg p.put) (of_leg leg q.came) (of_leg leg q.put) x
+          → RefusesMessage rules p.role leg (refused.OutOfRange command value) x → ⊥
+      by (Text bytes) k refuses = refuses
+      by (Pdu pdu) k refuses =
+          absurd (let bad = sym refuses.1 ∙ sends.pdus refuses.0 pdu in cc)
+      by (Packet named) k refuses =
+          false_of (of_leg leg p.came) (of_leg leg p.put) (of_leg leg q.came) (of_leg leg q.put)
+          named k receives.acks
+          (subst (RefusesFalseAcks (pdu_bytes (of_leg leg p.put)) named) refuses.1
+          (sends.refuses refuses.0 named))

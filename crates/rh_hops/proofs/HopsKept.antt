@@ -1,10 +1,9 @@
 -- no hop that lies on one leg closes a node of it for a window
-use Rattle.std.proofs.Common.{◌≡◌, ℕ, ◌+◌, Bool, true, List, [], ◌∷◌, ◌++◌, length, refl, sym, ap, ◌∙◌, subst}
-use Rattle.std.specs.Prelude.{Some, None, if◌then◌else◌}
+use Rattle.std.proofs.Common.{◌≡◌, ℕ, ◌+◌, List, [], ◌∷◌, ◌++◌, length, refl, sym, ap, ◌∙◌, subst}
+use Rattle.std.specs.Prelude.{Some}
 use Rattle.std.specs.List.{AllByRecursion}
 use Rattle.std.specs.declared.option.Option.{Option}
 use mathlib.Core.List.{IsPrefix}
-use Rattle.rh_text.specs.declared.ends.Dir.{Dir}
 use Rattle.rh_text.specs.declared.ends.Dir.TheVariants.{U, D}
 use Rattle.rh_window.specs.Sides.{IsWindow}
 use Rattle.rh_sig.specs.declared.name.Pipe.{Pipe}
@@ -13,15 +12,12 @@ use Rattle.rh_line.specs.declared.cause.Cause.{Cause}
 use Rattle.rh_line.specs.declared.cause.Cause.TheVariants as cause
 use Rattle.rh_line.specs.declared.leg.Leg.{Leg}
 use Rattle.rh_line.specs.declared.leg.LegKind.TheVariants.{ClientOut, OutServer, ClientIn, InServer}
-use Rattle.rh_record.specs.declared.answer.Who.{Who}
 use Rattle.rh_record.specs.declared.answer.Who.TheVariants as who
 use Rattle.rh_shell.specs.declared.answers.Refused.{Refused}
 use Rattle.rh_shell.specs.declared.answers.Refused.TheVariants as refused
-use Rattle.rh_shell.specs.declared.rooms.Rooms.{Rooms}
 use Rattle.rh_shell.specs.Carrying.{spelled}
 use Rattle.rh_shell.specs.Moves.{EndMove, Move, Passage, EndPassage, AreAllowed, AreAllowedAtEnd, all_end_moved, all_moved, end_started, started}
 use Rattle.rh_shell.specs.Moving.{Event, Hears, after_events}
-use Rattle.rh_shell.specs.Rules.{Rules}
 use Rattle.rh_shell.specs.Shells.{Shell, begun}
 use Rattle.rh_shell.specs.Wires.{of_leg}
 use Rattle.rh_legible.specs.Legible.{ReadsBack}
@@ -30,8 +26,7 @@ use Rattle.rh_nodes.specs.declared.place.Place.TheVariants.{Here}
 use Rattle.rh_nodes.specs.Legs as legs
 use Rattle.rh_nodes.specs.Opening.{Makers}
 use Rattle.rh_nodes.specs.Settling.{leg_at}
-use Rattle.rh_nodes.specs.Wires.{receiver, sender}
-use Rattle.rh_nodes.specs.World.{World, at}
+use Rattle.rh_nodes.specs.World.{World}
 use Rattle.rh_client.specs.declared.state.ClientRole.{ClientRole}
 use Rattle.rh_inproxy.specs.declared.state.InProxyConfig.{InProxyConfig}
 use Rattle.rh_inproxy.specs.Legible as in_legible
@@ -48,25 +43,23 @@ use Rattle.rh_server.specs.Servers as server
 use Rattle.rh_server.specs.States.{Server}
 use Rattle.rh_causes.specs.Closings.{ClosesWith}
 use Rattle.rh_causes.specs.Refusals.{MayRefuseOn}
-use Rattle.rh_history.specs.Carried.{drawn_by, drawn_on, end_drawn_on, events_of, happened, heard_on}
+use Rattle.rh_history.specs.Carried.{drawn_by, drawn_on, end_drawn_on, happened, heard_on}
 use Rattle.rh_history.specs.Changes.{IsFed, MayChange, changed}
 use Rattle.rh_history.specs.Histories.{History, IsRun, in_place, out_place}
 use Rattle.rh_reading.specs.Reading.{Begins, messages_read}
 use Rattle.rh_reading.specs.Well.{ReadsWell}
-use Rattle.rh_streams.specs.Streams.{Stream}
+use Rattle.rh_streams.proofs.LegLogs.{on_leg}
 use Rattle.rh_proxies_begin.specs.Pipes as pipes
 use Rattle.rh_down.specs.Down as down
 use Rattle.rh_traced.specs.Cookies.{ByChanges}
 use Rattle.rh_traced.specs.Ours.{AreOurs, deeds, rules}
 use Rattle.rh_fifo.specs.Flows.{IsFlowing, numbers_of}
 use Rattle.rh_fifo.specs.Premises.{AreInRange}
-use Rattle.rh_fifo.proofs.Fine.{on_leg}
 use Rattle.rh_fifo.proofs.Heard.{from_in, from_out, from_server}
-use Rattle.rh_honest.specs.Honest.{read_on, well_on}
+use Rattle.rh_honest.specs.Honest.{well_on}
 use Rattle.rh_honest.proofs.Drawn.{free_by}
 use Rattle.rh_honest.proofs.Fed.{reads_on, strict_on}
 use Rattle.rh_hops.specs.Hops.{is_leg, os_leg, ReceivesWithin, SendsWithin}
-use Rattle.rh_hops.specs.Refusing.{refused_by}
 use Rattle.rh_hops.proofs.Fed.{piece, in_events, out_events, heard_behind}
 use Rattle.rh_hops.proofs.Hop.{never_exceeded, never_out_of_range}
 use Rattle.rh_hops.proofs.Moment.{Laws, NodeLaws, now, known, flowing, behind, flowing_behind, well_behind, drawn_before, drawn_now, closes_at}
@@ -142,7 +135,8 @@ module _ {K : Type 0} (hop : HopLaws) (m : Makers K InProxy OutProxy)
         → ReceivesWithin out_proxy.rules (os_leg n) (flowing.flows.outs n).passage
     out_receives n =
         let f = flowing.flows.outs n in
-        subst (λ (p : Passage OutProxy). ReceivesWithin out_proxy.rules (os_leg n) p) f.leads.reached
+        subst (λ (p : Passage OutProxy). ReceivesWithin out_proxy.rules (os_leg n) p)
+        f.leads.reached
         (subst (λ (k : ℕ). ReceivesWithin out_proxy.rules (os_leg k)
         (all_moved out_proxy.rules (started (new_proxy (ours.out_config n))) f.leads.moves))
         (ours.out_number n)
@@ -266,7 +260,8 @@ module _ {K : Type 0} (hop : HopLaws) (m : Makers K InProxy OutProxy)
         f = flowing m w v ours law by (is_leg n) U may
 
         k : ℕ
-        k = short m w v ours law by (is_leg n) may refl hop.readings hop.server r why refl count closes
+        k = short m w v ours law by (is_leg n) may refl hop.readings hop.server r why refl count
+            closes
 
         u : World K ClientRole Server InProxy OutProxy
         u = changed rules m deeds v (IsFed (is_leg n) U k)
@@ -317,7 +312,8 @@ module _ {K : Type 0} (hop : HopLaws) (m : Makers K InProxy OutProxy)
         f = flowing m w v ours law by (os_leg n) U may
 
         k : ℕ
-        k = short m w v ours law by (os_leg n) may refl hop.readings hop.server r why refl count closes
+        k = short m w v ours law by (os_leg n) may refl hop.readings hop.server r why refl count
+            closes
 
         u : World K ClientRole Server InProxy OutProxy
         u = changed rules m deeds v (IsFed (os_leg n) U k)
@@ -433,8 +429,8 @@ module _ {K : Type 0} (hop : HopLaws) (m : Makers K InProxy OutProxy)
             (of_leg (is_leg n) (server_at v h f).came) (of_leg (is_leg n) (server_at v h f).put)
         stops = node_stops hop.readings (well_on InServer D) (strict_on InServer D).ranges
             in_proxy.rules (in_state.first config) in_proxy.rooms (pipes.in_pipe config) leg
-            (h.ins n) node run r why refl (legs.take_out (is_leg n) D count v.legs).1 byte (Some IsU)
-            X before (server_at v h f) (Some IsD)
+            (h.ins n) node run r why refl (legs.take_out (is_leg n) D count v.legs).1 byte
+            (Some IsU) X before (server_at v h f) (Some IsD)
             (sym (reads_on ours n n InServer D))
             (heard_on leg (happened h.server))
             (subst (ReadsWell (well_on InServer D) (Some IsD)) next

@@ -1,9 +1,9 @@
-mod Legs
-mod Counts
-mod Sending
+pub mod Legs
+pub mod Counts
+pub mod Sending
 mod Steps
 mod Places
-mod Receiving
+pub mod Receiving
 mod ServerReceives
 mod InProxySends
 mod OutProxyReceives

@@ -1,7 +1,6 @@
 -- the moment before the byte of a fed piece that closes a node
-use Rattle.std.proofs.Common.{◌≡◌, ℕ, ◌+◌, true, List, [], ◌∷◌, ◌++◌, length, refl, sym, ap, ◌∙◌, subst, append_assoc}
-use Rattle.std.specs.Prelude.{Some, None}
-use Rattle.std.specs.declared.option.Option.{Option}
+use Rattle.std.proofs.Common.{◌≡◌, ℕ, List, [], ◌∷◌, ◌++◌, refl, sym, ap, ◌∙◌, subst, append_assoc}
+use Rattle.std.specs.Prelude.{None}
 use mathlib.Core.List.{IsPrefix}
 use Rattle.rh_text.specs.declared.ends.Dir.{Dir}
 use Rattle.rh_line.specs.declared.cause.Cause.{Cause}
@@ -13,7 +12,6 @@ use Rattle.rh_nodes.specs.declared.event.Event.{Event}
 use Rattle.rh_nodes.specs.declared.event.Event.TheVariants.{Comes}
 use Rattle.rh_nodes.specs.Company.{Rulebook}
 use Rattle.rh_nodes.specs.Giving.{Deeds}
-use Rattle.rh_nodes.specs.Legs as legs
 use Rattle.rh_nodes.specs.Opening.{Makers}
 use Rattle.rh_nodes.specs.Telling.{tell}
 use Rattle.rh_nodes.specs.Wires.{receiver, sender}
@@ -36,7 +34,6 @@ use Rattle.rh_fifo.specs.Flows.{IsFlowing, numbers_of}
 use Rattle.rh_honest.specs.Honest.{read_on, well_on}
 use Rattle.rh_honest.proofs.HeardWell.{going_is}
 use Rattle.rh_hops.proofs.OneByte.{AtByte, at_byte}
-use Rattle.rh_hops.proofs.Pieces.{FedFronts, fed_fronts}
 
 -- ---- the laws that this stands on
 

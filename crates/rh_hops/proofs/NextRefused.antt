@@ -1,8 +1,8 @@
 -- a byte that closes a node for what a row refuses makes the message whole that the row refuses
-use Rattle.std.proofs.Common.{◌≡◌, inl, inr, ℕ, List, [], ◌∷◌, ◌++◌, length, cond, Bool, true, false, nat_lt, Some, None, Ok, Err, refl, sym, ap, ◌∙◌, subst}
+use Rattle.std.proofs.Common.{◌≡◌, ℕ, List, [], ◌∷◌, ◌++◌, length, cond, Bool, true, false, nat_lt, Some, None, Ok, Err, refl, sym, ap, ◌∙◌, subst}
 use Rattle.std.proofs.lemmas.List.{append-nil}
 use Rattle.std.proofs.lemmas.Bool.{eqb-true}
-use Rattle.std.specs.Prelude.{slice_index, ◌==◌, ◌&&◌, ◌+◌}
+use Rattle.std.specs.Prelude.{slice_index, ◌==◌, ◌&&◌}
 use Rattle.std.specs.declared.option.Option.{Option}
 use Rattle.std.specs.declared.result.Result.{Result}
 use Rattle.rh_http.specs.declared.refusal.Refusal.{Refusal}
@@ -14,7 +14,6 @@ use Rattle.rh_sig.specs.declared.named.Named.{Named}
 use Rattle.rh_line.specs.declared.leg.Leg.{Leg}
 use Rattle.rh_line.specs.declared.cause.Cause.{Cause}
 use Rattle.rh_line.specs.declared.cause.Cause.TheVariants as cause
-use Rattle.rh_shell.specs.declared.answers.Behind.{Behind}
 use Rattle.rh_shell.specs.declared.answers.Count.{Count}
 use Rattle.rh_shell.specs.declared.answers.HeadRefused.{HeadRefused}
 use Rattle.rh_shell.specs.declared.answers.HeadRefused.TheVariants as head
@@ -22,22 +21,22 @@ use Rattle.rh_shell.specs.declared.answers.HeadTaken.{HeadTaken}
 use Rattle.rh_shell.specs.declared.answers.Refused.{Refused}
 use Rattle.rh_shell.specs.declared.answers.Refused.TheVariants as refused
 use Rattle.rh_shell.specs.declared.course.Course.{Course}
-use Rattle.rh_shell.specs.declared.course.Course.TheVariants.{Going, Closed, Refusing}
+use Rattle.rh_shell.specs.declared.course.Course.TheVariants.{Going}
 use Rattle.rh_shell.specs.declared.heading.Heading.{Heading}
 use Rattle.rh_shell.specs.declared.reading.PacketFault.{PacketFault}
 use Rattle.rh_shell.specs.declared.reading.PacketFault.TheVariants as unread
 use Rattle.rh_shell.specs.declared.stage.Stage.{Stage}
 use Rattle.rh_shell.specs.declared.stage.Stage.TheVariants as stage
 use Rattle.rh_shell.specs.declared.stop.Stop.{Stop}
-use Rattle.rh_shell.specs.Carrying.{is_deaf, message_in, named_messages}
-use Rattle.rh_shell.specs.Hearing.{Turn, goes, stops, stop, stop_head, head_row, begun_body, behind_head, behind_frame, row_by, close_row, cause_of, one_more, is_zero, is_upward, is_ping, take_ping, take_packet, take_frame, is_greeting, heading, touched, with_intake, take, hear_byte, hear, heard}
+use Rattle.rh_shell.specs.Carrying.{message_in, named_messages}
+use Rattle.rh_shell.specs.Hearing.{Turn, goes, stops, stop, head_row, begun_body, behind_head, behind_frame, row_by, close_row, cause_of, one_more, is_zero, is_upward, is_ping, take_ping, take_packet, take_frame, is_greeting, heading, touched, with_intake, take, hear_byte, hear, heard}
 use Rattle.rh_shell.specs.Intakes.{Intake, Came, Nothing, Head, Greeting, Frame, Fault, Over, on_byte, byte_by, text_by, frame_by, frame_byte, holds, behind, is_whole_head, is_whole_greeting, is_full, length_told, counted}
 use Rattle.rh_shell.specs.Laws.{ClosedWith}
 use Rattle.rh_shell.specs.NearEnds.{NearEnd, is_over}
 use Rattle.rh_shell.specs.Readings.{packet_of}
-use Rattle.rh_shell.specs.Rules.{Message, Text, Pdu, Packet, Rules, Row}
+use Rattle.rh_shell.specs.Rules.{Message, Pdu, Packet, Rules, Row}
 use Rattle.rh_shell.specs.Shells.{Shell, bytes_at, bytes_by, end_at, stop_by, stopped, with_end}
-use Rattle.rh_reading.specs.Reading.{Reading, frame_read, read_by, read_byte, reading, reading_after, begin, messages_read, messages_from, text_read}
+use Rattle.rh_reading.specs.Reading.{Reading, frame_read, read_by, read_byte, reading, reading_after, begin, messages_read, messages_from}
 use Rattle.rh_reading.specs.Well.{Answers, ByteIsWell, FrameIsWell, HeaderIsWell}
 use Rattle.rh_streams.specs.Streams.{Seated, is_live}
 use Rattle.rh_hops.specs.Refusing.{refused_by, RefusesMessage, RefusesNext}
@@ -284,7 +283,8 @@ module _ {S : Type 0} (well : Answers)
   unfolding hear hear_byte read_byte
   byte_refused s why end came put heard_so drawn going at here sits fits parts closed tells =
       by (is_over rules end s.role) refl
-      (turns (subst (λ (o : Option NearEnd). ClosedWith why (bytes_at rules s leg (b ∷ []) o).course)
+      (turns (subst (λ (o : Option NearEnd).
+      ClosedWith why (bytes_at rules s leg (b ∷ []) o).course)
       at (subst (λ (c : Course). ClosedWith why (bytes_by rules s leg (b ∷ []) c).course) going
       closed)))
     where
@@ -316,7 +316,8 @@ module _ {S : Type 0} (well : Answers)
             message = says.1.message;
             next =
                 parts heard_so (b ∷ [])
-                ∙ ap (λ (q : Reading). messages_read pipe heard_so ++ ((read_byte pipe q b).1 ++ []))
+                ∙ ap (λ (q : Reading).
+                messages_read pipe heard_so ++ ((read_byte pipe q b).1 ++ []))
                 seat.after
                 ∙ ap (λ (ms : List Message). messages_read pipe heard_so ++ ms)
                 (append-nil (read s.role end) ∙ one)

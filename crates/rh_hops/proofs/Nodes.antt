@@ -1,5 +1,5 @@
 -- a node that a fed piece closes for what a row refuses, by its stream until the byte that does
-use Rattle.std.proofs.Common.{◌≡◌, ℕ, false, List, [], ◌∷◌, ◌++◌, refl, sym, ap, ◌∙◌, subst, append_assoc}
+use Rattle.std.proofs.Common.{◌≡◌, ℕ, false, List, [], ◌∷◌, ◌++◌, sym, ap, ◌∙◌, subst, append_assoc}
 use Rattle.std.specs.Prelude.{Some, Err}
 use Rattle.std.specs.List.{AllByRecursion}
 use Rattle.std.specs.declared.option.Option.{Option}
@@ -16,8 +16,7 @@ use Rattle.rh_shell.specs.Carrying.{spelled}
 use Rattle.rh_shell.specs.Laws.{ClosedWith}
 use Rattle.rh_shell.specs.Moves.{Passage}
 use Rattle.rh_shell.specs.Moving.{Event, Hears, after_events}
-use Rattle.rh_shell.specs.NearEnds.{NearEnd}
-use Rattle.rh_shell.specs.Rules.{Message, Rules}
+use Rattle.rh_shell.specs.Rules.{Rules}
 use Rattle.rh_shell.specs.Shells.{Shell, begun, bytes}
 use Rattle.rh_shell.specs.Wires.{of_leg}
 use Rattle.rh_legible.specs.Legible.{ReadsBack}
@@ -46,7 +45,8 @@ pub record NodeStream {S : Type 0} (rules : Rules S) (first : S) (rooms : Rooms)
 module _ {S T : Type 0} (readings : Readings) (well : Answers)
     (strict : (command value : ℕ) → well (Err (unread.Sig (sig.OutOfRange command value))) ≡ false)
     (rules : Rules S) (first : S) (rooms : Rooms) (pipe_of : Leg → Option Pipe) (leg : Leg)
-    (events : List Event) (now : Shell S) (run : now ≡ after_events rules (begun first rooms) events)
+    (events : List Event) (now : Shell S)
+    (run : now ≡ after_events rules (begun first rooms) events)
     (r : Refused) (why : Cause) (tells : refused_by why ≡ Some r) (piece : List ℕ)
     (byte : AtByte rules leg now piece why)
     (back_pipe : Option Pipe) (X : Passage S → Type 0)

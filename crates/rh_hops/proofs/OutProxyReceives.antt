@@ -1,8 +1,8 @@
 -- an out proxy receives from the server within its window
-use Rattle.std.proofs.Common.{◌≡◌, ℕ, ◌+◌, ◌≤◌, List, [], ◌∷◌, ◌++◌, length, Bool, true, false, true≢false, if◌then◌else◌, ◌&&◌, ◌||◌, Some, None, Ok, Err, arith, refl, sym, ap, ◌∙◌, subst, rules}
+use Rattle.std.proofs.Common.{◌≡◌, ℕ, ◌+◌, ◌≤◌, List, [], ◌∷◌, ◌++◌, length, Bool, true, false, true≢false, if◌then◌else◌, ◌&&◌, ◌||◌, Some, None, Ok, Err, arith, refl, sym, ◌∙◌, subst, rules}
 use Rattle.std.proofs.lemmas.Bool.{and_parts}
 use Rattle.std.proofs.lemmas.Bool.Decides.{nat_tests}
-use Rattle.std.specs.Prelude.{IfSome, nat_le, is_ok}
+use Rattle.std.specs.Prelude.{IfSome, nat_le}
 use Rattle.std.specs.List.{AllByRecursion}
 use Rattle.std.specs.declared.option.Option.{Option}
 use Rattle.std.specs.declared.result.Result.{Result}
@@ -10,7 +10,6 @@ use Rattle.rh_rts.specs.declared.command.Cookie.{Cookie}
 use Rattle.rh_sig.specs.declared.named.Named.{Named}
 use Rattle.rh_sig.specs.declared.named.Named.TheVariants as named
 use Rattle.rh_window.specs.Sides.{IsWindow, Receiver}
-use Rattle.rh_window.specs.Receiving as windows
 use Rattle.rh_window.specs.Sending.{may_send}
 use Rattle.rh_window.specs.declared.recv_window.Ack.{Ack}
 use Rattle.rh_line.specs.Lines as lines
@@ -41,12 +40,13 @@ use Rattle.rh_outproxy.specs.Putting.{Pick, ping_room, or_else, answer_by, put_a
 use Rattle.rh_outproxy.specs.Putting.{put as put_of}
 use Rattle.rh_outproxy.specs.Machine.{packet, pdu, on_co, on_os}
 use Rattle.rh_outproxy.specs.Machine.{rules as proxy_rules}
+use Rattle.rh_streams.proofs.LegLogs.{same_back}
 use Rattle.rh_held.specs.Holding.{Holds}
-use Rattle.rh_hops.specs.Hops.{os_leg, pdu_bytes, edge_in, edge_told, greatest_edge, IsTrueAck, IsNoWindow, RefusesBehind, ReceivesWithin}
-use Rattle.rh_hops.proofs.Legs.{on, same_back, same_other}
+use Rattle.rh_hops.specs.Hops.{os_leg, pdu_bytes, edge_in, greatest_edge, IsTrueAck, IsNoWindow, RefusesBehind, ReceivesWithin}
+use Rattle.rh_hops.proofs.Legs.{on, same_other}
 use Rattle.rh_hops.proofs.Counts.{bytes_rise, all_later, all_append}
 use Rattle.rh_hops.proofs.Receiving.{Receives, came_more, put_within, admitted_told, admitted_size, received_more, refused_same, IsBehind, refused_behind, due_is}
-use Rattle.rh_hops.proofs.Steps.{RowKeeps, PutKeeps, RowHere, PutHere, PutThere, row_here, put_here, put_there, StepsKeep, moves_keep}
+use Rattle.rh_hops.proofs.Steps.{RowKeeps, PutKeeps, RowHere, PutHere, row_here, put_here, put_there, StepsKeep, moves_keep}
 
 -- what the facts are about
 record Seen : Type 0 where

@@ -1,5 +1,5 @@
 -- a server receives from an in proxy within its window
-use Rattle.std.proofs.Common.{◌≡◌, ℕ, suc, ◌+◌, ◌≤◌, ◌<◌, ◌==◌, nat_lt, List, [], ◌∷◌, ◌++◌, length, Bool, true, false, true≢false, if◌then◌else◌, ◌&&◌, ◌||◌, not, Some, None, Ok, Err, arith, refl, sym, ap, ◌∙◌, subst, rules}
+use Rattle.std.proofs.Common.{◌≡◌, ℕ, suc, ◌+◌, ◌≤◌, ◌<◌, ◌==◌, List, [], ◌∷◌, ◌++◌, length, Bool, true, false, true≢false, if◌then◌else◌, ◌&&◌, ◌||◌, not, Some, None, Ok, Err, arith, refl, sym, ap, ◌∙◌, subst, rules}
 use Rattle.std.proofs.lemmas.Bool.{false≢true, and_parts}
 use Rattle.std.proofs.lemmas.Bool.Decides.{nat_tests}
 use Rattle.std.specs.Prelude.{slice_get, IfSome}
@@ -24,7 +24,7 @@ use Rattle.rh_line.specs.declared.which.Which.{Which}
 use Rattle.rh_line.specs.declared.which.Which.TheVariants.{Current, Next}
 use Rattle.rh_order.specs.Logs.{Log}
 use Rattle.rh_order.specs.Taking.{TakerLaw}
-use Rattle.rh_order.proofs.ByNumber.{by_test, same_number, test_same}
+use Rattle.rh_order.proofs.ByNumber.{by_test, same_number}
 use Rattle.rh_shell.specs.declared.answers.Count.{Count}
 use Rattle.rh_shell.specs.declared.answers.Refused.TheVariants as refused
 use Rattle.rh_shell.specs.declared.due.Due.{Due}
@@ -51,19 +51,20 @@ use Rattle.rh_server.specs.declared.state.Tells.{Tells}
 use Rattle.rh_server.specs.declared.state.Tells.TheVariants as tells
 use Rattle.rh_server.specs.States.{Server, is_open, is_due, is_shut, is_fresh, is_waiting, stays, same_cookie, in_place, in_at, in_leg, set_at, removed_at, with_in, without_in, without_out, out_place}
 use Rattle.rh_server.specs.OutLines.{waits, Gate, lets}
-use Rattle.rh_server.specs.Opening.{Done, took, refuse, unexpected, is_first, has_room, may_up_by, in_leg_up, up, up_by, opens, first_in, with_first_in, conn_b2_at, on_conn_a2, on_conn_b2}
+use Rattle.rh_server.specs.Opening.{Done, took, refuse, unexpected, is_first, may_up_by, in_leg_up, up, up_by, opens, first_in, with_first_in, conn_b2_at, on_conn_a2, on_conn_b2}
 use Rattle.rh_server.specs.Acknowledging.{channel_at, admitted_by, admitted_on, on_ack_to, on_ack, on_ping_traffic}
 use Rattle.rh_server.specs.InReplacement.{ended_if, opens_next, opens_leg, waiting_place, first_waiting, next_opened, becomes_current, moved_if, take, has_fresh_below, announced, in_r1_a2_by, in_r1_a2_at, on_in_r1_a2, leaves_by, hands_over, on_in_r1_a6, on_in_r2_a2}
 use Rattle.rh_server.specs.OutReplacement.{recycle, on_out_r1_a4, on_out_r1_a8}
-use Rattle.rh_server.specs.Ending.{give, is_over_on, end_a2_on_leg, end_a2_waiting, end_a2_at, on_end_a2, completed, settled, in_is_drawn, drawn_by, with_ack_dropped, lost_in, mark_by}
-use Rattle.rh_server.specs.Putting.{Pick, or_else, put_in_greeting, told_by, was_current, put_tells_by, put_tells, put_b1_by, put_b1, ack_due, put_ack_by, put_ack, next_in, put_in_by, put_in, out_greeting_at, put_out_greeting, gate_at, counts, was_put, waiting_by, waiting_at, put_waiting, may_go_at, pdu_by as put_pdu_by, put_pdu, is_end_due, may_end_at, put_end, put_pdu_or_end, next_out, settled_pick, put_open, put_out_at, put_out}
+use Rattle.rh_server.specs.Ending.{give, is_over_on, end_a2_on_leg, end_a2_waiting, end_a2_at, on_end_a2, settled, in_is_drawn, drawn_by, with_ack_dropped, lost_in, mark_by}
+use Rattle.rh_server.specs.Putting.{Pick, or_else, put_in_greeting, told_by, was_current, put_tells_by, put_tells, put_b1_by, put_b1, put_ack_by, put_ack, next_in, put_in_by, out_greeting_at, put_out_greeting, gate_at, counts, was_put, waiting_by, waiting_at, put_waiting, may_go_at, pdu_by as put_pdu_by, put_pdu, is_end_due, may_end_at, put_end, put_pdu_or_end, next_out, settled_pick, put_open, put_out_at, put_out}
 use Rattle.rh_server.specs.Putting.{put_by as put_by_kind}
 use Rattle.rh_server.specs.Servers.{on_is, on_os, packet_by, pdu_by, first, acts as server_acts}
 use Rattle.rh_server.specs.Servers.{rules as server_rules}
 use Rattle.rh_server.specs.Order.{taker_of}
+use Rattle.rh_history.proofs.Wired.{same_itself}
 use Rattle.rh_held.specs.Holding.{Holds}
 use Rattle.rh_hops.specs.Hops.{is_leg, pdu_bytes, edge_told, edge_in, greatest_edge, IsNoWindow, IsTrueAck, RefusesBehind, ReceivesWithin}
-use Rattle.rh_hops.proofs.Legs.{on, itself}
+use Rattle.rh_hops.proofs.Legs.{on}
 use Rattle.rh_hops.proofs.Counts.{bytes_rise, edges_within, all_later, all_append}
 use Rattle.rh_hops.proofs.Places.{all_at, all_set, all_removed, all_weaken, found_passes}
 use Rattle.rh_hops.proofs.Receiving.{Receives, came_more, put_within, admitted_told, admitted_size, received_more, IsBehind, refused_behind, IsDueAck, due_is}
@@ -451,7 +452,7 @@ module _ (window n : ℕ) (is : IsWindow window) where
   here : (number : ℕ) (m : Message) → number ≡ n → on leg (is_leg number) m ≡ m ∷ []
   here number m e =
       ap (λ (t : Bool). if t then m ∷ [] else [])
-      (subst (λ (k : ℕ). same_leg (is_leg k) leg ≡ true) (sym e) (itself leg))
+      (subst (λ (k : ℕ). same_leg (is_leg k) leg ≡ true) (sym e) (same_itself leg))
 
   came_pdu : (c : Incoming) (number : ℕ) (came : List Message) (bytes : List ℕ) → number ≡ n
       → c.window.received ≤ pdu_bytes came
@@ -843,7 +844,8 @@ module _ (window n : ℕ) (is : IsWindow window) where
       (came put : List Message) → Known window s → Fine s came put
       → Fine (on_in_r1_a2 s number count a b c d e).0 came put
   in_r1_a2_kept s number count a b c d e came put k h =
-      by_test (λ (x : Done). Fine x.0 came put) (is_first count && not (has_fresh_below number s.ins))
+      by_test (λ (x : Done). Fine x.0 came put)
+      (is_first count && not (has_fresh_below number s.ins))
       (in_r1_a2_at s s.stage number a b c d e) (unexpected s)
       (λ f. a2_stage s s.stage number a b c d e came put refl k h) (λ f. h)
 
@@ -1270,7 +1272,8 @@ module _ (window n : ℕ) (is : IsWindow window) where
             next_shut = w.next_shut;
             followed = w.followed;
             shut = λ f.
-                let none = (w.shut f).0 in let some = d.opened in absurd (omega (arith, none, some));
+                let none = (w.shut f).0 in let some = d.opened in
+                absurd (omega (arith, none, some));
             told = λ f. let before = w.told f in omega (arith, before, more);
             legs = w.legs;
             acks = w.acks;

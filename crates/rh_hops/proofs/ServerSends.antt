@@ -1,7 +1,6 @@
 -- a server sends to an out proxy within its window
-use Rattle.std.proofs.Common.{◌≡◌, ℕ, ◌+◌, ◌≤◌, ◌<◌, ◌==◌, nat_eq, nat_lt, List, [], ◌∷◌, ◌++◌, length, Bool, true, false, true≢false, if◌then◌else◌, ◌&&◌, ◌||◌, not, Some, None, Ok, Err, arith, refl, sym, ap, ◌∙◌, subst, rules}
+use Rattle.std.proofs.Common.{◌≡◌, ℕ, ◌+◌, ◌≤◌, ◌<◌, ◌==◌, List, [], ◌∷◌, ◌++◌, length, Bool, true, false, true≢false, if◌then◌else◌, ◌&&◌, not, Some, None, Ok, Err, arith, refl, sym, ap, ◌∙◌, subst, rules}
 use Rattle.std.proofs.lemmas.Bool.{false≢true, and_parts}
-use Rattle.std.proofs.lemmas.Bool.Decides.{nat_tests}
 use Rattle.std.proofs.lemmas.List.{append-nil}
 use Rattle.std.specs.Prelude.{slice_get, slice_set, IfSome}
 use Rattle.std.specs.declared.option.Option.{Option}
@@ -13,12 +12,11 @@ use Rattle.rh_window.specs.Sides.{Sender}
 use Rattle.rh_window.specs.Sending.{unsent, may_send, ack_verdict, after_acked}
 use Rattle.rh_window.specs.declared.fault.BadAck.{BadAck}
 use Rattle.rh_window.specs.declared.recv_window.Ack.{Ack}
-use Rattle.rh_keep.specs.Meters.{Meter, may_put, started}
+use Rattle.rh_keep.specs.Meters.{may_put, started}
 use Rattle.rh_line.specs.Queue.{behind, front_length}
 use Rattle.rh_line.specs.declared.leg.Leg.{Leg}
 use Rattle.rh_line.specs.declared.leg.LegKind.{LegKind}
 use Rattle.rh_line.specs.declared.leg.LegKind.TheVariants.{ClientOut, OutServer, ClientIn, InServer}
-use Rattle.rh_line.specs.declared.which.Which.{Which}
 use Rattle.rh_order.proofs.ByNumber.{by_test, same_number, test_other, test_same}
 use Rattle.rh_shell.specs.declared.answers.Count.{Count}
 use Rattle.rh_shell.specs.declared.answers.Refused.TheVariants as refused
@@ -42,18 +40,19 @@ use Rattle.rh_server.specs.declared.state.Stage.TheVariants as stages
 use Rattle.rh_server.specs.States.{Server, is_open, is_due, same_cookie, in_leg, out_place, out_at, out_cookie, removed_at, without_in, without_out}
 use Rattle.rh_server.specs.declared.out_line.Kind.TheVariants as kind
 use Rattle.rh_server.specs.OutLines.{Gate, lets, length_of, waits}
-use Rattle.rh_server.specs.OutLegs.{counted, may_go, went, acked, acked_by}
-use Rattle.rh_server.specs.Opening.{Done, took, refuse, unexpected, is_first, may_up_by, has_room, out_leg_up, up, up_by, opens, with_out_channel, first_out_at, with_first_out, conn_a2_at, on_conn_a2, on_conn_b2}
+use Rattle.rh_server.specs.OutLegs.{counted, may_go, went, acked_by}
+use Rattle.rh_server.specs.Opening.{Done, took, refuse, unexpected, is_first, may_up_by, has_room, out_leg_up, up, up_by, opens, first_out_at, with_first_out, conn_a2_at, on_conn_a2, on_conn_b2}
 use Rattle.rh_server.specs.Acknowledging.{acked_at, acked_in, acked_cookie, on_ack, on_ack_to, on_ping_traffic}
 use Rattle.rh_server.specs.InReplacement.{take, on_in_r1_a2, on_in_r1_a6, on_in_r2_a2}
 use Rattle.rh_server.specs.OutReplacement.{recycle, answered, answered_by, answered_on, handed, out_r1_a4_by, out_r1_a4_at, may_answer, on_out_r1_a4, on_out_r1_a8}
 use Rattle.rh_server.specs.Ending.{give, on_end_a2, settled, in_is_drawn, drawn_by, with_ack_dropped, lost_in, mark_by}
-use Rattle.rh_server.specs.Putting.{Pick, or_else, put_in_greeting, was_current, put_tells_by, put_tells, put_b1_by, put_b1, ack_due, put_ack_by, put_ack, put_in_by, put_in, out_greeting_at, put_out_greeting, gate_at, counts, counts_at, was_put, waiting_by, waiting_at, put_waiting, may_go_at, went_at, goes, pdu_by as put_pdu_by, put_pdu, is_end_due, may_end_at, put_end, put_pdu_or_end, next_out, settled_pick, put_open, put_out_at, put_out}
+use Rattle.rh_server.specs.Putting.{Pick, or_else, put_in_greeting, was_current, put_tells_by, put_tells, put_b1_by, put_b1, ack_due, put_ack_by, put_ack, put_in_by, put_in, out_greeting_at, put_out_greeting, gate_at, counts, counts_at, was_put, waiting_by, waiting_at, put_waiting, may_go_at, went_at, pdu_by as put_pdu_by, put_pdu, is_end_due, may_end_at, put_end, put_pdu_or_end, next_out, settled_pick, put_open, put_out_at}
 use Rattle.rh_server.specs.Putting.{put_by as put_by_kind}
 use Rattle.rh_server.specs.Servers.{on_is, on_os, packet_by, pdu_by, first, acts as server_acts}
 use Rattle.rh_server.specs.Servers.{rules as server_rules}
+use Rattle.rh_history.proofs.Wired.{same_itself}
 use Rattle.rh_hops.specs.Hops.{os_leg, pdu_bytes, edge_told, greatest_edge, RefusesFalseAcks, SendsWithin}
-use Rattle.rh_hops.proofs.Legs.{on, itself}
+use Rattle.rh_hops.proofs.Legs.{on}
 use Rattle.rh_hops.proofs.Counts.{bytes_append, edges_rise}
 use Rattle.rh_hops.proofs.Numbered.{Absent, Once, absent_at, absent_push, absent_removed, absent_set, once_at, once_first, once_map, once_push, once_removed, once_set}
 use Rattle.rh_hops.proofs.Places.{found_passes}
@@ -288,7 +287,7 @@ module _ (n : ℕ) where
   on_leg_n : (number : ℕ) (m : Message) → number ≡ n → on leg (os_leg number) m ≡ m ∷ []
   on_leg_n number m e =
       ap (λ (t : Bool). if t then m ∷ [] else [])
-      (subst (λ (k : ℕ). same_leg (os_leg k) leg ≡ true) (sym e) (itself leg))
+      (subst (λ (k : ℕ). same_leg (os_leg k) leg ≡ true) (sym e) (same_itself leg))
 
   -- ---- a channel opens
 
@@ -514,7 +513,8 @@ module _ (n : ℕ) where
     where
       Row : Done → Type 0
       Row x =
-          RowKeeps Fine leg (os_leg number) (Packet (named.Ack received available cookie)) came put x
+          RowKeeps Fine leg (os_leg number) (Packet (named.Ack received available cookie)) came put
+          x
 
       by_leg : (place : ℕ) (o : Option OutLeg) → out_place number s.outs ≡ Some place
           → slice_get s.outs place ≡ o → Row (acked_at s place received available o)
@@ -741,7 +741,8 @@ module _ (n : ℕ) where
   waiting_put s number place (w, None) came put h = tt
   waiting_put s number place (w, Some due) came put h =
       let m : Message = Packet due.packet in
-      was_put_kept (record s { waiting = w }) place due.packet came (put ++ on leg (os_leg number) m)
+      was_put_kept (record s { waiting = w }) place due.packet came
+      (put ++ on leg (os_leg number) m)
       (put_on (record s { waiting = w }) came put (on leg (os_leg number) m)
       (no_pdu (os_leg number) m refl) (record { of_leg_n = h.of_leg_n; opening = h.opening }))
 
@@ -829,7 +830,8 @@ module _ (n : ℕ) where
                 (w.unborn f).0,
                 absent_set number_of n s.outs place x y at.at refl (w.unborn f).1,
               );
-              window = once_set number_of n (Window came put) (Window came put) s.outs place x y at.at
+              window = once_set number_of n (Window came put) (Window came put) s.outs place x y
+                  at.at
                   refl
                   (λ g before. absurd (true≢false (sym g ∙ ap (λ (k : ℕ). k == n) is ∙ e)))
                   (λ g z before. before) w.window;
@@ -891,7 +893,8 @@ module _ (n : ℕ) where
       or_put number came put (put_out_greeting s place) (put_open s place)
       (greeting_put s number place (slice_get s.outs place) came put refl h)
       (by_test (Puts number came put) (is_open s.stage) (settled_pick (next_out s place)) None
-      (λ e. settled_put number came put (next_out s place) (next_put s number place came put at e h))
+      (λ e. settled_put number came put (next_out s place)
+      (next_put s number place came put at e h))
       (λ e. tt))
 
   put_kept : (s : Server) (number : ℕ) (kind : LegKind) (came put : List Message)

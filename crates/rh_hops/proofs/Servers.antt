@@ -1,11 +1,10 @@
 -- a server closes for no window and no acknowledgement of a hop
-use Rattle.std.proofs.Common.{◌≡◌, ℕ, ◌+◌, List, [], ◌∷◌, ◌++◌, length, refl, sym, ap, ◌∙◌, subst}
-use Rattle.std.specs.Prelude.{Some, None, Err}
+use Rattle.std.proofs.Common.{◌≡◌, ℕ, ◌+◌, List, [], ◌∷◌, ◌++◌, length, sym, ap, ◌∙◌, subst}
+use Rattle.std.specs.Prelude.{Some}
 use Rattle.std.specs.List.{AllByRecursion}
 use Rattle.std.specs.declared.option.Option.{Option}
 use mathlib.Core.List.{IsPrefix}
-use Rattle.rh_text.specs.declared.ends.Dir.{Dir}
-use Rattle.rh_text.specs.declared.ends.Dir.TheVariants.{U, D}
+use Rattle.rh_text.specs.declared.ends.Dir.TheVariants.{U}
 use Rattle.rh_text.specs.declared.ends.Side.TheVariants as side
 use Rattle.rh_sig.specs.declared.name.Pipe.{Pipe}
 use Rattle.rh_line.specs.declared.cause.Cause.{Cause}
@@ -14,13 +13,10 @@ use Rattle.rh_record.specs.declared.answer.Who.{Who}
 use Rattle.rh_record.specs.declared.answer.Who.TheVariants as who
 use Rattle.rh_order.proofs.Prefixes.{prefix_trans}
 use Rattle.rh_shell.specs.declared.answers.Refused.{Refused}
-use Rattle.rh_shell.specs.declared.course.Course.TheVariants.{Going}
 use Rattle.rh_shell.specs.Laws.{ClosedWith}
 use Rattle.rh_shell.specs.Moves.{Passage}
 use Rattle.rh_shell.specs.Moving.{after_end_events}
-use Rattle.rh_shell.specs.NearEnds.{NearEnd}
-use Rattle.rh_shell.specs.Rules.{Message}
-use Rattle.rh_shell.specs.Shells.{Shell, bytes, end_at}
+use Rattle.rh_shell.specs.Shells.{Shell, bytes}
 use Rattle.rh_shell.specs.Wires.{of_leg}
 use Rattle.rh_legible.specs.Legible.{ReadsBack}
 use Rattle.rh_nodes.specs.declared.event.Event.TheVariants.{Comes}
@@ -40,19 +36,18 @@ use Rattle.rh_history.specs.Changes.{IsFed, MayChange, changed}
 use Rattle.rh_history.specs.Histories.{History, told_to}
 use Rattle.rh_history.proofs.Appended.{end_drawn_more}
 use Rattle.rh_reading.specs.Reading.{Begins, messages_read}
-use Rattle.rh_reading.specs.Well.{Answers, ReadsWell}
-use Rattle.rh_streams.specs.Streams.{EndStream, Seated}
+use Rattle.rh_reading.specs.Well.{ReadsWell}
+use Rattle.rh_streams.specs.Streams.{Seated}
+use Rattle.rh_streams.proofs.LegLogs.{on_leg}
 use Rattle.rh_down.specs.Down as down
 use Rattle.rh_traced.specs.Cookies.{ByChanges}
 use Rattle.rh_traced.specs.Ours.{AreOurs, deeds, rules}
 use Rattle.rh_fifo.specs.Flows.{IsFlowing, numbers_of}
-use Rattle.rh_fifo.proofs.Fine.{on_leg}
-use Rattle.rh_fifo.proofs.Heard.{from_server}
 use Rattle.rh_honest.specs.Honest.{read_on, well_on}
 use Rattle.rh_honest.proofs.Fed.{strict_on}
 use Rattle.rh_hops.specs.Refusing.{refused_by}
 use Rattle.rh_hops.proofs.Fed.{piece, server_heard, server_behind}
-use Rattle.rh_hops.proofs.Moment.{Laws, NodeLaws, now, known, flowing, behind, flowing_behind, well_behind, drawn_before, closes_at, one_behind}
+use Rattle.rh_hops.proofs.Moment.{Laws, NodeLaws, now, known, behind, flowing_behind, well_behind, drawn_before, closes_at, one_behind}
 use Rattle.rh_hops.proofs.OneByte.{AtByte}
 use Rattle.rh_hops.proofs.Pieces.{FedFronts, fed_fronts}
 use Rattle.rh_hops.proofs.Stopping.{Readings, StopsAt, Way, stops_at}
@@ -78,7 +73,8 @@ module _ {K : Type 0} (m : Makers K InProxy OutProxy)
       ∙ ap (λ (s : Shell Server). after_end_events server.rules server.acts s h.server) ours.server
 
   -- the byte that closes it, and what was fed before
-  abbrev pub byte : AtByte server.rules leg v.company.server (legs.take_out leg U count v.legs).1 why
+  abbrev pub byte : AtByte server.rules leg v.company.server
+      (legs.take_out leg U count v.legs).1 why
   byte = closes_at server.rules node v.company.server leg (legs.take_out leg U count v.legs).1 why
       closes
 
@@ -91,7 +87,8 @@ module _ {K : Type 0} (m : Makers K InProxy OutProxy)
   abbrev pub then_history : History
   then_history = behind m w v ours law by leg U may short
 
-  abbrev pub then_flowing : IsFlowing (numbers_of ours) w (changed rules m deeds v (IsFed leg U short))
+  abbrev pub then_flowing : IsFlowing (numbers_of ours) w
+      (changed rules m deeds v (IsFed leg U short))
       then_history
   then_flowing = flowing_behind m w v ours law by leg U may short
 
@@ -126,7 +123,8 @@ module _ {K : Type 0} (m : Makers K InProxy OutProxy)
       (ahead : (bytes : List ℕ) → IsPrefix bytes (drawn_by rules m deeds w.company w.cast h
       (end_node v.readers leg (sender U)) leg) → Way pipe (of_leg leg q.put) bytes)
       (other_heard : List ℕ)
-      (other_front : IsPrefix other_heard (end_drawn_on server.rules server.acts first leg h.server))
+      (other_front : IsPrefix other_heard
+      (end_drawn_on server.rules server.acts first leg h.server))
       (other_came : IsPrefix (of_leg leg q.came) (messages_read back_pipe other_heard))
       (begins : Begins back_pipe (of_leg leg server_passage.put)) where
     back : Way back_pipe (of_leg leg server_passage.put) other_heard

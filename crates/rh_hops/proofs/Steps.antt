@@ -1,20 +1,20 @@
 -- what each step of a role keeps, its moves keep, together with what came and was put on one leg
-use Rattle.std.proofs.Common.{◌≡◌, ℕ, Bool, true, false, if◌then◌else◌, List, [], ◌∷◌, ◌++◌, Some, None, Ok, Err, refl, sym, ap, subst}
+use Rattle.std.proofs.Common.{◌≡◌, ℕ, Bool, true, false, if◌then◌else◌, List, [], ◌∷◌, ◌++◌, Some, None, Ok, Err, sym, ap, subst}
 use Rattle.std.specs.Prelude.{IfSome}
 use Rattle.std.specs.declared.option.Option.{Option}
 use Rattle.std.specs.declared.result.Result.{Result}
 use Rattle.std.proofs.lemmas.List.{append-nil}
 use Rattle.rh_rts.specs.declared.command.Cookie.{Cookie}
-use Rattle.rh_pdu.specs.Frames.{IsPdu}
 use Rattle.rh_sig.specs.declared.named.Named.{Named}
 use Rattle.rh_line.specs.declared.leg.Leg.{Leg}
 use Rattle.rh_shell.specs.declared.answers.Count.{Count}
 use Rattle.rh_shell.specs.declared.end_role.GiveRefused.{GiveRefused}
 use Rattle.rh_shell.specs.Rules.{Rules, Acts, Row, Message, Pdu, Packet}
-use Rattle.rh_shell.specs.Moves.{Move, Up, HeadCame, PduCame, PacketCame, Puts, IsDrawn, Marks, Pings, Passage, MayMove, AreAllowed, moved, all_moved, taken_by, put_by, EndMove, Moves, Gives, Takes, Closes, Recycles, EndPassage, MayEndMove, AreAllowedAtEnd, end_moved, all_end_moved, end_now_at, given_by, with_first}
+use Rattle.rh_shell.specs.Moves.{Move, Up, HeadCame, PduCame, PacketCame, Puts, IsDrawn, Marks, Pings, Passage, AreAllowed, moved, all_moved, taken_by, put_by, EndMove, Moves, Gives, Takes, Closes, Recycles, EndPassage, AreAllowedAtEnd, end_moved, all_end_moved, end_now_at, given_by, with_first}
 use Rattle.rh_shell.specs.Shells.{same_leg}
 use Rattle.rh_shell.specs.Wires.{of_leg}
-use Rattle.rh_hops.proofs.Legs.{on, one_more}
+use Rattle.rh_streams.proofs.LegLogs.{one_more}
+use Rattle.rh_hops.proofs.Legs.{on}
 
 -- a fact of a role, of what came on the leg, and of what was put there
 abbrev pub Fact : Type 0 → Type 1
@@ -111,7 +111,8 @@ module _ {S : Type 0} (rules : Rules S) (leg : Leg) (Known : S → Type 0) (P : 
       → RowKeeps P leg other m (of_leg leg p.came) (of_leg leg p.put) row
       → HoldsAt (taken_by p other m row)
   by_row p other m (s, Ok taken) h =
-      subst (λ (came : List Message). P s came (of_leg leg p.put)) (sym (one_more leg p.came (other, m)))
+      subst (λ (came : List Message). P s came (of_leg leg p.put))
+      (sym (one_more leg p.came (other, m)))
       h
   by_row p other m (s, Err refused) h = h
 

@@ -1,5 +1,5 @@
 -- a node that closes by a byte, between what was put at both ends of the leg
-use Rattle.std.proofs.Common.{◌≡◌, ℕ, List, [], ◌∷◌, ◌++◌, false, Some, None, Err, refl, sym, ap, ◌∙◌, subst}
+use Rattle.std.proofs.Common.{◌≡◌, ℕ, List, [], ◌∷◌, ◌++◌, false, Some, None, Err, refl, sym, ◌∙◌, subst}
 use Rattle.std.specs.List.{AllByRecursion}
 use Rattle.std.specs.declared.option.Option.{Option}
 use mathlib.Core.List.{IsPrefix}
@@ -13,11 +13,9 @@ use Rattle.rh_shell.specs.declared.course.Course.TheVariants.{Going}
 use Rattle.rh_shell.specs.declared.reading.PacketFault.TheVariants as unread
 use Rattle.rh_shell.specs.Carrying.{spelled}
 use Rattle.rh_shell.specs.Laws.{ClosedWith}
-use Rattle.rh_shell.specs.Moves.{Passage}
 use Rattle.rh_shell.specs.NearEnds.{NearEnd}
 use Rattle.rh_shell.specs.Rules.{Message, Rules}
 use Rattle.rh_shell.specs.Shells.{Shell, bytes, bytes_at, bytes_by, end_at}
-use Rattle.rh_shell.specs.Wires.{of_leg}
 use Rattle.rh_legible.specs.Legible.{ReadsBack}
 use Rattle.rh_order.proofs.Prefixes.{prefix_trans}
 use Rattle.rh_reading.specs.Reading.{Begins, all_read_of, begin, messages_from, messages_read, reading_after}
@@ -99,6 +97,7 @@ module _ (law : Readings) (well : Answers)
           → StopsAt rules s.role leg r came put other_came other_put
       by None at closes = absurd (subst (ClosedWith why) going closes)
       by (Some end) at closes =
-          refused (byte_refused well strict rules leg pipe r b s why end came put heard drawn going at
-          (leg_is end.leg leg (end_leg leg s.legs end (sym (end_is leg s.legs) ∙ at))) (seats end going at)
+          refused (byte_refused well strict rules leg pipe r b s why end came put heard drawn going
+          at (leg_is end.leg leg (end_leg leg s.legs end (sym (end_is leg s.legs) ∙ at)))
+          (seats end going at)
           (law.piece well pipe heard (b ∷ []) fits).0 (law.parts pipe) closed tells)

@@ -49,7 +49,7 @@ act_behind does none x list k None = refl
 act_behind does none x list k (Some y) = refl
 
 -- where what stands at a number is left as it is, nothing changes
-act_kept : {X A : Type 0} (does : X → X × A) (none : A) (blank : X) (list : List X) (k : ℕ)
+pub act_kept : {X A : Type 0} (does : X → X × A) (none : A) (blank : X) (list : List X) (k : ℕ)
     → (does (get_or list k blank) ≡ (get_or list k blank, none))
     → act does none list k ≡ (list, none)
 act_kept does none blank [] k h = refl

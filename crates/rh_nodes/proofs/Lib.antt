@@ -5,6 +5,7 @@ pub mod Told
 pub mod Fours
 pub mod Lows
 pub mod Idles
+pub mod NoBytes
 pub mod Opened
 pub mod Times
 pub mod Keeping

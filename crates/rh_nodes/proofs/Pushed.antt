@@ -10,7 +10,7 @@ use Rattle.rh_record.specs.declared.answer.Answer.TheVariants.{EndLeg, Move}
 use Rattle.rh_nodes.specs.Breaking.{end_leg}
 use Rattle.rh_nodes.specs.Company.{Rulebook}
 use Rattle.rh_nodes.specs.Reports.{Tells}
-use Rattle.rh_nodes.specs.Settling.{carry, carry_bytes, carried, end_one, end_where, ended, ends_now}
+use Rattle.rh_nodes.specs.Settling.{carry, carried, end_one, end_where, ended, ends_now}
 use Rattle.rh_nodes.specs.World.{World}
 
 -- an answer was added, or could not be
@@ -40,10 +40,9 @@ some_carried leg dir w (b ∷ bytes) some = refl
 
 pub carried_is : {K C S I O : Type 0} (r : Rulebook C S I O) (leg : Leg) (dir : Dir)
     (w next : World K C S I O) (bytes : List ℕ)
-    → (next, Some bytes) ≡ carry_bytes r leg dir w → 0 < length bytes
+    → carried leg dir (next, Some bytes) ≡ carry r leg dir w → 0 < length bytes
     → carry r leg dir w ≡ (next, Move (Some leg) dir (Some bytes) ∷ [])
-carried_is r leg dir w next bytes did some =
-    ap (carried leg dir) (sym did) ∙ some_carried leg dir next bytes some
+carried_is r leg dir w next bytes did some = sym did ∙ some_carried leg dir next bytes some
 
 -- an answer was added, or could not be
 pub writes_pushed : {X E : Type 0} (x : X) (result : Result (Unit {0}) E) (before after : List X)

@@ -1,8 +1,9 @@
 -- the bytes in flight in one direction of a leg (profile)
 use Rattle.std.specs.Prelude.{ℕ, List, [], Some, None}
+use Rattle.std.specs.Global.{Global}
 use Rattle.std.specs.declared.option.Option.{Option}
-use Rattle.circular_buffer.specs.Buffer.{Buffer}
+use Rattle.std.specs.declared.vec.Vec.{Vec}
 
-abbrev pub items_of : Option (Buffer ℕ) → List ℕ
+abbrev pub items_of : Option (Vec ℕ Global) → List ℕ
 items_of None = []
-items_of (Some ring) = ring.items
+items_of (Some drawn) = drawn.items

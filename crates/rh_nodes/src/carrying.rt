@@ -27,6 +27,7 @@ fn widen(room: &mut Vec<u8>, count: usize) -> Result<(), AllocError>
 
 /// Draws what a node puts on the leg into flight, as much as the room has, and answers how many
 /// bytes.
+#[inline(always)]
 fn draw_into<K: Cast>(
     alloc: Global,
     company: &mut Company<K>,
@@ -41,6 +42,9 @@ fn draw_into<K: Cast>(
 {
     let (who, leg, dir) = at;
     let count = company.draw(who, leg, room);
+    if count == 0 {
+        return Ok(0);
+    }
     let (bytes, _) = room.split_at(count);
     legs.put(alloc, leg, dir, bytes)?;
     Ok(count as u32)
@@ -49,6 +53,7 @@ fn draw_into<K: Cast>(
 impl<K: Cast> Nodes<K> {
     /// Draws up to `count` bytes into flight, and answers how many; `None` where the leg isn't up
     /// for the end that puts there.
+    #[inline(always)]
     pub(crate) fn send(
         &mut self,
         alloc: Global,
@@ -72,6 +77,7 @@ impl<K: Cast> Nodes<K> {
 
     /// Feeds the first `count` bytes in flight, or all where there are fewer, and answers them;
     /// `None` where the leg isn't up for the end that takes them.
+    #[inline(always)]
     pub(crate) fn feed(
         &mut self,
         alloc: Global,

@@ -106,6 +106,7 @@ impl<K: Cast> Company<K> {
     }
 
     /// Tells a node something, and answers the cause with which that closed it.
+    #[inline(always)]
     pub(crate) fn tell(&mut self, who: Who, event: &Event) -> Option<Cause>
         ensures { (self.new, result) ≡ seen.tell
             (rules_of K.Client.rules K.Server.rules K.InProxy.rules K.OutProxy.rules)

@@ -138,6 +138,7 @@ impl<K: Cast> Nodes<K> {
     }
 
     /// Tells a node something, and notes that it closed where it did.
+    #[inline(always)]
     pub(crate) fn tell(&mut self, who: Who, event: &Event) -> Result<(), AllocError>
         ensures { OnOk result (self.new ≡ seen.tell
             (rules_of K.Client.rules K.Server.rules K.InProxy.rules K.OutProxy.rules)

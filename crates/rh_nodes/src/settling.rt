@@ -15,6 +15,9 @@ use rh_record::{Answer, Dir, Report, Side, TakeAnswer};
 use rh_text::Bytes;
 use std::alloc::{AllocError, Global};
 
+// What is done to a leg, here and where bytes are carried, is inlined into the loops over the legs of
+// a kind: in each of them the nodes at a leg's ends are known.
+
 /// How many bytes a round carries at most on a leg in a direction.
 pub const MOST_BYTES: u32 = 65_536;
 
@@ -145,22 +148,29 @@ impl<K: Cast> Nodes<K> {
 
     // ---- part 2: bytes are carried
 
-    /// Draws and feeds what a leg carries in a direction, and answers the bytes that were fed.
+    /// Draws and feeds what a leg carries in a direction, and answers the bytes that were fed;
+    /// `None` where none were.
+    #[inline(always)]
     fn carry_bytes(
         &mut self,
         alloc: Global,
         leg: Leg,
         dir: Dir,
     ) -> Result<Option<Bytes>, AllocError>
-        ensures { IfOk result (λ fed. (self.new, fed) ≡ seen.carry_bytes
+        ensures { IfOk result (λ fed. seen.carried leg dir (self.new, fed) ≡ seen.carry
             (rules_of K.Client.rules K.Server.rules K.InProxy.rules K.OutProxy.rules)
             leg dir self.old) }
     {
         self.send(alloc, leg, dir, MOST_BYTES)?;
+        // A node that is fed no bytes stays as it is.
+        if self.legs.is_clear(leg, dir) {
+            return Ok(None);
+        }
         self.feed(alloc, leg, dir, MOST_BYTES)
     }
 
     /// Draws and feeds what a leg carries in a direction; reported where bytes were fed.
+    #[inline(always)]
     fn carry(
         &mut self,
         alloc: Global,
@@ -186,6 +196,7 @@ impl<K: Cast> Nodes<K> {
     }
 
     /// Carries both ways on a leg.
+    #[inline(always)]
     fn carry_both(&mut self, alloc: Global, leg: Leg, report: &mut Report) -> Result<(), AllocError>
         ensures { Tells (seen.carry_both
             (rules_of K.Client.rules K.Server.rules K.InProxy.rules K.OutProxy.rules)
@@ -196,6 +207,7 @@ impl<K: Cast> Nodes<K> {
     }
 
     /// Carries on the legs of a kind.
+    #[inline(always)]
     fn carry_kind(
         &mut self,
         alloc: Global,
@@ -264,6 +276,7 @@ impl<K: Cast> Nodes<K> {
 
     /// The direction in which a leg is ended, where the end that puts there has it finished and
     /// nothing is in flight.
+    #[inline(always)]
     fn ends_now(&self, leg: Leg) -> Option<Dir>
         ensures { result ≡ seen.ends_now
             (rules_of K.Client.rules K.Server.rules K.InProxy.rules K.OutProxy.rules)
@@ -282,6 +295,7 @@ impl<K: Cast> Nodes<K> {
 
     /// Whether the end that puts what goes in this direction has the leg finished, and nothing is
     /// in flight there.
+    #[inline(always)]
     fn is_finished(&self, leg: Leg, dir: Dir) -> bool
         ensures { result ≡ seen.is_finished
             (rules_of K.Client.rules K.Server.rules K.InProxy.rules K.OutProxy.rules)
@@ -291,6 +305,7 @@ impl<K: Cast> Nodes<K> {
     }
 
     /// Ends a leg that is finished, and reports it.
+    #[inline(always)]
     fn end_one(&mut self, leg: Leg, report: &mut Report) -> Result<(), AllocError>
         ensures { Tells (seen.end_one
             (rules_of K.Client.rules K.Server.rules K.InProxy.rules K.OutProxy.rules)
@@ -304,6 +319,7 @@ impl<K: Cast> Nodes<K> {
     }
 
     /// Ends the finished legs of a kind.
+    #[inline(always)]
     fn end_kind(&mut self, kind: LegKind, report: &mut Report) -> Result<(), AllocError>
         ensures { Tells (seen.end_kind
             (rules_of K.Client.rules K.Server.rules K.InProxy.rules K.OutProxy.rules)

@@ -4,6 +4,7 @@ use Rattle.std.specs.List.{list_all}
 use Rattle.std.specs.declared.result.Result.{Result}
 use Rattle.rh_text.specs.declared.ends.Side.{Side}
 use Rattle.rh_text.specs.declared.ends.Side.TheVariants.{Client, Server}
+use Rattle.rh_line.specs.declared.cause.Cause.{Cause}
 use Rattle.rh_line.specs.declared.give_fault.GiveFault.{GiveFault}
 use Rattle.rh_record.specs.declared.answer.Answer.TheVariants as answer
 use Rattle.rh_record.specs.declared.answer.TakeAnswer.{TakeAnswer}
@@ -13,7 +14,7 @@ use Rattle.rh_nodes.specs.Giving.{given_down, given_up, taken_down, taken_up}
 use Rattle.rh_nodes.specs.Settling.{took}
 use Rattle.rh_nodes.specs.World.{World}
 use Rattle.rh_events.specs.Events.{Event, Gives, Refuses, Takes, Ends, event, events, given, of_end}
-use Rattle.rh_ordered.proofs.Passing.{Passes, counted, passes_none, still}
+use Rattle.rh_ordered.proofs.Passing.{Passes, both, counted, passes_none, still}
 
 -- ---- one event
 
@@ -99,22 +100,33 @@ module _ {K C S I O : Type 0} where
   give_down w pdu rest node (Ok done) = one_gives w _ Server pdu rest refl refl
   give_down w pdu rest node (Err fault) = one_refuses w _ Server pdu rest refl refl
 
+  -- a take, by the world behind each answer: a PDU that is taken is counted, and nothing else
+  take_by : (w : World K C S I O) (v : TakeAnswer → World K C S I O) (end : Side)
+      (pdus : List (List ℕ))
+      → ((pdu : List ℕ) → Passes w (v (takes.Pdu pdu)) pdus pdus (Takes end pdu ∷ []))
+      → both (v takes.Empty) ≡ both w → both (v takes.Ended) ≡ both w
+      → ((why : Cause) → both (v (takes.Closed why)) ≡ both w)
+      → (taking : TakeAnswer) (told : List Event) → TellsTake end taking told
+      → Passes w (v taking) pdus pdus told
+  take_by w v end pdus takes_one empty ended closed (takes.Pdu pdu) told is =
+      subst (Passes w (v (takes.Pdu pdu)) pdus pdus) (sym is) (takes_one pdu)
+  take_by w v end pdus takes_one empty ended closed takes.Empty told is =
+      still w (v takes.Empty) pdus told empty is
+  take_by w v end pdus takes_one empty ended closed takes.Ended told is =
+      still w (v takes.Ended) pdus told ended is
+  take_by w v end pdus takes_one empty ended closed (takes.Closed why) told is =
+      still w (v (takes.Closed why)) pdus told (closed why) is
+
   pub take_down : (w : World K C S I O) (pdus : List (List ℕ)) (node : Shell C)
       (taking : TakeAnswer) (told : List Event) → TellsTake Client taking told
       → Passes w (taken_down w (node, taking)).0 pdus pdus told
-  take_down w pdus node (takes.Pdu pdu) told is =
-      subst (Passes w (taken_down w (node, takes.Pdu pdu)).0 pdus pdus) (sym is)
-      (one_takes w _ Client pdu pdus refl refl)
-  take_down w pdus node takes.Empty told is = still w _ pdus told refl is
-  take_down w pdus node takes.Ended told is = still w _ pdus told refl is
-  take_down w pdus node (takes.Closed why) told is = still w _ pdus told refl is
+  take_down w pdus node =
+      take_by w (λ taking. (taken_down w (node, taking)).0) Client pdus
+      (λ pdu. one_takes w _ Client pdu pdus refl refl) refl refl (λ why. refl)
 
   pub take_up : (w : World K C S I O) (pdus : List (List ℕ)) (node : Shell S)
       (taking : TakeAnswer) (told : List Event) → TellsTake Server taking told
       → Passes w (taken_up w (node, taking)).0 pdus pdus told
-  take_up w pdus node (takes.Pdu pdu) told is =
-      subst (Passes w (taken_up w (node, takes.Pdu pdu)).0 pdus pdus) (sym is)
-      (one_takes w _ Server pdu pdus refl refl)
-  take_up w pdus node takes.Empty told is = still w _ pdus told refl is
-  take_up w pdus node takes.Ended told is = still w _ pdus told refl is
-  take_up w pdus node (takes.Closed why) told is = still w _ pdus told refl is
+  take_up w pdus node =
+      take_by w (λ taking. (taken_up w (node, taking)).0) Server pdus
+      (λ pdu. one_takes w _ Server pdu pdus refl refl) refl refl (λ why. refl)

@@ -1,6 +1,6 @@
 mod UntilClosing
 mod Ordering
-mod Recorded
+pub mod Recorded
 mod Passing
 mod GivesAndTakes
 mod Counting

@@ -15,25 +15,13 @@ use Rattle.rh_inproxy.specs.State.{InProxy}
 use Rattle.rh_outproxy.specs.OutProxy.{OutProxy}
 use Rattle.rh_server.specs.States.{Server, is_closing}
 use Rattle.rh_streams.specs.Streams.{all_given}
-use Rattle.rh_events.specs.Events.{Event, Gives, Refuses, Takes, Ends, Closes, Stops, Silent, StopsTaking, StopsGiving, of_end, other, given, taken}
+use Rattle.rh_events.specs.Events.{Event, Ends, Closes, Stops, StopsTaking, StopsGiving, other, given, taken}
 use Rattle.rh_events.specs.Order.{IsPrefix}
 use Rattle.rh_told.specs.Moments.{Moment, GoesOn, end_events, end_given, until, in_the_end}
 use Rattle.rh_traced.specs.Ours.{deeds, rules}
 use Rattle.rh_ordered.specs.Ends.{GivesUntilClosing, IsClosing}
 use Rattle.rh_ordered.specs.Premises.{KeepsOrder}
-
-taken_append : (end : Side) (xs ys : List Event)
-    → taken end (xs ++ ys) ≡ taken end xs ++ taken end ys
-taken_append end [] ys = refl
-taken_append end (Takes at pdu ∷ xs) ys =
-    ap (λ more. of_end end at pdu ++ more) (taken_append end xs ys)
-    ∙ sym (append_assoc (of_end end at pdu) (taken end xs) (taken end ys))
-taken_append end (Gives at ∷ xs) ys = taken_append end xs ys
-taken_append end (Refuses at ∷ xs) ys = taken_append end xs ys
-taken_append end (Ends at ∷ xs) ys = taken_append end xs ys
-taken_append end (Closes at ∷ xs) ys = taken_append end xs ys
-taken_append end (Stops at ∷ xs) ys = taken_append end xs ys
-taken_append end (Silent ∷ xs) ys = taken_append end xs ys
+use Rattle.rh_told.proofs.Behind.{taken_append}
 
 -- a list that goes on and is still a front of itself goes on with nothing
 nothing_more : (all more : List (List ℕ)) → IsPrefix (all ++ more) all → more ≡ []

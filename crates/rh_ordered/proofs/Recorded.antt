@@ -22,7 +22,7 @@ use Rattle.rh_ordered.specs.Recordings.{OffersBehindFirst}
 
 -- ---- the world that settings make
 
-pub ours : (config : WorldConfig) → AreOurs roles.makers (roles.begun config).company config
+abbrev pub ours : (config : WorldConfig) → AreOurs roles.makers (roles.begun config).company config
 ours config = record {
   config = roles.client_config config (cookie_of 1) (cookie_of 2);
   window = config.swin;

@@ -15,7 +15,8 @@ use Rattle.rh_shell.specs.Shells.{Shell, end_at, is_working, is_working_by, stat
 use Rattle.rh_reading.specs.Reading.{Reading, begin, messages_read, reading, reading_after}
 use Rattle.rh_streams.specs.Streams.{IsReadTo, is_live}
 use Rattle.rh_paths.specs.OnWay.{left_at, left_by, left_on, read_at, read_by, read_on}
-use Rattle.rh_paths.proofs.Legs.{StandsAt, some_is}
+use Rattle.rh_paths.proofs.Legs.{StandsAt}
+use Rattle.rh_heads.proofs.Finds.{some_is}
 
 module _ {S : Type 0} (s : Shell S) (leg : Leg) (up : Bool) where
   -- what was put spells what was drawn and is begun

@@ -12,6 +12,7 @@ use Rattle.rh_legible.specs.Legible.{ReadsBack}
 use Rattle.rh_reading.specs.Reading.{Begins, Reading, all_read_of, begin, messages_from, messages_read, read_of, reading_after}
 use Rattle.rh_reading.proofs.Seen.{seen_read}
 use Rattle.rh_paths.specs.OnWay.{is_lost, items_on_way, on_way}
+use Rattle.rh_heads.proofs.Finds.{some_is}
 
 -- ---- the law that this stands on
 
@@ -35,9 +36,6 @@ pub record IsJoined (pipe : Option Pipe) (put came : List Message) (drawn heard 
   pub spells : (begun : List ℕ) → left ≡ Some begun → spelled put ≡ drawn ++ begun
   pub stands : (r : Reading) → read ≡ Some r → StandsAt pipe came heard r
   pub carried : (r : Reading) → read ≡ Some r → cut ≡ false → drawn ≡ heard ++ flight
-
-pub some_is : {X : Type 0} (a b : X) → Some a ≡ Some b → a ≡ b
-some_is a b e = cc
 
 module _ (law : AllRead) (pipe : Option Pipe) (put : List Message) (begins : Begins pipe put)
     (back : AllByRecursion (ReadsBack pipe) put) where

@@ -1,6 +1,7 @@
 mod Legs
 mod Ends
 mod Used
+mod AtEnds
 mod Carriages
 mod OnPath
 mod Down

@@ -1,7 +1,7 @@
 -- what is on its way in a direction on whose legs nothing was lost
-use Rattle.std.proofs.Common.{◌≡◌, ◌<◌, ◌≤◌, ℕ, zero, suc, Bool, true, false, nat_lt, not, ◌||◌, List, [], ◌++◌, arith, refl, sym, ap, ◌∙◌, subst}
+use Rattle.std.proofs.Common.{◌≡◌, ◌<◌, ◌≤◌, ℕ, zero, suc, Bool, true, false, nat_lt, not, ◌||◌, if◌then◌else◌, List, [], ◌++◌, arith, refl, sym, ap, ◌∙◌, subst}
 use Rattle.std.proofs.lemmas.Bool.Decides.{nat_tests}
-use Rattle.std.proofs.lemmas.List.{append_cancel_left}
+use Rattle.std.proofs.lemmas.List.{append-nil, append_cancel_left}
 use mathlib.Core.List.{IsPrefix}
 use Rattle.rh_order.specs.Items.{IsChannel, Item, has_end, has_handover, pdus}
 use Rattle.rh_order.specs.Logs.{below}
@@ -33,6 +33,16 @@ same_none : (put came rest on : List Item) (lost : Bool) → put ≡ came ++ res
 same_none put came rest on false is arrives none nothing =
     ap pdus (append_cancel_left came rest on (sym is ∙ arrives refl))
 same_none put came rest on true is arrives none nothing = nothing ∙ ap pdus (sym (none refl))
+
+-- on a channel that has no far leg nothing came, and nothing stands
+pub where_leg : (r : Route) → IsRoute r → (n : ℕ) (put on : List Item) (b : Bool)
+    → r.legs n ≡ b → put ≡ r.got n ++ on
+    → (if b then put else []) ≡ r.got n ++ (if b then on else [])
+where_leg r route n put on true e arrives = arrives
+where_leg r route n put on false e arrives =
+    let front = route.far n in
+    let none = nil_front (r.got n) front.0 (front.1 ∙ route.numbered.unused n e) in
+    sym none ∙ sym (append-nil (r.got n))
 
 module _ (r : Route) (on : OnLegs) (lost : Losses) (l : IsRoute r)
     (whole : (on : OnLegs) → IsWhole r on → r.giver.given ≡ r.taker.taken ++ path r on)

@@ -2,22 +2,20 @@
 use Rattle.std.proofs.Common.{◌≡◌, ℕ, Bool, true, false, if◌then◌else◌, List, [], ◌++◌, Some, None, refl, ap, ◌∙◌, subst}
 use Rattle.std.specs.declared.option.Option.{Option}
 use mathlib.Core.List.{IsPrefix}
-use Rattle.rh_http.specs.declared.config.ClientConfig.{ClientConfig}
 use Rattle.rh_order.specs.Items.{IsChannel, Item}
 use Rattle.rh_order.specs.Paths.{Arrives, IsWhole, Losses, OnLegs, path, reach}
 use Rattle.rh_order.specs.Routes.{IsRoute, Route}
-use Rattle.rh_shell.specs.Moving.{EndEvent, Event, after_end_events}
+use Rattle.rh_shell.specs.declared.course.Course.{Course}
+use Rattle.rh_shell.specs.Moving.{after_end_events}
 use Rattle.rh_shell.specs.Rules.{Message}
 use Rattle.rh_shell.specs.Shells.{Shell, begun}
 use Rattle.rh_client.specs.declared.state.ClientRole.{ClientRole}
 use Rattle.rh_client.specs.Client as client
 use Rattle.rh_client.specs.Order.{down_items, has_leg}
-use Rattle.rh_inproxy.specs.declared.state.InProxyConfig.{InProxyConfig}
 use Rattle.rh_inproxy.specs.Machine as in_proxy
 use Rattle.rh_inproxy.specs.Order.{item_came}
 use Rattle.rh_inproxy.specs.State.{InProxy}
 use Rattle.rh_outproxy.specs.declared.out_proxy.TheConstants.{ROOMS}
-use Rattle.rh_outproxy.specs.declared.state.OutProxyConfig.{OutProxyConfig}
 use Rattle.rh_outproxy.specs.Machine as out_proxy
 use Rattle.rh_outproxy.specs.Order.{from_server}
 use Rattle.rh_outproxy.specs.OutProxy.{OutProxy, new_proxy}
@@ -27,26 +25,23 @@ use Rattle.rh_server.specs.States.{Server}
 use Rattle.rh_nodes.specs.Opening.{Makers}
 use Rattle.rh_nodes.specs.Readers.{reader_of}
 use Rattle.rh_nodes.specs.World.{World}
-use Rattle.rh_history.specs.Carried.{AreCarried, IsTraced, LegsComeUpOnce, ledger}
+use Rattle.rh_history.specs.Carried.{AreCarried, IsTraced, ledger}
 use Rattle.rh_history.specs.Changes.{Leads}
 use Rattle.rh_traced.specs.Cookies.{ByChanges}
-use Rattle.rh_history.specs.Histories.{History, IsNew, IsRun, in_place, nothing, out_place}
-use Rattle.rh_history.proofs.Recordings.{traced_first}
-use Rattle.rh_history.proofs.Tracing.{cast_stays}
+use Rattle.rh_history.specs.Histories.{History, IsNew, IsRun, in_place, out_place}
+use Rattle.rh_history.proofs.Leading.{cast_kept}
 use Rattle.rh_traced.specs.Numbers.{is_made}
 use Rattle.rh_traced.specs.Ours.{AreOurs, deeds, rules}
 use Rattle.rh_traced.specs.Recordings.{IsKnown}
-use Rattle.rh_traced.proofs.Along.{kept_along}
 use Rattle.rh_ordered.specs.Premises.{history_at}
-use Rattle.rh_down.specs.Down.{GoesDown, route_of}
 use Rattle.rh_up.specs.Up as goes_up
-use Rattle.rh_up.specs.Up.{GoesUp, up_route}
-use Rattle.rh_up.proofs.Laws.{Laws, are_begun}
+use Rattle.rh_up.proofs.Laws.{BeginLaws, are_begun}
 use Rattle.rh_fifo.specs.Directions.{Directions, down_route_of, up_route_of}
-use Rattle.rh_fifo.specs.Flows.{numbers_of}
+use Rattle.rh_fifo.specs.Flows.{Numbers, numbers_of}
+use Rattle.rh_fifo.proofs.Marked.{RouteLaws, down_is_route, up_is_route}
 use Rattle.rh_paths.specs.OnWay.{is_lost, items_on_way}
 use Rattle.rh_paths.specs.Laws.{IsOnItsWay}
-use Rattle.rh_paths.specs.Ways.{AreNodes, AreOnTheirWay, down_far, down_lost, down_near, down_on, up_far, up_lost, up_near, up_on}
+use Rattle.rh_paths.specs.Ways.{AreNodes, AreOnTheirWay, down_far, down_lost, down_near, down_on, in_node, losses, on_legs, out_node, up_far, up_lost, up_near, up_on}
 use Rattle.rh_paths.proofs.Down.{down_arrives}
 use Rattle.rh_paths.proofs.Legs.{AllRead}
 use Rattle.rh_paths.proofs.OnPath.{all_on_path}
@@ -58,38 +53,19 @@ OurWorld K = World K ClientRole Server InProxy OutProxy
 -- ---- the laws that this stands on
 
 pub record OrderLaws : Type 0 where
+  pub routes : RouteLaws
   pub whole : (r : Route) (on : OnLegs) → IsRoute r → IsWhole r on
       → r.giver.given ≡ r.taker.taken ++ path r on
   pub front : (r : Route) (on : OnLegs) (lost : Losses) → IsRoute r → Arrives r on lost
       → IsPrefix (r.taker.taken ++ reach r on lost) r.giver.given
   pub far : (r : Route) (m : ℕ) → IsRoute r → IsChannel (r.put m) × IsChannel (r.got m)
-  pub down : (config : ClientConfig) (window : ℕ) (out_config : ℕ → OutProxyConfig)
-      (client server : List EndEvent) (outs : ℕ → List Event)
-      (d : GoesDown config window out_config client server outs) → IsRoute (route_of d)
-  pub up : (config : ClientConfig) (window : ℕ) (in_config : ℕ → InProxyConfig)
-      (client_events server_events : List EndEvent) (ins : ℕ → List Event) (made : ℕ → Bool)
-      (reader : ℕ → ℕ)
-      (g : GoesUp config window in_config client_events server_events ins made reader)
-      → IsRoute (up_route reader g.giver.passage (λ n. (g.proxies n).passage) g.taker.leads.moves
-      g.taker.passage)
 
-pub record WorldLaws (K : Type 0) : Type 0 where
-  pub known : (m : Makers K InProxy OutProxy) (w v : OurWorld K) → IsNew w
-      → AreOurs m w.company w.cast → (leads : Leads rules m deeds w v) → IsKnown m w v leads
-  pub once : (m : Makers K InProxy OutProxy) (w : OurWorld K) → AreOurs m w.company w.cast
-      → LegsComeUpOnce rules m deeds w.company w.cast
+abbrev pub KnownWorlds : Type 0 → Type 0
+KnownWorlds K =
+    (m : Makers K InProxy OutProxy) (w v : OurWorld K) → IsNew w → AreOurs m w.company w.cast
+    → (leads : Leads rules m deeds w v) → IsKnown m w v leads
 
 -- ---- a direction
-
-on_its_way : OrderLaws → (r : Route) (on : OnLegs) (lost : Losses) → IsRoute r → Arrives r on lost
-    → ((n : ℕ) → lost.near n ≡ true → on.near n ≡ [])
-    → ((n : ℕ) → lost.far n ≡ true → on.far n ≡ []) → IsOnItsWay r on lost
-on_its_way law r on lost route arrives near_none far_none = record {
-  arrives = arrives;
-  all = all_on_path r on lost route (λ o. law.whole r o route) (λ m. (law.far r m route).0) arrives
-      near_none far_none;
-  front = law.front r on lost route arrives;
-}
 
 -- nothing stands on a leg that is lost
 none_on_way : (view : Message → List Item) (o : Option (List Message)) → is_lost o ≡ true
@@ -101,23 +77,38 @@ none_if : (b : Bool) (items : List Item) → items ≡ [] → (if b then items e
 none_if true items e = e
 none_if false items e = refl
 
+on_its_way : OrderLaws → (r : Route) (near_view far_view : Message → List Item) (has : ℕ → Bool)
+    (near far : ℕ → Option (List Message)) (course : ℕ → Course) → IsRoute r
+    → Arrives r (on_legs near_view far_view has near far) (losses near far course)
+    → IsOnItsWay r (on_legs near_view far_view has near far) (losses near far course)
+on_its_way law r near_view far_view has near far course route arrives =
+    let on = on_legs near_view far_view has near far in
+    let lost = losses near far course in
+    record {
+      arrives = arrives;
+      all = all_on_path r on lost route (λ o. law.whole r o route) (λ m. (law.far r m route).0)
+          arrives (λ n. none_on_way near_view (near n))
+          (λ n gone. none_if (has n) (items_on_way far_view (far n))
+          (none_on_way far_view (far n) gone));
+      front = law.front r on lost route arrives;
+    }
+
 -- ---- a moment
 
-module _ {K : Type 0} (read : AllRead) (law : OrderLaws) (roles : Laws) (worlds : WorldLaws K)
+module _ {K : Type 0} (read : AllRead) (law : OrderLaws) (begin : BeginLaws) (known : KnownWorlds K)
     (m : Makers K InProxy OutProxy) (w : OurWorld K) (new : IsNew w)
     (ours : AreOurs m w.company w.cast) (v : OurWorld K) (by : ByChanges rules m deeds w v) where
   abbrev here : History
   here = history_at m w v by.leads
 
+  abbrev numbers : Numbers
+  numbers = numbers_of ours
+
   traced : IsTraced rules m deeds w.company v here
-  traced = (worlds.known m w v new ours by.leads).traced
+  traced = (known m w v new ours by.leads).traced
 
   same_cast : v.cast ≡ w.cast
-  same_cast =
-      kept_along rules m deeds w.company (λ (x : OurWorld K) (g : History). x.cast ≡ w.cast)
-      (λ x g traced once same change may.
-      cast_stays rules m deeds w.company x g traced once change ∙ same) w v nothing by.leads
-      (worlds.once m w ours) (traced_first rules m deeds w new) refl
+  same_cast = cast_kept rules m deeds w v by.leads
 
   carried : AreCarried (ledger rules m deeds w.company w.cast here) v.legs v.readers
   carried = subst (λ (c : K). AreCarried (ledger rules m deeds w.company c here) v.legs v.readers)
@@ -137,7 +128,7 @@ module _ {K : Type 0} (read : AllRead) (law : OrderLaws) (roles : Laws) (worlds 
       IsRun in_proxy.rules node (here.ins n) (in_place v.company n))
       (ap (λ (c : K). m.in_proxy c n) same_cast ∙ ours.ins n) (traced.runs.ins n)
 
-  nodes : AreNodes (numbers_of ours) v here
+  nodes : AreNodes numbers v here
   nodes = record {
     client =
         traced.runs.client
@@ -151,43 +142,27 @@ module _ {K : Type 0} (read : AllRead) (law : OrderLaws) (roles : Laws) (worlds 
     outs = out_runs;
   }
 
-  module _ (directions : Directions (numbers_of ours) v here) where
-    down_route : IsRoute (down_route_of directions)
-    down_route = law.down ours.config ours.window ours.out_config here.client here.server here.outs
-        directions.down
-
-    down : IsOnItsWay (down_route_of directions) (down_on (numbers_of ours) v here)
-        (down_lost (numbers_of ours) v here)
+  module _ (directions : Directions numbers v here) where
+    down : IsOnItsWay (down_route_of directions) (down_on numbers v here) (down_lost numbers v here)
     down =
-        let numbers = numbers_of ours in
-        on_its_way law (down_route_of directions) (down_on numbers v here)
-        (down_lost numbers v here) down_route
+        on_its_way law (down_route_of directions) from_server down_items has_leg
+        (down_near numbers v here) (down_far numbers v here)
+        (λ n. (out_node numbers here n).course) (down_is_route law.routes directions)
         (down_arrives read m w.company w.cast ours v here carried traced.heard out_runs
-        directions.down down_route)
-        (λ n. none_on_way from_server (down_near numbers v here n))
-        (λ n lost. none_if (has_leg n) (items_on_way down_items (down_far numbers v here n))
-        (none_on_way down_items (down_far numbers v here n) lost))
+        directions.down (down_is_route law.routes directions))
 
-    up_is_route : IsRoute (up_route_of directions)
-    up_is_route = law.up ours.config ours.window ours.in_config here.client here.server here.ins
-        (is_made v.company) (reader_of v.readers) directions.up
-
-    up : IsOnItsWay (up_route_of directions) (up_on (numbers_of ours) v here)
-        (up_lost (numbers_of ours) v here)
+    up : IsOnItsWay (up_route_of directions) (up_on numbers v here) (up_lost numbers v here)
     up =
-        let numbers = numbers_of ours in
-        on_its_way law (up_route_of directions) (up_on numbers v here)
-        (up_lost numbers v here) up_is_route
+        on_its_way law (up_route_of directions) item_came in_items
+        (goes_up.has_leg (reader_of v.readers)) (up_near numbers v here) (up_far numbers v here)
+        (λ n. (in_node numbers here n).course) (up_is_route law.routes directions)
         (up_arrives read m w.company w.cast ours v here carried traced.heard in_runs
-        (worlds.known m w v new ours by.leads).read directions.up
-        (are_begun roles ours.config ours.window ours.in_config here.client here.server here.ins
-        (is_made v.company) (reader_of v.readers) directions.up) up_is_route)
-        (λ n. none_on_way item_came (up_near numbers v here n))
-        (λ n lost. none_if (goes_up.has_leg (reader_of v.readers) n)
-        (items_on_way in_items (up_far numbers v here n))
-        (none_on_way in_items (up_far numbers v here n) lost))
+        (known m w v new ours by.leads).read directions.up
+        (are_begun begin ours.config ours.window ours.in_config here.client here.server here.ins
+        (is_made v.company) (reader_of v.readers) directions.up)
+        (up_is_route law.routes directions))
 
-    pub on_their_way : AreOnTheirWay (numbers_of ours) v here
+    pub on_their_way : AreOnTheirWay numbers v here
     on_their_way = record {
       nodes = nodes;
       directions = directions;

@@ -1,10 +1,12 @@
 -- what stands on the legs of a world of roles (profile)
-use Rattle.std.specs.Prelude.{◌≡◌, ◌≤◌, ◌⊎◌, not, ℕ, List, [], true, if◌then◌else◌, Some}
+use Rattle.std.specs.Prelude.{◌≡◌, ◌≤◌, ◌⊎◌, not, ℕ, List, [], Bool, true, if◌then◌else◌, Some}
 use Rattle.std.specs.declared.option.Option.{Option}
 use Rattle.rh_text.specs.declared.ends.Dir.TheVariants.{U, D}
 use Rattle.rh_sig.specs.declared.name.Pipe.TheVariants.{CiU, IsU, CoD, OsD}
+use Rattle.rh_order.specs.Items.{Item}
 use Rattle.rh_order.specs.Paths.{Losses, OnLegs, reader}
 use Rattle.rh_order.specs.Routes.{Route}
+use Rattle.rh_shell.specs.declared.course.Course.{Course}
 use Rattle.rh_shell.specs.Moving.{after_events, after_end_events}
 use Rattle.rh_shell.specs.Rules.{Message}
 use Rattle.rh_shell.specs.Shells.{Shell, begun, is_going}
@@ -52,6 +54,25 @@ abbrev pub out_node : Numbers → History → ℕ → Shell OutProxy
 out_node numbers h n =
     after_events out_proxy.rules (begun (new_proxy (numbers.outs n)) ROOMS) (h.outs n)
 
+-- ---- the legs of a direction
+
+-- what stands on them, as order sees it: on the near legs, and on the far legs that there are
+abbrev pub on_legs : (Message → List Item) → (Message → List Item) → (ℕ → Bool)
+    → (ℕ → Option (List Message)) → (ℕ → Option (List Message)) → OnLegs
+on_legs near_view far_view has near far = record {
+  near = λ n. items_on_way near_view (near n);
+  far = λ n. if has n then items_on_way far_view (far n) else [];
+}
+
+-- the legs that give nothing more, and the proxies that closed
+abbrev pub losses : (ℕ → Option (List Message)) → (ℕ → Option (List Message)) → (ℕ → Course)
+    → Losses
+losses near far course = record {
+  near = λ n. is_lost (near n);
+  far = λ n. is_lost (far n);
+  closed = λ n. not (is_going (course n));
+}
+
 -- ---- down
 
 -- from the server to the out proxy of a number
@@ -66,20 +87,14 @@ abbrev pub down_far : {K C S I O : Type 0} → Numbers → World K C S I O → H
 down_far numbers v h n =
     on_leg v h (co n) D (Some CoD) (out_node numbers h n) client.rules (client_node numbers h)
 
--- what stands on the legs, as order sees it; there is no out proxy 0
+-- there is no out proxy 0
 abbrev pub down_on : {K C S I O : Type 0} → Numbers → World K C S I O → History → OnLegs
-down_on numbers v h = record {
-  near = λ n. items_on_way from_server (down_near numbers v h n);
-  far = λ n. if has_leg n then items_on_way down_items (down_far numbers v h n) else [];
-}
+down_on numbers v h =
+    on_legs from_server down_items has_leg (down_near numbers v h) (down_far numbers v h)
 
--- the legs that give nothing more, and the proxies that closed
 abbrev pub down_lost : {K C S I O : Type 0} → Numbers → World K C S I O → History → Losses
-down_lost numbers v h = record {
-  near = λ n. is_lost (down_near numbers v h n);
-  far = λ n. is_lost (down_far numbers v h n);
-  closed = λ n. not (is_going (out_node numbers h n).course);
-}
+down_lost numbers v h =
+    losses (down_near numbers v h) (down_far numbers v h) (λ n. (out_node numbers h n).course)
 
 -- ---- up
 
@@ -96,21 +111,15 @@ abbrev pub up_far : {K C S I O : Type 0} → Numbers → World K C S I O → His
 up_far numbers v h n =
     on_leg v h (is n) U (Some IsU) (in_node numbers h n) server.rules (server_node numbers h)
 
--- what stands on the legs, where a channel has a leg to the server
+-- the channels with a leg to the server
 abbrev pub up_on : {K C S I O : Type 0} → Numbers → World K C S I O → History → OnLegs
-up_on numbers v h = record {
-  near = λ n. items_on_way item_came (up_near numbers v h n);
-  far = λ n.
-      if goes_up.has_leg (reader_of v.readers) n then items_on_way in_items (up_far numbers v h n)
-      else [];
-}
+up_on numbers v h =
+    on_legs item_came in_items (goes_up.has_leg (reader_of v.readers)) (up_near numbers v h)
+    (up_far numbers v h)
 
 abbrev pub up_lost : {K C S I O : Type 0} → Numbers → World K C S I O → History → Losses
-up_lost numbers v h = record {
-  near = λ n. is_lost (up_near numbers v h n);
-  far = λ n. is_lost (up_far numbers v h n);
-  closed = λ n. not (is_going (in_node numbers h n).course);
-}
+up_lost numbers v h =
+    losses (up_near numbers v h) (up_far numbers v h) (λ n. (in_node numbers h n).course)
 
 -- ---- a moment of a world
 

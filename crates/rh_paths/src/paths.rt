@@ -21,17 +21,13 @@ ghost use Rattle.rh_fifo.specs.Flows.{Numbers, numbers_of};
 ghost use Rattle.rh_fifo.specs.Premises.{AreInRange};
 ghost use Rattle.rh_paths.specs.Ways.{AreInUseDown, AreInUseUp, AreOnTheirWay, down_on, up_on};
 
-use rh_client::a_client_gives_in_order;
 use rh_down::what_goes_down_is_a_route;
 use rh_ends_begin::a_client_begins_with_a_request;
 use rh_fifo::directions_are_joined;
-use rh_inproxy::{InProxyRole, an_in_proxy_keeps_order};
 use rh_order::{nothing_is_lost, nothing_stands_behind_a_mark, what_can_be_taken_was_given};
-use rh_proxies_begin::{an_in_proxy_begins, an_in_proxy_refuses_first};
-use rh_reading::{all_that_was_put_is_read, of_a_refusal_nothing_comes, what_comes_was_put};
-use rh_server::a_server_takes_in_order;
-use rh_streams::what_refuses_first_refuses_in_turn;
-use rh_traced::{a_recording_of_roles_is_known, legs_of_roles_come_up_once};
+use rh_proxies_begin::an_in_proxy_begins;
+use rh_reading::all_that_was_put_is_read;
+use rh_traced::a_recording_of_roles_is_known;
 use rh_up::what_goes_up_is_a_route;
 
 /// In each world of new roles whose numbers are in their ranges, at every moment that changes of
@@ -53,21 +49,13 @@ pub fn nothing_on_its_way_is_lost<K>()
     what_can_be_taken_was_given();
     nothing_stands_behind_a_mark();
     all_that_was_put_is_read();
-    a_client_gives_in_order();
-    an_in_proxy_keeps_order();
-    a_server_takes_in_order();
     a_client_begins_with_a_request();
     an_in_proxy_begins();
-    an_in_proxy_refuses_first();
-    what_refuses_first_refuses_in_turn::<InProxyRole>();
-    what_comes_was_put();
-    of_a_refusal_nothing_comes();
     a_recording_of_roles_is_known::<K>();
-    legs_of_roles_come_up_once::<K>();
 }
 
-/// So it is while each leg of these channels is in use, or its handover mark or END passed: it is up
-/// for both its ends, both nodes go on and keep it, and the one that takes has use for it.
+/// So it is while each leg of these channels is in use, or its handover mark or END passed: it is
+/// up for both its ends, both nodes go on and keep it, and the one that takes has use for it.
 pub fn legs_in_use_lose_nothing<K>()
     ensures down { (numbers : Numbers) (v : World K ClientRole Server InProxy OutProxy)
         (h : History) (ways : AreOnTheirWay numbers v h)

@@ -18,14 +18,14 @@ use Rattle.rh_shell.specs.Rules.{Rules, Acts}
 use Rattle.rh_shell.specs.Shells.{Shell, state_of}
 use Rattle.rh_history.specs.Carried.{AreAcceptedAtEnd, happened, heard_in, heard_on}
 use Rattle.rh_history.specs.Histories.{heard}
-use Rattle.rh_history.proofs.Appended.{heard_append}
+use Rattle.rh_history.proofs.Appended.{heard_append, happened_append}
 use Rattle.rh_client.specs.declared.state.ClientRole.{ClientRole}
 use Rattle.rh_client.specs.Client as client
 use Rattle.rh_streams.specs.Streams.{HearsInTurn}
 use Rattle.rh_refused.specs.Refused.{BeginsRefused, HeardRefusal}
-use Rattle.rh_streams.proofs.Ends.{leg_itself}
 use Rattle.rh_traced.proofs.LostLegs.{closes_now, one_cause}
 use Rattle.rh_refused.proofs.Heard.{ClientLaws, heard_refusal}
+use Rattle.rh_history.proofs.Wired.{same_itself}
 
 -- ---- an act of an end closes nothing
 
@@ -34,36 +34,37 @@ module _ {S : Type 0} (rules : Rules S) (s : Shell S) (going : s.course ≡ Goin
   goes_on : (t : Shell S) → t.course ≡ Going → ClosedWith why t.course → ⊥
   goes_on t on h = subst (ClosedWith why) on h
 
-  acts_close_none : (acts : Acts S) (e : EndEvent)
-      → ((event : Event) → e ≡ Happens event → ⊥)
-      → ClosedWith why (after_end_event rules acts s e).course → ⊥
-  acts_close_none acts (Happens event) none h = none event refl
-  acts_close_none acts (IsGiven pdu) none h =
-      goes_on (after_end_event rules acts s (IsGiven pdu)) (by (cause_of s.course)) h
-    where
-      by : (o : Option Cause) → (give_where acts s pdu o).0.course ≡ Going
-      by (Some why) = going
-      by None = going
-  acts_close_none acts IsTaken none h =
-      goes_on (after_end_event rules acts s IsTaken) (by (cause_of s.course)) h
-    where
-      by : (o : Option Cause) → (take_where acts s o).course ≡ Going
-      by (Some why) = going
-      by None = going
-  acts_close_none acts IsClosed none h =
-      goes_on (after_end_event rules acts s IsClosed) (by (cause_of s.course)) h
-    where
-      by : (o : Option Cause) → (close_where acts s o).course ≡ Going
-      by (Some why) = going
-      by None = going
-  acts_close_none acts IsRecycled none h =
-      goes_on (after_end_event rules acts s IsRecycled) (by (state_of rules s)) h
-    where
-      by : (x : State) → (recycle_where acts s x).0.course ≡ Going
-      by state.Open = going
-      by state.Opening = going
-      by state.Ended = going
-      by (state.Closed why) = going
+  -- whatever is answered for the cause that it has
+  module _ (acts : Acts S) where
+    given : (pdu : List ℕ) (o : Option Cause) → (give_where acts s pdu o).0.course ≡ Going
+    given pdu (Some why) = going
+    given pdu None = going
+
+    taken : (o : Option Cause) → (take_where acts s o).course ≡ Going
+    taken (Some why) = going
+    taken None = going
+
+    closed : (o : Option Cause) → (close_where acts s o).course ≡ Going
+    closed (Some why) = going
+    closed None = going
+
+    recycled : (x : State) → (recycle_where acts s x).0.course ≡ Going
+    recycled state.Open = going
+    recycled state.Opening = going
+    recycled state.Ended = going
+    recycled (state.Closed why) = going
+
+    acts_close_none : (e : EndEvent) → ((event : Event) → e ≡ Happens event → ⊥)
+        → ClosedWith why (after_end_event rules acts s e).course → ⊥
+    acts_close_none e none h = goes_on (after_end_event rules acts s e) (by e none) h
+      where
+        by : (e : EndEvent) → ((event : Event) → e ≡ Happens event → ⊥)
+            → (after_end_event rules acts s e).course ≡ Going
+        by (Happens event) none = absurd (none event refl)
+        by (IsGiven pdu) none = given pdu (cause_of s.course)
+        by IsTaken none = taken (cause_of s.course)
+        by IsClosed none = closed (cause_of s.course)
+        by IsRecycled none = recycled (state_of rules s)
 
 accepted_front : {S : Type 0} (rules : Rules S) (acts : Acts S) (s : Shell S)
     (es fs : List EndEvent) → AreAcceptedAtEnd rules acts s (es ++ fs)
@@ -71,15 +72,6 @@ accepted_front : {S : Type 0} (rules : Rules S) (acts : Acts S) (s : Shell S)
 accepted_front rules acts s [] fs a = tt
 accepted_front rules acts s (e ∷ es) fs a =
     (a.0, accepted_front rules acts (after_end_event rules acts s e) es fs a.1)
-
-happened_append : (es fs : List EndEvent) → happened (es ++ fs) ≡ happened es ++ happened fs
-happened_append [] fs = refl
-happened_append (Happens e ∷ es) fs =
-    ap (λ (x : List Event). e ∷ x) (happened_append es fs)
-happened_append (IsGiven pdu ∷ es) fs = happened_append es fs
-happened_append (IsTaken ∷ es) fs = happened_append es fs
-happened_append (IsClosed ∷ es) fs = happened_append es fs
-happened_append (IsRecycled ∷ es) fs = happened_append es fs
 
 pub turns_front : (xs ys : List Event) → HearsInTurn (xs ++ ys) → HearsInTurn xs
 turns_front xs ys turns before behind leg piece at =
@@ -118,7 +110,7 @@ module _ (law : ClientLaws) (config : ClientConfig) (leg : Leg) (status : ℕ) w
         now.news leg status now.closing in
         let hears : event ≡ Hears leg r.piece = sym now.is ∙ ap heard r.is in
         let piece : heard_in leg event ≡ r.piece =
-        ap (heard_in leg) hears ∙ ap (λ (t : Bool). cond t r.piece []) (leg_itself leg) in
+        ap (heard_in leg) hears ∙ ap (λ (t : Bool). cond t r.piece []) (same_itself leg) in
         let bytes : (heard_on leg (happened events) ++ r.piece) ++ heard_on leg (happened later)
         ≡ heard_on leg (happened all) =
         append_assoc (heard_on leg (happened events)) r.piece (heard_on leg (happened later))

@@ -2,10 +2,10 @@ pub mod Told
 mod Heard
 mod ClosedClients
 mod Drawn
+mod PutAll
 pub mod OutTexts
-mod OutRefusals
 pub mod InTexts
-mod InRefusals
+mod Refusals
 mod Unreached
 mod Unavailables
 mod Fronts
@@ -13,6 +13,5 @@ mod Lost
 pub mod Requests
 pub mod Moments
 pub mod Taken
-mod Reasons
 pub mod Losses
 mod Reporting

@@ -1,5 +1,5 @@
 -- the texts that an out proxy puts are responses of success
-use Rattle.std.proofs.Common.{◌≡◌, ℕ, ◌+◌, ◌≤◌, ◌&&◌, ◌⊎◌, inl, inr, List, [], ◌∷◌, ◌++◌, append_assoc, length, Some, None, Ok, Err, arith, refl, sym, ap, ◌∙◌, subst}
+use Rattle.std.proofs.Common.{◌≡◌, ℕ, ◌+◌, ◌≤◌, ◌&&◌, ◌⊎◌, inl, inr, List, [], ◌∷◌, ◌++◌, append_assoc, length, Some, None, arith, refl, sym, ap, ◌∙◌, subst}
 use Rattle.std.specs.Prelude.{nat_le, if◌then◌else◌}
 use Rattle.std.specs.List.{AllByRecursion}
 use Rattle.std.specs.declared.option.Option.{Option}
@@ -16,12 +16,10 @@ use Rattle.rh_http.specs.Texts.{response_text}
 use Rattle.rh_order.proofs.ByNumber.{by_test}
 use Rattle.rh_shell.specs.declared.due.Due.{Due}
 use Rattle.rh_shell.specs.Carrying.{spelled}
-use Rattle.rh_shell.specs.Rules.{Message, Row, Text, Pdu, Packet}
-use Rattle.rh_shell.specs.Moves.{Move, Up, HeadCame, PduCame, PacketCame, Puts, IsDrawn, Marks, Pings, OnLeg, Passage, started, moved, MayMove, put_by, taken_by}
+use Rattle.rh_shell.specs.Rules.{Message, Text, Pdu, Packet}
+use Rattle.rh_shell.specs.Moves.{Passage, started}
 use Rattle.rh_shell.specs.Moving.{Leads}
-use Rattle.rh_shell.specs.Shells.{same_leg}
 use Rattle.rh_shell.specs.Wires.{of_leg}
-use Rattle.rh_shell.proofs.Leading.{leads_keep}
 use Rattle.rh_outproxy.specs.declared.state.OutProxyConfig.{OutProxyConfig}
 use Rattle.rh_outproxy.specs.declared.state.Answer.{Answer}
 use Rattle.rh_outproxy.specs.declared.state.Answer.TheVariants as answers
@@ -35,6 +33,7 @@ use Rattle.rh_outproxy.specs.Acknowledging.{ack_due}
 use Rattle.rh_outproxy.specs.Putting.{Pick, echo_packet, ping_room, or_else, answer_by, put_answer, put_waiting, waiting_by, pdu_by, put_pdu, put_end, put_handover, put_ping, put_mark, next_co, first_by, put_first, ack_by, put_ack, next_os, put}
 use Rattle.rh_outproxy.specs.Machine.{rules as proxy_rules}
 use Rattle.rh_causes.proofs.OutProxyLegs.{later_move}
+use Rattle.rh_refused.proofs.PutAll.{Picked, all_put}
 
 -- ---- what an out proxy puts
 
@@ -74,8 +73,7 @@ Succeeds config (Packet named) = Unit {0}
 -- ---- what goes next
 
 abbrev Fine : OutProxy → Pick → Type 0
-Fine s None = Unit {0}
-Fine s (Some pick) = Succeeds s.config pick.1
+Fine s = Picked (Succeeds s.config)
 
 or_fine : (s : OutProxy) (a b : Pick) → Fine s a → Fine s b → Fine s (or_else a b)
 or_fine s None b p q = q
@@ -168,63 +166,11 @@ put_fine s leg =
 
 -- ---- all that was put
 
-module _ (config : OutProxyConfig) where
-  abbrev AllSucceed : List OnLeg → Type 0
-  AllSucceed log = AllByRecursion (λ (one : OnLeg). Succeeds config one.1) log
-
-  record Puts200 (p : Passage OutProxy) : Type 0 where
-    config_is : p.role.config ≡ config
-    put : AllSucceed p.put
-
-  all_more : (log : List OnLeg) (one : OnLeg) → AllSucceed log → Succeeds config one.1
-      → AllSucceed (log ++ one ∷ [])
-  all_more [] one all s = (s, tt)
-  all_more (first ∷ log) one all s = (all.0, all_more log one all.1 s)
-
-  taken_put : (p : Passage OutProxy) (leg : Leg) (message : Message) (x : OutProxy × Row)
-      → AllSucceed p.put → AllSucceed (taken_by p leg message x).put
-  taken_put p leg message (role, Ok taken) all = all
-  taken_put p leg message (role, Err refused) all = all
-
-  put_more : (p : Passage OutProxy) (leg : Leg) (pick : Pick) → Fine p.role pick → Puts200 p
-      → AllSucceed (put_by p leg pick).put
-  put_more p leg None fine k = k.put
-  put_more p leg (Some pick) fine k =
-      all_more p.put (leg, pick.1) k.put
-      (subst (λ (c : OutProxyConfig). Succeeds c pick.1) k.config_is fine)
-
-  move_put : (p : Passage OutProxy) (move : Move) → Puts200 p
-      → AllSucceed (moved proxy_rules p move).put
-  move_put p (Up leg cookie) k = k.put
-  move_put p (HeadCame leg text) k = k.put
-  move_put p (PduCame leg count bytes) k =
-      taken_put p leg (Pdu bytes) (proxy_rules.pdu p.role leg count bytes) k.put
-  move_put p (PacketCame leg count named) k =
-      taken_put p leg (Packet named) (proxy_rules.packet p.role leg count named) k.put
-  move_put p (Puts leg) k = put_more p leg (put p.role leg) (put_fine p.role leg) k
-  move_put p (IsDrawn leg) k = k.put
-  move_put p (Marks leg) k = k.put
-  move_put p (Pings leg) k = k.put
-
-  move_200 : (p : Passage OutProxy) (move : Move) → Puts200 p → MayMove proxy_rules p.role move
-      → Puts200 (moved proxy_rules p move)
-  move_200 p move k may = record {
-    config_is = (later_move p move).config ∙ k.config_is;
-    put = move_put p move k;
-  }
-
-  on_leg : (leg : Leg) (log : List OnLeg) → AllSucceed log
-      → AllByRecursion (Succeeds config) (of_leg leg log)
-  on_leg leg [] all = tt
-  on_leg leg (one ∷ log) all =
-      by_test (λ (l : List Message). AllByRecursion (Succeeds config) l) (same_leg one.0 leg)
-      (one.1 ∷ of_leg leg log) (of_leg leg log) (λ e. (all.0, on_leg leg log all.1))
-      (λ e. on_leg leg log all.1)
-
-  pub puts_200 : (q : Passage OutProxy) (leg : Leg)
-      → Leads proxy_rules (started (new_proxy config)) q
-      → AllByRecursion (Succeeds config) (of_leg leg q.put)
-  puts_200 q leg leads =
-      on_leg leg q.put
-      (leads_keep proxy_rules Puts200 move_200 (started (new_proxy config)) q leads
-      (record { config_is = refl; put = tt })).put
+pub puts_200 : (config : OutProxyConfig) (q : Passage OutProxy) (leg : Leg)
+    → Leads proxy_rules (started (new_proxy config)) q
+    → AllByRecursion (Succeeds config) (of_leg leg q.put)
+puts_200 config q leg leads =
+    all_put proxy_rules leg (Succeeds config) (λ (s : OutProxy). s.config ≡ config)
+    (λ p move is. (later_move p move).config ∙ is)
+    (λ s is. subst (λ (c : OutProxyConfig). Picked (Succeeds c) (put s leg)) is (put_fine s leg))
+    (new_proxy config) q refl leads

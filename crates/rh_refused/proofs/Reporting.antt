@@ -35,16 +35,16 @@ use Rattle.rh_nodes.specs.Steps.{step_line}
 use Rattle.rh_nodes.specs.Legs as legs
 use Rattle.rh_nodes.specs.Wires.{receiver, sender}
 use Rattle.rh_nodes.specs.World.{at, node_by}
-use Rattle.rh_history.specs.Carried.{IsTraced, LegsComeUpOnce, came_up}
+use Rattle.rh_history.specs.Carried.{IsTraced, LegsComeUpOnce, came_up, events_of}
 use Rattle.rh_history.specs.Changes.{Change, IsTold, IsFed, IsDrawn, GoesUp, RaisesAlone, OpensIn, OpensOut, OpensSame, Reports, AreAllowed, ByLines, Leads, all_changed, changed}
 use Rattle.rh_history.specs.Closes.{ClosesNode, HasClosed, IsOneOf, told_by}
 use Rattle.rh_history.specs.Histories.{History, all_noted, at_place, heard, in_place, made_by, noted, nothing, out_place, to_node, told_to}
 use Rattle.rh_history.proofs.Appended.{came_append}
 use Rattle.rh_history.proofs.Closed.{tell_closes}
-use Rattle.rh_history.proofs.Leading.{changed_append, leads_more}
+use Rattle.rh_history.proofs.Leading.{cast_stays, changed_append, leads_more}
 use Rattle.rh_history.proofs.Lines.{same_who}
 use Rattle.rh_history.proofs.Recordings.{traced_first}
-use Rattle.rh_history.proofs.Tracing.{cast_stays, change_is_traced}
+use Rattle.rh_history.proofs.Tracing.{change_is_traced}
 use Rattle.rh_history.proofs.Wired.{is_up_at}
 use Rattle.rh_history.proofs.Working.{works_by_lines, works_more, works_none, works_then}
 use Rattle.rh_world.specs.declared.any_world.AnyWorld.{AnyWorld}
@@ -60,11 +60,12 @@ use Rattle.rh_closes.proofs.Going.{one_before}
 use Rattle.rh_fifo.proofs.Recorded.{new}
 use Rattle.rh_refused.specs.Refused.{IsUnreached}
 use Rattle.rh_refused.specs.Reported.{ReportsBreak}
+use Rattle.rh_history.proofs.Reporting.{one_of_both}
 
 -- ---- what changes tell
 
 module _ (P : roles.World → Option (Who × Event) → Type 0) where
-  abbrev pub AllTold : roles.World → List Change → Type 0
+  abbrev AllTold : roles.World → List Change → Type 0
   AllTold w [] = Unit {0}
   AllTold w (c ∷ cs) =
       P w (told_by w c) × AllTold (changed roles.rules roles.makers roles.deeds w c) cs
@@ -98,9 +99,14 @@ shown_told answers w (c ∷ cs) all =
 abbrev Explained : List Line → roles.World → Leg → Type 0
 Explained lines w leg = (legs.is_up leg side.Client w.legs ≡ true) ⊎ ReportsBreak lines leg
 
+-- the kind of a proxy's leg to the server
+abbrev pub to_server : Who → Option LegKind
+to_server (who.Out n) = Some OutServer
+to_server (who.In n) = Some InServer
+to_server node = None
+
 abbrev ReportedAt : List Line → roles.World → Who → Event → Type 0
-ReportedAt lines w (who.Out n) (Breaks leg) = leg.kind ≡ OutServer → Explained lines w leg
-ReportedAt lines w (who.In n) (Breaks leg) = leg.kind ≡ InServer → Explained lines w leg
+ReportedAt lines w node (Breaks leg) = to_server node ≡ Some leg.kind → Explained lines w leg
 ReportedAt lines w node event = Unit {0}
 
 -- if a node is told something
@@ -112,21 +118,17 @@ abbrev Reported : List Line → roles.World → Option (Who × Event) → Type 0
 Reported lines w = Tells (ReportedAt lines w) w
 
 -- a proxy puts towards the server there
-out_end : (reader number n : ℕ) (kind : LegKind) (dir : Dir) → kind ≡ OutServer
-    → node_by reader number kind (sender dir) ≡ who.Out n → dir ≡ U
-out_end reader number n OutServer U is e = refl
-out_end reader number n OutServer D is e = absurd cc
-out_end reader number n ClientOut dir is e = absurd cc
-out_end reader number n ClientIn dir is e = absurd cc
-out_end reader number n InServer dir is e = absurd cc
-
-in_end : (reader number n : ℕ) (kind : LegKind) (dir : Dir) → kind ≡ InServer
-    → node_by reader number kind (sender dir) ≡ who.In n → dir ≡ U
-in_end reader number n InServer U is e = refl
-in_end reader number n InServer D is e = absurd cc
-in_end reader number n ClientOut dir is e = absurd cc
-in_end reader number n ClientIn dir is e = absurd cc
-in_end reader number n OutServer dir is e = absurd cc
+server_end : (reader number : ℕ) (kind : LegKind) (dir : Dir) (node : Who)
+    → to_server node ≡ Some kind → node_by reader number kind (sender dir) ≡ node → dir ≡ U
+server_end reader number kind U node own is = refl
+server_end reader number OutServer D node own is =
+    absurd (let bad : to_server who.Server ≡ Some OutServer = ap to_server is ∙ own in cc)
+server_end reader number InServer D node own is =
+    absurd (let bad : to_server who.Server ≡ Some InServer = ap to_server is ∙ own in cc)
+server_end reader number ClientOut D node own is =
+    absurd (let bad : to_server (who.Out number) ≡ Some ClientOut = ap to_server is ∙ own in cc)
+server_end reader number ClientIn D node own is =
+    absurd (let bad : to_server (who.In reader) ≡ Some ClientIn = ap to_server is ∙ own in cc)
 
 module _ (some all : List Answer) (are_in : (x : Answer) → IsOneOf x some → IsOneOf x all)
     (w : roles.World) (leg : Leg) where
@@ -149,22 +151,14 @@ module _ (some all : List Answer) (are_in : (x : Answer) → IsOneOf x some → 
 
   node_reported : (w : roles.World) (node : Who) (event : Event) → Shows some w node event
       → ReportedAt lines w node event
-  node_reported w (who.Out n) (Breaks leg) shown = λ kind.
+  node_reported w node (Breaks leg) shown = λ own.
       explained w leg
-      (loss_told some all are_in w leg (who.Out n)
-      (λ dir e. out_end (reader_of w.readers leg.number) leg.number n leg.kind dir kind e) shown)
-  node_reported w (who.In n) (Breaks leg) shown = λ kind.
-      explained w leg
-      (loss_told some all are_in w leg (who.In n)
-      (λ dir e. in_end (reader_of w.readers leg.number) leg.number n leg.kind dir kind e) shown)
-  node_reported w who.Client event shown = tt
-  node_reported w who.Server event shown = tt
-  node_reported w (who.Out n) (Comes leg piece) shown = tt
-  node_reported w (who.Out n) (Ends leg) shown = tt
-  node_reported w (who.Out n) (Passes now) shown = tt
-  node_reported w (who.In n) (Comes leg piece) shown = tt
-  node_reported w (who.In n) (Ends leg) shown = tt
-  node_reported w (who.In n) (Passes now) shown = tt
+      (loss_told some all are_in w leg node
+      (λ dir e.
+      server_end (reader_of w.readers leg.number) leg.number leg.kind dir node own e) shown)
+  node_reported w node (Comes leg piece) shown = tt
+  node_reported w node (Ends leg) shown = tt
+  node_reported w node (Passes now) shown = tt
 
   reported : (w : roles.World) (o : Option (Who × Event)) → IsShown some w o
       → Reported lines w o
@@ -190,16 +184,10 @@ module _ (lines more : List Line) where
 
   node_more : (w : roles.World) (node : Who) (event : Event) → ReportedAt lines w node event
       → ReportedAt (lines ++ more) w node event
-  node_more w (who.Out n) (Breaks leg) h = λ kind. explained_more w leg (h kind)
-  node_more w (who.In n) (Breaks leg) h = λ kind. explained_more w leg (h kind)
-  node_more w who.Client event h = tt
-  node_more w who.Server event h = tt
-  node_more w (who.Out n) (Comes leg piece) h = tt
-  node_more w (who.Out n) (Ends leg) h = tt
-  node_more w (who.Out n) (Passes now) h = tt
-  node_more w (who.In n) (Comes leg piece) h = tt
-  node_more w (who.In n) (Ends leg) h = tt
-  node_more w (who.In n) (Passes now) h = tt
+  node_more w node (Breaks leg) h = λ own. explained_more w leg (h own)
+  node_more w node (Comes leg piece) h = tt
+  node_more w node (Ends leg) h = tt
+  node_more w node (Passes now) h = tt
 
   reported_more : (w : roles.World) (o : Option (Who × Event)) → Reported lines w o
       → Reported (lines ++ more) w o
@@ -280,7 +268,7 @@ module _ (shown : (line : Line) (w : roles.World)
             })) w more (shown_told did.1 w more works.shown)) (tt, tt)));
       }
 
-  pub act_reported : (before : List Line) (line : Line) (world : AnyWorld)
+  act_reported : (before : List Line) (line : Line) (world : AnyWorld)
       → prepared (after Before before) line ≡ world → AreReported world before
       → AreReported (act world line).0 (before ++ line ∷ [])
   act_reported before line Before is h = tt
@@ -307,23 +295,13 @@ module _ (shown : (line : Line) (w : roles.World)
       (act_reported done line (prepared (after Before done) line) refl
       (prepared_reported (after Before done) line done (behind_lines Before done tt) h))))
 
-  pub recorded : (before : List Line) (line : Line)
+  recorded : (before : List Line) (line : Line)
       → AreReported (prepared (after Before before) line) before
   recorded before line =
       prepared_reported (after Before before) line before (behind_lines Before before tt)
       (recorded_from [] before tt)
 
 -- ---- what happened at a proxy was told it by a change
-
-one_split : {X : Type 0} (x : X) (xs ys : List X) → IsOneOf x (xs ++ ys)
-    → IsOneOf x xs ⊎ IsOneOf x ys
-one_split x [] ys h = inr h
-one_split x (z ∷ xs) ys (inl here) = inl (inl here)
-one_split x (z ∷ xs) ys (inr behind) = by (one_split x xs ys behind)
-  where
-    by : IsOneOf x xs ⊎ IsOneOf x ys → IsOneOf x (z ∷ xs) ⊎ IsOneOf x ys
-    by (inl h) = inl (inr h)
-    by (inr h) = inr h
 
 among_one : (event : moving.Event) (events before behind : List moving.Event)
     → events ≡ before ++ event ∷ behind → IsOneOf event events
@@ -380,7 +358,7 @@ module _ (P : Who → Event → Type 0) (node : Who) (leg : Leg) where
   told_broke w (OpensOut number cookie) h one =
       up_broke who.Client (leg_at ClientOut number) cookie one
   told_broke w (OpensSame number cookie) h one =
-      by (one_split (moving.Breaks leg)
+      by (one_of_both (moving.Breaks leg)
       (to_node who.Client node (moving.ComesUp (leg_at ClientIn number) cookie))
       (to_node (who.In (reader_before w number)) node
       (moving.ComesUp (leg_at ClientIn number) cookie)) one)
@@ -465,93 +443,72 @@ Once first cast = LegsComeUpOnce roles.rules roles.makers roles.deeds first.comp
 abbrev Traces : roles.World → roles.World → History → Type 0
 Traces first w h = IsTraced roles.rules roles.makers roles.deeds first.company w h
 
-once_stays : (first w : roles.World) (h : History) → Traces first w h → Once first w.cast
-    → (c : Change) → Once first (changed roles.rules roles.makers roles.deeds w c).cast
-once_stays first w h t once c =
-    subst (Once first)
-    (sym (cast_stays roles.rules roles.makers roles.deeds first.company w h t once c)) once
+once_stays : (first w : roles.World) → Once first w.cast → (c : Change)
+    → Once first (changed roles.rules roles.makers roles.deeds w c).cast
+once_stays first w once c =
+    subst (Once first) (sym (cast_stays roles.rules roles.makers roles.deeds w c)) once
 
-module _ (lines : List Line) (first : roles.World) (n : ℕ) where
-  out_known : (w : roles.World) (h : History) → Traces first w h
-      → ReportedAt lines w (who.Out n) (Breaks (leg_at OutServer n))
-      → (came_up (leg_at OutServer n) (h.outs n) ≡ true) ⊎ ReportsBreak lines (leg_at OutServer n)
-  out_known w h t told =
-      ⊎_elim (λ up. inl ((t.carried.each (leg_at OutServer n) U).put_up
-      (sym (is_up_at w.legs (leg_at OutServer n) side.Client) ∙ up))) (λ broken. inr broken)
-      (told refl)
+-- a proxy that is at the client's end of this leg to the server, by its place in a world
+pub record IsProxy {S : Type 0} (node : Who) (leg : Leg) (place : roles.World → Place S)
+    : Type 0 where
+  pub starts : events_of nothing node ≡ []
+  pub grows : (w : roles.World) (h : History) (c : Change)
+      → events_of (noted w h c) node
+      ≡ events_of h node ++ at_place (place w) (told_to w c node) (made_by w c node)
+  pub puts : (w : roles.World) → at w leg side.Client ≡ node
+  pub own : to_server node ≡ Some leg.kind
 
-  out_fine : (w : roles.World) (h : History) (cs : List Change)
-      → AreAllowed roles.rules roles.makers roles.deeds w cs → Once first w.cast → Traces first w h
-      → AllTold (Reported lines) w cs
-      → IsFine (leg_at OutServer n) (ReportsBreak lines (leg_at OutServer n)) (h.outs n)
-      → IsFine (leg_at OutServer n) (ReportsBreak lines (leg_at OutServer n))
-      ((all_noted roles.rules roles.makers roles.deeds w h cs).outs n)
-  out_fine w h [] allowed once t all fine = fine
-  out_fine w h (c ∷ cs) allowed once t all fine =
-      out_fine (changed roles.rules roles.makers roles.deeds w c) (noted w h c) cs allowed.1
-      (once_stays first w h t once c)
+pub an_out_proxy : (n : ℕ)
+    → IsProxy (who.Out n) (leg_at OutServer n) (λ (w : roles.World). out_place w.company n)
+an_out_proxy n =
+    record { starts = refl; grows = λ w h c. refl; puts = λ w. refl; own = refl }
+
+pub an_in_proxy : (n : ℕ)
+    → IsProxy (who.In n) (leg_at InServer n) (λ (w : roles.World). in_place w.company n)
+an_in_proxy n =
+    record { starts = refl; grows = λ w h c. refl; puts = λ w. refl; own = refl }
+
+module _ {S : Type 0} {node : Who} {leg : Leg} {place : roles.World → Place S}
+    (proxy : IsProxy node leg place) (lines : List Line) where
+  abbrev HasReported : History → Type 0
+  HasReported h = IsFine leg (ReportsBreak lines leg) (events_of h node)
+
+  known : (first w : roles.World) (h : History) → Traces first w h
+      → ReportedAt lines w node (Breaks leg)
+      → (came_up leg (events_of h node) ≡ true) ⊎ ReportsBreak lines leg
+  known first w h t told =
+      ⊎_elim (λ up. inl (ap (λ (x : Who). came_up leg (events_of h x)) (sym (proxy.puts w))
+      ∙ (t.carried.each leg U).put_up (sym (is_up_at w.legs leg side.Client) ∙ up)))
+      (λ broken. inr broken) (told proxy.own)
+
+  all_fine : (first w : roles.World) (h : History) (cs : List Change)
+      → AreAllowed roles.rules roles.makers roles.deeds w cs → Once first w.cast
+      → Traces first w h → AllTold (Reported lines) w cs → HasReported h
+      → HasReported (all_noted roles.rules roles.makers roles.deeds w h cs)
+  all_fine first w h [] allowed once t all fine = fine
+  all_fine first w h (c ∷ cs) allowed once t all fine =
+      all_fine first (changed roles.rules roles.makers roles.deeds w c) (noted w h c) cs allowed.1
+      (once_stays first w once c)
       (change_is_traced roles.rules roles.makers roles.deeds first.company w h t once c allowed.0)
       all.1
-      (fine_more (leg_at OutServer n) (ReportsBreak lines (leg_at OutServer n)) (h.outs n)
-      (at_place (out_place w.company n) (told_to w c (who.Out n)) (made_by w c (who.Out n))) fine
-      (λ one. out_known w h t
-      (place_broke (ReportedAt lines w) (who.Out n) (leg_at OutServer n) (out_place w.company n) w c
-      all.0 one)))
+      (subst (IsFine leg (ReportsBreak lines leg)) (sym (proxy.grows w h c))
+      (fine_more leg (ReportsBreak lines leg) (events_of h node)
+      (at_place (place w) (told_to w c node) (made_by w c node)) fine
+      (λ one. known first w h t
+      (place_broke (ReportedAt lines w) node leg (place w) w c all.0 one))))
 
-  in_known : (w : roles.World) (h : History) → Traces first w h
-      → ReportedAt lines w (who.In n) (Breaks (leg_at InServer n))
-      → (came_up (leg_at InServer n) (h.ins n) ≡ true) ⊎ ReportsBreak lines (leg_at InServer n)
-  in_known w h t told =
-      ⊎_elim (λ up. inl ((t.carried.each (leg_at InServer n) U).put_up
-      (sym (is_up_at w.legs (leg_at InServer n) side.Client) ∙ up))) (λ broken. inr broken)
-      (told refl)
-
-  in_fine : (w : roles.World) (h : History) (cs : List Change)
-      → AreAllowed roles.rules roles.makers roles.deeds w cs → Once first w.cast → Traces first w h
-      → AllTold (Reported lines) w cs
-      → IsFine (leg_at InServer n) (ReportsBreak lines (leg_at InServer n)) (h.ins n)
-      → IsFine (leg_at InServer n) (ReportsBreak lines (leg_at InServer n))
-      ((all_noted roles.rules roles.makers roles.deeds w h cs).ins n)
-  in_fine w h [] allowed once t all fine = fine
-  in_fine w h (c ∷ cs) allowed once t all fine =
-      in_fine (changed roles.rules roles.makers roles.deeds w c) (noted w h c) cs allowed.1
-      (once_stays first w h t once c)
-      (change_is_traced roles.rules roles.makers roles.deeds first.company w h t once c allowed.0)
-      all.1
-      (fine_more (leg_at InServer n) (ReportsBreak lines (leg_at InServer n)) (h.ins n)
-      (at_place (in_place w.company n) (told_to w c (who.In n)) (made_by w c (who.In n))) fine
-      (λ one. in_known w h t
-      (place_broke (ReportedAt lines w) (who.In n) (leg_at InServer n) (in_place w.company n) w c
-      all.0 one)))
-
-module _ (lines : List Line) (w : roles.World) (is : IsReported w lines)
-    (once : Once (roles.begun is.config) is.config) where
-  abbrev past : History
-  past =
-      all_noted roles.rules roles.makers roles.deeds (roles.begun is.config) nothing
-      is.run.leads.changes
-
-  begun_traced : Traces (roles.begun is.config) (roles.begun is.config) nothing
-  begun_traced =
-      traced_first roles.rules roles.makers roles.deeds (roles.begun is.config) (new is.config)
-
-  pub out_loss : (n : ℕ) → IsUnreached (leg_at OutServer n) (past.outs n)
-      → ReportsBreak lines (leg_at OutServer n)
-  out_loss n lost =
+  loss : (w : roles.World) (is : IsReported w lines)
+      → Once (roles.begun is.config) is.config
+      → IsUnreached leg (events_of (all_noted roles.rules roles.makers roles.deeds
+      (roles.begun is.config) nothing is.run.leads.changes) node)
+      → ReportsBreak lines leg
+  loss w is once lost =
+      let first = roles.begun is.config in
       ⊎_elim (λ up. absurd (true≢false (sym up ∙ lost.never))) (λ broken. broken)
-      (out_fine lines (roles.begun is.config) n (roles.begun is.config) nothing
-      is.run.leads.changes is.run.leads.allowed once begun_traced is.told
-      (fine_none (leg_at OutServer n) (ReportsBreak lines (leg_at OutServer n))) lost.before
-      lost.behind lost.split)
-
-  pub in_loss : (n : ℕ) → IsUnreached (leg_at InServer n) (past.ins n)
-      → ReportsBreak lines (leg_at InServer n)
-  in_loss n lost =
-      ⊎_elim (λ up. absurd (true≢false (sym up ∙ lost.never))) (λ broken. broken)
-      (in_fine lines (roles.begun is.config) n (roles.begun is.config) nothing
-      is.run.leads.changes is.run.leads.allowed once begun_traced is.told
-      (fine_none (leg_at InServer n) (ReportsBreak lines (leg_at InServer n))) lost.before
-      lost.behind lost.split)
+      (all_fine first first nothing is.run.leads.changes is.run.leads.allowed once
+      (traced_first roles.rules roles.makers roles.deeds first (new is.config)) is.told
+      (subst (IsFine leg (ReportsBreak lines leg)) (sym proxy.starts)
+      (fine_none leg (ReportsBreak lines leg))) lost.before lost.behind lost.split)
 
 -- ---- a client that a line closed is closed behind the line
 
@@ -610,29 +567,48 @@ module _ (ever : (why : Cause) (node : Who) (w v : roles.World)
       (leads_more roles.rules roles.makers roles.deeds u did.0 Reports rest tt)
       (closed_behind why there is.closed.change is.closed.closes)
 
--- where a line reports that the client is refused, it is closed behind the line
-pub concluded : ((line : Line) (w : roles.World)
+-- ---- a line that reports the client as refused
+
+module _ (shown : (line : Line) (w : roles.World)
     → ShownWorks roles.rules roles.makers roles.deeds
     (step_line roles.rules roles.makers roles.deeds line w).1 w
     (step_line roles.rules roles.makers roles.deeds line w).0)
-    → ((why : Cause) (node : Who) (w v : roles.World)
+    (ever : (why : Cause) (node : Who) (w v : roles.World)
     → Leads roles.rules roles.makers roles.deeds w v → HasClosed w.company node why
     → HasClosed v.company node why)
-    → (R : Type 0) (before : List Line) (line : Line) (node : Who) (leg : Leg) (status : ℕ)
-    → IsRefusedIn (prepared (after Before before) line) line node leg status
-    → ((v : roles.World) → IsReported v (before ++ line ∷ [])
-    → ClosedWith (cause.HttpRefused leg status) v.company.client.course → R)
-    → R
-concluded shown ever R before line node leg status refused go =
-    by (prepared (after Before before) line) refl (recorded shown before line) refused
-  where
-    by : (world : AnyWorld) → prepared (after Before before) line ≡ world
-        → AreReported world before → IsRefusedIn world line node leg status → R
-    by Before is reported refused = absurd refused
-    by (Direct w) is reported refused = absurd refused
-    by (Settings config) is reported refused = absurd refused
-    by (Roles w) is reported refused =
-        go (roles.step line w).0 (act_reported shown before line (Roles w) is reported)
-        (line_closed ever line w (cause.HttpRefused leg status)
-        (subst (λ (x : Who). IsLicensedAt w line x (cause.HttpRefused leg status))
-        refused.1.client refused.0))
+    (before : List Line) (line : Line) (node : Who) (leg : Leg) (status : ℕ) where
+  -- the client is closed behind the line
+  concluded : (R : Type 0) → IsRefusedIn (prepared (after Before before) line) line node leg status
+      → ((v : roles.World) → IsReported v (before ++ line ∷ [])
+      → ClosedWith (cause.HttpRefused leg status) v.company.client.course → R)
+      → R
+  concluded R refused go =
+      by (prepared (after Before before) line) refl (recorded shown before line) refused
+    where
+      by : (world : AnyWorld) → prepared (after Before before) line ≡ world
+          → AreReported world before → IsRefusedIn world line node leg status → R
+      by Before is reported refused = absurd refused
+      by (Direct w) is reported refused = absurd refused
+      by (Settings config) is reported refused = absurd refused
+      by (Roles w) is reported refused =
+          go (roles.step line w).0 (act_reported shown before line (Roles w) is reported)
+          (line_closed ever line w (cause.HttpRefused leg status)
+          (subst (λ (x : Who). IsLicensedAt w line x (cause.HttpRefused leg status))
+          refused.1.client refused.0))
+
+  -- and where a proxy was told then that its leg to the server broke, a line reports it
+  pub reported_loss : {S : Type 0} {other : Who} {server : Leg} {place : roles.World → Place S}
+      → IsProxy other server place
+      → ((config : WorldConfig) → Once (roles.begun config) config)
+      → ((config : WorldConfig) → AreInRange config → (v : roles.World)
+      → (run : ByLines roles.rules roles.makers roles.deeds (roles.begun config) v)
+      → ClosedWith (cause.HttpRefused leg status) v.company.client.course
+      → (status ≡ 503) × IsUnreached server (events_of (all_noted roles.rules roles.makers
+      roles.deeds (roles.begun config) nothing run.leads.changes) other))
+      → IsRefusedIn (prepared (after Before before) line) line node leg status
+      → (status ≡ 503) × ReportsBreak (before ++ line ∷ []) server
+  reported_loss {S} {other} {server} {place} proxy once lost refused =
+      concluded ((status ≡ 503) × ReportsBreak (before ++ line ∷ []) server) refused
+      (λ v rep closed.
+      let two = lost rep.config rep.ranges v rep.run closed in
+      (two.0, loss proxy (before ++ line ∷ []) v rep (once rep.config) two.1))

@@ -1,8 +1,8 @@
 -- a proxy that drew the refusal of status 503 was told that its server is lost, if it did not draw
 -- all of that while it went on
-use Rattle.std.proofs.Common.{◌≡◌, ℕ, inl, inr, List, [], ◌∷◌, ◌++◌, Bool, true, false, ◌||◌, Some, Ok, length, drop, get_or, arith, refl, sym, ap, ◌∙◌, subst, ⊎_elim}
+use Rattle.std.proofs.Common.{◌≡◌, ℕ, inl, inr, List, [], ◌∷◌, ◌++◌, Bool, true, false, ◌||◌, Ok, length, drop, get_or, arith, refl, sym, ap, ◌∙◌, subst, ⊎_elim}
 use Rattle.std.specs.Prelude.{◌==◌}
-use Rattle.std.specs.List.{AllByRecursion, list_any}
+use Rattle.std.specs.List.{list_any}
 use Rattle.std.proofs.lemmas.List.{append-nil}
 use Rattle.std.proofs.lemmas.List.Folds.{list_any-append}
 use mathlib.Core.List.{IsPrefix}
@@ -16,13 +16,7 @@ use Rattle.rh_http.specs.Texts.{refusal_text, status_of}
 use Rattle.rh_http.proofs.WrittenResponses.{refusal_told}
 use Rattle.rh_heads.specs.Verdicts.{response_verdict}
 use Rattle.rh_heads.proofs.Judged.{response_answered}
-use Rattle.rh_sig.specs.declared.name.Pipe.TheVariants.{CoD}
-use Rattle.rh_line.specs.declared.leg.LegKind.TheVariants.{ClientOut}
-use Rattle.rh_shell.specs.Carrying.{spelled}
-use Rattle.rh_shell.specs.Rules.{Message, Rules}
-use Rattle.rh_outproxy.specs.declared.state.OutProxyConfig.{OutProxyConfig}
-use Rattle.rh_outproxy.specs.Legible.{IsConfig}
-use Rattle.rh_reading.specs.Reading.{Begins}
+use Rattle.rh_shell.specs.Rules.{Rules}
 use Rattle.rh_line.specs.declared.leg.Leg.{Leg}
 use Rattle.rh_shell.specs.declared.course.Course.TheVariants.{Going, Refusing}
 use Rattle.rh_shell.specs.Moving.{Event, after_event, after_events}
@@ -32,12 +26,7 @@ use Rattle.rh_history.proofs.Runs.{events_append}
 use Rattle.rh_causes.specs.Refusals.{MayRefuseOn}
 use Rattle.rh_traced.specs.Refusals.{DrawsRefusal, DrawsRightly}
 use Rattle.rh_refused.specs.Refused.{BeginsRefused, DrewRefusal, IsUnreached}
-use Rattle.rh_refused.proofs.Drawn.{refused_more}
 use Rattle.rh_refused.proofs.Fronts.{accepted_front}
-use Rattle.rh_refused.proofs.InRefusals.{echo_success}
-use Rattle.rh_refused.proofs.InTexts.{IsEcho}
-use Rattle.rh_refused.proofs.OutRefusals.{put_none}
-use Rattle.rh_refused.proofs.OutTexts.{Succeeds}
 use Rattle.rh_refused.proofs.Unreached.{never_up}
 
 unavailable_by : (r : Refusal) → status_of r ≡ 503 → r ≡ Unavailable
@@ -166,22 +155,3 @@ unavailable_refuses leg = record {
     failure = λ out e. absurd (omega (arith, e));
   };
 }
-
--- so an out proxy that drew a front of what it put did not draw it
-pub out_fair : (config : OutProxyConfig) (put : List Message) (drawn : List ℕ) (leg : Leg)
-    → IsConfig config → leg.kind ≡ ClientOut → AllByRecursion (Succeeds config) put
-    → Begins (Some CoD) put → IsPrefix drawn (spelled put) → drawn ≡ refusal_text Unavailable → ⊥
-out_fair config put drawn leg range out all begins front whole =
-    put_none config range leg out 503 put all begins
-    (refused_more (refusal_text Unavailable) (spelled put) leg 503
-    (subst (λ (x : List ℕ). IsPrefix x (spelled put)) whole front) (unavailable_refuses leg))
-
--- nor an in proxy on its client's leg
-pub in_fair : (put : List Message) (drawn : List ℕ) (leg : Leg) → AllByRecursion IsEcho put
-    → IsPrefix drawn (spelled put) → drawn ≡ refusal_text Unavailable → ⊥
-in_fair put drawn leg all front whole =
-    let bad : 503 ≡ 200 =
-    echo_success put leg 503 all
-    (refused_more (refusal_text Unavailable) (spelled put) leg 503
-    (subst (λ (x : List ℕ). IsPrefix x (spelled put)) whole front) (unavailable_refuses leg)) in
-    absurd (omega (arith, bad))

@@ -109,7 +109,6 @@ pub fn a_refused_in_channel_was_refused_by_its_proxy<K>()
         (leg_at ClientIn n) ((history_at m w v by.leads).ins reader)) status) }
 {
     a_refused_client_heard_what_was_drawn::<K>();
-    legs_of_roles_come_up_once::<K>();
     directions_are_joined::<K>();
     an_in_proxy_refuses_first();
 }
@@ -174,18 +173,10 @@ pub fn a_refused_client_lost_its_server<K>()
         × IsUnreached (leg_at InServer n) ((history_at m w v by.leads).ins n) }
 {
     a_refused_client_heard_what_was_drawn::<K>();
+    a_client_refused_with_503_lost_its_server::<K>();
     directions_are_joined::<K>();
     a_recording_of_roles_is_known::<K>();
-    legs_of_roles_come_up_once::<K>();
     what_is_heard_was_drawn::<K, ClientRole, ServerRole, InProxyRole, OutProxyRole>();
-    a_proxy_draws_503_where_its_server_is_lost::<K>();
-    a_nodes_stream::<InProxyRole>();
-    a_nodes_stream::<OutProxyRole>();
-    proxies_keep_their_pipes();
-    a_leg_that_an_in_proxy_left_stays_unused();
-    a_leg_that_an_out_proxy_left_stays_unused();
-    an_out_proxy_begins();
-    a_proxy_refuses_for_a_reason();
     an_out_proxy_refuses_first();
     an_in_proxy_refuses_first();
     an_in_proxy_answers_echoes_alone();

@@ -26,9 +26,9 @@ use Rattle.rh_shell.specs.Shells.{Shell, begun, may_up, state_by, state_of}
 use Rattle.rh_shell.specs.Wires.{of_leg}
 use Rattle.rh_history.specs.Carried.{AreAcceptedAtEnd, ComesUpOnceAtEnd, IsAcceptedAtEnd, came_up, drawn_at_end, drawn_in, end_drawn_on, happened, heard_in, heard_on, is_up_of}
 use Rattle.rh_reading.specs.Reading.{messages_read}
-use Rattle.rh_history.proofs.Appended.{came_append, end_drawn_append, heard_append}
+use Rattle.rh_history.proofs.Appended.{came_append, end_drawn_append, heard_append, happened_append, end_accepted_append}
 use Rattle.rh_streams.specs.Streams as streams
-use Rattle.rh_streams.specs.Streams.{ComesUpWith, EndStream, IsCookie, RisesWith, HearsInTurn, NeverRefuses, Seated, StaysUnusedAtEnd, all_given, all_taken, is_end_up_on, is_head_on, is_up_on, taken_by}
+use Rattle.rh_streams.specs.Streams.{ComesUpWith, EndStream, IsCookie, RisesWith, HearsInTurn, NeverRefuses, Seated, StaysUnusedAtEnd, all_given, all_taken, is_end_up_on, is_up_on, taken_by}
 use Rattle.rh_streams.specs.Turns.{Stages, IsInTurn, stages_after}
 use Rattle.rh_streams.proofs.EndMoves.{Did, did_close, did_give, did_recycle, did_take, leads_one}
 use Rattle.rh_streams.proofs.Seats.{left_self, seat, silent_none, staged_on}
@@ -36,7 +36,9 @@ use Rattle.rh_streams.proofs.Kept.{FrontOf}
 use Rattle.rh_streams.proofs.Going.{kept_seated}
 use Rattle.rh_streams.proofs.Runs.{IsFit, Ran, ran_as, ran_by, ran_event, ran_none}
 use Rattle.rh_streams.proofs.Turns.{Passes}
-use Rattle.rh_streams.proofs.Ways.{Lifts, each_joined, each_of, either, or_false}
+use Rattle.rh_streams.proofs.Ways.{Lifts, each_joined, each_of, or_false}
+use Rattle.rh_history.proofs.Runs.{end_events_append}
+use Rattle.rh_order.proofs.ItemLists.{neither}
 
 is_open : (c : Course) (f : Phase) → state_by c f ≡ state.Open → f ≡ phase.Open
 is_open Going phase.Opening e = absurd cc
@@ -44,15 +46,6 @@ is_open Going phase.Open e = refl
 is_open Going phase.Ended e = absurd cc
 is_open (Closed why) f e = absurd cc
 is_open (Refusing why leg rest) f e = absurd cc
-
-happened_one : (es : List EndEvent) (e : EndEvent)
-    → happened (es ++ e ∷ []) ≡ happened es ++ happened (e ∷ [])
-happened_one [] e = refl
-happened_one (Happens x ∷ es) e = ap (λ l. x ∷ l) (happened_one es e)
-happened_one (IsGiven pdu ∷ es) e = happened_one es e
-happened_one (IsTaken ∷ es) e = happened_one es e
-happened_one (IsClosed ∷ es) e = happened_one es e
-happened_one (IsRecycled ∷ es) e = happened_one es e
 
 module _ {S : Type 0} (rules : Rules S) (acts : Acts S) (first : S) (rooms : Rooms)
     (pipe : Leg → Option Pipe) (piped : (s : S) (leg : Leg) → rules.pipe s leg ≡ pipe leg)
@@ -175,7 +168,7 @@ module _ {S : Type 0} (rules : Rules S) (acts : Acts S) (first : S) (rooms : Roo
           staged_on (ran.stages leg) (ran.stages leg) (seat leg s) (seat leg s) (up leg) refl
           (λ on. on) (ran.staged leg))
           (λ leg. refl) (λ have. tt) (λ leg rose. unused_on leg)
-          (λ leg e. (either (up leg) false e).0) (λ leg e. refl)
+          (λ leg e. (neither (up leg) false e).0) (λ leg e. refl)
 
       -- no act
       idle : After [] [] s
@@ -350,7 +343,7 @@ module _ {S : Type 0} (rules : Rules S) (acts : Acts S) (first : S) (rooms : Roo
       (λ leg. came_up leg (happened (events ++ event ∷ [])))
       (λ leg.
       sym (heard_append leg (happened events) (happened (event ∷ [])))
-      ∙ ap (heard_on leg) (sym (happened_one events event)))
+      ∙ ap (heard_on leg) (sym (happened_append events (event ∷ []))))
       (λ leg.
       ap (λ x. end_drawn_on rules acts start leg events ++ x)
       (ap (λ (x : Shell S). drawn_at_end rules acts x leg event) (sym is)
@@ -359,39 +352,8 @@ module _ {S : Type 0} (rules : Rules S) (acts : Acts S) (first : S) (rooms : Roo
       ∙ sym (end_drawn_append rules acts leg start events (event ∷ [])))
       (λ leg.
       sym (came_append leg (happened events) (happened (event ∷ [])))
-      ∙ ap (came_up leg) (sym (happened_one events event)))
+      ∙ ap (came_up leg) (sym (happened_append events (event ∷ []))))
       next
-
-  after_one : (s : Shell S) (events : List EndEvent) (event : EndEvent)
-      → after_end_events rules acts s (events ++ event ∷ [])
-      ≡ after_end_event rules acts (after_end_events rules acts s events) event
-  after_one s [] event = refl
-  after_one s (e ∷ events) event = after_one (after_end_event rules acts s e) events event
-
-  accepted_one : (s : Shell S) (events : List EndEvent) (event : EndEvent)
-      → AreAcceptedAtEnd rules acts s events
-      → IsAcceptedAtEnd rules (after_end_events rules acts s events) event
-      → AreAcceptedAtEnd rules acts s (events ++ event ∷ [])
-  accepted_one s [] event a b = (b, tt)
-  accepted_one s (e ∷ events) event a b =
-      (a.0, accepted_one (after_end_event rules acts s e) events event a.1 b)
-
-  happened_append : (es fs : List EndEvent) → happened (es ++ fs) ≡ happened es ++ happened fs
-  happened_append es [] =
-      ap happened (append-nil es) ∙ sym (append-nil (happened es))
-  happened_append es (f ∷ fs) =
-      ap happened (sym (append_assoc es (f ∷ []) fs))
-      ∙ happened_append (es ++ f ∷ []) fs
-      ∙ ap (λ l. l ++ happened fs) (happened_one es f)
-      ∙ append_assoc (happened es) (happened (f ∷ [])) (happened fs)
-      ∙ ap (λ l. happened es ++ l) (sym (front f))
-    where
-      front : (e : EndEvent) → happened (e ∷ fs) ≡ happened (e ∷ []) ++ happened fs
-      front (Happens x) = refl
-      front (IsGiven pdu) = refl
-      front IsTaken = refl
-      front IsClosed = refl
-      front IsRecycled = refl
 
   fits : (s : Shell S) (events later : List EndEvent) (event : EndEvent)
       → after_end_events rules acts start events ≡ s
@@ -439,10 +401,10 @@ module _ {S : Type 0} (rules : Rules S) (acts : Acts S) (first : S) (rooms : Roo
       (subst (RanTo ((given ++ g) ++ all_given rules acts next later)
       ((taken ++ k) ++ all_taken rules acts next later) end) same
       (run (given ++ g) (taken ++ k) (events ++ event ∷ []) later next
-      (after_one start events event
+      (end_events_append rules acts start events (event ∷ [])
       ∙ ap (λ (x : Shell S). after_end_event rules acts x event) is)
-      (accepted_one start events event before
-      (subst (λ (x : Shell S). IsAcceptedAtEnd rules x event) (sym is) accepted.0))
+      (end_accepted_append rules acts start events (event ∷ []) before
+      (subst (λ (x : Shell S). IsAcceptedAtEnd rules x event) (sym is) accepted.0, tt))
       (one_more given taken s events event is
       (next_of given taken s events event ran
       (fits s events later event is before accepted.0 turn have)))

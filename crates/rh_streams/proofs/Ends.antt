@@ -1,47 +1,23 @@
 -- the ends of a node: which one a leg has, and how it changes
 use Rattle.std.proofs.Common.{◌≡◌, ◌⊎◌, inl, inr, ℕ, zero, suc, ◌+◌, ◌<◌, List, [], ◌∷◌, ◌++◌, length, cond, Bool, true, false, nat_lt, Some, None, arith, refl, sym, ap, ◌∙◌, subst}
-use Rattle.std.specs.Prelude.{All, ◌==◌, ◌&&◌, slice_get, slice_set}
+use Rattle.std.specs.Prelude.{All, slice_get, slice_set}
 use Rattle.std.specs.declared.option.Option.{Option}
-use Rattle.std.proofs.lemmas.Bool.{eqb-true}
+use Rattle.std.proofs.lemmas.Bool.{true≢false}
 use Rattle.std.proofs.lemmas.Option.{slice_get_within, get_or_from_slice_get}
 use Rattle.std.proofs.lemmas.Bool.Decides.{nat_tests}
 use Rattle.rh_line.specs.declared.leg.Leg.{Leg}
-use Rattle.rh_line.specs.declared.leg.LegKind.{LegKind}
-use Rattle.rh_line.specs.declared.leg.LegKind.TheVariants.{ClientOut, OutServer, ClientIn, InServer}
 use Rattle.rh_shell.specs.NearEnds.{NearEnd}
-use Rattle.rh_shell.specs.Shells.{kind_number, is_of, same_leg, first_where, place, seated_at}
+use Rattle.rh_shell.specs.Shells.{same_leg, first_where, place, seated_at}
+use Rattle.rh_history.proofs.Wired.{cases_leg, same_itself}
 
 -- ---- the same leg
 
-abbrev kind_of : ℕ → LegKind
-kind_of zero = ClientOut
-kind_of (suc zero) = OutServer
-kind_of (suc (suc zero)) = ClientIn
-kind_of (suc (suc (suc n))) = InServer
-
-kind_back : (k : LegKind) → kind_of (kind_number k) ≡ k
-kind_back ClientOut = refl
-kind_back OutServer = refl
-kind_back ClientIn = refl
-kind_back InServer = refl
-
-pub both : (a b : Bool) → (a && b) ≡ true → (a ≡ true) × (b ≡ true)
-both true b h = (refl, h)
-both false b h = absurd cc
-
 pub leg_is : (a b : Leg) → same_leg a b ≡ true → a ≡ b
-leg_is a b h =
-    let two = both (is_of a.kind b) (a.number == b.number) h in
-    let kinds : a.kind ≡ b.kind =
-    sym (kind_back a.kind)
-    ∙ ap kind_of (eqb-true (kind_number a.kind) (kind_number b.kind) two.0)
-    ∙ kind_back b.kind in
-    let numbers : a.number ≡ b.number = eqb-true a.number b.number two.1 in
-    ap (λ (k : LegKind). record a { kind = k }) kinds
-    ∙ ap (λ (n : ℕ). record b { number = n }) numbers
-
-pub leg_itself : (leg : Leg) → same_leg leg leg ≡ true
-leg_itself leg = grind (arith, nat_tests)
+leg_is a b h = by (cases_leg a b)
+  where
+    by : (a ≡ b) ⊎ (same_leg a b ≡ false) → a ≡ b
+    by (inl e) = e
+    by (inr f) = absurd (true≢false (sym h ∙ f))
 
 -- ---- the first end of a leg
 
@@ -155,7 +131,7 @@ set_new : (leg : Leg) (ends : List NearEnd) (i : ℕ) (new : NearEnd) → new.le
 set_new leg [] i new is none below = absurd (omega (arith, below))
 set_new leg (x ∷ xs) zero new is none below =
     ap (λ t. cond t (Some new) (end_of leg xs))
-    (ap (λ (l : Leg). same_leg l leg) is ∙ leg_itself leg)
+    (ap (λ (l : Leg). same_leg l leg) is ∙ same_itself leg)
 set_new leg (x ∷ xs) (suc i) new is none below =
     let two = none_in leg x xs none in
     ap (λ t. cond t (Some x) (end_of leg (slice_set xs i new))) two.0
@@ -204,7 +180,7 @@ module _ (ends : List NearEnd) (i : ℕ) (new : NearEnd) (none : end_of new.leg 
       by true e = set_new new.leg ends i new refl none (grind (arith, nat_tests))
       by false e =
           push_is new.leg ends new (inl none)
-          ∙ ap (λ t. cond t (Some new) (end_of new.leg ends)) (leg_itself new.leg)
+          ∙ ap (λ t. cond t (Some new) (end_of new.leg ends)) (same_itself new.leg)
 
   pub seated_other : (leg : Leg) → same_leg new.leg leg ≡ false
       → IsLeftOf (end_of leg ends) (end_of leg (seated_at ends i new))

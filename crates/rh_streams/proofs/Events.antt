@@ -28,7 +28,7 @@ use Rattle.rh_shell.specs.Shells.{Shell, end_at, with_end, place, close, refuse,
 use Rattle.rh_shell.specs.Wires.{of_leg}
 use Rattle.rh_history.specs.Carried.{drawn_in, heard_in, is_up_of}
 use Rattle.rh_streams.proofs.Draws.{Drew, draw_drew}
-use Rattle.rh_streams.proofs.Ends.{AreApart, both, end_has, end_is, end_leg, end_of, leg_is, leg_itself, same_apart, seated_apart, seated_new, seated_other}
+use Rattle.rh_streams.proofs.Ends.{AreApart, end_has, end_is, end_leg, end_of, leg_is, same_apart, seated_apart, seated_new, seated_other}
 use Rattle.rh_streams.proofs.Hears.{Heard, nothing_held}
 use Rattle.rh_streams.proofs.Pings.{pings}
 use Rattle.rh_streams.proofs.Pieces.{piece_heard}
@@ -37,12 +37,15 @@ use Rattle.rh_streams.specs.Turns.{Stages, AreInTurnFrom}
 use Rattle.rh_streams.proofs.Staging.{IsNext, LeavesStages, all_stages, anything, leaves_none, next_itself, stage_none, stage_other}
 use Rattle.rh_streams.proofs.Seats.{StopKeeps, at_work, on_answers, on_left, on_stopped, staged_on, beside_seat, here_seat, left_as, left_of, left_self, marked_left, seat, seated_held, silent_closed, silent_none, stop_here, stop_keeps, stop_there, was_seat}
 use Rattle.rh_streams.proofs.Turns as turns
-use Rattle.rh_streams.proofs.Turns.{Seat, Nowhere, Sits, Answers, IsAside, IsOn, IsStaged, IsLeft, IsQuiet, IsSilent, IsStill, WasSeated, Turns, Passes, Tells, Comes, Fails, more_there, seat_by, seat_refused, seat_stopped}
-use Rattle.rh_streams.proofs.Ways.{Way, Lifts, either, nowhere, or_false, way_none, way_one}
+use Rattle.rh_streams.proofs.Turns.{Nowhere, Sits, Answers, IsOn, IsStaged, IsLeft, IsQuiet, IsSilent, Turns, Passes, Tells, Comes, Fails, more_there, seat_by}
+use Rattle.rh_streams.proofs.Ways.{Way, Lifts, nowhere, or_false, way_none, way_one}
+use Rattle.rh_history.proofs.Wired.{same_itself}
+use Rattle.std.proofs.lemmas.Bool.{and_parts}
+use Rattle.rh_order.proofs.ItemLists.{neither}
 
 no_lift : (move : Move) → ((leg : Leg) → is_up_on leg move ≡ false) → Lifts move
 no_lift (Up leg cookie) none =
-    absurd (let bad : true ≡ false = sym (leg_itself leg) ∙ none leg in cc)
+    absurd (let bad : true ≡ false = sym (same_itself leg) ∙ none leg in cc)
 no_lift (HeadCame leg text) none = tt
 no_lift (PduCame leg count pdu) none = tt
 no_lift (PacketCame leg count named) none = tt
@@ -56,9 +59,9 @@ no_lifts : (moves : List Move) → ((leg : Leg) → list_any (is_up_on leg) move
     → AllByRecursion Lifts moves
 no_lifts [] none = tt
 no_lifts (move ∷ moves) none = (
-  no_lift move (λ leg. (either (is_up_on leg move) (list_any (is_up_on leg) moves) (none leg)).0),
+  no_lift move (λ leg. (neither (is_up_on leg move) (list_any (is_up_on leg) moves) (none leg)).0),
   no_lifts moves
-      (λ leg. (either (is_up_on leg move) (list_any (is_up_on leg) moves) (none leg)).1),
+      (λ leg. (neither (is_up_on leg move) (list_any (is_up_on leg) moves) (none leg)).1),
 )
 
 module _ {S : Type 0} (rules : Rules S) (pipes : Leg → Option Pipe) (rose : Leg → Bool) where
@@ -285,10 +288,10 @@ module _ {S : Type 0} (rules : Rules S) (pipes : Leg → Option Pipe) (rose : Le
         by_wants : (t : Bool) → wants rules s k ≡ t → s.course ≡ Going
             → Calm (cond t (unreached rules s k) s)
         by_wants true e going =
-            let room = both (is_working rules s)
+            let room = and_parts (is_working rules s)
             (has_room rules s k.kind && rules.wants s.role k) e in
             by_client (cause.LegBroken k) (rules.answers_on s.role) refl
-            (both (has_room rules s k.kind) (rules.wants s.role k) room.1).1 going
+            (and_parts (has_room rules s k.kind) (rules.wants s.role k) room.1).1 going
         by_wants false e going = calm_none
 
         by_end : (o : Option NearEnd) → end_at s k ≡ o → s.course ≡ Going
@@ -366,7 +369,7 @@ module _ {S : Type 0} (rules : Rules S) (pipes : Leg → Option Pipe) (rose : Le
         next g all =
             subst (IsOn (g end.leg))
             (was_seat s k end.leg end at
-            (ap (same_leg k) on_leg ∙ leg_itself k) going)
+            (ap (same_leg k) on_leg ∙ same_itself k) going)
             (all end.leg).on
 
         next_by : (g : Stages) (leg : Leg) → AreInTurnFrom rules p g h.way.moves
@@ -643,13 +646,13 @@ module _ {S : Type 0} (rules : Rules S) (pipes : Leg → Option Pipe) (rose : Le
       where
         first : (is_working rules s ≡ true)
             × ((has_room rules s k.kind && rules.may_up s.role k) ≡ true)
-        first = both (is_working rules s) (has_room rules s k.kind && rules.may_up s.role k) may
+        first = and_parts (is_working rules s) (has_room rules s k.kind && rules.may_up s.role k) may
 
         work : (s.course ≡ Going) × (not (is_ended (rules.phase s.role)) ≡ true)
         work = at_work s.course (rules.phase s.role) first.0
 
         room : (has_room rules s k.kind ≡ true) × (rules.may_up s.role k ≡ true)
-        room = both (has_room rules s k.kind) (rules.may_up s.role k) first.1
+        room = and_parts (has_room rules s k.kind) (rules.may_up s.role k) first.1
 
         at : ℕ
         at = free_place rules s.role k.kind s.legs
@@ -663,7 +666,7 @@ module _ {S : Type 0} (rules : Rules S) (pipes : Leg → Option Pipe) (rose : Le
             by_end : (o : Option NearEnd) → end_of k s.legs ≡ o → o ≡ None
             by_end None e = refl
             by_end (Some end) e =
-                absurd (empty end (was_seat s k k end e (leg_itself k) work.0))
+                absurd (empty end (was_seat s k k end e (same_itself k) work.0))
 
         quiet : (leg : Leg) → IsQuiet rules (pipes leg) leg p (moved rules p (Up k cookie))
             (Up k cookie ∷ []) []

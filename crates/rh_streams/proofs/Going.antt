@@ -17,11 +17,12 @@ use Rattle.rh_shell.specs.Rules.{Rules}
 use Rattle.rh_shell.specs.Shells.{Shell, bytes_by, broken_by, drawn_by, end_at, ended_by, is_working, may_up, passed, same_leg, up, with_leg}
 use Rattle.rh_shell.specs.Wires.{of_leg}
 use Rattle.rh_streams.specs.Streams.{Seated, is_refused_on}
-use Rattle.rh_streams.proofs.Ends.{both, end_is, end_of}
+use Rattle.rh_streams.proofs.Ends.{end_is, end_of}
 use Rattle.rh_streams.proofs.Kept.{IsSeated, Kept}
 use Rattle.rh_streams.proofs.Seats.{at_work, seat}
 use Rattle.rh_streams.proofs.Turns as turns
-use Rattle.rh_streams.proofs.Turns.{Seat, Answers, Nowhere, Sits, Turns, IsQuiet, seat_by}
+use Rattle.rh_streams.proofs.Turns.{Answers, Nowhere, Sits, Turns, seat_by}
+use Rattle.std.proofs.lemmas.Bool.{and_parts}
 
 -- ---- where a node refuses nobody it refused nobody before
 
@@ -73,7 +74,7 @@ module _ {S : Type 0} (rules : Rules S) (leg : Leg) (s : Shell S) where
           → WasFree (cond t (passed rules (record s { now = now })) s)
       by true w e =
           ap (is_refused_on leg) (at_work s.course (rules.phase s.role)
-          (both (is_working rules s) (nat_le s.now now) w).0).0
+          (and_parts (is_working rules s) (nat_le s.now now) w).0).0
       by false w e = e
 
 -- ---- and what it drew was put

@@ -16,8 +16,8 @@ use Rattle.rh_shell.specs.Moves.{Move, Up, HeadCame, PduCame, PacketCame, Puts, 
 use Rattle.rh_shell.specs.Rules.{Message}
 use Rattle.rh_reading.specs.Reading.{Reading, frame_read, read_by, read_byte, reading, reading_after, text_read}
 use Rattle.rh_streams.specs.Streams.{IsFirstHead, IsHeadOf, is_head_on}
-use Rattle.rh_streams.proofs.Ends.{leg_itself}
-use Rattle.rh_streams.proofs.Ways.{either}
+use Rattle.rh_history.proofs.Wired.{same_itself}
+use Rattle.rh_order.proofs.ItemLists.{neither}
 
 -- ---- a byte
 
@@ -238,14 +238,14 @@ pub no_heads : (P : List ℕ → Type 0) (moves : List Move)
 no_heads P [] none = tt
 no_heads P (move ∷ moves) none = (
   one move
-      (λ leg. (either (is_head_on leg move) (list_any (is_head_on leg) moves) (none leg)).0),
+      (λ leg. (neither (is_head_on leg move) (list_any (is_head_on leg) moves) (none leg)).0),
   no_heads P moves
-      (λ leg. (either (is_head_on leg move) (list_any (is_head_on leg) moves) (none leg)).1),
+      (λ leg. (neither (is_head_on leg move) (list_any (is_head_on leg) moves) (none leg)).1),
 )
   where
     one : (m : Move) → ((leg : Leg) → is_head_on leg m ≡ false) → HeadBy P m
     one (HeadCame leg text) off =
-        absurd (let bad : true ≡ false = sym (leg_itself leg) ∙ off leg in cc)
+        absurd (let bad : true ≡ false = sym (same_itself leg) ∙ off leg in cc)
     one (Up leg cookie) off = tt
     one (PduCame leg count pdu) off = tt
     one (PacketCame leg count named) off = tt
@@ -274,7 +274,7 @@ module _ (leg : Leg) (heard : List ℕ) where
       → AllByRecursion (IsHeadOf leg heard) moves
   heads_none [] none = tt
   heads_none (move ∷ moves) none =
-      let two = either (is_head_on leg move) (list_any (is_head_on leg) moves) none in
+      let two = neither (is_head_on leg move) (list_any (is_head_on leg) moves) none in
       (one move two.0, heads_none moves two.1)
     where
       one : (m : Move) → is_head_on leg m ≡ false → IsHeadOf leg heard m

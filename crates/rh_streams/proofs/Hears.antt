@@ -40,10 +40,10 @@ use Rattle.rh_streams.specs.Streams.{is_live}
 use Rattle.rh_streams.proofs.Bytes.{ByteIs, byte_is}
 use Rattle.rh_streams.specs.Turns as turn
 use Rattle.rh_streams.specs.Turns.{Stages, AreInTurnFrom, takes_frames}
-use Rattle.rh_streams.proofs.Ends.{leg_itself}
 use Rattle.rh_streams.proofs.Heads.{HeadBy, HeadIn, IsHead, head_whole, no_heads}
 use Rattle.rh_streams.proofs.Staging.{IsNext, LeavesStages, all_stages, leaves_none}
 use Rattle.rh_streams.proofs.Ways.{Way, nowhere, way_as, way_none, way_one}
+use Rattle.rh_history.proofs.Wired.{same_itself}
 
 pub on_leg_append : (leg : Leg) (xs ys : List Message)
     → on_leg leg (xs ++ ys) ≡ on_leg leg xs ++ on_leg leg ys
@@ -353,7 +353,7 @@ module _ {S : Type 0} (rules : Rules S) (moment : ℕ) (p : Passage S) (end : Ne
           ≡ Some (stage_of taken.behind)
       behind_is taken ok g =
           ap (λ t. cond t (Some (turn.behind_head (rules.head p.role end.leg text).1)) (g end.leg))
-          (leg_itself end.leg)
+          (same_itself end.leg)
           ∙ ap (λ (r : Result HeadTaken HeadRefused). Some (turn.behind_head r)) ok
 
       by_behind : (role : S) (behind : Behind) (length : ℕ) → q.role ≡ role

@@ -6,6 +6,7 @@ mod Hears
 mod Pieces
 mod Draws
 pub mod Ends
+pub mod LegLogs
 mod Turns
 mod Kept
 mod Seats

@@ -18,6 +18,7 @@ use Rattle.rh_shell.specs.Rules.{Rules}
 use Rattle.rh_shell.specs.Shells.{Shell, begun, may_up}
 use Rattle.rh_shell.specs.Wires.{of_leg}
 use Rattle.rh_history.specs.Carried.{AreAccepted, ComesUpOnce, IsAccepted, came_up, drawn_in, drawn_on, heard_in, heard_on, is_up_of}
+use Rattle.rh_history.proofs.Runs.{events_append}
 use Rattle.rh_history.proofs.Appended.{accepted_append, came_append, drawn_append, heard_append}
 use Rattle.rh_streams.specs.Streams.{HasPipes, HearsInTurn, IsDrawn, RefusalDrawn, StaysUnused, Stream, is_head_on, is_refused_on, is_up_on}
 use Rattle.rh_streams.specs.Turns.{Stages, AreInTurn, IsInTurn, RefusesInTurn, none_up, stages_after}
@@ -138,12 +139,6 @@ module _ {S : Type 0} (rules : Rules S) (first : S) (rooms : Rooms) (pipe : Leg 
       (λ leg. heard_on leg events) (λ leg. drawn_on rules start leg events)
       (λ leg. came_up leg events) ran fit)
 
-  after_one : (s : Shell S) (events : List Event) (event : Event)
-      → after_events rules s (events ++ event ∷ [])
-      ≡ after_event rules (after_events rules s events) event
-  after_one s [] event = refl
-  after_one s (e ∷ events) event = after_one (after_event rules s e) events event
-
   run : (events later : List Event) (s : Shell S) → after_events rules start events ≡ s
       → AreAccepted rules start events → RanTo s events → AreAccepted rules s later
       → HearsInTurn (events ++ later) → RanTo (after_events rules s later) (events ++ later)
@@ -163,7 +158,8 @@ module _ {S : Type 0} (rules : Rules S) (first : S) (rooms : Rooms) (pipe : Leg 
       } in
       subst (RanTo (after_events rules next later)) all
       (run (events ++ event ∷ []) later next
-      (after_one start events event ∙ ap (λ (x : Shell S). after_event rules x event) is)
+      (events_append rules start events (event ∷ [])
+      ∙ ap (λ (x : Shell S). after_event rules x event) is)
       (accepted_append rules start events (event ∷ []) before
       (subst (λ (x : Shell S). IsAccepted rules x event) (sym is) accepted.0, tt))
       (ran_one events s event is ran fit) accepted.1

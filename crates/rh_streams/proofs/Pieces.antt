@@ -23,7 +23,8 @@ use Rattle.rh_streams.proofs.Heads.{HeadBy, each_as, head_as, head_more, head_th
 use Rattle.rh_streams.proofs.Hears.{Heard, IsExact, IsRefused, IsSame, Judges, byte_heard, on_leg_append}
 use Rattle.rh_streams.specs.Turns.{Stages, AreInTurnFrom}
 use Rattle.rh_streams.proofs.Staging.{IsNext, all_stages, all_stages_append, in_turn_append}
-use Rattle.rh_streams.proofs.Ways.{each_joined, either, way_as, way_none, way_then}
+use Rattle.rh_streams.proofs.Ways.{each_joined, way_as, way_none, way_then}
+use Rattle.rh_order.proofs.ItemLists.{neither}
 
 pub prefix_of_none : (a : List Message) → IsPrefix a [] → a ≡ []
 prefix_of_none [] p = refl
@@ -125,7 +126,7 @@ module _ {S : Type 0} (rules : Rules S) where
       by true e = inl (refl, e)
       by false e =
           inr (subst (λ (r : S). is_over rules u.end r ≡ false) (sym is)
-          (either (is_stopped u.stop) (is_over rules u.end u.role) e).1)
+          (neither (is_stopped u.stop) (is_over rules u.end u.role) e).1)
 
   -- a piece, and then another one that is not heard any more
   heard_deaf : (p : Passage S) (end : NearEnd) (u : Turn S) (xs ys : List ℕ)
@@ -254,7 +255,7 @@ module _ {S : Type 0} (rules : Rules S) where
       still_on (inr h) = inr h
 
       quiet : is_stopped u.stop ≡ false
-      quiet = (either (is_stopped u.stop) (is_over rules u.end u.role) on).0
+      quiet = (neither (is_stopped u.stop) (is_over rules u.end u.role) on).0
 
       was_on : ((first.messages ≡ []) × (is_deaf rules u ≡ true))
           ⊎ (is_over rules end p.role ≡ false) → is_over rules end p.role ≡ false
@@ -294,7 +295,7 @@ module _ {S : Type 0} (rules : Rules S) where
       subst (λ (r : S). Heard rules p t.end (heard rules now t.end r b) (b ∷ [])) is
       (byte_heard rules now p t.end b
       (subst (λ (r : S). is_over rules t.end r ≡ false) (sym is)
-      (either (is_stopped t.stop) (is_over rules t.end t.role) on).1) held)
+      (neither (is_stopped t.stop) (is_over rules t.end t.role) on).1) held)
 
   pub piece_heard : (now : ℕ) (p : Passage S) (t : Turn S) (piece : List ℕ) → p.role ≡ t.role
       → is_stopped t.stop ≡ false → IsHeld t.end
@@ -322,7 +323,7 @@ module _ {S : Type 0} (rules : Rules S) where
               | false ↦ λ heard_on.
                   heard_then p t.end u (hear rules now u bs) (b ∷ []) bs first heard_on
                   (piece_heard now first.passage u bs first.role
-                  (either (is_stopped u.stop) (is_over rules u.end u.role) heard_on).0
+                  (neither (is_stopped u.stop) (is_over rules u.end u.role) heard_on).0
                   first.held)
             ] refl)
       ] refl

@@ -7,9 +7,9 @@ use Rattle.rh_shell.specs.Moves.{Passage, Pings, moved}
 use Rattle.rh_shell.specs.NearEnds.{NearEnd, is_finished}
 use Rattle.rh_shell.specs.Rules.{Rules}
 use Rattle.rh_shell.specs.Shells.{is_quiet, is_quiet_by, pinged}
-use Rattle.rh_streams.proofs.Ends.{both}
 use Rattle.rh_streams.proofs.Staging.{LeavesStages, anything, leaves_none, leaves_then}
 use Rattle.rh_streams.proofs.Ways.{Way, nowhere, way_none, way_one, way_then}
+use Rattle.std.proofs.lemmas.Bool.{and_parts}
 
 module _ {S : Type 0} (rules : Rules S) where
   -- moves lead to this role, and log nothing
@@ -20,6 +20,17 @@ module _ {S : Type 0} (rules : Rules S) where
     pub came : passage.came ≡ p.came
     pub put : passage.put ≡ p.put
     pub leaves : LeavesStages rules anything p way.moves
+
+  -- where nothing moves
+  stands : (p : Passage S) (role : S) → p.role ≡ role → Reaches p role
+  stands p role is = record {
+    passage = p;
+    way = way_none rules nowhere p;
+    role_is = is;
+    came = refl;
+    put = refl;
+    leaves = leaves_none rules anything p;
+  }
 
   ping_one : (p : Passage S) (role : S) (k : Leg) (t : Bool) → p.role ≡ role
       → (t ≡ true → is_some (rules.ping_after role k) ≡ true)
@@ -36,20 +47,13 @@ module _ {S : Type 0} (rules : Rules S) where
       stays = λ g. refl;
     };
   }
-  ping_one p role k false is after = record {
-    passage = p;
-    way = way_none rules nowhere p;
-    role_is = is;
-    came = refl;
-    put = refl;
-    leaves = leaves_none rules anything p;
-  }
+  ping_one p role k false is after = stands p role is
 
   -- a Ping becomes due where the role says after which time
   quiet_some : (now : ℕ) (role : S) (end : NearEnd) → is_quiet rules role now end ≡ true
       → is_some (rules.ping_after role end.leg) ≡ true
   quiet_some now role end quiet =
-      by (rules.ping_after role end.leg) (both (not (is_finished rules role end))
+      by (rules.ping_after role end.leg) (and_parts (not (is_finished rules role end))
       (is_quiet_by (rules.ping_after role end.leg) end.put_at now) quiet).1
     where
       by : (o : Option ℕ) → is_quiet_by o end.put_at now ≡ true → is_some o ≡ true
@@ -58,14 +62,7 @@ module _ {S : Type 0} (rules : Rules S) where
 
   pub pings : (now : ℕ) (ends : List NearEnd) (p : Passage S) (role : S) → p.role ≡ role
       → Reaches p (pinged rules now ends role)
-  pings now [] p role is = record {
-    passage = p;
-    way = way_none rules nowhere p;
-    role_is = is;
-    came = refl;
-    put = refl;
-    leaves = leaves_none rules anything p;
-  }
+  pings now [] p role is = stands p role is
   pings now (end ∷ ends) p role is =
       let one = ping_one p role end.leg (is_quiet rules role now end) is
       (quiet_some now role end) in

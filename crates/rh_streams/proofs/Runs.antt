@@ -28,7 +28,8 @@ use Rattle.rh_streams.proofs.Seats.{seat}
 use Rattle.rh_streams.proofs.Kept.{Kept, turns_keep}
 use Rattle.rh_streams.proofs.Going.{free_before, goes_keep}
 use Rattle.rh_streams.proofs.Turns.{Nowhere, Sits, IsStaged, Turns}
-use Rattle.rh_streams.proofs.Ways.{Lifts, each_joined, either}
+use Rattle.rh_streams.proofs.Ways.{Lifts, each_joined}
+use Rattle.rh_order.proofs.ItemLists.{neither}
 
 -- a passage with the node's role, which was reached, and what is kept of each leg; with cookies
 -- alone, if the events have them; and what was drawn where the node refuses nobody
@@ -215,8 +216,8 @@ module _ {S : Type 0} (rules : Rules S) (pipes : Leg → Option Pipe) (Sound : L
           way_stays rules At more stays step.heads (ups_of rules pipes up event) ran.passage
           step.passage ran.moves ran.stages leg step.way staged.0 ran.at
           (others event fit leg rose))
-          (λ leg e. (either (up leg) (is_up_of leg event) e).0)
-          (λ leg e. silent event fit leg (either (up leg) (is_up_of leg event) e).0)
+          (λ leg e. (neither (up leg) (is_up_of leg event) e).0)
+          (λ leg e. silent event fit leg (neither (up leg) (is_up_of leg event) e).0)
         where
           -- a leg that comes up did not before
           down : (k : Leg) → may_up rules s k ≡ true

@@ -12,7 +12,8 @@ use Rattle.rh_shell.specs.Rules.{Rules}
 use Rattle.rh_streams.specs.Streams.{is_up_on}
 use Rattle.rh_streams.specs.Turns.{Stages, AreInTurnFrom, IsInTurn, behind_head, is_head_on, stages_after, takes_frames}
 use Rattle.rh_streams.proofs.Ends.{leg_is}
-use Rattle.rh_streams.proofs.Ways.{Way, either}
+use Rattle.rh_streams.proofs.Ways.{Way}
+use Rattle.rh_order.proofs.ItemLists.{neither}
 
 -- behind all moves
 abbrev pub all_stages : {S : Type 0} → Rules S → Passage S → Stages → List Move → Stages
@@ -99,8 +100,8 @@ module _ {S : Type 0} (rules : Rules S) where
       → all_stages rules p g moves leg ≡ g leg
   stage_other p g leg [] headless upless = refl
   stage_other p g leg (m ∷ ms) headless upless =
-      let heads = either (is_head_on leg m) (list_any (is_head_on leg) ms) headless in
-      let ups = either (is_up_on leg m) (list_any (is_up_on leg) ms) upless in
+      let heads = neither (is_head_on leg m) (list_any (is_head_on leg) ms) headless in
+      let ups = neither (is_up_on leg m) (list_any (is_up_on leg) ms) upless in
       stage_other (moved rules p m) (stages_after rules p.role g m) leg ms heads.1 ups.1
       ∙ one_other p g leg m heads.0 ups.0
 
@@ -110,7 +111,7 @@ module _ {S : Type 0} (rules : Rules S) where
       → all_stages rules p g moves leg ≡ None
   stage_none p g leg [] turn upless none = none
   stage_none p g leg (m ∷ ms) turn upless none =
-      let ups = either (is_up_on leg m) (list_any (is_up_on leg) ms) upless in
+      let ups = neither (is_up_on leg m) (list_any (is_up_on leg) ms) upless in
       stage_none (moved rules p m) (stages_after rules p.role g m) leg ms turn.1 ups.1
       (by (is_head_on leg m) refl ups.0)
     where
@@ -166,7 +167,7 @@ module _ {S : Type 0} (rules : Rules S) where
         → is_in_use rules (all_moved rules p ns).role leg ≡ false
     all_stay p ms g [] leg at a turn u un = un
     all_stay p ms g (n ∷ ns) leg at a turn u un =
-        let two = either (is_up_on leg n) (list_any (is_up_on leg) ns) u in
+        let two = neither (is_up_on leg n) (list_any (is_up_on leg) ns) u in
         all_stay (moved rules p n) (ms ++ n ∷ []) (stages_after rules p.role g n) ns leg
         (more p ms g n at a.0 turn.0) a.1 turn.1 two.1 (stays p ms g n leg at a.0 two.0 un)
 

@@ -22,9 +22,9 @@ use Rattle.rh_shell.specs.Shells.{same_leg}
 use Rattle.rh_shell.specs.Wires.{of_leg}
 use Rattle.rh_streams.specs.Streams.{is_head_on}
 use Rattle.rh_streams.proofs.Draws.{Drew}
-use Rattle.rh_streams.proofs.Ends.{leg_itself}
 use Rattle.rh_streams.proofs.Hears.{Heard}
 use Rattle.rh_streams.proofs.Staging.{IsNext}
+use Rattle.rh_history.proofs.Wired.{same_itself}
 
 -- ---- what a node has of a leg
 
@@ -119,7 +119,7 @@ more_here leg log old ms at is same =
     ap (of_leg leg) is ∙ of_append leg old (on_leg at ms)
     ∙ ap (λ (l : List Message). of_leg leg old ++ l)
     (of_on leg at ms ∙ ap (λ t. cond t ms [])
-    (ap (λ (l : Leg). same_leg l leg) same ∙ leg_itself leg))
+    (ap (λ (l : Leg). same_leg l leg) same ∙ same_itself leg))
 
 pub more_there : (leg : Leg) (log old : List OnLeg) (ms : List Message) (at : Leg)
     → log ≡ old ++ on_leg at ms → same_leg at leg ≡ false → of_leg leg log ≡ of_leg leg old

@@ -15,7 +15,7 @@ use Rattle.rh_told.proofs.Parts.{said_more, part}
 use Rattle.rh_told.proofs.Shut.{stays_passed}
 use Rattle.rh_told.proofs.Splits.{runs_until, told_moment}
 
-taken_append : (end : Side) (xs ys : List Event)
+pub taken_append : (end : Side) (xs ys : List Event)
     → taken end (xs ++ ys) ≡ taken end xs ++ taken end ys
 taken_append end [] ys = refl
 taken_append end (x ∷ xs) ys =

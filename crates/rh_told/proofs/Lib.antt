@@ -6,5 +6,5 @@ mod Acting
 mod Lines
 mod Splits
 mod Shut
-mod Behind
+pub mod Behind
 mod GoingOn

@@ -1,5 +1,5 @@
 -- what each change from a traced world keeps of the world and its history, lists of changes keep
-use Rattle.std.proofs.Common.{◌≡◌, Bool, true, List, [], ◌∷◌, refl, sym, ◌∙◌, subst}
+use Rattle.std.proofs.Common.{◌≡◌, Bool, true, List, [], ◌∷◌, refl, sym, subst}
 use Rattle.std.specs.List.{list_all}
 use Rattle.std.proofs.lemmas.Bool.{and_parts}
 use Rattle.rh_nodes.specs.Company.{Company, Rulebook}
@@ -7,10 +7,10 @@ use Rattle.rh_nodes.specs.Giving.{Deeds}
 use Rattle.rh_nodes.specs.Opening.{Makers}
 use Rattle.rh_nodes.specs.World.{World}
 use Rattle.rh_history.specs.Changes.{Change, MayChange, AreAllowed, changed, all_changed, Leads, WorksBy}
-use Rattle.rh_history.specs.Histories.{History, noted, all_noted, nothing, IsNew}
+use Rattle.rh_history.specs.Histories.{History, noted, all_noted}
 use Rattle.rh_history.specs.Carried.{IsTraced, LegsComeUpOnce}
-use Rattle.rh_history.proofs.Recordings.{traced_first}
-use Rattle.rh_history.proofs.Tracing.{cast_stays, change_is_traced}
+use Rattle.rh_history.proofs.Leading.{cast_stays}
+use Rattle.rh_history.proofs.Tracing.{change_is_traced}
 
 all_true : (changes : List Change) → list_all (λ (change : Change). true) changes ≡ true
 all_true [] = refl
@@ -32,7 +32,7 @@ module _ {K C S I O : Type 0} (r : Rulebook C S I O) (m : Makers K I O) (d : Dee
         let parts = and_parts (kind change) (list_all kind changes) are in
         all_keep (changed r m d w change) (noted w h change) changes allowed.1 parts.1
         (subst (λ (x : K). LegsComeUpOnce r m d first x)
-        (sym (cast_stays r m d first w h t once change)) once)
+        (sym (cast_stays r m d w change)) once)
         (change_is_traced r m d first w h t once change allowed.0)
         (keeps w h t once holds change allowed.0 parts.0)
 
@@ -56,12 +56,3 @@ module _ {K C S I O : Type 0} (r : Rulebook C S I O) (m : Makers K I O) (d : Dee
         kept_by (λ change. true) P
         (λ u g t once holds change may is. keeps u g t once holds change may) w v h
         (record { leads = leads; work = all_true leads.changes })
-
-module _ {K C S I O : Type 0} (r : Rulebook C S I O) (m : Makers K I O) (d : Deeds C S) where
-  -- who makes the nodes stays
-  pub cast_kept : (w v : World K C S I O) → IsNew w → LegsComeUpOnce r m d w.company w.cast
-      → Leads r m d w v → v.cast ≡ w.cast
-  cast_kept w v new once leads =
-      kept_along r m d w.company (λ u h. u.cast ≡ w.cast)
-      (λ u h t again same change may. cast_stays r m d w.company u h t again change ∙ same) w v
-      nothing leads once (traced_first r m d w new) refl

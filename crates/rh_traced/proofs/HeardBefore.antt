@@ -13,6 +13,7 @@ use Rattle.rh_line.specs.declared.leg.LegKind.TheVariants.{ClientOut, ClientIn}
 use Rattle.rh_record.specs.declared.answer.Who.{Who}
 use Rattle.rh_record.specs.declared.answer.Who.TheVariants.{Client, Server, In, Out}
 use Rattle.rh_shell.specs.Moving as moving
+use Rattle.rh_shell.specs.Rules.{Rules}
 use Rattle.rh_nodes.specs.declared.place.Place.{Place}
 use Rattle.rh_nodes.specs.declared.place.Place.TheVariants.{Absent, Here, Gone}
 use Rattle.rh_nodes.specs.Company.{Company, Rulebook}
@@ -82,6 +83,15 @@ module _ {K C S I O : Type 0} (r : Rulebook C S I O) (m : Makers K I O) (d : Dee
   told_nothing change may silent other leg = refl
 
   module _ (change : Change) (may : MayChange r w change) (silent : is_fed change ≡ false) where
+    place_hears : {P : Type 0} (rules : Rules P) (place : Place P) (node : Who)
+        (events : List moving.Event) (leg : Leg)
+        → heard_on leg (events ++ at_place place (told_to w change node) (made_by w change node))
+        ≡ heard_on leg events
+    place_hears rules place node events leg =
+        heard_same leg events (at_place place (told_to w change node) (made_by w change node))
+        (place_unheard leg place (told_to w change node) (made_by w change node)
+        (told_nothing change may silent node leg) ((moments rules w change node).unheard leg))
+
     hears_nothing : (node : Who) (leg : Leg)
         → heard_on leg (events_of (noted w h change) node) ≡ heard_on leg (events_of h node)
     hears_nothing Client leg =
@@ -95,17 +105,9 @@ module _ {K C S I O : Type 0} (r : Rulebook C S I O) (m : Makers K I O) (d : Dee
         ∙ heard_same leg (happened h.server) (told_to w change Server)
         (told_nothing change may silent Server leg)
     hears_nothing (In n) leg =
-        heard_same leg (h.ins n) (at_place (in_place w.company n) (told_to w change (In n))
-        (made_by w change (In n)))
-        (place_unheard leg (in_place w.company n) (told_to w change (In n))
-        (made_by w change (In n)) (told_nothing change may silent (In n) leg)
-        ((moments r.in_proxy w change (In n)).unheard leg))
+        place_hears r.in_proxy (in_place w.company n) (In n) (h.ins n) leg
     hears_nothing (Out n) leg =
-        heard_same leg (h.outs n) (at_place (out_place w.company n) (told_to w change (Out n))
-        (made_by w change (Out n)))
-        (place_unheard leg (out_place w.company n) (told_to w change (Out n))
-        (made_by w change (Out n)) (told_nothing change may silent (Out n) leg)
-        ((moments r.out_proxy w change (Out n)).unheard leg))
+        place_hears r.out_proxy (out_place w.company n) (Out n) (h.outs n) leg
 
   -- ---- whoever reads
 

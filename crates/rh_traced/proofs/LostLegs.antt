@@ -6,6 +6,7 @@ use Rattle.rh_rts.specs.declared.command.Cookie.{Cookie}
 use Rattle.rh_line.specs.declared.cause.Cause.{Cause}
 use Rattle.rh_line.specs.declared.cause.Cause.TheVariants as cause
 use Rattle.rh_line.specs.declared.leg.Leg.{Leg}
+use Rattle.rh_line.specs.declared.leg.LegKind.{LegKind}
 use Rattle.rh_line.specs.declared.state.Verdict.{Verdict}
 use Rattle.rh_line.specs.declared.state.Verdict.TheVariants as verdict
 use Rattle.rh_shell.specs.declared.answers.Phase.{Phase}
@@ -21,8 +22,11 @@ use Rattle.rh_shell.specs.Rules.{Rules}
 use Rattle.rh_shell.specs.Shells.{Shell, state_by, state_of, verdict_by, with_verdict, may_up, with_leg, end_at, drawn_at, drawn_by, put_back}
 use Rattle.rh_nodes.specs.declared.event.Event.{Event}
 use Rattle.rh_nodes.specs.declared.event.Event.TheVariants.{Comes, Ends, Breaks, Passes}
+use Rattle.rh_nodes.specs.declared.place.Place.{Place}
+use Rattle.rh_nodes.specs.declared.place.Place.TheVariants.{Here}
+use Rattle.rh_nodes.specs.Settling.{leg_at}
 use Rattle.rh_nodes.specs.Telling.{cause_in, closing, told}
-use Rattle.rh_history.specs.Histories.{heard}
+use Rattle.rh_history.specs.Histories.{IsRun, heard}
 use Rattle.rh_causes.specs.Closings.{ClosesWith}
 use Rattle.rh_causes.specs.Refusals.{MayRefuseOn}
 use Rattle.rh_traced.specs.Refusals.{IsAmong, HasReason}
@@ -193,3 +197,24 @@ has_reason client server events (Closed first) may among = tt
 has_reason client server events (Refusing first leg rest) (inl request) among = inl request
 has_reason client server events (Refusing first leg rest) (inr tells) among =
     inr (tells, among tells.cause)
+
+-- and so has one that is there in a world, by the legs of its number
+pub has_reason_at : {S : Type 0} (rules : Rules S) (made first node : Shell S) (legs : ℕ)
+    (place : Place S) (client server : LegKind) (number n : ℕ) (events : List moving.Event)
+    → made ≡ first → place ≡ Here node legs → IsRun rules made events place → number ≡ n
+    → MayRefuseOn (leg_at client number) (leg_at server number)
+    (after_events rules first events).course
+    → (ClosedWith (cause.LegBroken (leg_at server number))
+    (after_events rules first events).course
+    → IsAmong (moving.Breaks (leg_at server number)) events)
+    → HasReason (leg_at client n) (leg_at server n) events node.course
+has_reason_at {S} rules made first node legs place client server number n events is there run own
+    may among =
+    let ran : node ≡ after_events rules made events =
+    subst (λ (p : Place S). IsRun rules made events p) there run in
+    subst (λ (s : Shell S). HasReason (leg_at client n) (leg_at server n) events s.course)
+    (ap (λ (s : Shell S). after_events rules s events) (sym is) ∙ sym ran)
+    (subst (λ (k : ℕ). HasReason (leg_at client k) (leg_at server k) events
+    (after_events rules first events).course) own
+    (has_reason (leg_at client number) (leg_at server number) events
+    (after_events rules first events).course may among))

@@ -14,6 +14,7 @@ use Rattle.rh_http.specs.Texts.{refusal_text}
 use Rattle.rh_line.specs.declared.cause.Cause.{Cause}
 use Rattle.rh_line.specs.declared.cause.Cause.TheVariants as cause
 use Rattle.rh_line.specs.declared.leg.Leg.{Leg}
+use Rattle.rh_line.specs.declared.leg.LegKind.{LegKind}
 use Rattle.rh_shell.specs.declared.course.Course.{Course}
 use Rattle.rh_shell.specs.declared.course.Course.TheVariants.{Going, Closed, Refusing}
 use Rattle.rh_shell.specs.declared.stop.Stop.{Stop}
@@ -23,10 +24,11 @@ use Rattle.rh_shell.specs.Moving.{after_event, after_events}
 use Rattle.rh_shell.specs.NearEnds.{NearEnd, is_ended, is_finished, marked}
 use Rattle.rh_shell.specs.Rules.{Rules}
 use Rattle.rh_shell.specs.Shells.{Shell, same_leg, state_by, is_working, has_room, wants, with_leg, with_end, end_at, stopped, bytes_at, bytes_by, lost, ended_at, ended_by, is_heard, unreached_by, unreached, broken_at, broken_by, drawn_by, passed, passed_by, first_silent, close, stop_by, refuse}
+use Rattle.rh_nodes.specs.Settling.{leg_at}
 use Rattle.rh_history.specs.Carried.{drawn_in, drawn_on}
 use Rattle.rh_history.proofs.Wired.{cases_leg, same_itself}
 use Rattle.rh_nodes.specs.declared.event.Event.{Event}
-use Rattle.rh_history.proofs.NodeTraces.{is_draws}
+use Rattle.rh_history.proofs.NodeTraces.{is_draws, draws_none}
 use Rattle.rh_order.proofs.Prefixes.{prefix_behind}
 use Rattle.rh_causes.specs.Closings.{ClosesWith}
 use Rattle.rh_shell.specs.Laws.{ClosedWith}
@@ -72,54 +74,39 @@ front_of_none (x ∷ a) p = absurd cc
 broken_same : (a b : Leg) → cause.LegBroken a ≡ cause.LegBroken b → a ≡ b
 broken_same a b e = cc
 
+-- a node that does not go on is closed, or refuses
+by_stop : (P : Course → Type 0) → ((why : Cause) → P (Closed why))
+    → ((why : Cause) (client : Leg) (rest : List ℕ) → P (Refusing why client rest))
+    → (c : Course) → is_going c ≡ false → P c
+by_stop P closed refusing Going g = absurd (true≢false g)
+by_stop P closed refusing (Closed why) g = closed why
+by_stop P closed refusing (Refusing why client rest) g = refusing why client rest
+
 module _ {S : Type 0} (rules : Rules S) where
   -- ---- a node that stopped
 
   -- nothing but a draw changes it
   still : (s : Shell S) (e : moving.Event) → is_going s.course ≡ false → is_draws e ≡ false
       → after_event rules s e ≡ s
-  still s (moving.ComesUp leg cookie) g q = by s.course g
-    where
-      by : (c : Course) → is_going c ≡ false
-          → (if is_working_by (state_by c (rules.phase s.role))
-          && (has_room rules s leg.kind && rules.may_up s.role leg)
-          then with_leg rules s leg cookie else s) ≡ s
-      by Going g = absurd (true≢false g)
-      by (Closed why) g = refl
-      by (Refusing why client rest) g = refl
-  still s (moving.Hears leg piece) g q = by s.course g
-    where
-      by : (c : Course) → is_going c ≡ false → bytes_by rules s leg piece c ≡ s
-      by Going g = absurd (true≢false g)
-      by (Closed why) g = refl
-      by (Refusing why client rest) g = refl
-  still s (moving.Ends leg) g q = by s.course g
-    where
-      by : (c : Course) → is_going c ≡ false → ended_by rules s leg c ≡ s
-      by Going g = absurd (true≢false g)
-      by (Closed why) g = refl
-      by (Refusing why client rest) g = refl
-  still s (moving.Breaks leg) g q = by s.course g
-    where
-      by : (c : Course) → is_going c ≡ false → broken_by rules s leg c ≡ s
-      by Going g = absurd (true≢false g)
-      by (Closed why) g = refl
-      by (Refusing why client rest) g = refl
+  still s (moving.ComesUp leg cookie) g q =
+      by_stop (λ (c : Course). (if is_working_by (state_by c (rules.phase s.role))
+      && (has_room rules s leg.kind && rules.may_up s.role leg)
+      then with_leg rules s leg cookie else s) ≡ s) (λ why. refl) (λ why client rest. refl)
+      s.course g
+  still s (moving.Hears leg piece) g q =
+      by_stop (λ (c : Course). bytes_by rules s leg piece c ≡ s) (λ why. refl)
+      (λ why client rest. refl) s.course g
+  still s (moving.Ends leg) g q =
+      by_stop (λ (c : Course). ended_by rules s leg c ≡ s) (λ why. refl)
+      (λ why client rest. refl) s.course g
+  still s (moving.Breaks leg) g q =
+      by_stop (λ (c : Course). broken_by rules s leg c ≡ s) (λ why. refl)
+      (λ why client rest. refl) s.course g
   still s (moving.Draws leg room) g q = absurd (true≢false q)
-  still s (moving.Ticks now) g q = by s.course g
-    where
-      by : (c : Course) → is_going c ≡ false
-          → (if is_working_by (state_by c (rules.phase s.role)) && nat_le s.now now
-          then passed rules (record s { now = now }) else s) ≡ s
-      by Going g = absurd (true≢false g)
-      by (Closed why) g = refl
-      by (Refusing why client rest) g = refl
-
-  -- what such an event draws, where the node does not draw
-  undrawn : (s : Shell S) (leg : Leg) (e : moving.Event) → is_draws e ≡ false
-      → drawn_in rules s leg e ≡ []
-  undrawn s leg (moving.Draws other room) q = absurd (true≢false q)
-  undrawn s leg e q = refl
+  still s (moving.Ticks now) g q =
+      by_stop (λ (c : Course). (if is_working_by (state_by c (rules.phase s.role))
+      && nat_le s.now now then passed rules (record s { now = now }) else s) ≡ s) (λ why. refl)
+      (λ why client rest. refl) s.course g
 
   -- ---- a closed one draws nothing
 
@@ -131,7 +118,7 @@ module _ {S : Type 0} (rules : Rules S) where
     ap (λ c. (drawn_by rules s other room c).0) h,
   )
   closed_event s why leg e h =
-      (undrawn s leg e refl, still s e (ap is_going h) refl)
+      (draws_none rules s leg e refl, still s e (ap is_going h) refl)
 
   closed_draws : (s : Shell S) (why : Cause) (leg : Leg) (es : List moving.Event)
       → s.course ≡ Closed why → drawn_on rules s leg es ≡ []
@@ -200,7 +187,7 @@ module _ {S : Type 0} (rules : Rules S) where
         refusing_draw s rest room es h later other
     refusing_event s rest e es h later =
         subst (λ x. IsPrefix (x ++ drawn_on rules (after_event rules s e) leg es) (of rest))
-        (sym (undrawn s leg e refl))
+        (sym (draws_none rules s leg e refl))
         (later (after_event rules s e) rest
         (ap (λ (t : Shell S). t.course) (still s e (ap is_going h) refl) ∙ h))
 
@@ -465,3 +452,16 @@ module _ {S : Type 0} (rules : Rules S) (first : Shell S) (client server leg : L
       → DrawsRightly rules first server leg events
   draws_rightly events (inl going) = inl going
   draws_rightly events (inr refusal) = inr (refusal, its_server events refusal)
+
+-- by the leg to the server of its number
+pub draws_at : {S : Type 0} (rules : Rules S) (made first : Shell S) (client server : LegKind)
+    (number n : ℕ) (leg : Leg) → made ≡ first → number ≡ n
+    → ((events : List moving.Event) → MayRefuseOn (leg_at client number) (leg_at server number)
+    (after_events rules first events).course)
+    → (events : List moving.Event)
+    → DrawsGoing rules first leg events ⊎ DrawsRefusal rules first leg events
+    → DrawsRightly rules made (leg_at server n) leg events
+draws_at {S} rules made first client server number n leg is own on events draws =
+    subst (λ (s : Shell S). DrawsRightly rules s (leg_at server n) leg events) (sym is)
+    (subst (λ (k : ℕ). DrawsRightly rules first (leg_at server k) leg events) own
+    (draws_rightly rules first (leg_at client number) (leg_at server number) leg on events draws))

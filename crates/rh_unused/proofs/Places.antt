@@ -7,10 +7,7 @@ use Rattle.std.specs.declared.option.Option.{Option}
 use Rattle.std.proofs.lemmas.Bool.Decides.{nat_tests}
 use Rattle.std.proofs.lemmas.List.Folds.{find_at}
 use Rattle.rh_server.specs.States.{is_some}
-
-neither : (a b : Bool) → (a || b) ≡ false → (a ≡ false) × (b ≡ false)
-neither true b h = absurd cc
-neither false b h = (refl, h)
+use Rattle.rh_order.proofs.ItemLists.{neither}
 
 no_one : (a b : Bool) → a ≡ false → b ≡ false → (a || b) ≡ false
 no_one true b p q = absurd cc

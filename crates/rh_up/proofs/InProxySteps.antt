@@ -411,43 +411,25 @@ less_goes x z dues is q =
     subst (λ (y : Successor). Goes (record x { successor = y }) 0
     (record x { successor = one_less z; due = dues })) (sym is) (by z)
   where
+    alike : {a b : Seen} → top b.number b.successor ≡ top a.number a.successor
+        → 0 + untold b.successor ≤ untold a.successor
+        → (a.number ≤ top a.number a.successor → b.number ≤ top b.number b.successor)
+        → (IsLast a → IsLast b) → (AreQuiet a.due → AreQuiet b.due) → Goes a 0 b
+    alike newest less above last quiet = record {
+      newest = newest;
+      untold = less;
+      above = above;
+      last = last;
+      quiet = quiet;
+    }
+
     by : (y : Successor)
         → Goes (record x { successor = y }) 0 (record x { successor = one_less y; due = dues })
-    by Absent = record {
-      newest = refl;
-      untold = omega arith;
-      above = λ h. h;
-      last = λ h. h;
-      quiet = q;
-    }
-    by (successors.Up number) = record {
-      newest = refl;
-      untold = omega arith;
-      above = λ h. h;
-      last = λ h. h;
-      quiet = q;
-    }
-    by (Joined leg Told) = record {
-      newest = refl;
-      untold = omega arith;
-      above = λ h. h;
-      last = λ h. h;
-      quiet = q;
-    }
-    by (Joined leg Follows) = record {
-      newest = refl;
-      untold = omega arith;
-      above = λ h. h;
-      last = λ h. h;
-      quiet = q;
-    }
-    by (Joined leg (TellsServer behind)) = record {
-      newest = refl;
-      untold = omega arith;
-      above = λ h. h;
-      last = λ h. h;
-      quiet = q;
-    }
+    by Absent = alike refl (omega arith) (λ h. h) (λ h. h) q
+    by (successors.Up number) = alike refl (omega arith) (λ h. h) (λ h. h) q
+    by (Joined leg Told) = alike refl (omega arith) (λ h. h) (λ h. h) q
+    by (Joined leg Follows) = alike refl (omega arith) (λ h. h) (λ h. h) q
+    by (Joined leg (TellsServer behind)) = alike refl (omega arith) (λ h. h) (λ h. h) q
 
 -- the packet that waits longest
 waiting_goes : (s : InProxy) (dues : List Due) → s.waiting.due ≡ dues → AreQuiet dues

@@ -29,7 +29,7 @@ use Rattle.rh_inproxy.specs.Order.{item_came, item_put}
 use Rattle.rh_server.specs.Order as server_order
 use Rattle.rh_server.specs.Order.{in_items, items_if}
 use Rattle.rh_proxies_begin.specs.Pipes.{ci as client_leg, is as server_leg}
-use Rattle.rh_up.proofs.LegLogs.{leg_items}
+use Rattle.rh_streams.proofs.LegLogs.{leg_items}
 use Rattle.rh_up.proofs.Told.{told_items}
 use Rattle.rh_up.proofs.Unread.{refusal_unread}
 
@@ -39,31 +39,35 @@ abbrev pub AgreeOn : (Message → List Item) → (Message → List Item) → Typ
 AgreeOn put_view came_view =
     (message : Message) → seen came_view (read_of message) ≡ put_view message
 
+-- by packets, where both see the same of texts and PDUs
+agree : (put_view came_view : Message → List Item)
+    → ((bytes : List ℕ) → [] ≡ put_view (Text bytes))
+    → ((pdu : List ℕ) → seen came_view (read_of (Pdu pdu)) ≡ put_view (Pdu pdu))
+    → ((x : Named) → seen came_view (named_messages (Ok x)) ≡ put_view (Packet x))
+    → AgreeOn put_view came_view
+agree put_view came_view text pdu packet (Text bytes) = text bytes
+agree put_view came_view text pdu packet (Pdu bytes) = pdu bytes
+agree put_view came_view text pdu packet (Packet x) = packet x
+
+up_packets : (x : Named) → seen item_came (named_messages (Ok x)) ≡ up_mark x
+up_packets x = search rules
+
 -- on a ci leg
 pub up_views : AgreeOn up_items item_came
-up_views (Text bytes) = refl
-up_views (Pdu pdu) = refl
-up_views (Packet packet) = by packet
-  where
-    by : (x : Named) → seen item_came (named_messages (Ok x)) ≡ up_mark x
-    by x = search rules
+up_views = agree up_items item_came (λ bytes. refl) (λ pdu. refl) up_packets
+
+in_packets : (x : Named) → seen in_items (named_messages (Ok x)) ≡ item_put (Packet x)
+in_packets x = search rules
 
 -- on an is leg
 pub in_views : AgreeOn item_put in_items
-in_views (Text bytes) = refl
-in_views (Pdu pdu) = refl
-in_views (Packet packet) = by packet
-  where
-    by : (x : Named) → seen in_items (named_messages (Ok x)) ≡ item_put (Packet x)
-    by x = search rules
+in_views = agree item_put in_items (λ bytes. refl) (λ pdu. refl) in_packets
+
+told_packets : (x : Named) → seen told_items (named_messages (Ok x)) ≡ told_items (Packet x)
+told_packets x = search rules
 
 pub told_views : AgreeOn told_items told_items
-told_views (Text bytes) = refl
-told_views (Pdu pdu) = refl
-told_views (Packet packet) = by packet
-  where
-    by : (x : Named) → seen told_items (named_messages (Ok x)) ≡ told_items (Packet x)
-    by x = search rules
+told_views = agree told_items told_items (λ bytes. refl) (λ pdu. refl) told_packets
 
 -- ---- the logs of a leg, as each role tells them
 
@@ -178,5 +182,5 @@ drawn_leg carries nothing put_view came_view agree put came drawn heard begins b
 drawn_leg carries nothing put_view came_view agree put came drawn heard begins back (inr p) h r =
     subst (λ (items : List Item). IsPrefix items (seen put_view put))
     (sym (nothing came_view (Some IsU) came (refusal_text p.1) drawn heard
-    (refusal_unread p.1) p.2 h r))
+    (refusal_unread (Some IsU) p.1) p.2 h r))
     (seen put_view put, refl)

@@ -37,6 +37,18 @@ abbrev server_moved : ℕ → List EndMove → EndPassage Server
 server_moved window moves =
     all_end_moved server.rules server.acts (end_started (server.first window)) moves
 
+-- what is put first on each leg
+pub record BeginLaws : Type 0 where
+  pub requests : (config : ClientConfig) (moves : List EndMove) → AreAllowedMoves config moves
+      → BeginsLegs pipe_put (client_moved config moves).passage.put
+  pub begins : (config : InProxyConfig) (moves : List Move)
+      → AreAllowed proxy.rules (started (first config)) moves
+      → Begins (Some IsU) (of_leg (server_leg config.number) (proxy_moved config moves).put)
+  pub elsewhere : (config : InProxyConfig) (moves : List Move) (leg : Leg)
+      → AreAllowed proxy.rules (started (first config)) moves → is_client_leg leg ≡ false
+      → same_leg (server_leg config.number) leg ≡ false
+      → of_leg leg (proxy_moved config moves).put ≡ []
+
 pub record Laws : Type 0 where
   -- order
   pub gives : (config : ClientConfig) (moves : List EndMove) → AreAllowedMoves config moves
@@ -48,16 +60,7 @@ pub record Laws : Type 0 where
       → AreAllowedAtEnd server.rules server.acts (end_started (server.first window)) moves
       → let p = server_moved window moves in
       TakerLaw (taker_of p.taken p.passage.role) (has_leg moves p.passage.role) (got p)
-  -- what is put first on each leg
-  pub requests : (config : ClientConfig) (moves : List EndMove) → AreAllowedMoves config moves
-      → BeginsLegs pipe_put (client_moved config moves).passage.put
-  pub begins : (config : InProxyConfig) (moves : List Move)
-      → AreAllowed proxy.rules (started (first config)) moves
-      → Begins (Some IsU) (of_leg (server_leg config.number) (proxy_moved config moves).put)
-  pub elsewhere : (config : InProxyConfig) (moves : List Move) (leg : Leg)
-      → AreAllowed proxy.rules (started (first config)) moves → is_client_leg leg ≡ false
-      → same_leg (server_leg config.number) leg ≡ false
-      → of_leg leg (proxy_moved config moves).put ≡ []
+  pub begin : BeginLaws
   pub refuses : (config : InProxyConfig) (leg : Leg) → is_client_leg leg ≡ false
       → RefusesFirst proxy.rules (first config) (in_pipe config) leg
   pub turned : (first : InProxy) (pipe : Leg → Option Pipe) (leg : Leg)
@@ -72,7 +75,7 @@ pub record AreBegun (c : EndPassage ClientRole) (i : ℕ → Passage InProxy) : 
   pub proxies : (m : ℕ) → Begins (Some IsU) (of_leg (server_leg m) (i m).put)
   pub lone : (m n : ℕ) → n ≢ m → of_leg (server_leg n) (i m).put ≡ []
 
-module _ (laws : Laws) (config : ClientConfig) (window : ℕ) (in_config : ℕ → InProxyConfig)
+module _ (laws : BeginLaws) (config : ClientConfig) (window : ℕ) (in_config : ℕ → InProxyConfig)
     (client_events server_events : List EndEvent) (ins : ℕ → List Event) (made : ℕ → Bool)
     (reader : ℕ → ℕ)
     (g : GoesUp config window in_config client_events server_events ins made reader) where

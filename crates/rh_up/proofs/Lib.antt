@@ -1,8 +1,7 @@
-pub mod LegLogs
-mod Rising
+pub mod Rising
 mod Counts
 mod Told
-mod Unread
+pub mod Unread
 pub mod JoinedLegs
 mod ServerLegs
 mod ServerPuts

@@ -37,7 +37,7 @@ use Rattle.rh_up.proofs.InProxyMoves as proxy_moves
 use Rattle.rh_up.proofs.InProxyMoves.{in_proxy_holds}
 use Rattle.rh_up.proofs.JoinedLegs.{AgreeOn, up_views, in_views, told_views, client_put, proxy_came, server_came, proxy_put, drawn_leg}
 use Rattle.rh_up.proofs.Laws.{Laws, AreBegun}
-use Rattle.rh_up.proofs.LegLogs.{leg_reads_back}
+use Rattle.rh_streams.proofs.LegLogs.{leg_reads_back}
 use Rattle.rh_up.proofs.Rising.{rose}
 use Rattle.rh_up.proofs.Told.{told_items, carried, has_any, spoke}
 

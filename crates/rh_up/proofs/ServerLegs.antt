@@ -38,6 +38,7 @@ use Rattle.rh_server.specs.Ending.{end_a2_on_leg, end_a2_waiting, end_a2_at, on_
 use Rattle.rh_server.specs.Servers.{on_is, on_os, packet, packet_by, pdu_by}
 use Rattle.rh_server.specs.InReplacement.{ended_if, opens_next, opens_leg, waiting_place, first_waiting, next_opened, becomes_current, moved_if, take, has_fresh_below, announced, in_r1_a2_by, in_r1_a2_at, on_in_r1_a2, leaves_by, hands_over, on_in_r1_a6, in_r2_a2_on, on_in_r2_a2}
 use Rattle.rh_up.proofs.Told.{tells}
+use Rattle.rh_legible.proofs.Each.{each_so}
 
 -- ---- what holds of each element of a list
 
@@ -64,11 +65,6 @@ pub each_pushed : {X : Type 0} (P : X → Type 0) (xs : List X) (x : X) → AllB
     → AllByRecursion P (xs ++ x ∷ [])
 each_pushed P [] x h is = (is, tt)
 each_pushed P (y ∷ xs) x h is = (h.0, each_pushed P xs x h.1 is)
-
-each_more : {X : Type 0} (P Q : X → Type 0) → ((x : X) → P x → Q x) → (xs : List X)
-    → AllByRecursion P xs → AllByRecursion Q xs
-each_more P Q more [] h = tt
-each_more P Q more (x ∷ xs) h = (more x h.0, each_more P Q more xs h.1)
 
 -- the first element that passes a test passes it
 found_passes : {X : Type 0} (test : X → Bool) (xs : List X)
@@ -168,7 +164,7 @@ same_kept u x n s t same k =
 pub more_kept : (u v x y : ℕ → Bool) (n : ℕ) (s : Server) → ((k : ℕ) → u k ≡ true → v k ≡ true)
     → ((k : ℕ) → x k ≡ true → y k ≡ true) → Kept u x n s → Kept v y n s
 more_kept u v x y n s ups spoken k = record {
-  ins = each_more (Stands u x) (Stands v y) (λ leg h. (
+  ins = each_so (Stands u x) (Stands v y) (λ leg h. (
     ups leg.number h.0,
     or_more (is_fresh leg.stage) (x leg.number) (y leg.number) (spoken leg.number) h.1,
   )) s.ins k.ins;

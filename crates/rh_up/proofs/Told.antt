@@ -13,7 +13,7 @@ use Rattle.rh_shell.specs.Moves.{OnLeg}
 use Rattle.rh_shell.specs.Shells.{same_leg}
 use Rattle.rh_shell.specs.Wires.{of_leg}
 use Rattle.rh_proxies_begin.specs.Pipes.{is as server_leg}
-use Rattle.rh_up.proofs.LegLogs.{one_more}
+use Rattle.rh_streams.proofs.LegLogs.{one_more}
 use Rattle.rh_shell.specs.Rules.{Message, Packet}
 
 -- IN_R2/A2, as if it were an item

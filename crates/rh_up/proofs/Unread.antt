@@ -1,69 +1,73 @@
--- in a refusal no frame is read
-use Rattle.std.proofs.Common.{◌≡◌, ℕ, List, [], ◌∷◌, ◌++◌, length, drop, Some, refl, sym, ap, subst}
-use Rattle.std.specs.Prelude.{nat_lt}
+-- in a refusal no message is read, whatever its reader waits for first
+use Rattle.std.proofs.Common.{◌≡◌, ◌&&◌, Bool, true, false, ℕ, List, [], ◌∷◌, ◌++◌, ◌∙◌, Some, None, refl, sym, ap, subst}
 use Rattle.std.specs.declared.option.Option.{Option}
-use mathlib.Core.List.{IsPrefix}
-use Rattle.rh_pdu.specs.declared.fault.HeadFault.{HeadFault}
-use Rattle.rh_pdu.specs.declared.fault.HeadFault.TheVariants.{Version}
-use Rattle.rh_pdu.specs.Header.{head_fault, header_length}
 use Rattle.rh_http.specs.declared.refusal.Refusal.{Refusal}
 use Rattle.rh_http.specs.declared.refusal.Refusal.TheVariants.{Bad, Missing, Unavailable}
 use Rattle.rh_http.specs.Texts.{refusal_text}
 use Rattle.rh_sig.specs.declared.name.Pipe.{Pipe}
-use Rattle.rh_sig.specs.declared.name.Pipe.TheVariants.{IsU}
-use Rattle.rh_order.proofs.ByNumber.{by_test}
-use Rattle.rh_shell.specs.declared.stage.Stage.TheVariants as stage
+use Rattle.rh_sig.specs.declared.name.Pipe.TheVariants.{CiU, IsU, IsD, CoU, CoD, OsU, OsD}
+use Rattle.rh_pdu.specs.Header.{head_fault}
+use Rattle.rh_shell.specs.Intakes.{ends_head}
 use Rattle.rh_shell.specs.Rules.{Message}
-use Rattle.rh_reading.specs.Reading.{Reading, ReadsNothing, reading, messages_from, read_byte, frame_read}
+use Rattle.rh_reading.specs.Reading.{Reading, ReadsNothing, begin, messages_from, read_byte}
 
--- where nothing more is read
-shut_unread : (pipe : Option Pipe) (held bytes : List ℕ)
-    → messages_from pipe (reading stage.Shut held) bytes ≡ []
-unfolding read_byte
-shut_unread pipe held [] = refl
-shut_unread pipe held (b ∷ bytes) = shut_unread pipe (held ++ b ∷ []) bytes
+-- whether no byte makes a message whole
+is_none : List Message → Bool
+is_none [] = true
+is_none (m ∷ ms) = false
 
--- bytes whose first one is no version (the letter H)
-fault_of : (rest : List ℕ) → head_fault (72 ∷ rest) ≡ Some (Version 72)
-unfolding head_fault
-fault_of rest = refl
+is_quiet : Option Pipe → Reading → List ℕ → Bool
+is_quiet pipe r [] = true
+is_quiet pipe r (b ∷ bytes) =
+    is_none (read_byte pipe r b).1 && is_quiet pipe (read_byte pipe r b).0 bytes
 
-frames_unread : (pipe : Option Pipe) (rest bytes : List ℕ)
-    → messages_from pipe (reading stage.Frames (72 ∷ rest)) bytes ≡ []
-unfolding read_byte
-frames_unread pipe rest [] = refl
-frames_unread pipe rest (b ∷ bytes) =
-    by_test (λ (x : Reading × List Message). x.1 ++ messages_from pipe x.0 bytes ≡ [])
-    (nat_lt (length all) header_length) (reading stage.Frames all, [])
-    (frame_read pipe all (head_fault all))
-    (λ e. frames_unread pipe (rest ++ b ∷ []) bytes)
-    (λ e. subst (λ (o : Option HeadFault).
-    (frame_read pipe all o).1 ++ messages_from pipe (frame_read pipe all o).0 bytes ≡ [])
-    (sym (fault_of (rest ++ b ∷ []))) (shut_unread pipe all bytes))
-  where
-    all : List ℕ
-    all = 72 ∷ rest ++ b ∷ []
+none_is : (ms : List Message) (rest : Bool) → (is_none ms && rest) ≡ true
+    → (ms ≡ []) × (rest ≡ true)
+unfolding is_none
+none_is [] rest e = (refl, e)
+none_is (m ∷ ms) rest e = absurd cc
 
-letter_unread : (rest front : List ℕ) → IsPrefix front (72 ∷ rest)
-    → messages_from (Some IsU) (reading stage.Frames []) front ≡ []
-unfolding read_byte
-letter_unread rest [] p = refl
-letter_unread rest (b ∷ bytes) p =
-    let same : b ≡ 72 = ap first p.1 in
-    subst (λ k. messages_from (Some IsU) (reading stage.Frames []) (k ∷ bytes) ≡ []) (sym same)
-    (frames_unread (Some IsU) [] bytes)
-  where
-    first : List ℕ → ℕ
-    first [] = 0
-    first (k ∷ ks) = k
+quiet_front : (pipe : Option Pipe) (r : Reading) (front rest : List ℕ)
+    → is_quiet pipe r (front ++ rest) ≡ true → messages_from pipe r front ≡ []
+unfolding is_quiet
+quiet_front pipe r [] rest e = refl
+quiet_front pipe r (b ∷ front) rest e =
+    let next = none_is (read_byte pipe r b).1
+    (is_quiet pipe (read_byte pipe r b).0 (front ++ rest)) e in
+    ap (λ (ms : List Message). ms ++ messages_from pipe (read_byte pipe r b).0 front) next.0
+    ∙ quiet_front pipe (read_byte pipe r b).0 front rest next.1
 
-begins_with_letter : (refusal : Refusal)
-    → refusal_text refusal ≡ 72 ∷ drop 1 (refusal_text refusal)
-begins_with_letter Bad = refl
-begins_with_letter Missing = refl
-begins_with_letter Unavailable = refl
+quiet : (pipe : Option Pipe) (refusal : Refusal)
+    → is_quiet pipe (begin pipe) (refusal_text refusal) ≡ true
+unfolding is_quiet is_none read_byte ends_head head_fault
+quiet None Bad = refl
+quiet None Missing = refl
+quiet None Unavailable = refl
+quiet (Some CiU) Bad = refl
+quiet (Some CiU) Missing = refl
+quiet (Some CiU) Unavailable = refl
+quiet (Some IsU) Bad = refl
+quiet (Some IsU) Missing = refl
+quiet (Some IsU) Unavailable = refl
+quiet (Some IsD) Bad = refl
+quiet (Some IsD) Missing = refl
+quiet (Some IsD) Unavailable = refl
+quiet (Some CoU) Bad = refl
+quiet (Some CoU) Missing = refl
+quiet (Some CoU) Unavailable = refl
+quiet (Some CoD) Bad = refl
+quiet (Some CoD) Missing = refl
+quiet (Some CoD) Unavailable = refl
+quiet (Some OsU) Bad = refl
+quiet (Some OsU) Missing = refl
+quiet (Some OsU) Unavailable = refl
+quiet (Some OsD) Bad = refl
+quiet (Some OsD) Missing = refl
+quiet (Some OsD) Unavailable = refl
 
-pub refusal_unread : (refusal : Refusal) → ReadsNothing (Some IsU) (refusal_text refusal)
-refusal_unread refusal front p =
-    letter_unread (drop 1 (refusal_text refusal)) front
-    (subst (IsPrefix front) (begins_with_letter refusal) p)
+pub refusal_unread : (pipe : Option Pipe) (refusal : Refusal)
+    → ReadsNothing pipe (refusal_text refusal)
+refusal_unread pipe refusal front p =
+    quiet_front pipe (begin pipe) front p.0
+    (subst (λ (text : List ℕ). is_quiet pipe (begin pipe) text ≡ true) (sym p.1)
+    (quiet pipe refusal))

@@ -25,7 +25,8 @@ pub enum AnyWorld {
 impl AnyWorld {
     ghost use Rattle.rh_world.specs.declared.world.TheConstants.{MOST_PDUS};
     ghost use Rattle.rh_record.specs.declared.line.Line.TheVariants.{Settle};
-    ghost use Rattle.rh_world.specs.declared.any_world.AnyWorld.TheVariants.{Direct};
+    ghost use Rattle.rh_world.specs.declared.any_world.AnyWorld.TheVariants.{Direct, Settings};
+    ghost use Rattle.rh_world.specs.Config.{roles_config};
     ghost use Rattle.rh_world.specs.Any as seen;
     ghost use Rattle.rh_world.specs.Direct as direct;
 
@@ -39,6 +40,14 @@ impl AnyWorld {
     {
         *self = AnyWorld::Direct(World::new(alloc, &WorldConfig::direct())?);
         Ok(())
+    }
+
+    /// Becomes the settings of a world of roles.
+    #[inline(never)]
+    fn make_settings(&mut self)
+        ensures { self.new ≡ Settings roles_config }
+    {
+        *self = AnyWorld::Settings(Roles::new(WorldConfig::roles()));
     }
 
     /// Settings become a world of roles that has had all of them.
@@ -60,9 +69,7 @@ impl AnyWorld {
     {
         match (&mut *self, line) {
             (AnyWorld::Before, Line::First { roles: false }) => self.make_direct(alloc)?,
-            (AnyWorld::Before, Line::First { roles: true }) => {
-                *self = AnyWorld::Settings(Roles::new(WorldConfig::roles()));
-            }
+            (AnyWorld::Before, Line::First { roles: true }) => self.make_settings(),
             (AnyWorld::Settings(roles), Line::Set { key, value }) => roles.set(*key, *value),
             (AnyWorld::Settings(_), _) => self.make_roles(alloc)?,
             _ => {}

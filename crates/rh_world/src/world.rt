@@ -16,8 +16,8 @@ pub const MOST_PDUS: u32 = u32::MAX;
 /// memory a world may only be dropped.
 #[derive(Drop)]
 pub struct World {
-    up: Way,
-    down: Way,
+    up: Box<Way>,
+    down: Box<Way>,
 }
 
 impl Model for World {
@@ -25,7 +25,7 @@ impl Model for World {
 
     ghost Value = { seen.World };
 
-    ghost view = { λ a. record { up = a.up; down = a.down } };
+    ghost view = { λ a. record { up = a.up.value; down = a.down.value } };
 }
 
 impl World {
@@ -40,8 +40,8 @@ impl World {
         ensures { IfOk result (λ world. world ≡ seen.empty) }
     {
         Ok(World {
-            up: Way::new(alloc)?,
-            down: Way::new(alloc)?,
+            up: Box::new(alloc, Way::new(alloc)?)?,
+            down: Box::new(alloc, Way::new(alloc)?)?,
         })
     }
 

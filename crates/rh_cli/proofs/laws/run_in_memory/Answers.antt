@@ -1,5 +1,6 @@
 -- neither end of the run fails
-use Rattle.rh_cli.specs.declared.run.TheConstants.{HELP, VERSION}
+use Rattle.rh_words.specs.declared.help.TheConstants.{HELP}
+use Rattle.rh_cli.specs.declared.run.TheConstants.{VERSION}
 use Rattle.rh_cli.proofs.Memory.{ran_in_memory}
 use Rattle.rh_cli.proofs.laws.run_in_memory.Goals as goal
 

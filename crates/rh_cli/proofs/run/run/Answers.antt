@@ -1,8 +1,9 @@
 -- a summary is written, or there was no memory for it
 use Rattle.std.proofs.Common.{sym, ap, subst}
-use Rattle.rh_cli.specs.declared.form.Form.{Form}
-use Rattle.rh_cli.specs.Forms.{Ran, outside}
-use Rattle.rh_cli.specs.declared.run.TheConstants.{HELP, VERSION}
+use Rattle.rh_words.specs.declared.form.Form.{Form}
+use Rattle.rh_words.specs.Forms.{Ran, outside}
+use Rattle.rh_words.specs.declared.help.TheConstants.{HELP}
+use Rattle.rh_cli.specs.declared.run.TheConstants.{VERSION}
 use Rattle.rh_cli.proofs.FormLaws.{only_make, by_memory}
 use Rattle.rh_cli.proofs.run.run.Goals as goal
 

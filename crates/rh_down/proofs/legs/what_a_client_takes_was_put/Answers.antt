@@ -11,7 +11,7 @@ use Rattle.rh_outproxy.specs.Legible.{pipe_put}
 use Rattle.rh_outproxy.specs.Machine.{rules as proxy_rules}
 use Rattle.rh_outproxy.specs.Order.{client_leg, to_client}
 use Rattle.rh_outproxy.specs.OutProxy.{new_proxy}
-use Rattle.rh_down.proofs.LegLogs.{leg_reads_back}
+use Rattle.rh_streams.proofs.LegLogs.{leg_reads_back}
 use Rattle.rh_down.proofs.Sides.{told, client_came, proxy_put, put_views, by_drawn}
 use Rattle.rh_down.proofs.legs.what_a_client_takes_was_put.Goals as goal
 

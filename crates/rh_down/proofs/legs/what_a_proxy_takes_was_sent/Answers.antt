@@ -6,7 +6,7 @@ use Rattle.rh_outproxy.specs.Order.{server_leg, from_server}
 use Rattle.rh_server.specs.Legible.{pipe_put}
 use Rattle.rh_server.specs.Order.{out_items}
 use Rattle.rh_server.specs.Servers.{rules as server_rules, acts as server_acts, new_server}
-use Rattle.rh_down.proofs.LegLogs.{leg_reads_back}
+use Rattle.rh_streams.proofs.LegLogs.{leg_reads_back}
 use Rattle.rh_down.proofs.Sides.{told, proxy_came, server_sent, sent_views}
 use Rattle.rh_down.proofs.legs.what_a_proxy_takes_was_sent.Goals as goal
 

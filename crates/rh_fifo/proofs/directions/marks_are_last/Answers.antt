@@ -4,8 +4,10 @@ use Rattle.rh_fifo.proofs.directions.marks_are_last.Goals as goal
 pub returns : goal.returns
 returns g c = λ m w new ours ranges v by.
     let law : MarkLaw = record {
-      down = c.what_goes_down_is_a_route.ensures;
-      up = c.what_goes_up_is_a_route.ensures;
+      routes = record {
+        down = c.what_goes_down_is_a_route.ensures;
+        up = c.what_goes_up_is_a_route.ensures;
+      };
       near = c.nothing_stands_behind_a_mark.ensures.near;
       far = c.nothing_stands_behind_a_mark.ensures.far;
     } in

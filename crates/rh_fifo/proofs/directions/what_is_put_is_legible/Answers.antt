@@ -1,5 +1,5 @@
 use Rattle.rh_fifo.proofs.Legs.{Reads}
-use Rattle.rh_fifo.proofs.Unread.{refusal_unread}
+use Rattle.rh_up.proofs.Unread.{refusal_unread}
 use Rattle.rh_fifo.proofs.Flowing.{Streaming}
 use Rattle.rh_fifo.proofs.Starting.{Beginning}
 use Rattle.rh_fifo.proofs.Legal.{Legalities}
@@ -16,18 +16,20 @@ returns g c = λ m w new ours ranges v lines.
       refusal = refusal_unread;
     } in
     let streaming : Streaming = record {
+      proxies = record {
+        ins = c.a_nodes_stream.ensures;
+        outs = c.a_nodes_stream-2.ensures;
+        in_pipes = c.proxies_keep_their_pipes.ensures.in_proxy;
+        out_pipes = c.proxies_keep_their_pipes.ensures.out_proxy;
+        in_unused = c.a_leg_that_an_in_proxy_left_stays_unused.ensures;
+        out_unused = c.a_leg_that_an_out_proxy_left_stays_unused.ensures;
+      };
       clients = c.an_ends_stream.ensures;
       servers = c.an_ends_stream-2.ensures;
-      ins = c.a_nodes_stream.ensures;
-      outs = c.a_nodes_stream-2.ensures;
       client_refuses = c.an_end_never_refuses.ensures.client;
       server_refuses = c.an_end_never_refuses.ensures.server;
-      in_pipes = c.proxies_keep_their_pipes.ensures.in_proxy;
-      out_pipes = c.proxies_keep_their_pipes.ensures.out_proxy;
       client_unused = c.a_leg_that_a_client_left_stays_unused.ensures.calls;
       server_unused = c.a_leg_that_a_server_left_stays_unused.ensures.calls;
-      in_unused = c.a_leg_that_an_in_proxy_left_stays_unused.ensures;
-      out_unused = c.a_leg_that_an_out_proxy_left_stays_unused.ensures;
     } in
     let begins : Beginning = record {
       client = c.a_client_begins_with_a_request.ensures;
@@ -56,6 +58,5 @@ returns g c = λ m w new ours ranges v lines.
       known = c.a_recording_of_roles_is_known.ensures.changes;
       once = λ m w. c.legs_of_roles_come_up_once.ensures m w.company w.cast;
       order = λ m. c.channels_come_up_in_order.ensures.changes rules m deeds;
-      drew = λ m w v h. c.what_is_heard_was_drawn.ensures rules m deeds w.company v h;
     } in
     flowing reads streaming begins legal tracing known m w new ours ranges v lines

@@ -1,4 +1,4 @@
-use Rattle.rh_history.proofs.Lines.{leads_half}
+use Rattle.rh_history.proofs.Halves.{leads_half}
 use Rattle.rh_history.proofs.changing.a_half_step_is_changes.Goals as goal
 
 pub returns : goal.returns

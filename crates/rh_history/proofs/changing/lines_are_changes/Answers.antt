@@ -1,4 +1,4 @@
-use Rattle.rh_history.proofs.Lines.{leads_turns}
+use Rattle.rh_history.proofs.Halves.{leads_turns}
 use Rattle.rh_history.proofs.changing.lines_are_changes.Goals as goal
 
 pub returns : goal.returns

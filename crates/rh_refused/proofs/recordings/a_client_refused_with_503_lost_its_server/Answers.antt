@@ -23,12 +23,14 @@ no_success drawn status is (inr drew) = drew
 pub returns : goal.returns
 returns g c =
     let law : ProxyLaws g.row.K.Denot = record {
-      ins = c.a_nodes_stream.ensures;
-      outs = c.a_nodes_stream-2.ensures;
-      in_pipes = c.proxies_keep_their_pipes.ensures.in_proxy;
-      out_pipes = c.proxies_keep_their_pipes.ensures.out_proxy;
-      in_unused = c.a_leg_that_an_in_proxy_left_stays_unused.ensures;
-      out_unused = c.a_leg_that_an_out_proxy_left_stays_unused.ensures;
+      streams = record {
+        ins = c.a_nodes_stream.ensures;
+        outs = c.a_nodes_stream-2.ensures;
+        in_pipes = c.proxies_keep_their_pipes.ensures.in_proxy;
+        out_pipes = c.proxies_keep_their_pipes.ensures.out_proxy;
+        in_unused = c.a_leg_that_an_in_proxy_left_stays_unused.ensures;
+        out_unused = c.a_leg_that_an_out_proxy_left_stays_unused.ensures;
+      };
       known = c.a_recording_of_roles_is_known.ensures.changes;
       once = λ m w. c.legs_of_roles_come_up_once.ensures m w.company w.cast;
     } in

@@ -1,4 +1,4 @@
-use Rattle.std.proofs.Common.{ap, refl, ◌∙◌, subst}
+use Rattle.std.proofs.Common.{inl, inr, ap, refl, ◌∙◌, subst, ⊎_elim}
 use Rattle.rh_line.specs.declared.leg.LegKind.TheVariants.{ClientIn}
 use Rattle.rh_nodes.specs.Readers.{reader_of}
 use Rattle.rh_nodes.specs.Settling.{leg_at}
@@ -9,10 +9,10 @@ use Rattle.rh_inproxy.specs.State.{InProxy}
 use Rattle.rh_history.specs.Carried.{drawn_on}
 use Rattle.rh_ordered.specs.Premises.{history_at}
 use Rattle.rh_traced.specs.Ours.{deeds, rules}
-use Rattle.rh_traced.proofs.Along.{cast_kept}
+use Rattle.rh_history.proofs.Leading.{cast_kept}
 use Rattle.rh_refused.specs.Refused.{BeginsRefused}
-use Rattle.rh_refused.proofs.InRefusals.{in_refused}
 use Rattle.rh_refused.proofs.InTexts.{echoes_alone}
+use Rattle.rh_refused.proofs.Refusals.{by_drawn, echo_success}
 use Rattle.rh_refused.proofs.recordings.a_refused_in_channel_was_refused_by_its_proxy.Goals as goal
 
 pub returns : goal.returns
@@ -22,17 +22,17 @@ returns g c = λ m w new ours ranges v by n status h.
     let k = reader_of v.readers n in
     let up = (c.directions_are_joined.ensures m w new ours ranges v by).up in
     let node =
-    ap (λ cast. m.in_proxy cast k)
-    (cast_kept rules m deeds w v new (c.legs_of_roles_come_up_once.ensures m w.company w.cast ours)
-    by.leads)
-    ∙ ours.ins k in
+    ap (λ cast. m.in_proxy cast k) (cast_kept rules m deeds w v by.leads) ∙ ours.ins k in
     let begins =
     subst (λ (s : Shell InProxy). BeginsRefused (drawn_on in_proxy.rules s leg (here.ins k)) leg
     status) node
     (c.a_refused_client_heard_what_was_drawn.ensures.in_leg m w v new ours by.leads n status h)
     in
-    in_refused (of_leg leg (up.proxies k).passage.put)
-    (drawn_on in_proxy.rules (in_proxy.first_node (ours.in_config k)) leg (here.ins k)) leg status
+    let put = of_leg leg (up.proxies k).passage.put in
+    ⊎_elim (λ refused. inl (echo_success put leg status
     (echoes_alone (ours.in_config k) leg refl (up.proxies k).passage (up.proxies k).leads)
+    refused)) (λ drew. inr drew)
+    (by_drawn put
+    (drawn_on in_proxy.rules (in_proxy.first_node (ours.in_config k)) leg (here.ins k)) leg status
     ((up.proxies k).drawn leg (c.an_in_proxy_refuses_first.ensures.client (ours.in_config k) n))
-    begins
+    begins)

@@ -1,4 +1,4 @@
-use Rattle.std.proofs.Common.{refl}
+use Rattle.std.proofs.Common.{refl, ⊎_elim}
 use Rattle.rh_text.specs.declared.ends.Dir.TheVariants.{D}
 use Rattle.rh_line.specs.declared.leg.LegKind.TheVariants.{ClientOut}
 use Rattle.rh_nodes.specs.Settling.{leg_at}
@@ -11,8 +11,8 @@ use Rattle.rh_history.specs.Carried.{drawn_on, happened, heard_on}
 use Rattle.rh_ordered.specs.Premises.{history_at}
 use Rattle.rh_traced.specs.Ours.{deeds, rules}
 use Rattle.rh_refused.proofs.Drawn.{heard_refused, refused_more}
-use Rattle.rh_refused.proofs.OutRefusals.{out_refused}
 use Rattle.rh_refused.proofs.OutTexts.{puts_200}
+use Rattle.rh_refused.proofs.Refusals.{by_drawn, put_none}
 use Rattle.rh_refused.proofs.recordings.a_refused_out_channel_was_refused_by_its_proxy.Goals as goal
 
 pub returns : goal.returns
@@ -27,7 +27,9 @@ returns g c = λ m w new ours ranges v by n status h.
     by.leads leg status h in
     let drawn = drawn_on out_proxy.rules (begun (new_proxy (ours.out_config n)) ROOMS) leg
     (here.outs n) in
-    out_refused (ours.out_config n) (of_leg leg (down.proxies n).passage.put) drawn leg status
-    (ranges.outs n) refl (puts_200 (ours.out_config n) (down.proxies n).passage leg
-    (down.proxies n).leads) (down.proxies_begin n) (down.proxies_drew n)
-    (refused_more (heard_on leg (happened here.client)) drawn leg status (down.far n) heard)
+    let put = of_leg leg (down.proxies n).passage.put in
+    ⊎_elim (λ refused. absurd (put_none (ours.out_config n) (ranges.outs n) leg refl status put
+    (puts_200 (ours.out_config n) (down.proxies n).passage leg (down.proxies n).leads)
+    (down.proxies_begin n) refused)) (λ drew. drew)
+    (by_drawn put drawn leg status (down.proxies_drew n)
+    (refused_more (heard_on leg (happened here.client)) drawn leg status (down.far n) heard))

@@ -8,11 +8,11 @@ use Rattle.rh_server.specs.States.{Server}
 use Rattle.rh_history.specs.Carried.{LegsComeUpOnce}
 use Rattle.rh_history.specs.Changes.{Leads, after_turns}
 use Rattle.rh_history.specs.Histories.{IsNew, nothing}
-use Rattle.rh_history.proofs.Lines.{leads_turns}
+use Rattle.rh_history.proofs.Leading.{cast_kept}
+use Rattle.rh_history.proofs.Halves.{leads_turns}
 use Rattle.rh_history.proofs.Recordings.{changes_are_traced, traced_first}
 use Rattle.rh_traced.specs.Ours.{rules, deeds}
 use Rattle.rh_traced.specs.Recordings.{IsKnown}
-use Rattle.rh_traced.proofs.Along.{cast_kept}
 use Rattle.rh_traced.proofs.InTurn.{new_in_turn}
 use Rattle.rh_traced.proofs.Readers.{reached_read}
 use Rattle.rh_traced.proofs.recordings.a_recording_of_roles_is_known.Goals as goal
@@ -23,7 +23,7 @@ known : {K : Type 0} (m : Makers K InProxy OutProxy)
     → IsKnown m w v leads
 known m w v new once leads = record {
   once = subst (LegsComeUpOnce rules m deeds w.company)
-      (sym (cast_kept rules m deeds w v new once leads)) once;
+      (sym (cast_kept rules m deeds w v leads)) once;
   traced = changes_are_traced rules m deeds w.company w v nothing leads once
       (traced_first rules m deeds w new);
   in_turn = new_in_turn rules m deeds w v new once leads;

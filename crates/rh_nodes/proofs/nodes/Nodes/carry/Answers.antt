@@ -2,6 +2,7 @@
 use Rattle.std.proofs.Common.{refl, sym, ap, ◌∙◌, arith, Ok, Some}
 use Rattle.rh_record.specs.declared.answer.Answer.TheVariants.{Move}
 use Rattle.rh_nodes.specs.Company.{rules_of}
+use Rattle.rh_nodes.specs.Settling.{carried}
 use Rattle.rh_nodes.proofs.Told.{tells_failed}
 use Rattle.rh_nodes.proofs.Pushed.{tells_pushed, carried_is}
 use Rattle.rh_nodes.proofs.nodes.Nodes.carry.Goals as goal
@@ -19,7 +20,8 @@ pub returns-in_ok-push : goal.returns-in_ok-push
 returns-in_ok-push g c =
     let r = (rules_of g.K.Client.Role.rules g.K.Server.Role.rules g.K.InProxy.Role.rules
     g.K.OutProxy.Role.rules) in
-    let did = ap (λ o. (c.carry_bytes.new.self, o)) (sym c.in-Some.is) ∙ c.in_ok-bytes.ensures in
+    let did = ap (λ o. carried c.args.leg c.args.dir (c.carry_bytes.new.self, o)) (sym c.in-Some.is)
+    ∙ c.in_ok-bytes.ensures in
     tells_pushed _ (Move (Some c.args.leg) c.args.dir (Some c.in-Some.bytes)) (Ok tt)
     c.carry_bytes.new.self c.args.report.now c.push.new.self
     (carried_is r c.args.leg c.args.dir c.args.self.now c.carry_bytes.new.self c.in-Some.bytes did

@@ -1,0 +1,5 @@
+mod Results
+pub mod Coming
+mod Gathering
+mod Settling
+mod Writing

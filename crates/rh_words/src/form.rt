@@ -1,0 +1,72 @@
+//! The forms of a command line.
+
+ghost use Rattle.std.specs.Prelude.{◌≡◌, ◌≢◌, ◌∷◌, ℕ, [], MatchOption};
+ghost use Rattle.std.specs.Fmt.{decimal};
+ghost use Rattle.rh_make.specs.Making.{IsCount};
+ghost use Rattle.rh_words.specs.declared.form.Form.{Form};
+ghost use Rattle.rh_words.specs.Forms.{IsForm, IsMade, form_words};
+
+use rh_make::count::MOST_GIVEN;
+use rh_text::read_number;
+
+/// What the words ask for.
+#[derive(Clone, Copy, Debug, PartialEq, Eq)]
+pub enum Form {
+    /// `replay`: a recording's report.
+    Replay,
+    /// `show`: what the packets of lines of hex are.
+    Show,
+    /// `make <n>`: the summary of a generated recording of so many PDUs.
+    Make(u32),
+    /// `--help`: what each word does.
+    Help,
+    /// `--version`: the program's version.
+    Version,
+}
+
+/// The form of the words behind the program's own name; `None` where they are in none.
+pub fn form_of(words: &[String]) -> Option<Form>
+    ensures { MatchOption result ((form : Form) → ¬ IsForm form words.now)
+        (λ form. IsForm form words.now) }
+{
+    match words {
+        [word] => form_of_word(word.as_str()),
+        [word, number] => form_of_words(word.as_str(), number.as_str()),
+        _ => None,
+    }
+}
+
+/// The form of one word.
+fn form_of_word(word: &str) -> Option<Form>
+    ensures { MatchOption result ((form : Form) → word.now ∷ [] ≢ form_words form)
+        (λ form. (word.now ∷ [] ≡ form_words form) × IsMade form) }
+{
+    match word {
+        "replay" => Some(Form::Replay),
+        "show" => Some(Form::Show),
+        "--help" => Some(Form::Help),
+        "--version" => Some(Form::Version),
+        _ => None,
+    }
+}
+
+/// The form of a word and a number.
+fn form_of_words(word: &str, number: &str) -> Option<Form>
+    ensures { MatchOption result
+        ((form : Form) → word.now ∷ number.now ∷ [] ≡ form_words form → ¬ IsMade form)
+        (λ form. (word.now ∷ number.now ∷ [] ≡ form_words form) × IsMade form) }
+{
+    match word {
+        "make" => Some(Form::Make(count_of(number)?)),
+        _ => None,
+    }
+}
+
+/// The number of PDUs that a word spells.
+fn count_of(word: &str) -> Option<u32>
+    ensures { MatchOption result ((count : ℕ) → IsCount count → word.now ≢ decimal count)
+        (λ count. (word.now ≡ decimal count) × IsCount count) }
+{
+    let number = read_number(word.as_bytes(), 1, u64::from(MOST_GIVEN))?;
+    Some(number as u32)
+}

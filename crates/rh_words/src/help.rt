@@ -1,0 +1,32 @@
+//! The page that the program tells of itself.
+
+use crate::status::statuses;
+
+macro_rules! help {
+    ($($status:ident $number:literal $name:literal $more:literal;)*) => {
+        concat!(
+            "rh_cli replays recordings of RPC over HTTP version 2 (MS-RPCH), and shows its packets.
+
+  rh_cli replay       reads a recording from standard input, writes its report to standard output
+  rh_cli show         reads lines of hex, one packet each, and writes one line for each packet
+  rh_cli make <n>     runs a generated recording of n PDUs (1 to 10,000), writes its report's last
+                      lines, the bytes that moved and the rounds of its settlings
+  rh_cli --help       writes this page
+  rh_cli --version    writes the name and the version
+
+A line for show has 1 to 65,535 bytes in hex digits of either case, and nothing else. From a capture
+that tshark reads and from a file that holds one packet, by the repository's tools and by xxd:
+
+  tools/pcap_packets.py FILE | rh_cli show
+  xxd -p FILE | tr -d '\\n' | rh_cli show
+
+A status other than 0 has its text on standard error:
+
+",
+            $("  ", $number, "  ", $name, $more, "\n",)*
+        )
+    };
+}
+
+/// What `--help` tells.
+pub const HELP: &str = statuses!(help);
