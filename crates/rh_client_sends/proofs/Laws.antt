@@ -230,11 +230,6 @@ module _ (Comes : Leg → Cookie → Type 0) where
 
 -- ---- what is refused
 
-in_range : (moves : List EndMove) (put : List OnLeg) (packet : Named) (row : Row)
-    → IsInRange row → RefusesFalseAcks moves put packet row
-in_range moves put packet (Err (refused.OutOfRange command value)) never = absurd never
-in_range moves put packet row fine = tt
-
 -- an acknowledgement of a channel
 false_ack : (moves : List EndMove) (c : InChannel) (came put : List OnLeg)
     (received available : ℕ) (of : Cookie) → IsKnownIn (HasComeUp moves) (seen_in c) came put
@@ -305,19 +300,19 @@ acks_refused moves s to received available of came put h =
 on_refused : (moves : List EndMove) (s : ClientRole) (n : ℕ) (count : Count) (packet : Named)
     (came put : List OnLeg) → Kept (HasComeUp moves) s came put
     → RefusesFalseAcks moves put packet (on_packet s n count packet).1
-on_refused moves s n count (named.ConnA3 timeout) came put h = in_range moves put _ _ (search rules)
+on_refused moves s n count (named.ConnA3 timeout) came put h = search rules
 on_refused moves s n count (named.ConnC2 version window timeout) came put h =
-    in_range moves put _ _ (search rules)
+    search rules
 on_refused moves s n count (named.AckTo to received available of) came put h =
     acks_refused moves s to received available of came put h
 on_refused moves s n count (named.InR1A4 to version window timeout) came put h =
-    in_range moves put _ _ (search rules)
-on_refused moves s n count (named.InR2A4 to) came put h = in_range moves put _ _ (search rules)
-on_refused moves s n count (named.OutR1A2 to) came put h = in_range moves put _ _ (search rules)
+    search rules
+on_refused moves s n count (named.InR2A4 to) came put h = search rules
+on_refused moves s n count (named.OutR1A2 to) came put h = search rules
 on_refused moves s n count (named.OutR1A6 to version timeout) came put h =
-    in_range moves put _ _ (search rules)
-on_refused moves s n count named.OutR1A10 came put h = in_range moves put _ _ (search rules)
-on_refused moves s n count named.EndB2 came put h = in_range moves put _ _ (search rules)
+    search rules
+on_refused moves s n count named.OutR1A10 came put h = search rules
+on_refused moves s n count named.EndB2 came put h = search rules
 on_refused moves s n count packet came put h = tt
 
 refused_packet : (moves : List EndMove) (s : ClientRole) (n : ℕ) (count : Count)
