@@ -1,5 +1,5 @@
 -- what is under way at a client changes
-use Rattle.std.proofs.Common.{◌≡◌, ℕ, suc, ◌+◌, nat_lt, Bool, true, false, if◌then◌else◌, List, Ok, Err, arith, refl, sym, ap, ◌∙◌, subst}
+use Rattle.std.proofs.Common.{◌≡◌, suc, ◌+◌, nat_lt, Bool, true, false, if◌then◌else◌, List, Ok, Err, arith, refl, sym, ap, ◌∙◌, subst}
 use Rattle.std.proofs.lemmas.Bool.{false≢true}
 use Rattle.std.specs.declared.result.Result.{Result}
 use Rattle.rh_rts.specs.declared.command.Cookie.{Cookie}
@@ -21,7 +21,7 @@ use Rattle.rh_client.specs.declared.state.ClientRole.{ClientRole}
 use Rattle.rh_client.specs.Channels.{unopened_in, unopened_out}
 use Rattle.rh_client.specs.Replacements.{is_in, with_in}
 use Rattle.rh_client.specs.State.{is_opening, is_over, settled, begin_in, begin_out, after_in, after_out}
-use Rattle.rh_client.specs.InReplacement.{wish_by, wants_successor, wished, recycle, recycle_by, handed_over}
+use Rattle.rh_client.specs.InReplacement.{wish_by, wants_successor, wished, recycle_by, handed_over}
 use Rattle.rh_client.specs.OutReplacement.{succeeded, ended_or, pass_at, pass_by, passed}
 use Rattle.rh_client.specs.Putting.{settled_or_wished}
 use Rattle.rh_client_sends.proofs.Facts.{Seen, seen, put_bytes, IsSo, Kept}

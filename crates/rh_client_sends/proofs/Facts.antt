@@ -1,12 +1,12 @@
 -- what a client knows of its channels, by what came and what it put
-use Rattle.std.proofs.Common.{◌≡◌, ◌⊎◌, ℕ, suc, ◌+◌, ◌<◌, Bool, true, if◌then◌else◌, List, [], ◌∷◌, ◌++◌, inl, inr, arith, refl, sym, ap, ◌∙◌, subst}
+use Rattle.std.proofs.Common.{◌≡◌, ◌⊎◌, ℕ, suc, ◌<◌, Bool, true, if◌then◌else◌, List, [], ◌∷◌, ◌++◌, inl, inr, sym, ◌∙◌, subst}
 use Rattle.rh_rts.specs.declared.command.Cookie.{Cookie}
 use Rattle.rh_window.specs.Sides.{Sender}
 use Rattle.rh_sig.specs.declared.named.Named.{Named}
 use Rattle.rh_line.specs.declared.leg.Leg.{Leg}
 use Rattle.rh_shell.specs.declared.answers.Phase.{Phase}
 use Rattle.rh_shell.specs.Moves.{OnLeg}
-use Rattle.rh_shell.specs.Rules.{Message, Text, Pdu, Packet}
+use Rattle.rh_shell.specs.Rules.{Message}
 use Rattle.rh_shell.specs.Shells.{same_leg}
 use Rattle.rh_shell.specs.Wires.{of_leg}
 use Rattle.rh_passages.specs.Passing.{pdu_bytes, HasOne, BeginsIn, BeginsOut, HasBegunIn, HasBegunOut}

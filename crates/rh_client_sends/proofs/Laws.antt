@@ -1,5 +1,5 @@
 -- what a client knows of its channels holds whatever happens, and what it refuses
-use Rattle.std.proofs.Common.{◌≡◌, ◌⊎◌, ℕ, suc, ◌+◌, ◌<◌, ◌==◌, nat_le, nat_lt, Bool, true, false, true≢false, ◌&&◌, ◌||◌, not, if◌then◌else◌, List, [], ◌∷◌, ◌++◌, length, Some, None, Ok, Err, inl, inr, arith, refl, sym, ap, ◌∙◌, subst, rules}
+use Rattle.std.proofs.Common.{◌≡◌, ◌⊎◌, ℕ, ◌+◌, ◌==◌, nat_le, nat_lt, Bool, true, false, true≢false, ◌&&◌, ◌||◌, not, if◌then◌else◌, List, [], ◌∷◌, ◌++◌, length, Some, None, Ok, Err, inl, inr, arith, refl, sym, ◌∙◌, subst, rules}
 use Rattle.std.proofs.lemmas.Bool.{false≢true, and_parts}
 use Rattle.std.proofs.lemmas.Bool.Decides.{nat_tests}
 use Rattle.std.specs.declared.option.Option.{Option}
@@ -8,7 +8,7 @@ use Rattle.rh_rts.specs.declared.command.Cookie.{Cookie}
 use Rattle.rh_http.specs.declared.config.ClientConfig.{ClientConfig}
 use Rattle.rh_pdu.specs.Checking.{checked, pdu_fault}
 use Rattle.rh_pdu.specs.declared.fault.PduFault.{PduFault}
-use Rattle.rh_window.specs.Sending.{bad_ack, ack_verdict}
+use Rattle.rh_window.specs.Sending.{bad_ack}
 use Rattle.rh_window.specs.declared.range.TheConstants.{GREATEST_WINDOW}
 use Rattle.rh_sig.specs.declared.named.Named.{Named}
 use Rattle.rh_sig.specs.declared.named.Named.TheVariants as named
@@ -22,12 +22,10 @@ use Rattle.rh_line.specs.declared.line_fault.LineFault.TheVariants as line_fault
 use Rattle.rh_line.specs.declared.which.Which.{Which}
 use Rattle.rh_order.proofs.ByNumber.{by_test, same_number}
 use Rattle.rh_shell.specs.declared.answers.Count.{Count}
-use Rattle.rh_shell.specs.declared.answers.Refused.TheVariants as refused
-use Rattle.rh_shell.specs.declared.end_role.GiveRefused.TheVariants.{Closing, BadPdu, Full}
+use Rattle.rh_shell.specs.declared.end_role.GiveRefused.TheVariants.{Closing, Full}
 use Rattle.rh_shell.specs.Rules.{Row}
 use Rattle.rh_shell.specs.Moves.{OnLeg, EndMove}
 use Rattle.rh_shell.specs.Shells.{is_of}
-use Rattle.rh_shell.specs.Wires.{of_leg}
 use Rattle.rh_client.specs.declared.channels.InChannel.{InChannel}
 use Rattle.rh_client.specs.declared.channels.Opening.TheVariants.{Request}
 use Rattle.rh_client.specs.declared.state.ClientRole.{ClientRole}
@@ -38,7 +36,8 @@ use Rattle.rh_client.specs.Opening.{wants_by, with_next, up_by}
 use Rattle.rh_client.specs.Acknowledging.{pdu_channel, pdu_on, admit_row, ack_row, ack_row_by, ack_named, on_ack_to, acked}
 use Rattle.rh_client.specs.Ending.{Given, give, give_pdu, close, take, drawn_by}
 use Rattle.rh_client.specs.Time.{ping_by}
-use Rattle.rh_client.specs.Client.{pdu_by, on_packet, packet_by}
+use Rattle.rh_client.specs.Client.{pdu_by, on_packet, packet_by, acts}
+use Rattle.rh_client.specs.Client.{rules as client_rules}
 use Rattle.rh_client.specs.Order.{AreAllowedMoves, client_moved, client_started}
 use Rattle.rh_client_sends.specs.Sends.{HasComeUp, BeginsByCookie, RefusesFalseAcks, IsInRange, SendsAsTold}
 use Rattle.rh_client_sends.proofs.Steps.{StepsKeep, end_moves_keep}
@@ -184,16 +183,18 @@ module _ (Comes : Leg → Cookie → Type 0) where
       → Kept Comes (close s) came put
   close_kept s came put h = same_kept Comes s (close s) came put (quiet s (close s) refl refl) h
 
-  steps : StepsKeep Comes (Kept Comes)
+  steps : StepsKeep client_rules acts Comes (Kept Comes)
   steps = record {
     up = λ s leg cookie may comes came put h.
         up_kept s leg.number leg.kind cookie came put may comes h;
+    head = λ s leg text came put h. h;
     pdu = λ s leg count bytes came put h.
         pdu_kept Comes s leg.number bytes leg.kind came put h;
     packet = λ s leg count packet came put h.
         packet_kept Comes s leg.number count packet leg.kind came put h;
     put = λ s leg came put h. put_kept Comes s leg.number leg.kind came put h;
     drawn = λ s leg came put h. drawn_kept s leg.number leg.kind came put h;
+    mark = λ s leg came put h. h;
     ping = λ s leg came put h.
         same_kept Comes s (ping_by s leg.number leg.kind) came put
         (ping_same s leg.number leg.kind) h;
@@ -301,16 +302,13 @@ on_refused : (moves : List EndMove) (s : ClientRole) (n : ℕ) (count : Count) (
     (came put : List OnLeg) → Kept (HasComeUp moves) s came put
     → RefusesFalseAcks moves put packet (on_packet s n count packet).1
 on_refused moves s n count (named.ConnA3 timeout) came put h = search rules
-on_refused moves s n count (named.ConnC2 version window timeout) came put h =
-    search rules
+on_refused moves s n count (named.ConnC2 version window timeout) came put h = search rules
 on_refused moves s n count (named.AckTo to received available of) came put h =
     acks_refused moves s to received available of came put h
-on_refused moves s n count (named.InR1A4 to version window timeout) came put h =
-    search rules
+on_refused moves s n count (named.InR1A4 to version window timeout) came put h = search rules
 on_refused moves s n count (named.InR2A4 to) came put h = search rules
 on_refused moves s n count (named.OutR1A2 to) came put h = search rules
-on_refused moves s n count (named.OutR1A6 to version timeout) came put h =
-    search rules
+on_refused moves s n count (named.OutR1A6 to version timeout) came put h = search rules
 on_refused moves s n count named.OutR1A10 came put h = search rules
 on_refused moves s n count named.EndB2 came put h = search rules
 on_refused moves s n count packet came put h = tt
@@ -356,8 +354,8 @@ kept_behind : (config : ClientConfig) (moves : List EndMove) → AreAllowedMoves
     → (let p = (client_moved config moves).passage in
     Kept (HasComeUp moves) p.role p.came p.put)
 kept_behind config moves allowed =
-    end_moves_keep (HasComeUp moves) (Kept (HasComeUp moves)) (steps (HasComeUp moves))
-    (client_started config) moves allowed (λ leg cookie is. is)
+    end_moves_keep client_rules acts (HasComeUp moves) (Kept (HasComeUp moves))
+    (steps (HasComeUp moves)) (client_started config) moves allowed (λ leg cookie is. is)
     (starts (HasComeUp moves) config)
 
 pub client_sends : (config : ClientConfig) (moves : List EndMove)

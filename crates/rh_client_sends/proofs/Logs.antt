@@ -1,5 +1,5 @@
 -- a message more in a log: what began, what came, and up to where was told
-use Rattle.std.proofs.Common.{◌≡◌, ◌⊎◌, ℕ, ◌+◌, ◌≤◌, ◌==◌, nat_le, Bool, true, false, if◌then◌else◌, List, [], ◌∷◌, ◌++◌, inl, inr, arith, refl, sym, ap, ◌∙◌, subst}
+use Rattle.std.proofs.Common.{◌≡◌, ◌⊎◌, ℕ, ◌≤◌, nat_le, Bool, true, false, if◌then◌else◌, List, [], ◌∷◌, ◌++◌, inl, inr, arith, refl, sym, ap, ◌∙◌, subst}
 use Rattle.std.specs.Prelude.{max}
 use Rattle.std.proofs.lemmas.Bool.Decides.{nat_tests}
 use Rattle.std.proofs.lemmas.List.{append-nil}
@@ -17,7 +17,7 @@ use Rattle.rh_order.proofs.ByNumber.{test_same}
 use Rattle.rh_passages.specs.Passing.{pdu_bytes, Has, HasOn, HasOne}
 use Rattle.rh_passages.proofs.Messages.{leg_more, has_more, has_last, bytes_append, one_more_so}
 use Rattle.rh_client.specs.State.{co}
-use Rattle.rh_client_sends.specs.Sends.{TellsEdge, IsTold, IsWithin}
+use Rattle.rh_client_sends.specs.Sends.{TellsEdge, IsWithin}
 
 -- ---- on a leg
 

@@ -1,5 +1,5 @@
 -- the next message of a leg, as a client puts it
-use Rattle.std.proofs.Common.{◌≡◌, ◌⊎◌, ℕ, ◌==◌, Bool, true, false, ◌&&◌, not, if◌then◌else◌, List, [], ◌∷◌, ◌++◌, Some, None, inl, inr, refl, sym, ap, ◌∙◌, subst}
+use Rattle.std.proofs.Common.{◌≡◌, ◌⊎◌, ℕ, ◌==◌, ◌&&◌, if◌then◌else◌, List, [], ◌∷◌, ◌++◌, Some, None, inl, inr, refl, sym, ap, subst}
 use Rattle.std.proofs.lemmas.Bool.{false≢true, and_parts}
 use Rattle.std.specs.declared.option.Option.{Option}
 use Rattle.rh_rts.specs.declared.command.Cookie.{Cookie}
@@ -35,9 +35,9 @@ use Rattle.rh_client.specs.Replacements.{is_in, is_out}
 use Rattle.rh_client.specs.State.{ci, co, is_writing, is_in_successor, is_current, is_out_successor}
 use Rattle.rh_client.specs.Acknowledging.{ack_due, cookie_of}
 use Rattle.rh_client.specs.InReplacement.{handed_over}
-use Rattle.rh_client.specs.Putting.{Pick, conn_a1, conn_b1, in_r1_a1, out_r1_a3, begun_in, begun_out, with_end_put, without_ping, put_conn_b1, put_in_r1_a1, put_current, put_out_successor, put_out, put_in_r1_a5, put_out_r1_a7, due_by, put_due, ack_by, put_ack_of, put_ack, put_pdu, is_end_due, put_end, put_ping, put_successor_ping, put_next, put_writing, put_in_successor, put_in, settled_or_wished, settled_pick, put_by, or_else}
+use Rattle.rh_client.specs.Putting.{Pick, conn_a1, conn_b1, in_r1_a1, out_r1_a3, begun_in, begun_out, with_end_put, without_ping, put_conn_b1, put_in_r1_a1, put_current, put_out_successor, put_out, due_by, put_due, ack_by, put_ack_of, put_ack, put_pdu, is_end_due, put_end, put_ping, put_successor_ping, put_next, put_writing, put_in_successor, put_in, settled_pick, put_by, or_else}
 use Rattle.rh_client_sends.proofs.Logs.{leg_here}
-use Rattle.rh_client_sends.proofs.Facts.{seen_in, seen_out, BeginsSo, Kept, was_put}
+use Rattle.rh_client_sends.proofs.Facts.{seen_in, BeginsSo, Kept, was_put}
 use Rattle.rh_client_sends.proofs.Channels.{known_begun, with_writing, with_successor, with_current, with_out_successor}
 use Rattle.rh_client_sends.proofs.Changes.{quiet, turned, settled_kept, handed_kept}
 use Rattle.rh_client_sends.proofs.Puts.{Puts, or_put, IsPlain, text_plain, none_begun, plain_put, pdu_put}

@@ -1,58 +1,31 @@
 -- what a client keeps as it puts a message
-use Rattle.std.proofs.Common.{◌≡◌, ◌≢◌, ◌⊎◌, ℕ, suc, ◌+◌, ◌<◌, ◌≤◌, ◌==◌, nat_eq, nat_le, Bool, true, false, true≢false, ◌&&◌, not, if◌then◌else◌, List, [], ◌∷◌, ◌++◌, length, Some, None, inl, inr, arith, refl, sym, ap, ◌∙◌, subst}
+use Rattle.std.proofs.Common.{◌≡◌, ◌≢◌, ℕ, suc, ◌+◌, ◌≤◌, nat_eq, Bool, true, false, true≢false, ◌&&◌, if◌then◌else◌, List, [], ◌∷◌, ◌++◌, length, Some, None, arith, refl, sym, ap, ◌∙◌, subst}
 use Rattle.std.proofs.lemmas.Bool.{false≢true, and_parts}
 use Rattle.std.proofs.lemmas.Bool.Decides.{nat_tests}
-use Rattle.std.specs.declared.option.Option.{Option}
 use Rattle.rh_rts.specs.declared.command.Cookie.{Cookie}
-use Rattle.rh_keep.specs.Meters.{may_put, fits}
+use Rattle.rh_keep.specs.Meters.{may_put}
 use Rattle.rh_window.specs.Sending.{may_send}
-use Rattle.rh_window.specs.declared.recv_window.Ack.{Ack}
-use Rattle.rh_http.specs.Texts.{in_request, out_request}
-use Rattle.rh_sig.specs.declared.named.Named.{Named}
-use Rattle.rh_sig.specs.declared.named.Named.TheVariants as named
-use Rattle.rh_line.specs.Lines.{after_told}
 use Rattle.rh_line.specs.Queue.{behind, front_length}
 use Rattle.rh_line.specs.declared.leg.Leg.{Leg}
-use Rattle.rh_line.specs.declared.leg.LegKind.{LegKind}
-use Rattle.rh_line.specs.declared.leg.LegKind.TheVariants.{ClientOut, OutServer, ClientIn, InServer}
-use Rattle.rh_line.specs.declared.which.Which.{Which}
-use Rattle.rh_line.specs.declared.which.Which.TheVariants.{Current, Next}
 use Rattle.rh_order.proofs.ByNumber.{by_test, same_number, other_number, test_same, test_other}
 use Rattle.rh_shell.specs.declared.answers.Phase.{Phase}
 use Rattle.rh_shell.specs.declared.answers.Phase.TheVariants as phase
 use Rattle.rh_shell.specs.NearEnds.{first_of}
-use Rattle.rh_shell.specs.Rules.{Message, Text, Pdu, Packet}
+use Rattle.rh_shell.specs.Rules.{Message, Text, Pdu}
 use Rattle.rh_shell.specs.Moves.{OnLeg}
-use Rattle.rh_shell.specs.Shells.{same_leg}
 use Rattle.rh_shell.specs.Wires.{of_leg}
-use Rattle.rh_passages.specs.Passing.{pdu_bytes, HasBegunIn, HasBegunOut, BeginsIn, BeginsOut}
+use Rattle.rh_passages.specs.Passing.{pdu_bytes, HasBegunIn, HasBegunOut, BeginsIn}
 use Rattle.rh_passages.proofs.Logs.{PutKeeps}
-use Rattle.rh_passages.proofs.Messages.{bytes_append, last_one_so}
-use Rattle.rh_client.specs.declared.channels.InChannel.{InChannel}
-use Rattle.rh_client.specs.declared.channels.Opening.{Opening}
-use Rattle.rh_client.specs.declared.channels.Opening.TheVariants.{NotUp, Request, First, Second, Put}
-use Rattle.rh_client.specs.declared.lengths.TheConstants.{CONN_B1_LEN, IN_R1_A1_LEN, IN_R1_A5_LEN}
-use Rattle.rh_client.specs.declared.lengths.TheConstants.{OUT_R1_A7_LEN, END_A1_LEN, ACK_TO_LEN}
-use Rattle.rh_client.specs.declared.lengths.TheConstants.{PING_LEN, CONN_A1_LEN, OUT_R1_A3_C1_LEN}
-use Rattle.rh_client.specs.declared.replacement.Replacement.{Replacement}
-use Rattle.rh_client.specs.declared.replacement.Replacement.TheVariants.{NoneUnderWay, In, Out}
-use Rattle.rh_client.specs.declared.replacement.InStage.{InStage}
-use Rattle.rh_client.specs.declared.replacement.InStage.TheVariants as in_stage
-use Rattle.rh_client.specs.declared.replacement.OutStage.{OutStage}
-use Rattle.rh_client.specs.declared.replacement.OutStage.TheVariants as out_stage
-use Rattle.rh_client.specs.declared.replacement.Waits.{Waits}
+use Rattle.rh_passages.proofs.Messages.{bytes_append}
 use Rattle.rh_client.specs.declared.state.ClientRole.{ClientRole}
-use Rattle.rh_client.specs.Channels.{is_up, is_put, metered, sent}
+use Rattle.rh_client.specs.Channels.{is_put, sent}
 use Rattle.rh_client.specs.Replacements.{is_in}
-use Rattle.rh_client.specs.State.{ci, co, is_open, is_opening, is_writing, is_in_successor, is_current, is_out_successor}
-use Rattle.rh_client.specs.Acknowledging.{ack_due, cookie_of}
-use Rattle.rh_client.specs.InReplacement.{handed_over}
-use Rattle.rh_client.specs.Putting.{Pick, or_else, conn_a1, conn_b1, in_r1_a1, out_r1_a3, begun_in, begun_out, with_end_put, without_ping, put_conn_b1, put_in_r1_a1, put_current, put_out_successor, put_out, put_in_r1_a5, put_out_r1_a7, in_due, out_due, due_by, put_due, ack_by, put_ack_of, put_ack, lets_pdu, pdu_by, put_pdu, is_end_due, put_end, put_ping, put_successor_ping, put_next, put_writing, put_in_successor, put_in, settled_pick, put_by}
+use Rattle.rh_client.specs.State.{ci, is_open, is_opening}
+use Rattle.rh_client.specs.Putting.{Pick, or_else, lets_pdu, pdu_by}
 use Rattle.rh_client_sends.specs.Sends.{IsWithin}
 use Rattle.rh_client_sends.proofs.Logs.{leg_here, leg_other, one_stays, within_so, within_less}
-use Rattle.rh_client_sends.proofs.Facts.{SeenIn, seen_in, seen_out, seen, put_bytes, IsCookieOf, IsKnownOut, IsKnownIn, IsSo, BeginsSo, Kept, logs_put, was_put}
-use Rattle.rh_client_sends.proofs.Channels.{known_begun, with_writing, with_successor, with_current, with_out_successor}
-use Rattle.rh_client_sends.proofs.Changes.{Same, quiet, turned, same_kept, turned_kept, settled_kept, handed_kept}
+use Rattle.rh_client_sends.proofs.Facts.{SeenIn, seen_in, seen, put_bytes, IsCookieOf, IsKnownIn, IsSo, BeginsSo, Kept, logs_put, was_put}
+use Rattle.rh_client_sends.proofs.Changes.{Same, quiet, same_kept}
 
 open_is : (p : Phase) → is_open p ≡ true → is_opening p ≡ false
 open_is phase.Opening e = absurd (false≢true e)
@@ -66,7 +39,8 @@ pub record IsPlain (m : Message) : Type 0 where
   pub outs : (cookie : Cookie) → HasBegunOut cookie (m ∷ []) → ⊥
 
 pub text_plain : (bytes : List ℕ) → IsPlain (Text bytes)
-text_plain bytes = record { bytes = refl; ins = λ cookie never. never; outs = λ cookie never. never }
+text_plain bytes =
+    record { bytes = refl; ins = λ cookie never. never; outs = λ cookie never. never }
 
 module _ (Comes : Leg → Cookie → Type 0) where
 

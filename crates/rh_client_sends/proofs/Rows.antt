@@ -1,5 +1,5 @@
 -- what the rows of a client keep, as what comes is taken or refused
-use Rattle.std.proofs.Common.{◌≡◌, ◌⊎◌, ℕ, ◌+◌, ◌==◌, nat_le, nat_lt, Bool, true, false, ◌&&◌, ◌||◌, not, if◌then◌else◌, List, ◌++◌, ◌∷◌, [], length, Some, None, Ok, Err, inl, inr, arith, refl, sym, ap, ◌∙◌, subst}
+use Rattle.std.proofs.Common.{◌≡◌, ℕ, ◌+◌, ◌==◌, nat_lt, Bool, true, false, ◌&&◌, ◌||◌, not, if◌then◌else◌, List, ◌++◌, ◌∷◌, [], Some, None, Ok, Err, refl, sym, ap, ◌∙◌, subst}
 use Rattle.std.proofs.lemmas.Bool.{false≢true, and_parts}
 use Rattle.std.proofs.lemmas.Slice.Eq.{bytes_eq-Decides}
 use Rattle.std.specs.Prelude.{max, is_ok}
@@ -16,11 +16,11 @@ use Rattle.rh_line.specs.declared.leg.Leg.{Leg}
 use Rattle.rh_line.specs.declared.leg.LegKind.{LegKind}
 use Rattle.rh_line.specs.declared.leg.LegKind.TheVariants.{ClientOut, OutServer, ClientIn, InServer}
 use Rattle.rh_line.specs.declared.which.Which.{Which}
-use Rattle.rh_line.specs.Lines.{after_admit, admit_verdict, channel_of, after_end, after_finish}
+use Rattle.rh_line.specs.Lines.{after_admit, channel_of, after_end, after_finish}
 use Rattle.rh_order.proofs.ByNumber.{by_test, same_number}
 use Rattle.rh_shell.specs.declared.answers.Count.{Count}
 use Rattle.rh_shell.specs.declared.answers.Phase.TheVariants as phase
-use Rattle.rh_shell.specs.Rules.{Message, Pdu, Packet}
+use Rattle.rh_shell.specs.Rules.{Pdu, Packet}
 use Rattle.rh_shell.specs.Hearing.{is_zero}
 use Rattle.rh_shell.specs.Moves.{OnLeg}
 use Rattle.rh_passages.proofs.Logs.{RowKeeps}
@@ -33,20 +33,19 @@ use Rattle.rh_client.specs.declared.replacement.InStage.TheVariants as in_stage
 use Rattle.rh_client.specs.declared.replacement.OutStage.{OutStage}
 use Rattle.rh_client.specs.declared.replacement.OutStage.TheVariants as out_stage
 use Rattle.rh_client.specs.declared.replacement.Waits.{Waits}
-use Rattle.rh_client.specs.declared.replacement.Waits.TheVariants as waits
 use Rattle.rh_client.specs.declared.state.ClientRole.{ClientRole}
 use Rattle.rh_client.specs.Channels.{is_up, is_put, is_asked, is_named, told_in}
 use Rattle.rh_client.specs.Replacements.{is_in, has_out, with_out}
-use Rattle.rh_client.specs.State.{Done, taken, unexpected, is_open, is_opening, is_current, is_out_successor, settled, begin_out, co}
+use Rattle.rh_client.specs.State.{Done, taken, unexpected, is_open, is_opening, is_current, is_out_successor, settled, co}
 use Rattle.rh_client.specs.Opening.{on_conn_a3, on_conn_c2}
-use Rattle.rh_client.specs.Acknowledging.{pdu_channel, pdu_on, admit_row, on_pdu, acked, ack_row, ack_row_by, ack_named, on_ack_to}
+use Rattle.rh_client.specs.Acknowledging.{pdu_channel, pdu_on, acked, ack_row, ack_row_by, ack_named, on_ack_to}
 use Rattle.rh_client.specs.InReplacement.{answer_at, answer_by, answered, on_in_r1_a4, on_in_r2_a4}
 use Rattle.rh_client.specs.OutReplacement.{a2_by, on_out_r1_a2, a6_at, a6_by, on_out_r1_a6, passed, a10_at, a10_by, on_out_r1_a10}
 use Rattle.rh_client.specs.Ending.{end_channel, end_on, on_end_b2}
-use Rattle.rh_client.specs.Client.{pdu_by, on_packet, packet_on, packet_by}
+use Rattle.rh_client.specs.Client.{pdu_by, on_packet, packet_by}
 use Rattle.rh_client_sends.specs.Sends.{IsWithin}
-use Rattle.rh_client_sends.proofs.Logs.{within_so, within_more, within_both, within_last}
-use Rattle.rh_client_sends.proofs.Facts.{seen_in, seen, put_bytes, IsCookieOf, IsOfNone, Kept, heard}
+use Rattle.rh_client_sends.proofs.Logs.{within_more, within_both, within_last}
+use Rattle.rh_client_sends.proofs.Facts.{seen_in, IsCookieOf, IsOfNone, Kept, heard}
 use Rattle.rh_client_sends.proofs.Channels.{known_told, known_edge, with_writing, with_successor, with_leaving}
 use Rattle.rh_client_sends.proofs.Changes.{Same, quiet, itself, settled_same, turned, same_kept, turned_kept, successor_none, a2_kept, passed_kept}
 
