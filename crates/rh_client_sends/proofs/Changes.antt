@@ -57,7 +57,6 @@ abbrev pub idle : ClientRole → ClientRole
 idle s = record s { replacement = NoneUnderWay }
 
 module _ (Comes : Leg → Cookie → Type 0) where
-
   pub same_kept : (s t : ClientRole) (came put : List OnLeg) → Same s t → Kept Comes s came put
       → Kept Comes t came put
   same_kept s t came put same h = record {

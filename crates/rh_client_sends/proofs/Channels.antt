@@ -18,7 +18,6 @@ use Rattle.rh_client_sends.proofs.Logs.{within_so}
 use Rattle.rh_client_sends.proofs.Facts.{SeenIn, seen_in, seen_out, put_bytes, IsCookieOf, IsOfNone, IsKnownOut, IsKnownIn, IsNumbered, IsStill, Kept}
 
 module _ (Comes : Leg → Cookie → Type 0) where
-
   -- ---- one channel changes
 
   -- none is there

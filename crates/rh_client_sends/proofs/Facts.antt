@@ -93,7 +93,6 @@ IsStill phase x = is_opening phase ≡ true → x.window.sent ≡ 0
 
 -- Comes says of a leg and a cookie that the leg came up with it
 module _ (Comes : Leg → Cookie → Type 0) where
-
   abbrev pub IsKnownOut : SeenOut → Type 0
   IsKnownOut x = is_up x.opening ≡ true → Comes (co x.number) x.cookie
 

@@ -78,7 +78,7 @@ ping_same : (s : ClientRole) (n : ℕ) (kind : LegKind) → Same s (ping_by s n 
 ping_same s n ClientIn =
     let t : ClientRole = record s { writing = record (s.writing) { is_ping_due = true } } in
     let u : ClientRole = record s {
-      in_successor = record (s.in_successor) { is_ping_due = true }
+      in_successor = record (s.in_successor) { is_ping_due = true };
     } in
     by_test (Same s) (is_writing s n) t (if is_in_successor s n then u else s)
     (λ e. quiet s t refl refl)
@@ -88,7 +88,6 @@ ping_same s n OutServer = itself s
 ping_same s n InServer = itself s
 
 module _ (Comes : Leg → Cookie → Type 0) where
-
   up_in_kept : (s : ClientRole) (n : ℕ) (cookie : Cookie) (came put : List OnLeg)
       → wants_by s n ClientIn ≡ true → Comes (ci n) cookie → Kept Comes s came put
       → Kept Comes (up_by s n cookie ClientIn) came put
@@ -250,22 +249,32 @@ false_ack moves c came put received available of known names =
 
     greater : (b : Bool) → nat_lt GREATEST_WINDOW available ≡ b
         → Goal (ack_row_by (if b then Err (bad_ack available) else Ok tt))
-    greater true e =
-        (refl, (c.number, record {
+    greater true e = (
+      refl,
+      (
+        c.number,
+        record {
           is_of_it = is_of_it;
           exceeds = inr (grind (arith, nat_tests, e));
-        }))
+        },
+      ),
+    )
     greater false e = tt
 
     by : (b : Bool) → nat_lt c.window.sent received ≡ b
         → Goal (ack_row_by (if b then Err (bad_ack received)
         else (if nat_lt GREATEST_WINDOW available then Err (bad_ack available) else Ok tt)))
     by true e =
-        let counted = known.counted in
-        (refl, (c.number, record {
-          is_of_it = is_of_it;
-          exceeds = inl (grind (arith, nat_tests, e, counted));
-        }))
+        let counted = known.counted in (
+          refl,
+          (
+            c.number,
+            record {
+              is_of_it = is_of_it;
+              exceeds = inl (grind (arith, nat_tests, e, counted));
+            },
+          ),
+        )
     by false e = greater (nat_lt GREATEST_WINDOW available) refl
 
 acks_refused : (moves : List EndMove) (s : ClientRole) (to received available : ℕ) (of : Cookie)
@@ -284,17 +293,20 @@ acks_refused moves s to received available of came put h =
 
     by_name : Goal 0 (ack_named s received available of).1
     by_name =
-        by_test (λ (x : Done). Goal 0 x.1) (is_named s.writing of)
-        (record s { writing = acked s.writing received available },
-        ack_row s.writing received available) _
+        by_test (λ (x : Done). Goal 0 x.1) (is_named s.writing of) (
+          record s { writing = acked s.writing received available },
+          ack_row s.writing received available,
+        ) _
         (λ e. false_ack moves s.writing came put received available of h.so.writing e)
-        (λ e. by_test (λ (x : Done). Goal 0 x.1) (is_named s.in_successor of)
-        (record s { in_successor = acked s.in_successor received available },
-        ack_row s.in_successor received available) _
+        (λ e. by_test (λ (x : Done). Goal 0 x.1) (is_named s.in_successor of) (
+          record s { in_successor = acked s.in_successor received available },
+          ack_row s.in_successor received available,
+        ) _
         (λ f. false_ack moves s.in_successor came put received available of h.so.in_successor f)
-        (λ f. by_test (λ (x : Done). Goal 0 x.1) (is_named s.leaving of)
-        (record s { leaving = acked s.leaving received available },
-        ack_row s.leaving received available) (taken s)
+        (λ f. by_test (λ (x : Done). Goal 0 x.1) (is_named s.leaving of) (
+          record s { leaving = acked s.leaving received available },
+          ack_row s.leaving received available,
+        ) (taken s)
         (λ g. false_ack moves s.leaving came put received available of h.so.leaving g)
         (λ g. tt)))
 

@@ -47,7 +47,7 @@ bytes_stay leg log one none =
     by true e =
         let all = bytes_append (of_leg leg log) (one.1 ∷ []) in
         let sum : pdu_bytes (of_leg leg log ++ one.1 ∷ []) ≡ pdu_bytes (of_leg leg log) =
-            omega (arith, all, none) in
+        omega (arith, all, none) in
         ap pdu_bytes (leg_here leg log one e) ∙ sum
     by false e = ap pdu_bytes (leg_other leg log one e)
 
@@ -95,16 +95,20 @@ one_was P leg log one h =
 pub on_more : (kind : LegKind) (named : Named) (log : List OnLeg) (one : OnLeg)
     → HasOn kind named log → HasOn kind named (log ++ one ∷ [])
 on_more kind named log one (n, has) =
-    let leg : Leg = record { kind = kind; number = n } in
-    (n, subst (λ (ms : List Message). Has named ms) (sym (leg_more leg log one))
-    (has_more named (of_leg leg log) (of_leg leg (one ∷ [])) has))
+    let leg : Leg = record { kind = kind; number = n } in (
+      n,
+      subst (λ (ms : List Message). Has named ms) (sym (leg_more leg log one))
+          (has_more named (of_leg leg log) (of_leg leg (one ∷ [])) has),
+    )
 
 pub on_last : (n : ℕ) (named : Named) (log : List OnLeg)
     → HasOn ClientOut named (log ++ (co n, Packet named) ∷ [])
-on_last n named log =
-    (n, subst (λ (ms : List Message). Has named ms)
-    (sym (leg_here (co n) log (co n, Packet named) (test_same n)))
-    (has_last named (of_leg (co n) log)))
+on_last n named log = (
+  n,
+  subst (λ (ms : List Message). Has named ms)
+      (sym (leg_here (co n) log (co n, Packet named) (test_same n)))
+      (has_last named (of_leg (co n) log)),
+)
 
 -- ---- within what was told
 

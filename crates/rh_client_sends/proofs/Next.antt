@@ -56,7 +56,6 @@ packet_plain packet no_in no_out = record {
 }
 
 module _ (Comes : Leg → Cookie → Type 0) where
-
   -- ---- behind what the writing channel begins with
 
   due_put : (s : ClientRole) (came put : List OnLeg) → Kept Comes s came put
@@ -128,7 +127,7 @@ module _ (Comes : Leg → Cookie → Type 0) where
   unfolding put_end
   end_put s came put h =
       let t : ClientRole = record s {
-        writing = with_end_put (metered s.writing END_A1_LEN)
+        writing = with_end_put (metered s.writing END_A1_LEN);
       } in
       by_test (Puts Comes (ci s.writing.number) came put)
       (is_end_due s && fits s.writing.meter END_A1_LEN)
@@ -208,7 +207,7 @@ module _ (Comes : Leg → Cookie → Type 0) where
       let text : Message = Text (in_request s.config) in
       let one : OnLeg = (ci s.writing.number, text) in
       let k = was_put Comes s came put one refl
-          (none_begun Comes (ci s.writing.number) text (text_plain (in_request s.config))) h in
+      (none_begun Comes (ci s.writing.number) text (text_plain (in_request s.config))) h in
       with_writing Comes s (begun_in s.writing First) came (put ++ one ∷ []) refl
       (known_begun Comes (seen_in s.writing) First came (put ++ one ∷ []) (ap is_up e) refl
       (λ f. absurd (false≢true f)) k.so.writing) k.still k
@@ -220,8 +219,8 @@ module _ (Comes : Leg → Cookie → Type 0) where
       (λ f.
       let one : OnLeg = (leg, Packet (conn_b1 s)) in
       let k = was_put Comes s came put one refl
-          (begins_in s.writing.number s.writing.cookie (conn_b1 s) (λ x is. is) (λ x never. never)
-          (h.so.writing.comes (ap is_up e))) h in
+      (begins_in s.writing.number s.writing.cookie (conn_b1 s) (λ x is. is) (λ x never. never)
+      (h.so.writing.comes (ap is_up e))) h in
       with_writing Comes s c came (put ++ one ∷ []) refl
       (known_begun Comes (seen_in s.writing) Put came (put ++ one ∷ []) (ap is_up e) refl
       (λ g. begun_there s.writing.number s.writing.cookie (conn_b1 s) put refl) k.so.writing)
@@ -239,8 +238,8 @@ module _ (Comes : Leg → Cookie → Type 0) where
       let text : Message = Text (in_request s.config) in
       let one : OnLeg = (ci s.in_successor.number, text) in
       let k = was_put Comes s came put one refl
-          (none_begun Comes (ci s.in_successor.number) text (text_plain (in_request s.config)))
-          h in
+      (none_begun Comes (ci s.in_successor.number) text (text_plain (in_request s.config)))
+      h in
       with_successor Comes s (begun_in s.in_successor First) came (put ++ one ∷ []) refl
       (known_begun Comes (seen_in s.in_successor) First came (put ++ one ∷ []) (ap is_up e) refl
       (λ f. absurd (false≢true f)) k.so.in_successor) k
@@ -252,8 +251,8 @@ module _ (Comes : Leg → Cookie → Type 0) where
       (λ f.
       let one : OnLeg = (leg, Packet (in_r1_a1 s)) in
       let k = was_put Comes s came put one refl
-          (begins_in s.in_successor.number s.in_successor.cookie (in_r1_a1 s) (λ x is. is)
-          (λ x never. never) (h.so.in_successor.comes (ap is_up e))) h in
+      (begins_in s.in_successor.number s.in_successor.cookie (in_r1_a1 s) (λ x is. is)
+      (λ x never. never) (h.so.in_successor.comes (ap is_up e))) h in
       with_successor Comes s c came (put ++ one ∷ []) refl
       (known_begun Comes (seen_in s.in_successor) Put came (put ++ one ∷ []) (ap is_up e) refl
       (λ g. begun_there s.in_successor.number s.in_successor.cookie (in_r1_a1 s) put refl)
@@ -263,7 +262,7 @@ module _ (Comes : Leg → Cookie → Type 0) where
   successor_put s Put came put e h =
       let leg = ci s.in_successor.number in
       let t : ClientRole = record s {
-        in_successor = without_ping (metered s.in_successor PING_LEN)
+        in_successor = without_ping (metered s.in_successor PING_LEN);
       } in
       by_test (Puts Comes leg came put)
       (s.in_successor.is_ping_due && may_put s.in_successor.meter PING_LEN)

@@ -43,7 +43,6 @@ text_plain bytes =
     record { bytes = refl; ins = λ cookie never. never; outs = λ cookie never. never }
 
 module _ (Comes : Leg → Cookie → Type 0) where
-
   abbrev pub Puts : Leg → List OnLeg → List OnLeg → Pick → Type 0
   Puts leg came put pick = PutKeeps (Kept Comes) leg came put pick
 
@@ -116,7 +115,7 @@ module _ (Comes : Leg → Cookie → Type 0) where
       here =
           let all = bytes_append (of_leg (ci s.writing.number) put) (Pdu pdu ∷ []) in
           let sum : pdu_bytes (of_leg (ci s.writing.number) put ++ Pdu pdu ∷ [])
-              ≡ put_bytes put s.writing.number + length pdu = omega (arith, all) in
+          ≡ put_bytes put s.writing.number + length pdu = omega (arith, all) in
           ap pdu_bytes (leg_here (ci s.writing.number) put one (test_same s.writing.number)) ∙ sum
 
       there : (n : ℕ) → s.writing.number ≢ n
@@ -154,7 +153,7 @@ module _ (Comes : Leg → Cookie → Type 0) where
       within_edge =
           let counted = so.writing.counted in
           let edge : s.writing.window.sent + length pdu ≤ s.writing.window.edge =
-              grind (arith, nat_tests, may) in
+          grind (arith, nat_tests, may) in
           omega (arith, here, counted, edge)
 
       within_here : Within s.writing.number
@@ -189,10 +188,10 @@ module _ (Comes : Leg → Cookie → Type 0) where
       by_test (Puts (ci s.writing.number) came put) (lets_pdu s (length pdu)) _ None
       (λ e.
       let lets = and_parts (is_open s.phase)
-          (may_send s.writing.window (length pdu) && may_put s.writing.meter (length pdu)) e in
+      (may_send s.writing.window (length pdu) && may_put s.writing.meter (length pdu)) e in
       let may = (and_parts (may_send s.writing.window (length pdu))
-          (may_put s.writing.meter (length pdu))
-          lets.1).0 in
+      (may_put s.writing.meter (length pdu))
+      lets.1).0 in
       let t : ClientRole = record s { writing = sent s.writing (length pdu) } in
       subst (λ (bytes : List ℕ). Kept Comes (record t { queue = behind s.queue }) came
       (put ++ (ci s.writing.number, Pdu bytes) ∷ [])) (sym (ap first_of is))

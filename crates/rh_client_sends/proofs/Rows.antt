@@ -92,7 +92,6 @@ pdu_same s n bytes ClientIn = itself s
 pdu_same s n bytes InServer = itself s
 
 module _ (Comes : Leg → Cookie → Type 0) where
-
   same_row : (one : OnLeg) (s : ClientRole) (x : Done) (came put : List OnLeg) → Same s x.0
       → Kept Comes s came put → RowKeeps (Kept Comes) one came put x
   same_row one s (t, Ok done) came put same h =
@@ -209,9 +208,9 @@ module _ (Comes : Leg → Cookie → Type 0) where
         (record s { phase = phase.Open; writing = told_in s.writing window timeout })
         (λ e.
         let still = (and_parts (is_opening s.phase) (is_some s.current.timeout)
-            (and_parts (n == 1 && is_current s n)
-            (is_opening s.phase && is_some s.current.timeout)
-            e).1).0 in
+        (and_parts (n == 1 && is_current s n)
+        (is_opening s.phase && is_some s.current.timeout)
+        e).1).0 in
         let t : ClientRole = record s { writing = told } in
         same_kept Comes t (record t { phase = phase.Open }) (came ++ one ∷ []) put
         (record { same = refl; still = λ f. absurd (false≢true f) })
@@ -273,11 +272,14 @@ module _ (Comes : Leg → Cookie → Type 0) where
         by (ack_verdict c.window received available)
       where
         by : (v : Result (Unit {0}) BadAck)
-            → Keeps (back (record c {
-              window = if is_ok v
-                then record (c.window) { edge = max c.window.edge (received + available) }
-                else c.window;
-            }), ack_row_by v)
+            → Keeps (
+              back (record c {
+                window = if is_ok v
+                    then record (c.window) { edge = max c.window.edge (received + available) }
+                    else c.window;
+              }),
+              ack_row_by v,
+            )
         by (Ok done) =
             change (max c.window.edge (received + available))
             (within_both (IsCookieOf (seen_in c)) (came ++ one ∷ []) c.window.edge
@@ -304,9 +306,10 @@ module _ (Comes : Leg → Cookie → Type 0) where
 
         by_name : to ≡ 0 → Keeps (ack_named s received available of)
         by_name none =
-            by_test Keeps (is_named s.writing of)
-            (record s { writing = acked s.writing received available },
-            ack_row s.writing received available) _
+            by_test Keeps (is_named s.writing of) (
+              record s { writing = acked s.writing received available },
+              ack_row s.writing received available,
+            ) _
             (λ e. acked_row s.writing (λ (c : InChannel). record s { writing = c }) received
             available h h.so.writing.edge (tells s.writing none e)
             (λ edge told. with_writing Comes s
@@ -314,9 +317,10 @@ module _ (Comes : Leg → Cookie → Type 0) where
             (came ++ one ∷ []) put refl
             (known_edge Comes (seen_in s.writing) edge (came ++ one ∷ []) put told
             hears.so.writing) h.still hears))
-            (λ e. by_test Keeps (is_named s.in_successor of)
-            (record s { in_successor = acked s.in_successor received available },
-            ack_row s.in_successor received available) _
+            (λ e. by_test Keeps (is_named s.in_successor of) (
+              record s { in_successor = acked s.in_successor received available },
+              ack_row s.in_successor received available,
+            ) _
             (λ f. acked_row s.in_successor (λ (c : InChannel). record s { in_successor = c })
             received available h h.so.in_successor.edge (tells s.in_successor none f)
             (λ edge told. with_successor Comes s
@@ -324,9 +328,10 @@ module _ (Comes : Leg → Cookie → Type 0) where
             (came ++ one ∷ []) put refl
             (known_edge Comes (seen_in s.in_successor) edge (came ++ one ∷ []) put told
             hears.so.in_successor) hears))
-            (λ f. by_test Keeps (is_named s.leaving of)
-            (record s { leaving = acked s.leaving received available },
-            ack_row s.leaving received available) (taken s)
+            (λ f. by_test Keeps (is_named s.leaving of) (
+              record s { leaving = acked s.leaving received available },
+              ack_row s.leaving received available,
+            ) (taken s)
             (λ g. acked_row s.leaving (λ (c : InChannel). record s { leaving = c }) received
             available h h.so.leaving.edge (tells s.leaving none g)
             (λ edge told. with_leaving Comes s
