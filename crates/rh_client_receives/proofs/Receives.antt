@@ -21,12 +21,12 @@ use Rattle.rh_line.specs.declared.which.Which.{Which}
 use Rattle.rh_line.specs.declared.which.Which.TheVariants.{Current, Next}
 use Rattle.rh_order.proofs.ByNumber.{by_test, same_number}
 use Rattle.rh_shell.specs.declared.answers.Count.{Count}
-use Rattle.rh_shell.specs.Rules.{Message, Packet}
+use Rattle.rh_shell.specs.Rules.{Message, Pdu, Packet}
 use Rattle.rh_shell.specs.Shells.{same_leg}
-use Rattle.rh_shell.specs.Moves.{OnLeg, Move, Up, HeadCame, PduCame, PacketCame, Puts, IsDrawn, Marks, Pings, EndMove, Moves, Gives, Takes, Closes, Recycles, Passage, EndPassage, end_moved, all_end_moved, MayMove, MayEndMove, AreAllowedAtEnd}
+use Rattle.rh_shell.specs.Moves.{OnLeg, EndMove, Moves, Gives, Takes, Closes, Recycles, Passage, EndPassage, moved, taken_by, end_moved, MayEndMove, AreAllowedAtEnd}
 use Rattle.rh_shell.specs.Wires.{of_leg}
 use Rattle.rh_passages.specs.Passing.{pdu_bytes, Has, HasBegunOut}
-use Rattle.rh_passages.proofs.Logs.{ActsKeep}
+use Rattle.rh_passages.proofs.Logs.{RowKeeps, ActsKeep}
 use Rattle.rh_client.specs.declared.channels.InChannel.{InChannel}
 use Rattle.rh_client.specs.declared.state.ClientRole.{ClientRole}
 use Rattle.rh_client.specs.Channels.{is_named}
@@ -40,7 +40,7 @@ use Rattle.rh_client.specs.Putting.{put_by, settled_pick}
 use Rattle.rh_client.specs.Client.{packet_by, on_packet, acts as client_acts}
 use Rattle.rh_client.specs.Client.{rules as client_rules}
 use Rattle.rh_client.specs.Order.{AreAllowedMoves, client_moved, client_started}
-use Rattle.rh_client_receives.specs.Receiving.{HasBegun, IsNotEarly, NoneIsEarly, IsBehindWindow, IsBehindAcks, RefusesBehind, IsNoWindow, IsTrueAck}
+use Rattle.rh_client_receives.specs.Receiving.{IsNotEarly, NoneIsEarly, IsBehindWindow, IsBehindAcks, RefusesBehind, IsNoWindow, IsTrueAck}
 use Rattle.rh_client_receives.proofs.Along.{AllMay, LetStepsKeep, let_moves_keep}
 use Rattle.rh_client_receives.proofs.Windows.{Counts, IsBehind, refused_behind}
 use Rattle.rh_client_receives.proofs.Facts.{Says, IsTold, Kept}
@@ -60,9 +60,21 @@ same_ping s leg = search rules
 same_give : (s : ClientRole) (bytes : List ℕ) → Same s (give s bytes).0
 same_give s bytes = search rules
 
--- a move is allowed, and no RPC PDU is early where X holds
+-- behind a move of a role no RPC PDU is early
+abbrev IsLate : Passage ClientRole → EndMove → Type 0
+IsLate p (Moves move) =
+    let q = moved client_rules p move in IsNotEarly q.came q.put
+IsLate p move = Unit {0}
+
+-- a move is allowed, and no PDU is early behind it where X holds
 abbrev Let : Type 0 → Passage ClientRole → EndMove → Type 0
-Let X p move = MayEndMove client_rules p.role move × (X → IsNotEarly p move)
+Let X p move = MayEndMove client_rules p.role move × (X → IsLate p move)
+
+late_row : (p : Passage ClientRole) (leg : Leg) (m : Message) (x : Done)
+    → IsNotEarly (taken_by p leg m x).came (taken_by p leg m x).put
+    → RowKeeps (λ t all q. IsNotEarly all q) (leg, m) p.came p.put x
+late_row p leg m (s, Ok took) h = h
+late_row p leg m (s, Err why) h = h
 
 module _ (window : ℕ) (X : Type 0) (is : IsWindow window) where
   steps : LetStepsKeep client_rules (Let X) (Fits window X)
@@ -71,7 +83,8 @@ module _ (window : ℕ) (X : Type 0) (is : IsWindow window) where
         up_fits window X p.role cookie p.came p.put h leg.number leg.kind may.0.1;
     head = λ p leg text h. h;
     pdu = λ p leg count bytes may h.
-        pdu_fits window X p.role leg leg.kind bytes p.came p.put refl may.1 h;
+        pdu_fits window X p.role leg leg.kind bytes p.came p.put refl
+        (λ x. late_row p leg (Pdu bytes) (client_rules.pdu p.role leg count bytes) (may.1 x)) h;
     packet = λ p leg count m h.
         packet_fits window X p.role leg leg.kind count m p.came p.put refl h;
     put = λ p leg h. put_fits window X is leg p.came p.put p.role h;
@@ -91,12 +104,26 @@ module _ (window : ℕ) (X : Type 0) (is : IsWindow window) where
     recycle = λ s came put h. recycle_holds window X came put s s.replacement refl h;
   }
 
+first_late : (p : EndPassage ClientRole) (moves : List EndMove) → NoneIsEarly p moves
+    → IsNotEarly p.passage.came p.passage.put
+first_late p [] late = late
+first_late p (move ∷ moves) late = late.0
+
+late_behind : (p : EndPassage ClientRole) (move : EndMove) (moves : List EndMove)
+    → NoneIsEarly (end_moved client_rules client_acts p move) moves → IsLate p.passage move
+late_behind p (Moves move) moves late =
+    first_late (end_moved client_rules client_acts p (Moves move)) moves late
+late_behind p (Gives bytes) moves late = tt
+late_behind p Takes moves late = tt
+late_behind p Closes moves late = tt
+late_behind p Recycles moves late = tt
+
 each_let : (X : Type 0) (p : EndPassage ClientRole) (moves : List EndMove)
     → AreAllowedAtEnd client_rules client_acts p moves → (X → NoneIsEarly p moves)
     → AllMay client_rules client_acts (Let X) p moves
 each_let X p [] allowed late = tt
 each_let X p (move ∷ moves) allowed late = (
-  (allowed.0, λ x. (late x).0),
+  (allowed.0, λ x. late_behind p move moves (late x).1),
   each_let X (end_moved client_rules client_acts p move) moves allowed.1 (λ x. (late x).1),
 )
 

@@ -41,7 +41,7 @@ use Rattle.rh_client.specs.Ending.{end_channel, end_on, on_end_b2}
 use Rattle.rh_client.specs.InReplacement.{on_in_r1_a4, on_in_r2_a4}
 use Rattle.rh_client.specs.OutReplacement.{a2_by, on_out_r1_a2, a6_by, a6_at, on_out_r1_a6, a10_by, a10_at, passed}
 use Rattle.rh_client.specs.Client.{pdu_by, packet_by, on_packet}
-use Rattle.rh_client_receives.specs.Receiving.{HasBegun}
+use Rattle.rh_client_receives.specs.Receiving.{HasBegun, IsNotEarly}
 use Rattle.rh_client_receives.proofs.Windows.{Counts, leg_counts, admitted_told, admitted_released, admitted_counts, refused_same}
 use Rattle.rh_client_receives.proofs.Facts.{Channel, Seen, Stands, Begun, Kept, kept_more}
 use Rattle.rh_client_receives.proofs.Replaced.{channel, seen, seen_by, Same, Holds, Of, same_holds, by_replacement, another, none_out, begin_out_holds, settles, current_changes, next_changes}
@@ -136,10 +136,13 @@ module _ (window : ℕ) (X : Type 0) where
           (pdu_bytes (of_leg (co k) after))
           (leg_counts (co k) leg came bytes (here leg k out e)) before
 
-      current_pdu : (X → leg.number ≡ 1 → HasBegun 1 put)
-          → (leg.number == s.current.number) ≡ true
-          → Row (Pdu bytes) (pdu_on s bytes (Some Current))
-      current_pdu first e = by (lines.channel_verdict c bytes) refl
+      -- no PDU is early behind the row
+      abbrev Late : Done → Type 0
+      Late x = X → RowKeeps (λ t all q. IsNotEarly all q) (leg, Pdu bytes) came put x
+
+      current_pdu : (leg.number == s.current.number) ≡ true
+          → Late (pdu_on s bytes (Some Current)) → Row (Pdu bytes) (pdu_on s bytes (Some Current))
+      current_pdu e = by (lines.channel_verdict c bytes) refl
         where
           c : Incoming
           c = s.line.current
@@ -147,8 +150,15 @@ module _ (window : ℕ) (X : Type 0) where
           t : ClientRole
           t = record s { line = lines.after_admit s.line Current bytes }
 
-          asked : X → s.current.number ≡ 1 → HasBegun 1 put
-          asked early f = first early (same_number leg.number s.current.number e ∙ f)
+          after_counts : Counts window (lines.admitted c bytes)
+              (pdu_bytes (of_leg (co s.current.number) after))
+          after_counts = counts c s.current.number e h.counted.now
+
+          arrived : s.current.number ≡ 1 → 0 < (lines.admitted c bytes).window.received
+              → 0 < pdu_bytes (of_leg (co 1) after)
+          arrived f g =
+              subst (λ (n : ℕ). 0 < pdu_bytes (of_leg (co n) after)) f
+              (let most = after_counts.received in omega (arith, most, g))
 
           refuses : (fault : LineFault) → lines.channel_verdict c bytes ≡ Err fault
               → Fits t came put
@@ -157,14 +167,16 @@ module _ (window : ℕ) (X : Type 0) where
               came put) (sym (refused_same c bytes fault f)) h
 
           by : (v : Result (Unit {0}) LineFault) → lines.channel_verdict c bytes ≡ v
-              → Row (Pdu bytes) (t, admit_row v)
-          by (Ok admitted) f =
+              → Late (t, admit_row v) → Row (Pdu bytes) (t, admit_row v)
+          by (Ok admitted) f late =
               let told = admitted_told c bytes in
               current_changes window X after put (seen s) (lines.admitted c bytes)
-              (omega (arith, told)) (counts c s.current.number e h.counted.now)
-              (λ early g. asked_by window (seen s) put h.stands h.begun (asked early)) now
-          by (Err (Window exceeded)) f = refuses (Window exceeded) f
-          by (Err Over) f = refuses Over f
+              (omega (arith, told)) after_counts
+              (λ early g.
+              asked_by window (seen s) put h.stands h.begun (λ one. late early (arrived one g)))
+              now
+          by (Err (Window exceeded)) f late = refuses (Window exceeded) f
+          by (Err Over) f late = refuses Over f
 
       next_pdu : (leg.number == suc s.current.number) ≡ true
           → Row (Pdu bytes) (pdu_on s bytes (Some Next))
@@ -200,17 +212,16 @@ module _ (window : ℕ) (X : Type 0) where
           (and_parts (is_switched s) (is_out_successor s leg.number) e).1 in
           subst (λ (k : ℕ). (leg.number == k) ≡ true) (h.stands.follows is.0) is.1
 
-      pdu_row : (X → leg.number ≡ 1 → HasBegun 1 put)
+      pdu_row : Late (pdu_on s bytes (pdu_channel s leg.number))
           → Row (Pdu bytes) (pdu_on s bytes (pdu_channel s leg.number))
-      pdu_row first =
-          by_test On (not (is_open s.phase)) None _ (λ e. h)
-          (λ e. by_test On (is_current s leg.number) (Some Current) _
-          (λ f. current_pdu first f)
+      pdu_row =
+          by_test On (not (is_open s.phase)) None _ (λ e late. h)
+          (λ e. by_test On (is_current s leg.number) (Some Current) _ (λ f. current_pdu f)
           (λ f. by_test On (is_switched s && is_out_successor s leg.number) (Some Next) None
-          (λ g. next_pdu (next_number g)) (λ g. h)))
+          (λ g late. next_pdu (next_number g)) (λ g late. h)))
         where
           On : Option Which → Type 0
-          On which = Row (Pdu bytes) (pdu_on s bytes which)
+          On which = Late (pdu_on s bytes which) → Row (Pdu bytes) (pdu_on s bytes which)
 
     -- ---- END
 
@@ -388,13 +399,14 @@ module _ (window : ℕ) (X : Type 0) where
   -- ---- by the kind of the leg
 
   pub pdu_fits : (s : ClientRole) (leg : Leg) (kind : LegKind) (bytes : List ℕ)
-      (came put : List OnLeg) → leg.kind ≡ kind → (X → leg ≡ co 1 → HasBegun 1 put)
+      (came put : List OnLeg) → leg.kind ≡ kind
+      → (X → RowKeeps (λ t all q. IsNotEarly all q) (leg, Pdu bytes) came put
+      (pdu_by s leg.number bytes kind))
       → Fits s came put → RowKeeps Fits (leg, Pdu bytes) came put (pdu_by s leg.number bytes kind)
-  pdu_fits s leg ClientOut bytes came put e first h =
-      pdu_row s leg came put h e bytes (λ early f. first early (leg_is leg 1 e f))
-  pdu_fits s leg OutServer bytes came put e first h = h
-  pdu_fits s leg ClientIn bytes came put e first h = h
-  pdu_fits s leg InServer bytes came put e first h = h
+  pdu_fits s leg ClientOut bytes came put e late h = pdu_row s leg came put h e bytes late
+  pdu_fits s leg OutServer bytes came put e late h = h
+  pdu_fits s leg ClientIn bytes came put e late h = h
+  pdu_fits s leg InServer bytes came put e late h = h
 
   pub packet_fits : (s : ClientRole) (leg : Leg) (kind : LegKind) (count : Count) (m : Named)
       (came put : List OnLeg) → leg.kind ≡ kind → Fits s came put

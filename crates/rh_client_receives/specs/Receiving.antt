@@ -7,7 +7,7 @@ use Rattle.rh_sig.specs.declared.named.Named.TheVariants.{ConnA1, OutR1A3, AckTo
 use Rattle.rh_line.specs.declared.leg.Leg.{Leg}
 use Rattle.rh_shell.specs.declared.answers.Refused.TheVariants as refused
 use Rattle.rh_shell.specs.Rules.{Row}
-use Rattle.rh_shell.specs.Moves.{OnLeg, PduCame, Passage, EndMove, Moves, EndPassage, end_moved}
+use Rattle.rh_shell.specs.Moves.{OnLeg, Passage, EndMove, EndPassage, end_moved}
 use Rattle.rh_shell.specs.Wires.{of_leg}
 use Rattle.rh_passages.specs.Passing.{pdu_bytes, Has, HasBegunOut}
 use Rattle.rh_client.specs.declared.state.ClientRole.{ClientRole}
@@ -20,16 +20,15 @@ use Rattle.rh_client.specs.Client.{rules, acts}
 abbrev pub HasBegun : ℕ → List OnLeg → Type 0
 HasBegun k put = (cookie : Cookie) × HasBegunOut cookie (of_leg (co k) put)
 
--- an RPC PDU comes on the first OUT channel only once CONN/A1 was put there (profile)
-abbrev pub IsNotEarly : Passage ClientRole → EndMove → Type 0
-IsNotEarly p (Moves (PduCame leg count pdu)) = leg ≡ co 1 → HasBegun 1 p.put
-IsNotEarly p move = Unit {0}
+-- RPC PDUs came on the first OUT channel only if CONN/A1 was put there (profile)
+abbrev pub IsNotEarly : List OnLeg → List OnLeg → Type 0
+IsNotEarly came put = 0 < pdu_bytes (of_leg (co 1) came) → HasBegun 1 put
 
--- so it is with each of these moves, where it is made
+-- so it is before each of these moves, and behind them
 abbrev pub NoneIsEarly : EndPassage ClientRole → List EndMove → Type 0
-NoneIsEarly p [] = Unit {0}
+NoneIsEarly p [] = IsNotEarly p.passage.came p.passage.put
 NoneIsEarly p (move ∷ moves) =
-    IsNotEarly p.passage move × NoneIsEarly (end_moved rules acts p move) moves
+    IsNotEarly p.passage.came p.passage.put × NoneIsEarly (end_moved rules acts p move) moves
 
 -- ---- what is refused
 

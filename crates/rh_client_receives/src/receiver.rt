@@ -21,9 +21,9 @@ ghost use Rattle.rh_client_receives.specs.Receiving.{IsNoWindow, IsTrueAck, None
 ghost use Rattle.rh_client_receives.specs.Receiving.{RefusesBehind};
 
 /// Whatever happens to a client: it refuses an RPC PDU on an OUT channel for its window only where
-/// that ends behind the window that it told with the channel's first packet, and, unless a PDU came
-/// on the first OUT channel before CONN/A1 was put there, behind all that its acknowledgements told
-/// whose cookie no other OUT channel has. It refuses nothing else for a window (MS-RPCH 3.2).
+/// that ends behind the window that it told with the channel's first packet, and, unless it took a
+/// PDU on the first OUT channel before it put CONN/A1 there, behind all that its acknowledgements
+/// told whose cookie no other OUT channel has. It refuses nothing else for a window (MS-RPCH 3.2).
 pub fn a_client_receives_within_its_window()
     ensures windows { (config : ClientConfig) (moves : List EndMove) → IsWindow config.window
         → AreAllowedMoves config moves
@@ -46,9 +46,9 @@ pub fn a_client_receives_within_its_window()
 {}
 
 /// Whatever happens to a client: each acknowledgement with a destination that it put is to an out
-/// proxy; and, unless an RPC PDU came on the first OUT channel before CONN/A1 was put there, it has
-/// the cookie of an OUT channel that began, is of no more bytes of RPC PDUs than came there, and
-/// has a window that is none too great (MS-RPCH 3.2.1).
+/// proxy; and, unless it took an RPC PDU on the first OUT channel before it put CONN/A1 there, it
+/// has the cookie of an OUT channel that began, is of no more bytes of RPC PDUs than came there,
+/// and has a window that is none too great (MS-RPCH 3.2.1).
 pub fn a_client_acknowledges_what_came()
     ensures destinations { (config : ClientConfig) (moves : List EndMove)
         → IsWindow config.window → AreAllowedMoves config moves
