@@ -1,5 +1,5 @@
 -- what is known of a client's OUT channels, by what came on their legs and by what it put
-use Rattle.std.proofs.Common.{◌≡◌, ◌⊎◌, ℕ, suc, ◌+◌, ◌≤◌, ◌<◌, Bool, true, false, true≢false, if◌then◌else◌, List, [], ◌∷◌, ◌++◌, inl, inr, arith, refl, rules, sym, ap, ◌∙◌, subst}
+use Rattle.std.proofs.Common.{◌≡◌, ◌⊎◌, ℕ, suc, ◌+◌, ◌≤◌, ◌<◌, Bool, true, false, if◌then◌else◌, List, [], ◌∷◌, ◌++◌, inl, inr, arith, rules, sym, ◌∙◌, subst}
 use Rattle.std.specs.List.{AllByRecursion}
 use Rattle.rh_rts.specs.declared.command.Cookie.{Cookie}
 use Rattle.rh_window.specs.declared.range.TheConstants.{GREATEST_WINDOW}
@@ -11,7 +11,7 @@ use Rattle.rh_shell.specs.Rules.{Message, Text, Pdu, Packet}
 use Rattle.rh_shell.specs.Shells.{same_leg}
 use Rattle.rh_shell.specs.Moves.{OnLeg}
 use Rattle.rh_shell.specs.Wires.{of_leg}
-use Rattle.rh_passages.specs.Passing.{pdu_bytes, Has, HasOne, BeginsOut, HasBegunOut}
+use Rattle.rh_passages.specs.Passing.{pdu_bytes, HasOne, BeginsOut, HasBegunOut}
 use Rattle.rh_passages.proofs.Messages.{all_append, each_so, leg_more, one_more_so}
 use Rattle.rh_client.specs.State.{co}
 use Rattle.rh_client_receives.proofs.Windows.{Counts, counts_more, leg_rises}

@@ -1,16 +1,14 @@
 -- what is known of a client's OUT channels stays so behind each put
-use Rattle.std.proofs.Common.{◌≡◌, ◌⊎◌, ℕ, suc, ◌+◌, ◌≤◌, ◌<◌, ◌==◌, Bool, true, false, true≢false, not, ◌&&◌, if◌then◌else◌, List, [], ◌∷◌, ◌++◌, Some, None, inl, inr, arith, refl, rules, sym, ap, ◌∙◌, subst}
+use Rattle.std.proofs.Common.{◌≡◌, ℕ, suc, ◌+◌, ◌≤◌, ◌==◌, Bool, true, false, true≢false, not, ◌&&◌, if◌then◌else◌, List, [], ◌∷◌, ◌++◌, Some, None, inl, inr, arith, refl, sym, ap, ◌∙◌, subst}
 use Rattle.std.proofs.lemmas.Bool.{and_parts}
 use Rattle.std.proofs.lemmas.Bool.Decides.{nat_tests}
 use Rattle.std.specs.Prelude.{IfSome}
-use Rattle.std.specs.List.{AllByRecursion}
 use Rattle.std.specs.declared.option.Option.{Option}
 use Rattle.rh_rts.specs.declared.command.Cookie.{Cookie}
 use Rattle.rh_keep.specs.Meters.{may_put, fits}
 use Rattle.rh_window.specs.Sides.{IsWindow}
 use Rattle.rh_window.specs.Receiving as windows
 use Rattle.rh_window.specs.declared.recv_window.Ack.{Ack}
-use Rattle.rh_http.specs.Texts.{out_request}
 use Rattle.rh_sig.specs.declared.named.Named.{Named}
 use Rattle.rh_sig.specs.declared.named.Named.TheVariants as named
 use Rattle.rh_line.specs.Lines as lines
@@ -19,10 +17,9 @@ use Rattle.rh_line.specs.Queue.{front_length}
 use Rattle.rh_line.specs.declared.leg.Leg.{Leg}
 use Rattle.rh_line.specs.declared.leg.LegKind.{LegKind}
 use Rattle.rh_line.specs.declared.leg.LegKind.TheVariants.{ClientOut, OutServer, ClientIn, InServer}
-use Rattle.rh_line.specs.declared.which.Which.{Which}
 use Rattle.rh_line.specs.declared.which.Which.TheVariants.{Current, Next}
 use Rattle.rh_order.proofs.ByNumber.{by_test, same_number}
-use Rattle.rh_shell.specs.Rules.{Message, Text, Pdu, Packet}
+use Rattle.rh_shell.specs.Rules.{Message, Packet}
 use Rattle.rh_shell.specs.Shells.{same_leg}
 use Rattle.rh_shell.specs.Moves.{OnLeg}
 use Rattle.rh_shell.specs.Wires.{of_leg}
@@ -31,8 +28,7 @@ use Rattle.rh_passages.proofs.Logs.{PutKeeps}
 use Rattle.rh_passages.proofs.Messages.{all_append, leg_more, last_one_so}
 use Rattle.rh_client.specs.declared.channels.Opening.{Opening}
 use Rattle.rh_client.specs.declared.channels.Opening.TheVariants.{NotUp, Request, First, Second, Put}
-use Rattle.rh_client.specs.declared.channels.OutChannel.{OutChannel}
-use Rattle.rh_client.specs.declared.lengths.TheConstants.{CONN_B1_LEN, CONN_A1_LEN, IN_R1_A1_LEN, IN_R1_A5_LEN, OUT_R1_A3_C1_LEN, OUT_R1_A7_LEN, END_A1_LEN, ACK_TO_LEN, PING_LEN}
+use Rattle.rh_client.specs.declared.lengths.TheConstants.{CONN_B1_LEN, IN_R1_A1_LEN, IN_R1_A5_LEN, OUT_R1_A7_LEN, END_A1_LEN, ACK_TO_LEN, PING_LEN}
 use Rattle.rh_client.specs.declared.replacement.Replacement.{Replacement}
 use Rattle.rh_client.specs.declared.replacement.Replacement.TheVariants.{NoneUnderWay, In, Out}
 use Rattle.rh_client.specs.declared.replacement.InStage.TheVariants as in_stage
@@ -41,13 +37,13 @@ use Rattle.rh_client.specs.declared.state.ClientRole.{ClientRole}
 use Rattle.rh_client.specs.Channels.{is_asked, metered, unopened_in}
 use Rattle.rh_client.specs.Replacements.{is_out, is_finished}
 use Rattle.rh_client.specs.State.{co, is_writing, is_in_successor, is_current, is_out_successor}
-use Rattle.rh_client.specs.Acknowledging.{may_ack, ack_due, cookie_of}
+use Rattle.rh_client.specs.Acknowledging.{may_ack, ack_due}
 use Rattle.rh_client.specs.InReplacement.{handed_over}
-use Rattle.rh_client.specs.Putting.{Pick, or_else, begun_out, conn_a1, out_r1_a3, due_by, put_due, ack_by, put_ack_of, put_ack, lets_pdu, pdu_by as put_pdu_by, put_pdu, is_end_due, put_end, put_ping, put_next, put_conn_b1, put_in_r1_a1, put_current, put_out_successor, put_out, put_successor_ping, put_writing, put_in_successor, put_in, settled_or_wished, settled_pick, put_by}
-use Rattle.rh_client_receives.proofs.Windows.{Counts, IsDue, due_is, none_due}
-use Rattle.rh_client_receives.proofs.Facts.{Channel, Seen, IsBegun, BeginsNone, Says, IsTold, Kept, IsQuiet, begins_none, kept_put, quiet_put, begun_more, told_grows, more_put}
-use Rattle.rh_client_receives.proofs.Replaced.{channel, seen, seen_by, Same, Of, same_holds, by_replacement, after_in_holds, settled_holds, current_changes}
-use Rattle.rh_client_receives.proofs.Rows.{Fits, here, leg_is}
+use Rattle.rh_client.specs.Putting.{Pick, or_else, begun_out, conn_a1, out_r1_a3, due_by, put_due, ack_by, put_ack_of, put_ack, lets_pdu, pdu_by as put_pdu_by, put_pdu, is_end_due, put_end, put_ping, put_next, put_conn_b1, put_in_r1_a1, put_current, put_out_successor, put_out, put_successor_ping, put_writing, put_in_successor, put_in, settled_pick, put_by}
+use Rattle.rh_client_receives.proofs.Windows.{IsDue, due_is, none_due}
+use Rattle.rh_client_receives.proofs.Facts.{Seen, BeginsNone, Says, IsTold, IsQuiet, begins_none, kept_put, quiet_put, begun_more, told_grows, more_put}
+use Rattle.rh_client_receives.proofs.Replaced.{channel, seen, Of, same_holds, by_replacement, after_in_holds, settled_holds, current_changes}
+use Rattle.rh_client_receives.proofs.Rows.{Fits, leg_is}
 
 -- the first packet of a channel, on its leg
 begins_here : (leg : Leg) (k : ℕ) (put : List OnLeg) (m : Named) (cookie : Cookie)

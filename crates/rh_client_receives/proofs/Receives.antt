@@ -1,5 +1,5 @@
 -- a client receives within its windows, and acknowledges what came
-use Rattle.std.proofs.Common.{◌≡◌, ℕ, suc, ◌+◌, ◌≤◌, ◌<◌, ◌==◌, Bool, true, false, true≢false, not, ◌&&◌, ◌||◌, if◌then◌else◌, List, [], ◌∷◌, ◌++◌, length, Some, None, Ok, Err, inl, inr, IsTrue, arith, refl, rules, sym, ap, ◌∙◌, subst}
+use Rattle.std.proofs.Common.{◌≡◌, ℕ, suc, ◌+◌, ◌<◌, ◌==◌, Bool, true, false, true≢false, not, ◌&&◌, ◌||◌, if◌then◌else◌, List, [], ◌∷◌, length, Some, None, Ok, Err, inl, inr, arith, refl, rules, sym, ◌∙◌, subst}
 use Rattle.std.proofs.lemmas.Bool.{and_parts}
 use Rattle.std.specs.List.{AllByRecursion}
 use Rattle.std.specs.declared.option.Option.{Option}
@@ -25,7 +25,7 @@ use Rattle.rh_shell.specs.Rules.{Message, Pdu, Packet}
 use Rattle.rh_shell.specs.Shells.{same_leg}
 use Rattle.rh_shell.specs.Moves.{OnLeg, EndMove, Moves, Gives, Takes, Closes, Recycles, Passage, EndPassage, moved, taken_by, end_moved, MayEndMove, AreAllowedAtEnd}
 use Rattle.rh_shell.specs.Wires.{of_leg}
-use Rattle.rh_passages.specs.Passing.{pdu_bytes, Has, HasBegunOut}
+use Rattle.rh_passages.specs.Passing.{pdu_bytes, Has}
 use Rattle.rh_passages.proofs.Logs.{RowKeeps, ActsKeep}
 use Rattle.rh_client.specs.declared.channels.InChannel.{InChannel}
 use Rattle.rh_client.specs.declared.state.ClientRole.{ClientRole}
@@ -34,17 +34,15 @@ use Rattle.rh_client.specs.Replacements.{is_out}
 use Rattle.rh_client.specs.State.{Done, co, unexpected, is_open, is_current, is_out_successor, first}
 use Rattle.rh_client.specs.Acknowledging.{is_switched, admit_row, pdu_channel, pdu_on, ack_row_by, ack_row, ack_named, on_ack_to}
 use Rattle.rh_client.specs.Ending.{give, drawn}
-use Rattle.rh_client.specs.Opening.{wants_by}
 use Rattle.rh_client.specs.Time.{ping}
-use Rattle.rh_client.specs.Putting.{put_by, settled_pick}
 use Rattle.rh_client.specs.Client.{packet_by, on_packet, acts as client_acts}
 use Rattle.rh_client.specs.Client.{rules as client_rules}
 use Rattle.rh_client.specs.Order.{AreAllowedMoves, client_moved, client_started}
 use Rattle.rh_client_receives.specs.Receiving.{IsNotEarly, NoneIsEarly, IsBehindWindow, IsBehindAcks, RefusesBehind, IsNoWindow, IsTrueAck}
 use Rattle.rh_client_receives.proofs.Along.{AllMay, LetStepsKeep, let_moves_keep}
-use Rattle.rh_client_receives.proofs.Windows.{Counts, IsBehind, refused_behind}
-use Rattle.rh_client_receives.proofs.Facts.{Says, IsTold, Kept}
-use Rattle.rh_client_receives.proofs.Replaced.{Same, seen, same_holds, recycle_holds, take_holds}
+use Rattle.rh_client_receives.proofs.Windows.{IsBehind, refused_behind}
+use Rattle.rh_client_receives.proofs.Facts.{Says, IsTold}
+use Rattle.rh_client_receives.proofs.Replaced.{Same, same_holds, recycle_holds, take_holds}
 use Rattle.rh_client_receives.proofs.Rows.{Fits, pdu_fits, packet_fits}
 use Rattle.rh_client_receives.proofs.Ups.{up_fits}
 use Rattle.rh_client_receives.proofs.Puts.{put_fits}

@@ -1,5 +1,5 @@
 -- what is known of a client's OUT channels stays so behind each row, and where a leg is up
-use Rattle.std.proofs.Common.{◌≡◌, ℕ, suc, ◌+◌, ◌≤◌, ◌<◌, ◌==◌, Bool, true, false, true≢false, not, ◌&&◌, ◌||◌, nat_lt, if◌then◌else◌, List, [], ◌∷◌, ◌++◌, length, Some, None, Ok, Err, IsTrue, arith, refl, rules, sym, ap, ◌∙◌, subst}
+use Rattle.std.proofs.Common.{◌≡◌, ℕ, suc, ◌+◌, ◌<◌, ◌==◌, Bool, true, false, not, ◌&&◌, ◌||◌, nat_lt, List, [], ◌∷◌, ◌++◌, Some, None, Ok, Err, arith, refl, rules, sym, ap, ◌∙◌, subst}
 use Rattle.std.proofs.lemmas.Bool.{and_parts}
 use Rattle.std.proofs.lemmas.Bool.Decides.{nat_tests}
 use Rattle.std.specs.declared.option.Option.{Option}
@@ -8,7 +8,7 @@ use Rattle.rh_rts.specs.declared.command.Cookie.{Cookie}
 use Rattle.rh_sig.specs.declared.named.Named.{Named}
 use Rattle.rh_sig.specs.declared.named.Named.TheVariants as named
 use Rattle.rh_line.specs.Lines as lines
-use Rattle.rh_line.specs.Lines.{Line, Incoming, after_finish, after_open_next}
+use Rattle.rh_line.specs.Lines.{Incoming, after_finish}
 use Rattle.rh_line.specs.declared.leg.Leg.{Leg}
 use Rattle.rh_line.specs.declared.leg.LegKind.{LegKind}
 use Rattle.rh_line.specs.declared.leg.LegKind.TheVariants.{ClientOut, OutServer, ClientIn, InServer}
@@ -27,7 +27,6 @@ use Rattle.rh_passages.proofs.Logs.{Fact, RowKeeps}
 use Rattle.rh_client.specs.declared.channels.TheConstants.{LAST_NUMBER}
 use Rattle.rh_client.specs.declared.replacement.Replacement.{Replacement}
 use Rattle.rh_client.specs.declared.replacement.Replacement.TheVariants.{NoneUnderWay, In, Out}
-use Rattle.rh_client.specs.declared.replacement.InStage.{InStage}
 use Rattle.rh_client.specs.declared.replacement.OutStage.TheVariants as out_stage
 use Rattle.rh_client.specs.declared.replacement.Waits.{Waits}
 use Rattle.rh_client.specs.declared.replacement.Waits.TheVariants as waits
@@ -36,15 +35,15 @@ use Rattle.rh_client.specs.Channels.{is_named, is_asked}
 use Rattle.rh_client.specs.Replacements.{is_out, is_finished, has_out, with_out}
 use Rattle.rh_client.specs.State.{Done, co, unexpected, taken, settled, is_open, is_current, is_out_successor}
 use Rattle.rh_client.specs.Opening.{on_conn_a3, on_conn_c2}
-use Rattle.rh_client.specs.Acknowledging.{is_switched, is_switched_by, admit_row, pdu_channel, pdu_on, acked, ack_row, ack_named, on_ack_to}
-use Rattle.rh_client.specs.Ending.{end_channel, end_on, on_end_b2}
+use Rattle.rh_client.specs.Acknowledging.{is_switched, admit_row, pdu_channel, pdu_on, ack_named, on_ack_to}
+use Rattle.rh_client.specs.Ending.{end_channel, end_on}
 use Rattle.rh_client.specs.InReplacement.{on_in_r1_a4, on_in_r2_a4}
-use Rattle.rh_client.specs.OutReplacement.{a2_by, on_out_r1_a2, a6_by, a6_at, on_out_r1_a6, a10_by, a10_at, passed}
+use Rattle.rh_client.specs.OutReplacement.{a2_by, on_out_r1_a2, a6_by, on_out_r1_a6, a10_by, passed}
 use Rattle.rh_client.specs.Client.{pdu_by, packet_by, on_packet}
 use Rattle.rh_client_receives.specs.Receiving.{HasBegun, IsNotEarly}
 use Rattle.rh_client_receives.proofs.Windows.{Counts, leg_counts, admitted_told, admitted_released, admitted_counts, refused_same}
-use Rattle.rh_client_receives.proofs.Facts.{Channel, Seen, Stands, Begun, Kept, kept_more}
-use Rattle.rh_client_receives.proofs.Replaced.{channel, seen, seen_by, Same, Holds, Of, same_holds, by_replacement, another, none_out, begin_out_holds, settles, current_changes, next_changes}
+use Rattle.rh_client_receives.proofs.Facts.{Seen, Stands, Begun, Kept, kept_more}
+use Rattle.rh_client_receives.proofs.Replaced.{seen, Same, same_holds, by_replacement, none_out, begin_out_holds, settles, current_changes, next_changes}
 
 -- ---- legs
 
