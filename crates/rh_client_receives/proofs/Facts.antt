@@ -34,25 +34,28 @@ pub record Seen : Type 0 where
 
 -- ---- what is known
 
--- the successor has the next number and begins with a whole window; the channels behind the first
--- one have begun
-pub record Stands (window : ℕ) (x : Seen) : Type 0 where
-  pub window_is : x.window ≡ window
-  pub from_one : 1 ≤ x.current.number
-  pub follows : x.replaces ≡ true → x.successor.number ≡ suc x.current.number
-  pub size : x.line.size ≡ window
-  pub told : window ≤ x.line.current.window.told
-  pub next_told : x.line.has_next ≡ true → x.line.next.window.told ≡ window
-  pub next_held : x.line.next.window.released ≡ 0
-  pub finished : x.line.finished ≡ x.finished
-  pub there : x.finished ≡ true → x.line.has_next ≡ true
-  pub later : 2 ≤ x.current.number → x.current.asked ≡ true
-  pub next_asked : x.answered ≡ true → x.successor.asked ≡ true
+-- the successor has the next number; the channels behind the first one have begun
+pub record Numbered (window given : ℕ) (current successor : Channel) (replaces answered : Bool)
+    : Type 0 where
+  pub window_is : given ≡ window
+  pub from_one : 1 ≤ current.number
+  pub follows : replaces ≡ true → successor.number ≡ suc current.number
+  pub later : 2 ≤ current.number → current.asked ≡ true
+  pub next_asked : answered ≡ true → successor.asked ≡ true
+
+-- the next channel begins with a whole window; it is there where the current one is over
+pub record Lined (window : ℕ) (line : Line) (over : Bool) : Type 0 where
+  pub size : line.size ≡ window
+  pub told : window ≤ line.current.window.told
+  pub next_told : line.has_next ≡ true → line.next.window.told ≡ window
+  pub next_held : line.next.window.released ≡ 0
+  pub finished : line.finished ≡ over
+  pub there : over ≡ true → line.has_next ≡ true
 
 -- the windows count what came
-pub record Counted (window : ℕ) (x : Seen) (came : List OnLeg) : Type 0 where
-  pub now : Counts window x.line.current (pdu_bytes (of_leg (co x.current.number) came))
-  pub next : Counts window x.line.next (pdu_bytes (of_leg (co (suc x.current.number)) came))
+pub record Counted (window : ℕ) (line : Line) (number : ℕ) (came : List OnLeg) : Type 0 where
+  pub now : Counts window line.current (pdu_bytes (of_leg (co number) came))
+  pub next : Counts window line.next (pdu_bytes (of_leg (co (suc number)) came))
 
 abbrev pub IsBegun : Channel → List OnLeg → Type 0
 IsBegun c put = c.asked ≡ true → HasBegunOut c.cookie (of_leg (co c.number) put)
@@ -61,10 +64,11 @@ IsBegun c put = c.asked ≡ true → HasBegunOut c.cookie (of_leg (co c.number) 
 abbrev pub IsNew : ℕ → List OnLeg → Type 0
 IsNew k put = (cookie : Cookie) → HasBegunOut cookie (of_leg (co k) put) → ⊥
 
-pub record Begun (x : Seen) (put : List OnLeg) : Type 0 where
-  pub now : IsBegun x.current put
-  pub next : x.replaces ≡ true → IsBegun x.successor put
-  pub new : x.current.number ≡ 1 → x.current.asked ≡ false → IsNew 1 put
+pub record Begun (current successor : Channel) (replaces : Bool) (put : List OnLeg)
+    : Type 0 where
+  pub now : IsBegun current put
+  pub next : replaces ≡ true → IsBegun successor put
+  pub new : current.number ≡ 1 → current.asked ≡ false → IsNew 1 put
 
 -- CONN/A1 and OUT_R1/A3 tell the window, and acknowledgements go to an out proxy
 abbrev pub Says : ℕ → OnLeg → Type 0
@@ -94,9 +98,10 @@ AreTold x came put =
 
 -- where X holds, no RPC PDU came before its channel had begun
 pub record Kept (window : ℕ) (X : Type 0) (x : Seen) (came put : List OnLeg) : Type 0 where
-  pub stands : Stands window x
-  pub counted : Counted window x came
-  pub begun : Begun x put
+  pub numbered : Numbered window x.window x.current x.successor x.replaces x.answered
+  pub lined : Lined window x.line x.finished
+  pub counted : Counted window x.line x.current.number came
+  pub begun : Begun x.current x.successor x.replaces put
   pub says : AllByRecursion (Says window) put
   pub asked : X → 0 < x.line.current.window.received → x.current.asked ≡ true
   pub acks : X → AreTold x came put
@@ -170,22 +175,22 @@ more_put x came put one = record {
   told = λ e. omega arith;
 }
 
-pub counted_more : (window : ℕ) (x : Seen) (came : List OnLeg) (one : OnLeg)
-    → Counted window x came → Counted window x (came ++ one ∷ [])
-counted_more window x came one h = record {
-  now = counts_more window x.line.current (pdu_bytes (of_leg (co x.current.number) came))
-      (pdu_bytes (of_leg (co x.current.number) (came ++ one ∷ [])))
-      (leg_rises (co x.current.number) came one) h.now;
-  next = counts_more window x.line.next (pdu_bytes (of_leg (co (suc x.current.number)) came))
-      (pdu_bytes (of_leg (co (suc x.current.number)) (came ++ one ∷ [])))
-      (leg_rises (co (suc x.current.number)) came one) h.next;
+counted_more : (window : ℕ) (line : Line) (number : ℕ) (came : List OnLeg) (one : OnLeg)
+    → Counted window line number came → Counted window line number (came ++ one ∷ [])
+counted_more window line number came one h = record {
+  now = counts_more window line.current (pdu_bytes (of_leg (co number) came))
+      (pdu_bytes (of_leg (co number) (came ++ one ∷ []))) (leg_rises (co number) came one) h.now;
+  next = counts_more window line.next (pdu_bytes (of_leg (co (suc number)) came))
+      (pdu_bytes (of_leg (co (suc number)) (came ++ one ∷ [])))
+      (leg_rises (co (suc number)) came one) h.next;
 }
 
 pub kept_more : (window : ℕ) (X : Type 0) (x : Seen) (came put : List OnLeg) (one : OnLeg)
     → Kept window X x came put → Kept window X x (came ++ one ∷ []) put
 kept_more window X x came put one h = record {
-  stands = h.stands;
-  counted = counted_more window x came one h.counted;
+  numbered = h.numbered;
+  lined = h.lined;
+  counted = counted_more window x.line x.current.number came one h.counted;
   begun = h.begun;
   says = h.says;
   asked = h.asked;
@@ -228,7 +233,8 @@ pub kept_put : (window : ℕ) (X : Type 0) (x : Seen) (came put : List OnLeg) (o
     → (X → IsTold x.current.number x.line.current.window.told came (put ++ one ∷ []) one)
     → Kept window X x came put → Kept window X x came (put ++ one ∷ [])
 kept_put window X x came put one none says is_told h = record {
-  stands = h.stands;
+  numbered = h.numbered;
+  lined = h.lined;
   counted = h.counted;
   begun = record {
     now = λ e. begun_more x.current.number x.current.cookie put one (h.begun.now e);

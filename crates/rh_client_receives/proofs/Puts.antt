@@ -47,7 +47,8 @@ use Rattle.rh_client_receives.proofs.Rows.{Fits, leg_is}
 
 -- the first packet of a channel, on its leg
 begins_here : (leg : Leg) (k : ℕ) (put : List OnLeg) (m : Named) (cookie : Cookie)
-    → BeginsOut cookie m → leg ≡ co k → HasBegunOut cookie (of_leg (co k) (put ++ (leg, Packet m) ∷ []))
+    → BeginsOut cookie m → leg ≡ co k
+    → HasBegunOut cookie (of_leg (co k) (put ++ (leg, Packet m) ∷ []))
 begins_here leg k put m cookie begins e =
     subst (λ (other : Leg). HasBegunOut cookie (of_leg (co k) (put ++ (other, Packet m) ∷ [])))
     (sym e)
@@ -166,7 +167,7 @@ module _ (window : ℕ) (X : Type 0) (is_window : IsWindow window) (leg : Leg)
         d : IsDue window s.line.current ack
         d =
             due_is window s.line.current (pdu_bytes (of_leg (co s.current.number) came)) ack
-            h.counted.now h.stands.told e
+            h.counted.now h.lined.told e
 
         none : (cookie : Cookie) → HasOne (BeginsOut cookie) (m ∷ []) → ⊥
         none cookie (inl is) = is
@@ -191,7 +192,7 @@ module _ (window : ℕ) (X : Type 0) (is_window : IsWindow window) (leg : Leg)
     next_puts (Some ack) is =
         absurd (none_due window s.line.next
         (pdu_bytes (of_leg (co (suc s.current.number)) came)) ack h.counted.next
-        (h.stands.next_told is.0) h.stands.next_held is.1)
+        (h.lined.next_told is.0) h.lined.next_held is.1)
 
     current_due : IfSome (ack_due s Current) (λ (ack : Ack). due s.line Current ≡ Some ack)
     current_due =
@@ -291,20 +292,15 @@ module _ (window : ℕ) (X : Type 0) (is_window : IsWindow window) (leg : Leg)
     now_begins : leg ≡ co s.current.number
         → With (seen (record s { current = begun_out s.current Put })) (Packet (conn_a1 s))
     now_begins e = record {
-      stands = record {
-        window_is = h.stands.window_is;
-        from_one = h.stands.from_one;
-        follows = h.stands.follows;
-        size = h.stands.size;
-        told = h.stands.told;
-        next_told = h.stands.next_told;
-        next_held = h.stands.next_held;
-        finished = h.stands.finished;
-        there = h.stands.there;
+      numbered = record {
+        window_is = h.numbered.window_is;
+        from_one = h.numbered.from_one;
+        follows = h.numbered.follows;
         later = λ f. refl;
-        next_asked = h.stands.next_asked;
+        next_asked = h.numbered.next_asked;
       };
-      counted = record { now = h.counted.now; next = h.counted.next };
+      lined = h.lined;
+      counted = h.counted;
       begun = record {
         now = λ f.
             begins_here leg s.current.number put (conn_a1 s) s.current.cookie refl e;
@@ -313,7 +309,7 @@ module _ (window : ℕ) (X : Type 0) (is_window : IsWindow window) (leg : Leg)
             (leg, Packet (conn_a1 s)) (h.begun.next f g);
         new = λ f g. absurd (true≢false g);
       };
-      says = all_append (Says window) put _ h.says (h.stands.window_is, tt);
+      says = all_append (Says window) put _ h.says (h.numbered.window_is, tt);
       asked = λ early f. refl;
       acks = λ early.
           all_append (IsTold s.current.number s.line.current.window.told came
@@ -331,24 +327,19 @@ module _ (window : ℕ) (X : Type 0) (is_window : IsWindow window) (leg : Leg)
         let k =
         kept_put window X (seen s) came put (leg, Packet (out_r1_a3 s))
         (apart leg s.out_successor.number (Packet (out_r1_a3 s)) e
-        (let follows = h.stands.follows replaces in
-        let least = h.stands.from_one in omega (arith, follows, least)))
-        h.stands.window_is (λ early. tt) h in
+        (let follows = h.numbered.follows replaces in
+        let least = h.numbered.from_one in omega (arith, follows, least)))
+        h.numbered.window_is (λ early. tt) h in
         record {
-          stands = record {
-            window_is = k.stands.window_is;
-            from_one = k.stands.from_one;
-            follows = k.stands.follows;
-            size = k.stands.size;
-            told = k.stands.told;
-            next_told = k.stands.next_told;
-            next_held = k.stands.next_held;
-            finished = k.stands.finished;
-            there = k.stands.there;
-            later = k.stands.later;
+          numbered = record {
+            window_is = k.numbered.window_is;
+            from_one = k.numbered.from_one;
+            follows = k.numbered.follows;
+            later = k.numbered.later;
             next_asked = λ f. refl;
           };
-          counted = record { now = k.counted.now; next = k.counted.next };
+          lined = k.lined;
+          counted = k.counted;
           begun = record {
             now = k.begun.now;
             next = λ f g.

@@ -127,18 +127,20 @@ each_let X p (move ∷ moves) allowed late = (
 
 starts : (config : ClientConfig) (X : Type 0) → Fits config.window X (first config) [] []
 starts config X = record {
-  stands = record {
+  numbered = record {
     window_is = refl;
     from_one = omega arith;
     follows = λ e. absurd (true≢false (sym e));
+    later = λ e. absurd (omega (arith, e));
+    next_asked = λ e. absurd (true≢false (sym e));
+  };
+  lined = record {
     size = refl;
     told = omega arith;
     next_told = λ e. absurd (true≢false (sym e));
     next_held = refl;
     finished = refl;
     there = λ e. absurd (true≢false (sym e));
-    later = λ e. absurd (omega (arith, e));
-    next_asked = λ e. absurd (true≢false (sym e));
   };
   counted = record {
     now = record { received = omega arith; counted = refl; size = refl };
@@ -209,7 +211,7 @@ module _ (config : ClientConfig) (moves : List EndMove) (is : IsWindow config.wi
       let above : s.current.number < k = omega (arith, same) in
       by_verdict (lines.channel_verdict s.line.next bytes) s.line.next.window.told
       (λ far. next reached above
-      (let told = kept.stands.next_told (there g) in omega (arith, far, told)))
+      (let told = kept.lined.next_told (there g) in omega (arith, far, told)))
       (subst (λ (n : ℕ). IsBehind s.line.next.window.told
       (pdu_bytes (of_leg (co n) p.came) + length bytes)
       (lines.channel_verdict s.line.next bytes)) (sym same)
@@ -242,7 +244,7 @@ module _ (config : ClientConfig) (moves : List EndMove) (is : IsWindow config.wi
       next_number g =
           let is = and_parts (is_out s.replacement) (k == s.out_successor.number)
           (and_parts (is_switched s) (is_out_successor s k) g).1 in
-          same_number k s.out_successor.number is.1 ∙ kept.stands.follows is.0
+          same_number k s.out_successor.number is.1 ∙ kept.numbered.follows is.0
 
   behind_window : (k reached : ℕ) → config.window < reached → IsBehindWindow k p.put reached
   behind_window k reached far = record {
@@ -265,7 +267,7 @@ module _ (config : ClientConfig) (moves : List EndMove) (is : IsWindow config.wi
   within_windows k count bytes =
       refused k bytes (IsBehindWindow k p.put)
       (λ reached e far.
-      behind_window k reached (let told = kept.stands.told in omega (arith, told, far)))
+      behind_window k reached (let told = kept.lined.told in omega (arith, told, far)))
       (λ reached e far. behind_window k reached far)
 
   pub within_acks : Early → (k : ℕ) (count : Count) (bytes : List ℕ)

@@ -3,7 +3,7 @@ use Rattle.std.proofs.Common.{◌≡◌, ℕ, suc, ◌+◌, ◌≤◌, ◌<◌, 
 use Rattle.std.proofs.lemmas.Bool.{and_parts}
 use Rattle.std.specs.declared.result.Result.{Result}
 use Rattle.rh_line.specs.Lines as lines
-use Rattle.rh_line.specs.Lines.{Incoming, is_empty, moved_on, released, settled as settled_line}
+use Rattle.rh_line.specs.Lines.{Incoming, after_open_next, is_empty, moved_on, released, settled as settled_line}
 use Rattle.rh_order.proofs.ByNumber.{by_test}
 use Rattle.rh_shell.specs.declared.answers.Phase.TheVariants as phase
 use Rattle.rh_shell.specs.declared.end_role.RecycleRefused.{RecycleRefused}
@@ -90,20 +90,22 @@ module _ (window : ℕ) (X : Type 0) (came put : List OnLeg) where
         finished = false;
       })
   another x z replaces follows begun e h = record {
-    stands = record {
-      window_is = h.stands.window_is;
-      from_one = h.stands.from_one;
+    numbered = record {
+      window_is = h.numbered.window_is;
+      from_one = h.numbered.from_one;
       follows = follows;
-      size = h.stands.size;
-      told = h.stands.told;
-      next_told = h.stands.next_told;
-      next_held = h.stands.next_held;
-      finished = h.stands.finished ∙ e;
-      there = λ f. absurd (true≢false (sym f));
-      later = h.stands.later;
+      later = h.numbered.later;
       next_asked = λ f. absurd (true≢false (sym f));
     };
-    counted = record { now = h.counted.now; next = h.counted.next };
+    lined = record {
+      size = h.lined.size;
+      told = h.lined.told;
+      next_told = h.lined.next_told;
+      next_held = h.lined.next_held;
+      finished = h.lined.finished ∙ e;
+      there = λ f. absurd (true≢false (sym f));
+    };
+    counted = h.counted;
     begun = record { now = h.begun.now; next = begun; new = h.begun.new };
     says = h.says;
     asked = h.asked;
@@ -202,35 +204,37 @@ module _ (window : ℕ) (X : Type 0) (came put : List OnLeg) where
         finished = false;
       })
   moves_on x z replaces answered finished h =
-      let k = h.stands in
-      let follows = k.follows replaces in
-      let asked = k.next_asked answered in
-      let is_told = k.next_told (k.there finished) in
+      let follows = h.numbered.follows replaces in
+      let asked = h.numbered.next_asked answered in
+      let is_told = h.lined.next_told (h.lined.there finished) in
       record {
-        stands = record {
-          window_is = k.window_is;
+        numbered = record {
+          window_is = h.numbered.window_is;
           from_one = omega (arith, follows);
           follows = λ e. absurd (true≢false (sym e));
-          size = k.size;
+          later = λ e. asked;
+          next_asked = λ e. absurd (true≢false (sym e));
+        };
+        lined = record {
+          size = h.lined.size;
           told = omega (arith, is_told);
           next_told = λ e. absurd (true≢false (sym e));
           next_held = refl;
           finished = refl;
           there = λ e. absurd (true≢false (sym e));
-          later = λ e. asked;
-          next_asked = λ e. absurd (true≢false (sym e));
         };
         counted = record {
           now =
               subst (λ (n : ℕ).
               Counts window x.line.next (pdu_bytes (of_leg (co n) came))) (sym follows)
               h.counted.next;
-          next = record { received = omega arith; counted = refl; size = k.size };
+          next = record { received = omega arith; counted = refl; size = h.lined.size };
         };
         begun = record {
           now = h.begun.next replaces;
           next = λ e. absurd (true≢false (sym e));
-          new = λ e. let least = k.from_one in absurd (omega (arith, e, follows, least));
+          new = λ e.
+              let least = h.numbered.from_one in absurd (omega (arith, e, follows, least));
         };
         says = h.says;
         asked = λ early e. asked;
@@ -267,7 +271,7 @@ module _ (window : ℕ) (X : Type 0) (came put : List OnLeg) where
   stays s (Out out_stage.Switched waiting) e h = h
   stays s (Out out_stage.Finished waiting) e h =
       by_test Holds s.line.has_next s (ended_or (succeeded s) waiting) (λ f. h)
-      (λ f. absurd (true≢false (sym (h.stands.there (ap is_finished e)) ∙ f)))
+      (λ f. absurd (true≢false (sym (h.lined.there (ap is_finished e)) ∙ f)))
 
   goes_on : (s : ClientRole) (r : Replacement) → s.replacement ≡ r → is_finished r ≡ true
       → Holds s → Holds (pass_by (record s { line = moved_on s.line }) r)
@@ -288,7 +292,7 @@ module _ (window : ℕ) (X : Type 0) (came put : List OnLeg) where
       by_test (λ (line : lines.Line). Holds (passed (record s { line = line })))
       (s.line.finished && is_empty s.line.current.pdus) (moved_on s.line) s.line
       (λ e. goes_on s s.replacement refl
-      (sym h.stands.finished ∙ (and_parts s.line.finished (is_empty s.line.current.pdus) e).0) h)
+      (sym h.lined.finished ∙ (and_parts s.line.finished (is_empty s.line.current.pdus) e).0) h)
       (λ e. stays s s.replacement refl h)
 
   -- ---- the receiver's side of one of the channels changes
@@ -300,24 +304,19 @@ module _ (window : ℕ) (X : Type 0) (came put : List OnLeg) where
       → (X → 0 < c.window.received → x.current.asked ≡ true) → Of x
       → Of (record x { line = record (x.line) { current = c } })
   current_changes x c more counts asked h =
-      let k = h.stands in
       let now = record x { line = record (x.line) { current = c } } in
       record {
-        stands = record {
-          window_is = k.window_is;
-          from_one = k.from_one;
-          follows = k.follows;
-          size = k.size;
-          told = let before = k.told in omega (arith, before, more);
-          next_told = k.next_told;
-          next_held = k.next_held;
-          finished = k.finished;
-          there = k.there;
-          later = k.later;
-          next_asked = k.next_asked;
+        numbered = h.numbered;
+        lined = record {
+          size = h.lined.size;
+          told = let before = h.lined.told in omega (arith, before, more);
+          next_told = h.lined.next_told;
+          next_held = h.lined.next_held;
+          finished = h.lined.finished;
+          there = h.lined.there;
         };
         counted = record { now = counts; next = h.counted.next };
-        begun = record { now = h.begun.now; next = h.begun.next; new = h.begun.new };
+        begun = h.begun;
         says = h.says;
         asked = asked;
         acks = λ early.
@@ -336,28 +335,44 @@ module _ (window : ℕ) (X : Type 0) (came put : List OnLeg) where
       → c.window.released ≡ 0
       → Counts window c (pdu_bytes (of_leg (co (suc x.current.number)) came)) → Of x
       → Of (record x { line = record (x.line) { next = c } })
-  next_changes x c told released counts h =
-      let k = h.stands in
-      record {
-        stands = record {
-          window_is = k.window_is;
-          from_one = k.from_one;
-          follows = k.follows;
-          size = k.size;
-          told = k.told;
-          next_told = told;
-          next_held = released;
-          finished = k.finished;
-          there = k.there;
-          later = k.later;
-          next_asked = k.next_asked;
-        };
-        counted = record { now = h.counted.now; next = counts };
-        begun = record { now = h.begun.now; next = h.begun.next; new = h.begun.new };
-        says = h.says;
-        asked = h.asked;
-        acks = h.acks;
-      }
+  next_changes x c told released counts h = record {
+    numbered = h.numbered;
+    lined = record {
+      size = h.lined.size;
+      told = h.lined.told;
+      next_told = told;
+      next_held = released;
+      finished = h.lined.finished;
+      there = h.lined.there;
+    };
+    counted = record { now = h.counted.now; next = counts };
+    begun = h.begun;
+    says = h.says;
+    asked = h.asked;
+    acks = h.acks;
+  }
+
+  -- the next one is there, and has a whole window
+  pub next_opens : (x : Seen) → Of x → Of (record x { line = after_open_next x.line false })
+  next_opens x h = record {
+    numbered = h.numbered;
+    lined = record {
+      size = h.lined.size;
+      told = h.lined.told;
+      next_told = λ e. h.lined.size;
+      next_held = refl;
+      finished = h.lined.finished;
+      there = λ e. refl;
+    };
+    counted = record {
+      now = h.counted.now;
+      next = record { received = omega arith; counted = refl; size = h.lined.size };
+    };
+    begun = h.begun;
+    says = h.says;
+    asked = h.asked;
+    acks = h.acks;
+  }
 
   -- the first PDU is taken
   pub take_holds : (s : ClientRole) (pdus : List (List ℕ)) → s.line.current.pdus ≡ pdus

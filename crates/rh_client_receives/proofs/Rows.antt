@@ -42,7 +42,7 @@ use Rattle.rh_client.specs.OutReplacement.{a2_by, on_out_r1_a2, a6_by, on_out_r1
 use Rattle.rh_client.specs.Client.{pdu_by, packet_by, on_packet}
 use Rattle.rh_client_receives.specs.Receiving.{HasBegun, IsNotEarly}
 use Rattle.rh_client_receives.proofs.Windows.{Counts, leg_counts, admitted_told, admitted_released, admitted_counts, refused_same}
-use Rattle.rh_client_receives.proofs.Facts.{Seen, Stands, Begun, Kept, kept_more}
+use Rattle.rh_client_receives.proofs.Facts.{Seen, Kept, kept_more}
 use Rattle.rh_client_receives.proofs.Replaced.{seen, Same, same_holds, by_replacement, none_out, begin_out_holds, settles, current_changes, next_changes}
 
 -- ---- legs
@@ -59,9 +59,10 @@ leg_is leg k e f =
     (subst (λ (n : ℕ). record { kind = ClientOut; number = n } ≡ co k) (sym f) refl)
 
 -- a channel that has begun, if it is the first
-pub asked_by : (window : ℕ) (x : Seen) (put : List OnLeg) → Stands window x → Begun x put
-    → (x.current.number ≡ 1 → HasBegun 1 put) → x.current.asked ≡ true
-asked_by window x put k begun first = by x.current.asked refl
+asked_by : (window : ℕ) (X : Type 0) (x : Seen) (came put : List OnLeg)
+    → Kept window X x came put → (x.current.number ≡ 1 → HasBegun 1 put)
+    → x.current.asked ≡ true
+asked_by window X x came put h first = by x.current.asked refl
   where
     by : (b : Bool) → x.current.asked ≡ b → x.current.asked ≡ true
     by true e = e
@@ -70,8 +71,10 @@ asked_by window x put k begun first = by x.current.asked refl
         at : (t : Bool) → (x.current.number == 1) ≡ t → x.current.asked ≡ true
         at true f =
             let one = same_number x.current.number 1 f in
-            absurd (begun.new one e (first one).0 (first one).1)
-        at false f = k.later (let least = k.from_one in grind (arith, nat_tests, f, least))
+            absurd (h.begun.new one e (first one).0 (first one).1)
+        at false f =
+            let least = h.numbered.from_one in
+            h.numbered.later (grind (arith, nat_tests, f, least))
 
 -- ---- rows that leave all this alone
 
@@ -172,7 +175,7 @@ module _ (window : ℕ) (X : Type 0) where
               current_changes window X after put (seen s) (lines.admitted c bytes)
               (omega (arith, told)) after_counts
               (λ early g.
-              asked_by window (seen s) put h.stands h.begun (λ one. late early (arrived one g)))
+              asked_by window X (seen s) came put h (λ one. late early (arrived one g)))
               now
           by (Err (Window exceeded)) f late = refuses (Window exceeded) f
           by (Err Over) f late = refuses Over f
@@ -197,8 +200,8 @@ module _ (window : ℕ) (X : Type 0) where
               → Row (Pdu bytes) (t, admit_row v)
           by (Ok admitted) f =
               next_changes window X after put (seen s) (lines.admitted c bytes)
-              (λ g. admitted_told c bytes ∙ h.stands.next_told g)
-              (admitted_released c bytes ∙ h.stands.next_held)
+              (λ g. admitted_told c bytes ∙ h.lined.next_told g)
+              (admitted_released c bytes ∙ h.lined.next_held)
               (counts c (suc s.current.number) e h.counted.next) now
           by (Err (Window exceeded)) f = refuses (Window exceeded) f
           by (Err Over) f = refuses Over f
@@ -209,7 +212,7 @@ module _ (window : ℕ) (X : Type 0) where
       next_number e =
           let is = and_parts (is_out s.replacement) (leg.number == s.out_successor.number)
           (and_parts (is_switched s) (is_out_successor s leg.number) e).1 in
-          subst (λ (k : ℕ). (leg.number == k) ≡ true) (h.stands.follows is.0) is.1
+          subst (λ (k : ℕ). (leg.number == k) ≡ true) (h.numbered.follows is.0) is.1
 
       pdu_row : Late (pdu_on s bytes (pdu_channel s leg.number))
           → Row (Pdu bytes) (pdu_on s bytes (pdu_channel s leg.number))
@@ -231,8 +234,8 @@ module _ (window : ℕ) (X : Type 0) where
         (record { received = k.received; counted = k.counted; size = k.size }) h.asked h
     ended Next =
         let k = h.counted.next in
-        next_changes window X came put (seen s) (lines.with_end s.line.next) h.stands.next_told
-        h.stands.next_held
+        next_changes window X came put (seen s) (lines.with_end s.line.next) h.lined.next_told
+        h.lined.next_held
         (record { received = k.received; counted = k.counted; size = k.size }) h
 
     end_row : (which : Option Which) → Row (Packet named.EndB2) (end_on s which)
@@ -276,21 +279,16 @@ module _ (window : ℕ) (X : Type 0) where
     answers waiting timeout e asked =
         let k = by_replacement window X came put s (Out out_stage.Asked waiting) e h in
         record {
-          stands = record {
-            window_is = k.stands.window_is;
-            from_one = k.stands.from_one;
-            follows = k.stands.follows;
-            size = k.stands.size;
-            told = k.stands.told;
-            next_told = k.stands.next_told;
-            next_held = k.stands.next_held;
-            finished = k.stands.finished;
-            there = k.stands.there;
-            later = k.stands.later;
+          numbered = record {
+            window_is = k.numbered.window_is;
+            from_one = k.numbered.from_one;
+            follows = k.numbered.follows;
+            later = k.numbered.later;
             next_asked = λ f. asked;
           };
-          counted = record { now = k.counted.now; next = k.counted.next };
-          begun = record { now = k.begun.now; next = k.begun.next; new = k.begun.new };
+          lined = k.lined;
+          counted = k.counted;
+          begun = k.begun;
           says = k.says;
           asked = k.asked;
           acks = k.acks;
@@ -322,21 +320,17 @@ module _ (window : ℕ) (X : Type 0) where
     finishes waiting e there =
         let k = by_replacement window X came put s (Out out_stage.Switched waiting) e h in
         record {
-          stands = record {
-            window_is = k.stands.window_is;
-            from_one = k.stands.from_one;
-            follows = k.stands.follows;
-            size = k.stands.size;
-            told = k.stands.told;
-            next_told = k.stands.next_told;
-            next_held = k.stands.next_held;
+          numbered = k.numbered;
+          lined = record {
+            size = k.lined.size;
+            told = k.lined.told;
+            next_told = k.lined.next_told;
+            next_held = k.lined.next_held;
             finished = refl;
             there = λ f. there;
-            later = k.stands.later;
-            next_asked = k.stands.next_asked;
           };
           counted = record { now = k.counted.now; next = k.counted.next };
-          begun = record { now = k.begun.now; next = k.begun.next; new = k.begun.new };
+          begun = k.begun;
           says = k.says;
           asked = k.asked;
           acks = k.acks;

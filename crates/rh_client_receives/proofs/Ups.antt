@@ -15,7 +15,7 @@ use Rattle.rh_client.specs.Replacements.{is_out}
 use Rattle.rh_client.specs.State.{is_writing, is_current, is_out_successor}
 use Rattle.rh_client.specs.Opening.{wants_out, wants_by, with_next, up_by}
 use Rattle.rh_client_receives.proofs.Facts.{Seen}
-use Rattle.rh_client_receives.proofs.Replaced.{channel, seen, Of}
+use Rattle.rh_client_receives.proofs.Replaced.{channel, seen, Of, next_opens}
 use Rattle.rh_client_receives.proofs.Rows.{Fits}
 
 module _ (window : ℕ) (X : Type 0) where
@@ -35,20 +35,15 @@ module _ (window : ℕ) (X : Type 0) where
       current_up : is_up s.current.opening ≡ false
           → Fits window X (record s { current = out_up s.current cookie }) came put
       current_up down = record {
-        stands = record {
-          window_is = h.stands.window_is;
-          from_one = h.stands.from_one;
-          follows = h.stands.follows;
-          size = h.stands.size;
-          told = h.stands.told;
-          next_told = h.stands.next_told;
-          next_held = h.stands.next_held;
-          finished = h.stands.finished;
-          there = h.stands.there;
-          later = λ e. absurd (none (h.stands.later e));
-          next_asked = h.stands.next_asked;
+        numbered = record {
+          window_is = h.numbered.window_is;
+          from_one = h.numbered.from_one;
+          follows = h.numbered.follows;
+          later = λ e. absurd (none (h.numbered.later e));
+          next_asked = h.numbered.next_asked;
         };
-        counted = record { now = h.counted.now; next = h.counted.next };
+        lined = h.lined;
+        counted = h.counted;
         begun = record {
           now = λ e. absurd (true≢false (sym e));
           next = h.begun.next;
@@ -66,32 +61,6 @@ module _ (window : ℕ) (X : Type 0) where
           not_asked true f = absurd (f refl)
           not_asked false f = refl
 
-      opened : (x : Seen) → Of window X came put x
-          → Of window X came put (record x { line = after_open_next x.line false })
-      opened x k = record {
-        stands = record {
-          window_is = k.stands.window_is;
-          from_one = k.stands.from_one;
-          follows = k.stands.follows;
-          size = k.stands.size;
-          told = k.stands.told;
-          next_told = λ e. k.stands.size;
-          next_held = refl;
-          finished = k.stands.finished;
-          there = λ e. refl;
-          later = k.stands.later;
-          next_asked = k.stands.next_asked;
-        };
-        counted = record {
-          now = k.counted.now;
-          next = record { received = omega arith; counted = refl; size = k.stands.size };
-        };
-        begun = record { now = k.begun.now; next = k.begun.next; new = k.begun.new };
-        says = k.says;
-        asked = k.asked;
-        acks = k.acks;
-      }
-
       successor_up : is_up s.out_successor.opening ≡ false
           → Fits window X (record s {
             out_successor = out_up s.out_successor cookie;
@@ -100,28 +69,23 @@ module _ (window : ℕ) (X : Type 0) where
       successor_up down =
           by_test (λ (l : Line). Of window X came put (record named_anew { line = l }))
           s.line.has_next s.line (after_open_next s.line false) (λ e. named_up)
-          (λ e. opened named_anew named_up)
+          (λ e. next_opens window X came put named_anew named_up)
         where
           named_anew : Seen
           named_anew = record (seen s) { successor = channel (out_up s.out_successor cookie) }
 
           named_up : Of window X came put named_anew
           named_up = record {
-            stands = record {
-              window_is = h.stands.window_is;
-              from_one = h.stands.from_one;
-              follows = h.stands.follows;
-              size = h.stands.size;
-              told = h.stands.told;
-              next_told = h.stands.next_told;
-              next_held = h.stands.next_held;
-              finished = h.stands.finished;
-              there = h.stands.there;
-              later = h.stands.later;
+            numbered = record {
+              window_is = h.numbered.window_is;
+              from_one = h.numbered.from_one;
+              follows = h.numbered.follows;
+              later = h.numbered.later;
               next_asked = λ e.
-                  absurd (up_asked s.out_successor.opening down (h.stands.next_asked e));
+                  absurd (up_asked s.out_successor.opening down (h.numbered.next_asked e));
             };
-            counted = record { now = h.counted.now; next = h.counted.next };
+            lined = h.lined;
+            counted = h.counted;
             begun = record {
               now = h.begun.now;
               next = λ e f. absurd (true≢false (sym f));
@@ -140,7 +104,7 @@ module _ (window : ℕ) (X : Type 0) where
           apart : is_out_successor s n ≡ true → ⊥
           apart f =
               let is = and_parts (is_out s.replacement) (n == s.out_successor.number) f in
-              let next = h.stands.follows is.0 in
+              let next = h.numbered.follows is.0 in
               let here = same_number n s.current.number e in
               let there = same_number n s.out_successor.number is.1 in
               omega (arith, next, here, there)
