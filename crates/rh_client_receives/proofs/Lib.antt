@@ -6,3 +6,4 @@ mod Rows
 mod Ups
 mod Puts
 mod Receives
+mod Early

@@ -146,6 +146,7 @@ module _ (window : ℕ) (X : Type 0) where
           })
           (λ e. current_up (down_now n wants e)) (λ e. successor_up (down_next n wants e))
       up_fits n ClientIn wants =
-          by_test (λ (t : ClientRole). Fits window X t came put) (is_writing s n) _ _ (λ e. h) (λ e. h)
+          by_test (λ (t : ClientRole). Fits window X t came put) (is_writing s n) _ _ (λ e. h)
+          (λ e. h)
       up_fits n OutServer wants = h
       up_fits n InServer wants = h

@@ -1,6 +1,6 @@
 //! How a client receives on its OUT channels, whatever comes from any peer.
 
-ghost use Rattle.std.specs.Prelude.{◌≡◌, ◌+◌, List, false, length, ℕ};
+ghost use Rattle.std.specs.Prelude.{◌≡◌, ◌+◌, ◌++◌, List, false, length, ℕ};
 ghost use Rattle.rh_rts.specs.declared.command.Cookie.{Cookie};
 ghost use Rattle.rh_window.specs.Sides.{IsWindow};
 ghost use Rattle.rh_http.specs.declared.config.ClientConfig.{ClientConfig};
@@ -10,15 +10,16 @@ ghost use Rattle.rh_line.specs.declared.leg.Leg.{Leg};
 ghost use Rattle.rh_line.specs.declared.leg.LegKind.TheVariants.{ClientOut};
 ghost use Rattle.rh_shell.specs.declared.answers.Count.{Count};
 ghost use Rattle.rh_shell.specs.Shells.{is_of};
-ghost use Rattle.rh_shell.specs.Moves.{EndMove};
+ghost use Rattle.rh_shell.specs.Moves.{EndMove, EndPassage, all_end_moved};
 ghost use Rattle.rh_shell.specs.Wires.{of_leg};
 ghost use Rattle.rh_passages.specs.Passing.{pdu_bytes, Has};
+ghost use Rattle.rh_client.specs.declared.state.ClientRole.{ClientRole};
 ghost use Rattle.rh_client.specs.State.{co};
-ghost use Rattle.rh_client.specs.Client.{rules};
+ghost use Rattle.rh_client.specs.Client.{acts, rules};
 ghost use Rattle.rh_client.specs.Order.{AreAllowedMoves, client_moved, client_started};
 ghost use Rattle.rh_client_receives.specs.Receiving.{IsBehindAcks, IsBehindWindow};
-ghost use Rattle.rh_client_receives.specs.Receiving.{IsNoWindow, IsTrueAck, NoneIsEarly};
-ghost use Rattle.rh_client_receives.specs.Receiving.{RefusesBehind};
+ghost use Rattle.rh_client_receives.specs.Receiving.{IsNotEarly, IsNoWindow, IsTrueAck};
+ghost use Rattle.rh_client_receives.specs.Receiving.{NoneIsEarly, RefusesBehind};
 
 /// Whatever happens to a client: it refuses an RPC PDU on an OUT channel for its window only where
 /// that ends behind the window that it told with the channel's first packet, and, unless it took a
@@ -62,4 +63,15 @@ pub fn a_client_acknowledges_what_came()
         → Has (AckTo destination received available cookie)
         (of_leg leg (client_moved config moves).passage.put)
         → IsTrueAck (client_moved config moves).passage received available cookie }
+{}
+
+/// No RPC PDU is early in moves of a client where CONN/A1 was put on the first OUT channel before
+/// them, if any PDU came there by their end; and so it is in moves and more moves behind them.
+pub fn no_pdu_is_early_behind_the_first_packet()
+    ensures moves { (p : EndPassage ClientRole) (moves : List EndMove)
+        → IsNotEarly (all_end_moved rules acts p moves).passage.came p.passage.put
+        → NoneIsEarly p moves }
+    ensures joined { (p : EndPassage ClientRole) (moves more : List EndMove)
+        → NoneIsEarly p moves → NoneIsEarly (all_end_moved rules acts p moves) more
+        → NoneIsEarly p (moves ++ more) }
 {}
