@@ -291,5 +291,5 @@ pub quiet_put : (window : ℕ) (X : Type 0) (x : Seen) (came put : List OnLeg) (
 quiet_put window X x came put leg m is h =
     kept_put window X x came put (leg, m) (begins_none leg m (quiet_begins m is))
     (quiet_says window leg m is)
-    (λ early. quiet_told x.current.number x.line.current.window.told came (put ++ (leg, m) ∷ [])
+    (λ so. quiet_told x.current.number x.line.current.window.told came (put ++ (leg, m) ∷ [])
     leg m is) h

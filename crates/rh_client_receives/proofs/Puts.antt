@@ -132,11 +132,11 @@ module _ (window : ℕ) (X : Type 0) (is_window : IsWindow window) (leg : Leg)
         })) (Packet (named.AckTo 3 ack.received ack.available s.current.cookie))
     now_acked ack e =
         kept_put window X y came put (leg, m) (begins_none leg m none) refl
-        (λ early. record {
+        (λ so. record {
           channel = s.current.number;
           begun =
               begun_more s.current.number s.current.cookie put (leg, m)
-              (h.begun.now (h.asked early d.came));
+              (h.begun.now (h.asked so d.came));
           arrived =
               let same = d.received in
               let counts = h.counted.now.received in omega (arith, same, counts);
@@ -310,12 +310,12 @@ module _ (window : ℕ) (X : Type 0) (is_window : IsWindow window) (leg : Leg)
         new = λ f g. absurd (true≢false g);
       };
       says = all_append (Says window) put _ h.says (h.numbered.window_is, tt);
-      asked = λ early f. refl;
-      acks = λ early.
+      asked = λ so f. refl;
+      acks = λ so.
           all_append (IsTold s.current.number s.line.current.window.told came
           (put ++ (leg, Packet (conn_a1 s)) ∷ [])) put _
           (told_grows (seen s) (seen s) came came put (put ++ (leg, Packet (conn_a1 s)) ∷ []) put
-          (more_put (seen s) came put (leg, Packet (conn_a1 s))) (h.acks early))
+          (more_put (seen s) came put (leg, Packet (conn_a1 s))) (h.acks so))
           (tt, tt);
     }
 
@@ -329,7 +329,7 @@ module _ (window : ℕ) (X : Type 0) (is_window : IsWindow window) (leg : Leg)
         (apart leg s.out_successor.number (Packet (out_r1_a3 s)) e
         (let follows = h.numbered.follows replaces in
         let least = h.numbered.from_one in omega (arith, follows, least)))
-        h.numbered.window_is (λ early. tt) h in
+        h.numbered.window_is (λ so. tt) h in
         record {
           numbered = record {
             window_is = k.numbered.window_is;

@@ -173,17 +173,17 @@ has_so P leg m (one ∷ log) all h =
 
 module _ (config : ClientConfig) (moves : List EndMove) (is : IsWindow config.window)
     (allowed : AreAllowedMoves config moves) where
-  abbrev Early : Type 0
-  Early = NoneIsEarly (client_started config) moves
+  abbrev NoEarly : Type 0
+  NoEarly = NoneIsEarly (client_started config) moves
 
   abbrev p : Passage ClientRole
   p = (client_moved config moves).passage
 
-  kept : Fits config.window Early p.role p.came p.put
+  kept : Fits config.window NoEarly p.role p.came p.put
   kept =
-      let_moves_keep client_rules client_acts (Let Early) (Fits config.window Early)
-      (steps config.window Early is) (calls config.window Early is) (client_started config) moves
-      (each_let Early (client_started config) moves allowed (λ x. x)) (starts config Early)
+      let_moves_keep client_rules client_acts (Let NoEarly) (Fits config.window NoEarly)
+      (steps config.window NoEarly is) (calls config.window NoEarly is) (client_started config) moves
+      (each_let NoEarly (client_started config) moves allowed (λ x. x)) (starts config NoEarly)
 
   -- ---- what is refused
 
@@ -270,7 +270,7 @@ module _ (config : ClientConfig) (moves : List EndMove) (is : IsWindow config.wi
       behind_window k reached (let told = kept.lined.told in omega (arith, told, far)))
       (λ reached e far. behind_window k reached far)
 
-  pub within_acks : Early → (k : ℕ) (count : Count) (bytes : List ℕ)
+  pub within_acks : NoEarly → (k : ℕ) (count : Count) (bytes : List ℕ)
       → RefusesBehind (IsBehindAcks k p.put)
       (pdu_bytes (of_leg (co k) p.came) + length bytes)
       (client_rules.pdu p.role (co k) count bytes).1
@@ -300,7 +300,7 @@ module _ (config : ClientConfig) (moves : List EndMove) (is : IsWindow config.wi
       (has_so (Says config.window) leg (named.AckTo destination received available cookie) p.put
       kept.says h).1
 
-  pub acks_are_true : Early → (leg : Leg) (destination received available : ℕ) (cookie : Cookie)
+  pub acks_are_true : NoEarly → (leg : Leg) (destination received available : ℕ) (cookie : Cookie)
       → Has (named.AckTo destination received available cookie) (of_leg leg p.put)
       → IsTrueAck p received available cookie
   acks_are_true late leg destination received available cookie h =

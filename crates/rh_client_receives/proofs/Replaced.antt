@@ -237,8 +237,8 @@ module _ (window : ℕ) (X : Type 0) (came put : List OnLeg) where
               let least = h.numbered.from_one in absurd (omega (arith, e, follows, least));
         };
         says = h.says;
-        asked = λ early e. asked;
-        acks = λ early.
+        asked = λ so e. asked;
+        acks = λ so.
             told_grows x (record x {
               line = moved_on x.line;
               current = x.successor;
@@ -253,7 +253,7 @@ module _ (window : ℕ) (X : Type 0) (came put : List OnLeg) where
               number = omega (arith, follows);
               told = λ e. absurd (omega (arith, e, follows));
             })
-            (h.acks early);
+            (h.acks so);
       }
 
   ended_or_holds : (s : ClientRole) (waiting : Waits) → is_finished s.replacement ≡ false
@@ -319,7 +319,7 @@ module _ (window : ℕ) (X : Type 0) (came put : List OnLeg) where
         begun = h.begun;
         says = h.says;
         asked = asked;
-        acks = λ early.
+        acks = λ so.
             told_grows x now came came put put put
             (record {
               arrived = λ n. omega arith;
@@ -327,7 +327,7 @@ module _ (window : ℕ) (X : Type 0) (came put : List OnLeg) where
               number = omega arith;
               told = λ e. more;
             })
-            (h.acks early);
+            (h.acks so);
       }
 
   -- of the next one, which told a whole window if it is there, and released nothing

@@ -174,8 +174,8 @@ module _ (window : ℕ) (X : Type 0) where
               let told = admitted_told c bytes in
               current_changes window X after put (seen s) (lines.admitted c bytes)
               (omega (arith, told)) after_counts
-              (λ early g.
-              asked_by window X (seen s) came put h (λ one. late early (arrived one g)))
+              (λ so g.
+              asked_by window X (seen s) came put h (λ one. late so (arrived one g)))
               now
           by (Err (Window exceeded)) f late = refuses (Window exceeded) f
           by (Err Over) f late = refuses Over f

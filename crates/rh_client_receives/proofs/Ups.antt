@@ -50,7 +50,7 @@ module _ (window : ℕ) (X : Type 0) where
           new = λ e f. h.begun.new e (not_asked (is_asked s.current.opening) none);
         };
         says = h.says;
-        asked = λ early e. absurd (none (h.asked early e));
+        asked = λ so e. absurd (none (h.asked so e));
         acks = h.acks;
       }
         where
