@@ -1,0 +1,9 @@
+mod Along
+mod Windows
+mod Facts
+mod Replaced
+mod Rows
+mod Ups
+mod Puts
+mod Receives
+mod Early
