@@ -1,26 +1,24 @@
 -- what is known of a client's OUT channels, by what came on their legs and by what it put
-use Rattle.std.proofs.Common.{◌≡◌, ◌⊎◌, ℕ, suc, ◌+◌, ◌≤◌, ◌<◌, Bool, true, false, if◌then◌else◌, List, [], ◌∷◌, ◌++◌, inl, inr, arith, rules, sym, ◌∙◌, subst}
+use Rattle.std.proofs.Common.{◌≡◌, ℕ, suc, ◌+◌, ◌≤◌, ◌<◌, Bool, true, List, [], ◌∷◌, ◌++◌, arith, rules, sym, ◌∙◌}
 use Rattle.std.specs.List.{AllByRecursion}
 use Rattle.rh_rts.specs.declared.command.Cookie.{Cookie}
 use Rattle.rh_window.specs.declared.range.TheConstants.{GREATEST_WINDOW}
-use Rattle.rh_sig.specs.declared.named.Named.{Named}
 use Rattle.rh_sig.specs.declared.named.Named.TheVariants.{ConnA1, OutR1A3, AckTo}
 use Rattle.rh_line.specs.Lines.{Line}
 use Rattle.rh_line.specs.declared.leg.Leg.{Leg}
 use Rattle.rh_shell.specs.Rules.{Message, Text, Pdu, Packet}
-use Rattle.rh_shell.specs.Shells.{same_leg}
 use Rattle.rh_shell.specs.Moves.{OnLeg}
 use Rattle.rh_shell.specs.Wires.{of_leg}
-use Rattle.rh_passages.specs.Passing.{pdu_bytes, HasOne, BeginsOut, HasBegunOut}
-use Rattle.rh_passages.proofs.Messages.{all_append, each_so, leg_more, one_more_so}
+use Rattle.rh_passages.specs.Passing.{pdu_bytes}
+use Rattle.rh_passages.proofs.Messages.{all_append, each_so}
 use Rattle.rh_client.specs.State.{co}
 use Rattle.rh_client_receives.proofs.Windows.{Counts, counts_more, leg_rises}
 
--- what is seen of an OUT channel; asked: CONN/A1 or OUT_R1/A3 was put
+-- what is seen of an OUT channel; up: its leg came up
 pub record Channel : Type 0 where
   pub number : ℕ
   pub cookie : Cookie
-  pub asked : Bool
+  pub up : Bool
 
 pub record Seen : Type 0 where
   pub window : ℕ
@@ -34,14 +32,23 @@ pub record Seen : Type 0 where
 
 -- ---- what is known
 
--- the successor has the next number; the channels behind the first one have begun
+-- of the moves
+pub record Known : Type 1 where
+  -- PDUs come only on legs that came up before
+  pub UpFirst : Type 0
+  -- the leg of the first channel came up so far
+  pub FirstUp : Type 0
+  -- a leg comes up with the cookie
+  pub Comes : Leg → Cookie → Type 0
+
+-- the successor has the next number; the legs of the channels behind the first one came up
 pub record Numbered (window given : ℕ) (current successor : Channel) (replaces answered : Bool)
     : Type 0 where
   pub window_is : given ≡ window
   pub from_one : 1 ≤ current.number
   pub follows : replaces ≡ true → successor.number ≡ suc current.number
-  pub later : 2 ≤ current.number → current.asked ≡ true
-  pub next_asked : answered ≡ true → successor.asked ≡ true
+  pub later : 2 ≤ current.number → current.up ≡ true
+  pub next_up : answered ≡ true → successor.up ≡ true
 
 -- the next channel begins with a whole window; it is there where the current one is over
 pub record Lined (window : ℕ) (line : Line) (over : Bool) : Type 0 where
@@ -57,18 +64,14 @@ pub record Counted (window : ℕ) (line : Line) (number : ℕ) (came : List OnLe
   pub now : Counts window line.current (pdu_bytes (of_leg (co number) came))
   pub next : Counts window line.next (pdu_bytes (of_leg (co (suc number)) came))
 
-abbrev pub IsBegun : Channel → List OnLeg → Type 0
-IsBegun c put = c.asked ≡ true → HasBegunOut c.cookie (of_leg (co c.number) put)
+-- the leg came up with the cookie that the channel has
+abbrev pub IsRisen : Known → Channel → Type 0
+IsRisen known c = c.up ≡ true → known.Comes (co c.number) c.cookie
 
--- nothing has begun on the leg
-abbrev pub IsNew : ℕ → List OnLeg → Type 0
-IsNew k put = (cookie : Cookie) → HasBegunOut cookie (of_leg (co k) put) → ⊥
-
-pub record Begun (current successor : Channel) (replaces : Bool) (put : List OnLeg)
-    : Type 0 where
-  pub now : IsBegun current put
-  pub next : replaces ≡ true → IsBegun successor put
-  pub new : current.number ≡ 1 → current.asked ≡ false → IsNew 1 put
+pub record Risen (known : Known) (current successor : Channel) (replaces : Bool) : Type 0 where
+  pub now : IsRisen known current
+  pub next : replaces ≡ true → IsRisen known successor
+  pub first : known.FirstUp → current.number ≡ 1 → current.up ≡ true
 
 -- CONN/A1 and OUT_R1/A3 tell the window, and acknowledgements go to an out proxy
 abbrev pub Says : ℕ → OnLeg → Type 0
@@ -78,99 +81,74 @@ Says window (leg, Packet (AckTo destination received available cookie)) = destin
 Says window one = Unit {0}
 
 -- an acknowledgement is of a channel up to the current one, of which told is all that was told
-pub record Acks (number told : ℕ) (came put : List OnLeg) (received available : ℕ)
-    (cookie : Cookie) : Type 0 where
+pub record Acks (Comes : Leg → Cookie → Type 0) (number told : ℕ) (came : List OnLeg)
+    (received available : ℕ) (cookie : Cookie) : Type 0 where
   pub channel : ℕ
-  pub begun : HasBegunOut cookie (of_leg (co channel) put)
+  pub up : Comes (co channel) cookie
   pub arrived : received ≤ pdu_bytes (of_leg (co channel) came)
   pub window : available ≤ GREATEST_WINDOW
   pub low : channel ≤ number
   pub within : channel ≡ number → received + available ≤ told
 
-abbrev pub IsTold : ℕ → ℕ → List OnLeg → List OnLeg → OnLeg → Type 0
-IsTold number told came put (leg, Packet (AckTo destination received available cookie)) =
-    Acks number told came put received available cookie
-IsTold number told came put one = Unit {0}
+abbrev pub IsTold : (Leg → Cookie → Type 0) → ℕ → ℕ → List OnLeg → OnLeg → Type 0
+IsTold Comes number told came (leg, Packet (AckTo destination received available cookie)) =
+    Acks Comes number told came received available cookie
+IsTold Comes number told came one = Unit {0}
 
-abbrev pub AreTold : Seen → List OnLeg → List OnLeg → Type 0
-AreTold x came put =
-    AllByRecursion (IsTold x.current.number x.line.current.window.told came put) put
+-- told is what the current channel told
+abbrev pub IsToldBy : Known → Seen → List OnLeg → OnLeg → Type 0
+IsToldBy known x came one =
+    IsTold known.Comes x.current.number x.line.current.window.told came one
 
--- where X holds, no RPC PDU came before its channel had begun
-pub record Kept (window : ℕ) (X : Type 0) (x : Seen) (came put : List OnLeg) : Type 0 where
+pub record Kept (window : ℕ) (known : Known) (x : Seen) (came put : List OnLeg) : Type 0 where
   pub numbered : Numbered window x.window x.current x.successor x.replaces x.answered
   pub lined : Lined window x.line x.finished
   pub counted : Counted window x.line x.current.number came
-  pub begun : Begun x.current x.successor x.replaces put
+  pub risen : Risen known x.current x.successor x.replaces
   pub says : AllByRecursion (Says window) put
-  pub asked : X → 0 < x.line.current.window.received → x.current.asked ≡ true
-  pub acks : X → AreTold x came put
+  pub up : known.UpFirst → 0 < x.line.current.window.received → x.current.up ≡ true
+  pub acks : known.UpFirst → AllByRecursion (IsToldBy known x came) put
 
 -- ---- acknowledgements stay true
 
-pub record Grows (x y : Seen) (came more : List OnLeg) (put further : List OnLeg) : Type 0 where
+pub record Grows (x y : Seen) (came more : List OnLeg) : Type 0 where
   pub arrived : (k : ℕ) → pdu_bytes (of_leg (co k) came) ≤ pdu_bytes (of_leg (co k) more)
-  pub begun : (k : ℕ) (cookie : Cookie) → HasBegunOut cookie (of_leg (co k) put)
-      → HasBegunOut cookie (of_leg (co k) further)
   pub number : x.current.number ≤ y.current.number
   pub told : x.current.number ≡ y.current.number
       → x.line.current.window.told ≤ y.line.current.window.told
 
-one_grows : (x y : Seen) (came more put further : List OnLeg) → Grows x y came more put further
-    → (one : OnLeg)
-    → IsTold x.current.number x.line.current.window.told came put one
-    → IsTold y.current.number y.line.current.window.told more further one
-one_grows x y came more put further g (leg, Text bytes) h = tt
-one_grows x y came more put further g (leg, Pdu bytes) h = tt
-one_grows x y came more put further g (leg, Packet (AckTo to received available cookie)) h =
-    let k = h.channel in
-    record {
-      channel = k;
-      begun = g.begun k cookie h.begun;
-      arrived = let before = h.arrived in let rise = g.arrived k in omega (arith, before, rise);
-      window = h.window;
-      low = let low = h.low in let up = g.number in omega (arith, low, up);
-      within = λ e.
-          let low = h.low in
-          let up = g.number in
-          let same : k ≡ x.current.number = omega (arith, low, up, e) in
-          let before = h.within same in
-          let rise = g.told (sym same ∙ e) in
-          omega (arith, before, rise);
-    }
-one_grows x y came more put further g (leg, Packet named) h = search rules
+module _ (known : Known) (x y : Seen) (came more : List OnLeg) (g : Grows x y came more) where
+  one_grows : (one : OnLeg) → IsToldBy known x came one → IsToldBy known y more one
+  one_grows (leg, Text bytes) h = tt
+  one_grows (leg, Pdu bytes) h = tt
+  one_grows (leg, Packet (AckTo to received available cookie)) h =
+      let k = h.channel in
+      record {
+        channel = k;
+        up = h.up;
+        arrived = let before = h.arrived in let rise = g.arrived k in omega (arith, before, rise);
+        window = h.window;
+        low = let low = h.low in let up = g.number in omega (arith, low, up);
+        within = λ e.
+            let low = h.low in
+            let up = g.number in
+            let same : k ≡ x.current.number = omega (arith, low, up, e) in
+            let before = h.within same in
+            let rise = g.told (sym same ∙ e) in
+            omega (arith, before, rise);
+      }
+  one_grows (leg, Packet named) h = search rules
 
-pub told_grows : (x y : Seen) (came more put further log : List OnLeg)
-    → Grows x y came more put further
-    → AllByRecursion (IsTold x.current.number x.line.current.window.told came put) log
-    → AllByRecursion (IsTold y.current.number y.line.current.window.told more further) log
-told_grows x y came more put further log g all =
-    each_so (IsTold x.current.number x.line.current.window.told came put)
-    (IsTold y.current.number y.line.current.window.told more further)
-    (one_grows x y came more put further g) log all
+  pub told_grows : (log : List OnLeg) → AllByRecursion (IsToldBy known x came) log
+      → AllByRecursion (IsToldBy known y more) log
+  told_grows log all =
+      each_so (IsToldBy known x came) (IsToldBy known y more) one_grows log all
 
 -- ---- a message more
 
-pub begun_more : (k : ℕ) (cookie : Cookie) (put : List OnLeg) (one : OnLeg)
-    → HasBegunOut cookie (of_leg (co k) put) → HasBegunOut cookie (of_leg (co k) (put ++ one ∷ []))
-begun_more k cookie put one h =
-    subst (HasBegunOut cookie) (sym (leg_more (co k) put one))
-    (one_more_so (BeginsOut cookie) (of_leg (co k) put) (of_leg (co k) (one ∷ [])) h)
-
-pub more_came : (x : Seen) (came put : List OnLeg) (one : OnLeg)
-    → Grows x x came (came ++ one ∷ []) put put
-more_came x came put one = record {
+more_came : (x : Seen) (came : List OnLeg) (one : OnLeg) → Grows x x came (came ++ one ∷ [])
+more_came x came one = record {
   arrived = λ k. leg_rises (co k) came one;
-  begun = λ k cookie h. h;
-  number = omega arith;
-  told = λ e. omega arith;
-}
-
-pub more_put : (x : Seen) (came put : List OnLeg) (one : OnLeg)
-    → Grows x x came came put (put ++ one ∷ [])
-more_put x came put one = record {
-  arrived = λ k. omega arith;
-  begun = λ k cookie h. begun_more k cookie put one h;
   number = omega arith;
   told = λ e. omega arith;
 }
@@ -185,111 +163,68 @@ counted_more window line number came one h = record {
       (leg_rises (co (suc number)) came one) h.next;
 }
 
-pub kept_more : (window : ℕ) (X : Type 0) (x : Seen) (came put : List OnLeg) (one : OnLeg)
-    → Kept window X x came put → Kept window X x (came ++ one ∷ []) put
-kept_more window X x came put one h = record {
-  numbered = h.numbered;
-  lined = h.lined;
-  counted = counted_more window x.line x.current.number came one h.counted;
-  begun = h.begun;
-  says = h.says;
-  asked = h.asked;
-  acks = λ is.
-      told_grows x x came (came ++ one ∷ []) put put put (more_came x came put one) (h.acks is);
-}
+module _ (window : ℕ) (known : Known) (x : Seen) (came put : List OnLeg)
+    (h : Kept window known x came put) where
+  pub kept_more : (one : OnLeg) → Kept window known x (came ++ one ∷ []) put
+  kept_more one = record {
+    numbered = h.numbered;
+    lined = h.lined;
+    counted = counted_more window x.line x.current.number came one h.counted;
+    risen = h.risen;
+    says = h.says;
+    up = h.up;
+    acks = λ is.
+        told_grows known x x came (came ++ one ∷ []) (more_came x came one) put (h.acks is);
+  }
 
--- a message that begins no channel on the leg
-abbrev pub BeginsNone : OnLeg → Type 0
-BeginsNone one = (cookie : Cookie) → HasOne (BeginsOut cookie) (of_leg (co 1) (one ∷ [])) → ⊥
+  -- a message is put, which says what it should
+  pub kept_put : (one : OnLeg) → Says window one → (known.UpFirst → IsToldBy known x came one)
+      → Kept window known x came (put ++ one ∷ [])
+  kept_put one says is_told = record {
+    numbered = h.numbered;
+    lined = h.lined;
+    counted = h.counted;
+    risen = h.risen;
+    says = all_append (Says window) put (one ∷ []) h.says (says, tt);
+    up = h.up;
+    acks = λ is.
+        all_append (IsToldBy known x came) put (one ∷ []) (h.acks is) (is_told is, tt);
+  }
 
-one_of : (P : Named → Type 0) (a b : List Message) → HasOne P (a ++ b)
-    → HasOne P a ⊎ HasOne P b
-one_of P [] b h = inr h
-one_of P (Text bytes ∷ a) b h = one_of P a b h
-one_of P (Pdu pdu ∷ a) b h = one_of P a b h
-one_of P (Packet named ∷ a) b (inl is) = inl (inl is)
-one_of P (Packet named ∷ a) b (inr rest) = by (one_of P a b rest)
-  where
-    by : HasOne P a ⊎ HasOne P b → (P named ⊎ HasOne P a) ⊎ HasOne P b
-    by (inl is) = inl (inr is)
-    by (inr is) = inr is
+  -- the leg of the first channel came up so far
+  pub kept_up : (Is : Type 0) → (Is → x.current.number ≡ 1 → x.current.up ≡ true)
+      → Kept window (record known { FirstUp = Is }) x came put
+  kept_up Is first = record {
+    numbered = h.numbered;
+    lined = h.lined;
+    counted = h.counted;
+    risen = record { now = h.risen.now; next = h.risen.next; first = first };
+    says = h.says;
+    up = h.up;
+    acks = h.acks;
+  }
 
-pub new_more : (put : List OnLeg) (one : OnLeg) → BeginsNone one → IsNew 1 put
-    → IsNew 1 (put ++ one ∷ [])
-new_more put one none new cookie h =
-    by (one_of (BeginsOut cookie) (of_leg (co 1) put) (of_leg (co 1) (one ∷ []))
-    (subst (HasBegunOut cookie) (leg_more (co 1) put one) h))
-  where
-    by : HasBegunOut cookie (of_leg (co 1) put)
-        ⊎ HasOne (BeginsOut cookie) (of_leg (co 1) (one ∷ [])) → ⊥
-    by (inl is) = new cookie is
-    by (inr is) = none cookie is
-
--- ---- a message is put
-
--- it says what it should, and begins no channel of the first leg
-pub kept_put : (window : ℕ) (X : Type 0) (x : Seen) (came put : List OnLeg) (one : OnLeg)
-    → BeginsNone one → Says window one
-    → (X → IsTold x.current.number x.line.current.window.told came (put ++ one ∷ []) one)
-    → Kept window X x came put → Kept window X x came (put ++ one ∷ [])
-kept_put window X x came put one none says is_told h = record {
-  numbered = h.numbered;
-  lined = h.lined;
-  counted = h.counted;
-  begun = record {
-    now = λ e. begun_more x.current.number x.current.cookie put one (h.begun.now e);
-    next = λ e f. begun_more x.successor.number x.successor.cookie put one (h.begun.next e f);
-    new = λ e f. new_more put one none (h.begun.new e f);
-  };
-  says = all_append (Says window) put (one ∷ []) h.says (says, tt);
-  asked = h.asked;
-  acks = λ is.
-      all_append (IsTold x.current.number x.line.current.window.told came (put ++ one ∷ [])) put
-      (one ∷ [])
-      (told_grows x x came came put (put ++ one ∷ []) put (more_put x came put one) (h.acks is))
-      (is_told is, tt);
-}
-
--- messages of which nothing is known but that they begin, tell and acknowledge nothing
+-- messages of which nothing is known but that they tell and acknowledge nothing
 abbrev pub IsQuiet : Message → Type 0
 IsQuiet (Packet (ConnA1 version connection channel size)) = ⊥
 IsQuiet (Packet (OutR1A3 version connection predecessor channel size)) = ⊥
 IsQuiet (Packet (AckTo destination received available cookie)) = ⊥
 IsQuiet message = Unit {0}
 
-quiet_begins : (m : Message) → IsQuiet m → (cookie : Cookie) → HasOne (BeginsOut cookie) (m ∷ [])
-    → ⊥
-quiet_begins (Text bytes) is cookie h = h
-quiet_begins (Pdu bytes) is cookie h = h
-quiet_begins (Packet (ConnA1 v c d w)) is cookie h = is
-quiet_begins (Packet (OutR1A3 v c d e w)) is cookie h = is
-quiet_begins (Packet named) is cookie (inl h) = search rules
-quiet_begins (Packet named) is cookie (inr h) = h
-
-pub begins_none : (leg : Leg) (m : Message)
-    → ((cookie : Cookie) → HasOne (BeginsOut cookie) (m ∷ []) → ⊥) → BeginsNone (leg, m)
-begins_none leg m none cookie h = by (same_leg leg (co 1)) h
-  where
-    by : (b : Bool) → HasOne (BeginsOut cookie) (if b then m ∷ [] else []) → ⊥
-    by true is = none cookie is
-    by false is = is
-
 quiet_says : (window : ℕ) (leg : Leg) (m : Message) → IsQuiet m → Says window (leg, m)
 quiet_says window leg (Text bytes) is = tt
 quiet_says window leg (Pdu bytes) is = tt
 quiet_says window leg (Packet named) is = search rules
 
-quiet_told : (number told : ℕ) (came put : List OnLeg) (leg : Leg) (m : Message) → IsQuiet m
-    → IsTold number told came put (leg, m)
-quiet_told number told came put leg (Text bytes) is = tt
-quiet_told number told came put leg (Pdu bytes) is = tt
-quiet_told number told came put leg (Packet named) is = search rules
+quiet_told : (known : Known) (x : Seen) (came : List OnLeg) (leg : Leg) (m : Message) → IsQuiet m
+    → IsToldBy known x came (leg, m)
+quiet_told known x came leg (Text bytes) is = tt
+quiet_told known x came leg (Pdu bytes) is = tt
+quiet_told known x came leg (Packet named) is = search rules
 
-pub quiet_put : (window : ℕ) (X : Type 0) (x : Seen) (came put : List OnLeg) (leg : Leg)
-    (m : Message) → IsQuiet m → Kept window X x came put
-    → Kept window X x came (put ++ (leg, m) ∷ [])
-quiet_put window X x came put leg m is h =
-    kept_put window X x came put (leg, m) (begins_none leg m (quiet_begins m is))
-    (quiet_says window leg m is)
-    (λ so. quiet_told x.current.number x.line.current.window.told came (put ++ (leg, m) ∷ [])
-    leg m is) h
+pub quiet_put : (window : ℕ) (known : Known) (x : Seen) (came put : List OnLeg) (leg : Leg)
+    (m : Message) → IsQuiet m → Kept window known x came put
+    → Kept window known x came (put ++ (leg, m) ∷ [])
+quiet_put window known x came put leg m is h =
+    kept_put window known x came put h (leg, m) (quiet_says window leg m is)
+    (λ so. quiet_told known x came leg m is)

@@ -6,4 +6,3 @@ mod Rows
 mod Ups
 mod Puts
 mod Receives
-mod Early

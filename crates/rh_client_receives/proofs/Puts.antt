@@ -1,10 +1,8 @@
 -- what is known of a client's OUT channels stays so behind each put
-use Rattle.std.proofs.Common.{◌≡◌, ℕ, suc, ◌≤◌, ◌==◌, Bool, true, false, true≢false, not, ◌&&◌, if◌then◌else◌, List, [], ◌∷◌, ◌++◌, Some, None, inl, inr, arith, refl, sym, ap, ◌∙◌, subst}
+use Rattle.std.proofs.Common.{◌≡◌, ℕ, suc, Bool, true, false, not, ◌&&◌, if◌then◌else◌, List, [], ◌∷◌, ◌++◌, Some, None, arith, refl, sym, ap, ◌∙◌}
 use Rattle.std.proofs.lemmas.Bool.{and_parts}
-use Rattle.std.proofs.lemmas.Bool.Decides.{nat_tests}
 use Rattle.std.specs.Prelude.{IfSome}
 use Rattle.std.specs.declared.option.Option.{Option}
-use Rattle.rh_rts.specs.declared.command.Cookie.{Cookie}
 use Rattle.rh_keep.specs.Meters.{may_put, fits}
 use Rattle.rh_window.specs.Sides.{IsWindow}
 use Rattle.rh_window.specs.Receiving as windows
@@ -18,14 +16,12 @@ use Rattle.rh_line.specs.declared.leg.Leg.{Leg}
 use Rattle.rh_line.specs.declared.leg.LegKind.{LegKind}
 use Rattle.rh_line.specs.declared.leg.LegKind.TheVariants.{ClientOut, OutServer, ClientIn, InServer}
 use Rattle.rh_line.specs.declared.which.Which.TheVariants.{Current, Next}
-use Rattle.rh_order.proofs.ByNumber.{by_test, same_number}
+use Rattle.rh_order.proofs.ByNumber.{by_test}
 use Rattle.rh_shell.specs.Rules.{Message, Packet}
-use Rattle.rh_shell.specs.Shells.{same_leg}
 use Rattle.rh_shell.specs.Moves.{OnLeg}
 use Rattle.rh_shell.specs.Wires.{of_leg}
-use Rattle.rh_passages.specs.Passing.{pdu_bytes, HasOne, BeginsOut, HasBegunOut}
+use Rattle.rh_passages.specs.Passing.{pdu_bytes}
 use Rattle.rh_passages.proofs.Logs.{PutKeeps}
-use Rattle.rh_passages.proofs.Messages.{all_append, leg_more, last_one_so}
 use Rattle.rh_client.specs.declared.channels.Opening.{Opening}
 use Rattle.rh_client.specs.declared.channels.Opening.TheVariants.{NotUp, Request, First, Second, Put}
 use Rattle.rh_client.specs.declared.lengths.TheConstants.{CONN_B1_LEN, IN_R1_A1_LEN, IN_R1_A5_LEN, OUT_R1_A7_LEN, END_A1_LEN, ACK_TO_LEN, PING_LEN}
@@ -34,54 +30,28 @@ use Rattle.rh_client.specs.declared.replacement.Replacement.TheVariants.{NoneUnd
 use Rattle.rh_client.specs.declared.replacement.InStage.TheVariants as in_stage
 use Rattle.rh_client.specs.declared.replacement.OutStage.TheVariants as out_stage
 use Rattle.rh_client.specs.declared.state.ClientRole.{ClientRole}
-use Rattle.rh_client.specs.Channels.{is_asked, metered, unopened_in}
-use Rattle.rh_client.specs.Replacements.{is_out, is_finished}
+use Rattle.rh_client.specs.Channels.{is_up, metered, unopened_in}
+use Rattle.rh_client.specs.Replacements.{is_finished}
 use Rattle.rh_client.specs.State.{co, is_writing, is_in_successor, is_current, is_out_successor}
 use Rattle.rh_client.specs.Acknowledging.{may_ack, ack_due}
 use Rattle.rh_client.specs.InReplacement.{handed_over}
 use Rattle.rh_client.specs.Putting.{Pick, or_else, begun_out, conn_a1, out_r1_a3, due_by, put_due, ack_by, put_ack_of, put_ack, lets_pdu, pdu_by as put_pdu_by, put_pdu, is_end_due, put_end, put_ping, put_next, put_conn_b1, put_in_r1_a1, put_current, put_out_successor, put_out, put_successor_ping, put_writing, put_in_successor, put_in, settled_pick, put_by}
 use Rattle.rh_client_receives.proofs.Windows.{IsDue, due_is, none_due}
-use Rattle.rh_client_receives.proofs.Facts.{Seen, BeginsNone, Says, IsTold, IsQuiet, begins_none, kept_put, quiet_put, begun_more, told_grows, more_put}
+use Rattle.rh_client_receives.proofs.Facts.{Seen, Known, Says, IsToldBy, IsQuiet, kept_put, quiet_put}
 use Rattle.rh_client_receives.proofs.Replaced.{channel, seen, Of, same_holds, by_replacement, after_in_holds, settled_holds, current_changes}
-use Rattle.rh_client_receives.proofs.Rows.{Fits, leg_is}
+use Rattle.rh_client_receives.proofs.Rows.{Fits}
 
--- the first packet of a channel, on its leg
-begins_here : (leg : Leg) (k : ℕ) (put : List OnLeg) (m : Named) (cookie : Cookie)
-    → BeginsOut cookie m → leg ≡ co k
-    → HasBegunOut cookie (of_leg (co k) (put ++ (leg, Packet m) ∷ []))
-begins_here leg k put m cookie begins e =
-    subst (λ (other : Leg). HasBegunOut cookie (of_leg (co k) (put ++ (other, Packet m) ∷ [])))
-    (sym e)
-    (subst (HasBegunOut cookie) (sym (leg_more (co k) put (co k, Packet m)))
-    (subst (λ (b : Bool).
-    HasBegunOut cookie (of_leg (co k) put ++ (if b then Packet m ∷ [] else [])))
-    (sym (itself k)) (last_one_so (BeginsOut cookie) (of_leg (co k) put) m begins)))
-  where
-    itself : (n : ℕ) → same_leg (co n) (co n) ≡ true
-    itself n = grind (arith, nat_tests)
-
--- on another leg than the first it begins no channel there
-apart : (leg : Leg) (k : ℕ) (m : Message) → leg ≡ co k → 2 ≤ k → BeginsNone (leg, m)
-apart leg k m e above cookie h =
-    subst (λ (b : Bool). HasOne (BeginsOut cookie) (if b then m ∷ [] else [])) not_same h
-  where
-    not_same : same_leg leg (co 1) ≡ false
-    not_same = subst (λ (other : Leg). same_leg other (co 1) ≡ false) (sym e) (differ k above)
-      where
-        differ : (n : ℕ) → 2 ≤ n → same_leg (co n) (co 1) ≡ false
-        differ n f = grind (arith, nat_tests, f)
-
-module _ (window : ℕ) (X : Type 0) (is_window : IsWindow window) (leg : Leg)
+module _ (window : ℕ) (known : Known) (is_window : IsWindow window) (leg : Leg)
     (came put : List OnLeg) where
   abbrev pub Puts : Pick → Type 0
-  Puts pick = PutKeeps (Fits window X) leg came put pick
+  Puts pick = PutKeeps (Fits window known) leg came put pick
 
   abbrev With : Seen → Message → Type 0
-  With x m = Of window X came (put ++ (leg, m) ∷ []) x
+  With x m = Of window known came (put ++ (leg, m) ∷ []) x
 
-  quiet : (t : ClientRole) (m : Message) → IsQuiet m → Fits window X t came put
+  quiet : (t : ClientRole) (m : Message) → IsQuiet m → Fits window known t came put
       → With (seen t) m
-  quiet t m is h = quiet_put window X (seen t) came put leg m is h
+  quiet t m is h = quiet_put window known (seen t) came put leg m is h
 
   or_puts : (a b : Pick) → Puts a → Puts b → Puts (or_else a b)
   or_puts None b h k = k
@@ -92,7 +62,7 @@ module _ (window : ℕ) (X : Type 0) (is_window : IsWindow window) (leg : Leg)
   puts_if true t m h = h
   puts_if false t m h = tt
 
-  module _ (s : ClientRole) (h : Fits window X s came put) where
+  module _ (s : ClientRole) (h : Fits window known s came put) where
     -- ---- what is due
 
     due_puts : (r : Replacement) → s.replacement ≡ r → Puts (due_by s r)
@@ -102,7 +72,7 @@ module _ (window : ℕ) (X : Type 0) (is_window : IsWindow window) (leg : Leg)
         puts_if (fits s.writing.meter IN_R1_A5_LEN) (handed_over s out_waits)
         (Packet (named.InR1A5 s.in_successor.cookie))
         (quiet (handed_over s out_waits) (Packet (named.InR1A5 s.in_successor.cookie)) tt
-        (after_in_holds window X came put (record s {
+        (after_in_holds window known came put (record s {
           leaving = s.writing;
           writing = s.in_successor;
           in_successor = unopened_in 0 s.config.lifetime;
@@ -112,7 +82,7 @@ module _ (window : ℕ) (X : Type 0) (is_window : IsWindow window) (leg : Leg)
         puts_if (fits s.writing.meter OUT_R1_A7_LEN) t
         (Packet (named.OutR1A7 2 s.out_successor.cookie))
         (quiet t (Packet (named.OutR1A7 2 s.out_successor.cookie)) tt
-        (by_replacement window X came put s (Out out_stage.Answered waiting) e h))
+        (by_replacement window known came put s (Out out_stage.Answered waiting) e h))
       where
         t : ClientRole
         t = record s {
@@ -131,12 +101,10 @@ module _ (window : ℕ) (X : Type 0) (is_window : IsWindow window) (leg : Leg)
           writing = metered s.writing ACK_TO_LEN;
         })) (Packet (named.AckTo 3 ack.received ack.available s.current.cookie))
     now_acked ack e =
-        kept_put window X y came put (leg, m) (begins_none leg m none) refl
+        kept_put window known y came put changed (leg, m) refl
         (λ so. record {
           channel = s.current.number;
-          begun =
-              begun_more s.current.number s.current.cookie put (leg, m)
-              (h.begun.now (h.asked so d.came));
+          up = h.risen.now (h.up so d.came);
           arrived =
               let same = d.received in
               let counts = h.counted.now.received in omega (arith, same, counts);
@@ -146,12 +114,6 @@ module _ (window : ℕ) (X : Type 0) (is_window : IsWindow window) (leg : Leg)
           low = omega arith;
           within = λ f. omega arith;
         })
-        (current_changes window X came put (seen s) c d.more
-        (record {
-          received = h.counted.now.received;
-          counted = h.counted.now.counted;
-          size = h.counted.now.size;
-        }) h.asked h)
       where
         m : Message
         m = Packet (named.AckTo 3 ack.received ack.available s.current.cookie)
@@ -169,9 +131,14 @@ module _ (window : ℕ) (X : Type 0) (is_window : IsWindow window) (leg : Leg)
             due_is window s.line.current (pdu_bytes (of_leg (co s.current.number) came)) ack
             h.counted.now h.lined.told e
 
-        none : (cookie : Cookie) → HasOne (BeginsOut cookie) (m ∷ []) → ⊥
-        none cookie (inl is) = is
-        none cookie (inr is) = is
+        changed : Of window known came put y
+        changed =
+            current_changes window known came put (seen s) c d.more
+            (record {
+              received = h.counted.now.received;
+              counted = h.counted.now.counted;
+              size = h.counted.now.size;
+            }) h.up h
 
     current_puts : (o : Option Ack) → IfSome o (λ (ack : Ack). due s.line Current ≡ Some ack)
         → Puts (ack_by s Current o)
@@ -270,144 +237,83 @@ module _ (window : ℕ) (X : Type 0) (is_window : IsWindow window) (leg : Leg)
 
     -- ---- on OUT channels
 
-    -- the current channel, or its successor, is as far as before
-    now_stays : (o other : Opening) → s.current.opening ≡ o → is_asked other ≡ is_asked o
-        → Fits window X (record s { current = begun_out s.current other }) came put
+    -- the leg of the current channel, or of its successor, is up as before
+    now_stays : (o other : Opening) → s.current.opening ≡ o → is_up other ≡ is_up o
+        → Fits window known (record s { current = begun_out s.current other }) came put
     now_stays o other e f =
-        same_holds window X came put s (record s { current = begun_out s.current other })
+        same_holds window known came put s (record s { current = begun_out s.current other })
         (ap (λ (b : Bool).
-        record (seen s) { current = record (channel s.current) { asked = b } })
-        (f ∙ sym (ap is_asked e))) h
+        record (seen s) { current = record (channel s.current) { up = b } })
+        (f ∙ sym (ap is_up e))) h
 
-    next_stays : (o other : Opening) → s.out_successor.opening ≡ o → is_asked other ≡ is_asked o
-        → Fits window X (record s { out_successor = begun_out s.out_successor other }) came put
+    next_stays : (o other : Opening) → s.out_successor.opening ≡ o → is_up other ≡ is_up o
+        → Fits window known (record s { out_successor = begun_out s.out_successor other })
+        came put
     next_stays o other e f =
-        same_holds window X came put s
+        same_holds window known came put s
         (record s { out_successor = begun_out s.out_successor other })
         (ap (λ (b : Bool).
-        record (seen s) { successor = record (channel s.out_successor) { asked = b } })
-        (f ∙ sym (ap is_asked e))) h
+        record (seen s) { successor = record (channel s.out_successor) { up = b } })
+        (f ∙ sym (ap is_up e))) h
 
-    -- CONN/A1
-    now_begins : leg ≡ co s.current.number
-        → With (seen (record s { current = begun_out s.current Put })) (Packet (conn_a1 s))
-    now_begins e = record {
-      numbered = record {
-        window_is = h.numbered.window_is;
-        from_one = h.numbered.from_one;
-        follows = h.numbered.follows;
-        later = λ f. refl;
-        next_asked = h.numbered.next_asked;
-      };
-      lined = h.lined;
-      counted = h.counted;
-      begun = record {
-        now = λ f.
-            begins_here leg s.current.number put (conn_a1 s) s.current.cookie refl e;
-        next = λ f g.
-            begun_more s.out_successor.number s.out_successor.cookie put
-            (leg, Packet (conn_a1 s)) (h.begun.next f g);
-        new = λ f g. absurd (true≢false g);
-      };
-      says = all_append (Says window) put _ h.says (h.numbered.window_is, tt);
-      asked = λ so f. refl;
-      acks = λ so.
-          all_append (IsTold s.current.number s.line.current.window.told came
-          (put ++ (leg, Packet (conn_a1 s)) ∷ [])) put _
-          (told_grows (seen s) (seen s) came came put (put ++ (leg, Packet (conn_a1 s)) ∷ []) put
-          (more_put (seen s) came put (leg, Packet (conn_a1 s))) (h.acks so))
-          (tt, tt);
-    }
+    -- CONN/A1 and OUT_R1/A3
+    begins : (t : ClientRole) (m : Named) → Says window (leg, Packet m)
+        → IsToldBy known (seen t) came (leg, Packet m) → Fits window known t came put
+        → With (seen t) (Packet m)
+    begins t m says is_told k =
+        kept_put window known (seen t) came put k (leg, Packet m) says (λ so. is_told)
 
-    -- OUT_R1/A3
-    next_begins : is_out s.replacement ≡ true → leg ≡ co s.out_successor.number
-        → With (seen (record s { out_successor = begun_out s.out_successor Second }))
-        (Packet (out_r1_a3 s))
-    next_begins replaces e =
-        let k =
-        kept_put window X (seen s) came put (leg, Packet (out_r1_a3 s))
-        (apart leg s.out_successor.number (Packet (out_r1_a3 s)) e
-        (let follows = h.numbered.follows replaces in
-        let least = h.numbered.from_one in omega (arith, follows, least)))
-        h.numbered.window_is (λ so. tt) h in
-        record {
-          numbered = record {
-            window_is = k.numbered.window_is;
-            from_one = k.numbered.from_one;
-            follows = k.numbered.follows;
-            later = k.numbered.later;
-            next_asked = λ f. refl;
-          };
-          lined = k.lined;
-          counted = k.counted;
-          begun = record {
-            now = k.begun.now;
-            next = λ f g.
-                begins_here leg s.out_successor.number put (out_r1_a3 s) s.out_successor.cookie
-                refl e;
-            new = k.begun.new;
-          };
-          says = k.says;
-          asked = k.asked;
-          acks = k.acks;
-        }
-
-    now_puts : (o : Opening) → s.current.opening ≡ o → leg ≡ co s.current.number
-        → Puts (put_current s o)
+    now_puts : (o : Opening) → s.current.opening ≡ o → Puts (put_current s o)
     unfolding put_current
-    now_puts NotUp e f = tt
-    now_puts Request e f =
+    now_puts NotUp e = tt
+    now_puts Request e =
         quiet (record s { current = begun_out s.current First }) _ tt
         (now_stays Request First e refl)
-    now_puts First e f = now_begins f
-    now_puts Second e f = tt
-    now_puts Put e f = tt
+    now_puts First e =
+        begins (record s { current = begun_out s.current Put }) (conn_a1 s)
+        h.numbered.window_is tt (now_stays First Put e refl)
+    now_puts Second e = tt
+    now_puts Put e = tt
 
     out_successor_puts : (o : Opening) → s.out_successor.opening ≡ o
-        → is_out s.replacement ≡ true → leg ≡ co s.out_successor.number
         → Puts (put_out_successor s o)
     unfolding put_out_successor
-    out_successor_puts NotUp e f g = tt
-    out_successor_puts Request e f g =
+    out_successor_puts NotUp e = tt
+    out_successor_puts Request e =
         quiet (record s { out_successor = begun_out s.out_successor First }) _ tt
         (next_stays Request First e refl)
-    out_successor_puts First e f g = next_begins f g
-    out_successor_puts Second e f g =
+    out_successor_puts First e =
+        begins (record s { out_successor = begun_out s.out_successor Second }) (out_r1_a3 s)
+        h.numbered.window_is tt (next_stays First Second e refl)
+    out_successor_puts Second e =
         quiet (record s { out_successor = begun_out s.out_successor Put }) _ tt
         (next_stays Second Put e refl)
-    out_successor_puts Put e f g = tt
+    out_successor_puts Put e = tt
 
-    out_puts : leg.kind ≡ ClientOut → Puts (put_out s leg.number)
+    out_puts : (n : ℕ) → Puts (put_out s n)
     unfolding put_out
-    out_puts kind =
-        by_test Puts (is_current s leg.number) (put_current s s.current.opening)
-        (if is_out_successor s leg.number
-        then put_out_successor s s.out_successor.opening else None)
-        (λ e. now_puts s.current.opening refl
-        (leg_is leg s.current.number kind (same_number leg.number s.current.number e)))
-        (λ e. by_test Puts (is_out_successor s leg.number)
+    out_puts n =
+        by_test Puts (is_current s n) (put_current s s.current.opening)
+        (if is_out_successor s n then put_out_successor s s.out_successor.opening else None)
+        (λ e. now_puts s.current.opening refl)
+        (λ e. by_test Puts (is_out_successor s n)
         (put_out_successor s s.out_successor.opening) None
-        (λ f. let is = and_parts (is_out s.replacement)
-        (leg.number == s.out_successor.number) f in
-        out_successor_puts s.out_successor.opening refl is.0
-        (leg_is leg s.out_successor.number kind
-        (same_number leg.number s.out_successor.number is.1)))
-        (λ f. tt))
+        (λ f. out_successor_puts s.out_successor.opening refl) (λ f. tt))
 
     -- ---- the next message of a leg
 
-    kind_puts : (kind : LegKind) → leg.kind ≡ kind → Puts (put_by s leg.number kind)
+    kind_puts : (kind : LegKind) → Puts (put_by s leg.number kind)
     unfolding put_by
-    kind_puts ClientOut e = out_puts e
-    kind_puts ClientIn e = in_puts leg.number
-    kind_puts OutServer e = tt
-    kind_puts InServer e = tt
+    kind_puts ClientOut = out_puts leg.number
+    kind_puts ClientIn = in_puts leg.number
+    kind_puts OutServer = tt
+    kind_puts InServer = tt
 
   settled_puts : (pick : Pick) → Puts pick → Puts (settled_pick pick)
   settled_puts None h = tt
   settled_puts (Some pick) h =
-      settled_holds window X came (put ++ (leg, pick.1) ∷ []) pick.0 h
+      settled_holds window known came (put ++ (leg, pick.1) ∷ []) pick.0 h
 
-  pub put_fits : (s : ClientRole) → Fits window X s came put
+  pub put_fits : (s : ClientRole) → Fits window known s came put
       → Puts (settled_pick (put_by s leg.number leg.kind))
-  put_fits s h = settled_puts (put_by s leg.number leg.kind) (kind_puts s h leg.kind refl)
+  put_fits s h = settled_puts (put_by s leg.number leg.kind) (kind_puts s h leg.kind)

@@ -1,5 +1,5 @@
 -- a client receives within its windows, and acknowledges what came
-use Rattle.std.proofs.Common.{◌≡◌, ℕ, suc, ◌+◌, ◌<◌, ◌==◌, Bool, true, false, true≢false, not, ◌&&◌, ◌||◌, if◌then◌else◌, List, [], ◌∷◌, length, Some, None, Ok, Err, inl, inr, arith, refl, rules, sym, ◌∙◌, subst}
+use Rattle.std.proofs.Common.{◌≡◌, ◌⊎◌, ℕ, suc, ◌+◌, ◌<◌, ◌==◌, Bool, true, false, true≢false, not, ◌&&◌, ◌||◌, if◌then◌else◌, List, [], ◌∷◌, ◌++◌, length, Some, None, Ok, Err, inl, inr, arith, refl, rules, sym, ap, ◌∙◌, subst}
 use Rattle.std.proofs.lemmas.Bool.{and_parts}
 use Rattle.std.specs.List.{AllByRecursion}
 use Rattle.std.specs.declared.option.Option.{Option}
@@ -21,15 +21,16 @@ use Rattle.rh_line.specs.declared.which.Which.{Which}
 use Rattle.rh_line.specs.declared.which.Which.TheVariants.{Current, Next}
 use Rattle.rh_order.proofs.ByNumber.{by_test, same_number}
 use Rattle.rh_shell.specs.declared.answers.Count.{Count}
-use Rattle.rh_shell.specs.Rules.{Message, Pdu, Packet}
+use Rattle.rh_shell.specs.Rules.{Message, Packet}
 use Rattle.rh_shell.specs.Shells.{same_leg}
-use Rattle.rh_shell.specs.Moves.{OnLeg, EndMove, Moves, Gives, Takes, Closes, Recycles, Passage, EndPassage, moved, taken_by, end_moved, MayEndMove, AreAllowedAtEnd}
+use Rattle.rh_shell.specs.Moves.{OnLeg, Up, EndMove, Moves, Passage, EndPassage, end_moved, MayEndMove, AreAllowedAtEnd}
 use Rattle.rh_shell.specs.Wires.{of_leg}
 use Rattle.rh_passages.specs.Passing.{pdu_bytes, Has}
-use Rattle.rh_passages.proofs.Logs.{RowKeeps, ActsKeep}
+use Rattle.rh_passages.specs.Rising.{HasComeUp, WasUp, IsUpFirst, AreUpFirst}
+use Rattle.rh_passages.proofs.Logs.{ActsKeep}
 use Rattle.rh_client.specs.declared.channels.InChannel.{InChannel}
 use Rattle.rh_client.specs.declared.state.ClientRole.{ClientRole}
-use Rattle.rh_client.specs.Channels.{is_named}
+use Rattle.rh_client.specs.Channels.{is_named, is_up}
 use Rattle.rh_client.specs.Replacements.{is_out}
 use Rattle.rh_client.specs.State.{Done, co, unexpected, is_open, is_current, is_out_successor, first}
 use Rattle.rh_client.specs.Acknowledging.{is_switched, admit_row, pdu_channel, pdu_on, ack_row_by, ack_row, ack_named, on_ack_to}
@@ -38,13 +39,13 @@ use Rattle.rh_client.specs.Time.{ping}
 use Rattle.rh_client.specs.Client.{packet_by, on_packet, acts as client_acts}
 use Rattle.rh_client.specs.Client.{rules as client_rules}
 use Rattle.rh_client.specs.Order.{AreAllowedMoves, client_moved, client_started}
-use Rattle.rh_client_receives.specs.Receiving.{IsNotEarly, NoneIsEarly, IsBehindWindow, IsBehindAcks, RefusesBehind, IsNoWindow, IsTrueAck}
-use Rattle.rh_client_receives.proofs.Along.{AllMay, LetStepsKeep, let_moves_keep}
+use Rattle.rh_client_receives.specs.Receiving.{IsBehindWindow, IsBehindAcks, RefusesBehind, IsNoWindow, IsTrueAck}
+use Rattle.rh_client_receives.proofs.Along.{May, Past, AllMay, IsNoUp, LetStepsKeep, let_moves_keep}
 use Rattle.rh_client_receives.proofs.Windows.{IsBehind, refused_behind}
-use Rattle.rh_client_receives.proofs.Facts.{Says, IsTold}
-use Rattle.rh_client_receives.proofs.Replaced.{Same, same_holds, recycle_holds, take_holds}
+use Rattle.rh_client_receives.proofs.Facts.{Known, Says, Acks, IsToldBy, kept_up}
+use Rattle.rh_client_receives.proofs.Replaced.{Same, seen, same_holds, recycle_holds, take_holds}
 use Rattle.rh_client_receives.proofs.Rows.{Fits, pdu_fits, packet_fits}
-use Rattle.rh_client_receives.proofs.Ups.{up_fits}
+use Rattle.rh_client_receives.proofs.Ups.{up_fits, first_up}
 use Rattle.rh_client_receives.proofs.Puts.{put_fits}
 
 -- ---- the steps of a client
@@ -58,81 +59,126 @@ same_ping s leg = search rules
 same_give : (s : ClientRole) (bytes : List ℕ) → Same s (give s bytes).0
 same_give s bytes = search rules
 
--- behind a move of a role no RPC PDU is early
-abbrev IsLate : Passage ClientRole → EndMove → Type 0
-IsLate p (Moves move) =
-    let q = moved client_rules p move in IsNotEarly q.came q.put
-IsLate p move = Unit {0}
+-- ---- legs come up
 
--- a move is allowed, and no PDU is early behind it where X holds
-abbrev Let : Type 0 → Passage ClientRole → EndMove → Type 0
-Let X p move = MayEndMove client_rules p.role move × (X → IsLate p move)
+abbrev known : List EndMove → List EndMove → Known
+known moves before = record {
+  UpFirst = AreUpFirst [] moves;
+  FirstUp = WasUp before (co 1);
+  Comes = λ leg cookie. HasComeUp moves leg cookie;
+}
 
-late_row : (p : Passage ClientRole) (leg : Leg) (m : Message) (x : Done)
-    → IsNotEarly (taken_by p leg m x).came (taken_by p leg m x).put
-    → RowKeeps (λ t all q. IsNotEarly all q) (leg, m) p.came p.put x
-late_row p leg m (s, Ok took) h = h
-late_row p leg m (s, Err why) h = h
+-- it is one of these moves with which a leg comes up
+abbrev IsOneOf : List EndMove → EndMove → Type 0
+IsOneOf moves (Moves (Up leg cookie)) = HasComeUp moves leg cookie
+IsOneOf moves move = Unit {0}
 
-module _ (window : ℕ) (X : Type 0) (is : IsWindow window) where
-  steps : LetStepsKeep client_rules (Let X) (Fits window X)
+-- a move is allowed, is one of these, and is on a leg that came up before if they all are
+abbrev Let : List EndMove → May ClientRole
+Let moves before s move =
+    MayEndMove client_rules s move × (AreUpFirst [] moves → IsUpFirst before move)
+    × IsOneOf moves move
+
+-- the leg comes up at the last move, or did before
+up_last : (before : List EndMove) (move : EndMove) (leg : Leg) (cookie : Cookie)
+    → HasComeUp (before ++ move ∷ []) leg cookie
+    → WasUp before leg ⊎ (move ≡ Moves (Up leg cookie))
+up_last [] move leg cookie (inl is) = inr is
+up_last [] move leg cookie (inr rest) = absurd rest
+up_last (one ∷ before) move leg cookie (inl is) = inl (cookie, inl is)
+up_last (one ∷ before) move leg cookie (inr rest) = by (up_last before move leg cookie rest)
+  where
+    by : WasUp before leg ⊎ (move ≡ Moves (Up leg cookie))
+        → WasUp (one ∷ before) leg ⊎ (move ≡ Moves (Up leg cookie))
+    by (inl is) = inl (is.0, inr is.1)
+    by (inr is) = inr is
+
+-- the leg that comes up at a move
+abbrev leg_of : EndMove → Leg
+leg_of (Moves (Up leg cookie)) = leg
+leg_of move = co 0
+
+module _ (window : ℕ) (moves : List EndMove) (is : IsWindow window) where
+  abbrev Holds : Past ClientRole
+  Holds before s came put = Fits window (known moves before) s came put
+
+  -- behind a move, at which the leg of the first channel may come up
+  behind : (before : List EndMove) (move : EndMove) (s : ClientRole) (came put : List OnLeg)
+      → ((cookie : Cookie) → move ≡ Moves (Up (co 1) cookie)
+      → s.current.number ≡ 1 → is_up s.current.opening ≡ true)
+      → Holds before s came put → Holds (before ++ move ∷ []) s came put
+  behind before move s came put last h =
+      kept_up window (known moves before) (seen s) came put h
+      (WasUp (before ++ move ∷ []) (co 1))
+      (λ so. by so.0 (up_last before move (co 1) so.0 so.1))
+    where
+      by : (cookie : Cookie)
+          → WasUp before (co 1) ⊎ (move ≡ Moves (Up (co 1) cookie))
+          → s.current.number ≡ 1 → is_up s.current.opening ≡ true
+      by cookie (inl was) e = h.risen.first was e
+      by cookie (inr now) e = last cookie now e
+
+  steps : LetStepsKeep client_rules (Let moves) Holds
   steps = record {
-    up = λ p leg cookie may h.
-        up_fits window X p.role cookie p.came p.put h leg.number leg.kind may.0.1;
-    head = λ p leg text h. h;
-    pdu = λ p leg count bytes may h.
-        pdu_fits window X p.role leg leg.kind bytes p.came p.put refl
-        (λ x. late_row p leg (Pdu bytes) (client_rules.pdu p.role leg count bytes) (may.1 x)) h;
-    packet = λ p leg count m h.
-        packet_fits window X p.role leg leg.kind count m p.came p.put refl h;
-    put = λ p leg h. put_fits window X is leg p.came p.put p.role h;
-    drawn = λ p leg h.
-        same_holds window X p.came p.put p.role (drawn p.role leg) (same_drawn p.role leg) h;
-    mark = λ p leg h. h;
-    ping = λ p leg h.
-        same_holds window X p.came p.put p.role (ping p.role leg) (same_ping p.role leg) h;
+    up = λ before s leg cookie came put may h.
+        behind before (Moves (Up leg cookie)) (client_rules.up s leg cookie) came put
+        (λ other e. first_up s leg cookie (ap leg_of e))
+        (up_fits window (known moves before) s cookie came put h leg leg.kind refl may.0.1 may.2);
+    past = λ before move s came put none h.
+        behind before move s came put (λ cookie e. absurd (subst IsNoUp e none)) h;
+    head = λ before s leg text came put h. h;
+    pdu = λ before s leg count bytes came put may h.
+        pdu_fits window (known moves before) s leg leg.kind bytes came put refl
+        (λ so e. subst (λ (other : Leg). WasUp before other) e (may.1 so)) h;
+    packet = λ before s leg count m came put h.
+        packet_fits window (known moves before) s leg leg.kind count m came put refl h;
+    put = λ before s leg came put h.
+        put_fits window (known moves before) is leg came put s h;
+    drawn = λ before s leg came put h.
+        same_holds window (known moves before) came put s (drawn s leg) (same_drawn s leg) h;
+    mark = λ before s leg came put h. h;
+    ping = λ before s leg came put h.
+        same_holds window (known moves before) came put s (ping s leg) (same_ping s leg) h;
   }
 
-  calls : ActsKeep client_acts (Fits window X)
-  calls = record {
+  calls : (before : List EndMove) → ActsKeep client_acts (Holds before)
+  calls before = record {
     give = λ s bytes came put h.
-        same_holds window X came put s (give s bytes).0 (same_give s bytes) h;
-    take = λ s came put h. take_holds window X came put s s.line.current.pdus refl h;
+        same_holds window (known moves before) came put s (give s bytes).0 (same_give s bytes) h;
+    take = λ s came put h.
+        take_holds window (known moves before) came put s s.line.current.pdus refl h;
     close = λ s came put h. h;
-    recycle = λ s came put h. recycle_holds window X came put s s.replacement refl h;
+    recycle = λ s came put h.
+        recycle_holds window (known moves before) came put s s.replacement refl h;
   }
 
-first_late : (p : EndPassage ClientRole) (moves : List EndMove) → NoneIsEarly p moves
-    → IsNotEarly p.passage.came p.passage.put
-first_late p [] late = late
-first_late p (move ∷ moves) late = late.0
+one_of : (all : List EndMove) (move : EndMove)
+    → ((leg : Leg) (cookie : Cookie) → move ≡ Moves (Up leg cookie) → HasComeUp all leg cookie)
+    → IsOneOf all move
+one_of all (Moves (Up leg cookie)) comes = comes leg cookie refl
+one_of all move comes = tt
 
-late_behind : (p : EndPassage ClientRole) (move : EndMove) (moves : List EndMove)
-    → NoneIsEarly (end_moved client_rules client_acts p move) moves → IsLate p.passage move
-late_behind p (Moves move) moves late =
-    first_late (end_moved client_rules client_acts p (Moves move)) moves late
-late_behind p (Gives bytes) moves late = tt
-late_behind p Takes moves late = tt
-late_behind p Closes moves late = tt
-late_behind p Recycles moves late = tt
-
-each_let : (X : Type 0) (p : EndPassage ClientRole) (moves : List EndMove)
-    → AreAllowedAtEnd client_rules client_acts p moves → (X → NoneIsEarly p moves)
-    → AllMay client_rules client_acts (Let X) p moves
-each_let X p [] allowed late = tt
-each_let X p (move ∷ moves) allowed late = (
-  (allowed.0, λ x. late_behind p move moves (late x).1),
-  each_let X (end_moved client_rules client_acts p move) moves allowed.1 (λ x. (late x).1),
+each_let : (all before : List EndMove) (p : EndPassage ClientRole) (moves : List EndMove)
+    → AreAllowedAtEnd client_rules client_acts p moves
+    → (AreUpFirst [] all → AreUpFirst before moves)
+    → ((leg : Leg) (cookie : Cookie) → HasComeUp moves leg cookie → HasComeUp all leg cookie)
+    → AllMay client_rules client_acts (Let all) before p moves
+each_let all before p [] allowed first comes = tt
+each_let all before p (move ∷ moves) allowed first comes = (
+  (allowed.0, λ so. (first so).0, one_of all move (λ leg cookie is. comes leg cookie (inl is))),
+  each_let all (before ++ move ∷ []) (end_moved client_rules client_acts p move) moves
+      allowed.1 (λ so. (first so).1) (λ leg cookie later. comes leg cookie (inr later)),
 )
 
-starts : (config : ClientConfig) (X : Type 0) → Fits config.window X (first config) [] []
-starts config X = record {
+starts : (config : ClientConfig) (moves : List EndMove)
+    → Fits config.window (known moves []) (first config) [] []
+starts config moves = record {
   numbered = record {
     window_is = refl;
     from_one = omega arith;
     follows = λ e. absurd (true≢false (sym e));
     later = λ e. absurd (omega (arith, e));
-    next_asked = λ e. absurd (true≢false (sym e));
+    next_up = λ e. absurd (true≢false (sym e));
   };
   lined = record {
     size = refl;
@@ -146,14 +192,14 @@ starts config X = record {
     now = record { received = omega arith; counted = refl; size = refl };
     next = record { received = omega arith; counted = refl; size = refl };
   };
-  begun = record {
+  risen = record {
     now = λ e. absurd (true≢false (sym e));
     next = λ e. absurd (true≢false (sym e));
-    new = λ e f cookie h. h;
+    first = λ so e. absurd so.1;
   };
   says = tt;
-  asked = λ x e. absurd (omega (arith, e));
-  acks = λ x. tt;
+  up = λ so e. absurd (omega (arith, e));
+  acks = λ so. tt;
 }
 
 -- ---- a message that was put on a leg
@@ -173,17 +219,21 @@ has_so P leg m (one ∷ log) all h =
 
 module _ (config : ClientConfig) (moves : List EndMove) (is : IsWindow config.window)
     (allowed : AreAllowedMoves config moves) where
-  abbrev NoEarly : Type 0
-  NoEarly = NoneIsEarly (client_started config) moves
-
   abbrev p : Passage ClientRole
   p = (client_moved config moves).passage
 
-  kept : Fits config.window NoEarly p.role p.came p.put
-  kept =
-      let_moves_keep client_rules client_acts (Let NoEarly) (Fits config.window NoEarly)
-      (steps config.window NoEarly is) (calls config.window NoEarly is) (client_started config) moves
-      (each_let NoEarly (client_started config) moves allowed (λ x. x)) (starts config NoEarly)
+  -- behind all moves, whichever they were
+  behind_all : (past : List EndMove) × Fits config.window (known moves past) p.role p.came p.put
+  behind_all =
+      let_moves_keep client_rules client_acts (Let moves) (Holds config.window moves is)
+      (steps config.window moves is) (calls config.window moves is) [] (client_started config)
+      moves
+      (each_let moves [] (client_started config) moves allowed (λ so. so)
+      (λ leg cookie comes. comes))
+      (starts config moves)
+
+  kept : Fits config.window (known moves behind_all.0) p.role p.came p.put
+  kept = behind_all.1
 
   -- ---- what is refused
 
@@ -270,26 +320,31 @@ module _ (config : ClientConfig) (moves : List EndMove) (is : IsWindow config.wi
       behind_window k reached (let told = kept.lined.told in omega (arith, told, far)))
       (λ reached e far. behind_window k reached far)
 
-  pub within_acks : NoEarly → (k : ℕ) (count : Count) (bytes : List ℕ)
-      → RefusesBehind (IsBehindAcks k p.put)
+  -- what is known of an acknowledgement on a leg
+  an_ack : AreUpFirst [] moves → (leg : Leg) (destination received available : ℕ)
+      (cookie : Cookie) → Has (named.AckTo destination received available cookie)
+      (of_leg leg p.put)
+      → Acks (λ other of. HasComeUp moves other of) p.role.current.number
+      p.role.line.current.window.told p.came received available cookie
+  an_ack first leg destination received available cookie has =
+      (has_so (IsToldBy (known moves behind_all.0) (seen p.role) p.came) leg
+      (named.AckTo destination received available cookie) p.put (kept.acks first) has).1
+
+  pub within_acks : AreUpFirst [] moves → (k : ℕ) (count : Count) (bytes : List ℕ)
+      → RefusesBehind (IsBehindAcks k moves p.put)
       (pdu_bytes (of_leg (co k) p.came) + length bytes)
       (client_rules.pdu p.role (co k) count bytes).1
-  within_acks late k count bytes =
-      refused k bytes (IsBehindAcks k p.put)
-      (λ reached e far leg received available cookie has begun alone.
-      let ack =
-      (has_so IsAck leg (named.AckTo 3 received available cookie) p.put (kept.acks late) has).1 in
-      let told = ack.within (alone ack.channel ack.begun ∙ e) in
+  within_acks first k count bytes =
+      refused k bytes (IsBehindAcks k moves p.put)
+      (λ reached e far leg received available cookie has comes alone.
+      let ack = an_ack first leg 3 received available cookie has in
+      let told = ack.within (alone ack.channel ack.up ∙ e) in
       omega (arith, told, far))
-      (λ reached e far leg received available cookie has begun alone.
-      let ack =
-      (has_so IsAck leg (named.AckTo 3 received available cookie) p.put (kept.acks late) has).1 in
-      let same = alone ack.channel ack.begun in
+      (λ reached e far leg received available cookie has comes alone.
+      let ack = an_ack first leg 3 received available cookie has in
+      let same = alone ack.channel ack.up in
       let low = ack.low in
       absurd (omega (arith, same, low, e)))
-    where
-      IsAck : OnLeg → Type 0
-      IsAck = IsTold p.role.current.number p.role.line.current.window.told p.came p.put
 
   -- ---- what is acknowledged
 
@@ -300,17 +355,16 @@ module _ (config : ClientConfig) (moves : List EndMove) (is : IsWindow config.wi
       (has_so (Says config.window) leg (named.AckTo destination received available cookie) p.put
       kept.says h).1
 
-  pub acks_are_true : NoEarly → (leg : Leg) (destination received available : ℕ) (cookie : Cookie)
+  pub acks_are_true : AreUpFirst [] moves
+      → (leg : Leg) (destination received available : ℕ) (cookie : Cookie)
       → Has (named.AckTo destination received available cookie) (of_leg leg p.put)
-      → IsTrueAck p received available cookie
-  acks_are_true late leg destination received available cookie h =
-      let ack =
-      (has_so (IsTold p.role.current.number p.role.line.current.window.told p.came p.put) leg
-      (named.AckTo destination received available cookie) p.put (kept.acks late) h).1 in
+      → IsTrueAck moves p.came received available cookie
+  acks_are_true first leg destination received available cookie has =
+      let ack = an_ack first leg destination received available cookie has in
       record {
         number = ack.channel;
-        begun = ack.begun;
-        came = ack.arrived;
+        up = ack.up;
+        arrived = ack.arrived;
         window = ack.window;
       }
 

@@ -21,14 +21,14 @@ use Rattle.rh_client.specs.declared.replacement.OutStage.TheVariants as out_stag
 use Rattle.rh_client.specs.declared.replacement.Waits.{Waits}
 use Rattle.rh_client.specs.declared.replacement.Waits.TheVariants as waits
 use Rattle.rh_client.specs.declared.state.ClientRole.{ClientRole}
-use Rattle.rh_client.specs.Channels.{unopened_in, unopened_out, is_asked}
+use Rattle.rh_client.specs.Channels.{unopened_in, unopened_out, is_up}
 use Rattle.rh_client.specs.Replacements.{is_out, is_finished}
 use Rattle.rh_client.specs.State.{co, is_over, begin_in, begin_out, after_in, after_out}
 use Rattle.rh_client.specs.InReplacement.{recycle_by, wish_by, wished, wants_successor}
 use Rattle.rh_client.specs.OutReplacement.{succeeded, ended_or, pass_by, passed}
 use Rattle.rh_client.specs.Putting.{settled_or_wished}
 use Rattle.rh_client_receives.proofs.Windows.{Counts, released_counts}
-use Rattle.rh_client_receives.proofs.Facts.{Channel, Seen, IsBegun, Kept, told_grows}
+use Rattle.rh_client_receives.proofs.Facts.{Channel, Seen, Known, IsRisen, Kept, told_grows}
 
 -- ---- what is seen of a client
 
@@ -45,7 +45,7 @@ is_answered (In stage out_waits) = false
 is_answered (Out stage waiting) = is_answered_stage stage
 
 abbrev pub channel : OutChannel → Channel
-channel c = record { number = c.number; cookie = c.cookie; asked = is_asked c.opening }
+channel c = record { number = c.number; cookie = c.cookie; up = is_up c.opening }
 
 abbrev pub seen_by : ClientRole → Replacement → Seen
 seen_by s r = record {
@@ -64,9 +64,9 @@ seen s = seen_by s s.replacement
 abbrev pub Same : ClientRole → ClientRole → Type 0
 Same s t = seen t ≡ seen s
 
-module _ (window : ℕ) (X : Type 0) (came put : List OnLeg) where
+module _ (window : ℕ) (known : Known) (came put : List OnLeg) where
   abbrev pub Of : Seen → Type 0
-  Of x = Kept window X x came put
+  Of x = Kept window known x came put
 
   abbrev pub Holds : ClientRole → Type 0
   Holds s = Of (seen s)
@@ -82,20 +82,20 @@ module _ (window : ℕ) (X : Type 0) (came put : List OnLeg) where
 
   pub another : (x : Seen) (z : Channel) (replaces : Bool)
       → (replaces ≡ true → z.number ≡ suc x.current.number)
-      → (replaces ≡ true → IsBegun z put) → x.finished ≡ false → Of x
+      → (replaces ≡ true → IsRisen known z) → x.finished ≡ false → Of x
       → Of (record x {
         successor = z;
         replaces = replaces;
         answered = false;
         finished = false;
       })
-  another x z replaces follows begun e h = record {
+  another x z replaces follows risen e h = record {
     numbered = record {
       window_is = h.numbered.window_is;
       from_one = h.numbered.from_one;
       follows = follows;
       later = h.numbered.later;
-      next_asked = λ f. absurd (true≢false (sym f));
+      next_up = λ f. absurd (true≢false (sym f));
     };
     lined = record {
       size = h.lined.size;
@@ -106,9 +106,9 @@ module _ (window : ℕ) (X : Type 0) (came put : List OnLeg) where
       there = λ f. absurd (true≢false (sym f));
     };
     counted = h.counted;
-    begun = record { now = h.begun.now; next = begun; new = h.begun.new };
+    risen = record { now = h.risen.now; next = risen; first = h.risen.first };
     says = h.says;
-    asked = h.asked;
+    up = h.up;
     acks = h.acks;
   }
 
@@ -205,15 +205,15 @@ module _ (window : ℕ) (X : Type 0) (came put : List OnLeg) where
       })
   moves_on x z replaces answered finished h =
       let follows = h.numbered.follows replaces in
-      let asked = h.numbered.next_asked answered in
+      let up = h.numbered.next_up answered in
       let is_told = h.lined.next_told (h.lined.there finished) in
       record {
         numbered = record {
           window_is = h.numbered.window_is;
           from_one = omega (arith, follows);
           follows = λ e. absurd (true≢false (sym e));
-          later = λ e. asked;
-          next_asked = λ e. absurd (true≢false (sym e));
+          later = λ e. up;
+          next_up = λ e. absurd (true≢false (sym e));
         };
         lined = record {
           size = h.lined.size;
@@ -230,30 +230,28 @@ module _ (window : ℕ) (X : Type 0) (came put : List OnLeg) where
               h.counted.next;
           next = record { received = omega arith; counted = refl; size = h.lined.size };
         };
-        begun = record {
-          now = h.begun.next replaces;
+        risen = record {
+          now = h.risen.next replaces;
           next = λ e. absurd (true≢false (sym e));
-          new = λ e.
-              let least = h.numbered.from_one in absurd (omega (arith, e, follows, least));
+          first = λ so e. up;
         };
         says = h.says;
-        asked = λ so e. asked;
+        up = λ so e. up;
         acks = λ so.
-            told_grows x (record x {
+            told_grows known x (record x {
               line = moved_on x.line;
               current = x.successor;
               successor = z;
               replaces = false;
               answered = false;
               finished = false;
-            }) came came put put put
+            }) came came
             (record {
               arrived = λ n. omega arith;
-              begun = λ n cookie b. b;
               number = omega (arith, follows);
               told = λ e. absurd (omega (arith, e, follows));
             })
-            (h.acks so);
+            put (h.acks so);
       }
 
   ended_or_holds : (s : ClientRole) (waiting : Waits) → is_finished s.replacement ≡ false
@@ -301,9 +299,9 @@ module _ (window : ℕ) (X : Type 0) (came put : List OnLeg) where
   pub current_changes : (x : Seen) (c : Incoming)
       → x.line.current.window.told ≤ c.window.told
       → Counts window c (pdu_bytes (of_leg (co x.current.number) came))
-      → (X → 0 < c.window.received → x.current.asked ≡ true) → Of x
+      → (known.UpFirst → 0 < c.window.received → x.current.up ≡ true) → Of x
       → Of (record x { line = record (x.line) { current = c } })
-  current_changes x c more counts asked h =
+  current_changes x c more counts up h =
       let now = record x { line = record (x.line) { current = c } } in
       record {
         numbered = h.numbered;
@@ -316,18 +314,17 @@ module _ (window : ℕ) (X : Type 0) (came put : List OnLeg) where
           there = h.lined.there;
         };
         counted = record { now = counts; next = h.counted.next };
-        begun = h.begun;
+        risen = h.risen;
         says = h.says;
-        asked = asked;
+        up = up;
         acks = λ so.
-            told_grows x now came came put put put
+            told_grows known x now came came
             (record {
               arrived = λ n. omega arith;
-              begun = λ n cookie b. b;
               number = omega arith;
               told = λ e. more;
             })
-            (h.acks so);
+            put (h.acks so);
       }
 
   -- of the next one, which told a whole window if it is there, and released nothing
@@ -346,9 +343,9 @@ module _ (window : ℕ) (X : Type 0) (came put : List OnLeg) where
       there = h.lined.there;
     };
     counted = record { now = h.counted.now; next = counts };
-    begun = h.begun;
+    risen = h.risen;
     says = h.says;
-    asked = h.asked;
+    up = h.up;
     acks = h.acks;
   }
 
@@ -368,9 +365,9 @@ module _ (window : ℕ) (X : Type 0) (came put : List OnLeg) where
       now = h.counted.now;
       next = record { received = omega arith; counted = refl; size = h.lined.size };
     };
-    begun = h.begun;
+    risen = h.risen;
     says = h.says;
-    asked = h.asked;
+    up = h.up;
     acks = h.acks;
   }
 
@@ -384,4 +381,4 @@ module _ (window : ℕ) (X : Type 0) (came put : List OnLeg) where
       })
       (current_changes (seen s) (released (pdu ∷ pdus) s.line.current) (omega arith)
       (released_counts window s.line.current (pdu ∷ pdus)
-      (pdu_bytes (of_leg (co s.current.number) came)) e h.counted.now) h.asked h)
+      (pdu_bytes (of_leg (co s.current.number) came)) e h.counted.now) h.up h)

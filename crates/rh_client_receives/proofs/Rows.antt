@@ -1,5 +1,5 @@
 -- what is known of a client's OUT channels stays so behind each row, and where a leg is up
-use Rattle.std.proofs.Common.{◌≡◌, ℕ, suc, ◌<◌, ◌==◌, Bool, true, false, not, ◌&&◌, ◌||◌, nat_lt, List, [], ◌∷◌, ◌++◌, Some, None, Ok, Err, arith, refl, rules, sym, ap, ◌∙◌, subst}
+use Rattle.std.proofs.Common.{◌≡◌, ℕ, suc, ◌==◌, Bool, true, false, true≢false, not, ◌&&◌, ◌||◌, nat_lt, List, [], ◌∷◌, ◌++◌, Some, None, Ok, Err, arith, refl, rules, sym, ap, ◌∙◌, subst}
 use Rattle.std.proofs.lemmas.Bool.{and_parts}
 use Rattle.std.proofs.lemmas.Bool.Decides.{nat_tests}
 use Rattle.std.specs.declared.option.Option.{Option}
@@ -25,13 +25,15 @@ use Rattle.rh_shell.specs.Wires.{of_leg}
 use Rattle.rh_passages.specs.Passing.{pdu_bytes}
 use Rattle.rh_passages.proofs.Logs.{Fact, RowKeeps}
 use Rattle.rh_client.specs.declared.channels.TheConstants.{LAST_NUMBER}
+use Rattle.rh_client.specs.declared.channels.Opening.{Opening}
+use Rattle.rh_client.specs.declared.channels.Opening.TheVariants.{NotUp, Request, First, Second, Put}
 use Rattle.rh_client.specs.declared.replacement.Replacement.{Replacement}
 use Rattle.rh_client.specs.declared.replacement.Replacement.TheVariants.{NoneUnderWay, In, Out}
 use Rattle.rh_client.specs.declared.replacement.OutStage.TheVariants as out_stage
 use Rattle.rh_client.specs.declared.replacement.Waits.{Waits}
 use Rattle.rh_client.specs.declared.replacement.Waits.TheVariants as waits
 use Rattle.rh_client.specs.declared.state.ClientRole.{ClientRole}
-use Rattle.rh_client.specs.Channels.{is_named, is_asked}
+use Rattle.rh_client.specs.Channels.{is_named, is_asked, is_up}
 use Rattle.rh_client.specs.Replacements.{is_out, is_finished, has_out, with_out}
 use Rattle.rh_client.specs.State.{Done, co, unexpected, taken, settled, is_open, is_current, is_out_successor}
 use Rattle.rh_client.specs.Opening.{on_conn_a3, on_conn_c2}
@@ -40,9 +42,8 @@ use Rattle.rh_client.specs.Ending.{end_channel, end_on}
 use Rattle.rh_client.specs.InReplacement.{on_in_r1_a4, on_in_r2_a4}
 use Rattle.rh_client.specs.OutReplacement.{a2_by, on_out_r1_a2, a6_by, on_out_r1_a6, a10_by, passed}
 use Rattle.rh_client.specs.Client.{pdu_by, packet_by, on_packet}
-use Rattle.rh_client_receives.specs.Receiving.{HasBegun, IsNotEarly}
 use Rattle.rh_client_receives.proofs.Windows.{Counts, leg_counts, admitted_told, admitted_released, admitted_counts, refused_same}
-use Rattle.rh_client_receives.proofs.Facts.{Seen, Kept, kept_more}
+use Rattle.rh_client_receives.proofs.Facts.{Seen, Known, Kept, kept_more}
 use Rattle.rh_client_receives.proofs.Replaced.{seen, Same, same_holds, by_replacement, none_out, begin_out_holds, settles, current_changes, next_changes}
 
 -- ---- legs
@@ -58,23 +59,25 @@ leg_is leg k e f =
     subst (λ (j : LegKind). record { kind = j; number = leg.number } ≡ co k) (sym e)
     (subst (λ (n : ℕ). record { kind = ClientOut; number = n } ≡ co k) (sym f) refl)
 
--- a channel that has begun, if it is the first
-asked_by : (window : ℕ) (X : Type 0) (x : Seen) (came put : List OnLeg)
-    → Kept window X x came put → (x.current.number ≡ 1 → HasBegun 1 put)
-    → x.current.asked ≡ true
-asked_by window X x came put h first = by x.current.asked refl
+-- the leg of the current channel came up, if that of the first did
+up_by : (window : ℕ) (known : Known) (x : Seen) (came put : List OnLeg)
+    → Kept window known x came put → (x.current.number ≡ 1 → known.FirstUp)
+    → x.current.up ≡ true
+up_by window known x came put h first = at (x.current.number == 1) refl
   where
-    by : (b : Bool) → x.current.asked ≡ b → x.current.asked ≡ true
-    by true e = e
-    by false e = at (x.current.number == 1) refl
-      where
-        at : (t : Bool) → (x.current.number == 1) ≡ t → x.current.asked ≡ true
-        at true f =
-            let one = same_number x.current.number 1 f in
-            absurd (h.begun.new one e (first one).0 (first one).1)
-        at false f =
-            let least = h.numbered.from_one in
-            h.numbered.later (grind (arith, nat_tests, f, least))
+    at : (t : Bool) → (x.current.number == 1) ≡ t → x.current.up ≡ true
+    at true f =
+        let one = same_number x.current.number 1 f in h.risen.first (first one) one
+    at false f =
+        let least = h.numbered.from_one in
+        h.numbered.later (grind (arith, nat_tests, f, least))
+
+asked_up : (o : Opening) → is_asked o ≡ true → is_up o ≡ true
+asked_up NotUp e = absurd (true≢false (sym e))
+asked_up Request e = refl
+asked_up First e = refl
+asked_up Second e = refl
+asked_up Put e = refl
 
 -- ---- rows that leave all this alone
 
@@ -103,10 +106,10 @@ same_in_r1_a4 s to window timeout = search rules
 same_in_r2_a4 : (s : ClientRole) (to : ℕ) → Same s (on_in_r2_a4 s to).0
 same_in_r2_a4 s to = search rules
 
-module _ (window : ℕ) (X : Type 0) where
+module _ (window : ℕ) (known : Known) where
   -- the facts that each step keeps
   abbrev pub Fits : Fact ClientRole
-  Fits s came put = Kept window X (seen s) came put
+  Fits s came put = Kept window known (seen s) came put
 
   module _ (s : ClientRole) (leg : Leg) (came put : List OnLeg) (h : Fits s came put)
       (out : leg.kind ≡ ClientOut) where
@@ -115,11 +118,11 @@ module _ (window : ℕ) (X : Type 0) where
 
     -- a row that holds without the message
     keep_row : (m : Message) (x : Done) → Fits x.0 came put → Row m x
-    keep_row m (t, Ok took) k = kept_more window X (seen t) came put (leg, m) k
+    keep_row m (t, Ok took) k = kept_more window known (seen t) came put k (leg, m)
     keep_row m (t, Err why) k = k
 
     same_row : (m : Message) (x : Done) → Same s x.0 → Row m x
-    same_row m x same = keep_row m x (same_holds window X came put s x.0 same h)
+    same_row m x same = keep_row m x (same_holds window known came put s x.0 same h)
 
     -- ---- RPC PDUs
 
@@ -128,7 +131,7 @@ module _ (window : ℕ) (X : Type 0) where
       after = came ++ (leg, Pdu bytes) ∷ []
 
       now : Fits s after put
-      now = kept_more window X (seen s) came put (leg, Pdu bytes) h
+      now = kept_more window known (seen s) came put h (leg, Pdu bytes)
 
       counts : (c : Incoming) (k : ℕ) → (leg.number == k) ≡ true
           → Counts window c (pdu_bytes (of_leg (co k) came))
@@ -138,13 +141,13 @@ module _ (window : ℕ) (X : Type 0) where
           (pdu_bytes (of_leg (co k) after))
           (leg_counts (co k) leg came bytes (here leg k out e)) before
 
-      -- no PDU is early behind the row
-      abbrev Late : Done → Type 0
-      Late x = X → RowKeeps (λ t all q. IsNotEarly all q) (leg, Pdu bytes) came put x
+      -- it comes only on a leg that came up
+      abbrev Late : Type 0
+      Late = known.UpFirst → leg ≡ co 1 → known.FirstUp
 
-      current_pdu : (leg.number == s.current.number) ≡ true
-          → Late (pdu_on s bytes (Some Current)) → Row (Pdu bytes) (pdu_on s bytes (Some Current))
-      current_pdu e = by (lines.channel_verdict c bytes) refl
+      current_pdu : (leg.number == s.current.number) ≡ true → Late
+          → Row (Pdu bytes) (pdu_on s bytes (Some Current))
+      current_pdu e late = by (lines.channel_verdict c bytes) refl
         where
           c : Incoming
           c = s.line.current
@@ -156,11 +159,8 @@ module _ (window : ℕ) (X : Type 0) where
               (pdu_bytes (of_leg (co s.current.number) after))
           after_counts = counts c s.current.number e h.counted.now
 
-          arrived : s.current.number ≡ 1 → 0 < (lines.admitted c bytes).window.received
-              → 0 < pdu_bytes (of_leg (co 1) after)
-          arrived f g =
-              subst (λ (n : ℕ). 0 < pdu_bytes (of_leg (co n) after)) f
-              (let most = after_counts.received in omega (arith, most, g))
+          first : s.current.number ≡ 1 → leg ≡ co 1
+          first f = leg_is leg 1 out (same_number leg.number s.current.number e ∙ f)
 
           refuses : (fault : LineFault) → lines.channel_verdict c bytes ≡ Err fault
               → Fits t came put
@@ -169,16 +169,15 @@ module _ (window : ℕ) (X : Type 0) where
               came put) (sym (refused_same c bytes fault f)) h
 
           by : (v : Result (Unit {0}) LineFault) → lines.channel_verdict c bytes ≡ v
-              → Late (t, admit_row v) → Row (Pdu bytes) (t, admit_row v)
-          by (Ok admitted) f late =
+              → Row (Pdu bytes) (t, admit_row v)
+          by (Ok admitted) f =
               let told = admitted_told c bytes in
-              current_changes window X after put (seen s) (lines.admitted c bytes)
+              current_changes window known after put (seen s) (lines.admitted c bytes)
               (omega (arith, told)) after_counts
-              (λ so g.
-              asked_by window X (seen s) came put h (λ one. late so (arrived one g)))
+              (λ so g. up_by window known (seen s) came put h (λ one. late so (first one)))
               now
-          by (Err (Window exceeded)) f late = refuses (Window exceeded) f
-          by (Err Over) f late = refuses Over f
+          by (Err (Window exceeded)) f = refuses (Window exceeded) f
+          by (Err Over) f = refuses Over f
 
       next_pdu : (leg.number == suc s.current.number) ≡ true
           → Row (Pdu bytes) (pdu_on s bytes (Some Next))
@@ -199,7 +198,7 @@ module _ (window : ℕ) (X : Type 0) where
           by : (v : Result (Unit {0}) LineFault) → lines.channel_verdict c bytes ≡ v
               → Row (Pdu bytes) (t, admit_row v)
           by (Ok admitted) f =
-              next_changes window X after put (seen s) (lines.admitted c bytes)
+              next_changes window known after put (seen s) (lines.admitted c bytes)
               (λ g. admitted_told c bytes ∙ h.lined.next_told g)
               (admitted_released c bytes ∙ h.lined.next_held)
               (counts c (suc s.current.number) e h.counted.next) now
@@ -214,27 +213,26 @@ module _ (window : ℕ) (X : Type 0) where
           (and_parts (is_switched s) (is_out_successor s leg.number) e).1 in
           subst (λ (k : ℕ). (leg.number == k) ≡ true) (h.numbered.follows is.0) is.1
 
-      pdu_row : Late (pdu_on s bytes (pdu_channel s leg.number))
-          → Row (Pdu bytes) (pdu_on s bytes (pdu_channel s leg.number))
-      pdu_row =
-          by_test On (not (is_open s.phase)) None _ (λ e late. h)
-          (λ e. by_test On (is_current s leg.number) (Some Current) _ (λ f. current_pdu f)
+      pdu_row : Late → Row (Pdu bytes) (pdu_on s bytes (pdu_channel s leg.number))
+      pdu_row late =
+          by_test On (not (is_open s.phase)) None _ (λ e. h)
+          (λ e. by_test On (is_current s leg.number) (Some Current) _ (λ f. current_pdu f late)
           (λ f. by_test On (is_switched s && is_out_successor s leg.number) (Some Next) None
-          (λ g late. next_pdu (next_number g)) (λ g late. h)))
+          (λ g. next_pdu (next_number g)) (λ g. h)))
         where
           On : Option Which → Type 0
-          On which = Late (pdu_on s bytes which) → Row (Pdu bytes) (pdu_on s bytes which)
+          On which = Row (Pdu bytes) (pdu_on s bytes which)
 
     -- ---- END
 
     ended : (which : Which) → Fits (record s { line = lines.after_end s.line which }) came put
     ended Current =
         let k = h.counted.now in
-        current_changes window X came put (seen s) (lines.with_end s.line.current) (omega arith)
-        (record { received = k.received; counted = k.counted; size = k.size }) h.asked h
+        current_changes window known came put (seen s) (lines.with_end s.line.current) (omega arith)
+        (record { received = k.received; counted = k.counted; size = k.size }) h.up h
     ended Next =
         let k = h.counted.next in
-        next_changes window X came put (seen s) (lines.with_end s.line.next) h.lined.next_told
+        next_changes window known came put (seen s) (lines.with_end s.line.next) h.lined.next_told
         h.lined.next_held
         (record { received = k.received; counted = k.counted; size = k.size }) h
 
@@ -244,7 +242,7 @@ module _ (window : ℕ) (X : Type 0) where
         by_test (Row (Packet named.EndB2)) (lines.channel_of s.line which).ended (unexpected s)
         (taken (settled t)) (λ e. h)
         (λ e. keep_row (Packet named.EndB2) (taken (settled t))
-        (same_holds window X came put t (settled t) (search rules) (ended which)))
+        (same_holds window known came put t (settled t) (search rules) (ended which)))
       where
         t : ClientRole
         t = record s { line = lines.after_end s.line which }
@@ -253,15 +251,15 @@ module _ (window : ℕ) (X : Type 0) where
 
     a2_fits : (n : ℕ) (r : Replacement) → s.replacement ≡ r → Fits (a2_by s n r).0 came put
     a2_fits n NoneUnderWay e =
-        begin_out_holds window X came put s waits.Nothing (ap is_finished e) h
+        begin_out_holds window known came put s waits.Nothing (ap is_finished e) h
     a2_fits n (In stage true) e = h
     a2_fits n (In stage false) e =
-        none_out window X came put s (In stage true) refl refl refl (ap is_finished e) h
+        none_out window known came put s (In stage true) refl refl refl (ap is_finished e) h
     a2_fits n (Out stage waiting) e =
         by_test (λ (x : Done). Fits x.0 came put)
         (is_out_successor s n && not (has_out waiting))
         (taken (record s { replacement = Out stage (with_out waiting) })) (unexpected s)
-        (λ f. by_replacement window X came put s (Out stage waiting) e h) (λ f. h)
+        (λ f. by_replacement window known came put s (Out stage waiting) e h) (λ f. h)
 
     a2_row : (n to : ℕ) → Fits (on_out_r1_a2 s n to).0 came put
     a2_row n to =
@@ -269,7 +267,7 @@ module _ (window : ℕ) (X : Type 0) where
         (is_open s.phase && (to == 0 && nat_lt n LAST_NUMBER)) (a2_by s n s.replacement)
         (unexpected s) (λ e. a2_fits n s.replacement refl) (λ e. h)
 
-    -- the first packet of the successor was put
+    -- the first packet of the successor was put, so that its leg came up
     answers : (waiting : Waits) (timeout : ℕ) → s.replacement ≡ Out out_stage.Asked waiting
         → is_asked s.out_successor.opening ≡ true
         → Fits (record s {
@@ -277,20 +275,20 @@ module _ (window : ℕ) (X : Type 0) where
           replacement = Out out_stage.Answered waiting;
         }) came put
     answers waiting timeout e asked =
-        let k = by_replacement window X came put s (Out out_stage.Asked waiting) e h in
+        let k = by_replacement window known came put s (Out out_stage.Asked waiting) e h in
         record {
           numbered = record {
             window_is = k.numbered.window_is;
             from_one = k.numbered.from_one;
             follows = k.numbered.follows;
             later = k.numbered.later;
-            next_asked = λ f. asked;
+            next_up = λ f. asked_up s.out_successor.opening asked;
           };
           lined = k.lined;
           counted = k.counted;
-          begun = k.begun;
+          risen = k.risen;
           says = k.says;
-          asked = k.asked;
+          up = k.up;
           acks = k.acks;
         }
 
@@ -318,7 +316,7 @@ module _ (window : ℕ) (X : Type 0) where
           replacement = Out out_stage.Finished waiting;
         }) came put
     finishes waiting e there =
-        let k = by_replacement window X came put s (Out out_stage.Switched waiting) e h in
+        let k = by_replacement window known came put s (Out out_stage.Switched waiting) e h in
         record {
           numbered = k.numbered;
           lined = record {
@@ -330,9 +328,9 @@ module _ (window : ℕ) (X : Type 0) where
             there = λ f. there;
           };
           counted = record { now = k.counted.now; next = k.counted.next };
-          begun = k.begun;
+          risen = k.risen;
           says = k.says;
-          asked = k.asked;
+          up = k.up;
           acks = k.acks;
         }
 
@@ -353,7 +351,7 @@ module _ (window : ℕ) (X : Type 0) where
           line = after_finish s.line;
           replacement = Out out_stage.Finished waiting;
         })))
-        (settles window X came put (record s {
+        (settles window known came put (record s {
           line = record (s.line) { finished = true };
           replacement = Out out_stage.Finished waiting;
         }) (finishes waiting e (and_parts s.line.has_next (is_current s n) f).0)))
@@ -393,8 +391,7 @@ module _ (window : ℕ) (X : Type 0) where
 
   pub pdu_fits : (s : ClientRole) (leg : Leg) (kind : LegKind) (bytes : List ℕ)
       (came put : List OnLeg) → leg.kind ≡ kind
-      → (X → RowKeeps (λ t all q. IsNotEarly all q) (leg, Pdu bytes) came put
-      (pdu_by s leg.number bytes kind))
+      → (known.UpFirst → leg ≡ co 1 → known.FirstUp)
       → Fits s came put → RowKeeps Fits (leg, Pdu bytes) came put (pdu_by s leg.number bytes kind)
   pdu_fits s leg ClientOut bytes came put e late h = pdu_row s leg came put h e bytes late
   pdu_fits s leg OutServer bytes came put e late h = h

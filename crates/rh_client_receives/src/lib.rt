@@ -4,7 +4,4 @@
 
 pub mod receiver;
 
-pub use receiver::{
-    a_client_acknowledges_what_came, a_client_receives_within_its_window,
-    no_pdu_is_early_behind_the_first_packet,
-};
+pub use receiver::{a_client_acknowledges_what_came, a_client_receives_within_its_window};

@@ -1,6 +1,6 @@
 //! How a client receives on its OUT channels, whatever comes from any peer.
 
-ghost use Rattle.std.specs.Prelude.{◌≡◌, ◌+◌, ◌++◌, List, false, length, ℕ};
+ghost use Rattle.std.specs.Prelude.{◌≡◌, ◌+◌, List, [], false, length, ℕ};
 ghost use Rattle.rh_rts.specs.declared.command.Cookie.{Cookie};
 ghost use Rattle.rh_window.specs.Sides.{IsWindow};
 ghost use Rattle.rh_http.specs.declared.config.ClientConfig.{ClientConfig};
@@ -10,21 +10,21 @@ ghost use Rattle.rh_line.specs.declared.leg.Leg.{Leg};
 ghost use Rattle.rh_line.specs.declared.leg.LegKind.TheVariants.{ClientOut};
 ghost use Rattle.rh_shell.specs.declared.answers.Count.{Count};
 ghost use Rattle.rh_shell.specs.Shells.{is_of};
-ghost use Rattle.rh_shell.specs.Moves.{EndMove, EndPassage, all_end_moved};
+ghost use Rattle.rh_shell.specs.Moves.{EndMove};
 ghost use Rattle.rh_shell.specs.Wires.{of_leg};
 ghost use Rattle.rh_passages.specs.Passing.{pdu_bytes, Has};
-ghost use Rattle.rh_client.specs.declared.state.ClientRole.{ClientRole};
+ghost use Rattle.rh_passages.specs.Rising.{AreUpFirst};
 ghost use Rattle.rh_client.specs.State.{co};
-ghost use Rattle.rh_client.specs.Client.{acts, rules};
-ghost use Rattle.rh_client.specs.Order.{AreAllowedMoves, client_moved, client_started};
+ghost use Rattle.rh_client.specs.Client.{rules};
+ghost use Rattle.rh_client.specs.Order.{AreAllowedMoves, client_moved};
 ghost use Rattle.rh_client_receives.specs.Receiving.{IsBehindAcks, IsBehindWindow};
-ghost use Rattle.rh_client_receives.specs.Receiving.{IsNotEarly, IsNoWindow, IsTrueAck};
-ghost use Rattle.rh_client_receives.specs.Receiving.{NoneIsEarly, RefusesBehind};
+ghost use Rattle.rh_client_receives.specs.Receiving.{IsNoWindow, IsTrueAck, RefusesBehind};
 
 /// Whatever happens to a client: it refuses an RPC PDU on an OUT channel for its window only where
-/// that ends behind the window that it told with the channel's first packet, and, unless it took a
-/// PDU on the first OUT channel before it put CONN/A1 there, behind all that its acknowledgements
-/// told whose cookie no other OUT channel has. It refuses nothing else for a window (MS-RPCH 3.2).
+/// that ends behind the window that it told with the channel's first packet, and, if PDUs and
+/// packets came only on legs that came up before, behind all that its acknowledgements told with
+/// the cookie with which the leg came up, and no other OUT leg did. It refuses nothing else for a
+/// window (MS-RPCH 3.2).
 pub fn a_client_receives_within_its_window()
     ensures windows { (config : ClientConfig) (moves : List EndMove) → IsWindow config.window
         → AreAllowedMoves config moves
@@ -33,10 +33,10 @@ pub fn a_client_receives_within_its_window()
         RefusesBehind (IsBehindWindow k p.put)
         (pdu_bytes (of_leg (co k) p.came) + length bytes) (rules.pdu p.role (co k) count bytes).1 }
     ensures acks { (config : ClientConfig) (moves : List EndMove) → IsWindow config.window
-        → AreAllowedMoves config moves → NoneIsEarly (client_started config) moves
+        → AreAllowedMoves config moves → AreUpFirst [] moves
         → (k : ℕ) (count : Count) (bytes : List ℕ)
         → let p = (client_moved config moves).passage in
-        RefusesBehind (IsBehindAcks k p.put)
+        RefusesBehind (IsBehindAcks k moves p.put)
         (pdu_bytes (of_leg (co k) p.came) + length bytes) (rules.pdu p.role (co k) count bytes).1 }
     ensures others { (config : ClientConfig) (moves : List EndMove) (leg : Leg) (count : Count)
         (bytes : List ℕ) → is_of ClientOut leg ≡ false
@@ -47,9 +47,9 @@ pub fn a_client_receives_within_its_window()
 {}
 
 /// Whatever happens to a client: each acknowledgement with a destination that it put is to an out
-/// proxy; and, unless it took an RPC PDU on the first OUT channel before it put CONN/A1 there, it
-/// has the cookie of an OUT channel that began, is of no more bytes of RPC PDUs than came there,
-/// and has a window that is none too great (MS-RPCH 3.2.1).
+/// proxy; and, if PDUs and packets came only on legs that came up before, it has the cookie with
+/// which the leg of an OUT channel came up, is of no more bytes of RPC PDUs than came there, and
+/// has a window that is none too great (MS-RPCH 3.2.1).
 pub fn a_client_acknowledges_what_came()
     ensures destinations { (config : ClientConfig) (moves : List EndMove)
         → IsWindow config.window → AreAllowedMoves config moves
@@ -58,20 +58,9 @@ pub fn a_client_acknowledges_what_came()
         (of_leg leg (client_moved config moves).passage.put)
         → destination ≡ 3 }
     ensures acks { (config : ClientConfig) (moves : List EndMove) → IsWindow config.window
-        → AreAllowedMoves config moves → NoneIsEarly (client_started config) moves
+        → AreAllowedMoves config moves → AreUpFirst [] moves
         → (leg : Leg) (destination received available : ℕ) (cookie : Cookie)
         → Has (AckTo destination received available cookie)
         (of_leg leg (client_moved config moves).passage.put)
-        → IsTrueAck (client_moved config moves).passage received available cookie }
-{}
-
-/// No RPC PDU is early in moves of a client where CONN/A1 was put on the first OUT channel before
-/// them, if any PDU came there by their end; and so it is in moves and more moves behind them.
-pub fn no_pdu_is_early_behind_the_first_packet()
-    ensures moves { (p : EndPassage ClientRole) (moves : List EndMove)
-        → IsNotEarly (all_end_moved rules acts p moves).passage.came p.passage.put
-        → NoneIsEarly p moves }
-    ensures joined { (p : EndPassage ClientRole) (moves more : List EndMove)
-        → NoneIsEarly p moves → NoneIsEarly (all_end_moved rules acts p moves) more
-        → NoneIsEarly p (moves ++ more) }
+        → IsTrueAck moves (client_moved config moves).passage.came received available cookie }
 {}
