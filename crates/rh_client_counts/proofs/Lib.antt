@@ -1,2 +1,4 @@
 pub mod Allowed
 pub mod Standing
+mod Views
+mod Rows
