@@ -1,4 +1,7 @@
 pub mod Allowed
 pub mod Standing
-mod Views
-mod Rows
+pub mod Views
+pub mod Rows
+pub mod Puts
+pub mod Moves
+pub mod InCounts

@@ -415,3 +415,125 @@ module _ (P : Fact View) (events : EventsKeep P) where
       by_test (RowKeeps Holds (leg, Packet named.EndB2) came put) (is_open s.phase)
       (end_on s (end_channel s leg.number)) (unexpected s)
       (λ e. end_row s leg (end_channel s leg.number) came put h) (λ e. h)
+
+  -- ---- the other rows leave it alone
+
+  -- of two answers that do
+  either : (s : ClientRole) (b : Bool) (x y : Done) → view x.0 ≡ view s → view y.0 ≡ view s
+      → view (if b then x else y).0 ≡ view s
+  either s true x y l m = l
+  either s false x y l m = m
+
+  same_ack : (s : ClientRole) (to r a : ℕ) (of : Cookie)
+      → view (on_ack_to s to r a of).0 ≡ view s
+  same_ack s to r a of =
+      either s (is_open s.phase && to == 0) (ack_named s r a of) (unexpected s)
+      (either s (is_named s.writing of)
+      (record s { writing = acked s.writing r a }, ack_row s.writing r a) _ refl
+      (either s (is_named s.in_successor of)
+      (record s { in_successor = acked s.in_successor r a }, ack_row s.in_successor r a) _ refl
+      (either s (is_named s.leaving of)
+      (record s { leaving = acked s.leaving r a }, ack_row s.leaving r a) (taken s) refl refl)))
+      refl
+
+  same_a3 : (s : ClientRole) (n : ℕ) (count : Count) (timeout : ℕ)
+      → view (on_conn_a3 s n count timeout).0 ≡ view s
+  same_a3 s n count timeout = search rules
+
+  same_pdu : (s : ClientRole) (n : ℕ) (bytes : List ℕ) → view (on_pdu s n bytes).0 ≡ view s
+  same_pdu s n bytes = search rules
+
+  pub pdu_row : (s : ClientRole) (leg : Leg) (bytes : List ℕ) (k : LegKind)
+      (came put : List OnLeg) → Holds s came put
+      → RowKeeps Holds (leg, Pdu bytes) came put (client.pdu_by s leg.number bytes k)
+  pdu_row s leg bytes ClientOut came put h =
+      quiet_row s (leg, Pdu bytes) came put refl h (on_pdu s leg.number bytes)
+      (same_pdu s leg.number bytes)
+  pdu_row s leg bytes OutServer came put h = h
+  pdu_row s leg bytes ClientIn came put h = h
+  pdu_row s leg bytes InServer came put h = h
+
+  row : (s : ClientRole) (leg : Leg) (count : Count) (m : Named) (came put : List OnLeg)
+      → leg.kind ≡ ClientOut → is_current s leg.number || is_out_successor s leg.number ≡ true
+      → Holds s came put
+      → RowKeeps Holds (leg, Packet m) came put (on_packet s leg.number count m)
+  row s leg count (named.ConnA3 t) came put k there h =
+      quiet_row s (leg, Packet (named.ConnA3 t)) came put refl h (on_conn_a3 s leg.number count t)
+      (same_a3 s leg.number count t)
+  row s leg count (named.ConnC2 v w t) came put k there h = c2_row s leg v w t came put k h
+  row s leg count (named.AckTo to r a of) came put k there h =
+      quiet_row s (leg, Packet (named.AckTo to r a of)) came put refl h (on_ack_to s to r a of)
+      (same_ack s to r a of)
+  row s leg count (named.InR1A4 to v w t) came put k there h =
+      answer_if s leg (named.InR1A4 to v w t) to w t came put refl k h
+  row s leg count (named.InR2A4 to) came put k there h =
+      answer_if s leg (named.InR2A4 to) to s.writing.told s.writing.timeout came put refl k h
+  row s leg count (named.OutR1A2 to) came put k there h = a2_if s leg to came put k there h
+  row s leg count (named.OutR1A6 to v t) came put k there h = a6_if s leg to v t came put k h
+  row s leg count named.OutR1A10 came put k there h =
+      a10_row s leg s.replacement came put refl k h
+  row s leg count named.EndB2 came put k there h = end_if s leg came put h
+  row s leg count m came put k there h = h
+
+  pub packet_row : (s : ClientRole) (leg : Leg) (count : Count) (m : Named) (k : LegKind)
+      (came put : List OnLeg) → leg.kind ≡ k → Holds s came put
+      → RowKeeps Holds (leg, Packet m) came put (packet_by s leg.number count m k)
+  packet_row s leg count m ClientOut came put e h =
+      by_test (RowKeeps Holds (leg, Packet m) came put)
+      (is_current s leg.number || is_out_successor s leg.number)
+      (on_packet s leg.number count m) (unexpected s)
+      (λ there. row s leg count m came put e there h) (λ t. h)
+  packet_row s leg count m OutServer came put e h = h
+  packet_row s leg count m ClientIn came put e h = h
+  packet_row s leg count m InServer came put e h = h
+
+  -- ---- legs, and what is given
+
+  not_asked_in : (o : Opening) → is_up o ≡ false → is_put o ≡ false
+  not_asked_in NotUp e = refl
+  not_asked_in Request e = absurd (cc)
+  not_asked_in First e = absurd (cc)
+  not_asked_in Second e = absurd (cc)
+  not_asked_in Put e = absurd (cc)
+
+  not_asked_out : (o : Opening) → is_up o ≡ false → is_asked o ≡ false
+  not_asked_out NotUp e = refl
+  not_asked_out Request e = absurd (cc)
+  not_asked_out First e = absurd (cc)
+  not_asked_out Second e = absurd (cc)
+  not_asked_out Put e = absurd (cc)
+
+  -- a leg is wanted, and is up
+  pub up_holds : (s : ClientRole) (n : ℕ) (cookie : Cookie) (k : LegKind) (came put : List OnLeg)
+      → wants_by s n k ≡ true → Holds s came put → Holds (up_by s n cookie k) came put
+  up_holds s n cookie ClientOut came put wanted h =
+      by_test (λ (t : ClientRole). Holds t came put) (is_current s n)
+      (record s { current = out_up s.current cookie })
+      (record s { out_successor = out_up s.out_successor cookie; line = with_next s.line })
+      (λ e. h)
+      (λ e. subst (λ (b : Bool). P (record (view s) { out_asked = b }) came put)
+      (not_asked_out s.out_successor.opening
+      (second_of (is_current s n) (is_up s.current.opening) (is_out_successor s n)
+      (is_up s.out_successor.opening) wanted e))
+      h)
+  up_holds s n cookie ClientIn came put wanted h =
+      by_test (λ (t : ClientRole). Holds t came put) (is_writing s n)
+      (record s { writing = in_up s.writing cookie })
+      (record s { in_successor = in_up s.in_successor cookie })
+      (λ e. h)
+      (λ e. subst (λ (b : Bool). P (record (view s) { in_asked = b }) came put)
+      (not_asked_in s.in_successor.opening
+      (second_of (is_writing s n) (is_up s.writing.opening) (is_in_successor s n)
+      (is_up s.in_successor.opening) wanted e))
+      h)
+  up_holds s n cookie OutServer came put wanted h = h
+  up_holds s n cookie InServer came put wanted h = h
+
+  pub same_drawn : (s : ClientRole) (n : ℕ) (k : LegKind) → view (drawn_by s n k) ≡ view s
+  same_drawn s n k = search rules
+
+  pub same_ping : (s : ClientRole) (n : ℕ) (k : LegKind) → view (ping_by s n k) ≡ view s
+  same_ping s n k = search rules
+
+  pub same_give : (s : ClientRole) (bytes : List ℕ) → view (give s bytes).0 ≡ view s
+  same_give s bytes = search rules

@@ -1,5 +1,5 @@
 -- one more message in a log, and the packets that are counted there
-use Rattle.std.proofs.Common.{◌≡◌, ℕ, suc, ◌+◌, ◌==◌, ◌&&◌, nat_lt, nat_le, Bool, true, false, if◌then◌else◌, List, [], ◌∷◌, ◌++◌, arith, refl, sym, ap, ◌∙◌, subst}
+use Rattle.std.proofs.Common.{◌≡◌, ℕ, suc, ◌+◌, ◌≤◌, ◌==◌, ◌&&◌, nat_lt, nat_le, Bool, true, false, if◌then◌else◌, List, [], ◌∷◌, ◌++◌, arith, refl, sym, ap, ◌∙◌, subst}
 use Rattle.std.proofs.lemmas.Bool.Decides.{nat_tests}
 use Rattle.rh_sig.specs.declared.named.Named.{Named}
 use Rattle.rh_line.specs.declared.leg.Leg.{Leg}
@@ -10,7 +10,7 @@ use Rattle.rh_shell.specs.Shells.{same_leg, is_of, kind_number}
 use Rattle.rh_shell.specs.Wires.{of_leg}
 use Rattle.rh_passages.specs.Passing.{count_of, of_kind}
 use Rattle.rh_passages.proofs.Messages.{count_append, leg_more, kind_more}
-use Rattle.rh_client_counts.specs.Counting.{total, is_among, once_if}
+use Rattle.rh_client_counts.specs.Counting.{total, is_among, once_if, StandsOnEach}
 
 -- a message is a packet that passes the test
 abbrev pub passes : (Named → Bool) → Message → Bool
@@ -117,3 +117,22 @@ stands_next test kind first count log (leg, m) e k n h = record {
           leg.number at.number k n in
       omega (arith, more, one, before, next);
 }
+
+none_among : (b : Bool) (first n : ℕ) → 0 ≡ once_if (b && is_among first 0 n)
+none_among b first n = grind (arith, nat_tests)
+
+pub stands_none : (test : Named → Bool) (kind : LegKind) (first : ℕ)
+    → Stands test kind first 0 []
+stands_none test kind first =
+    record { all = refl; each = λ leg. none_among (is_of kind leg) first leg.number }
+
+pub stands_on : (test : Named → Bool) (kind : LegKind) (first count : ℕ) (log : List OnLeg)
+    → Stands test kind first count log → StandsOnEach test kind first log
+stands_on test kind first count log h leg =
+    subst (λ (n : ℕ).
+    count_of test (of_leg leg log) ≡ once_if (is_of kind leg && is_among first n leg.number))
+    (sym h.all) (h.each leg)
+
+pub once_at_most : (b : Bool) → once_if b ≤ 1
+once_at_most true = omega arith
+once_at_most false = omega arith

@@ -1,3 +1,7 @@
 //! How many packets of replacements came to a client, and how many it put. These functions do
 //! nothing: their contracts are the laws.
 #![tactic(auto)]
+
+pub mod replacing;
+
+pub use replacing::a_client_replaces_in_channels_one_by_one;

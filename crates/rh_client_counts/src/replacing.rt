@@ -1,0 +1,20 @@
+//! A client replaces its channels one by one.
+
+ghost use Rattle.std.specs.Prelude.{List};
+ghost use Rattle.rh_http.specs.declared.config.ClientConfig.{ClientConfig};
+ghost use Rattle.rh_shell.specs.Moves.{AreAllowedAtEnd, EndMove, all_end_moved, end_started};
+ghost use Rattle.rh_client.specs.Client.{acts, rules};
+ghost use Rattle.rh_client.specs.State.{first};
+ghost use Rattle.rh_client_counts.specs.Replacing.{ReplacesIns};
+
+/// Whatever happens to a client: it asks for a successor of an IN channel by IN_R1/A1 only once
+/// the one before it is the writing channel. Each IN_R1/A5 that it put has an answer that came, and
+/// each answer an IN_R1/A1 that it put; of these at most one more was put than answers came. The
+/// number of the writing channel, and how far a replacement has come, are told by these counts.
+/// IN_R1/A1 stands once on each IN channel from the second one on, and IN_R1/A5 once on each from
+/// the first one on.
+pub fn a_client_replaces_in_channels_one_by_one()
+    ensures { (config : ClientConfig) (moves : List EndMove)
+        → AreAllowedAtEnd rules acts (end_started (first config)) moves
+        → ReplacesIns (all_end_moved rules acts (end_started (first config)) moves).passage }
+{}
