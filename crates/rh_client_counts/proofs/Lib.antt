@@ -5,3 +5,4 @@ pub mod Rows
 pub mod Puts
 pub mod Moves
 pub mod InCounts
+pub mod OutCounts

@@ -4,4 +4,6 @@
 
 pub mod replacing;
 
-pub use replacing::a_client_replaces_in_channels_one_by_one;
+pub use replacing::{
+    a_client_replaces_in_channels_one_by_one, a_client_replaces_out_channels_one_by_one,
+};
