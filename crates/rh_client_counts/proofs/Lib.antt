@@ -6,3 +6,4 @@ pub mod Puts
 pub mod Moves
 pub mod InCounts
 pub mod OutCounts
+pub mod Wishes

@@ -5,5 +5,6 @@
 pub mod replacing;
 
 pub use replacing::{
-    a_client_replaces_in_channels_one_by_one, a_client_replaces_out_channels_one_by_one,
+    a_client_asks_where_a_successor_is_wanted, a_client_replaces_in_channels_one_by_one,
+    a_client_replaces_out_channels_one_by_one,
 };

@@ -5,7 +5,7 @@ ghost use Rattle.rh_http.specs.declared.config.ClientConfig.{ClientConfig};
 ghost use Rattle.rh_shell.specs.Moves.{AreAllowedAtEnd, EndMove, all_end_moved, end_started};
 ghost use Rattle.rh_client.specs.Client.{acts, rules};
 ghost use Rattle.rh_client.specs.State.{first};
-ghost use Rattle.rh_client_counts.specs.Replacing.{ReplacesIns, ReplacesOuts};
+ghost use Rattle.rh_client_counts.specs.Replacing.{AsksWhereWanted, ReplacesIns, ReplacesOuts};
 
 /// Whatever happens to a client: it asks for a successor of an IN channel by IN_R1/A1 only once
 /// the one before it is the writing channel. Each IN_R1/A5 that it put has an answer that came, and
@@ -30,4 +30,13 @@ pub fn a_client_replaces_out_channels_one_by_one()
     ensures { (config : ClientConfig) (moves : List EndMove)
         → AreAllowedAtEnd rules acts (end_started (first config)) moves
         → ReplacesOuts (all_end_moved rules acts (end_started (first config)) moves).passage }
+{}
+
+/// Whatever happens to a client: it asks for no more successors of OUT channels than were asked for
+/// by OUT_R1/A2; and until its work is done it asked for all of them, but for one that is under way
+/// and one that waits.
+pub fn a_client_asks_where_a_successor_is_wanted()
+    ensures { (config : ClientConfig) (moves : List EndMove)
+        → AreAllowedAtEnd rules acts (end_started (first config)) moves
+        → AsksWhereWanted (all_end_moved rules acts (end_started (first config)) moves).passage }
 {}
