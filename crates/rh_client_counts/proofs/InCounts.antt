@@ -175,7 +175,11 @@ turns v way other came put =
 ins : EventsKeep Holds
 ins = record {
   comes = λ v came put one q h. comes v came put one (ap (λ (m : Marks). m.answers_in) q) h;
-  goes = λ v came put one q h.
+  goes = λ v came put one q o h.
+      goes v came put one (ap (λ (m : Marks). m.asks_in) q) (ap (λ (m : Marks). m.hands_over) q) h;
+  fills = λ v line came put past h. h;
+  takes = λ v came put h. h;
+  acks = λ v which ack came put one q is h.
       goes v came put one (ap (λ (m : Marks). m.asks_in) q) (ap (λ (m : Marks). m.hands_over) q) h;
   opens = λ v came put one q k o h.
       comes v came put one (ap (λ (m : Marks). m.answers_in) q) h;

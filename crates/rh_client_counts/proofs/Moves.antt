@@ -1,6 +1,5 @@
 -- each allowed step of a client keeps what its events keep
 use Rattle.std.proofs.Common.{◌≡◌, ℕ, List, [], ◌∷◌, ◌++◌, refl}
-use Rattle.rh_line.specs.Lines.{after_take}
 use Rattle.rh_line.specs.declared.leg.Leg.{Leg}
 use Rattle.rh_shell.specs.Moves.{OnLeg}
 use Rattle.rh_client.specs.declared.state.ClientRole.{ClientRole}
@@ -9,7 +8,7 @@ use Rattle.rh_client.specs.Time.{ping}
 use Rattle.rh_client.specs.Client.{acts, rules}
 use Rattle.rh_client_counts.proofs.Allowed.{AllowedKeep}
 use Rattle.rh_client_counts.proofs.Views.{View, EventsKeep}
-use Rattle.rh_client_counts.proofs.Rows.{Holds, same_holds, up_holds, pdu_row, packet_row, same_drawn, same_ping, same_give, passed_holds, recycled}
+use Rattle.rh_client_counts.proofs.Rows.{Holds, same_holds, up_holds, pdu_row, packet_row, same_drawn, same_ping, same_give, take_holds, recycled}
 use Rattle.rh_client_counts.proofs.Puts.{puts_by}
 
 pub client_keeps : (P : View → List OnLeg → List OnLeg → Type 0) (events : EventsKeep P)
@@ -29,8 +28,7 @@ client_keeps P events = record {
       same_holds P events s (ping s leg) came put (same_ping P events s leg.number leg.kind) h;
   give = λ s bytes came put h.
       same_holds P events s (give s bytes).0 came put (same_give P events s bytes) h;
-  take = λ s came put h.
-      passed_holds P events (record s { line = after_take s.line }) came put h;
+  take = take_holds P events;
   close = λ s came put h. h;
   recycle = λ s came put open' h. recycled P events s came put open' h;
 }

@@ -250,7 +250,11 @@ outs = record {
   comes = λ v came put one q h.
       comes v came put one (ap (λ (m : Marks). m.answers_out) q) (ap (λ (m : Marks). m.finishes) q)
       h;
-  goes = λ v came put one q h.
+  goes = λ v came put one q o h.
+      goes v came put one (ap (λ (m : Marks). m.asks_out) q) (ap (λ (m : Marks). m.switches) q) h;
+  fills = λ v line came put past h. h;
+  takes = λ v came put h. h;
+  acks = λ v which ack came put one q is h.
       goes v came put one (ap (λ (m : Marks). m.asks_out) q) (ap (λ (m : Marks). m.switches) q) h;
   opens = λ v came put one q k o h.
       comes v came put one (ap (λ (m : Marks). m.answers_out) q) (ap (λ (m : Marks). m.finishes) q)

@@ -1,5 +1,5 @@
 -- what comes to a client, and what its caller does, are events of its replacements
-use Rattle.std.proofs.Common.{◌≡◌, ℕ, ◌+◌, ◌==◌, Bool, true, false, not, ◌&&◌, ◌||◌, nat_lt, if◌then◌else◌, List, [], ◌∷◌, ◌++◌, Some, None, Ok, Err, rules, refl, sym, ap, ◌∙◌, subst}
+use Rattle.std.proofs.Common.{◌≡◌, inl, inr, ℕ, ◌+◌, ◌==◌, Bool, true, false, not, ◌&&◌, ◌||◌, nat_lt, if◌then◌else◌, List, [], ◌∷◌, ◌++◌, Some, None, Ok, Err, rules, refl, sym, ap, ◌∙◌, subst}
 use Rattle.std.proofs.lemmas.Bool.{and_parts}
 use Rattle.std.specs.Option.{is_some}
 use Rattle.std.specs.declared.option.Option.{Option}
@@ -7,7 +7,7 @@ use Rattle.std.specs.declared.result.Result.{Result}
 use Rattle.rh_rts.specs.declared.command.Cookie.{Cookie}
 use Rattle.rh_sig.specs.declared.named.Named.{Named}
 use Rattle.rh_sig.specs.declared.named.Named.TheVariants as named
-use Rattle.rh_line.specs.Lines.{after_end, after_finish, after_take, channel_of}
+use Rattle.rh_line.specs.Lines.{admit_verdict, after_admit, after_end, after_finish, after_take, channel_of}
 use Rattle.rh_line.specs.declared.leg.Leg.{Leg}
 use Rattle.rh_line.specs.declared.leg.LegKind.{LegKind}
 use Rattle.rh_line.specs.declared.leg.LegKind.TheVariants.{ClientOut, OutServer, ClientIn, InServer}
@@ -17,7 +17,7 @@ use Rattle.rh_shell.specs.declared.answers.Count.{Count}
 use Rattle.rh_shell.specs.declared.answers.Phase.TheVariants as phase
 use Rattle.rh_shell.specs.declared.end_role.RecycleRefused.{RecycleRefused}
 use Rattle.rh_shell.specs.declared.end_role.RecycleRefused.TheVariants.{Last}
-use Rattle.rh_shell.specs.Rules.{Pdu, Packet}
+use Rattle.rh_shell.specs.Rules.{Row, Pdu, Packet}
 use Rattle.rh_shell.specs.Moves.{OnLeg}
 use Rattle.rh_passages.proofs.Logs.{Fact, RowKeeps}
 use Rattle.rh_client.specs.declared.channels.Opening.{Opening}
@@ -35,15 +35,15 @@ use Rattle.rh_client.specs.Channels.{unopened_in, unopened_out, is_up, is_put, i
 use Rattle.rh_client.specs.Replacements.{is_none, is_out, has_out, with_in, with_out}
 use Rattle.rh_client.specs.State.{Done, taken, unexpected, settled, is_open, is_opening, is_writing, is_in_successor, is_current, is_out_successor, is_over, begin_in, begin_out, after_in, after_out}
 use Rattle.rh_client.specs.Opening.{up_by, wants_by, on_conn_a3, on_conn_c2, with_next}
-use Rattle.rh_client.specs.Acknowledging.{on_pdu, on_ack_to, ack_named, acked, ack_row}
+use Rattle.rh_client.specs.Acknowledging.{pdu_on, admit_row, on_ack_to, ack_named, acked, ack_row}
 use Rattle.rh_client.specs.InReplacement.{on_in_r1_a4, on_in_r2_a4, answer_by, recycle_by, wish_by, wished, wants_successor}
 use Rattle.rh_client.specs.OutReplacement.{succeeded, ended_or, pass_by, passed, a2_by, a6_by, a10_by, on_out_r1_a2, on_out_r1_a6}
-use Rattle.rh_client.specs.Ending.{Given, give, drawn_by, on_end_b2, end_on, end_channel}
+use Rattle.rh_client.specs.Ending.{Given, give, take, drawn_by, on_end_b2, end_on, end_channel}
 use Rattle.rh_client.specs.Time.{ping_by}
 use Rattle.rh_client.specs.Putting.{settled_or_wished}
 use Rattle.rh_client.specs.Client as client
 use Rattle.rh_client.specs.Client.{on_packet, packet_by}
-use Rattle.rh_client_counts.proofs.Views.{View, view, view_by, Way, Free, InIsAsked, OutIsAsked, out_way, is_out_way, out_if, has_in, behind_out, newest_out, marks, Marks, unmarked, EventsKeep}
+use Rattle.rh_client_counts.proofs.Views.{View, view, view_by, Way, way_of, Free, InIsAsked, OutIsAsked, out_way, is_out_way, out_if, has_in, behind_out, newest_out, marks, Marks, unmarked, EventsKeep}
 
 free : (r : Replacement) → is_none r ≡ true → r ≡ NoneUnderWay
 free NoneUnderWay e = refl
@@ -55,15 +55,28 @@ first_of true b c e o = refl
 first_of false true c e o = absurd (cc)
 first_of false false c e o = absurd (cc)
 
-second_of : (a b c d : Bool) → (a && not b) || (c && not d) ≡ true → a ≡ false → d ≡ false
+second_of : (a b c d : Bool) → (a && not b) || (c && not d) ≡ true → a ≡ false
+    → (c ≡ true) × (d ≡ false)
 second_of true b c d e o = absurd (cc)
 second_of false b true true e o = absurd (cc)
-second_of false b true false e o = refl
+second_of false b true false e o = (refl, refl)
 second_of false b false d e o = absurd (cc)
 
 not_true : (b : Bool) → not b ≡ true → b ≡ false
 not_true true e = absurd (cc)
 not_true false e = refl
+
+not_false : (b : Bool) → not b ≡ false → b ≡ true
+not_false true e = refl
+not_false false e = absurd (cc)
+
+is_past : (r : Replacement) → is_out r ≡ true → is_out_way (way_of r) ≡ true
+is_past NoneUnderWay e = absurd (cc)
+is_past (In stage w) e = absurd (cc)
+is_past (Out out_stage.Asked w) e = refl
+is_past (Out out_stage.Answered w) e = refl
+is_past (Out out_stage.Switched w) e = refl
+is_past (Out out_stage.Finished w) e = refl
 
 newest_is : (stage : OutStage) (a b : ℕ) → (if is_out_way (out_way stage) then a else b) ≡ a
 newest_is out_stage.Asked a b = refl
@@ -226,7 +239,13 @@ module _ (P : Fact View) (events : EventsKeep P) where
       (events.succeeds (view_by s (Out out_stage.Finished w)) came put
       (at_replacement s (Out out_stage.Finished w) came put e h)))
 
-  pub passed_holds : (s : ClientRole) (came put : List OnLeg) → Holds s came put
+  pub take_holds : (s : ClientRole) (came put : List OnLeg) → Holds s came put
+      → Holds (take s) came put
+  take_holds s came put h =
+      pass_holds (record s { line = after_take s.line }) s.replacement came put refl
+      (events.takes (view s) came put h)
+
+  passed_holds : (s : ClientRole) (came put : List OnLeg) → Holds s came put
       → Holds (passed s) came put
   passed_holds s came put h = pass_holds s s.replacement came put refl h
 
@@ -392,29 +411,33 @@ module _ (P : Fact View) (events : EventsKeep P) where
       by_test (RowKeeps Holds one came put) (s.line.has_next && is_current s leg.number)
       (taken (passed f)) (unexpected s)
       (λ t. passed_holds f (came ++ one ∷ []) put
-      (events.finishes (view_by s (Out out_stage.Switched w)) came put one refl k
+      (events.finishes (view_by (record s { line = after_finish s.line })
+      (Out out_stage.Switched w)) came put one refl k
       (same_number leg.number s.current.number (and_parts _ _ t).1)
-      (at_replacement s (Out out_stage.Switched w) came put e h)))
+      (events.fills (view_by s (Out out_stage.Switched w)) (after_finish s.line) came put
+      (inr refl) (at_replacement s (Out out_stage.Switched w) came put e h))))
       (λ t. h)
   a10_row s leg (Out out_stage.Finished w) came put e k h = h
 
   end_row : (s : ClientRole) (leg : Leg) (o : Option Which) (came put : List OnLeg)
-      → Holds s came put → RowKeeps Holds (leg, Packet named.EndB2) came put (end_on s o)
-  end_row s leg None came put h = h
-  end_row s leg (Some which) came put h =
+      → is_open s.phase ≡ true → Holds s came put
+      → RowKeeps Holds (leg, Packet named.EndB2) came put (end_on s o)
+  end_row s leg None came put open' h = h
+  end_row s leg (Some which) came put open' h =
       let one : OnLeg = (leg, Packet named.EndB2) in
       by_test (RowKeeps Holds one came put) (channel_of s.line which).ended (unexpected s)
       (taken (settled (record s { line = after_end s.line which })))
       (λ e. h)
       (λ e. settled_holds (record s { line = after_end s.line which }) (came ++ one ∷ []) put
-      (events.comes (view s) came put one refl h))
+      (events.fills (view s) (after_end s.line which) (came ++ one ∷ []) put (inl open')
+      (events.comes (view s) came put one refl h)))
 
   end_if : (s : ClientRole) (leg : Leg) (came put : List OnLeg) → Holds s came put
       → RowKeeps Holds (leg, Packet named.EndB2) came put (on_end_b2 s leg.number)
   end_if s leg came put h =
       by_test (RowKeeps Holds (leg, Packet named.EndB2) came put) (is_open s.phase)
       (end_on s (end_channel s leg.number)) (unexpected s)
-      (λ e. end_row s leg (end_channel s leg.number) came put h) (λ e. h)
+      (λ e. end_row s leg (end_channel s leg.number) came put e h) (λ e. h)
 
   -- ---- the other rows leave it alone
 
@@ -440,15 +463,32 @@ module _ (P : Fact View) (events : EventsKeep P) where
       → view (on_conn_a3 s n count timeout).0 ≡ view s
   same_a3 s n count timeout = search rules
 
-  same_pdu : (s : ClientRole) (n : ℕ) (bytes : List ℕ) → view (on_pdu s n bytes).0 ≡ view s
-  same_pdu s n bytes = search rules
+  admitted_row : (s : ClientRole) (one : OnLeg) (which : Which) (bytes : List ℕ) (row : Row)
+      (came put : List OnLeg) → marks one.1 ≡ unmarked → is_open s.phase ≡ true
+      → Holds s came put
+      → RowKeeps Holds one came put (record s { line = after_admit s.line which bytes }, row)
+  admitted_row s one which bytes (Ok admitted) came put other open' h =
+      events.fills (view s) (after_admit s.line which bytes) (came ++ one ∷ []) put (inl open')
+      (events.comes (view s) came put one other h)
+  admitted_row s one which bytes (Err why) came put other open' h =
+      events.fills (view s) (after_admit s.line which bytes) came put (inl open') h
+
+  on_channel : (s : ClientRole) (leg : Leg) (bytes : List ℕ) (o : Option Which)
+      (came put : List OnLeg) → is_open s.phase ≡ true → Holds s came put
+      → RowKeeps Holds (leg, Pdu bytes) came put (pdu_on s bytes o)
+  on_channel s leg bytes None came put open' h = h
+  on_channel s leg bytes (Some which) came put open' h =
+      admitted_row s (leg, Pdu bytes) which bytes
+      (admit_row (admit_verdict s.line which bytes)) came put refl open' h
 
   pub pdu_row : (s : ClientRole) (leg : Leg) (bytes : List ℕ) (k : LegKind)
       (came put : List OnLeg) → Holds s came put
       → RowKeeps Holds (leg, Pdu bytes) came put (client.pdu_by s leg.number bytes k)
   pdu_row s leg bytes ClientOut came put h =
-      quiet_row s (leg, Pdu bytes) came put refl h (on_pdu s leg.number bytes)
-      (same_pdu s leg.number bytes)
+      by_test (λ (o : Option Which).
+      RowKeeps Holds (leg, Pdu bytes) came put (pdu_on s bytes o))
+      (not (is_open s.phase)) None _ (λ e. h)
+      (λ e. on_channel s leg bytes _ came put (not_false (is_open s.phase) e) h)
   pdu_row s leg bytes OutServer came put h = h
   pdu_row s leg bytes ClientIn came put h = h
   pdu_row s leg bytes InServer came put h = h
@@ -511,11 +551,14 @@ module _ (P : Fact View) (events : EventsKeep P) where
       (record s { current = out_up s.current cookie })
       (record s { out_successor = out_up s.out_successor cookie; line = with_next s.line })
       (λ e. h)
-      (λ e. subst (λ (b : Bool). P (record (view s) { out_asked = b }) came put)
-      (not_asked_out s.out_successor.opening
-      (second_of (is_current s n) (is_up s.current.opening) (is_out_successor s n)
-      (is_up s.out_successor.opening) wanted e))
-      h)
+      (λ e. let parts =
+      second_of (is_current s n) (is_up s.current.opening) (is_out_successor s n)
+      (is_up s.out_successor.opening) wanted e in
+      events.fills (record (view s) { out_asked = false }) (with_next s.line) came put
+      (inr (is_past s.replacement
+      (and_parts (is_out s.replacement) (n == s.out_successor.number) parts.0).0))
+      (subst (λ (b : Bool). P (record (view s) { out_asked = b }) came put)
+      (not_asked_out s.out_successor.opening parts.1) h))
   up_holds s n cookie ClientIn came put wanted h =
       by_test (λ (t : ClientRole). Holds t came put) (is_writing s n)
       (record s { writing = in_up s.writing cookie })
@@ -524,7 +567,7 @@ module _ (P : Fact View) (events : EventsKeep P) where
       (λ e. subst (λ (b : Bool). P (record (view s) { in_asked = b }) came put)
       (not_asked_in s.in_successor.opening
       (second_of (is_writing s n) (is_up s.writing.opening) (is_in_successor s n)
-      (is_up s.in_successor.opening) wanted e))
+      (is_up s.in_successor.opening) wanted e).1)
       h)
   up_holds s n cookie OutServer came put wanted h = h
   up_holds s n cookie InServer came put wanted h = h

@@ -1,10 +1,15 @@
 -- what the replacements at a client read and change, and what may happen to it
-use Rattle.std.proofs.Common.{◌≡◌, ℕ, ◌+◌, nat_lt, Bool, true, false, if◌then◌else◌, List, [], ◌∷◌, ◌++◌}
+use Rattle.std.proofs.Common.{◌≡◌, ◌⊎◌, Some, ℕ, ◌+◌, nat_lt, Bool, true, false, if◌then◌else◌, List, [], ◌∷◌, ◌++◌}
+use Rattle.rh_window.specs.declared.recv_window.Ack.{Ack}
+use Rattle.rh_line.specs.Lines.{Line, due, after_take, after_told}
 use Rattle.rh_line.specs.declared.leg.LegKind.TheVariants.{ClientOut, ClientIn}
+use Rattle.rh_line.specs.declared.which.Which.{Which}
+use Rattle.rh_line.specs.declared.which.Which.TheVariants.{Current, Next}
 use Rattle.rh_shell.specs.declared.answers.Phase.{Phase}
 use Rattle.rh_shell.specs.declared.answers.Phase.TheVariants as phase
 use Rattle.rh_shell.specs.Rules.{Message}
 use Rattle.rh_shell.specs.Moves.{OnLeg}
+use Rattle.rh_shell.specs.Shells.{is_of}
 use Rattle.rh_passages.proofs.Logs.{Fact}
 use Rattle.rh_client.specs.declared.channels.TheConstants.{LAST_NUMBER}
 use Rattle.rh_client.specs.declared.replacement.Replacement.{Replacement}
@@ -19,7 +24,7 @@ use Rattle.rh_client.specs.declared.state.ClientRole.{ClientRole}
 use Rattle.rh_client.specs.Channels.{is_put, is_asked}
 use Rattle.rh_client.specs.Replacements.{has_out, with_in, with_out}
 use Rattle.rh_client.specs.State.{is_opening, is_open}
-use Rattle.rh_client_counts.specs.Counting.{is_conn_c2, is_in_r1_a1, is_in_a4, is_in_r1_a5, is_out_r1_a2, is_out_r1_a3, is_out_r1_a6, is_out_r1_a7, is_out_r1_a10}
+use Rattle.rh_client_counts.specs.Counting.{is_conn_c2, is_in_r1_a1, is_in_a4, is_in_r1_a5, is_out_r1_a2, is_out_r1_a3, is_out_r1_a6, is_out_r1_a7, is_out_r1_a10, is_greeting}
 use Rattle.rh_client_counts.proofs.Standing.{passes}
 
 -- ---- how far a replacement is
@@ -102,6 +107,8 @@ pub record View : Type 0 where
   pub waiting : Waits
   -- END/A1 was put on the writing channel
   pub end_put : Bool
+  -- what came, and is not taken
+  pub line : Line
 
 abbrev pub view_by : ClientRole → Replacement → View
 view_by s r = record {
@@ -115,6 +122,7 @@ view_by s r = record {
   way = way_of r;
   waiting = waits_of r;
   end_put = s.writing.is_end_put;
+  line = s.line;
 }
 
 abbrev pub view : ClientRole → View
@@ -166,13 +174,33 @@ unmarked = record {
 
 -- ---- what may happen
 
+abbrev pub IsGreeting : OnLeg → Type 0
+IsGreeting (leg, m) = is_of ClientIn leg ≡ true → is_greeting m ≡ true
+
+-- the client is open, or replaces an OUT channel
+abbrev pub IsPast : View → Type 0
+IsPast v = (is_open v.phase ≡ true) ⊎ (is_out_way v.way ≡ true)
+
+abbrev pub IsDue : View → Which → Ack → Type 0
+IsDue v Current ack = due v.line Current ≡ Some ack
+IsDue v Next ack = v.line.has_next ≡ true
+
 -- each of these keeps the fact
 pub record EventsKeep (P : Fact View) : Type 0 where
-  -- another message comes, or is put
+  -- another message comes, or is put: before the client is open, on IN channels, what these begin
+  -- with
   pub comes : (v : View) (came put : List OnLeg) (one : OnLeg) → marks one.1 ≡ unmarked
       → P v came put → P v (came ++ one ∷ []) put
   pub goes : (v : View) (came put : List OnLeg) (one : OnLeg) → marks one.1 ≡ unmarked
-      → P v came put → P v came (put ++ one ∷ [])
+      → (is_opening v.phase ≡ true → IsGreeting one) → P v came put → P v came (put ++ one ∷ [])
+  -- the line changes, also by a take, and where it has an acknowledgement put
+  pub fills : (v : View) (line : Line) (came put : List OnLeg) → IsPast v → P v came put
+      → P (record v { line = line }) came put
+  pub takes : (v : View) (came put : List OnLeg) → P v came put
+      → P (record v { line = after_take v.line }) came put
+  pub acks : (v : View) (which : Which) (ack : Ack) (came put : List OnLeg) (one : OnLeg)
+      → marks one.1 ≡ unmarked → IsDue v which ack → P v came put
+      → P (record v { line = after_told v.line which ack }) came (put ++ one ∷ [])
   -- the client opens, puts END/A1, and ends
   pub opens : (v : View) (came put : List OnLeg) (one : OnLeg)
       → marks one.1 ≡ record unmarked { opens = true } → one.0.kind ≡ ClientOut

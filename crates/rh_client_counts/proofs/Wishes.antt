@@ -240,7 +240,11 @@ begins_out e w n m o2 o3 a x is h =
 wishes : EventsKeep Holds
 wishes = record {
   comes = λ v came put one q h. comes v came put one (ap (λ (m : Marks). m.wants_out) q) h;
-  goes = λ v came put one q h. goes v came put one (ap (λ (m : Marks). m.asks_out) q) h;
+  goes = λ v came put one q o h. goes v came put one (ap (λ (m : Marks). m.asks_out) q) h;
+  fills = λ v line came put past h. h;
+  takes = λ v came put h. h;
+  acks = λ v which ack came put one q is h.
+      goes v came put one (ap (λ (m : Marks). m.asks_out) q) h;
   opens = λ v came put one q k o h.
       comes (record v { phase = phase.Open }) came put one (ap (λ (m : Marks). m.wants_out) q)
       (subst (λ (e : Bool).

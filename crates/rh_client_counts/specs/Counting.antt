@@ -2,10 +2,11 @@
 -- profile's; the packets are of MS-RPCH 2.2.4)
 use Rattle.std.specs.Prelude.{ℕ, ◌≡◌, ◌+◌, ◌&&◌, Bool, true, false, nat_le, nat_lt, List, if◌then◌else◌}
 use Rattle.rh_sig.specs.declared.named.Named.{Named}
-use Rattle.rh_sig.specs.declared.named.Named.TheVariants.{ConnC2, InR1A1, InR1A4, InR1A5, InR2A4}
+use Rattle.rh_sig.specs.declared.named.Named.TheVariants.{ConnB1, ConnC2, InR1A1, InR1A4, InR1A5, InR2A4, Ping}
 use Rattle.rh_sig.specs.declared.named.Named.TheVariants.{OutR1A2, OutR1A3, OutR1A6, OutR1A7, OutR1A10}
 use Rattle.rh_line.specs.declared.leg.Leg.{Leg}
 use Rattle.rh_line.specs.declared.leg.LegKind.{LegKind}
+use Rattle.rh_shell.specs.Rules.{Message, Text, Pdu, Packet}
 use Rattle.rh_shell.specs.Moves.{OnLeg}
 use Rattle.rh_shell.specs.Shells.{is_of}
 use Rattle.rh_shell.specs.Wires.{of_leg}
@@ -50,6 +51,17 @@ is_out_r1_a7 packet = false
 abbrev pub is_out_r1_a10 : Named → Bool
 is_out_r1_a10 OutR1A10 = true
 is_out_r1_a10 packet = false
+
+-- what a client puts on IN channels before it is open: the request, CONN/B1 and Pings
+abbrev pub is_greeting_packet : Named → Bool
+is_greeting_packet (ConnB1 version connection channel lifetime keepalive group) = true
+is_greeting_packet Ping = true
+is_greeting_packet packet = false
+
+abbrev pub is_greeting : Message → Bool
+is_greeting (Text bytes) = true
+is_greeting (Pdu pdu) = false
+is_greeting (Packet named) = is_greeting_packet named
 
 -- ---- how many, and where
 
