@@ -7,3 +7,4 @@ pub mod Moves
 pub mod InCounts
 pub mod OutCounts
 pub mod Wishes
+pub mod Opens

@@ -54,7 +54,7 @@ out_way_of (Out out_stage.Answered w) e = refl
 out_way_of (Out out_stage.Switched w) e = refl
 out_way_of (Out out_stage.Finished w) e = refl
 
-not_both : (p : Phase) → is_open p ≡ true → is_opening p ≡ true → ⊥
+pub not_both : (p : Phase) → is_open p ≡ true → is_opening p ≡ true → ⊥
 not_both phase.Opening e o = absurd (cc)
 not_both phase.Open e o = absurd (cc)
 not_both phase.Ended e o = absurd (cc)

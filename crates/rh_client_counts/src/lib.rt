@@ -2,8 +2,10 @@
 //! nothing: their contracts are the laws.
 #![tactic(auto)]
 
+pub mod opening;
 pub mod replacing;
 
+pub use opening::a_client_opens_once;
 pub use replacing::{
     a_client_asks_where_a_successor_is_wanted, a_client_replaces_in_channels_one_by_one,
     a_client_replaces_out_channels_one_by_one,
