@@ -24,6 +24,7 @@ use Rattle.rh_client.specs.declared.replacement.Replacement.{Replacement}
 use Rattle.rh_client.specs.declared.replacement.Replacement.TheVariants.{NoneUnderWay, In, Out}
 use Rattle.rh_client.specs.declared.replacement.InStage.TheVariants as in_stage
 use Rattle.rh_client.specs.declared.replacement.OutStage.TheVariants as out_stage
+use Rattle.rh_client.specs.declared.replacement.Waits.{Waits}
 use Rattle.rh_client.specs.declared.replacement.Waits.TheVariants as waits
 use Rattle.rh_client.specs.declared.state.ClientRole.{ClientRole}
 use Rattle.rh_client.specs.State.{first, is_open, is_opening}
@@ -47,18 +48,27 @@ abbrev Greets : Message → Type 0
 Greets m = is_greeting m ≡ true
 
 -- a client that is not open yet
-record Fresh (window : ℕ) (v : View) (put : List OnLeg) : Type 0 where
-  way : v.way ≡ Free
-  waiting : v.waiting ≡ waits.Nothing
-  writing : v.writing ≡ 1
-  current : v.current ≡ 1
-  closed : v.end_put ≡ false
-  line : v.line ≡ first_line window
+record IsFresh (window : ℕ) (w : Way) (x : Waits) (n c : ℕ) (e : Bool) (l : Line)
+    (put : List OnLeg) : Type 0 where
+  way : w ≡ Free
+  waiting : x ≡ waits.Nothing
+  writing : n ≡ 1
+  current : c ≡ 1
+  closed : e ≡ false
+  line : l ≡ first_line window
   greets : AllByRecursion Greets (of_kind ClientIn put)
 
-record Opened (window : ℕ) (v : View) (came put : List OnLeg) : Type 0 where
-  counts : total is_conn_c2 ClientOut came ≡ once_if (not (is_opening v.phase))
-  fresh : is_opening v.phase ≡ true → Fresh window v put
+record IsOpened (window : ℕ) (p : Phase) (w : Way) (x : Waits) (n c : ℕ) (e : Bool) (l : Line)
+    (came put : List OnLeg) : Type 0 where
+  counts : total is_conn_c2 ClientOut came ≡ once_if (not (is_opening p))
+  fresh : is_opening p ≡ true → IsFresh window w x n c e l put
+
+abbrev Fresh : ℕ → View → List OnLeg → Type 0
+Fresh window v put = IsFresh window v.way v.waiting v.writing v.current v.end_put v.line put
+
+abbrev Opened : ℕ → View → List OnLeg → List OnLeg → Type 0
+Opened window v came put =
+    IsOpened window v.phase v.way v.waiting v.writing v.current v.end_put v.line came put
 
 not_free : (way : Way) → is_in_way way ≡ true → way ≡ Free → ⊥
 not_free way is e = absurd (true≢false (sym is ∙ ap is_in_way e))
@@ -211,6 +221,14 @@ module _ (window : ℕ) where
     closes = λ v came put o h.
         open_past v (record v { end_put = true }) came put put refl o h;
     ends = ends;
+    ups_writing = λ v cookie came put down h. h;
+    ups_in = λ v cookie came put h. h;
+    ups_current = λ v cookie came put down h. h;
+    ups_out = λ v cookie came put h. h;
+    begins_writing = λ v came put one q greets is k at h.
+        goes v came put one (λ o. greets) h;
+    begins_current = λ v came put one q greets is k at h.
+        goes v came put one (λ o. greets) h;
     wants_in = λ v came put o l h.
         open_past v (record v { waiting = with_in v.waiting }) came put put refl o h;
     wants_out = λ v came put one q k o w l h.
@@ -234,14 +252,14 @@ module _ (window : ℕ) where
         waits_in v (record v { way = Free; waiting = waits.Nothing }) came put refl w h;
     drops_out = λ v came put w l h.
         waits_out v (record v { way = Free; waiting = waits.Nothing }) came put refl w h;
-    asks_in = λ v came put one q k on at h.
+    asks_in = λ v came put one q is k on at h.
         past (record v { in_asked = false }) (record v { in_asked = true }) came put
         (put ++ one ∷ []) refl (λ f. not_free v.way at f.way) h;
     answers_in = λ v came put one q k asked h.
         past (record v { way = InIsAsked }) (record v { way = InIsAnswered }) (came ++ one ∷ [])
         put put refl (λ f. not_free InIsAsked refl f.way)
         (comes (record v { way = InIsAsked }) came put one (ap (λ (m : Marks). m.opens) q) h);
-    hands_over = λ v w e came put one q k on h.
+    hands_over = λ v w e came put one q is k on h.
         past (record v { way = InIsAnswered; waiting = out_if w })
         (record v {
           writing = v.in_successor;
@@ -251,14 +269,14 @@ module _ (window : ℕ) where
           waiting = out_if w;
           end_put = e;
         }) came put (put ++ one ∷ []) refl (λ f. not_free InIsAnswered refl f.way) h;
-    asks_out = λ v came put one q k on at h.
+    asks_out = λ v window' came put one q is k on at h.
         past (record v { out_asked = false }) (record v { out_asked = true }) came put
         (put ++ one ∷ []) refl (λ f. not_free_out v.way at f.way) h;
     answers_out = λ v came put one q k on asked h.
         past (record v { way = OutIsAsked }) (record v { way = OutIsAnswered }) (came ++ one ∷ [])
         put put refl (λ f. not_free_out OutIsAsked refl f.way)
         (comes (record v { way = OutIsAsked }) came put one (ap (λ (m : Marks). m.opens) q) h);
-    switches = λ v came put one q k h.
+    switches = λ v came put one q is k h.
         past (record v { way = OutIsAnswered }) (record v { way = OutIsSwitched }) came put
         (put ++ one ∷ []) refl (λ f. not_free_out OutIsAnswered refl f.way) h;
     finishes = λ v came put one q k on h.

@@ -261,6 +261,14 @@ outs = record {
       h;
   closes = λ v came put o h. h;
   ends = λ v came put e h. h;
+  ups_writing = λ v cookie came put down h. h;
+  ups_in = λ v cookie came put h. h;
+  ups_current = λ v cookie came put down h. h;
+  ups_out = λ v cookie came put h. h;
+  begins_writing = λ v came put one q greets is k at h.
+      goes v came put one (ap (λ (m : Marks). m.asks_out) q) (ap (λ (m : Marks). m.switches) q) h;
+  begins_current = λ v came put one q greets is k at h.
+      goes v came put one (ap (λ (m : Marks). m.asks_out) q) (ap (λ (m : Marks). m.switches) q) h;
   wants_in = λ v came put o l h. h;
   wants_out = λ v came put one q k o w l h.
       comes v came put one (ap (λ (m : Marks). m.answers_out) q) (ap (λ (m : Marks). m.finishes) q)
@@ -272,23 +280,23 @@ outs = record {
       came put (λ o3 o6 o7 o10 at. (at, refl)) h;
   drops_in = λ v came put w l h. h;
   drops_out = λ v came put w l h. h;
-  asks_in = λ v came put one q k on at h.
+  asks_in = λ v came put one q is k on at h.
       goes v came put one (ap (λ (m : Marks). m.asks_out) q) (ap (λ (m : Marks). m.switches) q) h;
   answers_in = λ v came put one q k asked h.
       comes (record v { way = InIsAnswered }) came put one
       (ap (λ (m : Marks). m.answers_out) q) (ap (λ (m : Marks). m.finishes) q)
       (turns v InIsAsked InIsAnswered came put (λ o3 o6 o7 o10 at. at) h);
-  hands_over = λ v w e came put one q k on h.
+  hands_over = λ v w e came put one q is k on h.
       goes (record v { way = Free }) came put one
       (ap (λ (m : Marks). m.asks_out) q) (ap (λ (m : Marks). m.switches) q)
       (turns v InIsAnswered Free came put (λ o3 o6 o7 o10 at. at) h);
-  asks_out = λ v came put one q k on at h.
+  asks_out = λ v window came put one q is k on at h.
       asks v.current v.out_successor v.way came put one (ap (λ (m : Marks). m.asks_out) q)
       (ap (λ (m : Marks). m.switches) q) k on at h;
   answers_out = λ v came put one q k on asked h.
       answers v.current v.out_successor v.out_asked came put one
       (ap (λ (m : Marks). m.answers_out) q) (ap (λ (m : Marks). m.finishes) q) k on asked h;
-  switches = λ v came put one q k h.
+  switches = λ v came put one q is k h.
       switches v.current v.out_successor v.out_asked came put one
       (ap (λ (m : Marks). m.asks_out) q) (ap (λ (m : Marks). m.switches) q) k h;
   finishes = λ v came put one q k on h.

@@ -1,5 +1,5 @@
 -- what comes to a client, and what its caller does, are events of its replacements
-use Rattle.std.proofs.Common.{◌≡◌, inl, inr, ℕ, ◌+◌, ◌==◌, Bool, true, false, not, ◌&&◌, ◌||◌, nat_lt, if◌then◌else◌, List, [], ◌∷◌, ◌++◌, Some, None, Ok, Err, rules, refl, sym, ap, ◌∙◌, subst}
+use Rattle.std.proofs.Common.{◌≡◌, ◌⊎◌, inl, inr, ℕ, ◌+◌, ◌==◌, Bool, true, false, not, ◌&&◌, ◌||◌, nat_lt, if◌then◌else◌, List, [], ◌∷◌, ◌++◌, Some, None, Ok, Err, rules, refl, sym, ap, ◌∙◌, subst}
 use Rattle.std.proofs.lemmas.Bool.{and_parts}
 use Rattle.std.specs.Option.{is_some}
 use Rattle.std.specs.declared.option.Option.{Option}
@@ -32,7 +32,7 @@ use Rattle.rh_client.specs.declared.replacement.Waits.{Waits}
 use Rattle.rh_client.specs.declared.replacement.Waits.TheVariants as waits
 use Rattle.rh_client.specs.declared.state.ClientRole.{ClientRole}
 use Rattle.rh_client.specs.Channels.{unopened_in, unopened_out, is_up, is_put, is_asked, told_in, is_named, in_up, out_up}
-use Rattle.rh_client.specs.Replacements.{is_none, is_out, has_out, with_in, with_out}
+use Rattle.rh_client.specs.Replacements.{is_none, is_in, is_out, has_out, with_in, with_out}
 use Rattle.rh_client.specs.State.{Done, taken, unexpected, settled, is_open, is_opening, is_writing, is_in_successor, is_current, is_out_successor, is_over, begin_in, begin_out, after_in, after_out}
 use Rattle.rh_client.specs.Opening.{up_by, wants_by, on_conn_a3, on_conn_c2, with_next}
 use Rattle.rh_client.specs.Acknowledging.{pdu_on, admit_row, on_ack_to, ack_named, acked, ack_row}
@@ -43,7 +43,7 @@ use Rattle.rh_client.specs.Time.{ping_by}
 use Rattle.rh_client.specs.Putting.{settled_or_wished}
 use Rattle.rh_client.specs.Client as client
 use Rattle.rh_client.specs.Client.{on_packet, packet_by}
-use Rattle.rh_client_counts.proofs.Views.{View, view, view_by, Way, way_of, Free, InIsAsked, OutIsAsked, out_way, is_out_way, out_if, has_in, behind_out, newest_out, marks, Marks, unmarked, EventsKeep}
+use Rattle.rh_client_counts.proofs.Views.{View, view, view_by, Way, way_of, Free, InIsAsked, OutIsAsked, out_way, is_in_way, is_out_way, out_if, has_in, behind_out, newest_out, marks, Marks, unmarked, EventsKeep}
 
 free : (r : Replacement) → is_none r ≡ true → r ≡ NoneUnderWay
 free NoneUnderWay e = refl
@@ -66,11 +66,24 @@ not_true : (b : Bool) → not b ≡ true → b ≡ false
 not_true true e = absurd (cc)
 not_true false e = refl
 
+either_of : (a b c d : Bool) → (a && not b) || (c && not d) ≡ true → (b ≡ false) ⊎ (c ≡ true)
+either_of true false c d e = inl refl
+either_of true true true d e = inr refl
+either_of true true false d e = absurd (cc)
+either_of false b true d e = inr refl
+either_of false b false d e = absurd (cc)
+
 not_false : (b : Bool) → not b ≡ false → b ≡ true
 not_false true e = refl
 not_false false e = absurd (cc)
 
-is_past : (r : Replacement) → is_out r ≡ true → is_out_way (way_of r) ≡ true
+pub in_way_of : (r : Replacement) → is_in r ≡ true → is_in_way (way_of r) ≡ true
+in_way_of NoneUnderWay e = absurd (cc)
+in_way_of (In in_stage.Asked w) e = refl
+in_way_of (In in_stage.Answered w) e = refl
+in_way_of (Out stage w) e = absurd (cc)
+
+pub is_past : (r : Replacement) → is_out r ≡ true → is_out_way (way_of r) ≡ true
 is_past NoneUnderWay e = absurd (cc)
 is_past (In stage w) e = absurd (cc)
 is_past (Out out_stage.Asked w) e = refl
@@ -550,25 +563,70 @@ module _ (P : Fact View) (events : EventsKeep P) where
       by_test (λ (t : ClientRole). Holds t came put) (is_current s n)
       (record s { current = out_up s.current cookie })
       (record s { out_successor = out_up s.out_successor cookie; line = with_next s.line })
-      (λ e. h)
+      (λ e. events.ups_current (view s) cookie came put (current e) h)
       (λ e. let parts =
       second_of (is_current s n) (is_up s.current.opening) (is_out_successor s n)
       (is_up s.out_successor.opening) wanted e in
-      events.fills (record (view s) { out_asked = false }) (with_next s.line) came put
+      events.fills (record (view s) { out_asked = false; out_cookie = cookie })
+      (with_next s.line) came put
       (inr (is_past s.replacement
       (and_parts (is_out s.replacement) (n == s.out_successor.number) parts.0).0))
+      (events.ups_out (view s) cookie came put
       (subst (λ (b : Bool). P (record (view s) { out_asked = b }) came put)
-      (not_asked_out s.out_successor.opening parts.1) h))
+      (not_asked_out s.out_successor.opening parts.1) h)))
+    where
+      current : is_current s n ≡ true
+          → (is_asked s.current.opening ≡ false)
+          ⊎ ((is_out_way (way_of s.replacement) ≡ true)
+          × (s.out_successor.number ≡ s.current.number))
+      current e =
+          by (either_of (is_current s n) (is_up s.current.opening) (is_out_successor s n)
+          (is_up s.out_successor.opening) wanted)
+        where
+          by : (is_up s.current.opening ≡ false) ⊎ (is_out_successor s n ≡ true)
+              → (is_asked s.current.opening ≡ false)
+              ⊎ ((is_out_way (way_of s.replacement) ≡ true)
+              × (s.out_successor.number ≡ s.current.number))
+          by (inl down) = inl (not_asked_out s.current.opening down)
+          by (inr is) =
+              let parts = and_parts (is_out s.replacement) (n == s.out_successor.number) is in
+              inr (
+                is_past s.replacement parts.0,
+                sym (same_number n s.out_successor.number parts.1)
+                    ∙ same_number n s.current.number e,
+              )
   up_holds s n cookie ClientIn came put wanted h =
       by_test (λ (t : ClientRole). Holds t came put) (is_writing s n)
       (record s { writing = in_up s.writing cookie })
       (record s { in_successor = in_up s.in_successor cookie })
-      (λ e. h)
-      (λ e. subst (λ (b : Bool). P (record (view s) { in_asked = b }) came put)
+      (λ e. events.ups_writing (view s) cookie came put (writing e) h)
+      (λ e. events.ups_in (view s) cookie came put
+      (subst (λ (b : Bool). P (record (view s) { in_asked = b }) came put)
       (not_asked_in s.in_successor.opening
       (second_of (is_writing s n) (is_up s.writing.opening) (is_in_successor s n)
       (is_up s.in_successor.opening) wanted e).1)
-      h)
+      h))
+    where
+      writing : is_writing s n ≡ true
+          → (is_put s.writing.opening ≡ false)
+          ⊎ ((is_in_way (way_of s.replacement) ≡ true)
+          × (s.in_successor.number ≡ s.writing.number))
+      writing e =
+          by (either_of (is_writing s n) (is_up s.writing.opening) (is_in_successor s n)
+          (is_up s.in_successor.opening) wanted)
+        where
+          by : (is_up s.writing.opening ≡ false) ⊎ (is_in_successor s n ≡ true)
+              → (is_put s.writing.opening ≡ false)
+              ⊎ ((is_in_way (way_of s.replacement) ≡ true)
+              × (s.in_successor.number ≡ s.writing.number))
+          by (inl down) = inl (not_asked_in s.writing.opening down)
+          by (inr is) =
+              let parts = and_parts (is_in s.replacement) (n == s.in_successor.number) is in
+              inr (
+                in_way_of s.replacement parts.0,
+                sym (same_number n s.in_successor.number parts.1)
+                    ∙ same_number n s.writing.number e,
+              )
   up_holds s n cookie OutServer came put wanted h = h
   up_holds s n cookie InServer came put wanted h = h
 
