@@ -189,9 +189,9 @@ ins = record {
   ups_in = λ v cookie came put h. h;
   ups_current = λ v cookie came put down h. h;
   ups_out = λ v cookie came put h. h;
-  begins_writing = λ v came put one q greets is k at h.
+  begins_writing = λ v came put one q greets of is k at h.
       goes v came put one (ap (λ (m : Marks). m.asks_in) q) (ap (λ (m : Marks). m.hands_over) q) h;
-  begins_current = λ v came put one q greets is k at h.
+  begins_current = λ v came put one q greets of is k at h.
       goes v came put one (ap (λ (m : Marks). m.asks_in) q) (ap (λ (m : Marks). m.hands_over) q) h;
   wants_in = λ v came put o l h. h;
   wants_out = λ v came put one q k o w l h.

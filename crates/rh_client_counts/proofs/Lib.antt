@@ -8,3 +8,5 @@ pub mod InCounts
 pub mod OutCounts
 pub mod Wishes
 pub mod Opens
+pub mod Beginning
+pub mod InNames

@@ -225,9 +225,9 @@ module _ (window : ℕ) where
     ups_in = λ v cookie came put h. h;
     ups_current = λ v cookie came put down h. h;
     ups_out = λ v cookie came put h. h;
-    begins_writing = λ v came put one q greets is k at h.
+    begins_writing = λ v came put one q greets of is k at h.
         goes v came put one (λ o. greets) h;
-    begins_current = λ v came put one q greets is k at h.
+    begins_current = λ v came put one q greets of is k at h.
         goes v came put one (λ o. greets) h;
     wants_in = λ v came put o l h.
         open_past v (record v { waiting = with_in v.waiting }) came put put refl o h;

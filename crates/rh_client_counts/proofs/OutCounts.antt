@@ -265,9 +265,9 @@ outs = record {
   ups_in = λ v cookie came put h. h;
   ups_current = λ v cookie came put down h. h;
   ups_out = λ v cookie came put h. h;
-  begins_writing = λ v came put one q greets is k at h.
+  begins_writing = λ v came put one q greets of is k at h.
       goes v came put one (ap (λ (m : Marks). m.asks_out) q) (ap (λ (m : Marks). m.switches) q) h;
-  begins_current = λ v came put one q greets is k at h.
+  begins_current = λ v came put one q greets of is k at h.
       goes v came put one (ap (λ (m : Marks). m.asks_out) q) (ap (λ (m : Marks). m.switches) q) h;
   wants_in = λ v came put o l h. h;
   wants_out = λ v came put one q k o w l h.

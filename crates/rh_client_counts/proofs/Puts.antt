@@ -202,7 +202,7 @@ module _ (P : View → List OnLeg → List OnLeg → Type 0) (events : EventsKee
         Packet (conn_b1 s),
       )) None
       (λ t. events.begins_writing (view s) came put (leg, Packet (conn_b1 s)) refl (λ on. refl)
-      (inl refl) k at (writing_begun s First e h))
+      refl (inl refl) k at (writing_begun s First e h))
       (λ t. tt)
   writing_put s Second e k at h = tt
   writing_put s Put e k at h = next_put s k at h
@@ -271,7 +271,7 @@ module _ (P : View → List OnLeg → List OnLeg → Type 0) (events : EventsKee
       (λ opening. not_in k m) (current_begun s Request e h)
   current_put s First e k at h =
       events.begins_current (view s) came put (leg, Packet (conn_a1 s)) refl
-      (not_in k (Packet (conn_a1 s))) (inl refl) k at (current_begun s First e h)
+      (not_in k (Packet (conn_a1 s))) refl (inl refl) k at (current_begun s First e h)
   current_put s Second e k at h = tt
   current_put s Put e k at h = tt
 

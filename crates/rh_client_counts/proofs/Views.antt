@@ -1,7 +1,7 @@
 -- what the replacements at a client read and change, and what may happen to it
 use Rattle.std.proofs.Common.{◌≡◌, ◌⊎◌, Some, ℕ, ◌+◌, nat_lt, Bool, true, false, if◌then◌else◌, List, [], ◌∷◌, ◌++◌}
 use Rattle.rh_rts.specs.declared.command.Cookie.{Cookie}
-use Rattle.rh_sig.specs.declared.named.Named.TheVariants.{InR1A1, InR1A5, OutR1A3, OutR1A7}
+use Rattle.rh_sig.specs.declared.named.Named.TheVariants.{ConnA1, ConnB1, InR1A1, InR1A5, OutR1A3, OutR1A7}
 use Rattle.rh_sig.specs.declared.ranges.TheConstants.{PROTOCOL_VERSION}
 use Rattle.rh_window.specs.declared.recv_window.Ack.{Ack}
 use Rattle.rh_line.specs.Lines.{Line, due, after_take, after_told}
@@ -28,7 +28,7 @@ use Rattle.rh_client.specs.declared.state.ClientRole.{ClientRole}
 use Rattle.rh_client.specs.Channels.{no_cookie, is_put, is_asked}
 use Rattle.rh_client.specs.Replacements.{has_out, with_in, with_out}
 use Rattle.rh_client.specs.State.{is_opening, is_open}
-use Rattle.rh_client_counts.specs.Counting.{is_conn_c2, is_in_r1_a1, is_in_a4, is_in_r1_a5, is_out_r1_a2, is_out_r1_a3, is_out_r1_a6, is_out_r1_a7, is_out_r1_a10, is_greeting}
+use Rattle.rh_client_counts.specs.Counting.{is_conn_a1, is_conn_b1, is_conn_c2, is_in_r1_a1, is_in_a4, is_in_r1_a5, is_out_r1_a2, is_out_r1_a3, is_out_r1_a6, is_out_r1_a7, is_out_r1_a10, is_greeting}
 use Rattle.rh_client_counts.proofs.Standing.{passes}
 
 -- ---- how far a replacement is
@@ -155,6 +155,8 @@ newest_out v = if is_out_way v.way then v.out_successor else v.current
 -- ---- which packet of a replacement a message is
 
 pub record Marks : Type 0 where
+  pub begins_in : Bool
+  pub begins_out : Bool
   pub opens : Bool
   pub asks_in : Bool
   pub answers_in : Bool
@@ -167,6 +169,8 @@ pub record Marks : Type 0 where
 
 abbrev pub marks : Message → Marks
 marks m = record {
+  begins_in = passes is_conn_b1 m;
+  begins_out = passes is_conn_a1 m;
   opens = passes is_conn_c2 m;
   asks_in = passes is_in_r1_a1 m;
   answers_in = passes is_in_a4 m;
@@ -181,6 +185,8 @@ marks m = record {
 -- it is none of them
 abbrev pub unmarked : Marks
 unmarked = record {
+  begins_in = false;
+  begins_out = false;
   opens = false;
   asks_in = false;
   answers_in = false;
@@ -196,6 +202,12 @@ unmarked = record {
 
 abbrev pub IsGreeting : OnLeg → Type 0
 IsGreeting (leg, m) = is_of ClientIn leg ≡ true → is_greeting m ≡ true
+
+-- CONN/A1 and CONN/B1 are of the connection
+abbrev pub Names : Cookie → Message → Type 0
+Names connection (Packet (ConnA1 version of channel window)) = of ≡ connection
+Names connection (Packet (ConnB1 version of channel lifetime keepalive group)) = of ≡ connection
+Names connection message = Unit {0}
 
 -- the client is open, or replaces an OUT channel
 abbrev pub IsPast : View → Type 0
@@ -248,12 +260,14 @@ pub record EventsKeep (P : Fact View) : Type 0 where
       → P (record v { out_asked = false; out_cookie = cookie }) came put
   -- its first packet is put: CONN/B1, CONN/A1
   pub begins_writing : (v : View) (came put : List OnLeg) (one : OnLeg)
-      → marks one.1 ≡ unmarked → IsGreeting one → HasBegunIn v.writing_cookie (one.1 ∷ [])
+      → marks one.1 ≡ record unmarked { begins_in = true } → IsGreeting one
+      → Names v.connection one.1 → HasBegunIn v.writing_cookie (one.1 ∷ [])
       → one.0.kind ≡ ClientIn → one.0.number ≡ v.writing
       → P (record v { writing_begun = false }) came put
       → P (record v { writing_begun = true }) came (put ++ one ∷ [])
   pub begins_current : (v : View) (came put : List OnLeg) (one : OnLeg)
-      → marks one.1 ≡ unmarked → IsGreeting one → HasBegunOut v.current_cookie (one.1 ∷ [])
+      → marks one.1 ≡ record unmarked { begins_out = true } → IsGreeting one
+      → Names v.connection one.1 → HasBegunOut v.current_cookie (one.1 ∷ [])
       → one.0.kind ≡ ClientOut → one.0.number ≡ v.current
       → P (record v { current_begun = false }) came put
       → P (record v { current_begun = true }) came (put ++ one ∷ [])

@@ -259,9 +259,9 @@ wishes = record {
   ups_in = λ v cookie came put h. h;
   ups_current = λ v cookie came put down h. h;
   ups_out = λ v cookie came put h. h;
-  begins_writing = λ v came put one q greets is k at h.
+  begins_writing = λ v came put one q greets of is k at h.
       goes v came put one (ap (λ (m : Marks). m.asks_out) q) h;
-  begins_current = λ v came put one q greets is k at h.
+  begins_current = λ v came put one q greets of is k at h.
       goes v came put one (ap (λ (m : Marks). m.asks_out) q) h;
   wants_in = λ v came put o l h.
       wants_in (is_ended v.phase) v.writing (newest_out v) (total is_out_r1_a2 ClientOut came)

@@ -1,0 +1,362 @@
+-- a client names its IN channels
+use Rattle.std.proofs.Common.{◌≡◌, ◌⊎◌, ℕ, ◌+◌, ◌<◌, ◌≤◌, Bool, true, false, true≢false, List, [], ◌∷◌, ◌++◌, inl, inr, arith, refl, sym, ap, ◌∙◌, subst}
+use Rattle.rh_http.specs.declared.config.ClientConfig.{ClientConfig}
+use Rattle.rh_rts.specs.declared.command.Cookie.{Cookie}
+use Rattle.rh_sig.specs.declared.named.Named.{Named}
+use Rattle.rh_sig.specs.declared.named.Named.TheVariants.{ConnB1, InR1A1, InR1A5}
+use Rattle.rh_sig.specs.declared.ranges.TheConstants.{PROTOCOL_VERSION}
+use Rattle.rh_line.specs.declared.leg.Leg.{Leg}
+use Rattle.rh_line.specs.declared.leg.LegKind.TheVariants.{ClientIn}
+use Rattle.rh_shell.specs.Rules.{Message, Text, Pdu, Packet}
+use Rattle.rh_shell.specs.Moves.{OnLeg, Passage, EndMove, end_started, all_end_moved, AreAllowedAtEnd}
+use Rattle.rh_shell.specs.Wires.{of_leg}
+use Rattle.rh_passages.specs.Passing.{BeginsIn, HasBegunIn}
+use Rattle.rh_client.specs.State.{first, ci}
+use Rattle.rh_client.specs.Channels.{no_cookie}
+use Rattle.rh_client.specs.Client.{acts, rules}
+use Rattle.rh_client.specs.declared.state.ClientRole.{ClientRole}
+use Rattle.rh_client.proofs.ClientLogs.{of_kind}
+use Rattle.rh_client_counts.specs.Counting.{is_conn_b1, is_in_r1_a1, is_in_r1_a5, total}
+use Rattle.rh_client_counts.specs.Naming.{EachBehind, NamesIn, NamesIns}
+use Rattle.rh_client_counts.proofs.Allowed.{allowed_moves_keep}
+use Rattle.rh_client_counts.proofs.Standing.{Stands, passes, stands_none, stands_stays, stands_next, stands_on}
+use Rattle.rh_client_counts.proofs.Beginning.{one_more_behind, still_has, now_has}
+use Rattle.rh_client_counts.proofs.Views.{View, view, Way, Free, InIsAsked, InIsAnswered, OutIsAsked, OutIsAnswered, OutIsSwitched, OutIsFinished, is_in_way, Marks, marks, unmarked, Names, EventsKeep}
+use Rattle.rh_client_counts.proofs.Rows as keeps
+use Rattle.rh_client_counts.proofs.Moves.{client_keeps}
+
+-- the successor has the next number, and its first packet was put before it is answered
+abbrev IsNext : Way → Bool → ℕ → ℕ → Type 0
+IsNext InIsAsked asked w n = n ≡ w + 1
+IsNext InIsAnswered asked w n = (n ≡ w + 1) × (asked ≡ true)
+IsNext way asked w n = Unit {0}
+
+module _ (connection : Cookie) where
+  -- of the connection, the writing channel and its successor: their cookies, whether their first
+  -- packets were put, and their numbers
+  record Known (of wc ic : Cookie) (begun asked : Bool) (w n : ℕ) (way : Way)
+      (put : List OnLeg) : Type 0 where
+    config : of ≡ connection
+    b1 : ℕ
+    most : b1 ≤ 1
+    none : begun ≡ false → b1 ≡ 0
+    begins : Stands is_conn_b1 ClientIn 1 b1 put
+    low : 1 ≤ w
+    later : 2 ≤ w → begun ≡ true
+    writing : begun ≡ true → HasBegunIn wc (of_leg (ci w) put)
+    successor : asked ≡ true → HasBegunIn ic (of_leg (ci n) put)
+    next : IsNext way asked w n
+    names : EachBehind (NamesIn connection) [] put
+
+  abbrev Holds : View → List OnLeg → List OnLeg → Type 0
+  Holds v came put =
+      Known v.connection v.writing_cookie v.in_cookie v.writing_begun v.in_asked v.writing
+      v.in_successor v.way put
+
+  -- a message that names none
+  other_names : (put : List OnLeg) (leg : Leg) (m : Message) → passes is_conn_b1 m ≡ false
+      → passes is_in_r1_a1 m ≡ false → passes is_in_r1_a5 m ≡ false
+      → NamesIn connection put (leg, m)
+  other_names put leg (Text bytes) b1 a1 a5 = tt
+  other_names put leg (Pdu pdu) b1 a1 a5 = tt
+  other_names put leg (Packet (ConnB1 v of c l k g)) b1 a1 a5 = absurd (true≢false b1)
+  other_names put leg (Packet (InR1A1 v of p s)) b1 a1 a5 = absurd (true≢false a1)
+  other_names put leg (Packet (InR1A5 s)) b1 a1 a5 = absurd (true≢false a5)
+  other_names put leg (Packet named) b1 a1 a5 = tt
+
+  -- one more that does not begin the first channel
+  more : (of wc ic : Cookie) (b a : Bool) (w n : ℕ) (way : Way) (put : List OnLeg) (one : OnLeg)
+      → passes is_conn_b1 one.1 ≡ false → NamesIn connection put one
+      → Known of wc ic b a w n way put → Known of wc ic b a w n way (put ++ one ∷ [])
+  more of wc ic b a w n way put one other named h = record {
+    config = h.config;
+    b1 = h.b1;
+    most = h.most;
+    none = h.none;
+    begins = stands_stays is_conn_b1 ClientIn 1 h.b1 put one other h.begins;
+    low = h.low;
+    later = h.later;
+    writing = λ e. still_has (BeginsIn wc) (ci w) put one (h.writing e);
+    successor = λ e. still_has (BeginsIn ic) (ci n) put one (h.successor e);
+    next = h.next;
+    names = one_more_behind (NamesIn connection) put one h.names named;
+  }
+
+  goes : (v : View) (came put : List OnLeg) (one : OnLeg) → passes is_conn_b1 one.1 ≡ false
+      → passes is_in_r1_a1 one.1 ≡ false → passes is_in_r1_a5 one.1 ≡ false
+      → Holds v came put → Holds v came (put ++ one ∷ [])
+  goes v came put one b1 a1 a5 h =
+      more v.connection v.writing_cookie v.in_cookie v.writing_begun v.in_asked v.writing
+      v.in_successor v.way put one b1 (other_names put one.0 one.1 b1 a1 a5) h
+
+  goes_unmarked : (v : View) (came put : List OnLeg) (one : OnLeg) → marks one.1 ≡ unmarked
+      → Holds v came put → Holds v came (put ++ one ∷ [])
+  goes_unmarked v came put one q h =
+      goes v came put one (ap (λ (m : Marks). m.begins_in) q) (ap (λ (m : Marks). m.asks_in) q)
+      (ap (λ (m : Marks). m.hands_over) q) h
+
+  -- on another way, with another successor
+  turned : (of wc ic jc : Cookie) (b a c : Bool) (w n m : ℕ) (way other : Way)
+      (put : List OnLeg) → (c ≡ true → HasBegunIn jc (of_leg (ci m) put))
+      → (IsNext way a w n → IsNext other c w m) → Known of wc ic b a w n way put
+      → Known of wc jc b c w m other put
+  turned of wc ic jc b a c w n m way other put begun so h = record {
+    config = h.config;
+    b1 = h.b1;
+    most = h.most;
+    none = h.none;
+    begins = h.begins;
+    low = h.low;
+    later = h.later;
+    writing = h.writing;
+    successor = begun;
+    next = so h.next;
+    names = h.names;
+  }
+
+  turns : (v : View) (way other : Way) (came put : List OnLeg)
+      → (IsNext way v.in_asked v.writing v.in_successor
+      → IsNext other v.in_asked v.writing v.in_successor)
+      → Holds (record v { way = way }) came put → Holds (record v { way = other }) came put
+  turns v way other came put so h =
+      turned v.connection v.writing_cookie v.in_cookie v.in_cookie v.writing_begun v.in_asked
+      v.in_asked v.writing v.in_successor v.in_successor way other put h.successor so h
+
+  -- the writing channel is up anew
+  ups : (of wc ic c : Cookie) (b a : Bool) (w n : ℕ) (way : Way) (put : List OnLeg)
+      → (b ≡ false) ⊎ ((is_in_way way ≡ true) × (n ≡ w)) → Known of wc ic b a w n way put
+      → Known of c ic false a w n way put
+  ups of wc ic c b a w n way put (inl down) h = record {
+    config = h.config;
+    b1 = h.b1;
+    most = h.most;
+    none = λ e. h.none down;
+    begins = h.begins;
+    low = h.low;
+    later = λ l. absurd (true≢false (sym (h.later l) ∙ down));
+    writing = λ e. absurd (true≢false (sym e));
+    successor = h.successor;
+    next = h.next;
+    names = h.names;
+  }
+  ups of wc ic c b a w n InIsAsked put (inr (is, same)) h =
+      let next = h.next in absurd (omega (arith, next, same))
+  ups of wc ic c b a w n InIsAnswered put (inr (is, same)) h =
+      let next = h.next.0 in absurd (omega (arith, next, same))
+  ups of wc ic c b a w n Free put (inr (is, same)) h = absurd (true≢false (sym is))
+  ups of wc ic c b a w n OutIsAsked put (inr (is, same)) h = absurd (true≢false (sym is))
+  ups of wc ic c b a w n OutIsAnswered put (inr (is, same)) h = absurd (true≢false (sym is))
+  ups of wc ic c b a w n OutIsSwitched put (inr (is, same)) h = absurd (true≢false (sym is))
+  ups of wc ic c b a w n OutIsFinished put (inr (is, same)) h = absurd (true≢false (sym is))
+
+  -- CONN/B1 of the connection names it
+  first_names : (of : Cookie) (put : List OnLeg) (leg : Leg) (m : Message) → of ≡ connection
+      → passes is_conn_b1 m ≡ true → Names of m → NamesIn connection put (leg, m)
+  first_names of put leg (Packet (ConnB1 v o c l k g)) e is named = named ∙ e
+  first_names of put leg (Packet (InR1A1 v o p s)) e is named = absurd (true≢false (sym is))
+  first_names of put leg (Packet (InR1A5 s)) e is named = absurd (true≢false (sym is))
+  first_names of put leg (Packet other) e is named = tt
+  first_names of put leg (Text bytes) e is named = tt
+  first_names of put leg (Pdu pdu) e is named = tt
+
+  begins_first : (of wc ic : Cookie) (a : Bool) (w n : ℕ) (way : Way) (put : List OnLeg)
+      (one : OnLeg) → passes is_conn_b1 one.1 ≡ true → Names of one.1
+      → HasBegunIn wc (one.1 ∷ []) → one.0.kind ≡ ClientIn → one.0.number ≡ w
+      → Known of wc ic false a w n way put → Known of wc ic true a w n way (put ++ one ∷ [])
+  begins_first of wc ic a w n way put one is named begun k on h =
+      let none = h.none refl in
+      let low = h.low in
+      record {
+        config = h.config;
+        b1 = h.b1 + 1;
+        most = omega (arith, none);
+        none = λ e. absurd (true≢false e);
+        begins =
+            stands_next is_conn_b1 ClientIn 1 h.b1 put one is (of_kind ClientIn one.0 k)
+            (by w h.later low on) h.begins;
+        low = h.low;
+        later = λ l. refl;
+        writing = λ e. now_has (BeginsIn wc) ClientIn w put one k on begun;
+        successor = λ e. still_has (BeginsIn ic) (ci n) put one (h.successor e);
+        next = h.next;
+        names =
+            one_more_behind (NamesIn connection) put one h.names
+            (first_names of put one.0 one.1 h.config is named);
+      }
+    where
+      by : (x : ℕ) → (2 ≤ x → false ≡ true) → 1 ≤ x → one.0.number ≡ x
+          → one.0.number ≡ 1 + h.b1
+      by x later low at =
+          let none = h.none refl in
+          let small : (2 ≤ x) → ⊥ = λ l. true≢false (sym (later l)) in
+          omega (arith, none, small, low, at)
+
+  -- IN_R1/A1
+  asks : (of wc ic : Cookie) (b : Bool) (w n : ℕ) (way : Way) (put : List OnLeg) (one : OnLeg)
+      → passes is_conn_b1 one.1 ≡ false
+      → one.1 ≡ Packet (InR1A1 PROTOCOL_VERSION of wc ic) → one.0.kind ≡ ClientIn
+      → one.0.number ≡ n → is_in_way way ≡ true → n ≡ w + 1
+      → Known of wc ic b false w n way put → IsNext way true w n
+      → Known of wc ic b true w n way (put ++ one ∷ [])
+  asks of wc ic b w n way put (leg, m) other is k on at next h later = record {
+    config = h.config;
+    b1 = h.b1;
+    most = h.most;
+    none = h.none;
+    begins = stands_stays is_conn_b1 ClientIn 1 h.b1 put (leg, m) other h.begins;
+    low = h.low;
+    later = h.later;
+    writing = λ e. still_has (BeginsIn wc) (ci w) put (leg, m) (h.writing e);
+    successor = λ e.
+        now_has (BeginsIn ic) ClientIn n put (leg, m) k on
+        (subst (λ (x : Message). HasBegunIn ic (x ∷ [])) (sym is) (inl refl));
+    next = later;
+    names =
+        one_more_behind (NamesIn connection) put (leg, m) h.names
+        (subst (λ (x : Message). NamesIn connection put (leg, x)) (sym is) (h.config, before));
+  }
+    where
+      begun : (2 ≤ w) ⊎ (0 < total is_conn_b1 ClientIn put) → (x : Bool) → b ≡ x → b ≡ true
+      begun there true e = e
+      begun (inl l) false e = h.later l
+      begun (inr l) false e =
+          let none = h.none e in
+          let all = h.begins.all in absurd (omega (arith, none, all, l))
+
+      before : (k : ℕ) → leg.number ≡ k + 1 → (2 ≤ k) ⊎ (0 < total is_conn_b1 ClientIn put)
+          → HasBegunIn wc (of_leg (ci k) put)
+      before k number there =
+          let same : w ≡ k = omega (arith, number, on, next) in
+          subst (λ (x : ℕ). HasBegunIn wc (of_leg (ci x) put)) same
+          (h.writing (begun (subst (λ (x : ℕ). (2 ≤ x) ⊎ (0 < total is_conn_b1 ClientIn put))
+          (sym same) there) b refl))
+
+  asks_at : (of wc ic : Cookie) (b : Bool) (w n : ℕ) (way : Way) (put : List OnLeg) (one : OnLeg)
+      → passes is_conn_b1 one.1 ≡ false
+      → one.1 ≡ Packet (InR1A1 PROTOCOL_VERSION of wc ic) → one.0.kind ≡ ClientIn
+      → one.0.number ≡ n → is_in_way way ≡ true → Known of wc ic b false w n way put
+      → Known of wc ic b true w n way (put ++ one ∷ [])
+  asks_at of wc ic b w n InIsAsked put one other is k on at h =
+      asks of wc ic b w n InIsAsked put one other is k on at h.next h h.next
+  asks_at of wc ic b w n InIsAnswered put one other is k on at h =
+      absurd (true≢false (sym h.next.1))
+  asks_at of wc ic b w n Free put one other is k on at h = absurd (true≢false (sym at))
+  asks_at of wc ic b w n OutIsAsked put one other is k on at h = absurd (true≢false (sym at))
+  asks_at of wc ic b w n OutIsAnswered put one other is k on at h = absurd (true≢false (sym at))
+  asks_at of wc ic b w n OutIsSwitched put one other is k on at h = absurd (true≢false (sym at))
+  asks_at of wc ic b w n OutIsFinished put one other is k on at h = absurd (true≢false (sym at))
+
+  -- IN_R1/A5
+  hands : (of wc ic : Cookie) (b a : Bool) (w n : ℕ) (put : List OnLeg) (one : OnLeg)
+      → passes is_conn_b1 one.1 ≡ false → one.1 ≡ Packet (InR1A5 ic) → one.0.number ≡ w
+      → Known of wc ic b a w n InIsAnswered put
+      → Known of ic no_cookie a false n 0 Free (put ++ one ∷ [])
+  hands of wc ic b a w n put (leg, m) other is on h =
+      let next = h.next.0 in
+      let behind : leg.number + 1 ≡ n = omega (arith, on, next) in
+      record {
+        config = h.config;
+        b1 = h.b1;
+        most = h.most;
+        none = λ e. absurd (true≢false (sym h.next.1 ∙ e));
+        begins = stands_stays is_conn_b1 ClientIn 1 h.b1 put (leg, m) other h.begins;
+        low = omega (arith, next);
+        later = λ l. h.next.1;
+        writing = λ e. still_has (BeginsIn ic) (ci n) put (leg, m) (h.successor e);
+        successor = λ e. absurd (true≢false (sym e));
+        next = tt;
+        names =
+            one_more_behind (NamesIn connection) put (leg, m) h.names
+            (subst (λ (x : Message). NamesIn connection put (leg, x)) (sym is)
+            (subst (λ (x : ℕ). HasBegunIn ic (of_leg (ci x) put)) (sym behind)
+            (h.successor h.next.1)));
+      }
+
+  ins : EventsKeep Holds
+  ins = record {
+    comes = λ v came put one q h. h;
+    goes = λ v came put one q o h. goes_unmarked v came put one q h;
+    fills = λ v line came put past h. h;
+    takes = λ v came put h. h;
+    acks = λ v which ack came put one q is h. goes_unmarked v came put one q h;
+    opens = λ v came put one q k o h. h;
+    closes = λ v came put o h. h;
+    ends = λ v came put e h. h;
+    ups_writing = λ v cookie came put down h.
+        ups v.connection v.writing_cookie v.in_cookie cookie v.writing_begun v.in_asked v.writing
+        v.in_successor v.way put down h;
+    ups_in = λ v cookie came put h.
+        turned v.connection v.writing_cookie v.in_cookie cookie v.writing_begun false false
+        v.writing v.in_successor v.in_successor v.way v.way put (λ e. absurd (true≢false (sym e)))
+        (λ next. next) h;
+    ups_current = λ v cookie came put down h. h;
+    ups_out = λ v cookie came put h. h;
+    begins_writing = λ v came put one q greets of is k at h.
+        begins_first v.connection v.writing_cookie v.in_cookie v.in_asked v.writing v.in_successor
+        v.way put one (ap (λ (m : Marks). m.begins_in) q) of is k at h;
+    begins_current = λ v came put one q greets of is k at h.
+        goes v came put one (ap (λ (m : Marks). m.begins_in) q)
+        (ap (λ (m : Marks). m.asks_in) q) (ap (λ (m : Marks). m.hands_over) q) h;
+    wants_in = λ v came put o l h. h;
+    wants_out = λ v came put one q k o w l h. h;
+    begins_in = λ v came put w l h.
+        turned v.connection v.writing_cookie v.in_cookie no_cookie v.writing_begun v.in_asked
+        false v.writing v.in_successor (v.writing + 1) Free InIsAsked put
+        (λ e. absurd (true≢false (sym e))) (λ next. refl) h;
+    begins_out = λ v came put w l h. turns v Free OutIsAsked came put (λ next. tt) h;
+    drops_in = λ v came put w l h. h;
+    drops_out = λ v came put w l h. h;
+    asks_in = λ v came put one q is k on at h.
+        asks_at v.connection v.writing_cookie v.in_cookie v.writing_begun v.writing v.in_successor
+        v.way put one (ap (λ (m : Marks). m.begins_in) q) is k on at h;
+    answers_in = λ v came put one q k asked h.
+        turns v InIsAsked InIsAnswered came put (λ next. (next, asked)) h;
+    hands_over = λ v w e came put one q is k on h.
+        hands v.connection v.writing_cookie v.in_cookie v.writing_begun v.in_asked v.writing
+        v.in_successor put one (ap (λ (m : Marks). m.begins_in) q) is on h;
+    asks_out = λ v window came put one q is k on at h.
+        goes v came put one (ap (λ (m : Marks). m.begins_in) q)
+        (ap (λ (m : Marks). m.asks_in) q) (ap (λ (m : Marks). m.hands_over) q) h;
+    answers_out = λ v came put one q k on asked h.
+        turns v OutIsAsked OutIsAnswered came put (λ next. tt) h;
+    switches = λ v came put one q is k h.
+        goes (record v { way = OutIsSwitched }) came put one (ap (λ (m : Marks). m.begins_in) q)
+        (ap (λ (m : Marks). m.asks_in) q) (ap (λ (m : Marks). m.hands_over) q)
+        (turns v OutIsAnswered OutIsSwitched came put (λ next. tt) h);
+    finishes = λ v came put one q k on h.
+        turns v OutIsSwitched OutIsFinished came put (λ next. tt) h;
+    succeeds = λ v came put h. turns v OutIsFinished Free came put (λ next. tt) h;
+  }
+
+  named : (p : Passage ClientRole) → Holds (view p.role) p.came p.put → NamesIns connection p
+  named p h =
+      let all = h.begins.all in
+      let most = h.most in
+      record {
+        names = h.names;
+        once = omega (arith, all, most);
+        begins_on = stands_on is_conn_b1 ClientIn 1 h.b1 p.put h.begins;
+      }
+
+pub names_ins : (config : ClientConfig) (moves : List EndMove)
+    → AreAllowedAtEnd rules acts (end_started (first config)) moves
+    → NamesIns config.connection
+    (all_end_moved rules acts (end_started (first config)) moves).passage
+names_ins config moves allowed =
+    let of = config.connection in
+    named of (all_end_moved rules acts (end_started (first config)) moves).passage
+    (allowed_moves_keep rules acts (keeps.Holds (Holds of) (ins of))
+    (client_keeps (Holds of) (ins of)) (end_started (first config)) moves allowed
+    (record {
+      config = refl;
+      b1 = 0;
+      most = omega arith;
+      none = λ e. refl;
+      begins = stands_none is_conn_b1 ClientIn 1;
+      low = omega arith;
+      later = λ l. absurd (omega (arith, l));
+      writing = λ e. absurd (true≢false (sym e));
+      successor = λ e. absurd (true≢false (sym e));
+      next = tt;
+      names = tt;
+    }))
