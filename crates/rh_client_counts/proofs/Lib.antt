@@ -10,3 +10,4 @@ pub mod Wishes
 pub mod Opens
 pub mod Beginning
 pub mod InNames
+pub mod OutNames

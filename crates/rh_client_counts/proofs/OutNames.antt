@@ -1,0 +1,424 @@
+-- a client names its OUT channels
+use Rattle.std.proofs.Common.{◌≡◌, ◌⊎◌, ℕ, ◌+◌, ◌<◌, ◌≤◌, Bool, true, false, true≢false, List, [], ◌∷◌, ◌++◌, inl, inr, arith, refl, sym, ap, ◌∙◌, subst}
+use Rattle.rh_http.specs.declared.config.ClientConfig.{ClientConfig}
+use Rattle.rh_rts.specs.declared.command.Cookie.{Cookie}
+use Rattle.rh_sig.specs.declared.named.Named.{Named}
+use Rattle.rh_sig.specs.declared.named.Named.TheVariants.{ConnA1, OutR1A3, OutR1A7}
+use Rattle.rh_sig.specs.declared.ranges.TheConstants.{PROTOCOL_VERSION}
+use Rattle.rh_line.specs.declared.leg.Leg.{Leg}
+use Rattle.rh_line.specs.declared.leg.LegKind.TheVariants.{ClientOut, ClientIn}
+use Rattle.rh_shell.specs.Rules.{Message, Text, Pdu, Packet}
+use Rattle.rh_shell.specs.Moves.{OnLeg, Passage, EndMove, end_started, all_end_moved, AreAllowedAtEnd}
+use Rattle.rh_shell.specs.Wires.{of_leg}
+use Rattle.rh_passages.specs.Passing.{BeginsOut, HasBegunOut}
+use Rattle.rh_client.specs.State.{first, co}
+use Rattle.rh_client.specs.Channels.{no_cookie}
+use Rattle.rh_client.specs.Client.{acts, rules}
+use Rattle.rh_client.specs.declared.state.ClientRole.{ClientRole}
+use Rattle.rh_client.proofs.ClientLogs.{of_kind}
+use Rattle.rh_client_counts.specs.Counting.{is_conn_a1, is_out_r1_a3, is_out_r1_a7, total}
+use Rattle.rh_client_counts.specs.Naming.{EachBehind, NamesOut, NamesOuts}
+use Rattle.rh_client_counts.proofs.Allowed.{allowed_moves_keep}
+use Rattle.rh_client_counts.proofs.Standing.{Stands, passes, stands_none, stands_stays, stands_next, stands_on, total_stays, total_rises}
+use Rattle.rh_client_counts.proofs.Beginning.{one_more_behind, still_has, now_has}
+use Rattle.rh_client_counts.proofs.Views.{View, view, Way, Free, InIsAsked, InIsAnswered, OutIsAsked, OutIsAnswered, OutIsSwitched, OutIsFinished, is_out_way, Marks, marks, unmarked, Names, EventsKeep}
+use Rattle.rh_client_counts.proofs.Rows as keeps
+use Rattle.rh_client_counts.proofs.Moves.{client_keeps}
+
+-- the successor has the next number, its first packet was put before it is answered, and so many
+-- OUT_R1/A7 were put
+abbrev IsNext : Way → Bool → ℕ → ℕ → ℕ → Type 0
+IsNext OutIsAsked asked c n a7 = (n ≡ c + 1) × (c ≡ a7 + 1)
+IsNext OutIsAnswered asked c n a7 = (n ≡ c + 1) × (c ≡ a7 + 1) × (asked ≡ true)
+IsNext OutIsSwitched asked c n a7 = (n ≡ c + 1) × (c ≡ a7) × (asked ≡ true)
+IsNext OutIsFinished asked c n a7 = (n ≡ c + 1) × (c ≡ a7) × (asked ≡ true)
+IsNext way asked c n a7 = c ≡ a7 + 1
+
+module _ (connection : Cookie) where
+  -- of the connection, the current channel and its successor: their cookies, whether their first
+  -- packets were put, and their numbers
+  record Known (of cc oc : Cookie) (begun asked : Bool) (c n : ℕ) (way : Way)
+      (put : List OnLeg) : Type 0 where
+    config : of ≡ connection
+    a1 : ℕ
+    most : a1 ≤ 1
+    none : begun ≡ false → a1 ≡ 0
+    begins : Stands is_conn_a1 ClientOut 1 a1 put
+    low : 1 ≤ c
+    later : 2 ≤ c → begun ≡ true
+    current : begun ≡ true → HasBegunOut cc (of_leg (co c) put)
+    successor : asked ≡ true → HasBegunOut oc (of_leg (co n) put)
+    a7 : ℕ
+    switches : total is_out_r1_a7 ClientIn put ≡ a7
+    next : IsNext way asked c n a7
+    names : EachBehind (NamesOut connection) [] put
+
+  abbrev Holds : View → List OnLeg → List OnLeg → Type 0
+  Holds v came put =
+      Known v.connection v.current_cookie v.out_cookie v.current_begun v.out_asked v.current
+      v.out_successor v.way put
+
+  -- a message that names none
+  other_names : (put : List OnLeg) (leg : Leg) (m : Message) → passes is_conn_a1 m ≡ false
+      → passes is_out_r1_a3 m ≡ false → passes is_out_r1_a7 m ≡ false
+      → NamesOut connection put (leg, m)
+  other_names put leg (Text bytes) a1 a3 a7 = tt
+  other_names put leg (Pdu pdu) a1 a3 a7 = tt
+  other_names put leg (Packet (ConnA1 v of c w)) a1 a3 a7 = absurd (true≢false a1)
+  other_names put leg (Packet (OutR1A3 v of p s w)) a1 a3 a7 = absurd (true≢false a3)
+  other_names put leg (Packet (OutR1A7 to s)) a1 a3 a7 = absurd (true≢false a7)
+  other_names put leg (Packet named) a1 a3 a7 = tt
+
+  more : (of cc oc : Cookie) (b a : Bool) (c n : ℕ) (way : Way) (put : List OnLeg) (one : OnLeg)
+      → passes is_conn_a1 one.1 ≡ false → passes is_out_r1_a7 one.1 ≡ false
+      → NamesOut connection put one → Known of cc oc b a c n way put
+      → Known of cc oc b a c n way (put ++ one ∷ [])
+  more of cc oc b a c n way put one no_a1 no_a7 named h = record {
+    config = h.config;
+    a1 = h.a1;
+    most = h.most;
+    none = h.none;
+    begins = stands_stays is_conn_a1 ClientOut 1 h.a1 put one no_a1 h.begins;
+    low = h.low;
+    later = h.later;
+    current = λ e. still_has (BeginsOut cc) (co c) put one (h.current e);
+    successor = λ e. still_has (BeginsOut oc) (co n) put one (h.successor e);
+    a7 = h.a7;
+    switches = total_stays is_out_r1_a7 ClientIn h.a7 put one no_a7 h.switches;
+    next = h.next;
+    names = one_more_behind (NamesOut connection) put one h.names named;
+  }
+
+  goes : (v : View) (came put : List OnLeg) (one : OnLeg) → passes is_conn_a1 one.1 ≡ false
+      → passes is_out_r1_a3 one.1 ≡ false → passes is_out_r1_a7 one.1 ≡ false
+      → Holds v came put → Holds v came (put ++ one ∷ [])
+  goes v came put one a1 a3 a7 h =
+      more v.connection v.current_cookie v.out_cookie v.current_begun v.out_asked v.current
+      v.out_successor v.way put one a1 a7 (other_names put one.0 one.1 a1 a3 a7) h
+
+  goes_unmarked : (v : View) (came put : List OnLeg) (one : OnLeg) → marks one.1 ≡ unmarked
+      → Holds v came put → Holds v came (put ++ one ∷ [])
+  goes_unmarked v came put one q h =
+      goes v came put one (ap (λ (m : Marks). m.begins_out) q) (ap (λ (m : Marks). m.asks_out) q)
+      (ap (λ (m : Marks). m.switches) q) h
+
+  -- on another way, with another successor
+  turned : (of cc oc jc : Cookie) (b a x : Bool) (c n m : ℕ) (way other : Way)
+      (put : List OnLeg) → (x ≡ true → HasBegunOut jc (of_leg (co m) put))
+      → ((a7 : ℕ) → IsNext way a c n a7 → IsNext other x c m a7)
+      → Known of cc oc b a c n way put → Known of cc jc b x c m other put
+  turned of cc oc jc b a x c n m way other put begun so h = record {
+    config = h.config;
+    a1 = h.a1;
+    most = h.most;
+    none = h.none;
+    begins = h.begins;
+    low = h.low;
+    later = h.later;
+    current = h.current;
+    successor = begun;
+    a7 = h.a7;
+    switches = h.switches;
+    next = so h.a7 h.next;
+    names = h.names;
+  }
+
+  turns : (v : View) (way other : Way) (came put : List OnLeg)
+      → ((a7 : ℕ) → IsNext way v.out_asked v.current v.out_successor a7
+      → IsNext other v.out_asked v.current v.out_successor a7)
+      → Holds (record v { way = way }) came put → Holds (record v { way = other }) came put
+  turns v way other came put so h =
+      turned v.connection v.current_cookie v.out_cookie v.out_cookie v.current_begun v.out_asked
+      v.out_asked v.current v.out_successor v.out_successor way other put h.successor so h
+
+  -- the successor has another number
+  apart : (way : Way) (a : Bool) (c n a7 : ℕ) → IsNext way a c n a7 → is_out_way way ≡ true
+      → n ≡ c → ⊥
+  apart OutIsAsked a c n a7 at is same = let next = at.0 in omega (arith, next, same)
+  apart OutIsAnswered a c n a7 at is same = let next = at.0 in omega (arith, next, same)
+  apart OutIsSwitched a c n a7 at is same = let next = at.0 in omega (arith, next, same)
+  apart OutIsFinished a c n a7 at is same = let next = at.0 in omega (arith, next, same)
+  apart Free a c n a7 at is same = absurd (true≢false (sym is))
+  apart InIsAsked a c n a7 at is same = absurd (true≢false (sym is))
+  apart InIsAnswered a c n a7 at is same = absurd (true≢false (sym is))
+
+  -- the current channel is up anew
+  ups : (of cc oc dc : Cookie) (b a : Bool) (c n : ℕ) (way : Way) (put : List OnLeg)
+      → (b ≡ false) ⊎ ((is_out_way way ≡ true) × (n ≡ c)) → Known of cc oc b a c n way put
+      → Known of dc oc false a c n way put
+  ups of cc oc dc b a c n way put (inl down) h = record {
+    config = h.config;
+    a1 = h.a1;
+    most = h.most;
+    none = λ e. h.none down;
+    begins = h.begins;
+    low = h.low;
+    later = λ l. absurd (true≢false (sym (h.later l) ∙ down));
+    current = λ e. absurd (true≢false (sym e));
+    successor = h.successor;
+    a7 = h.a7;
+    switches = h.switches;
+    next = h.next;
+    names = h.names;
+  }
+  ups of cc oc dc b a c n way put (inr (is, same)) h =
+      absurd (apart way a c n h.a7 h.next is same)
+
+  -- CONN/A1 of the connection names it
+  first_names : (of : Cookie) (put : List OnLeg) (leg : Leg) (m : Message) → of ≡ connection
+      → passes is_conn_a1 m ≡ true → Names of m → NamesOut connection put (leg, m)
+  first_names of put leg (Packet (ConnA1 v o c w)) e is named = named ∙ e
+  first_names of put leg (Packet (OutR1A3 v o p s w)) e is named = absurd (true≢false (sym is))
+  first_names of put leg (Packet (OutR1A7 to s)) e is named = absurd (true≢false (sym is))
+  first_names of put leg (Packet other) e is named = tt
+  first_names of put leg (Text bytes) e is named = tt
+  first_names of put leg (Pdu pdu) e is named = tt
+
+  begins_first : (of cc oc : Cookie) (a : Bool) (c n : ℕ) (way : Way) (put : List OnLeg)
+      (one : OnLeg) → passes is_conn_a1 one.1 ≡ true → passes is_out_r1_a7 one.1 ≡ false
+      → Names of one.1 → HasBegunOut cc (one.1 ∷ []) → one.0.kind ≡ ClientOut
+      → one.0.number ≡ c → Known of cc oc false a c n way put
+      → Known of cc oc true a c n way (put ++ one ∷ [])
+  begins_first of cc oc a c n way put one is no_a7 named begun k on h =
+      let none = h.none refl in
+      let low = h.low in
+      record {
+        config = h.config;
+        a1 = h.a1 + 1;
+        most = omega (arith, none);
+        none = λ e. absurd (true≢false e);
+        begins =
+            stands_next is_conn_a1 ClientOut 1 h.a1 put one is (of_kind ClientOut one.0 k)
+            (by c h.later low on) h.begins;
+        low = h.low;
+        later = λ l. refl;
+        current = λ e. now_has (BeginsOut cc) ClientOut c put one k on begun;
+        successor = λ e. still_has (BeginsOut oc) (co n) put one (h.successor e);
+        a7 = h.a7;
+        switches = total_stays is_out_r1_a7 ClientIn h.a7 put one no_a7 h.switches;
+        next = h.next;
+        names =
+            one_more_behind (NamesOut connection) put one h.names
+            (first_names of put one.0 one.1 h.config is named);
+      }
+    where
+      by : (x : ℕ) → (2 ≤ x → false ≡ true) → 1 ≤ x → one.0.number ≡ x
+          → one.0.number ≡ 1 + h.a1
+      by x later low at =
+          let none = h.none refl in
+          let small : (2 ≤ x) → ⊥ = λ l. true≢false (sym (later l)) in
+          omega (arith, none, small, low, at)
+
+  -- OUT_R1/A3
+  asks : (of cc oc : Cookie) (window : ℕ) (b : Bool) (c n : ℕ) (way : Way) (put : List OnLeg)
+      (one : OnLeg) → passes is_conn_a1 one.1 ≡ false → passes is_out_r1_a7 one.1 ≡ false
+      → one.1 ≡ Packet (OutR1A3 PROTOCOL_VERSION of cc oc window) → one.0.kind ≡ ClientOut
+      → one.0.number ≡ n → n ≡ c + 1
+      → ((a7 : ℕ) → IsNext way false c n a7 → IsNext way true c n a7)
+      → Known of cc oc b false c n way put → Known of cc oc b true c n way (put ++ one ∷ [])
+  asks of cc oc window b c n way put (leg, m) no_a1 no_a7 is k on next so h = record {
+    config = h.config;
+    a1 = h.a1;
+    most = h.most;
+    none = h.none;
+    begins = stands_stays is_conn_a1 ClientOut 1 h.a1 put (leg, m) no_a1 h.begins;
+    low = h.low;
+    later = h.later;
+    current = λ e. still_has (BeginsOut cc) (co c) put (leg, m) (h.current e);
+    successor = λ e.
+        now_has (BeginsOut oc) ClientOut n put (leg, m) k on
+        (subst (λ (x : Message). HasBegunOut oc (x ∷ [])) (sym is) (inl refl));
+    a7 = h.a7;
+    switches = total_stays is_out_r1_a7 ClientIn h.a7 put (leg, m) no_a7 h.switches;
+    next = so h.a7 h.next;
+    names =
+        one_more_behind (NamesOut connection) put (leg, m) h.names
+        (subst (λ (x : Message). NamesOut connection put (leg, x)) (sym is) (h.config, before));
+  }
+    where
+      begun : (2 ≤ c) ⊎ (0 < total is_conn_a1 ClientOut put) → (x : Bool) → b ≡ x → b ≡ true
+      begun there true e = e
+      begun (inl l) false e = h.later l
+      begun (inr l) false e =
+          let none = h.none e in
+          let all = h.begins.all in absurd (omega (arith, none, all, l))
+
+      before : (k : ℕ) → leg.number ≡ k + 1 → (2 ≤ k) ⊎ (0 < total is_conn_a1 ClientOut put)
+          → HasBegunOut cc (of_leg (co k) put)
+      before k number there =
+          let same : c ≡ k = omega (arith, number, on, next) in
+          subst (λ (x : ℕ). HasBegunOut cc (of_leg (co x) put)) same
+          (h.current (begun (subst (λ (x : ℕ). (2 ≤ x) ⊎ (0 < total is_conn_a1 ClientOut put))
+          (sym same) there) b refl))
+
+  asks_at : (of cc oc : Cookie) (window : ℕ) (b : Bool) (c n : ℕ) (way : Way)
+      (put : List OnLeg) (one : OnLeg) → passes is_conn_a1 one.1 ≡ false
+      → passes is_out_r1_a7 one.1 ≡ false
+      → one.1 ≡ Packet (OutR1A3 PROTOCOL_VERSION of cc oc window) → one.0.kind ≡ ClientOut
+      → one.0.number ≡ n → is_out_way way ≡ true → Known of cc oc b false c n way put
+      → Known of cc oc b true c n way (put ++ one ∷ [])
+  asks_at of cc oc window b c n OutIsAsked put one no_a1 no_a7 is k on at h =
+      asks of cc oc window b c n OutIsAsked put one no_a1 no_a7 is k on h.next.0 (λ a7 next. next)
+      h
+  asks_at of cc oc window b c n OutIsAnswered put one no_a1 no_a7 is k on at h =
+      absurd (true≢false (sym h.next.2))
+  asks_at of cc oc window b c n OutIsSwitched put one no_a1 no_a7 is k on at h =
+      absurd (true≢false (sym h.next.2))
+  asks_at of cc oc window b c n OutIsFinished put one no_a1 no_a7 is k on at h =
+      absurd (true≢false (sym h.next.2))
+  asks_at of cc oc window b c n Free put one no_a1 no_a7 is k on at h =
+      absurd (true≢false (sym at))
+  asks_at of cc oc window b c n InIsAsked put one no_a1 no_a7 is k on at h =
+      absurd (true≢false (sym at))
+  asks_at of cc oc window b c n InIsAnswered put one no_a1 no_a7 is k on at h =
+      absurd (true≢false (sym at))
+
+  -- OUT_R1/A7
+  switches : (of cc oc : Cookie) (b a : Bool) (c n : ℕ) (put : List OnLeg) (one : OnLeg)
+      → passes is_conn_a1 one.1 ≡ false → passes is_out_r1_a7 one.1 ≡ true
+      → one.1 ≡ Packet (OutR1A7 2 oc) → one.0.kind ≡ ClientIn
+      → Known of cc oc b a c n OutIsAnswered put
+      → Known of cc oc b a c n OutIsSwitched (put ++ one ∷ [])
+  switches of cc oc b a c n put (leg, m) no_a1 is_a7 is k h =
+      let next = h.next.0 in
+      let before = h.next.1 in
+      let all = h.switches in
+      let behind : total is_out_r1_a7 ClientIn put + 2 ≡ n = omega (arith, all, next, before) in
+      record {
+        config = h.config;
+        a1 = h.a1;
+        most = h.most;
+        none = h.none;
+        begins = stands_stays is_conn_a1 ClientOut 1 h.a1 put (leg, m) no_a1 h.begins;
+        low = h.low;
+        later = h.later;
+        current = λ e. still_has (BeginsOut cc) (co c) put (leg, m) (h.current e);
+        successor = λ e. still_has (BeginsOut oc) (co n) put (leg, m) (h.successor e);
+        a7 = h.a7 + 1;
+        switches =
+            total_rises is_out_r1_a7 ClientIn h.a7 put (leg, m) is_a7 (of_kind ClientIn leg k)
+            h.switches;
+        next = (h.next.0, h.next.1, h.next.2);
+        names =
+            one_more_behind (NamesOut connection) put (leg, m) h.names
+            (subst (λ (x : Message). NamesOut connection put (leg, x)) (sym is)
+            (subst (λ (x : ℕ). HasBegunOut oc (of_leg (co x) put)) (sym behind)
+            (h.successor h.next.2)));
+      }
+
+  succeeds : (of cc oc : Cookie) (b a : Bool) (c n : ℕ) (put : List OnLeg)
+      → Known of cc oc b a c n OutIsFinished put → Known of oc no_cookie a false n 0 Free put
+  succeeds of cc oc b a c n put h =
+      let next = h.next.0 in
+      let before = h.next.1 in
+      record {
+        config = h.config;
+        a1 = h.a1;
+        most = h.most;
+        none = λ e. absurd (true≢false (sym h.next.2 ∙ e));
+        begins = h.begins;
+        low = omega (arith, next);
+        later = λ l. h.next.2;
+        current = h.successor;
+        successor = λ e. absurd (true≢false (sym e));
+        a7 = h.a7;
+        switches = h.switches;
+        next = omega (arith, next, before);
+        names = h.names;
+      }
+
+  outs : EventsKeep Holds
+  outs = record {
+    comes = λ v came put one q h. h;
+    goes = λ v came put one q o h. goes_unmarked v came put one q h;
+    fills = λ v line came put past h. h;
+    takes = λ v came put h. h;
+    acks = λ v which ack came put one q is h. goes_unmarked v came put one q h;
+    opens = λ v came put one q k o h. h;
+    closes = λ v came put o h. h;
+    ends = λ v came put e h. h;
+    ups_writing = λ v cookie came put down h. h;
+    ups_in = λ v cookie came put h. h;
+    ups_current = λ v cookie came put down h.
+        ups v.connection v.current_cookie v.out_cookie cookie v.current_begun v.out_asked v.current
+        v.out_successor v.way put down h;
+    ups_out = λ v cookie came put h.
+        turned v.connection v.current_cookie v.out_cookie cookie v.current_begun false false
+        v.current v.out_successor v.out_successor v.way v.way put
+        (λ e. absurd (true≢false (sym e))) (λ a7 next. next) h;
+    begins_writing = λ v came put one q greets of is k at h.
+        goes v came put one (ap (λ (m : Marks). m.begins_out) q)
+        (ap (λ (m : Marks). m.asks_out) q) (ap (λ (m : Marks). m.switches) q) h;
+    begins_current = λ v came put one q greets of is k at h.
+        begins_first v.connection v.current_cookie v.out_cookie v.out_asked v.current
+        v.out_successor v.way put one (ap (λ (m : Marks). m.begins_out) q)
+        (ap (λ (m : Marks). m.switches) q) of is k at h;
+    wants_in = λ v came put o l h. h;
+    wants_out = λ v came put one q k o w l h. h;
+    begins_in = λ v came put w l h. turns v Free InIsAsked came put (λ a7 next. next) h;
+    begins_out = λ v came put w l h.
+        turned v.connection v.current_cookie v.out_cookie no_cookie v.current_begun v.out_asked
+        false v.current v.out_successor (v.current + 1) Free OutIsAsked put
+        (λ e. absurd (true≢false (sym e))) (λ a7 next. (refl, next)) h;
+    drops_in = λ v came put w l h. h;
+    drops_out = λ v came put w l h. h;
+    asks_in = λ v came put one q is k on at h.
+        goes v came put one (ap (λ (m : Marks). m.begins_out) q)
+        (ap (λ (m : Marks). m.asks_out) q) (ap (λ (m : Marks). m.switches) q) h;
+    answers_in = λ v came put one q k asked h.
+        turns v InIsAsked InIsAnswered came put (λ a7 next. next) h;
+    hands_over = λ v w e came put one q is k on h.
+        goes (record v { way = Free }) came put one (ap (λ (m : Marks). m.begins_out) q)
+        (ap (λ (m : Marks). m.asks_out) q) (ap (λ (m : Marks). m.switches) q)
+        (turns v InIsAnswered Free came put (λ a7 next. next) h);
+    asks_out = λ v window came put one q is k on at h.
+        asks_at v.connection v.current_cookie v.out_cookie window v.current_begun v.current
+        v.out_successor v.way put one (ap (λ (m : Marks). m.begins_out) q)
+        (ap (λ (m : Marks). m.switches) q) is k on at h;
+    answers_out = λ v came put one q k on asked h.
+        turns v OutIsAsked OutIsAnswered came put (λ a7 next. (next.0, next.1, asked)) h;
+    switches = λ v came put one q is k h.
+        switches v.connection v.current_cookie v.out_cookie v.current_begun v.out_asked v.current
+        v.out_successor put one (ap (λ (m : Marks). m.begins_out) q)
+        (ap (λ (m : Marks). m.switches) q) is k h;
+    finishes = λ v came put one q k on h.
+        turns v OutIsSwitched OutIsFinished came put (λ a7 next. next) h;
+    succeeds = λ v came put h.
+        succeeds v.connection v.current_cookie v.out_cookie v.current_begun v.out_asked v.current
+        v.out_successor put h;
+  }
+
+  named : (p : Passage ClientRole) → Holds (view p.role) p.came p.put → NamesOuts connection p
+  named p h =
+      let all = h.begins.all in
+      let most = h.most in
+      record {
+        names = h.names;
+        once = omega (arith, all, most);
+        begins_on = stands_on is_conn_a1 ClientOut 1 h.a1 p.put h.begins;
+      }
+
+pub names_outs : (config : ClientConfig) (moves : List EndMove)
+    → AreAllowedAtEnd rules acts (end_started (first config)) moves
+    → NamesOuts config.connection
+    (all_end_moved rules acts (end_started (first config)) moves).passage
+names_outs config moves allowed =
+    let of = config.connection in
+    named of (all_end_moved rules acts (end_started (first config)) moves).passage
+    (allowed_moves_keep rules acts (keeps.Holds (Holds of) (outs of))
+    (client_keeps (Holds of) (outs of)) (end_started (first config)) moves allowed
+    (record {
+      config = refl;
+      a1 = 0;
+      most = omega arith;
+      none = λ e. refl;
+      begins = stands_none is_conn_a1 ClientOut 1;
+      low = omega arith;
+      later = λ l. absurd (omega (arith, l));
+      current = λ e. absurd (true≢false (sym e));
+      successor = λ e. absurd (true≢false (sym e));
+      a7 = 0;
+      switches = refl;
+      next = refl;
+      names = tt;
+    }))
