@@ -19,8 +19,9 @@ use Rattle.rh_client.proofs.ClientLogs.{of_kind}
 use Rattle.rh_client_counts.specs.Counting.{is_conn_b1, is_in_r1_a1, is_in_r1_a5, total}
 use Rattle.rh_client_counts.specs.Naming.{EachBehind, NamesIn, NamesIns}
 use Rattle.rh_client_counts.proofs.Allowed.{allowed_moves_keep}
-use Rattle.rh_client_counts.proofs.Standing.{Stands, passes, stands_none, stands_stays, stands_next, stands_on}
-use Rattle.rh_client_counts.proofs.Beginning.{one_more_behind, still_has, now_has}
+use Rattle.rh_client_counts.proofs.Standing.{passes, stands_on}
+use Rattle.rh_client_counts.proofs.Beginning.{one_more_behind}
+use Rattle.rh_client_counts.proofs.Began.{Began, began_not, began_more, began_up, began_anew, began_first, began_asked, began_follows, began_before}
 use Rattle.rh_client_counts.proofs.Views.{View, view, Way, Free, InIsAsked, InIsAnswered, OutIsAsked, OutIsAnswered, OutIsSwitched, OutIsFinished, is_in_way, Marks, marks, unmarked, Names, EventsKeep}
 use Rattle.rh_client_counts.proofs.Rows as keeps
 use Rattle.rh_client_counts.proofs.Moves.{client_keeps}
@@ -37,14 +38,7 @@ module _ (connection : Cookie) where
   record Known (of wc ic : Cookie) (begun asked : Bool) (w n : ℕ) (way : Way)
       (put : List OnLeg) : Type 0 where
     config : of ≡ connection
-    b1 : ℕ
-    most : b1 ≤ 1
-    none : begun ≡ false → b1 ≡ 0
-    begins : Stands is_conn_b1 ClientIn 1 b1 put
-    low : 1 ≤ w
-    later : 2 ≤ w → begun ≡ true
-    writing : begun ≡ true → HasBegunIn wc (of_leg (ci w) put)
-    successor : asked ≡ true → HasBegunIn ic (of_leg (ci n) put)
+    began : Began ClientIn is_conn_b1 BeginsIn wc ic begun asked w n put
     next : IsNext way asked w n
     names : EachBehind (NamesIn connection) [] put
 
@@ -70,14 +64,7 @@ module _ (connection : Cookie) where
       → Known of wc ic b a w n way put → Known of wc ic b a w n way (put ++ one ∷ [])
   more of wc ic b a w n way put one other named h = record {
     config = h.config;
-    b1 = h.b1;
-    most = h.most;
-    none = h.none;
-    begins = stands_stays is_conn_b1 ClientIn 1 h.b1 put one other h.begins;
-    low = h.low;
-    later = h.later;
-    writing = λ e. still_has (BeginsIn wc) (ci w) put one (h.writing e);
-    successor = λ e. still_has (BeginsIn ic) (ci n) put one (h.successor e);
+    began = began_more ClientIn is_conn_b1 BeginsIn wc ic b a w n put one other h.began;
     next = h.next;
     names = one_more_behind (NamesIn connection) put one h.names named;
   }
@@ -95,59 +82,46 @@ module _ (connection : Cookie) where
       goes v came put one (ap (λ (m : Marks). m.begins_in) q) (ap (λ (m : Marks). m.asks_in) q)
       (ap (λ (m : Marks). m.hands_over) q) h
 
-  -- on another way, with another successor
-  turned : (of wc ic jc : Cookie) (b a c : Bool) (w n m : ℕ) (way other : Way)
-      (put : List OnLeg) → (c ≡ true → HasBegunIn jc (of_leg (ci m) put))
-      → (IsNext way a w n → IsNext other c w m) → Known of wc ic b a w n way put
-      → Known of wc jc b c w m other put
-  turned of wc ic jc b a c w n m way other put begun so h = record {
-    config = h.config;
-    b1 = h.b1;
-    most = h.most;
-    none = h.none;
-    begins = h.begins;
-    low = h.low;
-    later = h.later;
-    writing = h.writing;
-    successor = begun;
-    next = so h.next;
-    names = h.names;
-  }
-
+  -- on another way
   turns : (v : View) (way other : Way) (came put : List OnLeg)
       → (IsNext way v.in_asked v.writing v.in_successor
       → IsNext other v.in_asked v.writing v.in_successor)
       → Holds (record v { way = way }) came put → Holds (record v { way = other }) came put
   turns v way other came put so h =
-      turned v.connection v.writing_cookie v.in_cookie v.in_cookie v.writing_begun v.in_asked
-      v.in_asked v.writing v.in_successor v.in_successor way other put h.successor so h
+      record { config = h.config; began = h.began; next = so h.next; names = h.names }
 
-  -- the writing channel is up anew
+  -- another successor
+  anew : (of wc ic jc : Cookie) (b a : Bool) (w n m : ℕ) (way other : Way) (put : List OnLeg)
+      → (IsNext way a w n → IsNext other false w m) → Known of wc ic b a w n way put
+      → Known of wc jc b false w m other put
+  anew of wc ic jc b a w n m way other put so h = record {
+    config = h.config;
+    began = began_anew ClientIn is_conn_b1 BeginsIn wc ic jc b a w n m put h.began;
+    next = so h.next;
+    names = h.names;
+  }
+
+  -- it has another number
+  apart : (way : Way) (a : Bool) (w n : ℕ) → IsNext way a w n → is_in_way way ≡ true → n ≡ w → ⊥
+  apart InIsAsked a w n next is same = omega (arith, next, same)
+  apart InIsAnswered a w n at is same = let next = at.0 in omega (arith, next, same)
+  apart Free a w n next is same = absurd (true≢false (sym is))
+  apart OutIsAsked a w n next is same = absurd (true≢false (sym is))
+  apart OutIsAnswered a w n next is same = absurd (true≢false (sym is))
+  apart OutIsSwitched a w n next is same = absurd (true≢false (sym is))
+  apart OutIsFinished a w n next is same = absurd (true≢false (sym is))
+
+  -- the writing channel is up
   ups : (of wc ic c : Cookie) (b a : Bool) (w n : ℕ) (way : Way) (put : List OnLeg)
       → (b ≡ false) ⊎ ((is_in_way way ≡ true) × (n ≡ w)) → Known of wc ic b a w n way put
       → Known of c ic false a w n way put
   ups of wc ic c b a w n way put (inl down) h = record {
     config = h.config;
-    b1 = h.b1;
-    most = h.most;
-    none = λ e. h.none down;
-    begins = h.begins;
-    low = h.low;
-    later = λ l. absurd (true≢false (sym (h.later l) ∙ down));
-    writing = λ e. absurd (true≢false (sym e));
-    successor = h.successor;
+    began = began_up ClientIn is_conn_b1 BeginsIn wc ic c b a w n put down h.began;
     next = h.next;
     names = h.names;
   }
-  ups of wc ic c b a w n InIsAsked put (inr (is, same)) h =
-      let next = h.next in absurd (omega (arith, next, same))
-  ups of wc ic c b a w n InIsAnswered put (inr (is, same)) h =
-      let next = h.next.0 in absurd (omega (arith, next, same))
-  ups of wc ic c b a w n Free put (inr (is, same)) h = absurd (true≢false (sym is))
-  ups of wc ic c b a w n OutIsAsked put (inr (is, same)) h = absurd (true≢false (sym is))
-  ups of wc ic c b a w n OutIsAnswered put (inr (is, same)) h = absurd (true≢false (sym is))
-  ups of wc ic c b a w n OutIsSwitched put (inr (is, same)) h = absurd (true≢false (sym is))
-  ups of wc ic c b a w n OutIsFinished put (inr (is, same)) h = absurd (true≢false (sym is))
+  ups of wc ic c b a w n way put (inr (is, same)) h = absurd (apart way a w n h.next is same)
 
   -- CONN/B1 of the connection names it
   first_names : (of : Cookie) (put : List OnLeg) (leg : Leg) (m : Message) → of ≡ connection
@@ -163,73 +137,35 @@ module _ (connection : Cookie) where
       (one : OnLeg) → passes is_conn_b1 one.1 ≡ true → Names of one.1
       → HasBegunIn wc (one.1 ∷ []) → one.0.kind ≡ ClientIn → one.0.number ≡ w
       → Known of wc ic false a w n way put → Known of wc ic true a w n way (put ++ one ∷ [])
-  begins_first of wc ic a w n way put one is named begun k on h =
-      let none = h.none refl in
-      let low = h.low in
-      record {
-        config = h.config;
-        b1 = h.b1 + 1;
-        most = omega (arith, none);
-        none = λ e. absurd (true≢false e);
-        begins =
-            stands_next is_conn_b1 ClientIn 1 h.b1 put one is (of_kind ClientIn one.0 k)
-            (by w h.later low on) h.begins;
-        low = h.low;
-        later = λ l. refl;
-        writing = λ e. now_has (BeginsIn wc) ClientIn w put one k on begun;
-        successor = λ e. still_has (BeginsIn ic) (ci n) put one (h.successor e);
-        next = h.next;
-        names =
-            one_more_behind (NamesIn connection) put one h.names
-            (first_names of put one.0 one.1 h.config is named);
-      }
-    where
-      by : (x : ℕ) → (2 ≤ x → false ≡ true) → 1 ≤ x → one.0.number ≡ x
-          → one.0.number ≡ 1 + h.b1
-      by x later low at =
-          let none = h.none refl in
-          let small : (2 ≤ x) → ⊥ = λ l. true≢false (sym (later l)) in
-          omega (arith, none, small, low, at)
+  begins_first of wc ic a w n way put one is named begun k at h = record {
+    config = h.config;
+    began =
+        began_first ClientIn is_conn_b1 BeginsIn wc ic a w n put one is begun k at h.began;
+    next = h.next;
+    names =
+        one_more_behind (NamesIn connection) put one h.names
+        (first_names of put one.0 one.1 h.config is named);
+  }
 
   -- IN_R1/A1
   asks : (of wc ic : Cookie) (b : Bool) (w n : ℕ) (way : Way) (put : List OnLeg) (one : OnLeg)
       → passes is_conn_b1 one.1 ≡ false
       → one.1 ≡ Packet (InR1A1 PROTOCOL_VERSION of wc ic) → one.0.kind ≡ ClientIn
-      → one.0.number ≡ n → is_in_way way ≡ true → n ≡ w + 1
-      → Known of wc ic b false w n way put → IsNext way true w n
-      → Known of wc ic b true w n way (put ++ one ∷ [])
-  asks of wc ic b w n way put (leg, m) other is k on at next h later = record {
+      → one.0.number ≡ n → n ≡ w + 1 → IsNext way true w n
+      → Known of wc ic b false w n way put → Known of wc ic b true w n way (put ++ one ∷ [])
+  asks of wc ic b w n way put (leg, m) other is k at next later h = record {
     config = h.config;
-    b1 = h.b1;
-    most = h.most;
-    none = h.none;
-    begins = stands_stays is_conn_b1 ClientIn 1 h.b1 put (leg, m) other h.begins;
-    low = h.low;
-    later = h.later;
-    writing = λ e. still_has (BeginsIn wc) (ci w) put (leg, m) (h.writing e);
-    successor = λ e.
-        now_has (BeginsIn ic) ClientIn n put (leg, m) k on
-        (subst (λ (x : Message). HasBegunIn ic (x ∷ [])) (sym is) (inl refl));
+    began =
+        began_asked ClientIn is_conn_b1 BeginsIn wc ic b w n put (leg, m) other
+        (subst (λ (x : Message). HasBegunIn ic (x ∷ [])) (sym is) (inl refl)) k at h.began;
     next = later;
     names =
         one_more_behind (NamesIn connection) put (leg, m) h.names
-        (subst (λ (x : Message). NamesIn connection put (leg, x)) (sym is) (h.config, before));
+        (subst (λ (x : Message). NamesIn connection put (leg, x)) (sym is)
+        (h.config, λ j number.
+        began_before ClientIn is_conn_b1 BeginsIn wc ic b false w n put next h.began j
+        (sym at ∙ number)));
   }
-    where
-      begun : (2 ≤ w) ⊎ (0 < total is_conn_b1 ClientIn put) → (x : Bool) → b ≡ x → b ≡ true
-      begun there true e = e
-      begun (inl l) false e = h.later l
-      begun (inr l) false e =
-          let none = h.none e in
-          let all = h.begins.all in absurd (omega (arith, none, all, l))
-
-      before : (k : ℕ) → leg.number ≡ k + 1 → (2 ≤ k) ⊎ (0 < total is_conn_b1 ClientIn put)
-          → HasBegunIn wc (of_leg (ci k) put)
-      before k number there =
-          let same : w ≡ k = omega (arith, number, on, next) in
-          subst (λ (x : ℕ). HasBegunIn wc (of_leg (ci x) put)) same
-          (h.writing (begun (subst (λ (x : ℕ). (2 ≤ x) ⊎ (0 < total is_conn_b1 ClientIn put))
-          (sym same) there) b refl))
 
   asks_at : (of wc ic : Cookie) (b : Bool) (w n : ℕ) (way : Way) (put : List OnLeg) (one : OnLeg)
       → passes is_conn_b1 one.1 ≡ false
@@ -237,7 +173,7 @@ module _ (connection : Cookie) where
       → one.0.number ≡ n → is_in_way way ≡ true → Known of wc ic b false w n way put
       → Known of wc ic b true w n way (put ++ one ∷ [])
   asks_at of wc ic b w n InIsAsked put one other is k on at h =
-      asks of wc ic b w n InIsAsked put one other is k on at h.next h h.next
+      asks of wc ic b w n InIsAsked put one other is k on h.next h.next h
   asks_at of wc ic b w n InIsAnswered put one other is k on at h =
       absurd (true≢false (sym h.next.1))
   asks_at of wc ic b w n Free put one other is k on at h = absurd (true≢false (sym at))
@@ -256,20 +192,16 @@ module _ (connection : Cookie) where
       let behind : leg.number + 1 ≡ n = omega (arith, on, next) in
       record {
         config = h.config;
-        b1 = h.b1;
-        most = h.most;
-        none = λ e. absurd (true≢false (sym h.next.1 ∙ e));
-        begins = stands_stays is_conn_b1 ClientIn 1 h.b1 put (leg, m) other h.begins;
-        low = omega (arith, next);
-        later = λ l. h.next.1;
-        writing = λ e. still_has (BeginsIn ic) (ci n) put (leg, m) (h.successor e);
-        successor = λ e. absurd (true≢false (sym e));
+        began =
+            began_more ClientIn is_conn_b1 BeginsIn ic no_cookie a false n 0 put (leg, m) other
+            (began_follows ClientIn is_conn_b1 BeginsIn wc ic no_cookie b a w n 0 put h.next.1
+            next h.began);
         next = tt;
         names =
             one_more_behind (NamesIn connection) put (leg, m) h.names
             (subst (λ (x : Message). NamesIn connection put (leg, x)) (sym is)
             (subst (λ (x : ℕ). HasBegunIn ic (of_leg (ci x) put)) (sym behind)
-            (h.successor h.next.1)));
+            (h.began.successor h.next.1)));
       }
 
   ins : EventsKeep Holds
@@ -286,9 +218,8 @@ module _ (connection : Cookie) where
         ups v.connection v.writing_cookie v.in_cookie cookie v.writing_begun v.in_asked v.writing
         v.in_successor v.way put down h;
     ups_in = λ v cookie came put h.
-        turned v.connection v.writing_cookie v.in_cookie cookie v.writing_begun false false
-        v.writing v.in_successor v.in_successor v.way v.way put (λ e. absurd (true≢false (sym e)))
-        (λ next. next) h;
+        anew v.connection v.writing_cookie v.in_cookie cookie v.writing_begun false v.writing
+        v.in_successor v.in_successor v.way v.way put (λ next. next) h;
     ups_current = λ v cookie came put down h. h;
     ups_out = λ v cookie came put h. h;
     begins_writing = λ v came put one q greets of is k at h.
@@ -300,9 +231,8 @@ module _ (connection : Cookie) where
     wants_in = λ v came put o l h. h;
     wants_out = λ v came put one q k o w l h. h;
     begins_in = λ v came put w l h.
-        turned v.connection v.writing_cookie v.in_cookie no_cookie v.writing_begun v.in_asked
-        false v.writing v.in_successor (v.writing + 1) Free InIsAsked put
-        (λ e. absurd (true≢false (sym e))) (λ next. refl) h;
+        anew v.connection v.writing_cookie v.in_cookie no_cookie v.writing_begun v.in_asked
+        v.writing v.in_successor (v.writing + 1) Free InIsAsked put (λ next. refl) h;
     begins_out = λ v came put w l h. turns v Free OutIsAsked came put (λ next. tt) h;
     drops_in = λ v came put w l h. h;
     drops_out = λ v came put w l h. h;
@@ -330,12 +260,12 @@ module _ (connection : Cookie) where
 
   named : (p : Passage ClientRole) → Holds (view p.role) p.came p.put → NamesIns connection p
   named p h =
-      let all = h.begins.all in
-      let most = h.most in
+      let all = h.began.firsts.all in
+      let most = h.began.most in
       record {
         names = h.names;
         once = omega (arith, all, most);
-        begins_on = stands_on is_conn_b1 ClientIn 1 h.b1 p.put h.begins;
+        begins_on = stands_on is_conn_b1 ClientIn 1 h.began.count p.put h.began.firsts;
       }
 
 pub names_ins : (config : ClientConfig) (moves : List EndMove)
@@ -349,14 +279,7 @@ names_ins config moves allowed =
     (client_keeps (Holds of) (ins of)) (end_started (first config)) moves allowed
     (record {
       config = refl;
-      b1 = 0;
-      most = omega arith;
-      none = λ e. refl;
-      begins = stands_none is_conn_b1 ClientIn 1;
-      low = omega arith;
-      later = λ l. absurd (omega (arith, l));
-      writing = λ e. absurd (true≢false (sym e));
-      successor = λ e. absurd (true≢false (sym e));
+      began = began_not ClientIn is_conn_b1 BeginsIn no_cookie no_cookie 0;
       next = tt;
       names = tt;
     }))

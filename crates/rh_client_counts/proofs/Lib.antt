@@ -9,5 +9,6 @@ pub mod OutCounts
 pub mod Wishes
 pub mod Opens
 pub mod Beginning
+pub mod Began
 pub mod InNames
 pub mod OutNames

@@ -19,8 +19,9 @@ use Rattle.rh_client.proofs.ClientLogs.{of_kind}
 use Rattle.rh_client_counts.specs.Counting.{is_conn_a1, is_out_r1_a3, is_out_r1_a7, total}
 use Rattle.rh_client_counts.specs.Naming.{EachBehind, NamesOut, NamesOuts}
 use Rattle.rh_client_counts.proofs.Allowed.{allowed_moves_keep}
-use Rattle.rh_client_counts.proofs.Standing.{Stands, passes, stands_none, stands_stays, stands_next, stands_on, total_stays, total_rises}
-use Rattle.rh_client_counts.proofs.Beginning.{one_more_behind, still_has, now_has}
+use Rattle.rh_client_counts.proofs.Standing.{passes, stands_on, total_stays, total_rises}
+use Rattle.rh_client_counts.proofs.Beginning.{one_more_behind}
+use Rattle.rh_client_counts.proofs.Began.{Began, began_not, began_more, began_up, began_anew, began_first, began_asked, began_follows, began_before}
 use Rattle.rh_client_counts.proofs.Views.{View, view, Way, Free, InIsAsked, InIsAnswered, OutIsAsked, OutIsAnswered, OutIsSwitched, OutIsFinished, is_out_way, Marks, marks, unmarked, Names, EventsKeep}
 use Rattle.rh_client_counts.proofs.Rows as keeps
 use Rattle.rh_client_counts.proofs.Moves.{client_keeps}
@@ -40,14 +41,7 @@ module _ (connection : Cookie) where
   record Known (of cc oc : Cookie) (begun asked : Bool) (c n : ℕ) (way : Way)
       (put : List OnLeg) : Type 0 where
     config : of ≡ connection
-    a1 : ℕ
-    most : a1 ≤ 1
-    none : begun ≡ false → a1 ≡ 0
-    begins : Stands is_conn_a1 ClientOut 1 a1 put
-    low : 1 ≤ c
-    later : 2 ≤ c → begun ≡ true
-    current : begun ≡ true → HasBegunOut cc (of_leg (co c) put)
-    successor : asked ≡ true → HasBegunOut oc (of_leg (co n) put)
+    began : Began ClientOut is_conn_a1 BeginsOut cc oc begun asked c n put
     a7 : ℕ
     switches : total is_out_r1_a7 ClientIn put ≡ a7
     next : IsNext way asked c n a7
@@ -75,14 +69,7 @@ module _ (connection : Cookie) where
       → Known of cc oc b a c n way (put ++ one ∷ [])
   more of cc oc b a c n way put one no_a1 no_a7 named h = record {
     config = h.config;
-    a1 = h.a1;
-    most = h.most;
-    none = h.none;
-    begins = stands_stays is_conn_a1 ClientOut 1 h.a1 put one no_a1 h.begins;
-    low = h.low;
-    later = h.later;
-    current = λ e. still_has (BeginsOut cc) (co c) put one (h.current e);
-    successor = λ e. still_has (BeginsOut oc) (co n) put one (h.successor e);
+    began = began_more ClientOut is_conn_a1 BeginsOut cc oc b a c n put one no_a1 h.began;
     a7 = h.a7;
     switches = total_stays is_out_r1_a7 ClientIn h.a7 put one no_a7 h.switches;
     next = h.next;
@@ -102,36 +89,34 @@ module _ (connection : Cookie) where
       goes v came put one (ap (λ (m : Marks). m.begins_out) q) (ap (λ (m : Marks). m.asks_out) q)
       (ap (λ (m : Marks). m.switches) q) h
 
-  -- on another way, with another successor
-  turned : (of cc oc jc : Cookie) (b a x : Bool) (c n m : ℕ) (way other : Way)
-      (put : List OnLeg) → (x ≡ true → HasBegunOut jc (of_leg (co m) put))
-      → ((a7 : ℕ) → IsNext way a c n a7 → IsNext other x c m a7)
-      → Known of cc oc b a c n way put → Known of cc jc b x c m other put
-  turned of cc oc jc b a x c n m way other put begun so h = record {
+  -- on another way
+  turns : (v : View) (way other : Way) (came put : List OnLeg)
+      → ((a7 : ℕ) → IsNext way v.out_asked v.current v.out_successor a7
+      → IsNext other v.out_asked v.current v.out_successor a7)
+      → Holds (record v { way = way }) came put → Holds (record v { way = other }) came put
+  turns v way other came put so h = record {
     config = h.config;
-    a1 = h.a1;
-    most = h.most;
-    none = h.none;
-    begins = h.begins;
-    low = h.low;
-    later = h.later;
-    current = h.current;
-    successor = begun;
+    began = h.began;
     a7 = h.a7;
     switches = h.switches;
     next = so h.a7 h.next;
     names = h.names;
   }
 
-  turns : (v : View) (way other : Way) (came put : List OnLeg)
-      → ((a7 : ℕ) → IsNext way v.out_asked v.current v.out_successor a7
-      → IsNext other v.out_asked v.current v.out_successor a7)
-      → Holds (record v { way = way }) came put → Holds (record v { way = other }) came put
-  turns v way other came put so h =
-      turned v.connection v.current_cookie v.out_cookie v.out_cookie v.current_begun v.out_asked
-      v.out_asked v.current v.out_successor v.out_successor way other put h.successor so h
+  -- another successor
+  anew : (of cc oc jc : Cookie) (b a : Bool) (c n m : ℕ) (way other : Way) (put : List OnLeg)
+      → ((a7 : ℕ) → IsNext way a c n a7 → IsNext other false c m a7)
+      → Known of cc oc b a c n way put → Known of cc jc b false c m other put
+  anew of cc oc jc b a c n m way other put so h = record {
+    config = h.config;
+    began = began_anew ClientOut is_conn_a1 BeginsOut cc oc jc b a c n m put h.began;
+    a7 = h.a7;
+    switches = h.switches;
+    next = so h.a7 h.next;
+    names = h.names;
+  }
 
-  -- the successor has another number
+  -- it has another number
   apart : (way : Way) (a : Bool) (c n a7 : ℕ) → IsNext way a c n a7 → is_out_way way ≡ true
       → n ≡ c → ⊥
   apart OutIsAsked a c n a7 at is same = let next = at.0 in omega (arith, next, same)
@@ -142,20 +127,13 @@ module _ (connection : Cookie) where
   apart InIsAsked a c n a7 at is same = absurd (true≢false (sym is))
   apart InIsAnswered a c n a7 at is same = absurd (true≢false (sym is))
 
-  -- the current channel is up anew
+  -- the current channel is up
   ups : (of cc oc dc : Cookie) (b a : Bool) (c n : ℕ) (way : Way) (put : List OnLeg)
       → (b ≡ false) ⊎ ((is_out_way way ≡ true) × (n ≡ c)) → Known of cc oc b a c n way put
       → Known of dc oc false a c n way put
   ups of cc oc dc b a c n way put (inl down) h = record {
     config = h.config;
-    a1 = h.a1;
-    most = h.most;
-    none = λ e. h.none down;
-    begins = h.begins;
-    low = h.low;
-    later = λ l. absurd (true≢false (sym (h.later l) ∙ down));
-    current = λ e. absurd (true≢false (sym e));
-    successor = h.successor;
+    began = began_up ClientOut is_conn_a1 BeginsOut cc oc dc b a c n put down h.began;
     a7 = h.a7;
     switches = h.switches;
     next = h.next;
@@ -179,35 +157,17 @@ module _ (connection : Cookie) where
       → Names of one.1 → HasBegunOut cc (one.1 ∷ []) → one.0.kind ≡ ClientOut
       → one.0.number ≡ c → Known of cc oc false a c n way put
       → Known of cc oc true a c n way (put ++ one ∷ [])
-  begins_first of cc oc a c n way put one is no_a7 named begun k on h =
-      let none = h.none refl in
-      let low = h.low in
-      record {
-        config = h.config;
-        a1 = h.a1 + 1;
-        most = omega (arith, none);
-        none = λ e. absurd (true≢false e);
-        begins =
-            stands_next is_conn_a1 ClientOut 1 h.a1 put one is (of_kind ClientOut one.0 k)
-            (by c h.later low on) h.begins;
-        low = h.low;
-        later = λ l. refl;
-        current = λ e. now_has (BeginsOut cc) ClientOut c put one k on begun;
-        successor = λ e. still_has (BeginsOut oc) (co n) put one (h.successor e);
-        a7 = h.a7;
-        switches = total_stays is_out_r1_a7 ClientIn h.a7 put one no_a7 h.switches;
-        next = h.next;
-        names =
-            one_more_behind (NamesOut connection) put one h.names
-            (first_names of put one.0 one.1 h.config is named);
-      }
-    where
-      by : (x : ℕ) → (2 ≤ x → false ≡ true) → 1 ≤ x → one.0.number ≡ x
-          → one.0.number ≡ 1 + h.a1
-      by x later low at =
-          let none = h.none refl in
-          let small : (2 ≤ x) → ⊥ = λ l. true≢false (sym (later l)) in
-          omega (arith, none, small, low, at)
+  begins_first of cc oc a c n way put one is no_a7 named begun k at h = record {
+    config = h.config;
+    began =
+        began_first ClientOut is_conn_a1 BeginsOut cc oc a c n put one is begun k at h.began;
+    a7 = h.a7;
+    switches = total_stays is_out_r1_a7 ClientIn h.a7 put one no_a7 h.switches;
+    next = h.next;
+    names =
+        one_more_behind (NamesOut connection) put one h.names
+        (first_names of put one.0 one.1 h.config is named);
+  }
 
   -- OUT_R1/A3
   asks : (of cc oc : Cookie) (window : ℕ) (b : Bool) (c n : ℕ) (way : Way) (put : List OnLeg)
@@ -216,40 +176,21 @@ module _ (connection : Cookie) where
       → one.0.number ≡ n → n ≡ c + 1
       → ((a7 : ℕ) → IsNext way false c n a7 → IsNext way true c n a7)
       → Known of cc oc b false c n way put → Known of cc oc b true c n way (put ++ one ∷ [])
-  asks of cc oc window b c n way put (leg, m) no_a1 no_a7 is k on next so h = record {
+  asks of cc oc window b c n way put (leg, m) no_a1 no_a7 is k at next so h = record {
     config = h.config;
-    a1 = h.a1;
-    most = h.most;
-    none = h.none;
-    begins = stands_stays is_conn_a1 ClientOut 1 h.a1 put (leg, m) no_a1 h.begins;
-    low = h.low;
-    later = h.later;
-    current = λ e. still_has (BeginsOut cc) (co c) put (leg, m) (h.current e);
-    successor = λ e.
-        now_has (BeginsOut oc) ClientOut n put (leg, m) k on
-        (subst (λ (x : Message). HasBegunOut oc (x ∷ [])) (sym is) (inl refl));
+    began =
+        began_asked ClientOut is_conn_a1 BeginsOut cc oc b c n put (leg, m) no_a1
+        (subst (λ (x : Message). HasBegunOut oc (x ∷ [])) (sym is) (inl refl)) k at h.began;
     a7 = h.a7;
     switches = total_stays is_out_r1_a7 ClientIn h.a7 put (leg, m) no_a7 h.switches;
     next = so h.a7 h.next;
     names =
         one_more_behind (NamesOut connection) put (leg, m) h.names
-        (subst (λ (x : Message). NamesOut connection put (leg, x)) (sym is) (h.config, before));
+        (subst (λ (x : Message). NamesOut connection put (leg, x)) (sym is)
+        (h.config, λ j number.
+        began_before ClientOut is_conn_a1 BeginsOut cc oc b false c n put next h.began j
+        (sym at ∙ number)));
   }
-    where
-      begun : (2 ≤ c) ⊎ (0 < total is_conn_a1 ClientOut put) → (x : Bool) → b ≡ x → b ≡ true
-      begun there true e = e
-      begun (inl l) false e = h.later l
-      begun (inr l) false e =
-          let none = h.none e in
-          let all = h.begins.all in absurd (omega (arith, none, all, l))
-
-      before : (k : ℕ) → leg.number ≡ k + 1 → (2 ≤ k) ⊎ (0 < total is_conn_a1 ClientOut put)
-          → HasBegunOut cc (of_leg (co k) put)
-      before k number there =
-          let same : c ≡ k = omega (arith, number, on, next) in
-          subst (λ (x : ℕ). HasBegunOut cc (of_leg (co x) put)) same
-          (h.current (begun (subst (λ (x : ℕ). (2 ≤ x) ⊎ (0 < total is_conn_a1 ClientOut put))
-          (sym same) there) b refl))
 
   asks_at : (of cc oc : Cookie) (window : ℕ) (b : Bool) (c n : ℕ) (way : Way)
       (put : List OnLeg) (one : OnLeg) → passes is_conn_a1 one.1 ≡ false
@@ -286,14 +227,8 @@ module _ (connection : Cookie) where
       let behind : total is_out_r1_a7 ClientIn put + 2 ≡ n = omega (arith, all, next, before) in
       record {
         config = h.config;
-        a1 = h.a1;
-        most = h.most;
-        none = h.none;
-        begins = stands_stays is_conn_a1 ClientOut 1 h.a1 put (leg, m) no_a1 h.begins;
-        low = h.low;
-        later = h.later;
-        current = λ e. still_has (BeginsOut cc) (co c) put (leg, m) (h.current e);
-        successor = λ e. still_has (BeginsOut oc) (co n) put (leg, m) (h.successor e);
+        began =
+            began_more ClientOut is_conn_a1 BeginsOut cc oc b a c n put (leg, m) no_a1 h.began;
         a7 = h.a7 + 1;
         switches =
             total_rises is_out_r1_a7 ClientIn h.a7 put (leg, m) is_a7 (of_kind ClientIn leg k)
@@ -303,7 +238,7 @@ module _ (connection : Cookie) where
             one_more_behind (NamesOut connection) put (leg, m) h.names
             (subst (λ (x : Message). NamesOut connection put (leg, x)) (sym is)
             (subst (λ (x : ℕ). HasBegunOut oc (of_leg (co x) put)) (sym behind)
-            (h.successor h.next.2)));
+            (h.began.successor h.next.2)));
       }
 
   succeeds : (of cc oc : Cookie) (b a : Bool) (c n : ℕ) (put : List OnLeg)
@@ -313,14 +248,9 @@ module _ (connection : Cookie) where
       let before = h.next.1 in
       record {
         config = h.config;
-        a1 = h.a1;
-        most = h.most;
-        none = λ e. absurd (true≢false (sym h.next.2 ∙ e));
-        begins = h.begins;
-        low = omega (arith, next);
-        later = λ l. h.next.2;
-        current = h.successor;
-        successor = λ e. absurd (true≢false (sym e));
+        began =
+            began_follows ClientOut is_conn_a1 BeginsOut cc oc no_cookie b a c n 0 put h.next.2
+            next h.began;
         a7 = h.a7;
         switches = h.switches;
         next = omega (arith, next, before);
@@ -343,9 +273,8 @@ module _ (connection : Cookie) where
         ups v.connection v.current_cookie v.out_cookie cookie v.current_begun v.out_asked v.current
         v.out_successor v.way put down h;
     ups_out = λ v cookie came put h.
-        turned v.connection v.current_cookie v.out_cookie cookie v.current_begun false false
-        v.current v.out_successor v.out_successor v.way v.way put
-        (λ e. absurd (true≢false (sym e))) (λ a7 next. next) h;
+        anew v.connection v.current_cookie v.out_cookie cookie v.current_begun false v.current
+        v.out_successor v.out_successor v.way v.way put (λ a7 next. next) h;
     begins_writing = λ v came put one q greets of is k at h.
         goes v came put one (ap (λ (m : Marks). m.begins_out) q)
         (ap (λ (m : Marks). m.asks_out) q) (ap (λ (m : Marks). m.switches) q) h;
@@ -357,9 +286,8 @@ module _ (connection : Cookie) where
     wants_out = λ v came put one q k o w l h. h;
     begins_in = λ v came put w l h. turns v Free InIsAsked came put (λ a7 next. next) h;
     begins_out = λ v came put w l h.
-        turned v.connection v.current_cookie v.out_cookie no_cookie v.current_begun v.out_asked
-        false v.current v.out_successor (v.current + 1) Free OutIsAsked put
-        (λ e. absurd (true≢false (sym e))) (λ a7 next. (refl, next)) h;
+        anew v.connection v.current_cookie v.out_cookie no_cookie v.current_begun v.out_asked
+        v.current v.out_successor (v.current + 1) Free OutIsAsked put (λ a7 next. (refl, next)) h;
     drops_in = λ v came put w l h. h;
     drops_out = λ v came put w l h. h;
     asks_in = λ v came put one q is k on at h.
@@ -390,12 +318,12 @@ module _ (connection : Cookie) where
 
   named : (p : Passage ClientRole) → Holds (view p.role) p.came p.put → NamesOuts connection p
   named p h =
-      let all = h.begins.all in
-      let most = h.most in
+      let all = h.began.firsts.all in
+      let most = h.began.most in
       record {
         names = h.names;
         once = omega (arith, all, most);
-        begins_on = stands_on is_conn_a1 ClientOut 1 h.a1 p.put h.begins;
+        begins_on = stands_on is_conn_a1 ClientOut 1 h.began.count p.put h.began.firsts;
       }
 
 pub names_outs : (config : ClientConfig) (moves : List EndMove)
@@ -409,14 +337,7 @@ names_outs config moves allowed =
     (client_keeps (Holds of) (outs of)) (end_started (first config)) moves allowed
     (record {
       config = refl;
-      a1 = 0;
-      most = omega arith;
-      none = λ e. refl;
-      begins = stands_none is_conn_a1 ClientOut 1;
-      low = omega arith;
-      later = λ l. absurd (omega (arith, l));
-      current = λ e. absurd (true≢false (sym e));
-      successor = λ e. absurd (true≢false (sym e));
+      began = began_not ClientOut is_conn_a1 BeginsOut no_cookie no_cookie 0;
       a7 = 0;
       switches = refl;
       next = refl;
