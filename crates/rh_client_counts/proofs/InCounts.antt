@@ -17,7 +17,7 @@ use Rattle.rh_client_counts.specs.Replacing.{in_asked, in_answered, in_handed_ov
 use Rattle.rh_client_counts.proofs.Allowed.{allowed_moves_keep}
 use Rattle.rh_client_counts.proofs.Standing.{Stands, passes, stands_none, stands_stays, stands_next, stands_on, total_stays, total_rises, once_at_most}
 use Rattle.rh_client_counts.proofs.Views.{View, Way, way_of, Free, InIsAsked, InIsAnswered, OutIsAsked, OutIsAnswered, OutIsSwitched, OutIsFinished, is_in_way, Marks, marks, unmarked, EventsKeep}
-use Rattle.rh_client_counts.proofs.Rows as keeps
+use Rattle.rh_client_counts.proofs.Begins as keeps
 use Rattle.rh_client_counts.proofs.Moves.{client_keeps}
 
 -- the counts at each way

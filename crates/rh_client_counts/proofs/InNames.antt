@@ -17,14 +17,17 @@ use Rattle.rh_client.specs.Client.{acts, rules}
 use Rattle.rh_client.specs.declared.state.ClientRole.{ClientRole}
 use Rattle.rh_client.proofs.ClientLogs.{of_kind}
 use Rattle.rh_client_counts.specs.Counting.{is_conn_b1, is_in_r1_a1, is_in_r1_a5, total}
+use Rattle.rh_client_counts.specs.Replacing.{ReplacesIns}
 use Rattle.rh_client_counts.specs.Naming.{EachBehind, NamesIn, NamesIns}
 use Rattle.rh_client_counts.proofs.Allowed.{allowed_moves_keep}
 use Rattle.rh_client_counts.proofs.Standing.{passes, stands_on}
 use Rattle.rh_client_counts.proofs.Beginning.{one_more_behind}
 use Rattle.rh_client_counts.proofs.Began.{Began, began_not, began_more, began_up, began_anew, began_first, began_asked, began_follows, began_before}
 use Rattle.rh_client_counts.proofs.Views.{View, view, Way, Free, InIsAsked, InIsAnswered, OutIsAsked, OutIsAnswered, OutIsSwitched, OutIsFinished, is_in_way, Marks, marks, unmarked, Names, EventsKeep}
-use Rattle.rh_client_counts.proofs.Rows as keeps
+use Rattle.rh_client_counts.proofs.Begins as keeps
 use Rattle.rh_client_counts.proofs.Moves.{client_keeps}
+use Rattle.rh_client_counts.proofs.InCounts.{replaces_ins}
+use Rattle.rh_client_counts.proofs.OneCookie.{one_in_cookie}
 
 -- the successor has the next number, and its first packet was put before it is answered
 abbrev IsNext : Way → Bool → ℕ → ℕ → Type 0
@@ -258,14 +261,18 @@ module _ (connection : Cookie) where
     succeeds = λ v came put h. turns v OutIsFinished Free came put (λ next. tt) h;
   }
 
-  named : (p : Passage ClientRole) → Holds (view p.role) p.came p.put → NamesIns connection p
-  named p h =
+  named : (p : Passage ClientRole) → Holds (view p.role) p.came p.put → ReplacesIns p
+      → NamesIns connection p
+  named p h replaces =
       let all = h.began.firsts.all in
       let most = h.began.most in
+      let once : total is_conn_b1 ClientIn p.put ≤ 1 = omega (arith, all, most) in
+      let on = stands_on is_conn_b1 ClientIn 1 h.began.count p.put h.began.firsts in
       record {
         names = h.names;
-        once = omega (arith, all, most);
-        begins_on = stands_on is_conn_b1 ClientIn 1 h.began.count p.put h.began.firsts;
+        once = once;
+        begins_on = on;
+        one = one_in_cookie p.put once on replaces.asks_on;
       }
 
 pub names_ins : (config : ClientConfig) (moves : List EndMove)
@@ -283,3 +290,4 @@ names_ins config moves allowed =
       next = tt;
       names = tt;
     }))
+    (replaces_ins config moves allowed)

@@ -1,6 +1,7 @@
 pub mod Allowed
 pub mod Standing
 pub mod Views
+pub mod Begins
 pub mod Rows
 pub mod Puts
 pub mod Moves
@@ -10,5 +11,6 @@ pub mod Wishes
 pub mod Opens
 pub mod Beginning
 pub mod Began
+pub mod OneCookie
 pub mod InNames
 pub mod OutNames

@@ -37,7 +37,7 @@ use Rattle.rh_client_counts.specs.Opening.{opened, IsUnused, OpensOnce}
 use Rattle.rh_client_counts.proofs.Allowed.{allowed_moves_keep}
 use Rattle.rh_client_counts.proofs.Standing.{passes, total_stays, total_rises, once_at_most}
 use Rattle.rh_client_counts.proofs.Views.{View, view, Way, way_of, Free, InIsAsked, InIsAnswered, OutIsAsked, OutIsAnswered, OutIsSwitched, OutIsFinished, is_in_way, is_out_way, out_if, has_in, behind_out, Marks, marks, unmarked, IsGreeting, IsPast, IsDue, EventsKeep}
-use Rattle.rh_client_counts.proofs.Rows as keeps
+use Rattle.rh_client_counts.proofs.Begins as keeps
 use Rattle.rh_client_counts.proofs.Puts.{not_both}
 use Rattle.rh_client_counts.proofs.Moves.{client_keeps}
 use Rattle.rh_client_counts.proofs.InCounts.{replaces_ins}

@@ -17,14 +17,17 @@ use Rattle.rh_client.specs.Client.{acts, rules}
 use Rattle.rh_client.specs.declared.state.ClientRole.{ClientRole}
 use Rattle.rh_client.proofs.ClientLogs.{of_kind}
 use Rattle.rh_client_counts.specs.Counting.{is_conn_a1, is_out_r1_a3, is_out_r1_a7, total}
+use Rattle.rh_client_counts.specs.Replacing.{ReplacesOuts}
 use Rattle.rh_client_counts.specs.Naming.{EachBehind, NamesOut, NamesOuts}
 use Rattle.rh_client_counts.proofs.Allowed.{allowed_moves_keep}
 use Rattle.rh_client_counts.proofs.Standing.{passes, stands_on, total_stays, total_rises}
 use Rattle.rh_client_counts.proofs.Beginning.{one_more_behind}
 use Rattle.rh_client_counts.proofs.Began.{Began, began_not, began_more, began_up, began_anew, began_first, began_asked, began_follows, began_before}
 use Rattle.rh_client_counts.proofs.Views.{View, view, Way, Free, InIsAsked, InIsAnswered, OutIsAsked, OutIsAnswered, OutIsSwitched, OutIsFinished, is_out_way, Marks, marks, unmarked, Names, EventsKeep}
-use Rattle.rh_client_counts.proofs.Rows as keeps
+use Rattle.rh_client_counts.proofs.Begins as keeps
 use Rattle.rh_client_counts.proofs.Moves.{client_keeps}
+use Rattle.rh_client_counts.proofs.OutCounts.{replaces_outs}
+use Rattle.rh_client_counts.proofs.OneCookie.{one_out_cookie}
 
 -- the successor has the next number, its first packet was put before it is answered, and so many
 -- OUT_R1/A7 were put
@@ -316,14 +319,18 @@ module _ (connection : Cookie) where
         v.out_successor put h;
   }
 
-  named : (p : Passage ClientRole) → Holds (view p.role) p.came p.put → NamesOuts connection p
-  named p h =
+  named : (p : Passage ClientRole) → Holds (view p.role) p.came p.put → ReplacesOuts p
+      → NamesOuts connection p
+  named p h replaces =
       let all = h.began.firsts.all in
       let most = h.began.most in
+      let once : total is_conn_a1 ClientOut p.put ≤ 1 = omega (arith, all, most) in
+      let on = stands_on is_conn_a1 ClientOut 1 h.began.count p.put h.began.firsts in
       record {
         names = h.names;
-        once = omega (arith, all, most);
-        begins_on = stands_on is_conn_a1 ClientOut 1 h.began.count p.put h.began.firsts;
+        once = once;
+        begins_on = on;
+        one = one_out_cookie p.put once on replaces.asks_on;
       }
 
 pub names_outs : (config : ClientConfig) (moves : List EndMove)
@@ -343,3 +350,4 @@ names_outs config moves allowed =
       next = refl;
       names = tt;
     }))
+    (replaces_outs config moves allowed)

@@ -38,6 +38,7 @@ use Rattle.rh_client.specs.InReplacement.{handed_over}
 use Rattle.rh_client.specs.Putting.{Pick, or_else, conn_b1, conn_a1, in_r1_a1, out_r1_a3, begun_in, begun_out, with_end_put, put_in_r1_a5, put_out_r1_a7, put_by, put_conn_b1, put_in_r1_a1, put_current, put_out_successor, put_out, due_by, put_due, ack_by, put_ack_of, put_ack, lets_pdu, pdu_by, put_pdu, is_end_due, put_end, put_ping, put_successor_ping, put_next, put_writing, put_in_successor, put_in, settled_pick}
 use Rattle.rh_client_counts.proofs.Views.{View, view, view_by, Way, Free, way_of, in_way, out_way, is_in_way, is_out_way, out_if, marks, Marks, unmarked, IsGreeting, IsDue, EventsKeep}
 use Rattle.rh_client.proofs.ClientLogs.{of_other}
+use Rattle.rh_client_counts.proofs.Begins as begins
 use Rattle.rh_client_counts.proofs.Rows as rows
 
 pub not_both : (p : Phase) → is_open p ≡ true → is_opening p ≡ true → ⊥
@@ -63,7 +64,7 @@ is_due s Next ack e = by s.line.has_next (not s.line.next.ended) e
 module _ (P : View → List OnLeg → List OnLeg → Type 0) (events : EventsKeep P) (leg : Leg)
     (came put : List OnLeg) where
   abbrev Holds : ClientRole → List OnLeg → List OnLeg → Type 0
-  Holds = rows.Holds P events
+  Holds = begins.Holds P events
 
   abbrev pub Puts : Pick → Type 0
   Puts pick = PutKeeps Holds leg came put pick
@@ -78,7 +79,7 @@ module _ (P : View → List OnLeg → List OnLeg → Type 0) (events : EventsKee
   quiet_put : (s : ClientRole) (pick : Pick) → Quiet s pick → Holds s came put → Puts pick
   quiet_put s None quiet h = tt
   quiet_put s (Some one) quiet h =
-      rows.same_holds P events s one.0 came (put ++ (leg, one.1) ∷ []) quiet.0
+      begins.same_holds P events s one.0 came (put ++ (leg, one.1) ∷ []) quiet.0
       (events.goes (view s) came put (leg, one.1) quiet.1 quiet.2 h)
 
   or_put : (a b : Pick) → Puts a → Puts b → Puts (or_else a b)
@@ -92,7 +93,7 @@ module _ (P : View → List OnLeg → List OnLeg → Type 0) (events : EventsKee
   a5_put s w k at h =
       by_test Puts (fits s.writing.meter IN_R1_A5_LEN)
       (Some (handed_over s w, Packet (named.InR1A5 s.in_successor.cookie))) None
-      (λ e. rows.after_in_holds P events (record s {
+      (λ e. begins.after_in_holds P events (record s {
         leaving = s.writing;
         writing = s.in_successor;
         in_successor = unopened_in 0 s.config.lifetime;
@@ -121,10 +122,10 @@ module _ (P : View → List OnLeg → List OnLeg → Type 0) (events : EventsKee
   due_put s NoneUnderWay e k at h = tt
   due_put s (In in_stage.Asked w) e k at h = tt
   due_put s (In in_stage.Answered w) e k at h =
-      a5_put s w k at (rows.at_replacement P events s (In in_stage.Answered w) came put e h)
+      a5_put s w k at (begins.at_replacement P events s (In in_stage.Answered w) came put e h)
   due_put s (Out out_stage.Asked w) e k at h = tt
   due_put s (Out out_stage.Answered w) e k at h =
-      a7_put s w k (rows.at_replacement P events s (Out out_stage.Answered w) came put e h)
+      a7_put s w k (begins.at_replacement P events s (Out out_stage.Answered w) came put e h)
   due_put s (Out out_stage.Switched w) e k at h = tt
   due_put s (Out out_stage.Finished w) e k at h = tt
 
@@ -318,7 +319,7 @@ module _ (P : View → List OnLeg → List OnLeg → Type 0) (events : EventsKee
   settled_put : (pick : Pick) → Puts pick → Puts (settled_pick pick)
   settled_put None h = tt
   settled_put (Some pick) h =
-      rows.settled_or_wished_holds P events pick.0 came (put ++ (leg, pick.1) ∷ []) h
+      begins.settled_or_wished_holds P events pick.0 came (put ++ (leg, pick.1) ∷ []) h
 
   pub puts_by : (s : ClientRole) (k : LegKind) → leg.kind ≡ k → Holds s came put
       → Puts (settled_pick (put_by s leg.number k))

@@ -1,4 +1,4 @@
--- what comes to a client, and what its caller does, are events of its replacements
+-- what comes to a client, its legs and what it is given, are events of its replacements
 use Rattle.std.proofs.Common.{◌≡◌, ◌⊎◌, inl, inr, ℕ, ◌+◌, ◌==◌, Bool, true, false, not, ◌&&◌, ◌||◌, nat_lt, if◌then◌else◌, List, [], ◌∷◌, ◌++◌, Some, None, Ok, Err, rules, refl, sym, ap, ◌∙◌, subst}
 use Rattle.std.proofs.lemmas.Bool.{and_parts}
 use Rattle.std.specs.Option.{is_some}
@@ -44,11 +44,8 @@ use Rattle.rh_client.specs.Putting.{settled_or_wished}
 use Rattle.rh_client.specs.Client as client
 use Rattle.rh_client.specs.Client.{on_packet, packet_by}
 use Rattle.rh_client_counts.proofs.Views.{View, view, view_by, Way, way_of, Free, InIsAsked, OutIsAsked, out_way, is_in_way, is_out_way, out_if, has_in, behind_out, newest_out, marks, Marks, unmarked, EventsKeep}
-
-free : (r : Replacement) → is_none r ≡ true → r ≡ NoneUnderWay
-free NoneUnderWay e = refl
-free (In stage w) e = absurd (cc)
-free (Out stage w) e = absurd (cc)
+use Rattle.rh_client_counts.proofs.Begins as begins
+use Rattle.rh_client_counts.proofs.Begins.{at_replacement, same_holds, begin_out_holds, settled_holds, passed_holds}
 
 first_of : (a b c : Bool) → a || (b && c) ≡ true → b ≡ false → a ≡ true
 first_of true b c e o = refl
@@ -98,169 +95,8 @@ newest_is out_stage.Switched a b = refl
 newest_is out_stage.Finished a b = refl
 
 module _ (P : Fact View) (events : EventsKeep P) where
-  abbrev pub Holds : Fact ClientRole
-  Holds s came put = P (view s) came put
-
-  pub at_replacement : (s : ClientRole) (r : Replacement) (came put : List OnLeg)
-      → s.replacement ≡ r → Holds s came put → P (view_by s r) came put
-  at_replacement s r came put e h = subst (λ (x : Replacement). P (view_by s x) came put) e h
-
-  pub same_holds : (s t : ClientRole) (came put : List OnLeg) → view t ≡ view s
-      → Holds s came put → Holds t came put
-  same_holds s t came put same h = subst (λ (v : View). P v came put) (sym same) h
-
-  -- ---- a replacement begins
-
-  begin_in_holds : (s : ClientRole) (w : Waits) (came put : List OnLeg) → has_in w ≡ true
-      → P (record (view s) { way = Free; waiting = w }) came put
-      → Holds (begin_in s (has_out w)) came put
-  begin_in_holds s w came put is h =
-      by_test (λ (t : ClientRole). Holds t came put) (nat_lt s.writing.number LAST_NUMBER)
-      (record s {
-        in_successor = unopened_in (s.writing.number + 1) s.config.lifetime;
-        replacement = In in_stage.Asked (has_out w);
-      })
-      (record s { replacement = NoneUnderWay })
-      (λ e. events.begins_in (record (view s) { waiting = w }) came put is e h)
-      (λ e. events.drops_in (record (view s) { waiting = w }) came put is e h)
-
-  begin_out_holds : (s : ClientRole) (w : Waits) (came put : List OnLeg) → has_out w ≡ true
-      → P (record (view s) { way = Free; waiting = w }) came put
-      → Holds (begin_out s (behind_out w)) came put
-  begin_out_holds s w came put is h =
-      by_test (λ (t : ClientRole). Holds t came put) (nat_lt s.current.number LAST_NUMBER)
-      (record s {
-        out_successor = unopened_out (s.current.number + 1);
-        replacement = Out out_stage.Asked (behind_out w);
-      })
-      (record s { replacement = NoneUnderWay })
-      (λ e. events.begins_out (record (view s) { waiting = w }) came put is e h)
-      (λ e. events.drops_out (record (view s) { waiting = w }) came put is e h)
-
-  pub after_in_holds : (s : ClientRole) (b : Bool) (came put : List OnLeg)
-      → P (record (view s) { way = Free; waiting = out_if b }) came put
-      → Holds (after_in s b) came put
-  after_in_holds s true came put h = begin_out_holds s waits.Out came put refl h
-  after_in_holds s false came put h = h
-
-  after_out_holds : (s : ClientRole) (w : Waits) (came put : List OnLeg)
-      → P (record (view s) { way = Free; waiting = w }) came put
-      → Holds (after_out s w) came put
-  after_out_holds s waits.Nothing came put h = h
-  after_out_holds s waits.In came put h = begin_in_holds s waits.In came put refl h
-  after_out_holds s waits.Out came put h = begin_out_holds s waits.Out came put refl h
-  after_out_holds s waits.InThenOut came put h =
-      begin_in_holds s waits.InThenOut came put refl h
-  after_out_holds s waits.OutThenIn came put h =
-      begin_out_holds s waits.OutThenIn came put refl h
-
-  -- where the client is open, and the writing channel has not the last number
-  wish_holds : (s : ClientRole) (r : Replacement) (came put : List OnLeg) → s.replacement ≡ r
-      → is_open s.phase ≡ true → nat_lt s.writing.number LAST_NUMBER ≡ true
-      → Holds s came put → Holds (wish_by s r) came put
-  wish_holds s NoneUnderWay came put e open' lower h =
-      begin_in_holds s waits.In came put refl
-      (events.wants_in (view_by s NoneUnderWay) came put open' lower
-      (at_replacement s NoneUnderWay came put e h))
-  wish_holds s (In stage w) came put e open' lower h = h
-  wish_holds s (Out stage w) came put e open' lower h =
-      events.wants_in (view_by s (Out stage w)) came put open' lower
-      (at_replacement s (Out stage w) came put e h)
-
-  recycle_holds : (s : ClientRole) (r : Replacement) (came put : List OnLeg)
-      → s.replacement ≡ r → is_open s.phase ≡ true → Holds s came put
-      → Holds (recycle_by s r).0 came put
-  recycle_holds s NoneUnderWay came put e open' h =
-      by_test (λ (x : ClientRole × Result (Unit {0}) RecycleRefused). Holds x.0 came put)
-      (nat_lt s.writing.number LAST_NUMBER) (begin_in s false, Ok tt) (s, Err Last)
-      (λ lower. wish_holds s NoneUnderWay came put e open' lower h) (λ o. h)
-  recycle_holds s (In stage w) came put e open' h = h
-  recycle_holds s (Out stage w) came put e open' h = h
-
-  pub recycled : (s : ClientRole) (came put : List OnLeg) → s.phase ≡ phase.Open
-      → Holds s came put → Holds (recycle_by s s.replacement).0 came put
-  recycled s came put e h = recycle_holds s s.replacement came put refl (ap is_open e) h
-
-  -- ---- the work is done
-
-  over_holds : (s : ClientRole) (w : Waits) (came put : List OnLeg) → is_over s ≡ true
-      → P (record (view s) { way = Free; waiting = w }) came put
-      → Holds (record s { phase = phase.Ended }) came put
-  over_holds s w came put e h =
-      let parts =
-      and_parts (s.is_closing && s.writing.is_end_put)
-      (s.line.current.ended && is_none s.replacement) e in
-      let end_put = (and_parts s.is_closing s.writing.is_end_put parts.0).1 in
-      let none =
-      free s.replacement (and_parts s.line.current.ended (is_none s.replacement) parts.1).1 in
-      subst (λ (x : Replacement). P (record (view_by s x) { phase = phase.Ended }) came put)
-      (sym none) (events.ends (record (view s) { waiting = w }) came put end_put h)
-
-  over_now : (s : ClientRole) (came put : List OnLeg) → is_over s ≡ true → Holds s came put
-      → Holds (record s { phase = phase.Ended }) came put
-  over_now s came put e h =
-      let parts =
-      and_parts (s.is_closing && s.writing.is_end_put)
-      (s.line.current.ended && is_none s.replacement) e in
-      let none =
-      free s.replacement (and_parts s.line.current.ended (is_none s.replacement) parts.1).1 in
-      over_holds s waits.Nothing came put e (at_replacement s NoneUnderWay came put none h)
-
-  settled_holds : (s : ClientRole) (came put : List OnLeg) → Holds s came put
-      → Holds (settled s) came put
-  settled_holds s came put h =
-      by_test (λ (t : ClientRole). Holds t came put) (is_over s)
-      (record s { phase = phase.Ended }) s (λ e. over_now s came put e h) (λ e. h)
-
-  wished_holds : (s : ClientRole) (came put : List OnLeg) → Holds s came put
-      → Holds (wished s) came put
-  wished_holds s came put h =
-      by_test (λ (t : ClientRole). Holds t came put) (wants_successor s)
-      (wish_by s s.replacement) s
-      (λ e. let parts = and_parts (is_open s.phase) _ e in
-      wish_holds s s.replacement came put refl parts.0 (and_parts _ _ parts.1).1 h)
-      (λ e. h)
-
-  pub settled_or_wished_holds : (s : ClientRole) (came put : List OnLeg) → Holds s came put
-      → Holds (settled_or_wished s) came put
-  settled_or_wished_holds s came put h =
-      by_test (λ (t : ClientRole). Holds t came put) (is_over s)
-      (record s { phase = phase.Ended }) (wished s) (λ e. over_now s came put e h)
-      (λ e. wished_holds s came put h)
-
-  -- ---- the successor of an OUT channel is the current one
-
-  ended_or_holds : (s : ClientRole) (w : Waits) (came put : List OnLeg)
-      → P (record (view s) { way = Free; waiting = w }) came put
-      → Holds (ended_or s w) came put
-  ended_or_holds s w came put h =
-      by_test (λ (t : ClientRole). Holds t came put) (is_over s)
-      (record s { phase = phase.Ended }) (after_out s w)
-      (λ e. over_holds s w came put e h) (λ e. after_out_holds s w came put h)
-
-  pass_holds : (s : ClientRole) (r : Replacement) (came put : List OnLeg)
-      → s.replacement ≡ r → Holds s came put → Holds (pass_by s r) came put
-  pass_holds s NoneUnderWay came put e h = h
-  pass_holds s (In stage w) came put e h = h
-  pass_holds s (Out out_stage.Asked w) came put e h = h
-  pass_holds s (Out out_stage.Answered w) came put e h = h
-  pass_holds s (Out out_stage.Switched w) came put e h = h
-  pass_holds s (Out out_stage.Finished w) came put e h =
-      by_test (λ (t : ClientRole). Holds t came put) s.line.has_next s
-      (ended_or (succeeded s) w) (λ o. h)
-      (λ o. ended_or_holds (succeeded s) w came put
-      (events.succeeds (view_by s (Out out_stage.Finished w)) came put
-      (at_replacement s (Out out_stage.Finished w) came put e h)))
-
-  pub take_holds : (s : ClientRole) (came put : List OnLeg) → Holds s came put
-      → Holds (take s) came put
-  take_holds s came put h =
-      pass_holds (record s { line = after_take s.line }) s.replacement came put refl
-      (events.takes (view s) came put h)
-
-  passed_holds : (s : ClientRole) (came put : List OnLeg) → Holds s came put
-      → Holds (passed s) came put
-  passed_holds s came put h = pass_holds s s.replacement came put refl h
+  abbrev Holds : Fact ClientRole
+  Holds = begins.Holds P events
 
   -- ---- rows
 
@@ -268,8 +104,8 @@ module _ (P : Fact View) (events : EventsKeep P) where
       → marks one.1 ≡ unmarked → Holds s came put → (x : Done) → view x.0 ≡ view s
       → RowKeeps Holds one came put x
   quiet_row s one came put other h (t, Ok took) same =
-      events.comes (view t) came put one other (same_holds s t came put same h)
-  quiet_row s one came put other h (t, Err refused) same = same_holds s t came put same h
+      events.comes (view t) came put one other (same_holds P events s t came put same h)
+  quiet_row s one came put other h (t, Err refused) same = same_holds P events s t came put same h
 
   c2_row : (s : ClientRole) (leg : Leg) (v window timeout : ℕ) (came put : List OnLeg)
       → leg.kind ≡ ClientOut → Holds s came put
@@ -299,7 +135,7 @@ module _ (P : Fact View) (events : EventsKeep P) where
       }))
       (unexpected s)
       (λ asked. events.answers_in (view_by s (In in_stage.Asked w)) came put (leg, Packet m) is k
-      asked (at_replacement s (In in_stage.Asked w) came put e h))
+      asked (at_replacement P events s (In in_stage.Asked w) came put e h))
       (λ o. h)
   answer_row s leg m window timeout (In in_stage.Answered w) came put e is k h = h
   answer_row s leg m window timeout (Out stage w) came put e is k h = h
@@ -334,20 +170,20 @@ module _ (P : Fact View) (events : EventsKeep P) where
       → RowKeeps Holds (leg, Packet (named.OutR1A2 to)) came put (a2_by s leg.number r)
   a2_row s leg to NoneUnderWay came put e k there open' lower h =
       let one : OnLeg = (leg, Packet (named.OutR1A2 to)) in
-      begin_out_holds s waits.Out (came ++ one ∷ []) put refl
+      begin_out_holds P events s waits.Out (came ++ one ∷ []) put refl
       (events.wants_out (view_by s NoneUnderWay) came put one refl k open' refl
       (a2_now s leg to NoneUnderWay came put e refl k there lower)
-      (at_replacement s NoneUnderWay came put e h))
+      (at_replacement P events s NoneUnderWay came put e h))
   a2_row s leg to (In in_stage.Asked false) came put e k there open' lower h =
       events.wants_out (view_by s (In in_stage.Asked false)) came put
       (leg, Packet (named.OutR1A2 to)) refl k open' refl
       (a2_now s leg to (In in_stage.Asked false) came put e refl k there lower)
-      (at_replacement s (In in_stage.Asked false) came put e h)
+      (at_replacement P events s (In in_stage.Asked false) came put e h)
   a2_row s leg to (In in_stage.Answered false) came put e k there open' lower h =
       events.wants_out (view_by s (In in_stage.Answered false)) came put
       (leg, Packet (named.OutR1A2 to)) refl k open' refl
       (a2_now s leg to (In in_stage.Answered false) came put e refl k there lower)
-      (at_replacement s (In in_stage.Answered false) came put e h)
+      (at_replacement P events s (In in_stage.Answered false) came put e h)
   a2_row s leg to (In stage true) came put e k there open' lower h = h
   a2_row s leg to (Out stage w) came put e k there open' lower h =
       by_test (RowKeeps Holds (leg, Packet (named.OutR1A2 to)) came put)
@@ -361,7 +197,8 @@ module _ (P : Fact View) (events : EventsKeep P) where
       subst (λ (n : ℕ). nat_lt n LAST_NUMBER ≡ true)
       (number ∙ sym (newest_is stage s.out_successor.number s.current.number)) lower in
       events.wants_out (view_by s (Out stage w)) came put (leg, Packet (named.OutR1A2 to)) refl k
-      open' (not_true (has_out w) parts.1) newest (at_replacement s (Out stage w) came put e h))
+      open' (not_true (has_out w) parts.1) newest
+      (at_replacement P events s (Out stage w) came put e h))
       (λ t. h)
 
   a2_if : (s : ClientRole) (leg : Leg) (to : ℕ) (came put : List OnLeg) → leg.kind ≡ ClientOut
@@ -391,7 +228,7 @@ module _ (P : Fact View) (events : EventsKeep P) where
       (unexpected s)
       (λ asked. events.answers_out (view_by s (Out out_stage.Asked w)) came put
       (leg, Packet (named.OutR1A6 to v timeout)) refl k at asked
-      (at_replacement s (Out out_stage.Asked w) came put e h))
+      (at_replacement P events s (Out out_stage.Asked w) came put e h))
       (λ o. h)
   a6_row s leg to v timeout (Out out_stage.Answered w) came put e k at h = h
   a6_row s leg to v timeout (Out out_stage.Switched w) came put e k at h = h
@@ -423,12 +260,12 @@ module _ (P : Fact View) (events : EventsKeep P) where
       let one : OnLeg = (leg, Packet named.OutR1A10) in
       by_test (RowKeeps Holds one came put) (s.line.has_next && is_current s leg.number)
       (taken (passed f)) (unexpected s)
-      (λ t. passed_holds f (came ++ one ∷ []) put
+      (λ t. passed_holds P events f (came ++ one ∷ []) put
       (events.finishes (view_by (record s { line = after_finish s.line })
       (Out out_stage.Switched w)) came put one refl k
       (same_number leg.number s.current.number (and_parts _ _ t).1)
       (events.fills (view_by s (Out out_stage.Switched w)) (after_finish s.line) came put
-      (inr refl) (at_replacement s (Out out_stage.Switched w) came put e h))))
+      (inr refl) (at_replacement P events s (Out out_stage.Switched w) came put e h))))
       (λ t. h)
   a10_row s leg (Out out_stage.Finished w) came put e k h = h
 
@@ -441,7 +278,8 @@ module _ (P : Fact View) (events : EventsKeep P) where
       by_test (RowKeeps Holds one came put) (channel_of s.line which).ended (unexpected s)
       (taken (settled (record s { line = after_end s.line which })))
       (λ e. h)
-      (λ e. settled_holds (record s { line = after_end s.line which }) (came ++ one ∷ []) put
+      (λ e. settled_holds P events (record s { line = after_end s.line which })
+      (came ++ one ∷ []) put
       (events.fills (view s) (after_end s.line which) (came ++ one ∷ []) put (inl open')
       (events.comes (view s) came put one refl h)))
 

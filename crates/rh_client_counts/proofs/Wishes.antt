@@ -24,7 +24,7 @@ use Rattle.rh_client_counts.specs.Replacing.{is_to_ask, out_waits, AsksWhereWant
 use Rattle.rh_client_counts.proofs.Allowed.{allowed_moves_keep}
 use Rattle.rh_client_counts.proofs.Standing.{passes, total_stays, total_rises}
 use Rattle.rh_client_counts.proofs.Views.{View, view, Way, way_of, waits_of, Free, InIsAsked, InIsAnswered, OutIsAsked, OutIsAnswered, OutIsSwitched, OutIsFinished, is_out_way, out_if, has_in, behind_out, newest_out, Marks, marks, unmarked, EventsKeep}
-use Rattle.rh_client_counts.proofs.Rows as keeps
+use Rattle.rh_client_counts.proofs.Begins as keeps
 use Rattle.rh_client_counts.proofs.Moves.{client_keeps}
 
 abbrev to_ask : Bool → Way → Bool

@@ -39,11 +39,13 @@ NamesIn connection front (leg, Text bytes) = Unit {0}
 NamesIn connection front (leg, Pdu pdu) = Unit {0}
 NamesIn connection front (leg, Packet named) = NamesInBy connection front leg.number named
 
--- CONN/B1 is put at most once, and on the first channel
+-- CONN/B1 is put at most once, and on the first channel; and each channel has one cookie
 pub record NamesIns (connection : Cookie) (p : Passage ClientRole) : Type 0 where
   pub names : EachBehind (NamesIn connection) [] p.put
   pub once : total is_conn_b1 ClientIn p.put ≤ 1
   pub begins_on : StandsOnEach is_conn_b1 ClientIn 1 p.put
+  pub one : (n : ℕ) (a b : Cookie) → HasBegunIn a (of_leg (ci n) p.put)
+      → HasBegunIn b (of_leg (ci n) p.put) → a ≡ b
 
 -- ---- OUT channels
 
@@ -64,8 +66,10 @@ NamesOut connection front (leg, Text bytes) = Unit {0}
 NamesOut connection front (leg, Pdu pdu) = Unit {0}
 NamesOut connection front (leg, Packet named) = NamesOutBy connection front leg.number named
 
--- CONN/A1 is put at most once, and on the first channel
+-- CONN/A1 is put at most once, and on the first channel; and each channel has one cookie
 pub record NamesOuts (connection : Cookie) (p : Passage ClientRole) : Type 0 where
   pub names : EachBehind (NamesOut connection) [] p.put
   pub once : total is_conn_a1 ClientOut p.put ≤ 1
   pub begins_on : StandsOnEach is_conn_a1 ClientOut 1 p.put
+  pub one : (n : ℕ) (a b : Cookie) → HasBegunOut a (of_leg (co n) p.put)
+      → HasBegunOut b (of_leg (co n) p.put) → a ≡ b
