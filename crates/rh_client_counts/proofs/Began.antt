@@ -10,7 +10,7 @@ use Rattle.rh_passages.specs.Passing.{HasOne}
 use Rattle.rh_client.proofs.ClientLogs.{of_kind}
 use Rattle.rh_client_counts.specs.Counting.{total}
 use Rattle.rh_client_counts.proofs.Standing.{Stands, passes, stands_none, stands_stays, stands_next}
-use Rattle.rh_client_counts.proofs.Beginning.{still_has, now_has}
+use Rattle.rh_client_counts.proofs.Behind.{still_has, now_has}
 
 -- the packet that begins the first channel, and those that begin a channel of a cookie
 module _ (kind : LegKind) (first : Named → Bool) (Begins : Cookie → Named → Type 0) where

@@ -12,12 +12,12 @@ use Rattle.rh_client.specs.State.{first}
 use Rattle.rh_client.specs.Channels.{is_put}
 use Rattle.rh_client.specs.Client.{acts, rules}
 use Rattle.rh_client.proofs.ClientLogs.{of_kind}
-use Rattle.rh_client_counts.specs.Counting.{is_in_r1_a1, is_in_a4, is_in_r1_a5, total, once_if, StandsOnEach}
+use Rattle.rh_client_counts.specs.Counting.{is_in_r1_a1, is_in_a4, is_in_r1_a5, total, once_if}
 use Rattle.rh_client_counts.specs.Replacing.{in_asked, in_answered, in_handed_over, InIsAt, ReplacesIns}
 use Rattle.rh_client_counts.proofs.Allowed.{allowed_moves_keep}
 use Rattle.rh_client_counts.proofs.Standing.{Stands, passes, stands_none, stands_stays, stands_next, stands_on, total_stays, total_rises, once_at_most}
-use Rattle.rh_client_counts.proofs.Views.{View, Way, way_of, Free, InIsAsked, InIsAnswered, OutIsAsked, OutIsAnswered, OutIsSwitched, OutIsFinished, is_in_way, Marks, marks, unmarked, EventsKeep}
-use Rattle.rh_client_counts.proofs.Begins as keeps
+use Rattle.rh_client_counts.proofs.Views.{View, Way, way_of, Free, InIsAsked, InIsAnswered, OutIsAsked, OutIsAnswered, OutIsSwitched, OutIsFinished, is_in_way, Marks, EventsKeep}
+use Rattle.rh_client_counts.proofs.Replacements as keeps
 use Rattle.rh_client_counts.proofs.Moves.{client_keeps}
 
 -- the counts at each way

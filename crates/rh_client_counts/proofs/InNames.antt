@@ -1,8 +1,7 @@
 -- a client names its IN channels
-use Rattle.std.proofs.Common.{◌≡◌, ◌⊎◌, ℕ, ◌+◌, ◌<◌, ◌≤◌, Bool, true, false, true≢false, List, [], ◌∷◌, ◌++◌, inl, inr, arith, refl, sym, ap, ◌∙◌, subst}
+use Rattle.std.proofs.Common.{◌≡◌, ◌⊎◌, ℕ, ◌+◌, ◌≤◌, Bool, true, false, true≢false, List, [], ◌∷◌, ◌++◌, inl, inr, arith, refl, sym, ap, ◌∙◌, subst}
 use Rattle.rh_http.specs.declared.config.ClientConfig.{ClientConfig}
 use Rattle.rh_rts.specs.declared.command.Cookie.{Cookie}
-use Rattle.rh_sig.specs.declared.named.Named.{Named}
 use Rattle.rh_sig.specs.declared.named.Named.TheVariants.{ConnB1, InR1A1, InR1A5}
 use Rattle.rh_sig.specs.declared.ranges.TheConstants.{PROTOCOL_VERSION}
 use Rattle.rh_line.specs.declared.leg.Leg.{Leg}
@@ -15,16 +14,15 @@ use Rattle.rh_client.specs.State.{first, ci}
 use Rattle.rh_client.specs.Channels.{no_cookie}
 use Rattle.rh_client.specs.Client.{acts, rules}
 use Rattle.rh_client.specs.declared.state.ClientRole.{ClientRole}
-use Rattle.rh_client.proofs.ClientLogs.{of_kind}
 use Rattle.rh_client_counts.specs.Counting.{is_conn_b1, is_in_r1_a1, is_in_r1_a5, total}
 use Rattle.rh_client_counts.specs.Replacing.{ReplacesIns}
 use Rattle.rh_client_counts.specs.Naming.{EachBehind, NamesIn, NamesIns}
 use Rattle.rh_client_counts.proofs.Allowed.{allowed_moves_keep}
 use Rattle.rh_client_counts.proofs.Standing.{passes, stands_on}
-use Rattle.rh_client_counts.proofs.Beginning.{one_more_behind}
+use Rattle.rh_client_counts.proofs.Behind.{one_more_behind}
 use Rattle.rh_client_counts.proofs.Began.{Began, began_not, began_more, began_up, began_anew, began_first, began_asked, began_follows, began_before}
 use Rattle.rh_client_counts.proofs.Views.{View, view, Way, Free, InIsAsked, InIsAnswered, OutIsAsked, OutIsAnswered, OutIsSwitched, OutIsFinished, is_in_way, Marks, marks, unmarked, Names, EventsKeep}
-use Rattle.rh_client_counts.proofs.Begins as keeps
+use Rattle.rh_client_counts.proofs.Replacements as keeps
 use Rattle.rh_client_counts.proofs.Moves.{client_keeps}
 use Rattle.rh_client_counts.proofs.InCounts.{replaces_ins}
 use Rattle.rh_client_counts.proofs.OneCookie.{one_in_cookie}
@@ -164,10 +162,12 @@ module _ (connection : Cookie) where
     next = later;
     names =
         one_more_behind (NamesIn connection) put (leg, m) h.names
-        (subst (λ (x : Message). NamesIn connection put (leg, x)) (sym is)
-        (h.config, λ j number.
-        began_before ClientIn is_conn_b1 BeginsIn wc ic b false w n put next h.began j
-        (sym at ∙ number)));
+        (subst (λ (x : Message). NamesIn connection put (leg, x)) (sym is) (
+          h.config,
+          λ j number.
+              began_before ClientIn is_conn_b1 BeginsIn wc ic b false w n put next h.began j
+              (sym at ∙ number),
+        ));
   }
 
   asks_at : (of wc ic : Cookie) (b : Bool) (w n : ℕ) (way : Way) (put : List OnLeg) (one : OnLeg)

@@ -1,16 +1,16 @@
 pub mod Allowed
 pub mod Standing
-pub mod Views
-pub mod Begins
-pub mod Rows
-pub mod Puts
-pub mod Moves
-pub mod InCounts
-pub mod OutCounts
-pub mod Wishes
-pub mod Opens
-pub mod Beginning
-pub mod Began
+mod Views
+mod Replacements
+mod Rows
+mod Puts
+mod Moves
+mod InCounts
+mod OutCounts
+mod Wishes
+mod Opens
+pub mod Behind
+mod Began
 pub mod OneCookie
-pub mod InNames
-pub mod OutNames
+mod InNames
+mod OutNames

@@ -1,5 +1,5 @@
 -- a client opens once, and does little before
-use Rattle.std.proofs.Common.{◌≡◌, ℕ, suc, ◌+◌, ◌≤◌, Bool, true, false, true≢false, not, if◌then◌else◌, List, [], ◌∷◌, ◌++◌, Some, None, inl, inr, arith, refl, sym, ap, ◌∙◌, subst}
+use Rattle.std.proofs.Common.{◌≡◌, ℕ, ◌+◌, Bool, true, false, true≢false, not, List, [], ◌∷◌, ◌++◌, Some, None, inl, inr, arith, refl, sym, ap, ◌∙◌, subst}
 use Rattle.std.proofs.lemmas.Bool.Decides.{nat_tests}
 use Rattle.std.specs.Prelude.{IfSome}
 use Rattle.std.specs.List.{AllByRecursion}
@@ -36,8 +36,8 @@ use Rattle.rh_client_counts.specs.Replacing.{InIsAt, OutIsAt, ReplacesIns, Repla
 use Rattle.rh_client_counts.specs.Opening.{opened, IsUnused, OpensOnce}
 use Rattle.rh_client_counts.proofs.Allowed.{allowed_moves_keep}
 use Rattle.rh_client_counts.proofs.Standing.{passes, total_stays, total_rises, once_at_most}
-use Rattle.rh_client_counts.proofs.Views.{View, view, Way, way_of, Free, InIsAsked, InIsAnswered, OutIsAsked, OutIsAnswered, OutIsSwitched, OutIsFinished, is_in_way, is_out_way, out_if, has_in, behind_out, Marks, marks, unmarked, IsGreeting, IsPast, IsDue, EventsKeep}
-use Rattle.rh_client_counts.proofs.Begins as keeps
+use Rattle.rh_client_counts.proofs.Views.{View, view, Way, way_of, Free, InIsAsked, InIsAnswered, OutIsAsked, OutIsAnswered, OutIsSwitched, OutIsFinished, is_in_way, is_out_way, out_if, has_in, behind_out, Marks, IsGreeting, IsPast, IsDue, EventsKeep}
+use Rattle.rh_client_counts.proofs.Replacements as keeps
 use Rattle.rh_client_counts.proofs.Puts.{not_both}
 use Rattle.rh_client_counts.proofs.Moves.{client_keeps}
 use Rattle.rh_client_counts.proofs.InCounts.{replaces_ins}

@@ -1,8 +1,7 @@
 -- a client names its OUT channels
-use Rattle.std.proofs.Common.{◌≡◌, ◌⊎◌, ℕ, ◌+◌, ◌<◌, ◌≤◌, Bool, true, false, true≢false, List, [], ◌∷◌, ◌++◌, inl, inr, arith, refl, sym, ap, ◌∙◌, subst}
+use Rattle.std.proofs.Common.{◌≡◌, ◌⊎◌, ℕ, ◌+◌, ◌≤◌, Bool, true, false, true≢false, List, [], ◌∷◌, ◌++◌, inl, inr, arith, refl, sym, ap, ◌∙◌, subst}
 use Rattle.rh_http.specs.declared.config.ClientConfig.{ClientConfig}
 use Rattle.rh_rts.specs.declared.command.Cookie.{Cookie}
-use Rattle.rh_sig.specs.declared.named.Named.{Named}
 use Rattle.rh_sig.specs.declared.named.Named.TheVariants.{ConnA1, OutR1A3, OutR1A7}
 use Rattle.rh_sig.specs.declared.ranges.TheConstants.{PROTOCOL_VERSION}
 use Rattle.rh_line.specs.declared.leg.Leg.{Leg}
@@ -21,10 +20,10 @@ use Rattle.rh_client_counts.specs.Replacing.{ReplacesOuts}
 use Rattle.rh_client_counts.specs.Naming.{EachBehind, NamesOut, NamesOuts}
 use Rattle.rh_client_counts.proofs.Allowed.{allowed_moves_keep}
 use Rattle.rh_client_counts.proofs.Standing.{passes, stands_on, total_stays, total_rises}
-use Rattle.rh_client_counts.proofs.Beginning.{one_more_behind}
+use Rattle.rh_client_counts.proofs.Behind.{one_more_behind}
 use Rattle.rh_client_counts.proofs.Began.{Began, began_not, began_more, began_up, began_anew, began_first, began_asked, began_follows, began_before}
 use Rattle.rh_client_counts.proofs.Views.{View, view, Way, Free, InIsAsked, InIsAnswered, OutIsAsked, OutIsAnswered, OutIsSwitched, OutIsFinished, is_out_way, Marks, marks, unmarked, Names, EventsKeep}
-use Rattle.rh_client_counts.proofs.Begins as keeps
+use Rattle.rh_client_counts.proofs.Replacements as keeps
 use Rattle.rh_client_counts.proofs.Moves.{client_keeps}
 use Rattle.rh_client_counts.proofs.OutCounts.{replaces_outs}
 use Rattle.rh_client_counts.proofs.OneCookie.{one_out_cookie}
@@ -189,10 +188,12 @@ module _ (connection : Cookie) where
     next = so h.a7 h.next;
     names =
         one_more_behind (NamesOut connection) put (leg, m) h.names
-        (subst (λ (x : Message). NamesOut connection put (leg, x)) (sym is)
-        (h.config, λ j number.
-        began_before ClientOut is_conn_a1 BeginsOut cc oc b false c n put next h.began j
-        (sym at ∙ number)));
+        (subst (λ (x : Message). NamesOut connection put (leg, x)) (sym is) (
+          h.config,
+          λ j number.
+              began_before ClientOut is_conn_a1 BeginsOut cc oc b false c n put next h.began j
+              (sym at ∙ number),
+        ));
   }
 
   asks_at : (of cc oc : Cookie) (window : ℕ) (b : Bool) (c n : ℕ) (way : Way)

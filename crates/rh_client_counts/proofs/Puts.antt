@@ -1,5 +1,5 @@
 -- what a client puts are events of its replacements
-use Rattle.std.proofs.Common.{◌≡◌, inl, ℕ, ◌==◌, Bool, true, false, true≢false, not, ◌&&◌, if◌then◌else◌, List, [], ◌∷◌, ◌++◌, Some, None, rules, refl, sym, ap, ◌∙◌, subst}
+use Rattle.std.proofs.Common.{◌≡◌, inl, ℕ, ◌==◌, Bool, true, false, true≢false, not, ◌&&◌, if◌then◌else◌, List, [], ◌∷◌, ◌++◌, Some, None, refl, sym, ◌∙◌, subst}
 use Rattle.std.proofs.lemmas.Bool.{and_parts}
 use Rattle.std.specs.Prelude.{IfSome}
 use Rattle.std.specs.declared.option.Option.{Option}
@@ -18,7 +18,6 @@ use Rattle.rh_order.proofs.ByNumber.{by_test, same_number}
 use Rattle.rh_shell.specs.declared.answers.Phase.{Phase}
 use Rattle.rh_shell.specs.declared.answers.Phase.TheVariants as phase
 use Rattle.rh_shell.specs.Rules.{Message, Text, Packet}
-use Rattle.rh_shell.specs.Shells.{is_of}
 use Rattle.rh_shell.specs.Moves.{OnLeg}
 use Rattle.rh_passages.proofs.Logs.{PutKeeps}
 use Rattle.rh_client.specs.declared.channels.Opening.{Opening}
@@ -35,10 +34,10 @@ use Rattle.rh_client.specs.Replacements.{is_in, is_out}
 use Rattle.rh_client.specs.State.{is_open, is_opening, is_writing, is_in_successor, is_current, is_out_successor}
 use Rattle.rh_client.specs.Acknowledging.{may_ack, ack_due, cookie_of}
 use Rattle.rh_client.specs.InReplacement.{handed_over}
-use Rattle.rh_client.specs.Putting.{Pick, or_else, conn_b1, conn_a1, in_r1_a1, out_r1_a3, begun_in, begun_out, with_end_put, put_in_r1_a5, put_out_r1_a7, put_by, put_conn_b1, put_in_r1_a1, put_current, put_out_successor, put_out, due_by, put_due, ack_by, put_ack_of, put_ack, lets_pdu, pdu_by, put_pdu, is_end_due, put_end, put_ping, put_successor_ping, put_next, put_writing, put_in_successor, put_in, settled_pick}
-use Rattle.rh_client_counts.proofs.Views.{View, view, view_by, Way, Free, way_of, in_way, out_way, is_in_way, is_out_way, out_if, marks, Marks, unmarked, IsGreeting, IsDue, EventsKeep}
+use Rattle.rh_client.specs.Putting.{Pick, or_else, conn_b1, conn_a1, in_r1_a1, out_r1_a3, begun_in, with_end_put, put_in_r1_a5, put_out_r1_a7, put_by, put_conn_b1, put_in_r1_a1, put_current, put_out_successor, put_out, due_by, put_due, ack_by, put_ack_of, put_ack, lets_pdu, pdu_by, put_pdu, is_end_due, put_end, put_ping, put_successor_ping, put_next, put_writing, put_in_successor, put_in, settled_pick}
+use Rattle.rh_client_counts.proofs.Views.{View, view, view_by, marks, unmarked, IsGreeting, IsDue, EventsKeep}
 use Rattle.rh_client.proofs.ClientLogs.{of_other}
-use Rattle.rh_client_counts.proofs.Begins as begins
+use Rattle.rh_client_counts.proofs.Replacements as replacements
 use Rattle.rh_client_counts.proofs.Rows as rows
 
 pub not_both : (p : Phase) → is_open p ≡ true → is_opening p ≡ true → ⊥
@@ -64,7 +63,7 @@ is_due s Next ack e = by s.line.has_next (not s.line.next.ended) e
 module _ (P : View → List OnLeg → List OnLeg → Type 0) (events : EventsKeep P) (leg : Leg)
     (came put : List OnLeg) where
   abbrev Holds : ClientRole → List OnLeg → List OnLeg → Type 0
-  Holds = begins.Holds P events
+  Holds = replacements.Holds P events
 
   abbrev pub Puts : Pick → Type 0
   Puts pick = PutKeeps Holds leg came put pick
@@ -79,7 +78,7 @@ module _ (P : View → List OnLeg → List OnLeg → Type 0) (events : EventsKee
   quiet_put : (s : ClientRole) (pick : Pick) → Quiet s pick → Holds s came put → Puts pick
   quiet_put s None quiet h = tt
   quiet_put s (Some one) quiet h =
-      begins.same_holds P events s one.0 came (put ++ (leg, one.1) ∷ []) quiet.0
+      replacements.same_holds P events s one.0 came (put ++ (leg, one.1) ∷ []) quiet.0
       (events.goes (view s) came put (leg, one.1) quiet.1 quiet.2 h)
 
   or_put : (a b : Pick) → Puts a → Puts b → Puts (or_else a b)
@@ -93,7 +92,7 @@ module _ (P : View → List OnLeg → List OnLeg → Type 0) (events : EventsKee
   a5_put s w k at h =
       by_test Puts (fits s.writing.meter IN_R1_A5_LEN)
       (Some (handed_over s w, Packet (named.InR1A5 s.in_successor.cookie))) None
-      (λ e. begins.after_in_holds P events (record s {
+      (λ e. replacements.after_in_holds P events (record s {
         leaving = s.writing;
         writing = s.in_successor;
         in_successor = unopened_in 0 s.config.lifetime;
@@ -122,10 +121,10 @@ module _ (P : View → List OnLeg → List OnLeg → Type 0) (events : EventsKee
   due_put s NoneUnderWay e k at h = tt
   due_put s (In in_stage.Asked w) e k at h = tt
   due_put s (In in_stage.Answered w) e k at h =
-      a5_put s w k at (begins.at_replacement P events s (In in_stage.Answered w) came put e h)
+      a5_put s w k at (replacements.at_replacement P events s (In in_stage.Answered w) came put e h)
   due_put s (Out out_stage.Asked w) e k at h = tt
   due_put s (Out out_stage.Answered w) e k at h =
-      a7_put s w k (begins.at_replacement P events s (Out out_stage.Answered w) came put e h)
+      a7_put s w k (replacements.at_replacement P events s (Out out_stage.Answered w) came put e h)
   due_put s (Out out_stage.Switched w) e k at h = tt
   due_put s (Out out_stage.Finished w) e k at h = tt
 
@@ -143,8 +142,12 @@ module _ (P : View → List OnLeg → List OnLeg → Type 0) (events : EventsKee
   quiet_pdu s None = tt
   quiet_pdu s (Some len) =
       by_test (Quiet s) (lets_pdu s len) _ None
-      (λ e. (refl, refl, λ opening.
-      absurd (not_both s.phase (and_parts (is_open s.phase) _ e).0 opening)))
+      (λ e. (
+        refl,
+        refl,
+        λ opening.
+            absurd (not_both s.phase (and_parts (is_open s.phase) _ e).0 opening),
+      ))
       (λ e. tt)
 
   quiet_ping : (s : ClientRole) → Quiet s (put_ping s)
@@ -319,7 +322,7 @@ module _ (P : View → List OnLeg → List OnLeg → Type 0) (events : EventsKee
   settled_put : (pick : Pick) → Puts pick → Puts (settled_pick pick)
   settled_put None h = tt
   settled_put (Some pick) h =
-      begins.settled_or_wished_holds P events pick.0 came (put ++ (leg, pick.1) ∷ []) h
+      replacements.settled_or_wished_holds P events pick.0 came (put ++ (leg, pick.1) ∷ []) h
 
   pub puts_by : (s : ClientRole) (k : LegKind) → leg.kind ≡ k → Holds s came put
       → Puts (settled_pick (put_by s leg.number k))

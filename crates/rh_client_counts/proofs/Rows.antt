@@ -1,13 +1,12 @@
 -- what comes to a client, its legs and what it is given, are events of its replacements
-use Rattle.std.proofs.Common.{◌≡◌, ◌⊎◌, inl, inr, ℕ, ◌+◌, ◌==◌, Bool, true, false, not, ◌&&◌, ◌||◌, nat_lt, if◌then◌else◌, List, [], ◌∷◌, ◌++◌, Some, None, Ok, Err, rules, refl, sym, ap, ◌∙◌, subst}
+use Rattle.std.proofs.Common.{◌≡◌, ◌⊎◌, inl, inr, ℕ, ◌==◌, Bool, true, false, not, ◌&&◌, ◌||◌, nat_lt, if◌then◌else◌, List, [], ◌∷◌, ◌++◌, Some, None, Ok, Err, rules, refl, sym, ap, ◌∙◌, subst}
 use Rattle.std.proofs.lemmas.Bool.{and_parts}
 use Rattle.std.specs.Option.{is_some}
 use Rattle.std.specs.declared.option.Option.{Option}
-use Rattle.std.specs.declared.result.Result.{Result}
 use Rattle.rh_rts.specs.declared.command.Cookie.{Cookie}
 use Rattle.rh_sig.specs.declared.named.Named.{Named}
 use Rattle.rh_sig.specs.declared.named.Named.TheVariants as named
-use Rattle.rh_line.specs.Lines.{admit_verdict, after_admit, after_end, after_finish, after_take, channel_of}
+use Rattle.rh_line.specs.Lines.{admit_verdict, after_admit, after_end, after_finish, channel_of}
 use Rattle.rh_line.specs.declared.leg.Leg.{Leg}
 use Rattle.rh_line.specs.declared.leg.LegKind.{LegKind}
 use Rattle.rh_line.specs.declared.leg.LegKind.TheVariants.{ClientOut, OutServer, ClientIn, InServer}
@@ -15,8 +14,6 @@ use Rattle.rh_line.specs.declared.which.Which.{Which}
 use Rattle.rh_order.proofs.ByNumber.{by_test, same_number}
 use Rattle.rh_shell.specs.declared.answers.Count.{Count}
 use Rattle.rh_shell.specs.declared.answers.Phase.TheVariants as phase
-use Rattle.rh_shell.specs.declared.end_role.RecycleRefused.{RecycleRefused}
-use Rattle.rh_shell.specs.declared.end_role.RecycleRefused.TheVariants.{Last}
 use Rattle.rh_shell.specs.Rules.{Row, Pdu, Packet}
 use Rattle.rh_shell.specs.Moves.{OnLeg}
 use Rattle.rh_passages.proofs.Logs.{Fact, RowKeeps}
@@ -28,24 +25,22 @@ use Rattle.rh_client.specs.declared.replacement.Replacement.TheVariants.{NoneUnd
 use Rattle.rh_client.specs.declared.replacement.InStage.TheVariants as in_stage
 use Rattle.rh_client.specs.declared.replacement.OutStage.{OutStage}
 use Rattle.rh_client.specs.declared.replacement.OutStage.TheVariants as out_stage
-use Rattle.rh_client.specs.declared.replacement.Waits.{Waits}
 use Rattle.rh_client.specs.declared.replacement.Waits.TheVariants as waits
 use Rattle.rh_client.specs.declared.state.ClientRole.{ClientRole}
-use Rattle.rh_client.specs.Channels.{unopened_in, unopened_out, is_up, is_put, is_asked, told_in, is_named, in_up, out_up}
-use Rattle.rh_client.specs.Replacements.{is_none, is_in, is_out, has_out, with_in, with_out}
-use Rattle.rh_client.specs.State.{Done, taken, unexpected, settled, is_open, is_opening, is_writing, is_in_successor, is_current, is_out_successor, is_over, begin_in, begin_out, after_in, after_out}
+use Rattle.rh_client.specs.Channels.{is_up, is_put, is_asked, told_in, is_named, in_up, out_up}
+use Rattle.rh_client.specs.Replacements.{is_in, is_out, has_out, with_out}
+use Rattle.rh_client.specs.State.{Done, taken, unexpected, settled, is_open, is_opening, is_writing, is_in_successor, is_current, is_out_successor}
 use Rattle.rh_client.specs.Opening.{up_by, wants_by, on_conn_a3, on_conn_c2, with_next}
 use Rattle.rh_client.specs.Acknowledging.{pdu_on, admit_row, on_ack_to, ack_named, acked, ack_row}
-use Rattle.rh_client.specs.InReplacement.{on_in_r1_a4, on_in_r2_a4, answer_by, recycle_by, wish_by, wished, wants_successor}
-use Rattle.rh_client.specs.OutReplacement.{succeeded, ended_or, pass_by, passed, a2_by, a6_by, a10_by, on_out_r1_a2, on_out_r1_a6}
-use Rattle.rh_client.specs.Ending.{Given, give, take, drawn_by, on_end_b2, end_on, end_channel}
+use Rattle.rh_client.specs.InReplacement.{answer_by}
+use Rattle.rh_client.specs.OutReplacement.{passed, a2_by, a6_by, a10_by, on_out_r1_a2, on_out_r1_a6}
+use Rattle.rh_client.specs.Ending.{give, drawn_by, on_end_b2, end_on, end_channel}
 use Rattle.rh_client.specs.Time.{ping_by}
-use Rattle.rh_client.specs.Putting.{settled_or_wished}
 use Rattle.rh_client.specs.Client as client
 use Rattle.rh_client.specs.Client.{on_packet, packet_by}
-use Rattle.rh_client_counts.proofs.Views.{View, view, view_by, Way, way_of, Free, InIsAsked, OutIsAsked, out_way, is_in_way, is_out_way, out_if, has_in, behind_out, newest_out, marks, Marks, unmarked, EventsKeep}
-use Rattle.rh_client_counts.proofs.Begins as begins
-use Rattle.rh_client_counts.proofs.Begins.{at_replacement, same_holds, begin_out_holds, settled_holds, passed_holds}
+use Rattle.rh_client_counts.proofs.Views.{View, view, view_by, way_of, out_way, is_in_way, is_out_way, newest_out, marks, unmarked, EventsKeep}
+use Rattle.rh_client_counts.proofs.Replacements as replacements
+use Rattle.rh_client_counts.proofs.Replacements.{at_replacement, same_holds, begin_out_holds, settled_holds, passed_holds}
 
 first_of : (a b c : Bool) → a || (b && c) ≡ true → b ≡ false → a ≡ true
 first_of true b c e o = refl
@@ -96,7 +91,7 @@ newest_is out_stage.Finished a b = refl
 
 module _ (P : Fact View) (events : EventsKeep P) where
   abbrev Holds : Fact ClientRole
-  Holds = begins.Holds P events
+  Holds = replacements.Holds P events
 
   -- ---- rows
 

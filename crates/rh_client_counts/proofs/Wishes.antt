@@ -1,5 +1,5 @@
 -- a client asks for a successor of an OUT channel where one is wanted
-use Rattle.std.proofs.Common.{◌≡◌, ℕ, ◌+◌, ◌≤◌, Bool, true, false, true≢false, not, nat_lt, if◌then◌else◌, List, [], ◌∷◌, ◌++◌, arith, refl, sym, ap, ◌∙◌, subst}
+use Rattle.std.proofs.Common.{◌≡◌, ℕ, ◌+◌, ◌≤◌, Bool, true, false, true≢false, not, nat_lt, List, [], ◌∷◌, ◌++◌, arith, refl, sym, ap, ◌∙◌, subst}
 use Rattle.rh_http.specs.declared.config.ClientConfig.{ClientConfig}
 use Rattle.rh_line.specs.declared.leg.LegKind.TheVariants.{ClientOut}
 use Rattle.rh_shell.specs.declared.answers.Phase.{Phase}
@@ -23,8 +23,8 @@ use Rattle.rh_client_counts.specs.Counting.{is_out_r1_a2, is_out_r1_a3, total, o
 use Rattle.rh_client_counts.specs.Replacing.{is_to_ask, out_waits, AsksWhereWanted}
 use Rattle.rh_client_counts.proofs.Allowed.{allowed_moves_keep}
 use Rattle.rh_client_counts.proofs.Standing.{passes, total_stays, total_rises}
-use Rattle.rh_client_counts.proofs.Views.{View, view, Way, way_of, waits_of, Free, InIsAsked, InIsAnswered, OutIsAsked, OutIsAnswered, OutIsSwitched, OutIsFinished, is_out_way, out_if, has_in, behind_out, newest_out, Marks, marks, unmarked, EventsKeep}
-use Rattle.rh_client_counts.proofs.Begins as keeps
+use Rattle.rh_client_counts.proofs.Views.{View, view, Way, way_of, waits_of, Free, InIsAsked, InIsAnswered, OutIsAsked, OutIsAnswered, OutIsSwitched, OutIsFinished, is_out_way, out_if, has_in, behind_out, newest_out, Marks, EventsKeep}
+use Rattle.rh_client_counts.proofs.Replacements as keeps
 use Rattle.rh_client_counts.proofs.Moves.{client_keeps}
 
 abbrev to_ask : Bool → Way → Bool
