@@ -9,7 +9,7 @@ use Rattle.rh_line.specs.declared.leg.LegKind.TheVariants.{ClientIn}
 use Rattle.rh_shell.specs.Rules.{Message, Text, Pdu, Packet}
 use Rattle.rh_shell.specs.Moves.{OnLeg, Passage, EndMove, end_started, all_end_moved, AreAllowedAtEnd}
 use Rattle.rh_shell.specs.Wires.{of_leg}
-use Rattle.rh_passages.specs.Passing.{BeginsIn, HasBegunIn}
+use Rattle.rh_passages.specs.Passing.{Has, BeginsIn, HasBegunIn}
 use Rattle.rh_client.specs.State.{first, ci}
 use Rattle.rh_client.specs.Channels.{no_cookie}
 use Rattle.rh_client.specs.Client.{acts, rules}
@@ -19,7 +19,7 @@ use Rattle.rh_client_counts.specs.Replacing.{ReplacesIns}
 use Rattle.rh_client_counts.specs.Naming.{EachBehind, NamesIn, NamesIns}
 use Rattle.rh_client_counts.proofs.Allowed.{allowed_moves_keep}
 use Rattle.rh_client_counts.proofs.Standing.{passes, stands_on}
-use Rattle.rh_client_counts.proofs.Behind.{one_more_behind}
+use Rattle.rh_client_counts.proofs.Behind.{one_more_behind, still_has_all, has_one, found}
 use Rattle.rh_client_counts.proofs.Began.{Began, began_not, began_more, began_up, began_anew, began_first, began_asked, began_follows, began_before}
 use Rattle.rh_client_counts.proofs.Views.{View, view, Way, Free, InIsAsked, InIsAnswered, OutIsAsked, OutIsAnswered, OutIsSwitched, OutIsFinished, is_in_way, Marks, marks, unmarked, Names, EventsKeep}
 use Rattle.rh_client_counts.proofs.Replacements as keeps
@@ -261,6 +261,31 @@ module _ (connection : Cookie) where
     succeeds = λ v came put h. turns v OutIsFinished Free came put (λ next. tt) h;
   }
 
+  asked : (n v : ℕ) (of predecessor successor : Cookie) (put : List OnLeg)
+      → EachBehind (NamesIn connection) [] put
+      → Has (InR1A1 v of predecessor successor) (of_leg (ci n) put)
+      → (of ≡ connection) × HasBegunIn successor (of_leg (ci n) put)
+      × ((k : ℕ) → n ≡ k + 1 → 2 ≤ k → HasBegunIn predecessor (of_leg (ci k) put))
+  asked n v of predecessor successor put names has =
+      let m = InR1A1 v of predecessor successor in
+      let f = found (NamesIn connection) (ci n) m [] put names has in (
+        f.so.0,
+        has_one (BeginsIn successor) m (of_leg (ci n) put) refl has,
+        λ k number low. subst (λ (log : List OnLeg). HasBegunIn predecessor (of_leg (ci k) log))
+            (sym f.joined)
+            (still_has_all (BeginsIn predecessor) (ci k) f.before f.rest
+            (f.so.1 k (f.number ∙ number) (inl low))),
+      )
+
+  handed : (n : ℕ) (successor : Cookie) (put : List OnLeg)
+      → EachBehind (NamesIn connection) [] put → Has (InR1A5 successor) (of_leg (ci n) put)
+      → HasBegunIn successor (of_leg (ci (n + 1)) put)
+  handed n successor put names has =
+      let f = found (NamesIn connection) (ci n) (InR1A5 successor) [] put names has in
+      subst (λ (log : List OnLeg). HasBegunIn successor (of_leg (ci (n + 1)) log)) (sym f.joined)
+      (still_has_all (BeginsIn successor) (ci (n + 1)) f.before f.rest
+      (subst (λ (x : ℕ). HasBegunIn successor (of_leg (ci (x + 1)) f.before)) f.number f.so))
+
   named : (p : Passage ClientRole) → Holds (view p.role) p.came p.put → ReplacesIns p
       → NamesIns connection p
   named p h replaces =
@@ -273,6 +298,8 @@ module _ (connection : Cookie) where
         once = once;
         begins_on = on;
         one = one_in_cookie p.put once on replaces.asks_on;
+        asks = λ n v of pre suc has. asked n v of pre suc p.put h.names has;
+        hands_over = λ n suc has. handed n suc p.put h.names has;
       }
 
 pub names_ins : (config : ClientConfig) (moves : List EndMove)

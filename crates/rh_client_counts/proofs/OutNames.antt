@@ -9,7 +9,7 @@ use Rattle.rh_line.specs.declared.leg.LegKind.TheVariants.{ClientOut, ClientIn}
 use Rattle.rh_shell.specs.Rules.{Message, Text, Pdu, Packet}
 use Rattle.rh_shell.specs.Moves.{OnLeg, Passage, EndMove, end_started, all_end_moved, AreAllowedAtEnd}
 use Rattle.rh_shell.specs.Wires.{of_leg}
-use Rattle.rh_passages.specs.Passing.{BeginsOut, HasBegunOut}
+use Rattle.rh_passages.specs.Passing.{Has, BeginsOut, HasBegunOut}
 use Rattle.rh_client.specs.State.{first, co}
 use Rattle.rh_client.specs.Channels.{no_cookie}
 use Rattle.rh_client.specs.Client.{acts, rules}
@@ -20,7 +20,7 @@ use Rattle.rh_client_counts.specs.Replacing.{ReplacesOuts}
 use Rattle.rh_client_counts.specs.Naming.{EachBehind, NamesOut, NamesOuts}
 use Rattle.rh_client_counts.proofs.Allowed.{allowed_moves_keep}
 use Rattle.rh_client_counts.proofs.Standing.{passes, stands_on, total_stays, total_rises}
-use Rattle.rh_client_counts.proofs.Behind.{one_more_behind}
+use Rattle.rh_client_counts.proofs.Behind.{one_more_behind, still_has_all, has_one, found}
 use Rattle.rh_client_counts.proofs.Began.{Began, began_not, began_more, began_up, began_anew, began_first, began_asked, began_follows, began_before}
 use Rattle.rh_client_counts.proofs.Views.{View, view, Way, Free, InIsAsked, InIsAnswered, OutIsAsked, OutIsAnswered, OutIsSwitched, OutIsFinished, is_out_way, Marks, marks, unmarked, Names, EventsKeep}
 use Rattle.rh_client_counts.proofs.Replacements as keeps
@@ -320,6 +320,22 @@ module _ (connection : Cookie) where
         v.out_successor put h;
   }
 
+  asked : (n v : ℕ) (of predecessor successor : Cookie) (window : ℕ) (put : List OnLeg)
+      → EachBehind (NamesOut connection) [] put
+      → Has (OutR1A3 v of predecessor successor window) (of_leg (co n) put)
+      → (of ≡ connection) × HasBegunOut successor (of_leg (co n) put)
+      × ((k : ℕ) → n ≡ k + 1 → 2 ≤ k → HasBegunOut predecessor (of_leg (co k) put))
+  asked n v of predecessor successor window put names has =
+      let m = OutR1A3 v of predecessor successor window in
+      let f = found (NamesOut connection) (co n) m [] put names has in (
+        f.so.0,
+        has_one (BeginsOut successor) m (of_leg (co n) put) refl has,
+        λ k number low. subst (λ (log : List OnLeg). HasBegunOut predecessor (of_leg (co k) log))
+            (sym f.joined)
+            (still_has_all (BeginsOut predecessor) (co k) f.before f.rest
+            (f.so.1 k (f.number ∙ number) (inl low))),
+      )
+
   named : (p : Passage ClientRole) → Holds (view p.role) p.came p.put → ReplacesOuts p
       → NamesOuts connection p
   named p h replaces =
@@ -332,6 +348,7 @@ module _ (connection : Cookie) where
         once = once;
         begins_on = on;
         one = one_out_cookie p.put once on replaces.asks_on;
+        asks = λ n v of pre suc window has. asked n v of pre suc window p.put h.names has;
       }
 
 pub names_outs : (config : ClientConfig) (moves : List EndMove)

@@ -9,7 +9,7 @@ use Rattle.rh_line.specs.declared.leg.LegKind.TheVariants.{ClientIn, ClientOut}
 use Rattle.rh_shell.specs.Rules.{Text, Pdu, Packet}
 use Rattle.rh_shell.specs.Moves.{OnLeg, Passage}
 use Rattle.rh_shell.specs.Wires.{of_leg}
-use Rattle.rh_passages.specs.Passing.{HasBegunIn, HasBegunOut}
+use Rattle.rh_passages.specs.Passing.{Has, HasBegunIn, HasBegunOut}
 use Rattle.rh_client.specs.declared.state.ClientRole.{ClientRole}
 use Rattle.rh_client.specs.State.{ci, co}
 use Rattle.rh_client_counts.specs.Counting.{is_conn_a1, is_conn_b1, is_out_r1_a7, total, StandsOnEach}
@@ -46,6 +46,15 @@ pub record NamesIns (connection : Cookie) (p : Passage ClientRole) : Type 0 wher
   pub begins_on : StandsOnEach is_conn_b1 ClientIn 1 p.put
   pub one : (n : ℕ) (a b : Cookie) → HasBegunIn a (of_leg (ci n) p.put)
       → HasBegunIn b (of_leg (ci n) p.put) → a ≡ b
+  -- among all that was put
+  pub asks : (n version : ℕ) (of predecessor successor : Cookie)
+      → Has (InR1A1 version of predecessor successor) (of_leg (ci n) p.put)
+      → (of ≡ connection)
+      × HasBegunIn successor (of_leg (ci n) p.put)
+      × ((k : ℕ) → n ≡ k + 1 → 2 ≤ k → HasBegunIn predecessor (of_leg (ci k) p.put))
+  pub hands_over : (n : ℕ) (successor : Cookie)
+      → Has (InR1A5 successor) (of_leg (ci n) p.put)
+      → HasBegunIn successor (of_leg (ci (n + 1)) p.put)
 
 -- ---- OUT channels
 
@@ -73,3 +82,9 @@ pub record NamesOuts (connection : Cookie) (p : Passage ClientRole) : Type 0 whe
   pub begins_on : StandsOnEach is_conn_a1 ClientOut 1 p.put
   pub one : (n : ℕ) (a b : Cookie) → HasBegunOut a (of_leg (co n) p.put)
       → HasBegunOut b (of_leg (co n) p.put) → a ≡ b
+  -- among all that was put
+  pub asks : (n version : ℕ) (of predecessor successor : Cookie) (window : ℕ)
+      → Has (OutR1A3 version of predecessor successor window) (of_leg (co n) p.put)
+      → (of ≡ connection)
+      × HasBegunOut successor (of_leg (co n) p.put)
+      × ((k : ℕ) → n ≡ k + 1 → 2 ≤ k → HasBegunOut predecessor (of_leg (co k) p.put))
