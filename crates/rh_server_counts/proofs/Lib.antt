@@ -1,0 +1,5 @@
+mod Logs
+mod Dues
+mod Adding
+mod Stages
+mod Replacing
