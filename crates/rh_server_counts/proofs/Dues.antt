@@ -148,6 +148,40 @@ none_waits kind test of (due ∷ dues) all none =
     by false true is has kinds acks rest e = absurd (true≢false (sym is ∙ acks has))
     by false false is has kinds acks rest e = rest e
 
+-- and where none waits that passes a test, none of its kind does
+pub none_found : (kind : Kind) (test : Named → Bool)
+    → ((packet : Named) → is_kind kind packet ≡ true → test packet ≡ true) → (dues : List Due)
+    → waiting_of test dues ≡ 0 → is_some (find (is_own kind) dues) ≡ false
+none_found kind test all [] none = refl
+none_found kind test all (due ∷ dues) none =
+    by (is_own kind due) refl (all due.packet) none
+    (none_found kind test all dues)
+  where
+    kind_is : (o k : Bool) → o && k ≡ true → k ≡ true
+    kind_is true k e = e
+    kind_is false k e = absurd (false≢true e)
+
+    by : (k : Bool) → is_own kind due ≡ k
+        → (is_kind kind due.packet ≡ true → test due.packet ≡ true)
+        → (if test due.packet then suc (waiting_of test dues) else waiting_of test dues) ≡ 0
+        → (waiting_of test dues ≡ 0 → is_some (find (is_own kind) dues) ≡ false)
+        → is_some (if k then Some due else find (is_own kind) dues) ≡ false
+    by true e is none rest =
+        absurd (passed (test due.packet) (is (kind_is (is_of Own due) (is_kind kind due.packet) e))
+        none)
+      where
+        passed : (u : Bool) → u ≡ true
+            → (if u then suc (waiting_of test dues) else waiting_of test dues) ≡ 0 → ⊥
+        passed true f g = absurd (omega (arith, g))
+        passed false f g = false≢true f
+    by false e is none rest = rest (less (test due.packet) none)
+      where
+        less : (u : Bool)
+            → (if u then suc (waiting_of test dues) else waiting_of test dues) ≡ 0
+            → waiting_of test dues ≡ 0
+        less true g = absurd (omega (arith, g))
+        less false g = g
+
 -- ---- what is added
 
 -- packets of a kind may be added, or acknowledgements merged or dropped; all else stays

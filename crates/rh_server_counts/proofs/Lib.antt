@@ -3,3 +3,7 @@ mod Dues
 mod Adding
 mod Stages
 mod Replacing
+mod InLegs
+mod Openings
+mod Announcing
+mod Announced

@@ -5,7 +5,7 @@ use Rattle.rh_sig.specs.declared.named.Named.{Named}
 use Rattle.rh_line.specs.declared.leg.Leg.{Leg}
 use Rattle.rh_line.specs.declared.leg.LegKind.{LegKind}
 use Rattle.rh_line.specs.declared.leg.LegKind.TheVariants.{ClientOut, OutServer, ClientIn, InServer}
-use Rattle.rh_order.proofs.ByNumber.{same_number, other_number}
+use Rattle.rh_order.proofs.ByNumber.{same_number, other_number, test_same, test_other}
 use Rattle.rh_shell.specs.Moves.{OnLeg}
 use Rattle.rh_shell.specs.Rules.{Message}
 use Rattle.rh_shell.specs.Shells.{same_leg, is_of}
@@ -56,6 +56,28 @@ of_kind_itself ClientOut k = refl
 of_kind_itself OutServer k = refl
 of_kind_itself ClientIn k = refl
 of_kind_itself InServer k = refl
+
+-- a message on leg k, for this leg and for another
+at_one : (test : Named → Bool) (kind : LegKind) (k n : ℕ) (m : Message) (b : Bool)
+    → (k == n) ≡ b
+    → often_at test kind n ((leg_at kind k, m) ∷ []) ≡ count_of test (if b then m ∷ [] else [])
+at_one test kind k n m b e =
+    ap (λ (c : Bool). count_of test (if c then m ∷ [] else [])) (numbered kind k n ∙ e)
+
+pub at_here : (test : Named → Bool) (kind : LegKind) (k n : ℕ) (m : Message) (log : List OnLeg)
+    → k ≡ n → often_at test kind n (log ++ (leg_at kind k, m) ∷ [])
+    ≡ often_at test kind n log + count_of test (m ∷ [])
+at_here test kind k n m log e =
+    let more = often_at_more test kind n log (leg_at kind k, m) in
+    let same = at_one test kind k n m true (subst (λ (i : ℕ). k == i ≡ true) e (test_same k)) in
+    omega (arith, more, same)
+
+pub at_other : (test : Named → Bool) (kind : LegKind) (k n : ℕ) (m : Message) (log : List OnLeg)
+    → (k ≡ n → ⊥)
+    → often_at test kind n (log ++ (leg_at kind k, m) ∷ []) ≡ often_at test kind n log
+at_other test kind k n m log e =
+    let more = often_at_more test kind n log (leg_at kind k, m) in
+    let same = at_one test kind k n m false (test_other k n e) in omega (arith, more, same)
 
 -- ---- once on each leg in turn
 
@@ -115,37 +137,19 @@ on_next first k test kind log m is next h = record {
     all : often test kind (log ++ one ∷ []) ≡ suc (often test kind log)
     all = let more = often_more test kind log one in omega (arith, more, counted)
 
-    on : (n : ℕ) (b : Bool) → (k == n) ≡ b
-        → often_at test kind n (one ∷ []) ≡ count_of test (if b then m ∷ [] else [])
-    on n b e =
-        ap (λ (c : Bool). count_of test (if c then m ∷ [] else [])) (numbered kind k n ∙ e)
-
-    here : (n : ℕ) → (k == n) ≡ true
-        → often_at test kind n (log ++ one ∷ []) ≡ suc (often_at test kind n log)
-    here n e =
-        let more = often_at_more test kind n log one in
-        let same = on n true e in omega (arith, more, same, is)
-
-    other_by : (n : ℕ) (b : Bool) → (k == n) ≡ b → (k ≡ n → ⊥)
-        → often_at test kind n (log ++ one ∷ []) ≡ often_at test kind n log
-    other_by n true e differ = absurd (differ (same_number k n e))
-    other_by n false e differ =
-        let more = often_at_more test kind n log one in
-        let same = on n false e in omega (arith, more, same)
-
     other : (n : ℕ) → (k ≡ n → ⊥)
         → often_at test kind n (log ++ one ∷ []) ≡ often_at test kind n log
-    other n differ = other_by n (k == n) refl differ
+    other n differ = at_other test kind k n m log differ
 
     by_each : (n : ℕ) → first ≤ n → n < first + often test kind (log ++ one ∷ []) → (b : Bool)
         → (k == n) ≡ b → often_at test kind n (log ++ one ∷ []) ≡ 1
     by_each n from to true e =
         let same = same_number k n e in
         let was = h.behind n (omega (arith, same, next)) in
-        let more = here n e in omega (arith, was, more)
+        let more = at_here test kind k n m log same in omega (arith, was, more, is)
     by_each n from to false e =
         let differ = other_number k n e in
-        let more = other_by n false e differ in
+        let more = other n differ in
         let was = h.each n from (between n differ to) in omega (arith, was, more)
       where
         between : (n : ℕ) → (k ≡ n → ⊥) → n < first + often test kind (log ++ one ∷ [])

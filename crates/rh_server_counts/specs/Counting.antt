@@ -1,7 +1,7 @@
 -- how often packets passed on legs of a kind, and how many wait (MS-RPCH 2.2.4)
 use Rattle.std.specs.Prelude.{ℕ, suc, ◌≡◌, ◌+◌, ◌<◌, ◌≤◌, List, [], ◌∷◌, Bool, true, false, if◌then◌else◌}
 use Rattle.rh_sig.specs.declared.named.Named.{Named}
-use Rattle.rh_sig.specs.declared.named.Named.TheVariants.{ConnC1, InR1A3, InR2A3, OutR1A1, OutR1A4, OutR1A5, OutR1A8, OutR1A9}
+use Rattle.rh_sig.specs.declared.named.Named.TheVariants.{ConnA2, ConnB2, ConnB3, ConnC1, InR1A2, InR1A3, InR1A6, InR2A2, InR2A3, OutR1A1, OutR1A4, OutR1A5, OutR1A8, OutR1A9}
 use Rattle.rh_line.specs.declared.leg.Leg.{Leg}
 use Rattle.rh_line.specs.declared.leg.LegKind.{LegKind}
 use Rattle.rh_line.specs.declared.leg.LegKind.TheVariants.{OutServer, InServer}
@@ -13,13 +13,37 @@ use Rattle.rh_server.specs.States.{Server}
 
 -- ---- packets (MS-RPCH 2.2.4)
 
+abbrev pub is_conn_a2 : Named → Bool
+is_conn_a2 (ConnA2 version connection cookie lifetime window) = true
+is_conn_a2 packet = false
+
+abbrev pub is_conn_b2 : Named → Bool
+is_conn_b2 (ConnB2 version connection cookie window timeout group address padding) = true
+is_conn_b2 packet = false
+
+abbrev pub is_conn_b3 : Named → Bool
+is_conn_b3 (ConnB3 window version) = true
+is_conn_b3 packet = false
+
 abbrev pub is_conn_c1 : Named → Bool
 is_conn_c1 (ConnC1 version window timeout) = true
 is_conn_c1 packet = false
 
+abbrev pub is_in_r1_a2 : Named → Bool
+is_in_r1_a2 (InR1A2 version connection predecessor successor window timeout) = true
+is_in_r1_a2 packet = false
+
 abbrev pub is_in_r1_a3 : Named → Bool
 is_in_r1_a3 (InR1A3 destination version window timeout) = true
 is_in_r1_a3 packet = false
+
+abbrev pub is_in_r1_a6 : Named → Bool
+is_in_r1_a6 (InR1A6 successor) = true
+is_in_r1_a6 packet = false
+
+abbrev pub is_in_r2_a2 : Named → Bool
+is_in_r2_a2 (InR2A2 successor) = true
+is_in_r2_a2 packet = false
 
 abbrev pub is_in_r2_a3 : Named → Bool
 is_in_r2_a3 (InR2A3 destination) = true
@@ -66,12 +90,15 @@ pub record IsOnEachFrom (first : ℕ) (test : Named → Bool) (kind : LegKind) (
   pub before : (n : ℕ) → n < first → often_at test kind n log ≡ 0
   pub behind : (n : ℕ) → first + often test kind log ≤ n → often_at test kind n log ≡ 0
 
--- what came on a server's is legs and os legs, and what it put on os legs
+-- what came on a server's is legs and os legs, and what it put there
 abbrev pub in_came : (Named → Bool) → Passage Server → ℕ
 in_came test p = often test InServer p.came
 
 abbrev pub out_came : (Named → Bool) → Passage Server → ℕ
 out_came test p = often test OutServer p.came
+
+abbrev pub in_put : (Named → Bool) → Passage Server → ℕ
+in_put test p = often test InServer p.put
 
 abbrev pub out_put : (Named → Bool) → Passage Server → ℕ
 out_put test p = often test OutServer p.put
