@@ -7,3 +7,5 @@ mod InLegs
 mod Openings
 mod Announcing
 mod Announced
+mod Connecting
+mod Rows
