@@ -9,3 +9,4 @@ mod Announcing
 mod Announced
 mod Connecting
 mod Rows
+mod Steps

@@ -1,0 +1,517 @@
+-- what a server puts, and its other steps: how far it is with its opening, and its IN channels
+use Rattle.std.proofs.Common.{◌≡◌, ℕ, suc, ◌+◌, ◌≤◌, ◌==◌, ◌&&◌, not, Bool, true, false, true≢false, if◌then◌else◌, List, [], ◌∷◌, ◌++◌, Some, None, Ok, Err, arith, refl, rules, sym, ap, ◌∙◌, subst}
+use Rattle.std.proofs.lemmas.Bool.{false≢true, and_parts}
+use Rattle.std.specs.Prelude.{IfSome, slice_get, find}
+use Rattle.std.specs.List.{AllByRecursion}
+use Rattle.std.specs.declared.option.Option.{Option}
+use Rattle.rh_rts.specs.declared.command.Cookie.{Cookie}
+use Rattle.rh_sig.specs.declared.named.Named.{Named}
+use Rattle.rh_sig.specs.declared.named.Named.TheVariants as named
+use Rattle.rh_window.specs.declared.recv_window.Ack.{Ack}
+use Rattle.rh_line.specs.Lines.{after_tell, after_told}
+use Rattle.rh_line.specs.Queue.{front_length}
+use Rattle.rh_line.specs.declared.leg.Leg.{Leg}
+use Rattle.rh_line.specs.declared.leg.LegKind.{LegKind}
+use Rattle.rh_line.specs.declared.leg.LegKind.TheVariants.{ClientOut, OutServer, ClientIn, InServer}
+use Rattle.rh_line.specs.declared.which.Which.TheVariants.{Current}
+use Rattle.rh_order.proofs.ByNumber.{by_test, same_number}
+use Rattle.rh_shell.specs.declared.answers.Count.{Count}
+use Rattle.rh_shell.specs.declared.answers.Phase.TheVariants as phase
+use Rattle.rh_shell.specs.declared.due.Due.{Due}
+use Rattle.rh_shell.specs.Hearing.{greeting as greeting_text}
+use Rattle.rh_shell.specs.Rules.{Message, Text, Pdu, Packet}
+use Rattle.rh_shell.specs.Moves.{OnLeg, Passage, EndMove, end_started, all_end_moved}
+use Rattle.rh_shell.specs.Waiting.{Waiting, taken, without_first}
+use Rattle.rh_passages.specs.Passing.{of_kind}
+use Rattle.rh_passages.proofs.Logs.{PutKeeps, StepsKeep, ActsKeep, end_moves_keep}
+use Rattle.rh_server.specs.declared.state.Stage.{Stage}
+use Rattle.rh_server.specs.declared.state.Stage.TheVariants as stage
+use Rattle.rh_server.specs.declared.state.InStage.{InStage}
+use Rattle.rh_server.specs.declared.state.InStage.TheVariants as in_stage
+use Rattle.rh_server.specs.declared.state.Tells.{Tells}
+use Rattle.rh_server.specs.declared.state.Tells.TheVariants as tells
+use Rattle.rh_server.specs.declared.state.Leaving.{Leaving}
+use Rattle.rh_server.specs.declared.state.Leaving.TheVariants as leaving
+use Rattle.rh_server.specs.declared.state.Edge.TheVariants.{Told}
+use Rattle.rh_server.specs.declared.state.Greeting.TheVariants as greetings
+use Rattle.rh_server.specs.declared.state.InLeg.{InLeg}
+use Rattle.rh_server.specs.declared.state.OutLeg.{OutLeg}
+use Rattle.rh_server.specs.OutLines.{Gate, lets, length_of, is_ack}
+use Rattle.rh_server.specs.States.{Server, phase_of, is_open, is_due, is_shut, is_waiting, stays, has_left, in_leg, out_place, with_in, without_in, without_out}
+use Rattle.rh_server.specs.Opening.{has_room, in_leg_up, may_up_by, up, up_by}
+use Rattle.rh_server.specs.InReplacement.{take}
+use Rattle.rh_server.specs.OutReplacement.{recycle}
+use Rattle.rh_server.specs.Ending.{give, settled, drawn, drawn_by, in_is_drawn, mark, mark_by, lost_in, with_ack_dropped}
+use Rattle.rh_server.specs.Putting.{Pick, or_else, put_in_greeting, told_by, was_current, put_tells_by, put_tells, put_b1_by, put_b1, put_ack_by, put_ack, ack_due, put_in_by, out_greeting_at, put_out_greeting, counts, was_put, waiting_by, waiting_at, put_waiting, gate_at, with_out, pdu_by, put_pdu, put_end, put_pdu_or_end, next_out, settled_pick, put_open, put_out_at, put_by}
+use Rattle.rh_server.specs.Servers.{acts, first, pdu}
+use Rattle.rh_server.specs.Servers.{rules as server_rules}
+use Rattle.rh_server_counts.specs.Counting.{is_conn_a2, is_conn_b2, is_conn_b3, is_conn_c1, is_in_r1_a2, is_in_r1_a3, is_in_r2_a2, is_in_r2_a3, often, often_at, leg_at, waiting_of}
+use Rattle.rh_server_counts.specs.Answering.{how_many, AreAnswered, BeginOnce}
+use Rattle.rh_server_counts.specs.Opening.{since_conn_a2, since_conn_b2, since_open, IsText, IsEarly, OpensOnce}
+use Rattle.rh_server_counts.proofs.Logs.{at_most_in}
+use Rattle.rh_server_counts.proofs.Dues.{Went, one_waits, first_goes, others_have}
+use Rattle.rh_server_counts.proofs.InLegs.{IsFound, IsFoundAs, found, one_leg, many_joined, many_pushed}
+use Rattle.rh_server_counts.proofs.Openings.{is_conn_b3_due, owes_b3, Opening, opening_starts, opening_stays, opening_put}
+use Rattle.rh_server_counts.proofs.Announcing.{Look, look, Placed, Answering}
+use Rattle.rh_server_counts.proofs.Announced.{answering_starts, put_keeps, leg_set, leg_up}
+use Rattle.rh_server_counts.proofs.Adding.{of_out, recycle_adds, dropped_adds}
+use Rattle.rh_server_counts.proofs.Connecting.{Seen, seen, Holds, same_holds, row_keeps, IsQuiet, IsQuietPut, IsGreeting, put_quiet, Keeps, ack_alone, out_alone, alike, rest, added_keeps, settled_keeps, has_number, IsLeg, its_number, set_legs, owes_joined, stays_placed, is_placed, leg_keeps, gone_keeps, take_keeps}
+use Rattle.rh_server_counts.proofs.Rows.{packet_row}
+
+-- the server is open, so nothing of it is early
+opened : (at : Stage) → is_open at ≡ true → since_open at ≡ 0 → ⊥
+opened (stage.Open known) e f = absurd (omega (arith, f))
+opened stage.Waits e f = false≢true e
+opened (stage.OutCame known) e f = false≢true e
+opened (stage.InCame known window timeout) e f = false≢true e
+opened stage.Ended e f = false≢true e
+
+module _ (n : ℕ) (came put : List OnLeg) where
+  abbrev Puts : LegKind → Pick → Type 0
+  Puts kind pick = PutKeeps Holds (leg_at kind n) came put pick
+
+  or_put : (kind : LegKind) (a b : Pick) → Puts kind a → Puts kind b → Puts kind (or_else a b)
+  or_put kind None b h k = k
+  or_put kind (Some pick) b h k = h
+
+  -- ---- on an is leg
+
+  abbrev on_is : Message → OnLeg
+  on_is m = (leg_at InServer n, m)
+
+  -- the leg changes, and what is put counts for nothing
+  leg_puts : (s : Server) (leg y : InLeg) (m : Message) → IsLeg s n leg → y.number ≡ leg.number
+      → y.stage ≡ leg.stage → (stays leg.leaving ≡ true → stays y.leaving ≡ true)
+      → one_leg owes_b3 y ≤ one_leg owes_b3 leg
+      → often is_conn_b3 InServer (on_is m ∷ []) ≡ 0 → Holds s came put
+      → Holds (with_in s y) came (put ++ on_is m ∷ [])
+  leg_puts s leg y m f same at stay owes none h =
+      put_quiet (with_in s y) came put (on_is m) (refl, none, refl, refl) (λ e. tt)
+      (leg_keeps s n leg y came put f
+      (stays_placed s n leg y came put f same at stay h.answering) owes h)
+
+  -- CONN/B3
+  b3_puts : (s : Server) (leg : InLeg) (size version : ℕ) → IsLeg s n leg
+      → leg.tells ≡ tells.ConnB3 → is_open s.stage ≡ true → Holds s came put
+      → Holds (with_in s (record leg { tells = tells.Nothing })) came
+      (put ++ on_is (Packet (named.ConnB3 size version)) ∷ [])
+  b3_puts s leg size version f tell is h = record {
+    opening = opening_put s.stage s.waiting.due s.waiting.due s.ins t.ins came put one (record {
+      conn_c1 = let no_c1 : often is_conn_c1 OutServer (one ∷ []) ≡ 0 = refl in omega (arith, no_c1);
+      conn_b3 =
+          let was = owes_joined s n leg f in
+          let are = ap (how_many owes_b3) (set_legs s n leg y f refl)
+              ∙ many_joined owes_b3 y f.before f.behind in
+          omega (arith, was, are, due, none, is_b3);
+      greetings = λ e. tt;
+      early_b3 = λ e. absurd (opened s.stage is e);
+    }) h.opening;
+    answering = put_keeps (look t) s.waiting.due came put one h.answering.origins (omega arith)
+        (omega arith)
+        (leg_keeps s n leg y came put f
+        (stays_placed s n leg y came put f refl refl (λ e. e) h.answering)
+        (omega (arith, none)) h).answering;
+  }
+    where
+      y : InLeg
+      y = record leg { tells = tells.Nothing }
+
+      t : Server
+      t = with_in s (record leg { tells = tells.Nothing })
+
+      one : OnLeg
+      one = on_is (Packet (named.ConnB3 size version))
+
+      due : one_leg owes_b3 leg ≡ 1
+      due = ap {B = ℕ} (λ (what : Tells). if is_conn_b3_due what then 1 else 0) tell
+
+      none : one_leg owes_b3 y ≡ 0
+      none = refl
+
+      is_b3 : often is_conn_b3 InServer (one ∷ []) ≡ 1
+      is_b3 = refl
+
+  in_puts : (s : Server) (o : Option InLeg) → IsFoundAs (has_number n) s.ins o → Holds s came put
+      → Puts InServer (put_in_by s o)
+  in_puts s None f h = tt
+  in_puts s (Some leg) f h =
+      or_put InServer (put_in_greeting s leg) _
+      (by_test (Puts InServer) (is_due leg.greeting) _ None
+      (λ e. leg_puts s leg (record leg { greeting = greetings.Put }) (Text greeting_text) f refl
+      refl (λ g. g) (omega arith) refl h) (λ e. tt))
+      (or_put InServer (put_tells s leg) _ (by_tells leg.tells refl)
+      (or_put InServer (put_b1 s leg) (put_ack s leg) (by_leaving leg.leaving refl)
+      (ack (ack_due s leg))))
+    where
+      owes_none : one_leg owes_b3 (record leg { tells = tells.Nothing })
+          ≤ one_leg owes_b3 leg
+      owes_none = omega arith
+
+      by_tells : (what : Tells) → leg.tells ≡ what → Puts InServer (put_tells_by s leg what)
+      by_tells tells.Nothing e = tt
+      by_tells tells.ConnB3 e =
+          by_test (Puts InServer) (is_open s.stage) _ None
+          (λ is. b3_puts s leg s.line.size 1 f e is h) (λ is. tt)
+      by_tells tells.InR1B2 e =
+          by_test (Puts InServer) (was_current s leg) _ None
+          (λ is. by_test (λ (u : Server).
+          Holds (with_in u (record leg { tells = tells.Nothing })) came
+          (put ++ on_is (Packet (named.InR1B2 s.line.size)) ∷ []))
+          ((leg.number == s.current.leg) && is_shut s.edge)
+          (record s { line = after_tell s.line Current; edge = Told }) s
+          (λ g. leg_puts (record s { line = after_tell s.line Current; edge = Told }) leg
+          (record leg { tells = tells.Nothing }) (Packet (named.InR1B2 s.line.size)) f refl refl
+          (λ i. i) owes_none refl
+          (same_holds s (record s { line = after_tell s.line Current; edge = Told }) came put refl
+          h))
+          (λ g. leg_puts s leg (record leg { tells = tells.Nothing })
+          (Packet (named.InR1B2 s.line.size)) f refl refl (λ i. i) owes_none refl h))
+          (λ is. tt)
+
+      by_leaving : (how : Leaving) → leg.leaving ≡ how → Puts InServer (put_b1_by s leg how)
+      by_leaving leaving.Stays e = tt
+      by_leaving leaving.InR1B1 e =
+          leg_puts s leg (record leg { leaving = leaving.Left }) (Packet named.InR1B1) f refl refl
+          (λ g. absurd (true≢false (sym g ∙ ap stays e))) (omega arith) refl h
+      by_leaving leaving.Left e = tt
+      by_leaving leaving.Lost e = tt
+
+      ack : (a : Option Ack) → Puts InServer (put_ack_by s a)
+      ack None = tt
+      ack (Some a) =
+          let t : Server = record s { line = after_told s.line Current a } in
+          put_quiet t came put
+          (on_is (Packet (named.Ack a.received a.available s.current.cookie)))
+          (refl, refl, refl, refl) (λ e. tt) (same_holds s t came put refl h)
+
+  -- ---- on an os leg
+
+  abbrev on_os : Message → OnLeg
+  on_os m = (leg_at OutServer n, m)
+
+  -- what leaves the server as it was
+  abbrev Quiet : Server → Pick → Type 0
+  Quiet s pick =
+      IfSome pick (λ (one : Server × Message).
+      (seen one.0 ≡ seen s) × IsQuietPut (on_os one.1))
+
+  quiet_puts : (s : Server) (pick : Pick) → is_open s.stage ≡ true → Quiet s pick
+      → Holds s came put → Puts OutServer pick
+  quiet_puts s None is quiet h = tt
+  quiet_puts s (Some one) is quiet h =
+      same_holds s one.0 came (put ++ on_os one.1 ∷ []) quiet.0
+      (put_quiet s came put (on_os one.1) quiet.1 (λ e. absurd (opened s.stage is e)) h)
+
+  counts_same : (s : Server) (place len : ℕ) → seen (counts s place len) ≡ seen s
+  counts_same s place len = search rules
+
+  was_put_same : (s : Server) (place : ℕ) (packet : Named)
+      → seen (was_put s place packet) ≡ seen s
+  was_put_same s place named.OutR1A9 = counts_same s place 24
+  was_put_same s place (named.AckTo destination received window cookie) =
+      by_test (λ (t : Server). seen t ≡ seen s) (destination == 3) s (counts s place 56)
+      (λ e. refl) (λ e. counts_same s place 56)
+  was_put_same s place packet = counts_same s place (length_of packet)
+
+  waiting_puts : (s : Server) (place : ℕ) (o : Option Gate) → is_open s.stage ≡ true
+      → Holds s came put → Puts OutServer (waiting_at s place o)
+  waiting_puts s place None is h = tt
+  waiting_puts s place (Some gate) is h =
+      by (find (lets gate) dues) (first_goes is_conn_c1 (lets gate) dues)
+      (first_goes is_in_r1_a3 (lets gate) dues) (first_goes is_in_r2_a3 (lets gate) dues)
+    where
+      dues : List Due
+      dues = s.waiting.due
+
+      left : Waiting
+      left = (taken (lets gate) s.waiting).0
+
+      by : (x : Option Due) → Went is_conn_c1 dues left.due x → Went is_in_r1_a3 dues left.due x
+          → Went is_in_r2_a3 dues left.due x → Puts OutServer (waiting_by s place (left, x))
+      by None c1 r1 r2 = tt
+      by (Some due) c1 r1 r2 =
+          let t : Server = record s { waiting = left } in
+          same_holds t (was_put t place due.packet) came (put ++ on_os (Packet due.packet) ∷ [])
+          (was_put_same t place due.packet) (record {
+            opening = opening_put s.stage dues left.due s.ins s.ins came put
+                (on_os (Packet due.packet)) (record {
+              conn_c1 = one_of is_conn_c1 due.packet left.due c1;
+              conn_b3 = omega arith;
+              greetings = λ e. absurd (opened s.stage is e);
+              early_b3 = λ e. refl;
+            }) h.opening;
+            answering = put_keeps (look s) left.due came put (on_os (Packet due.packet))
+                (others_have (lets gate) dues h.answering.origins) r1 r2 h.answering;
+          })
+        where
+          one_of : (test : Named → Bool) (packet : Named) (others : List Due)
+              → waiting_of test others + one_waits test packet ≡ waiting_of test dues
+              → often test OutServer (on_os (Packet packet) ∷ []) + waiting_of test others
+              ≡ waiting_of test dues
+          one_of test packet others e =
+              let same : often test OutServer (on_os (Packet packet) ∷ [])
+                  ≡ one_waits test packet = refl in omega (arith, e, same)
+
+  next_puts : (s : Server) (place : ℕ) → is_open s.stage ≡ true → Holds s came put
+      → Puts OutServer (next_out s place)
+  next_puts s place is h =
+      or_put OutServer (put_waiting s place) (put_pdu_or_end s place)
+      (waiting_puts s place (gate_at s (slice_get s.outs place)) is h)
+      (or_put OutServer (put_pdu s place) (put_end s place)
+      (quiet_puts s (put_pdu s place) is (pdu_quiet (front_length s.queue)) h)
+      (quiet_puts s (put_end s place) is (search rules) h))
+    where
+      pdu_quiet : (len : Option ℕ) → Quiet s (pdu_by s place len)
+      pdu_quiet len = search rules
+
+  settled_puts : (pick : Pick) → Puts OutServer pick → Puts OutServer (settled_pick pick)
+  settled_puts None h = tt
+  settled_puts (Some pick) h = settled_keeps pick.0 came (put ++ on_os pick.1 ∷ []) h
+
+  greeting_puts : (s : Server) (place : ℕ) (o : Option OutLeg) → Holds s came put
+      → Puts OutServer (out_greeting_at s place o)
+  greeting_puts s place None h = tt
+  greeting_puts s place (Some leg) h =
+      by_test (Puts OutServer) (is_due leg.greeting) _ None
+      (λ e. put_quiet (with_out s place (record leg { greeting = greetings.Put })) came put
+      (on_os (Text greeting_text)) (refl, refl, refl, refl) (λ g. (tt, tt))
+      (same_holds s (with_out s place (record leg { greeting = greetings.Put })) came put refl h))
+      (λ e. tt)
+
+  out_puts : (s : Server) (place : Option ℕ) → Holds s came put → Puts OutServer (put_out_at s place)
+  out_puts s None h = tt
+  out_puts s (Some place) h =
+      or_put OutServer (put_out_greeting s place) (put_open s place)
+      (greeting_puts s place (slice_get s.outs place) h)
+      (by_test (Puts OutServer) (is_open s.stage) (settled_pick (next_out s place)) None
+      (λ e. settled_puts (next_out s place) (next_puts s place e h)) (λ e. tt))
+
+  puts : (s : Server) (k : LegKind) → Holds s came put → Puts k (put_by s n k)
+  puts s InServer h = in_puts s (in_leg n s.ins) (found (has_number n) s.ins) h
+  puts s OutServer h = out_puts s (out_place n s.outs) h
+  puts s ClientIn h = tt
+  puts s ClientOut h = tt
+
+-- ---- legs come up, are drawn, and lost
+
+up_keeps : (s : Server) (leg : Leg) (cookie : Cookie) → Keeps s (up s leg cookie)
+up_keeps s leg cookie came put h =
+    by_test (λ (t : Server). Holds t came put) (may_up_by s leg.number leg.kind)
+    (up_by s leg.number leg.kind) s (λ e. by leg.kind e) (λ e. h)
+  where
+    n : ℕ
+    n = leg.number
+
+    by : (k : LegKind) → may_up_by s n k ≡ true → Holds (up_by s n k) came put
+    by InServer e = record {
+      opening = opening_stays s.stage s.stage s.waiting.due s.waiting.due s.ins
+          (s.ins ++ in_leg_up n ∷ []) came put (record {
+        conn_a2 = refl;
+        conn_b2 = refl;
+        opens = refl;
+        conn_c1 = refl;
+        conn_b3 =
+            let more : how_many owes_b3 (s.ins ++ in_leg_up n ∷ []) ≡ how_many owes_b3 s.ins + 0 =
+                many_pushed owes_b3 (in_leg_up n) s.ins in omega (arith, more);
+      }) h.opening;
+      answering = leg_up (look s) (in_leg_up n) came put
+          (same_number n (s.newest_in + 1) (and_parts (n == s.newest_in + 1) (has_room s.ins) e).0)
+          refl refl h.answering;
+    }
+    by OutServer e = same_holds s (up_by s n OutServer) came put refl h
+    by ClientIn e = h
+    by ClientOut e = h
+
+drawn_keeps : (s : Server) (n : ℕ) (k : LegKind) → Keeps s (drawn_by s n k)
+drawn_keeps s n InServer came put h = by (in_leg n s.ins) (found (has_number n) s.ins)
+  where
+    by : (o : Option InLeg) → IsFoundAs (has_number n) s.ins o
+        → Holds (if in_is_drawn o then settled (without_in s n) else s) came put
+    by None f = settled_keeps (without_in s n) came put (gone_keeps s n None f came put tt h)
+    by (Some leg) f =
+        by_test (λ (t : Server). Holds t came put) (has_left leg.leaving)
+        (settled (without_in s n)) s
+        (λ e. settled_keeps (without_in s n) came put
+        (gone_keeps s n (Some leg) f came put
+        (calm leg.leaving e (is_waiting leg.stage) refl refl) h)) (λ e. h)
+      where
+        calm : (how : Leaving) → has_left how ≡ true → (t : Bool) → is_waiting leg.stage ≡ t
+            → leg.leaving ≡ how → is_waiting leg.stage ≡ false
+        calm how e false is same = is
+        calm leaving.Stays e true is same = absurd (false≢true e)
+        calm leaving.InR1B1 e true is same = absurd (false≢true e)
+        calm leaving.Lost e true is same = absurd (false≢true e)
+        calm leaving.Left e true is same =
+            absurd (true≢false (sym ((is_placed s n leg came put f h.answering).waits is).2
+            ∙ ap stays same))
+drawn_keeps s n OutServer came put h = h
+drawn_keeps s n ClientIn came put h = h
+drawn_keeps s n ClientOut came put h = h
+
+lost_keeps : (s : Server) (n : ℕ) → Keeps s (lost_in s n (in_leg n s.ins))
+lost_keeps s n came put h = by (in_leg n s.ins) (found (has_number n) s.ins)
+  where
+    by : (o : Option InLeg) → IsFoundAs (has_number n) s.ins o → Holds (lost_in s n o) came put
+    by None f = gone_keeps s n None f came put tt h
+    by (Some leg) f =
+        by_test (λ (t : Server). Holds t came put) (is_waiting leg.stage && stays leg.leaving) _
+        (without_in s n)
+        (λ e. leg_keeps s n leg (record leg { leaving = leaving.Lost }) came put f
+        (stays_placed s n leg (record leg { leaving = leaving.Lost }) came put f refl refl
+        (λ g. refl) h.answering) (omega arith) h)
+        (λ e. gone_keeps s n (Some leg) f came put (calm (is_waiting leg.stage) refl e) h)
+      where
+        calm : (t : Bool) → is_waiting leg.stage ≡ t → t && stays leg.leaving ≡ false
+            → is_waiting leg.stage ≡ false
+        calm false is e = is
+        calm true is e =
+            absurd (true≢false (sym ((is_placed s n leg came put f h.answering).waits is).2 ∙ e))
+
+mark_keeps : (s : Server) (n : ℕ) (k : LegKind) → Keeps s (mark_by s n k)
+mark_keeps s n InServer came put h =
+    settled_keeps (lost_in s n (in_leg n s.ins)) came put (lost_keeps s n came put h)
+mark_keeps s n OutServer came put h =
+    settled_keeps (without_out (with_ack_dropped s n) n) came put
+    (added_keeps is_ack ack_alone s (without_out (with_ack_dropped s n) n) refl
+    (alike s.stage s.stage refl) (dropped_adds s n) came put h)
+mark_keeps s n ClientIn came put h = h
+mark_keeps s n ClientOut came put h = h
+
+pdu_same : (s : Server) (leg : Leg) (count : Count) (bytes : List ℕ)
+    → seen (pdu s leg count bytes).0 ≡ seen s
+pdu_same s leg count bytes = search rules
+
+pdu_quiet : (leg : Leg) (bytes : List ℕ) → IsQuiet (leg, Pdu bytes)
+pdu_quiet leg bytes = search rules
+
+give_same : (s : Server) (bytes : List ℕ) → seen (give s bytes).0 ≡ seen s
+give_same s bytes = search rules
+
+recycle_rest : (s : Server) → rest (recycle s).0 ≡ rest s
+recycle_rest s = search rules
+
+recycle_stage : (s : Server) → (recycle s).0.stage ≡ s.stage
+recycle_stage s = search rules
+
+-- ---- the role
+
+steps : StepsKeep server_rules Holds
+steps = record {
+  up = up_keeps;
+  head = λ s leg text came put h. h;
+  pdu = λ s leg count bytes came put.
+      row_keeps s (leg, Pdu bytes) came put (pdu_quiet leg bytes) (pdu s leg count bytes)
+      (λ came put. same_holds s (pdu s leg count bytes).0 came put (pdu_same s leg count bytes));
+  packet = λ s leg count m. packet_row s leg.number count m leg.kind;
+  put = λ s leg came put. puts leg.number came put s leg.kind;
+  drawn = λ s leg. drawn_keeps s leg.number leg.kind;
+  mark = λ s leg. mark_keeps s leg.number leg.kind;
+  ping = λ s leg came put h. h;
+}
+
+calls : ActsKeep acts Holds
+calls = record {
+  give = λ s bytes came put. same_holds s (give s bytes).0 came put (give_same s bytes);
+  take = take_keeps;
+  close = λ s came put h. record { opening = h.opening; answering = h.answering };
+  recycle = λ s.
+      added_keeps of_out out_alone s (recycle s).0 (recycle_rest s)
+      (alike s.stage (recycle s).0.stage (recycle_stage s)) (recycle_adds s);
+}
+
+-- ---- stages
+
+at_most : (at : Stage) → (since_conn_a2 at ≤ 1) × (since_conn_b2 at ≤ 1) × (since_open at ≤ 1)
+at_most stage.Waits = (omega arith, omega arith, omega arith)
+at_most (stage.OutCame known) = (omega arith, omega arith, omega arith)
+at_most (stage.InCame known window timeout) = (omega arith, omega arith, omega arith)
+at_most (stage.Open known) = (omega arith, omega arith, omega arith)
+at_most stage.Ended = (omega arith, omega arith, omega arith)
+
+one_at_most : (at : Stage) → phase_of at ≡ phase.Opening
+    → since_conn_a2 at + since_conn_b2 at ≤ 1
+one_at_most stage.Waits e = omega arith
+one_at_most (stage.OutCame known) e = omega arith
+one_at_most (stage.InCame known window timeout) e = omega arith
+one_at_most (stage.Open known) e = absurd (cc)
+one_at_most stage.Ended e = absurd (cc)
+
+both_came : (at : Stage) → (phase_of at ≡ phase.Opening → ⊥)
+    → (since_conn_a2 at ≡ 1) × (since_conn_b2 at ≡ 1)
+both_came stage.Waits e = absurd (e refl)
+both_came (stage.OutCame known) e = absurd (e refl)
+both_came (stage.InCame known window timeout) e = absurd (e refl)
+both_came (stage.Open known) e = (refl, refl)
+both_came stage.Ended e = (refl, refl)
+
+not_open : (at : Stage) → since_conn_a2 at + since_conn_b2 at ≤ 1 → since_open at ≡ 0
+not_open stage.Waits e = refl
+not_open (stage.OutCame known) e = refl
+not_open (stage.InCame known window timeout) e = refl
+not_open (stage.Open known) e = absurd (omega (arith, e))
+not_open stage.Ended e = absurd (omega (arith, e))
+
+b3_open : (at : Stage) (dues : List Due) (ins : List InLeg) (came put : List OnLeg)
+    → Opening at dues ins came put → often is_conn_b3 InServer put ≤ since_open at
+b3_open stage.Waits dues ins came put h =
+    let none = (h.early refl).conn_b3 in omega (arith, none)
+b3_open (stage.OutCame known) dues ins came put h =
+    let none = (h.early refl).conn_b3 in omega (arith, none)
+b3_open (stage.InCame known window timeout) dues ins came put h =
+    let none = (h.early refl).conn_b3 in omega (arith, none)
+b3_open (stage.Open known) dues ins came put h = omega (arith, h.conn_b3)
+b3_open stage.Ended dues ins came put h = omega (arith, h.conn_b3)
+
+module _ (window : ℕ) (moves : List EndMove) where
+  abbrev pub p : Passage Server
+  p = (all_end_moved server_rules acts (end_started (first window)) moves).passage
+
+  kept : Holds p.role p.came p.put
+  kept = end_moves_keep server_rules Holds steps acts calls (end_started (first window)) moves
+      (record { opening = opening_starts; answering = answering_starts })
+
+  pub are_answered : AreAnswered p
+  are_answered =
+      let h = kept.answering in record {
+        in_r1 = h.in_r1;
+        in_r2 = h.in_r2;
+        in_r1_at_most = omega (arith, h.in_r1);
+        in_r2_at_most = omega (arith, h.in_r2);
+      }
+
+  pub begin_once : BeginOnce p
+  begin_once = record {
+    conn_b2 = λ n.
+        let all = at_most_in is_conn_b2 InServer n p.came in
+        let once = (at_most p.role.stage).1 in
+        let is = kept.opening.conn_b2 in omega (arith, all, once, is);
+    in_r1_a2 = kept.answering.once;
+  }
+
+  pub opens_once : OpensOnce p
+  opens_once =
+      let h = kept.opening in
+      let most = at_most p.role.stage in
+      let b3 = b3_open p.role.stage p.role.waiting.due p.role.ins p.came p.put h in record {
+        conn_a2 = h.conn_a2;
+        conn_b2 = h.conn_b2;
+        conn_c1 = h.conn_c1;
+        conn_b3 = b3;
+        conn_a2_once = omega (arith, h.conn_a2, most.0);
+        conn_b2_once = omega (arith, h.conn_b2, most.1);
+        conn_c1_once = omega (arith, h.conn_c1, most.2);
+        conn_b3_once = omega (arith, b3, most.2);
+        opening = λ e.
+            let both = one_at_most p.role.stage e in omega (arith, h.conn_a2, h.conn_b2, both);
+        opened = λ e.
+            let both = both_came p.role.stage e in
+            (h.conn_a2 ∙ both.0, h.conn_b2 ∙ both.1);
+        early = λ e.
+            let is = h.early (not_open p.role.stage (omega (arith, e, h.conn_a2, h.conn_b2))) in
+            record {
+              greetings = is.greetings;
+              conn_b3 = is.conn_b3;
+              in_r1_a2 = is.in_r1_a2;
+              in_r2_a2 = is.in_r2_a2;
+            };
+      }
