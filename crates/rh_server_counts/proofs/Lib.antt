@@ -10,3 +10,4 @@ mod Announced
 mod Connecting
 mod Rows
 mod Steps
+mod EndMarks
