@@ -325,7 +325,8 @@ a4_by_adds : (s : Server) (n : ℕ) (known connection predecessor successor : Co
 a4_by_adds s n known connection predecessor successor lifetime window timeout None =
     nothing of_out s
 a4_by_adds s n known connection predecessor successor lifetime window timeout (Some writing) =
-    either of_out s (not (same_cookie known connection)) (refuse s (refused.Cookie known connection))
+    either of_out s (not (same_cookie known connection))
+    (refuse s (refused.Cookie known connection))
     (if not (same_cookie writing predecessor) then refuse s (refused.Cookie writing predecessor)
     else answered_on s n successor lifetime window timeout)
     (nothing of_out s)

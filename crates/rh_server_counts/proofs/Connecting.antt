@@ -35,7 +35,8 @@ use Rattle.rh_server_counts.proofs.Dues.{Apart, Adds}
 use Rattle.rh_server_counts.proofs.InLegs.{IsFound, IsFoundAs, found, all_of, one_leg, many_step, many_joined}
 use Rattle.rh_server_counts.proofs.Openings.{owes_b3, Opening, Stays, Comes, Goes, opening_stays, opening_came, opening_put}
 use Rattle.rh_server_counts.proofs.Announcing.{Look, look, heard, Placed, Answering, Ready, line_keeps, takes_on, finishes_on, next_opens}
-use Rattle.rh_server_counts.proofs.Announced.{came_other, put_keeps, dues_keep, carried_keeps, leg_set, leg_gone}
+use Rattle.rh_server_counts.proofs.Announced.{came_other, put_keeps, dues_keep, carried_keeps}
+use Rattle.rh_server_counts.proofs.LegsKept.{leg_set, leg_gone}
 use Rattle.rh_server_counts.proofs.Adding.{MayAdd, of_out, settled_adds, take_adds}
 
 -- ---- what the facts are about

@@ -42,7 +42,8 @@ push_waits test (first ∷ dues) due = by (test first.packet) (push_waits test d
   where
     by : (b : Bool)
         → waiting_of test (dues ++ due ∷ []) ≡ waiting_of test dues + one_waits test due.packet
-        → (if b then suc (waiting_of test (dues ++ due ∷ [])) else waiting_of test (dues ++ due ∷ []))
+        → (if b then suc (waiting_of test (dues ++ due ∷ []))
+        else waiting_of test (dues ++ due ∷ []))
         ≡ (if b then suc (waiting_of test dues) else waiting_of test dues)
         + one_waits test due.packet
     by true rest = omega (arith, rest)
@@ -141,7 +142,8 @@ none_waits kind test of (due ∷ dues) all none =
     by : (o t : Bool) → test due.packet ≡ t → o || is_ack due.packet ≡ true
         → (test due.packet ≡ true → is_kind kind due.packet ≡ true)
         → (is_ack due.packet ≡ true → test due.packet ≡ false) → Rest
-        → is_some (if o && is_kind kind due.packet then Some due else find (is_own kind) dues) ≡ false
+        → is_some (if o && is_kind kind due.packet then Some due else find (is_own kind) dues)
+        ≡ false
         → (if t then suc (waiting_of test dues) else waiting_of test dues) ≡ 0
     by true t is has kinds acks rest e =
         mine (is_kind kind due.packet) t (λ f. kinds (is ∙ f)) rest e
