@@ -1,5 +1,5 @@
 -- which packets the steps of a server add to those that wait
-use Rattle.std.proofs.Common.{◌≡◌, ℕ, ◌+◌, ◌==◌, Bool, true, false, not, ◌&&◌, ◌||◌, List, [], ◌∷◌, Some, None, Ok, Err, refl, rules, sym, subst}
+use Rattle.std.proofs.Common.{◌≡◌, ℕ, ◌+◌, ◌==◌, Bool, true, false, not, ◌&&◌, ◌||◌, Some, None, Ok, Err, refl, rules, sym, subst}
 use Rattle.std.specs.Prelude.{if◌then◌else◌, nat_lt}
 use Rattle.std.specs.declared.option.Option.{Option}
 use Rattle.std.specs.declared.result.Result.{Result}
@@ -13,7 +13,7 @@ use Rattle.rh_shell.specs.declared.answers.Count.{Count}
 use Rattle.rh_shell.specs.declared.answers.Refused.TheVariants as refused
 use Rattle.rh_shell.specs.declared.end_role.RecycleRefused.{RecycleRefused}
 use Rattle.rh_shell.specs.declared.end_role.RecycleRefused.TheVariants.{Busy, Last}
-use Rattle.rh_shell.specs.Waiting.{Waiting, own, takes, forwarded}
+use Rattle.rh_shell.specs.Waiting.{Waiting, takes, forwarded}
 use Rattle.rh_server.specs.declared.state.Stage.{Stage}
 use Rattle.rh_server.specs.declared.state.Stage.TheVariants as stage
 use Rattle.rh_server.specs.declared.state.Edge.TheVariants.{Shut}
@@ -279,6 +279,7 @@ dropped_adds s n = by (out_cookie n s.outs)
     by : (o : Option Cookie) → Adds is_ack s.waiting.due (without_ack_of s.waiting o).due
     by None = nothing is_ack s
     by (Some cookie) = adds_dropped cookie s.waiting
+
 -- ---- OUT_R1/A1, OUT_R1/A5 and OUT_R1/A9
 
 abbrev pub of_out : Named → Bool

@@ -1,9 +1,8 @@
 -- what keeps the answers to announcements right: packets that come and go
-use Rattle.std.proofs.Common.{◌≡◌, ℕ, suc, ◌+◌, ◌≤◌, ◌<◌, ◌==◌, Bool, true, false, true≢false, if◌then◌else◌, List, [], ◌∷◌, ◌++◌, arith, refl, sym, ap, ◌∙◌, subst}
+use Rattle.std.proofs.Common.{◌≡◌, ℕ, ◌+◌, ◌≤◌, ◌<◌, ◌==◌, Bool, true, false, true≢false, if◌then◌else◌, List, [], ◌∷◌, ◌++◌, arith, refl, sym, ap, ◌∙◌, subst}
 use Rattle.std.proofs.lemmas.Bool.{false≢true}
 use Rattle.std.specs.List.{AllByRecursion}
 use Rattle.rh_rts.specs.declared.command.Cookie.{Cookie}
-use Rattle.rh_sig.specs.declared.named.Named.{Named}
 use Rattle.rh_sig.specs.declared.named.Named.TheVariants as named
 use Rattle.rh_line.proofs.Queues.{each_push}
 use Rattle.rh_line.specs.declared.leg.LegKind.TheVariants.{OutServer, InServer}
@@ -15,14 +14,14 @@ use Rattle.rh_order.proofs.ByNumber.{same_number, other_number}
 use Rattle.rh_server.specs.declared.state.InStage.{InStage}
 use Rattle.rh_server.specs.declared.state.InStage.TheVariants as in_stage
 use Rattle.rh_server.specs.declared.state.InLeg.{InLeg}
-use Rattle.rh_server.specs.States.{Server, is_fresh, is_waiting, stays}
+use Rattle.rh_server.specs.States.{is_fresh, is_waiting, stays}
 use Rattle.rh_server.specs.InReplacement.{has_fresh_below}
 use Rattle.rh_server_counts.specs.Counting.{is_in_r1_a2, is_in_r1_a3, is_in_r2_a2, is_in_r2_a3, often, often_at, leg_at, waiting_of}
 use Rattle.rh_passages.specs.Passing.{count_of}
 use Rattle.rh_server_counts.specs.Answering.{how_many, waits_on}
 use Rattle.rh_server_counts.proofs.Logs.{often_more, often_at_more, at_most_often, at_here, at_other}
 use Rattle.rh_server_counts.proofs.Dues.{HaveOrigins, HasOrigin, push_waits}
-use Rattle.rh_server_counts.proofs.InLegs.{Ascends, ascends_higher, ascends_push, ascends_set, ascends_removed, ascends_above, ascends_within, below_it, above_it, all_of, all_joined, all_removed, each_of, both_so, one_leg, many_joined, many_pushed, IsNoFresh, AreOrdered, ordered_set, ordered_waits, ordered_removed, ordered_push, none_fresh_below}
+use Rattle.rh_server_counts.proofs.InLegs.{Ascends, ascends_higher, ascends_set, ascends_within, below_it, above_it, all_of, all_joined, each_of, both_so, one_leg, many_joined, AreOrdered, ordered_waits, none_fresh_below}
 use Rattle.rh_server_counts.proofs.Announcing.{Look, heard, Placed, ArePlaced, Answering, Placeable, Ready}
 
 pub answering_starts : Answering (record {
@@ -171,7 +170,7 @@ carried_keeps x n successor came put h = record {
     same m =
         let more = often_at_more is_in_r1_a2 InServer m came one in
         let less : often_at is_in_r1_a2 InServer m (one ∷ []) ≤ 0 =
-            at_most_often is_in_r1_a2 InServer m one in omega (arith, more, less)
+        at_most_often is_in_r1_a2 InServer m one in omega (arith, more, less)
 
     pushed1 : waiting_of is_in_r1_a3 (x.dues ++ own (named.InR2A3 0) ∷ [])
         ≡ waiting_of is_in_r1_a3 x.dues + 0
@@ -249,15 +248,15 @@ module _ (x : Look) (leg y : InLeg) (a b : List InLeg) (m : Message) (came put :
       + how_many waits_on (a ++ y ∷ b) ≡ often is_in_r1_a2 InServer came_too
   in_r1_so =
       let more : often is_in_r1_a2 InServer came_too
-          ≡ often is_in_r1_a2 InServer came + count_of is_in_r1_a2 (m ∷ []) =
-          often_more is_in_r1_a2 InServer came (leg_at InServer leg.number, m) in
+      ≡ often is_in_r1_a2 InServer came + count_of is_in_r1_a2 (m ∷ []) =
+      often_more is_in_r1_a2 InServer came (leg_at InServer leg.number, m) in
       let were : how_many waits_on x.ins ≡ how_many waits_on (a ++ leg ∷ b) =
-          ap (how_many waits_on) joined in
+      ap (how_many waits_on) joined in
       let was = many_joined waits_on leg a b in
       let are = many_joined waits_on y a b in
       let now : one_leg waits_on y ≡ 1 = ap {B = ℕ} (λ (t : Bool). if t then 1 else 0) waits in
       let then_none : one_leg waits_on leg ≡ 0 =
-          ap {B = ℕ} (λ (t : Bool). if t then 1 else 0) (no_wait leg.stage fresh) in
+      ap {B = ℕ} (λ (t : Bool). if t then 1 else 0) (no_wait leg.stage fresh) in
       omega (arith, h.in_r1, more, were, was, are, now, then_none, is1)
     where
       no_wait : (at : InStage) → is_fresh at ≡ true → is_waiting at ≡ false
@@ -269,8 +268,8 @@ module _ (x : Look) (leg y : InLeg) (a b : List InLeg) (m : Message) (came put :
       ≡ often is_in_r2_a2 InServer came_too
   in_r2_so =
       let more : often is_in_r2_a2 InServer came_too
-          ≡ often is_in_r2_a2 InServer came + count_of is_in_r2_a2 (m ∷ []) =
-          often_more is_in_r2_a2 InServer came (leg_at InServer leg.number, m) in
+      ≡ often is_in_r2_a2 InServer came + count_of is_in_r2_a2 (m ∷ []) =
+      often_more is_in_r2_a2 InServer came (leg_at InServer leg.number, m) in
       omega (arith, h.in_r2, more, is2)
 
   -- another leg is placed as before

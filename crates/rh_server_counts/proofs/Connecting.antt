@@ -1,17 +1,14 @@
 -- the state of a server, how far it is with its opening, and with its IN channels
-use Rattle.std.proofs.Common.{◌≡◌, ℕ, suc, ◌+◌, ◌≤◌, ◌<◌, ◌==◌, ◌&&◌, ◌||◌, not, Bool, true, false, true≢false, if◌then◌else◌, List, [], ◌∷◌, ◌++◌, zero, Some, None, Ok, Err, arith, refl, rules, sym, ap, ◌∙◌, subst}
-use Rattle.std.proofs.lemmas.Bool.{false≢true, and_parts, not-true}
+use Rattle.std.proofs.Common.{◌≡◌, ℕ, suc, ◌+◌, ◌≤◌, ◌<◌, ◌==◌, ◌&&◌, ◌||◌, not, Bool, true, false, if◌then◌else◌, List, [], ◌∷◌, ◌++◌, zero, Some, None, Ok, Err, arith, refl, rules, sym, ap, ◌∙◌, subst}
+use Rattle.std.proofs.lemmas.Bool.{false≢true, and_parts}
 use Rattle.std.specs.Prelude.{slice_set, IfSome}
 use Rattle.std.specs.List.{AllByRecursion}
 use Rattle.std.specs.declared.option.Option.{Option}
-use Rattle.rh_rts.specs.declared.command.Cookie.{Cookie}
 use Rattle.rh_sig.specs.declared.named.Named.{Named}
 use Rattle.rh_sig.specs.declared.named.Named.TheVariants as named
-use Rattle.rh_line.specs.Lines.{Line, after_finish, after_take}
+use Rattle.rh_line.specs.Lines.{after_take}
 use Rattle.rh_line.specs.declared.leg.LegKind.TheVariants.{OutServer, InServer}
 use Rattle.rh_order.proofs.ByNumber.{by_test, same_number}
-use Rattle.rh_shell.specs.declared.answers.Count.{Count}
-use Rattle.rh_shell.specs.declared.due.Due.{Due}
 use Rattle.rh_shell.specs.Moves.{OnLeg}
 use Rattle.rh_passages.specs.Passing.{of_kind}
 use Rattle.rh_passages.proofs.Logs.{RowKeeps}
@@ -24,18 +21,18 @@ use Rattle.rh_server.specs.declared.state.Tells.TheVariants as tells
 use Rattle.rh_server.specs.declared.state.InLeg.{InLeg}
 use Rattle.rh_server.specs.declared.out_line.Kind.TheVariants as kind
 use Rattle.rh_server.specs.OutLines.{is_ack, waits}
-use Rattle.rh_server.specs.States.{Server, is_open, is_fresh, is_waiting, stays, in_leg, in_place, set_at, with_in, without_in}
+use Rattle.rh_server.specs.States.{Server, is_open, is_fresh, is_waiting, stays, in_place, set_at, with_in, without_in}
 use Rattle.rh_server.specs.Opening.{Done}
 use Rattle.rh_server.specs.InReplacement.{opens_next, opens_leg, first_waiting, next_opened, becomes_current, moved_if, take}
 use Rattle.rh_server.specs.Ending.{is_complete, completed, settled}
-use Rattle.rh_server_counts.specs.Counting.{is_conn_a2, is_conn_b2, is_conn_b3, is_conn_c1, is_in_r1_a2, is_in_r1_a3, is_in_r2_a2, is_in_r2_a3, often, leg_at, waiting_of}
-use Rattle.rh_server_counts.specs.Answering.{how_many, waits_on}
+use Rattle.rh_server_counts.specs.Counting.{is_conn_a2, is_conn_b2, is_conn_b3, is_conn_c1, is_in_r1_a2, is_in_r1_a3, is_in_r2_a2, is_in_r2_a3, often}
+use Rattle.rh_server_counts.specs.Answering.{how_many}
 use Rattle.rh_server_counts.specs.Opening.{since_conn_a2, since_conn_b2, since_open, IsText}
-use Rattle.rh_server_counts.proofs.Dues.{Apart, Adds}
-use Rattle.rh_server_counts.proofs.InLegs.{IsFound, IsFoundAs, found, all_of, one_leg, many_step, many_joined}
-use Rattle.rh_server_counts.proofs.Openings.{owes_b3, Opening, Stays, Comes, Goes, opening_stays, opening_came, opening_put}
-use Rattle.rh_server_counts.proofs.Announcing.{Look, look, heard, Placed, Answering, Ready, line_keeps, takes_on, finishes_on, next_opens}
-use Rattle.rh_server_counts.proofs.Announced.{came_other, put_keeps, dues_keep, carried_keeps}
+use Rattle.rh_server_counts.proofs.Dues.{Apart}
+use Rattle.rh_server_counts.proofs.InLegs.{IsFound, IsFoundAs, all_of, one_leg, many_step, many_joined}
+use Rattle.rh_server_counts.proofs.Openings.{owes_b3, Opening, opening_stays, opening_came, opening_put}
+use Rattle.rh_server_counts.proofs.Announcing.{Look, look, heard, Placed, Answering, line_keeps, takes_on}
+use Rattle.rh_server_counts.proofs.Announced.{came_other, put_keeps, dues_keep}
 use Rattle.rh_server_counts.proofs.LegsKept.{leg_set, leg_gone}
 use Rattle.rh_server_counts.proofs.Adding.{MayAdd, of_out, settled_adds, take_adds}
 
@@ -304,7 +301,7 @@ set_opening s n leg y came put f same owes h =
       conn_b3 =
           let was = owes_joined s n leg f in
           let are = ap (how_many owes_b3) (set_legs s n leg y f same)
-              ∙ many_joined owes_b3 y f.before f.behind in omega (arith, was, are, owes);
+          ∙ many_joined owes_b3 y f.before f.behind in omega (arith, was, are, owes);
     })
     h
 

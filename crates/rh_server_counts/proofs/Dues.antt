@@ -1,5 +1,5 @@
 -- the packets that wait, and how many of a kind they are
-use Rattle.std.proofs.Common.{◌≡◌, ℕ, suc, ◌+◌, ◌||◌, ◌&&◌, Bool, true, false, true≢false, nat_lt, cond, if◌then◌else◌, List, [], ◌∷◌, ◌++◌, Some, None, arith, refl, sym, ap, ◌∙◌, subst}
+use Rattle.std.proofs.Common.{◌≡◌, ℕ, suc, ◌+◌, ◌||◌, ◌&&◌, Bool, true, false, true≢false, nat_lt, if◌then◌else◌, List, [], ◌∷◌, ◌++◌, Some, None, arith, refl, sym, ap, ◌∙◌}
 use Rattle.std.proofs.lemmas.Bool.{false≢true}
 use Rattle.std.specs.Prelude.{IfSome, find}
 use Rattle.std.specs.List.{AllByRecursion, list_any}
@@ -13,7 +13,7 @@ use Rattle.rh_shell.specs.declared.due.Due.{Due}
 use Rattle.rh_shell.specs.declared.due.Origin.TheVariants.{Own, Forwarded}
 use Rattle.rh_shell.specs.Waiting.{Waiting, is_of, own, to_forward, takes, edge_of, better, merged, with_due, pushed, count, forwarded, without_first, taken}
 use Rattle.rh_server.specs.declared.out_line.Kind.{Kind}
-use Rattle.rh_server.specs.OutLines.{is_ack, is_ack_of, is_kind, is_own, has, waits}
+use Rattle.rh_server.specs.OutLines.{is_ack, is_ack_of, is_kind, is_own, has}
 use Rattle.rh_server.specs.States.{is_some}
 use Rattle.rh_server_counts.specs.Counting.{waiting_of}
 

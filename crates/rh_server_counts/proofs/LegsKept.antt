@@ -1,29 +1,13 @@
 -- is legs change, and the answers to announcements stay right
-use Rattle.std.proofs.Common.{◌≡◌, ℕ, suc, ◌+◌, ◌≤◌, ◌<◌, ◌==◌, Bool, true, false, true≢false, if◌then◌else◌, List, [], ◌∷◌, ◌++◌, arith, refl, sym, ap, ◌∙◌, subst}
-use Rattle.std.proofs.lemmas.Bool.{false≢true}
+use Rattle.std.proofs.Common.{◌≡◌, ℕ, ◌+◌, ◌<◌, Bool, true, false, true≢false, if◌then◌else◌, List, [], ◌∷◌, ◌++◌, arith, refl, sym, ap, ◌∙◌, subst}
 use Rattle.std.specs.List.{AllByRecursion}
-use Rattle.rh_rts.specs.declared.command.Cookie.{Cookie}
-use Rattle.rh_sig.specs.declared.named.Named.{Named}
-use Rattle.rh_sig.specs.declared.named.Named.TheVariants as named
 use Rattle.rh_line.proofs.Queues.{each_push}
-use Rattle.rh_line.specs.declared.leg.LegKind.TheVariants.{OutServer, InServer}
-use Rattle.rh_shell.specs.declared.due.Due.{Due}
-use Rattle.rh_shell.specs.Rules.{Message, Packet}
 use Rattle.rh_shell.specs.Moves.{OnLeg}
-use Rattle.rh_shell.specs.Waiting.{own}
-use Rattle.rh_order.proofs.ByNumber.{same_number, other_number}
-use Rattle.rh_server.specs.declared.state.InStage.{InStage}
-use Rattle.rh_server.specs.declared.state.InStage.TheVariants as in_stage
 use Rattle.rh_server.specs.declared.state.InLeg.{InLeg}
-use Rattle.rh_server.specs.States.{Server, is_fresh, is_waiting, stays}
-use Rattle.rh_server.specs.InReplacement.{has_fresh_below}
-use Rattle.rh_server_counts.specs.Counting.{is_in_r1_a2, is_in_r1_a3, is_in_r2_a2, is_in_r2_a3, often, often_at, leg_at, waiting_of}
-use Rattle.rh_passages.specs.Passing.{count_of}
+use Rattle.rh_server.specs.States.{is_fresh, is_waiting, stays}
 use Rattle.rh_server_counts.specs.Answering.{how_many, waits_on}
-use Rattle.rh_server_counts.proofs.Logs.{often_more, often_at_more, at_most_often, at_here, at_other}
-use Rattle.rh_server_counts.proofs.Dues.{HaveOrigins, HasOrigin, push_waits}
-use Rattle.rh_server_counts.proofs.InLegs.{Ascends, ascends_higher, ascends_push, ascends_set, ascends_removed, ascends_above, ascends_within, below_it, above_it, all_of, all_joined, all_removed, each_of, both_so, one_leg, many_joined, many_pushed, IsNoFresh, AreOrdered, ordered_set, ordered_waits, ordered_removed, ordered_push, none_fresh_below}
-use Rattle.rh_server_counts.proofs.Announcing.{Look, heard, Placed, ArePlaced, Answering, Placeable, Ready}
+use Rattle.rh_server_counts.proofs.InLegs.{Ascends, ascends_push, ascends_set, ascends_removed, ascends_above, all_of, all_joined, all_removed, both_so, one_leg, many_joined, many_pushed, AreOrdered, ordered_set, ordered_removed, ordered_push}
+use Rattle.rh_server_counts.proofs.Announcing.{Look, Placed, ArePlaced, Answering}
 
 -- another state of a leg, that waits as before, and is no more fresh
 pub leg_set : (x : Look) (leg y : InLeg) (a b : List InLeg) (came put : List OnLeg)
@@ -37,7 +21,7 @@ leg_set x leg y a b came put joined same fresh waits is h = record {
   ordered = ordered_set leg y a b (λ e. sym waits ∙ e) fresh (subst AreOrdered joined h.ordered);
   legs =
       let parts = all_of (Placed x.has_next x.now x.next came) leg a b
-          (subst (ArePlaced x came) joined h.legs) in
+      (subst (ArePlaced x came) joined h.legs) in
       all_joined (Placed x.has_next x.now x.next came) y a b parts.0 is parts.2;
   reached = h.reached;
   behind = h.behind;

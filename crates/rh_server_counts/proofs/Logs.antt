@@ -1,5 +1,5 @@
 -- a message more, and how often packets passed
-use Rattle.std.proofs.Common.{◌≡◌, ◌≢◌, ℕ, suc, ◌+◌, ◌≤◌, ◌<◌, ◌==◌, ◌&&◌, Bool, true, false, true≢false, if◌then◌else◌, List, [], ◌∷◌, ◌++◌, arith, refl, sym, ap, ◌∙◌, subst}
+use Rattle.std.proofs.Common.{◌≡◌, ℕ, suc, ◌+◌, ◌≤◌, ◌<◌, ◌==◌, Bool, true, false, true≢false, if◌then◌else◌, List, [], ◌∷◌, ◌++◌, arith, refl, sym, ap, ◌∙◌, subst}
 use Rattle.std.proofs.lemmas.Bool.Decides.{nat_tests}
 use Rattle.rh_sig.specs.declared.named.Named.{Named}
 use Rattle.rh_line.specs.declared.leg.Leg.{Leg}
@@ -64,13 +64,13 @@ at_most_in test kind n (one ∷ log) =
         ≤ count_of test (if c then one.1 ∷ all else all)
     by true true so rest =
         let here : count_of test (one.1 ∷ leg) ≡ count_of test (one.1 ∷ []) + count_of test leg =
-            count_append test (one.1 ∷ []) leg in
+        count_append test (one.1 ∷ []) leg in
         let there : count_of test (one.1 ∷ all) ≡ count_of test (one.1 ∷ []) + count_of test all =
-            count_append test (one.1 ∷ []) all in omega (arith, here, there, rest)
+        count_append test (one.1 ∷ []) all in omega (arith, here, there, rest)
     by true false so rest = absurd (true≢false (sym (so refl)))
     by false true so rest =
         let there : count_of test (one.1 ∷ all) ≡ count_of test (one.1 ∷ []) + count_of test all =
-            count_append test (one.1 ∷ []) all in omega (arith, there, rest)
+        count_append test (one.1 ∷ []) all in omega (arith, there, rest)
     by false false so rest = rest
 
 numbered : (kind : LegKind) (k n : ℕ) → same_leg (leg_at kind k) (leg_at kind n) ≡ (k == n)

@@ -1,53 +1,41 @@
 -- the rows of a server, and how far it is with the replacement of OUT channels
-use Rattle.std.proofs.Common.{◌≡◌, ℕ, suc, ◌+◌, ◌≤◌, ◌==◌, Bool, true, false, true≢false, not, ◌&&◌, if◌then◌else◌, List, [], ◌∷◌, ◌++◌, Some, None, Ok, Err, arith, refl, rules, sym, ap, ◌∙◌, subst}
-use Rattle.std.proofs.lemmas.Bool.{false≢true, and_parts, or_parts, not-true, not-false}
-use Rattle.std.proofs.lemmas.List.Quantifiers.{position-Some}
-use Rattle.std.proofs.lemmas.Option.{get_or_from_slice_get}
-use Rattle.std.specs.Prelude.{IfSome, slice_get, find, nat_lt}
+use Rattle.std.proofs.Common.{◌≡◌, ℕ, ◌+◌, ◌==◌, Bool, true, false, not, ◌&&◌, if◌then◌else◌, List, [], ◌∷◌, ◌++◌, Some, None, Ok, Err, refl, rules, sym, subst}
+use Rattle.std.proofs.lemmas.Bool.{and_parts, or_parts, not-true, not-false}
+use Rattle.std.specs.Prelude.{nat_lt}
 use Rattle.std.specs.declared.option.Option.{Option}
 use Rattle.std.specs.declared.result.Result.{Result}
 use Rattle.rh_rts.specs.declared.command.Cookie.{Cookie}
 use Rattle.rh_sig.specs.declared.named.Named.{Named}
 use Rattle.rh_sig.specs.declared.named.Named.TheVariants as named
-use Rattle.rh_window.specs.declared.recv_window.Ack.{Ack}
-use Rattle.rh_line.specs.Queue.{front_length}
-use Rattle.rh_line.specs.declared.leg.Leg.{Leg}
 use Rattle.rh_line.specs.declared.leg.LegKind.{LegKind}
 use Rattle.rh_line.specs.declared.leg.LegKind.TheVariants.{ClientOut, OutServer, ClientIn, InServer}
 use Rattle.rh_order.proofs.ByNumber.{by_test, same_number}
 use Rattle.rh_shell.specs.declared.answers.Count.{Count}
 use Rattle.rh_shell.specs.declared.answers.Refused.TheVariants as refused
-use Rattle.rh_shell.specs.declared.due.Due.{Due}
 use Rattle.rh_shell.specs.declared.end_role.RecycleRefused.{RecycleRefused}
 use Rattle.rh_shell.specs.declared.end_role.RecycleRefused.TheVariants.{Busy, Last}
-use Rattle.rh_shell.specs.Rules.{Message, Text, Pdu, Packet}
-use Rattle.rh_shell.specs.Moves.{OnLeg, Passage, EndMove, end_started, all_end_moved}
-use Rattle.rh_shell.specs.Waiting.{Waiting, own, taken, without_first}
-use Rattle.rh_passages.proofs.Logs.{RowKeeps, PutKeeps, StepsKeep, ActsKeep, end_moves_keep}
+use Rattle.rh_shell.specs.Rules.{Packet}
+use Rattle.rh_shell.specs.Moves.{OnLeg}
+use Rattle.rh_shell.specs.Waiting.{Waiting}
+use Rattle.rh_passages.proofs.Logs.{RowKeeps}
 use Rattle.rh_server.specs.declared.state.Stage.{Stage}
 use Rattle.rh_server.specs.declared.state.Stage.TheVariants as stage
-use Rattle.rh_server.specs.declared.state.InLeg.{InLeg}
 use Rattle.rh_server.specs.declared.state.OutLeg.{OutLeg}
-use Rattle.rh_server.specs.declared.state.Leaving.{Leaving}
-use Rattle.rh_server.specs.declared.state.Tells.{Tells}
 use Rattle.rh_server.specs.declared.state.Replacement.{Replacement}
 use Rattle.rh_server.specs.declared.state.Replacement.TheVariants.{Steady, Asked, Answered, Confirmed}
 use Rattle.rh_server.specs.declared.out_line.Kind.TheVariants as kind
-use Rattle.rh_server.specs.OutLines.{lets, length_of, is_ack, waits}
-use Rattle.rh_server.specs.States.{Server, is_open, is_steady, same_cookie, in_leg, out_at, out_place, out_cookie, without_in, without_out}
-use Rattle.rh_server.specs.Opening.{Done, took, refuse, unexpected, is_first, up, on_conn_a2, on_conn_b2}
+use Rattle.rh_server.specs.OutLines.{is_ack, waits}
+use Rattle.rh_server.specs.States.{Server, is_open, is_steady, same_cookie, out_at, out_place, out_cookie}
+use Rattle.rh_server.specs.Opening.{Done, took, refuse, unexpected, is_first, on_conn_a2, on_conn_b2}
 use Rattle.rh_server.specs.Acknowledging.{out_server, on_ack_to, on_ack, on_ping_traffic}
-use Rattle.rh_server.specs.InReplacement.{take, on_in_r1_a2, on_in_r1_a6, on_in_r2_a2}
+use Rattle.rh_server.specs.InReplacement.{on_in_r1_a2, on_in_r1_a6, on_in_r2_a2}
 use Rattle.rh_server.specs.OutReplacement.{asks, recycle, is_under_way, last_number, wishes, wished, answered_by, answered_on, out_r1_a4_by, out_r1_a4_at, is_asked, may_answer, on_out_r1_a4, confirms, out_r1_a8_at, on_out_r1_a8}
-use Rattle.rh_server.specs.Ending.{give, on_end_a2, completed, settled, drawn, drawn_by, in_is_drawn, mark, mark_by, lost_in, with_ack_dropped}
-use Rattle.rh_server.specs.Putting.{Pick, or_else, put_in_greeting, put_tells_by, put_tells, put_b1_by, put_b1, put_ack_by, put_ack, ack_due, put_in_by, out_greeting_at, put_out_greeting, counts, was_put, waiting_by, waiting_at, put_waiting, gate, gate_at, pdu_by, put_pdu, put_end, put_pdu_or_end, next_out, settled_pick, put_open, put_out_at, put_by}
-use Rattle.rh_server.specs.Servers.{acts, first, pdu, packet_by, on_is, on_os}
-use Rattle.rh_server.specs.Servers.{rules as server_rules}
-use Rattle.rh_server_counts.specs.Counting.{is_conn_c1, is_in_r1_a3, is_in_r2_a3, is_out_r1_a1, is_out_r1_a5, is_out_r1_a9, leg_at, waiting_of}
-use Rattle.rh_server_counts.specs.Replacing.{AreReplaced, AreInTurn, ArePutInTurn}
-use Rattle.rh_server_counts.proofs.Dues.{HaveOrigins, Went, first_goes, found_may, none_waits, others_have}
-use Rattle.rh_server_counts.proofs.Adding.{MayAdd, conn_a2_adds, conn_b2_adds, in_r1_a2_adds, in_r1_a6_adds, in_r2_a2_adds, ack_to_adds, take_adds, dropped_adds}
-use Rattle.rh_server_counts.proofs.Stages.{Kept, IsQuiet, IsQuietPut, Goes, starts, asked_once, came_quiet, put_quiet, others_wait, asks_kept, begins_kept, confirms_kept, goes_kept, at_behind, writing_behind}
+use Rattle.rh_server.specs.Ending.{on_end_a2, completed, settled}
+use Rattle.rh_server.specs.Servers.{packet_by, on_is, on_os}
+use Rattle.rh_server_counts.specs.Counting.{is_conn_c1, is_in_r1_a3, is_in_r2_a3, is_out_r1_a1, is_out_r1_a5, leg_at, waiting_of}
+use Rattle.rh_server_counts.proofs.Dues.{none_waits}
+use Rattle.rh_server_counts.proofs.Adding.{MayAdd, conn_a2_adds, conn_b2_adds, in_r1_a2_adds, in_r1_a6_adds, in_r2_a2_adds, ack_to_adds}
+use Rattle.rh_server_counts.proofs.Stages.{Kept, IsQuiet, came_quiet, others_wait, asks_kept, begins_kept, confirms_kept}
 use Rattle.rh_server_counts.proofs.Packets.{LeavesAlone, a1_kind, a5_kind, c1_apart, r1_apart, r2_apart, ack_apart}
 
 -- ---- what the facts are about

@@ -1,33 +1,25 @@
 -- what a server puts: how far it is with its opening, and with its IN channels
-use Rattle.std.proofs.Common.{◌≡◌, ℕ, suc, ◌+◌, ◌≤◌, ◌==◌, ◌&&◌, not, Bool, true, false, true≢false, if◌then◌else◌, List, [], ◌∷◌, ◌++◌, Some, None, Ok, Err, arith, refl, rules, sym, ap, ◌∙◌, subst}
-use Rattle.std.proofs.lemmas.Bool.{false≢true, and_parts}
+use Rattle.std.proofs.Common.{◌≡◌, ℕ, ◌+◌, ◌≤◌, ◌==◌, ◌&&◌, Bool, true, true≢false, if◌then◌else◌, List, [], ◌∷◌, ◌++◌, Some, None, arith, refl, rules, sym, ap, ◌∙◌}
+use Rattle.std.proofs.lemmas.Bool.{false≢true}
 use Rattle.std.specs.Prelude.{IfSome, slice_get, find}
-use Rattle.std.specs.List.{AllByRecursion}
 use Rattle.std.specs.declared.option.Option.{Option}
-use Rattle.rh_rts.specs.declared.command.Cookie.{Cookie}
 use Rattle.rh_sig.specs.declared.named.Named.{Named}
 use Rattle.rh_sig.specs.declared.named.Named.TheVariants as named
 use Rattle.rh_window.specs.declared.recv_window.Ack.{Ack}
 use Rattle.rh_line.specs.Lines.{after_tell, after_told}
 use Rattle.rh_line.specs.Queue.{front_length}
-use Rattle.rh_line.specs.declared.leg.Leg.{Leg}
 use Rattle.rh_line.specs.declared.leg.LegKind.{LegKind}
 use Rattle.rh_line.specs.declared.leg.LegKind.TheVariants.{ClientOut, OutServer, ClientIn, InServer}
 use Rattle.rh_line.specs.declared.which.Which.TheVariants.{Current}
-use Rattle.rh_order.proofs.ByNumber.{by_test, same_number}
-use Rattle.rh_shell.specs.declared.answers.Count.{Count}
-use Rattle.rh_shell.specs.declared.answers.Phase.TheVariants as phase
+use Rattle.rh_order.proofs.ByNumber.{by_test}
 use Rattle.rh_shell.specs.declared.due.Due.{Due}
 use Rattle.rh_shell.specs.Hearing.{greeting as greeting_text}
-use Rattle.rh_shell.specs.Rules.{Message, Text, Pdu, Packet}
-use Rattle.rh_shell.specs.Moves.{OnLeg, Passage, EndMove, end_started, all_end_moved}
-use Rattle.rh_shell.specs.Waiting.{Waiting, taken, without_first}
-use Rattle.rh_passages.specs.Passing.{of_kind}
-use Rattle.rh_passages.proofs.Logs.{PutKeeps, StepsKeep, ActsKeep, end_moves_keep}
+use Rattle.rh_shell.specs.Rules.{Message, Text, Packet}
+use Rattle.rh_shell.specs.Moves.{OnLeg}
+use Rattle.rh_shell.specs.Waiting.{Waiting, taken}
+use Rattle.rh_passages.proofs.Logs.{PutKeeps}
 use Rattle.rh_server.specs.declared.state.Stage.{Stage}
 use Rattle.rh_server.specs.declared.state.Stage.TheVariants as stage
-use Rattle.rh_server.specs.declared.state.InStage.{InStage}
-use Rattle.rh_server.specs.declared.state.InStage.TheVariants as in_stage
 use Rattle.rh_server.specs.declared.state.Tells.{Tells}
 use Rattle.rh_server.specs.declared.state.Tells.TheVariants as tells
 use Rattle.rh_server.specs.declared.state.Leaving.{Leaving}
@@ -36,28 +28,18 @@ use Rattle.rh_server.specs.declared.state.Edge.TheVariants.{Told}
 use Rattle.rh_server.specs.declared.state.Greeting.TheVariants as greetings
 use Rattle.rh_server.specs.declared.state.InLeg.{InLeg}
 use Rattle.rh_server.specs.declared.state.OutLeg.{OutLeg}
-use Rattle.rh_server.specs.OutLines.{Gate, lets, length_of, is_ack}
-use Rattle.rh_server.specs.States.{Server, phase_of, is_open, is_due, is_shut, is_waiting, stays, has_left, in_leg, out_place, with_in, without_in, without_out}
-use Rattle.rh_server.specs.Opening.{has_room, in_leg_up, may_up_by, up, up_by}
-use Rattle.rh_server.specs.InReplacement.{take}
-use Rattle.rh_server.specs.OutReplacement.{recycle}
-use Rattle.rh_server.specs.Ending.{give, settled, drawn, drawn_by, in_is_drawn, mark, mark_by, lost_in, with_ack_dropped}
-use Rattle.rh_server.specs.Putting.{Pick, or_else, put_in_greeting, told_by, was_current, put_tells_by, put_tells, put_b1_by, put_b1, put_ack_by, put_ack, ack_due, put_in_by, out_greeting_at, put_out_greeting, counts, was_put, waiting_by, waiting_at, put_waiting, gate_at, with_out, pdu_by, put_pdu, put_end, put_pdu_or_end, next_out, settled_pick, put_open, put_out_at, put_by}
-use Rattle.rh_server.specs.Servers.{acts, first, pdu}
-use Rattle.rh_server.specs.Servers.{rules as server_rules}
-use Rattle.rh_server_counts.specs.Counting.{is_conn_a2, is_conn_b2, is_conn_b3, is_conn_c1, is_in_r1_a2, is_in_r1_a3, is_in_r2_a2, is_in_r2_a3, often, often_at, leg_at, waiting_of}
-use Rattle.rh_server_counts.specs.Answering.{how_many, AreAnswered, BeginOnce}
-use Rattle.rh_server_counts.specs.Opening.{since_conn_a2, since_conn_b2, since_open, IsText, IsEarly, OpensOnce}
-use Rattle.rh_server_counts.proofs.Logs.{at_most_in}
+use Rattle.rh_server.specs.OutLines.{Gate, lets, length_of}
+use Rattle.rh_server.specs.States.{Server, is_open, is_due, is_shut, stays, in_leg, out_place, with_in}
+use Rattle.rh_server.specs.Putting.{Pick, or_else, put_in_greeting, was_current, put_tells_by, put_tells, put_b1_by, put_b1, put_ack_by, put_ack, ack_due, put_in_by, out_greeting_at, put_out_greeting, counts, was_put, waiting_by, waiting_at, put_waiting, gate_at, with_out, pdu_by, put_pdu, put_end, put_pdu_or_end, next_out, settled_pick, put_open, put_out_at, put_by}
+use Rattle.rh_server_counts.specs.Counting.{is_conn_b3, is_conn_c1, is_in_r1_a3, is_in_r2_a3, often, leg_at, waiting_of}
+use Rattle.rh_server_counts.specs.Answering.{how_many}
+use Rattle.rh_server_counts.specs.Opening.{since_open}
 use Rattle.rh_server_counts.proofs.Dues.{Went, one_waits, first_goes, others_have}
-use Rattle.rh_server_counts.proofs.InLegs.{IsFound, IsFoundAs, found, one_leg, many_joined, many_pushed}
-use Rattle.rh_server_counts.proofs.Openings.{is_conn_b3_due, owes_b3, Opening, opening_starts, opening_stays, opening_put}
-use Rattle.rh_server_counts.proofs.Announcing.{Look, look, Placed, Answering}
-use Rattle.rh_server_counts.proofs.Announced.{answering_starts, put_keeps}
-use Rattle.rh_server_counts.proofs.LegsKept.{leg_set, leg_up}
-use Rattle.rh_server_counts.proofs.Adding.{of_out, recycle_adds, dropped_adds}
-use Rattle.rh_server_counts.proofs.Connecting.{Seen, seen, Holds, same_holds, row_keeps, IsQuiet, IsQuietPut, IsGreeting, put_quiet, Keeps, ack_alone, out_alone, alike, rest, added_keeps, settled_keeps, has_number, IsLeg, its_number, set_legs, owes_joined, stays_placed, is_placed, leg_keeps, gone_keeps, take_keeps}
-use Rattle.rh_server_counts.proofs.Rows.{packet_row}
+use Rattle.rh_server_counts.proofs.InLegs.{IsFoundAs, found, one_leg, many_joined}
+use Rattle.rh_server_counts.proofs.Openings.{is_conn_b3_due, owes_b3, opening_put}
+use Rattle.rh_server_counts.proofs.Announcing.{look}
+use Rattle.rh_server_counts.proofs.Announced.{put_keeps}
+use Rattle.rh_server_counts.proofs.Connecting.{seen, Holds, same_holds, IsQuietPut, put_quiet, settled_keeps, has_number, IsLeg, set_legs, owes_joined, stays_placed, leg_keeps}
 
 -- the server is open, so nothing of it is early
 opened : (at : Stage) → is_open at ≡ true → since_open at ≡ 0 → ⊥
@@ -104,7 +86,7 @@ module _ (n : ℕ) (came put : List OnLeg) where
       conn_b3 =
           let was = owes_joined s n leg f in
           let are = ap (how_many owes_b3) (set_legs s n leg y f refl)
-              ∙ many_joined owes_b3 y f.before f.behind in
+          ∙ many_joined owes_b3 y f.before f.behind in
           omega (arith, was, are, due, none, is_b3);
       greetings = λ e. tt;
       early_b3 = λ e. absurd (opened s.stage is e);
@@ -238,11 +220,11 @@ module _ (n : ℕ) (came put : List OnLeg) where
           (was_put_same t place due.packet) (record {
             opening = opening_put s.stage dues left.due s.ins s.ins came put
                 (on_os (Packet due.packet)) (record {
-              conn_c1 = one_of is_conn_c1 due.packet left.due c1;
-              conn_b3 = omega arith;
-              greetings = λ e. absurd (opened s.stage is e);
-              early_b3 = λ e. refl;
-            }) h.opening;
+                  conn_c1 = one_of is_conn_c1 due.packet left.due c1;
+                  conn_b3 = omega arith;
+                  greetings = λ e. absurd (opened s.stage is e);
+                  early_b3 = λ e. refl;
+                }) h.opening;
             answering = put_keeps (look s) left.due came put (on_os (Packet due.packet))
                 (others_have (lets gate) dues h.answering.origins) r1 r2 h.answering;
           })
@@ -253,7 +235,7 @@ module _ (n : ℕ) (came put : List OnLeg) where
               ≡ waiting_of test dues
           one_of test packet others e =
               let same : often test OutServer (on_os (Packet packet) ∷ [])
-                  ≡ one_waits test packet = refl in omega (arith, e, same)
+              ≡ one_waits test packet = refl in omega (arith, e, same)
 
   next_puts : (s : Server) (place : ℕ) → is_open s.stage ≡ true → Holds s came put
       → Puts OutServer (next_out s place)

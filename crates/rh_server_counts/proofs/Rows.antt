@@ -1,7 +1,6 @@
 -- the rows of a server: how far it is with its opening, and with its IN channels
-use Rattle.std.proofs.Common.{◌≡◌, ℕ, suc, ◌+◌, ◌≤◌, ◌<◌, ◌==◌, ◌&&◌, ◌||◌, not, Bool, true, false, true≢false, if◌then◌else◌, List, [], ◌∷◌, ◌++◌, nat_lt, Some, None, Ok, Err, arith, refl, rules, sym, ap, ◌∙◌, subst}
+use Rattle.std.proofs.Common.{◌≡◌, ℕ, ◌+◌, ◌≤◌, ◌==◌, ◌&&◌, ◌||◌, not, Bool, true, false, true≢false, List, [], ◌∷◌, ◌++◌, nat_lt, Some, None, arith, refl, rules, sym, ap, ◌∙◌, subst}
 use Rattle.std.proofs.lemmas.Bool.{false≢true, and_parts, not-true, not-false, or_parts}
-use Rattle.std.specs.List.{AllByRecursion}
 use Rattle.std.specs.declared.option.Option.{Option}
 use Rattle.rh_rts.specs.declared.command.Cookie.{Cookie}
 use Rattle.rh_sig.specs.declared.named.Named.{Named}
@@ -11,42 +10,39 @@ use Rattle.rh_line.specs.declared.leg.LegKind.{LegKind}
 use Rattle.rh_line.specs.declared.leg.LegKind.TheVariants.{ClientOut, OutServer, ClientIn, InServer}
 use Rattle.rh_line.specs.declared.which.Which.{Which}
 use Rattle.rh_line.specs.declared.which.Which.TheVariants.{Current, Next}
-use Rattle.rh_line.proofs.Queues.{each_push}
 use Rattle.rh_order.proofs.ByNumber.{by_test, same_number}
 use Rattle.rh_shell.specs.declared.answers.Count.{Count}
 use Rattle.rh_shell.specs.declared.answers.Refused.TheVariants as refused
 use Rattle.rh_shell.specs.Rules.{Packet}
 use Rattle.rh_shell.specs.Moves.{OnLeg}
-use Rattle.rh_shell.specs.Waiting.{Waiting, own}
+use Rattle.rh_shell.specs.Waiting.{own}
 use Rattle.rh_passages.specs.Passing.{count_of}
 use Rattle.rh_passages.proofs.Logs.{RowKeeps}
 use Rattle.rh_server.specs.declared.state.Stage.{Stage}
 use Rattle.rh_server.specs.declared.state.Stage.TheVariants as stage
 use Rattle.rh_server.specs.declared.state.InStage.{InStage}
 use Rattle.rh_server.specs.declared.state.InStage.TheVariants as in_stage
-use Rattle.rh_server.specs.declared.state.Tells.TheVariants as tells
 use Rattle.rh_server.specs.declared.state.Leaving.TheVariants as leaving
 use Rattle.rh_server.specs.declared.state.InLeg.{InLeg}
 use Rattle.rh_server.specs.declared.out_line.Kind.TheVariants as kind
 use Rattle.rh_server.specs.OutLines.{is_ack, waits}
-use Rattle.rh_server.specs.States.{Server, is_open, is_fresh, is_waiting, stays, same_cookie, in_leg, with_in}
-use Rattle.rh_server.specs.Opening.{Done, took, refuse, unexpected, is_first, opens, with_first_out, conn_a2_at, on_conn_a2, first_in, with_first_in, conn_b2_at, on_conn_b2}
+use Rattle.rh_server.specs.States.{Server, is_open, is_fresh, is_waiting, same_cookie, in_leg, with_in}
+use Rattle.rh_server.specs.Opening.{Done, took, refuse, unexpected, is_first}
 use Rattle.rh_server.specs.Acknowledging.{channel_at, on_ack_to, on_ack, on_ping_traffic}
-use Rattle.rh_server.specs.InReplacement.{next_opened, moved_if, announced, in_r1_a2_by, in_r1_a2_at, on_in_r1_a2, has_fresh_below, leaves, leaves_by, hands_over, on_in_r1_a6, in_r2_a2_on, on_in_r2_a2, opens_leg, first_waiting, carries_next}
+use Rattle.rh_server.specs.InReplacement.{next_opened, moved_if, announced, in_r1_a2_by, in_r1_a2_at, on_in_r1_a2, has_fresh_below, leaves_by, hands_over, on_in_r1_a6, in_r2_a2_on, on_in_r2_a2, opens_leg, first_waiting, carries_next}
 use Rattle.rh_server.specs.OutReplacement.{on_out_r1_a4, on_out_r1_a8}
 use Rattle.rh_server.specs.Ending.{is_over_on, end_a2_on_leg, end_a2_waiting, end_a2_at, on_end_a2}
 use Rattle.rh_server.specs.Servers.{packet_by, on_is, on_os}
-use Rattle.rh_server_counts.specs.Counting.{is_conn_a2, is_conn_b2, is_conn_c1, is_in_r1_a2, is_in_r1_a3, is_in_r2_a2, is_in_r2_a3, often, leg_at, waiting_of}
-use Rattle.rh_server_counts.specs.Answering.{how_many, waits_on}
-use Rattle.rh_server_counts.specs.Opening.{since_conn_a2, since_conn_b2, since_open}
-use Rattle.rh_server_counts.proofs.Dues.{Apart, Adds, HasOrigin, push_waits, none_waits}
-use Rattle.rh_server_counts.proofs.InLegs.{IsFound, IsFoundAs, found, all_of, one_leg, many_joined}
-use Rattle.rh_server_counts.proofs.Openings.{owes_b3, Opening, Comes, opening_came}
+use Rattle.rh_server_counts.specs.Counting.{is_conn_a2, is_conn_b2, is_conn_c1, is_in_r1_a2, is_in_r1_a3, is_in_r2_a2, often, leg_at, waiting_of}
+use Rattle.rh_server_counts.specs.Answering.{how_many}
+use Rattle.rh_server_counts.specs.Opening.{since_open}
+use Rattle.rh_server_counts.proofs.Dues.{push_waits, none_waits}
+use Rattle.rh_server_counts.proofs.InLegs.{IsFoundAs, found, one_leg, many_joined}
+use Rattle.rh_server_counts.proofs.Openings.{owes_b3, Opening, opening_came}
 use Rattle.rh_server_counts.proofs.Announcing.{Look, look, Placed, Answering, Ready, a3_kind, line_keeps, finishes_on, next_opens}
-use Rattle.rh_server_counts.proofs.Announced.{came_other, dues_keep, carried_keeps, announced_waits, announced_ready}
-use Rattle.rh_server_counts.proofs.LegsKept.{first_opens}
-use Rattle.rh_server_counts.proofs.Adding.{MayAdd, of_out, next_adds, moved_adds, ack_to_adds, out_r1_a4_adds, out_r1_a8_adds}
-use Rattle.rh_server_counts.proofs.Connecting.{seen, Holds, same_holds, row_keeps, Keeps, ack_alone, out_alone, alike, rest, added_keeps, has_number, IsLeg, its_number, set_legs, owes_joined, leg_keeps, opening_opens, next_owes, moved_owes, a3_alone, is_placed}
+use Rattle.rh_server_counts.proofs.Announced.{carried_keeps, announced_waits, announced_ready}
+use Rattle.rh_server_counts.proofs.Adding.{of_out, next_adds, moved_adds, ack_to_adds, out_r1_a4_adds, out_r1_a8_adds}
+use Rattle.rh_server_counts.proofs.Connecting.{seen, Holds, same_holds, row_keeps, Keeps, ack_alone, out_alone, alike, added_keeps, has_number, IsLeg, its_number, set_legs, owes_joined, leg_keeps, opening_opens, next_owes, moved_owes, a3_alone, is_placed}
 use Rattle.rh_server_counts.proofs.OpeningRows.{conn_a2_row, conn_b2_row}
 
 -- ---- IN_R1/A2
@@ -65,22 +61,22 @@ announced_row : (s : Server) (known : Cookie) (n : ℕ) (leg : InLeg) (successor
     (came ++ (leg_at InServer n, Packet m) ∷ []) put
 announced_row s known n leg successor window timeout m came put at f fresh below no_a2 no_b2 is1
     is2 h = record {
-  opening =
-      subst (λ (z : Stage). Opening z t.waiting.due t.ins new put) (sym (next_stage v ∙ at))
-      (opening_came (stage.Open known) (stage.Open known) s.waiting.due t.waiting.due s.ins t.ins
-      came put (leg_at InServer n, Packet m) (record {
-        conn_a2 = omega (arith, no_a2);
-        conn_b2 = omega (arith, no_b2);
-        conn_c1 =
-            let same = (next_adds v).counts is_conn_c1 a3_alone in omega (arith, same);
-        conn_b3 = omega (arith, owes);
-        opens = omega arith;
-        in_r1_a2 = λ e. absurd (omega (arith, e));
-        in_r2_a2 = λ e. absurd (omega (arith, e));
-      })
-      (subst (λ (z : Stage). Opening z s.waiting.due s.ins came put) at h.opening));
-  answering = by s.line.has_next refl;
-}
+      opening =
+          subst (λ (z : Stage). Opening z t.waiting.due t.ins new put) (sym (next_stage v ∙ at))
+          (opening_came (stage.Open known) (stage.Open known) s.waiting.due t.waiting.due s.ins t.ins
+          came put (leg_at InServer n, Packet m) (record {
+            conn_a2 = omega (arith, no_a2);
+            conn_b2 = omega (arith, no_b2);
+            conn_c1 =
+                let same = (next_adds v).counts is_conn_c1 a3_alone in omega (arith, same);
+            conn_b3 = omega (arith, owes);
+            opens = omega arith;
+            in_r1_a2 = λ e. absurd (omega (arith, e));
+            in_r2_a2 = λ e. absurd (omega (arith, e));
+          })
+          (subst (λ (z : Stage). Opening z s.waiting.due s.ins came put) at h.opening));
+      answering = by s.line.has_next refl;
+    }
   where
     y : InLeg
     y = record leg { cookie = successor; stage = in_stage.Waits window timeout false }

@@ -1,5 +1,5 @@
 -- how far the replacement of OUT channels is, by what came, what was put, and what waits
-use Rattle.std.proofs.Common.{◌≡◌, ℕ, suc, ◌+◌, ◌≤◌, Bool, true, false, ◌&&◌, if◌then◌else◌, List, [], ◌∷◌, ◌++◌, arith, refl, sym, ap, ◌∙◌, subst}
+use Rattle.std.proofs.Common.{◌≡◌, ℕ, suc, ◌+◌, ◌≤◌, Bool, true, ◌&&◌, List, [], ◌∷◌, ◌++◌, arith, refl, ◌∙◌}
 use Rattle.std.proofs.lemmas.Bool.{false≢true, and_parts}
 use Rattle.rh_rts.specs.declared.command.Cookie.{Cookie}
 use Rattle.rh_sig.specs.declared.named.Named.{Named}
@@ -13,14 +13,13 @@ use Rattle.rh_shell.specs.Moves.{OnLeg}
 use Rattle.rh_shell.specs.Waiting.{own}
 use Rattle.rh_server.specs.declared.state.Replacement.{Replacement}
 use Rattle.rh_server.specs.declared.state.Replacement.TheVariants.{Steady, Asked, Answered, Confirmed}
-use Rattle.rh_server.specs.declared.out_line.Kind.TheVariants as kind
-use Rattle.rh_server.specs.OutLines.{Gate, lets_packet, lets_by_meter, is_ack, is_kind}
+use Rattle.rh_server.specs.OutLines.{Gate, lets_packet}
 use Rattle.rh_server.specs.States.{is_steady}
 use Rattle.rh_server.specs.OutReplacement.{is_asked}
-use Rattle.rh_server_counts.specs.Counting.{is_conn_c1, is_in_r1_a3, is_in_r2_a3, is_out_r1_a1, is_out_r1_a4, is_out_r1_a5, is_out_r1_a8, is_out_r1_a9, often, leg_at, IsOnEachFrom, waiting_of}
+use Rattle.rh_server_counts.specs.Counting.{is_out_r1_a1, is_out_r1_a4, is_out_r1_a5, is_out_r1_a8, is_out_r1_a9, often, leg_at, IsOnEachFrom, waiting_of}
 use Rattle.rh_server_counts.specs.Replacing.{since_asked, since_answered, since_confirmed}
 use Rattle.rh_server_counts.proofs.Logs.{often_more, on_none, on_other, on_next}
-use Rattle.rh_server_counts.proofs.Dues.{Apart, Adds, IsOfKind, HaveOrigins, HasOrigin, push_waits, one_waits}
+use Rattle.rh_server_counts.proofs.Dues.{Adds, HaveOrigins, HasOrigin, push_waits, one_waits}
 use Rattle.rh_server_counts.proofs.Packets.{LeavesAlone}
 
 -- ---- what is kept

@@ -1,62 +1,41 @@
 -- the steps of a server: how far it is with its opening, and with its IN channels
-use Rattle.std.proofs.Common.{◌≡◌, ℕ, suc, ◌+◌, ◌≤◌, ◌==◌, ◌&&◌, not, Bool, true, false, true≢false, if◌then◌else◌, List, [], ◌∷◌, ◌++◌, Some, None, Ok, Err, arith, refl, rules, sym, ap, ◌∙◌, subst}
+use Rattle.std.proofs.Common.{◌≡◌, ℕ, ◌+◌, ◌≤◌, ◌==◌, ◌&&◌, Bool, true, false, true≢false, if◌then◌else◌, List, [], ◌∷◌, ◌++◌, Some, None, arith, refl, rules, sym, ap, ◌∙◌}
 use Rattle.std.proofs.lemmas.Bool.{false≢true, and_parts}
-use Rattle.std.specs.Prelude.{IfSome, slice_get, find}
-use Rattle.std.specs.List.{AllByRecursion}
 use Rattle.std.specs.declared.option.Option.{Option}
 use Rattle.rh_rts.specs.declared.command.Cookie.{Cookie}
-use Rattle.rh_sig.specs.declared.named.Named.{Named}
-use Rattle.rh_sig.specs.declared.named.Named.TheVariants as named
-use Rattle.rh_window.specs.declared.recv_window.Ack.{Ack}
-use Rattle.rh_line.specs.Lines.{after_tell, after_told}
-use Rattle.rh_line.specs.Queue.{front_length}
 use Rattle.rh_line.specs.declared.leg.Leg.{Leg}
 use Rattle.rh_line.specs.declared.leg.LegKind.{LegKind}
 use Rattle.rh_line.specs.declared.leg.LegKind.TheVariants.{ClientOut, OutServer, ClientIn, InServer}
-use Rattle.rh_line.specs.declared.which.Which.TheVariants.{Current}
 use Rattle.rh_order.proofs.ByNumber.{by_test, same_number}
 use Rattle.rh_shell.specs.declared.answers.Count.{Count}
 use Rattle.rh_shell.specs.declared.answers.Phase.TheVariants as phase
 use Rattle.rh_shell.specs.declared.due.Due.{Due}
-use Rattle.rh_shell.specs.Hearing.{greeting as greeting_text}
-use Rattle.rh_shell.specs.Rules.{Message, Text, Pdu, Packet}
+use Rattle.rh_shell.specs.Rules.{Pdu}
 use Rattle.rh_shell.specs.Moves.{OnLeg, Passage, EndMove, end_started, all_end_moved}
-use Rattle.rh_shell.specs.Waiting.{Waiting, taken, without_first}
-use Rattle.rh_passages.specs.Passing.{of_kind}
-use Rattle.rh_passages.proofs.Logs.{PutKeeps, StepsKeep, ActsKeep, end_moves_keep}
+use Rattle.rh_passages.proofs.Logs.{StepsKeep, ActsKeep, end_moves_keep}
 use Rattle.rh_server.specs.declared.state.Stage.{Stage}
 use Rattle.rh_server.specs.declared.state.Stage.TheVariants as stage
-use Rattle.rh_server.specs.declared.state.InStage.{InStage}
-use Rattle.rh_server.specs.declared.state.InStage.TheVariants as in_stage
-use Rattle.rh_server.specs.declared.state.Tells.{Tells}
-use Rattle.rh_server.specs.declared.state.Tells.TheVariants as tells
 use Rattle.rh_server.specs.declared.state.Leaving.{Leaving}
 use Rattle.rh_server.specs.declared.state.Leaving.TheVariants as leaving
-use Rattle.rh_server.specs.declared.state.Edge.TheVariants.{Told}
-use Rattle.rh_server.specs.declared.state.Greeting.TheVariants as greetings
 use Rattle.rh_server.specs.declared.state.InLeg.{InLeg}
-use Rattle.rh_server.specs.declared.state.OutLeg.{OutLeg}
-use Rattle.rh_server.specs.OutLines.{Gate, lets, length_of, is_ack}
-use Rattle.rh_server.specs.States.{Server, phase_of, is_open, is_due, is_shut, is_waiting, stays, has_left, in_leg, out_place, with_in, without_in, without_out}
+use Rattle.rh_server.specs.OutLines.{is_ack}
+use Rattle.rh_server.specs.States.{Server, phase_of, is_waiting, stays, has_left, in_leg, without_in, without_out}
 use Rattle.rh_server.specs.Opening.{has_room, in_leg_up, may_up_by, up, up_by}
-use Rattle.rh_server.specs.InReplacement.{take}
 use Rattle.rh_server.specs.OutReplacement.{recycle}
-use Rattle.rh_server.specs.Ending.{give, settled, drawn, drawn_by, in_is_drawn, mark, mark_by, lost_in, with_ack_dropped}
-use Rattle.rh_server.specs.Putting.{Pick, or_else, put_in_greeting, told_by, was_current, put_tells_by, put_tells, put_b1_by, put_b1, put_ack_by, put_ack, ack_due, put_in_by, out_greeting_at, put_out_greeting, counts, was_put, waiting_by, waiting_at, put_waiting, gate_at, with_out, pdu_by, put_pdu, put_end, put_pdu_or_end, next_out, settled_pick, put_open, put_out_at, put_by}
+use Rattle.rh_server.specs.Ending.{give, settled, drawn_by, in_is_drawn, mark_by, lost_in, with_ack_dropped}
 use Rattle.rh_server.specs.Servers.{acts, first, pdu}
 use Rattle.rh_server.specs.Servers.{rules as server_rules}
-use Rattle.rh_server_counts.specs.Counting.{is_conn_a2, is_conn_b2, is_conn_b3, is_conn_c1, is_in_r1_a2, is_in_r1_a3, is_in_r2_a2, is_in_r2_a3, often, often_at, leg_at, waiting_of}
+use Rattle.rh_server_counts.specs.Counting.{is_conn_b2, is_conn_b3, often}
 use Rattle.rh_server_counts.specs.Answering.{how_many, AreAnswered, BeginOnce}
-use Rattle.rh_server_counts.specs.Opening.{since_conn_a2, since_conn_b2, since_open, IsText, IsEarly, OpensOnce}
+use Rattle.rh_server_counts.specs.Opening.{since_conn_a2, since_conn_b2, since_open, OpensOnce}
 use Rattle.rh_server_counts.proofs.Logs.{at_most_in}
-use Rattle.rh_server_counts.proofs.Dues.{Went, one_waits, first_goes, others_have}
-use Rattle.rh_server_counts.proofs.InLegs.{IsFound, IsFoundAs, found, one_leg, many_joined, many_pushed}
-use Rattle.rh_server_counts.proofs.Openings.{is_conn_b3_due, owes_b3, Opening, opening_starts, opening_stays, opening_put}
-use Rattle.rh_server_counts.proofs.Announcing.{Look, look, Placed, Answering}
-use Rattle.rh_server_counts.proofs.Announced.{answering_starts, put_keeps}
-use Rattle.rh_server_counts.proofs.LegsKept.{leg_set, leg_up}
+use Rattle.rh_server_counts.proofs.InLegs.{IsFoundAs, found, many_pushed}
+use Rattle.rh_server_counts.proofs.Openings.{owes_b3, Opening, opening_starts, opening_stays}
+use Rattle.rh_server_counts.proofs.Announcing.{look}
+use Rattle.rh_server_counts.proofs.Announced.{answering_starts}
+use Rattle.rh_server_counts.proofs.LegsKept.{leg_up}
 use Rattle.rh_server_counts.proofs.Adding.{of_out, recycle_adds, dropped_adds}
-use Rattle.rh_server_counts.proofs.Connecting.{Seen, seen, Holds, same_holds, row_keeps, IsQuiet, IsQuietPut, IsGreeting, put_quiet, Keeps, ack_alone, out_alone, alike, rest, added_keeps, settled_keeps, has_number, IsLeg, its_number, set_legs, owes_joined, stays_placed, is_placed, leg_keeps, gone_keeps, take_keeps}
+use Rattle.rh_server_counts.proofs.Connecting.{seen, Holds, same_holds, row_keeps, IsQuiet, Keeps, ack_alone, out_alone, alike, rest, added_keeps, settled_keeps, has_number, stays_placed, is_placed, leg_keeps, gone_keeps, take_keeps}
 use Rattle.rh_server_counts.proofs.Rows.{packet_row}
 use Rattle.rh_server_counts.proofs.Puts.{puts}
 
@@ -74,14 +53,14 @@ up_keeps s leg cookie came put h =
     by InServer e = record {
       opening = opening_stays s.stage s.stage s.waiting.due s.waiting.due s.ins
           (s.ins ++ in_leg_up n ∷ []) came put (record {
-        conn_a2 = refl;
-        conn_b2 = refl;
-        opens = refl;
-        conn_c1 = refl;
-        conn_b3 =
-            let more : how_many owes_b3 (s.ins ++ in_leg_up n ∷ []) ≡ how_many owes_b3 s.ins + 0 =
+            conn_a2 = refl;
+            conn_b2 = refl;
+            opens = refl;
+            conn_c1 = refl;
+            conn_b3 =
+                let more : how_many owes_b3 (s.ins ++ in_leg_up n ∷ []) ≡ how_many owes_b3 s.ins + 0 =
                 many_pushed owes_b3 (in_leg_up n) s.ins in omega (arith, more);
-      }) h.opening;
+          }) h.opening;
       answering = leg_up (look s) (in_leg_up n) came put
           (same_number n (s.newest_in + 1) (and_parts (n == s.newest_in + 1) (has_room s.ins) e).0)
           refl refl h.answering;
