@@ -1,0 +1,133 @@
+-- what an in proxy puts for what came, kind by kind
+use Rattle.std.proofs.Common.{◌≡◌, ℕ, ◌+◌, ◌≤◌, ◌&&◌, Bool, true, false, not, if◌then◌else◌, List, [], ◌∷◌, ◌++◌, Some, None, Ok, Err, refl, sym, ap, ◌∙◌, subst, arith, rules}
+use Rattle.std.proofs.lemmas.Bool.{and_parts}
+use Rattle.std.specs.Prelude.{IfSome}
+use Rattle.std.specs.declared.option.Option.{Option}
+use Rattle.rh_rts.specs.declared.command.Cookie.{Cookie}
+use Rattle.rh_sig.specs.declared.named.Named.{Named}
+use Rattle.rh_sig.specs.declared.named.Named.TheVariants as named
+use Rattle.rh_line.specs.declared.leg.Leg.{Leg}
+use Rattle.rh_line.specs.declared.leg.LegKind.TheVariants.{ClientIn}
+use Rattle.rh_line.specs.declared.which.Which.{Which}
+use Rattle.rh_order.proofs.ByNumber.{by_test}
+use Rattle.rh_shell.specs.declared.answers.Count.{Count}
+use Rattle.rh_shell.specs.Rules.{Message, Text, Pdu, Packet}
+use Rattle.rh_shell.specs.Shells.{one_if}
+use Rattle.rh_shell.specs.Moves.{OnLeg, Move, started, all_moved}
+use Rattle.rh_shell.specs.Wires.{of_leg}
+use Rattle.rh_inproxy.specs.declared.state.Edge.{Edge}
+use Rattle.rh_inproxy.specs.declared.state.InProxyConfig.{InProxyConfig}
+use Rattle.rh_inproxy.specs.declared.state.Opener.{Opener}
+use Rattle.rh_inproxy.specs.declared.state.Opening.{Opening}
+use Rattle.rh_inproxy.specs.declared.state.Opening.TheVariants as openings
+use Rattle.rh_inproxy.specs.Answers.{Done, Pick, unexpected}
+use Rattle.rh_inproxy.specs.State.{InProxy, first, channel_of, is_client_leg, is_server_leg}
+use Rattle.rh_inproxy.specs.Machine.{rules as proxy_rules}
+use Rattle.rh_passages.specs.Passing.{count_of, of_kind}
+use Rattle.rh_proxy_counts.specs.Kinds.{is_conn_b1, is_conn_b2, is_in_r1_a1, is_in_a2, is_in_r1_a5, is_in_r1_a6, is_out_r1_a7, is_out_r1_a8, opens_server}
+use Rattle.rh_proxy_counts.specs.InCounts.{is_leg, PutsForWhatCame, HappensOnce}
+use Rattle.rh_proxy_counts.proofs.Counts.{count_none, none}
+use Rattle.rh_proxy_counts.proofs.InProxyPays.{Leads, in_proxy_pays}
+use Rattle.rh_proxy_counts.proofs.InProxyOnce.{in_proxy_opens_once}
+
+-- ---- kinds
+
+b1_leads : Leads is_conn_b1 is_conn_b2 0
+b1_leads = record {
+  connects = λ version lifetime keepalive window timeout connection channel group address padding.
+      omega arith;
+  replaces = λ version window timeout connection predecessor channel. omega arith;
+  joins = λ version connection predecessor channel. omega arith;
+  leaves = λ successor. omega arith;
+  passes = λ to successor. omega arith;
+  acks = λ to received available channel. refl;
+  ends = refl;
+  pings = refl;
+}
+
+a1_leads : (cookie : Cookie) → Leads (is_in_r1_a1 cookie) (is_in_a2 cookie) 0
+a1_leads cookie = record {
+  connects = λ version lifetime keepalive window timeout connection channel group address padding.
+      omega arith;
+  replaces = λ version window timeout connection predecessor channel. omega arith;
+  joins = λ version connection predecessor channel. omega arith;
+  leaves = λ successor. omega arith;
+  passes = λ to successor. omega arith;
+  acks = λ to received available channel. refl;
+  ends = refl;
+  pings = refl;
+}
+
+a5_leads : Leads is_in_r1_a5 is_in_r1_a6 0
+a5_leads = record {
+  connects = λ version lifetime keepalive window timeout connection channel group address padding.
+      omega arith;
+  replaces = λ version window timeout connection predecessor channel. omega arith;
+  joins = λ version connection predecessor channel. omega arith;
+  leaves = λ successor. omega arith;
+  passes = λ to successor. omega arith;
+  acks = λ to received available channel. refl;
+  ends = refl;
+  pings = refl;
+}
+
+a7_leads : (cookie : Cookie) → Leads (is_out_r1_a7 cookie) (is_out_r1_a8 cookie) 0
+a7_leads cookie = record {
+  connects = λ version lifetime keepalive window timeout connection channel group address padding.
+      omega arith;
+  replaces = λ version window timeout connection predecessor channel. omega arith;
+  joins = λ version connection predecessor channel. omega arith;
+  leaves = λ successor. omega arith;
+  passes = λ to successor. omega arith;
+  acks = λ to received available channel. refl;
+  ends = refl;
+  pings = refl;
+}
+
+-- IN_R1/A6 is owed once, whatever comes
+once_leads : Leads none is_in_r1_a6 1
+once_leads = record {
+  connects = λ version lifetime keepalive window timeout connection channel group address padding.
+      omega arith;
+  replaces = λ version window timeout connection predecessor channel. omega arith;
+  joins = λ version connection predecessor channel. omega arith;
+  leaves = λ successor. omega arith;
+  passes = λ to successor. omega arith;
+  acks = λ to received available channel. refl;
+  ends = refl;
+  pings = refl;
+}
+
+-- ---- the laws
+
+module _ (config : InProxyConfig) (moves : List Move) where
+  abbrev is : Leg
+  is = is_leg config.number
+
+  puts : (came put : Named → Bool) → Leads came put 0
+      → (let p = all_moved proxy_rules (started (first config)) moves in
+      count_of put (of_leg is p.put) ≤ count_of came (of_kind ClientIn p.came))
+  puts came put leads =
+      let paid = in_proxy_pays came put 0 leads config moves is in omega (arith, paid)
+
+  pub in_proxy_puts : PutsForWhatCame config.number
+      (all_moved proxy_rules (started (first config)) moves)
+  in_proxy_puts = record {
+    connection = puts is_conn_b1 is_conn_b2 b1_leads;
+    successors = λ cookie. puts (is_in_r1_a1 cookie) (is_in_a2 cookie) (a1_leads cookie);
+    handover = puts is_in_r1_a5 is_in_r1_a6 a5_leads;
+    answers = λ cookie. puts (is_out_r1_a7 cookie) (is_out_r1_a8 cookie) (a7_leads cookie);
+  }
+
+  pub in_proxy_once : HappensOnce config.number
+      (all_moved proxy_rules (started (first config)) moves)
+  in_proxy_once =
+      let p = all_moved proxy_rules (started (first config)) moves in
+      let once = in_proxy_opens_once config moves in
+      record {
+        connection = once.0;
+        handover =
+            let paid = in_proxy_pays none is_in_r1_a6 1 once_leads config moves is in
+            let nothing = count_none (of_kind ClientIn p.came) in omega (arith, paid, nothing);
+        window = once.1;
+      }

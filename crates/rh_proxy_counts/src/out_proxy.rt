@@ -1,0 +1,25 @@
+//! What an out proxy puts for what came. Its functions do nothing: their contracts are the laws.
+
+ghost use Rattle.std.specs.Prelude.{List};
+ghost use Rattle.rh_shell.specs.Moves.{AreAllowed, Move, all_moved, started};
+ghost use Rattle.rh_outproxy.specs.declared.state.OutProxyConfig.{OutProxyConfig};
+ghost use Rattle.rh_outproxy.specs.Machine.{rules};
+ghost use Rattle.rh_outproxy.specs.OutProxy.{new_proxy};
+ghost use Rattle.rh_proxy_counts.specs.OutCounts.{ForwardsWhatCame, OpensWhatCame};
+
+/// An out proxy put no more of each kind to its client than came for it from the server: CONN/C2
+/// for CONN/C1, IN_R1/A4 for IN_R1/A3, IN_R2/A4 for IN_R2/A3, OUT_R1/A2 for A1, A6 for A5, A10 for
+/// A9, and END/B2 for END/B1.
+pub fn an_out_proxy_forwards_what_came()
+    ensures { (config : OutProxyConfig) (moves : List Move)
+        → AreAllowed rules (started (new_proxy config)) moves
+        → ForwardsWhatCame config.number (all_moved rules (started (new_proxy config)) moves) }
+{}
+
+/// It put no more CONN/A2 to the server and CONN/A3 to its client than CONN/A1 came there, and no
+/// more OUT_R1/A4 than OUT_R1/A3.
+pub fn an_out_proxy_opens_what_came()
+    ensures { (config : OutProxyConfig) (moves : List Move)
+        → AreAllowed rules (started (new_proxy config)) moves
+        → OpensWhatCame config.number (all_moved rules (started (new_proxy config)) moves) }
+{}
