@@ -2,6 +2,7 @@
 use Rattle.std.proofs.Common.{◌≡◌, ℕ, suc, ◌+◌, ◌≤◌, ◌==◌, Bool, true, false, if◌then◌else◌, List, [], ◌∷◌, ◌++◌, refl, sym, ap, ◌∙◌, arith}
 use Rattle.std.proofs.lemmas.Bool.{and_parts, eqb-true}
 use Rattle.std.proofs.lemmas.Bool.Decides.{nat_tests}
+use Rattle.std.proofs.lemmas.List.{append-nil}
 use Rattle.rh_sig.specs.declared.named.Named.{Named}
 use Rattle.rh_line.specs.declared.leg.Leg.{Leg}
 use Rattle.rh_line.specs.declared.leg.LegKind.{LegKind}
@@ -43,6 +44,21 @@ leg_is a b h =
 
 itself : (leg : Leg) → same_leg leg leg ≡ true
 itself leg = grind (arith, nat_tests)
+
+-- ---- a message more
+
+pub here_more : (leg : Leg) (log : List OnLeg) (m : Message)
+    → of_leg leg (log ++ (leg, m) ∷ []) ≡ of_leg leg log ++ m ∷ []
+here_more leg log m =
+    leg_more leg log (leg, m)
+    ∙ ap (λ (t : Bool). of_leg leg log ++ (if t then m ∷ [] else [])) (itself leg)
+
+pub other_more : (leg : Leg) (log : List OnLeg) (one : OnLeg) → same_leg one.0 leg ≡ false
+    → of_leg leg (log ++ one ∷ []) ≡ of_leg leg log
+other_more leg log one e =
+    leg_more leg log one
+    ∙ ap (λ (t : Bool). of_leg leg log ++ (if t then one.1 ∷ [] else [])) e
+    ∙ append-nil (of_leg leg log)
 
 -- ---- a test
 
@@ -94,15 +110,17 @@ module _ (test : Named → Bool) where
       let more = some_more (of_leg leg (one ∷ [])) (of_leg leg log) one.1
       (same_leg one.0 leg) refl in omega (arith, all, more)
 
+  pub leg_beside : (leg : Leg) (log : List OnLeg) (one : OnLeg) → same_leg one.0 leg ≡ false
+      → count_of test (of_leg leg (log ++ one ∷ [])) ≡ count_of test (of_leg leg log)
+  leg_beside leg log one e = ap (count_of test) (other_more leg log one e)
+
   pub leg_here : (leg : Leg) (log : List OnLeg) (named : Named)
       → count_of test (of_leg leg (log ++ (leg, Packet named) ∷ []))
       ≡ count_of test (of_leg leg log) + one_if (test named)
   leg_here leg log named =
-      let all = ap (count_of test) (leg_more leg log (leg, Packet named)) in
-      let last = ap (λ (t : Bool). count_of test (of_leg leg log
-      ++ (if t then Packet named ∷ [] else []))) (itself leg) in
+      let all = ap (count_of test) (here_more leg log (Packet named)) in
       let both = count_append test (of_leg leg log) (Packet named ∷ []) in
-      let one = one_counts test named in omega (arith, all, last, both, one)
+      let one = one_counts test named in omega (arith, all, both, one)
 
   pub kind_rises : (kind : LegKind) (log : List OnLeg) (one : OnLeg)
       → count_of test (of_kind kind log) ≤ count_of test (of_kind kind (log ++ one ∷ []))

@@ -6,3 +6,5 @@ mod OutProxyPays
 mod OutProxyLaws
 mod InProxyOnce
 mod InProxyLaws
+mod OutProxyOnce
+mod OutProxyNames
