@@ -15,7 +15,9 @@ use Rattle.rh_shell.specs.Rules.{Message, Text, Pdu, Packet}
 use Rattle.rh_shell.specs.Shells.{one_if}
 use Rattle.rh_shell.specs.Moves.{OnLeg, Move, started, all_moved}
 use Rattle.rh_shell.specs.Wires.{of_leg}
-use Rattle.rh_inproxy.specs.declared.state.Edge.{Edge}
+use Rattle.rh_inproxy.specs.declared.state.Handover.{Handover}
+use Rattle.rh_inproxy.specs.declared.state.Handover.TheVariants.{Before, Came, Passed}
+use Rattle.rh_inproxy.specs.InReplacement.{has_passed}
 use Rattle.rh_inproxy.specs.declared.state.InProxyConfig.{InProxyConfig}
 use Rattle.rh_inproxy.specs.declared.state.Opener.{Opener}
 use Rattle.rh_inproxy.specs.declared.state.Opening.{Opening}
@@ -27,7 +29,8 @@ use Rattle.rh_passages.specs.Passing.{count_of, of_kind}
 use Rattle.rh_proxy_counts.specs.Kinds.{is_conn_b1, is_conn_b2, is_in_r1_a1, is_in_a2, is_in_r1_a5, is_in_r1_a6, is_out_r1_a7, is_out_r1_a8, opens_server}
 use Rattle.rh_proxy_counts.specs.InCounts.{is_leg, PutsForWhatCame, HappensOnce}
 use Rattle.rh_proxy_counts.proofs.Counts.{count_none, none}
-use Rattle.rh_proxy_counts.proofs.InProxyPays.{Leads, in_proxy_pays}
+use Rattle.rh_proxy_counts.proofs.InProxyOwes.{Leads}
+use Rattle.rh_proxy_counts.proofs.InProxyPays.{handover_owes, in_proxy_owes, in_proxy_pays}
 use Rattle.rh_proxy_counts.proofs.InProxyOnce.{in_proxy_opens_once}
 
 -- ---- kinds
@@ -119,15 +122,24 @@ module _ (config : InProxyConfig) (moves : List Move) where
     answers = λ cookie. puts (is_out_r1_a7 cookie) (is_out_r1_a8 cookie) (a7_leads cookie);
   }
 
+  -- IN_R1/A6 is owed until it is put
+  passes : (put : ℕ) (h : Handover) → put + handover_owes none is_in_r1_a6 1 once_leads h ≤ 1
+      → 1 ≤ put → has_passed h ≡ true
+  passes put Before owed some = absurd (omega (arith, owed, some))
+  passes put (Came cookie) owed some = absurd (omega (arith, owed, some))
+  passes put Passed owed some = refl
+
   pub in_proxy_once : HappensOnce config.number
       (all_moved proxy_rules (started (first config)) moves)
   in_proxy_once =
       let p = all_moved proxy_rules (started (first config)) moves in
       let once = in_proxy_opens_once config moves in
+      let owed = in_proxy_owes none is_in_r1_a6 1 once_leads config moves is in
+      let nothing = count_none (of_kind ClientIn p.came) in
       record {
         connection = once.0;
-        handover =
-            let paid = in_proxy_pays none is_in_r1_a6 1 once_leads config moves is in
-            let nothing = count_none (of_kind ClientIn p.came) in omega (arith, paid, nothing);
+        handover = omega (arith, owed, nothing);
+        passed = passes (count_of is_in_r1_a6 (of_leg is p.put)) p.role.handover
+            (omega (arith, owed, nothing));
         window = once.1;
       }

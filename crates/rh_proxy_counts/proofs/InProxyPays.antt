@@ -55,111 +55,7 @@ use Rattle.rh_proxy_counts.proofs.Waits.{IsNoAck, IsSame, waits, forwarded_waits
 use Rattle.rh_proxy_counts.proofs.Pays as pays
 use Rattle.rh_proxy_counts.proofs.Pays.{StepsPay, moves_pay, any_rise}
 
--- what the facts are about
-record Seen : Type 0 where
-  config : InProxyConfig
-  opening : Opening
-  successor : Successor
-  handover : Handover
-  waiting : waiting.Waiting
-
-abbrev seen : InProxy → Seen
-seen s = record {
-  config = s.config;
-  opening = s.opening;
-  successor = s.successor;
-  handover = s.handover;
-  waiting = s.waiting;
-}
-
-abbrev Same : InProxy → InProxy → Type 0
-Same s t = seen t ≡ seen s
-
--- ---- what leaves these alone
-
-same_head : (s : InProxy) (leg : Leg) (text : List ℕ) → Same s (head s leg text).0
-same_head s leg text = search rules
-
-same_pdu : (s : InProxy) (leg : Leg) (count : Count) (bytes : List ℕ)
-    → Same s (pdu s leg count bytes).0
-same_pdu s leg count bytes = search rules
-
-same_b3 : (s : InProxy) (size : ℕ) → Same s (on_conn_b3 s size).0
-same_b3 s size = search rules
-
-same_b2 : (s : InProxy) (size : ℕ) → Same s (on_in_r1_b2 s size).0
-same_b2 s size = search rules
-
-same_b1 : (s : InProxy) → Same s (on_in_r1_b1 s).0
-same_b1 s = search rules
-
-same_ack : (s : InProxy) (received available : ℕ) (channel : Cookie)
-    → Same s (on_ack s received available channel).0
-same_ack s received available channel = search rules
-
-same_is : (s : InProxy) (m : Named) → Same s (on_is s m).0
-same_is s (named.ConnB3 size version) = same_b3 s size
-same_is s (named.InR1B2 size) = same_b2 s size
-same_is s named.InR1B1 = same_b1 s
-same_is s (named.Ack received available channel) = same_ack s received available channel
-same_is s m = refl
-
-same_keep_alive : (s : InProxy) (which : Which) (keepalive : ℕ)
-    → Same s (on_keep_alive s which keepalive).0
-same_keep_alive s which keepalive = search rules
-
-same_end : (s : InProxy) (which : Which) → Same s (on_end_a1 s which).0
-same_end s which = search rules
-
-same_drawn : (s : InProxy) (leg : Leg) → Same s (drawn s leg)
-same_drawn s leg = search rules
-
-same_settled : (s : InProxy) → Same s (settled s)
-same_settled s = search rules
-
-same_mark : (s : InProxy) (leg : Leg) → Same s (mark s leg)
-same_mark s leg =
-    same_settled (if is_newest s leg then record s { newest_lost = true } else s)
-    ∙ by_test (Same s) (is_newest s leg) _ s (λ e. refl) (λ e. refl)
-
-same_ping : (s : InProxy) (leg : Leg) → Same s (ping s leg)
-same_ping s leg = search rules
-
--- ---- what is due
-
--- the first packet to the server
-abbrev announced : InProxyConfig → Opener → Entry → Named
-announced config o (Connects group) =
-    named.ConnB2 1 o.connection o.channel config.window config.timeout group (V4 config.address)
-    (replicate 12 0)
-announced config o (Replaces predecessor) =
-    named.InR1A2 1 o.connection predecessor o.channel config.window config.timeout
-
-is_announced : (s : InProxy) (o : Opener) (entry : Entry)
-    → announcement s o entry ≡ announced s.config o entry
-is_announced s o (Connects group) = refl
-is_announced s o (Replaces predecessor) = refl
-
--- each packet that passes the test is put for one that came and passes the other; IN_R1/A6 may be
--- owed from the beginning, so many times
-pub record Leads (came put : Named → Bool) (base : ℕ) : Type 0 where
-  pub connects : (version lifetime keepalive window timeout : ℕ) (connection channel group : Cookie)
-      (address : Address4or16) (padding : List ℕ)
-      → one_if (put (named.ConnB2 1 connection channel window timeout group address padding))
-      ≤ one_if (came (named.ConnB1 version connection channel lifetime keepalive group))
-  pub replaces : (version window timeout : ℕ) (connection predecessor channel : Cookie)
-      → one_if (put (named.InR1A2 1 connection predecessor channel window timeout))
-      ≤ one_if (came (named.InR1A1 version connection predecessor channel))
-  pub joins : (version : ℕ) (connection predecessor channel : Cookie)
-      → one_if (put (named.InR2A2 channel))
-      ≤ one_if (came (named.InR1A1 version connection predecessor channel))
-  pub leaves : (successor : Cookie)
-      → one_if (put (named.InR1A6 successor)) ≤ base + one_if (came (named.InR1A5 successor))
-  pub passes : (to : ℕ) (successor : Cookie)
-      → one_if (put (named.OutR1A8 2 successor)) ≤ one_if (came (named.OutR1A7 to successor))
-  pub acks : IsNoAck put
-  pub ends : put named.EndA2 ≡ false
-  pub pings : put named.Ping ≡ false
+use Rattle.rh_proxy_counts.proofs.InProxyOwes.{Seen, seen, Same, announced, same_head, same_pdu, same_b3, same_b2, same_b1, same_ack, same_is, same_keep_alive, same_end, same_drawn, same_settled, same_mark, same_ping, is_announced, Leads}
 
 module _ (came put : Named → Bool) (base : ℕ) (leads : Leads came put base) where
   abbrev opening_owes : InProxyConfig → Opening → ℕ
@@ -172,7 +68,7 @@ module _ (came put : Named → Bool) (base : ℕ) (leads : Leads came put base) 
       one_if (put (named.InR2A2 leg.cookie))
   successor_owes successor = 0
 
-  abbrev handover_owes : Handover → ℕ
+  abbrev pub handover_owes : Handover → ℕ
   handover_owes Before = base
   handover_owes (Came cookie) = one_if (put (named.InR1A6 cookie))
   handover_owes Passed = 0
@@ -538,11 +434,19 @@ module _ (came put : Named → Bool) (base : ℕ) (leads : Leads came put base) 
   rises : (log : List OnLeg) (one : OnLeg) → counted log ≤ counted (log ++ one ∷ [])
   rises log one = let more = kind_rises came ClientIn log one in omega (arith, more)
 
-  pub in_proxy_pays : (config : InProxyConfig) (moves : List Move) (to : Leg)
+  -- with what it still owes
+  pub in_proxy_owes : (config : InProxyConfig) (moves : List Move) (to : Leg)
       → (let p = all_moved proxy_rules (started (first config)) moves in
-      count_of put (of_leg to p.put) ≤ base + count_of came (of_kind ClientIn p.came))
-  in_proxy_pays config moves to =
+      count_of put (of_leg to p.put) + handover_owes p.role.handover
+      ≤ base + count_of came (of_kind ClientIn p.came))
+  in_proxy_owes config moves to =
       let p = started (first config) in
       let paid = (moves_pay proxy_rules (λ s leg. Unit {0}) Known owes worth put steps to counted
       rises here p moves (any_rise proxy_rules p moves) (tt, omega arith)).1 in
       omega (arith, paid)
+
+  pub in_proxy_pays : (config : InProxyConfig) (moves : List Move) (to : Leg)
+      → (let p = all_moved proxy_rules (started (first config)) moves in
+      count_of put (of_leg to p.put) ≤ base + count_of came (of_kind ClientIn p.came))
+  in_proxy_pays config moves to =
+      let paid = in_proxy_owes config moves to in omega (arith, paid)

@@ -1,7 +1,10 @@
 mod Counts
 mod Waits
 mod Pays
+mod InProxyOwes
 mod InProxyPays
+mod OutProxyOwes
+mod OutProxyGains
 mod OutProxyPays
 mod OutProxyLaws
 mod InProxyOnce

@@ -12,7 +12,8 @@ use Rattle.rh_passages.specs.Passing.{count_of}
 use Rattle.rh_proxy_counts.specs.Kinds.{is_conn_a1, is_conn_a2, is_conn_a3, is_conn_c1, is_conn_c2, is_in_r1_a3, is_in_r1_a4, is_in_r2_a3, is_in_r2_a4, is_out_r1_a1, is_out_r1_a2, is_out_r1_a3, is_out_r1_a4, is_out_r1_a5, is_out_r1_a6, is_out_r1_a9, is_out_r1_a10, is_end_b1, is_end_b2}
 use Rattle.rh_proxy_counts.specs.OutCounts.{co_leg, os_leg, ForwardsWhatCame, OpensWhatCame}
 use Rattle.rh_proxy_counts.proofs.Counts.{none, count_none}
-use Rattle.rh_proxy_counts.proofs.OutProxyPays.{Leads, out_proxy_pays}
+use Rattle.rh_proxy_counts.proofs.OutProxyOwes.{Leads}
+use Rattle.rh_proxy_counts.proofs.OutProxyPays.{out_proxy_pays}
 
 -- ---- kinds
 

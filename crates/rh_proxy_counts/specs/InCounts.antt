@@ -1,12 +1,13 @@
 -- how many packets an in proxy puts for those that came (MS-RPCH 2.2.4; replacement is this
 -- profile's)
-use Rattle.std.specs.Prelude.{ℕ, ◌+◌, ◌≤◌}
+use Rattle.std.specs.Prelude.{ℕ, ◌≡◌, ◌≤◌, true}
 use Rattle.rh_rts.specs.declared.command.Cookie.{Cookie}
 use Rattle.rh_line.specs.declared.leg.Leg.{Leg}
 use Rattle.rh_line.specs.declared.leg.LegKind.TheVariants.{ClientIn, InServer}
 use Rattle.rh_shell.specs.Moves.{Passage}
 use Rattle.rh_shell.specs.Wires.{of_leg}
 use Rattle.rh_inproxy.specs.State.{InProxy}
+use Rattle.rh_inproxy.specs.InReplacement.{has_passed}
 use Rattle.rh_passages.specs.Passing.{count_of, of_kind}
 use Rattle.rh_proxy_counts.specs.Kinds.{is_conn_b1, is_conn_b2, is_in_r1_a1, is_in_a2, is_in_r1_a5, is_in_r1_a6, is_in_r1_b1, is_out_r1_a7, is_out_r1_a8, opens_server}
 
@@ -37,5 +38,8 @@ pub record HappensOnce (n : ℕ) (p : Passage InProxy) : Type 0 where
   pub connection : count_of is_conn_b1 (of_kind ClientIn p.came) ≤ 1
   -- IN_R1/A6 was put
   pub handover : count_of is_in_r1_a6 (of_leg (is_leg n) p.put) ≤ 1
+  -- behind it the handover has passed, so that IN_R1/B1 is taken
+  pub passed : 1 ≤ count_of is_in_r1_a6 (of_leg (is_leg n) p.put)
+      → has_passed p.role.handover ≡ true
   -- CONN/B3 or IN_R1/B2 came
   pub window : count_of opens_server (of_leg (is_leg n) p.came) ≤ 1
