@@ -1,32 +1,19 @@
 -- what an in proxy puts for what came, kind by kind
-use Rattle.std.proofs.Common.{◌≡◌, ℕ, ◌+◌, ◌≤◌, ◌&&◌, Bool, true, false, not, if◌then◌else◌, List, [], ◌∷◌, ◌++◌, Some, None, Ok, Err, refl, sym, ap, ◌∙◌, subst, arith, rules}
-use Rattle.std.proofs.lemmas.Bool.{and_parts}
-use Rattle.std.specs.Prelude.{IfSome}
-use Rattle.std.specs.declared.option.Option.{Option}
+use Rattle.std.proofs.Common.{◌≡◌, ℕ, ◌+◌, ◌≤◌, Bool, true, List, refl, arith}
 use Rattle.rh_rts.specs.declared.command.Cookie.{Cookie}
 use Rattle.rh_sig.specs.declared.named.Named.{Named}
-use Rattle.rh_sig.specs.declared.named.Named.TheVariants as named
 use Rattle.rh_line.specs.declared.leg.Leg.{Leg}
 use Rattle.rh_line.specs.declared.leg.LegKind.TheVariants.{ClientIn}
-use Rattle.rh_line.specs.declared.which.Which.{Which}
-use Rattle.rh_order.proofs.ByNumber.{by_test}
-use Rattle.rh_shell.specs.declared.answers.Count.{Count}
-use Rattle.rh_shell.specs.Rules.{Message, Text, Pdu, Packet}
-use Rattle.rh_shell.specs.Shells.{one_if}
-use Rattle.rh_shell.specs.Moves.{OnLeg, Move, started, all_moved}
+use Rattle.rh_shell.specs.Moves.{Move, started, all_moved}
 use Rattle.rh_shell.specs.Wires.{of_leg}
 use Rattle.rh_inproxy.specs.declared.state.Handover.{Handover}
 use Rattle.rh_inproxy.specs.declared.state.Handover.TheVariants.{Before, Came, Passed}
 use Rattle.rh_inproxy.specs.InReplacement.{has_passed}
 use Rattle.rh_inproxy.specs.declared.state.InProxyConfig.{InProxyConfig}
-use Rattle.rh_inproxy.specs.declared.state.Opener.{Opener}
-use Rattle.rh_inproxy.specs.declared.state.Opening.{Opening}
-use Rattle.rh_inproxy.specs.declared.state.Opening.TheVariants as openings
-use Rattle.rh_inproxy.specs.Answers.{Done, Pick, unexpected}
-use Rattle.rh_inproxy.specs.State.{InProxy, first, channel_of, is_client_leg, is_server_leg}
+use Rattle.rh_inproxy.specs.State.{first}
 use Rattle.rh_inproxy.specs.Machine.{rules as proxy_rules}
 use Rattle.rh_passages.specs.Passing.{count_of, of_kind}
-use Rattle.rh_proxy_counts.specs.Kinds.{is_conn_b1, is_conn_b2, is_in_r1_a1, is_in_a2, is_in_r1_a5, is_in_r1_a6, is_out_r1_a7, is_out_r1_a8, opens_server}
+use Rattle.rh_proxy_counts.specs.Kinds.{is_conn_b1, is_conn_b2, is_in_r1_a1, is_in_a2, is_in_r1_a5, is_in_r1_a6, is_out_r1_a7, is_out_r1_a8}
 use Rattle.rh_proxy_counts.specs.InCounts.{is_leg, PutsForWhatCame, HappensOnce}
 use Rattle.rh_proxy_counts.proofs.Counts.{count_none, none}
 use Rattle.rh_proxy_counts.proofs.InProxyOwes.{Leads}

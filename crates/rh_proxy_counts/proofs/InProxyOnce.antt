@@ -1,15 +1,12 @@
 -- an in proxy opens once: to its client, and to the server
-use Rattle.std.proofs.Common.{◌≡◌, ℕ, ◌+◌, ◌≤◌, ◌==◌, ◌&&◌, Bool, true, false, not, if◌then◌else◌, List, [], ◌∷◌, ◌++◌, Some, None, Ok, Err, refl, sym, ap, ◌∙◌, subst, arith, rules}
+use Rattle.std.proofs.Common.{◌≡◌, ℕ, ◌+◌, ◌≤◌, ◌==◌, ◌&&◌, true, not, if◌then◌else◌, List, [], ◌∷◌, Some, None, Ok, Err, refl, ap, ◌∙◌, arith, rules}
 use Rattle.std.proofs.lemmas.Bool.{and_parts}
 use Rattle.std.specs.Prelude.{IfSome}
 use Rattle.std.specs.declared.option.Option.{Option}
-use Rattle.std.specs.declared.result.Result.{Result}
 use Rattle.rh_rts.specs.declared.command.Cookie.{Cookie}
 use Rattle.rh_sig.specs.declared.named.Named.{Named}
 use Rattle.rh_sig.specs.declared.named.Named.TheVariants as named
-use Rattle.rh_window.specs.declared.fault.BadAck.{BadAck}
 use Rattle.rh_window.specs.declared.recv_window.Ack.{Ack}
-use Rattle.rh_window.specs.Sending.{ack_verdict, after_acked}
 use Rattle.rh_line.specs.declared.leg.Leg.{Leg}
 use Rattle.rh_line.specs.declared.leg.LegKind.TheVariants.{ClientIn}
 use Rattle.rh_line.specs.declared.which.Which.{Which}
@@ -26,18 +23,14 @@ use Rattle.rh_inproxy.specs.declared.state.Opening.{Opening}
 use Rattle.rh_inproxy.specs.declared.state.Opening.TheVariants as openings
 use Rattle.rh_inproxy.specs.Answers.{Done, Pick, or_else, unexpected}
 use Rattle.rh_inproxy.specs.State.{InProxy, first, channel_of, has_opened, is_client_leg, is_server_leg}
-use Rattle.rh_inproxy.specs.Opening.{up, may_accept, accepted, wants, connected, head, drawn, is_unknown, is_first, awaits_packet, is_connection, is_replacement, opener_of, opened, on_conn_b1, on_conn_b3, with_edge}
+use Rattle.rh_inproxy.specs.Opening.{up, may_accept, accepted, wants, connected, head, drawn, is_unknown, is_first, awaits_packet, is_connection, is_replacement, opener_of, on_conn_b1, with_edge}
 use Rattle.rh_inproxy.specs.Acknowledging.{on_ack, on_ack_to}
 use Rattle.rh_inproxy.specs.Ending.{is_newest, mark, on_end_a1, settled}
 use Rattle.rh_inproxy.specs.OutReplacement.{on_out_r1_a7}
-use Rattle.rh_inproxy.specs.InReplacement.{on_in_r1_a1, on_in_r1_a5, on_later_in_r1_a1, on_in_r1_b1, on_in_r1_b2}
-use Rattle.rh_inproxy.specs.declared.state.ClientLeg.{ClientLeg}
-use Rattle.rh_inproxy.specs.declared.state.Handover.{Handover}
+use Rattle.rh_inproxy.specs.InReplacement.{on_in_r1_a1, on_in_r1_a5, on_later_in_r1_a1, on_in_r1_b1}
 use Rattle.rh_inproxy.specs.declared.state.Successor.{Successor}
 use Rattle.rh_inproxy.specs.declared.state.Successor.TheVariants as successors
-use Rattle.rh_inproxy.specs.declared.state.Work.{Work}
-use Rattle.rh_inproxy.specs.State.{follows, followed}
-use Rattle.rh_inproxy.specs.Opening.{first_by, put_first, echo_by, put_echo}
+use Rattle.rh_inproxy.specs.Opening.{first_by, put_first, put_echo}
 use Rattle.rh_inproxy.specs.Acknowledging.{ack_due, ack_by, current_ack, next_ack, put_acks}
 use Rattle.rh_inproxy.specs.Ending.{put_end, settled_pick}
 use Rattle.rh_inproxy.specs.InReplacement.{told_by, put_in_r2_a2, put_in_r1_a6}

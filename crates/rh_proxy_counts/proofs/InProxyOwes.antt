@@ -1,59 +1,32 @@
 -- what in an in proxy is owed for what came
-use Rattle.std.proofs.Common.{◌≡◌, ℕ, ◌+◌, ◌≤◌, ◌==◌, Bool, true, false, ◌&&◌, not, if◌then◌else◌, List, [], ◌∷◌, ◌++◌, length, Some, None, Ok, Err, refl, sym, ap, ◌∙◌, arith, rules}
-use Rattle.std.specs.Prelude.{IfSome, replicate}
-use Rattle.std.specs.declared.option.Option.{Option}
-use Rattle.std.specs.declared.result.Result.{Result}
+use Rattle.std.proofs.Common.{◌≡◌, ℕ, ◌+◌, ◌≤◌, Bool, true, false, if◌then◌else◌, List, refl, ◌∙◌, rules}
+use Rattle.std.specs.Prelude.{replicate}
 use Rattle.rh_rts.specs.declared.command.Cookie.{Cookie}
 use Rattle.rh_rts.specs.declared.command.Address4or16.{Address4or16}
 use Rattle.rh_rts.specs.declared.command.Address4or16.TheVariants.{V4}
 use Rattle.rh_sig.specs.declared.named.Named.{Named}
 use Rattle.rh_sig.specs.declared.named.Named.TheVariants as named
-use Rattle.rh_window.specs.Sending.{may_send}
-use Rattle.rh_window.specs.declared.recv_window.Ack.{Ack}
-use Rattle.rh_line.specs.Lines as line
 use Rattle.rh_line.specs.declared.leg.Leg.{Leg}
-use Rattle.rh_line.specs.declared.leg.LegKind.TheVariants.{ClientIn}
 use Rattle.rh_line.specs.declared.which.Which.{Which}
-use Rattle.rh_line.specs.declared.which.Which.TheVariants.{Current, Next}
 use Rattle.rh_order.proofs.ByNumber.{by_test}
 use Rattle.rh_shell.specs.declared.answers.Count.{Count}
-use Rattle.rh_shell.specs.declared.answers.Refused.TheVariants as refused
-use Rattle.rh_shell.specs.declared.due.Due.{Due}
-use Rattle.rh_shell.specs.Rules.{Message, Packet}
-use Rattle.rh_shell.specs.Shells.{is_of, one_if}
-use Rattle.rh_shell.specs.Moves.{OnLeg, Move, started, all_moved}
+use Rattle.rh_shell.specs.Shells.{one_if}
 use Rattle.rh_shell.specs.Waiting as waiting
-use Rattle.rh_shell.specs.Wires.{of_leg}
-use Rattle.rh_inproxy.specs.declared.state.ClientLeg.{ClientLeg}
 use Rattle.rh_inproxy.specs.declared.state.Entry.{Entry}
 use Rattle.rh_inproxy.specs.declared.state.Entry.TheVariants.{Connects, Replaces}
 use Rattle.rh_inproxy.specs.declared.state.Handover.{Handover}
-use Rattle.rh_inproxy.specs.declared.state.Handover.TheVariants.{Before, Came, Passed}
 use Rattle.rh_inproxy.specs.declared.state.InProxyConfig.{InProxyConfig}
-use Rattle.rh_inproxy.specs.declared.state.Joining.TheVariants.{TellsServer, Told, Follows}
 use Rattle.rh_inproxy.specs.declared.state.Opener.{Opener}
 use Rattle.rh_inproxy.specs.declared.state.Opening.{Opening}
-use Rattle.rh_inproxy.specs.declared.state.Opening.TheVariants as openings
 use Rattle.rh_inproxy.specs.declared.state.Successor.{Successor}
-use Rattle.rh_inproxy.specs.declared.state.Successor.TheVariants as successors
-use Rattle.rh_inproxy.specs.declared.state.Work.{Work}
-use Rattle.rh_inproxy.specs.Answers.{Done, Pick, or_else, taken, refuse, unexpected}
-use Rattle.rh_inproxy.specs.State.{InProxy, first, channel_of, has_a5, has_come, hands_over, is_client_leg, is_server_leg, same_cookie, follows, followed}
-use Rattle.rh_inproxy.specs.Opening.{up, may_accept, accepted, wants, connected, head, drawn, announcement, first_by, put_first, echo_by, put_echo, opener_of, opener, opened, kept_for, is_absent, is_first, on_conn_b1, on_first_in_r1_a1, on_conn_b3}
-use Rattle.rh_inproxy.specs.Acknowledging.{forward_by, forwarded, on_ack_to, on_ack, ack_due, ack_by, current_ack, next_ack, put_acks}
-use Rattle.rh_inproxy.specs.Ending.{is_newest, mark, on_end_a1, put_end, settled, settled_pick}
-use Rattle.rh_inproxy.specs.InReplacement.{is_newcomer, joined, join, on_later_in_r1_a1, on_in_r1_a1, on_in_r1_a5, on_in_r1_b1, on_in_r1_b2, finished, finish_by, handed_over, hand_over, told_by, one_less, put_in_r2_a2, mark_by, put_in_r1_a6}
-use Rattle.rh_inproxy.specs.OutReplacement.{on_out_r1_a7}
-use Rattle.rh_inproxy.specs.Passing.{passed, next_pdu, put_pdu}
-use Rattle.rh_inproxy.specs.Putting.{put as put_of, next, waiting_by, put_waiting, put_control, put_early, put_stream, put_behind, put_mark}
-use Rattle.rh_inproxy.specs.Time.{on_keep_alive, ping, put_ping}
-use Rattle.rh_inproxy.specs.Machine.{pdu, packet, on_channel, on_channel_by, on_ci, on_is}
-use Rattle.rh_inproxy.specs.Machine.{rules as proxy_rules}
-use Rattle.rh_passages.specs.Passing.{count_of, of_kind}
-use Rattle.rh_proxy_counts.proofs.Counts.{one_counts, kind_rises, kind_here}
-use Rattle.rh_proxy_counts.proofs.Waits.{IsNoAck, IsSame, waits, forwarded_waits, refused_waits}
-use Rattle.rh_proxy_counts.proofs.Pays as pays
-use Rattle.rh_proxy_counts.proofs.Pays.{StepsPay, moves_pay, any_rise}
+use Rattle.rh_inproxy.specs.State.{InProxy}
+use Rattle.rh_inproxy.specs.Opening.{head, drawn, announcement, on_conn_b3}
+use Rattle.rh_inproxy.specs.Acknowledging.{on_ack}
+use Rattle.rh_inproxy.specs.Ending.{is_newest, mark, on_end_a1, settled}
+use Rattle.rh_inproxy.specs.InReplacement.{on_in_r1_b1, on_in_r1_b2}
+use Rattle.rh_inproxy.specs.Time.{on_keep_alive, ping}
+use Rattle.rh_inproxy.specs.Machine.{pdu, on_is}
+use Rattle.rh_proxy_counts.proofs.Waits.{IsNoAck}
 
 -- what the facts are about
 pub record Seen : Type 0 where

@@ -11,3 +11,5 @@ mod InProxyOnce
 mod InProxyLaws
 mod OutProxyOnce
 mod OutProxyNames
+mod InProxyFollows
+mod InProxyLeaves

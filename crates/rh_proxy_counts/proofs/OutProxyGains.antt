@@ -1,56 +1,25 @@
 -- what an out proxy owes behind a row: no more than what came is worth
-use Rattle.std.proofs.Common.{◌≡◌, ℕ, ◌+◌, ◌≤◌, ◌==◌, Bool, true, false, true≢false, IsTrue, ◌&&◌, ◌||◌, if◌then◌else◌, List, [], ◌∷◌, ◌++◌, length, Some, None, Ok, Err, refl, sym, ap, ◌∙◌, subst, arith, rules}
-use Rattle.std.specs.Prelude.{IfSome, nat_le}
-use Rattle.std.proofs.lemmas.Bool.{and_parts}
-use Rattle.std.specs.declared.option.Option.{Option}
-use Rattle.std.specs.declared.result.Result.{Result}
+use Rattle.std.proofs.Common.{◌≡◌, ℕ, ◌+◌, ◌≤◌, ◌==◌, Bool, true, false, ◌&&◌, if◌then◌else◌, Ok, Err, refl, sym, ap, arith}
 use Rattle.rh_rts.specs.declared.command.Cookie.{Cookie}
-use Rattle.rh_http.specs.declared.fault.HttpFault.{HttpFault}
-use Rattle.rh_http.specs.Lengths.{greatest_echo}
-use Rattle.rh_heads.specs.Verdicts.{Asked, request_verdict}
 use Rattle.rh_sig.specs.declared.named.Named.{Named}
 use Rattle.rh_sig.specs.declared.named.Named.TheVariants as named
-use Rattle.rh_window.specs.Sending.{may_send}
-use Rattle.rh_window.specs.declared.recv_window.Ack.{Ack}
-use Rattle.rh_line.specs.Lines.{is_empty}
 use Rattle.rh_line.specs.declared.leg.Leg.{Leg}
-use Rattle.rh_line.specs.declared.leg.LegKind.TheVariants.{ClientOut, OutServer}
 use Rattle.rh_order.proofs.ByNumber.{by_test}
 use Rattle.rh_shell.specs.declared.answers.Count.{Count}
-use Rattle.rh_shell.specs.declared.answers.HeadRefused.{HeadRefused}
-use Rattle.rh_shell.specs.declared.answers.HeadTaken.{HeadTaken}
-use Rattle.rh_shell.specs.declared.due.Due.{Due}
-use Rattle.rh_shell.specs.Rules.{Message, Packet}
 use Rattle.rh_shell.specs.Shells.{one_if}
-use Rattle.rh_shell.specs.Moves.{OnLeg, Move, AreAllowed, started, all_moved}
 use Rattle.rh_shell.specs.Waiting as waiting
-use Rattle.rh_shell.specs.Wires.{of_leg}
-use Rattle.rh_outproxy.specs.declared.state.Answer.{Answer}
-use Rattle.rh_outproxy.specs.declared.state.Answer.TheVariants as answers
 use Rattle.rh_outproxy.specs.declared.state.Channel.{Channel}
 use Rattle.rh_outproxy.specs.declared.state.Channel.TheVariants as channels
-use Rattle.rh_outproxy.specs.declared.state.ClientLeg.TheVariants as clients
-use Rattle.rh_outproxy.specs.declared.state.Mark.{Mark}
 use Rattle.rh_outproxy.specs.declared.state.Mark.TheVariants as marks
 use Rattle.rh_outproxy.specs.declared.state.OutProxyConfig.{OutProxyConfig}
-use Rattle.rh_outproxy.specs.declared.state.ServerLeg.{ServerLeg}
-use Rattle.rh_outproxy.specs.declared.state.ServerLeg.TheVariants as servers
-use Rattle.rh_outproxy.specs.OutProxy.{OutProxy, has_come, is_client_down, is_client_marked, is_due, is_echo_put, is_ping_due, is_known, is_server_down, is_server_first, joined, new_proxy}
+use Rattle.rh_outproxy.specs.OutProxy.{OutProxy, is_client_marked, is_known, is_server_down}
 use Rattle.rh_outproxy.specs.Rows.{Done, is_co, is_os, is_first, is_carrying, takes_pdus, taken, unexpected, forwarded, forwarded_by, passed_on}
-use Rattle.rh_outproxy.specs.Opening.{wants, up, head, head_by, asked, told_length, new_length, successor_length, opened, on_out_r2_c1, conn_c1_by, first_packet}
-use Rattle.rh_outproxy.specs.Acknowledging.{out_proxy, on_ack, on_ack_to, ack_due}
-use Rattle.rh_outproxy.specs.Ending.{drawn, mark, on_end_b1}
+use Rattle.rh_outproxy.specs.Opening.{told_length, new_length, successor_length, opened, on_out_r2_c1, conn_c1_by}
+use Rattle.rh_outproxy.specs.Acknowledging.{out_proxy, on_ack, on_ack_to}
+use Rattle.rh_outproxy.specs.Ending.{on_end_b1}
 use Rattle.rh_outproxy.specs.OutReplacement.{on_out_r1_a9}
-use Rattle.rh_outproxy.specs.Putting.{Pick, or_else, ping_room, behind_response, answer_by, put_answer, waiting_by, put_waiting, pdu_by, put_pdu, put_end, put_handover, put_mark, put_ping, next_co, first_by, put_first, ack_by, put_ack, next_os}
-use Rattle.rh_outproxy.specs.Putting.{put as put_of}
-use Rattle.rh_outproxy.specs.Machine.{pdu, packet, on_co, on_os}
-use Rattle.rh_outproxy.specs.Machine.{rules as proxy_rules}
-use Rattle.rh_passages.specs.Passing.{count_of}
-use Rattle.rh_proxy_counts.proofs.Counts.{leg_is, one_counts, leg_rises, leg_here}
-use Rattle.rh_proxy_counts.proofs.Waits.{IsNoAck, IsSame, waits, forwarded_waits, refused_waits}
-use Rattle.rh_proxy_counts.proofs.Pays as pays
-use Rattle.rh_proxy_counts.proofs.Pays.{StepsPay, moves_pay, allowed_rise}
-
+use Rattle.rh_outproxy.specs.Machine.{packet, on_co, on_os}
+use Rattle.rh_proxy_counts.proofs.Waits.{IsSame, waits, forwarded_waits, refused_waits}
 use Rattle.rh_proxy_counts.proofs.OutProxyOwes as due
 use Rattle.rh_proxy_counts.proofs.OutProxyOwes.{Seen, seen, Leads, Known, is_early, is_answering, is_response_due, first_is_early, both_ways, answer_owes, if_owes, marked_owes, other_owes, same_pdu, same_c1, same_ack, co_at, os_at}
 
@@ -79,11 +48,11 @@ module _ (client server put : Named → Bool) (leads : Leads client server put) 
       record { number = h.number; down = h.down; known = λ e. known },
       (let first = if_owes (is_early s.server) (channel_owes s.config s.channel)
           (channel_owes s.config c) in
-      let now = one_if (put (named.ConnA3 s.config.timeout)) in
-      let later = timeout_owes s.config s.channel in
-      let second = other_owes (is_server_down s.server) now later s.answer
+          let now = one_if (put (named.ConnA3 s.config.timeout)) in
+          let later = timeout_owes s.config s.channel in
+          let second = other_owes (is_server_down s.server) now later s.answer
           (timeout_owes s.config c) in
-      omega (arith, worth, first, second)),
+          omega (arith, worth, first, second)),
     )
 
     co_gains : (count : Count) (m : Named) → Gains (one_if (client m)) s (on_co s count m)

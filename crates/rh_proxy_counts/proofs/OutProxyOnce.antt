@@ -1,5 +1,5 @@
 -- where the moves of an out proxy are counted, its client opens one channel
-use Rattle.std.proofs.Common.{◌≡◌, ℕ, suc, ◌+◌, ◌≤◌, ◌&&◌, Bool, true, false, if◌then◌else◌, List, [], ◌∷◌, ◌++◌, Some, None, Ok, Err, refl, sym, ap, ◌∙◌, subst, arith}
+use Rattle.std.proofs.Common.{◌≡◌, ℕ, suc, ◌≤◌, ◌&&◌, Bool, true, false, if◌then◌else◌, List, [], ◌∷◌, ◌++◌, Some, None, Ok, Err, refl, ap, subst, arith}
 use Rattle.std.proofs.lemmas.Bool.{and_parts}
 use Rattle.rh_sig.specs.declared.named.Named.{Named}
 use Rattle.rh_sig.specs.declared.named.Named.TheVariants as named
@@ -20,7 +20,7 @@ use Rattle.rh_outproxy.specs.Machine.{rules as proxy_rules}
 use Rattle.rh_outproxy.specs.Putting.{Pick}
 use Rattle.rh_outproxy.specs.Putting.{put as put_of}
 use Rattle.rh_passages.specs.Passing.{count_of}
-use Rattle.rh_proxy_counts.specs.Counted.{Tells, IsCounted, AreCounted, is_any, packets}
+use Rattle.rh_proxy_counts.specs.Counted.{Tells, IsCounted, AreCounted, packets}
 use Rattle.rh_proxy_counts.specs.Kinds.{opens_client}
 use Rattle.rh_proxy_counts.proofs.Counts.{leg_is, one_counts, leg_at_most, leg_beside}
 

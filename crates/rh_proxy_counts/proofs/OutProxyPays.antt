@@ -1,56 +1,41 @@
 -- an out proxy puts no more packets of a kind than came for them
-use Rattle.std.proofs.Common.{◌≡◌, ℕ, ◌+◌, ◌≤◌, ◌==◌, Bool, true, false, true≢false, IsTrue, ◌&&◌, ◌||◌, if◌then◌else◌, List, [], ◌∷◌, ◌++◌, length, Some, None, Ok, Err, refl, sym, ap, ◌∙◌, subst, arith, rules}
-use Rattle.std.specs.Prelude.{IfSome, nat_le}
+use Rattle.std.proofs.Common.{◌≡◌, ℕ, ◌+◌, ◌≤◌, Bool, true, false, IsTrue, ◌&&◌, if◌then◌else◌, List, [], ◌∷◌, ◌++◌, length, Some, None, refl, sym, ap, ◌∙◌, subst, arith}
+use Rattle.std.specs.Prelude.{nat_le}
 use Rattle.std.proofs.lemmas.Bool.{and_parts}
 use Rattle.std.specs.declared.option.Option.{Option}
-use Rattle.std.specs.declared.result.Result.{Result}
 use Rattle.rh_rts.specs.declared.command.Cookie.{Cookie}
-use Rattle.rh_http.specs.declared.fault.HttpFault.{HttpFault}
-use Rattle.rh_http.specs.Lengths.{greatest_echo}
-use Rattle.rh_heads.specs.Verdicts.{Asked, request_verdict}
 use Rattle.rh_sig.specs.declared.named.Named.{Named}
 use Rattle.rh_sig.specs.declared.named.Named.TheVariants as named
 use Rattle.rh_window.specs.Sending.{may_send}
 use Rattle.rh_window.specs.declared.recv_window.Ack.{Ack}
 use Rattle.rh_line.specs.Lines.{is_empty}
 use Rattle.rh_line.specs.declared.leg.Leg.{Leg}
-use Rattle.rh_line.specs.declared.leg.LegKind.TheVariants.{ClientOut, OutServer}
 use Rattle.rh_order.proofs.ByNumber.{by_test}
-use Rattle.rh_shell.specs.declared.answers.Count.{Count}
-use Rattle.rh_shell.specs.declared.answers.HeadRefused.{HeadRefused}
-use Rattle.rh_shell.specs.declared.answers.HeadTaken.{HeadTaken}
 use Rattle.rh_shell.specs.declared.due.Due.{Due}
-use Rattle.rh_shell.specs.Rules.{Message, Packet}
+use Rattle.rh_shell.specs.Rules.{Packet}
 use Rattle.rh_shell.specs.Shells.{one_if}
 use Rattle.rh_shell.specs.Moves.{OnLeg, Move, AreAllowed, started, all_moved}
-use Rattle.rh_shell.specs.Waiting as waiting
 use Rattle.rh_shell.specs.Wires.{of_leg}
 use Rattle.rh_outproxy.specs.declared.state.Answer.{Answer}
 use Rattle.rh_outproxy.specs.declared.state.Answer.TheVariants as answers
 use Rattle.rh_outproxy.specs.declared.state.Channel.{Channel}
 use Rattle.rh_outproxy.specs.declared.state.Channel.TheVariants as channels
-use Rattle.rh_outproxy.specs.declared.state.ClientLeg.TheVariants as clients
 use Rattle.rh_outproxy.specs.declared.state.Mark.{Mark}
 use Rattle.rh_outproxy.specs.declared.state.Mark.TheVariants as marks
 use Rattle.rh_outproxy.specs.declared.state.OutProxyConfig.{OutProxyConfig}
-use Rattle.rh_outproxy.specs.declared.state.ServerLeg.{ServerLeg}
 use Rattle.rh_outproxy.specs.declared.state.ServerLeg.TheVariants as servers
-use Rattle.rh_outproxy.specs.OutProxy.{OutProxy, has_come, is_client_down, is_client_marked, is_due, is_echo_put, is_ping_due, is_known, is_server_down, is_server_first, joined, new_proxy}
-use Rattle.rh_outproxy.specs.Rows.{Done, is_co, is_os, is_first, is_carrying, takes_pdus, taken, unexpected, forwarded, forwarded_by, passed_on}
-use Rattle.rh_outproxy.specs.Opening.{wants, up, head, head_by, asked, told_length, new_length, successor_length, opened, on_out_r2_c1, conn_c1_by, first_packet}
-use Rattle.rh_outproxy.specs.Acknowledging.{out_proxy, on_ack, on_ack_to, ack_due}
-use Rattle.rh_outproxy.specs.Ending.{drawn, mark, on_end_b1}
-use Rattle.rh_outproxy.specs.OutReplacement.{on_out_r1_a9}
+use Rattle.rh_outproxy.specs.OutProxy.{OutProxy, is_due, is_ping_due, is_known, is_server_down, is_server_first, joined, new_proxy}
+use Rattle.rh_outproxy.specs.Rows.{is_co, is_os}
+use Rattle.rh_outproxy.specs.Opening.{first_packet}
+use Rattle.rh_outproxy.specs.Acknowledging.{ack_due}
 use Rattle.rh_outproxy.specs.Putting.{Pick, or_else, ping_room, behind_response, answer_by, put_answer, waiting_by, put_waiting, pdu_by, put_pdu, put_end, put_handover, put_mark, put_ping, next_co, first_by, put_first, ack_by, put_ack, next_os}
 use Rattle.rh_outproxy.specs.Putting.{put as put_of}
-use Rattle.rh_outproxy.specs.Machine.{pdu, packet, on_co, on_os}
+use Rattle.rh_outproxy.specs.Machine.{pdu}
 use Rattle.rh_outproxy.specs.Machine.{rules as proxy_rules}
 use Rattle.rh_passages.specs.Passing.{count_of}
 use Rattle.rh_proxy_counts.proofs.Counts.{leg_is, one_counts, leg_rises, leg_here}
-use Rattle.rh_proxy_counts.proofs.Waits.{IsNoAck, IsSame, waits, forwarded_waits, refused_waits}
-use Rattle.rh_proxy_counts.proofs.Pays as pays
+use Rattle.rh_proxy_counts.proofs.Waits.{waits}
 use Rattle.rh_proxy_counts.proofs.Pays.{StepsPay, moves_pay, allowed_rise}
-
 use Rattle.rh_proxy_counts.proofs.OutProxyOwes as due
 use Rattle.rh_proxy_counts.proofs.OutProxyOwes.{Seen, seen, Leads, Known, is_early, is_answering, is_response_due, first_is_early, both_ways, answer_owes, if_owes, marked_owes, other_owes, same_pdu, same_c1, same_ack, co_at, os_at}
 use Rattle.rh_proxy_counts.proofs.OutProxyGains.{packet_gains}
@@ -99,9 +84,9 @@ module _ (client server put : Named → Bool) (leads : Leads client server put) 
         known = λ f. absurd cc;
       },
       (let now = one_if (put (named.ConnA3 s.config.timeout)) in
-      let later = timeout_owes s.config s.channel in
-      let is = ap (λ (x : Answer). answer_owes x (is_server_down s.server) now later) a in
-      let same = ap (timeout_owes s.config) e in omega (arith, is, same, due)),
+          let later = timeout_owes s.config s.channel in
+          let is = ap (λ (x : Answer). answer_owes x (is_server_down s.server) now later) a in
+          let same = ap (timeout_owes s.config) e in omega (arith, is, same, due)),
     )
 
     -- the timeout becomes due behind the response, where one is
@@ -130,11 +115,11 @@ module _ (client server put : Named → Bool) (leads : Leads client server put) 
     answer_spends answers.TimeoutDue e = (
       record { number = h.number; down = λ f. refl; known = λ f. absurd cc },
       (let one = one_counts put (named.ConnA3 s.config.timeout) in
-      let now = one_if (put (named.ConnA3 s.config.timeout)) in
-      let later = timeout_owes s.config s.channel in
-      let is = ap (λ (a : Answer). answer_owes a (is_server_down s.server) now later) e in
-      let none = ap (λ (t : Bool). if t then later else 0) (not_down (ap is_answering e)) in
-      omega (arith, one, is, none)),
+          let now = one_if (put (named.ConnA3 s.config.timeout)) in
+          let later = timeout_owes s.config s.channel in
+          let is = ap (λ (a : Answer). answer_owes a (is_server_down s.server) now later) e in
+          let none = ap (λ (t : Bool). if t then later else 0) (not_down (ap is_answering e)) in
+          omega (arith, one, is, none)),
     )
 
     waiting_spends : (dues : List Due) → s.waiting.due ≡ dues → Spends s (waiting_by s dues)
@@ -142,7 +127,7 @@ module _ (client server put : Named → Bool) (leads : Leads client server put) 
     waiting_spends (due ∷ dues) e = (
       record { number = h.number; down = h.down; known = h.known },
       (let is = ap (waits put) e in
-      let one = one_counts put due.packet in omega (arith, is, one)),
+          let one = one_counts put due.packet in omega (arith, is, one)),
     )
 
     pdu_spends : (pdus : List (List ℕ)) → Spends s (pdu_by s pdus)
@@ -168,7 +153,7 @@ module _ (client server put : Named → Bool) (leads : Leads client server put) 
           record { number = h.number; down = h.down; known = h.known },
           (let due = due_owes named.EndB2 s.end
               (and_parts (is_empty s.line.current.pdus) (is_due s.end) e).1 in
-          let one = one_counts put named.EndB2 in omega (arith, due, one)),
+              let one = one_counts put named.EndB2 in omega (arith, due, one)),
         ))
         (λ e. tt)
 
@@ -179,7 +164,7 @@ module _ (client server put : Named → Bool) (leads : Leads client server put) 
           record { number = h.number; down = h.down; known = h.known },
           (let due = due_owes named.OutR1A10 s.handover
               (and_parts (is_empty s.line.current.pdus) (is_due s.handover) e).1 in
-          let one = one_counts put named.OutR1A10 in omega (arith, due, one)),
+              let one = one_counts put named.OutR1A10 in omega (arith, due, one)),
         ))
         (λ e. tt)
 
@@ -189,7 +174,7 @@ module _ (client server put : Named → Bool) (leads : Leads client server put) 
         (λ e. (
           record { number = h.number; down = h.down; known = h.known },
           (let one = one_counts put named.Ping in
-          let none = ap one_if leads.pings in omega (arith, one, none)),
+              let none = ap one_if leads.pings in omega (arith, one, none)),
         ))
         (λ e. tt)
 
@@ -207,12 +192,12 @@ module _ (client server put : Named → Bool) (leads : Leads client server put) 
     first_put c m e first due = (
       record { number = h.number; down = λ f. absurd cc; known = h.known },
       (let early = first_is_early s.server first in
-      let now = one_if (put (named.ConnA3 s.config.timeout)) in
-      let later = timeout_owes s.config s.channel in
-      let is = ap (λ (t : Bool). if t then channel_owes s.config s.channel else 0) early.0 in
-      let same = ap (channel_owes s.config) e in
-      let less = marked_owes (is_server_down s.server) now later s.answer in
-      let one = one_counts put m in omega (arith, due, is, same, less, one)),
+          let now = one_if (put (named.ConnA3 s.config.timeout)) in
+          let later = timeout_owes s.config s.channel in
+          let is = ap (λ (t : Bool). if t then channel_owes s.config s.channel else 0) early.0 in
+          let same = ap (channel_owes s.config) e in
+          let less = marked_owes (is_server_down s.server) now later s.answer in
+          let one = one_counts put m in omega (arith, due, is, same, less, one)),
     )
 
     first_spends : (c : Channel) → s.channel ≡ c → is_server_first s.server ≡ true
@@ -235,8 +220,8 @@ module _ (client server put : Named → Bool) (leads : Leads client server put) 
     ack_spends (Some cookie) (Some ack) = (
       record { number = h.number; down = h.down; known = h.known },
       (let one = one_counts put (named.Ack ack.received ack.available cookie) in
-      let none = ap one_if (leads.own_acks ack.received ack.available cookie) in
-      omega (arith, one, none)),
+          let none = ap one_if (leads.own_acks ack.received ack.available cookie) in
+          omega (arith, one, none)),
     )
 
     os_spends : Spends s (next_os s)

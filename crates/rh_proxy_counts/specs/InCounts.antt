@@ -43,3 +43,8 @@ pub record HappensOnce (n : ℕ) (p : Passage InProxy) : Type 0 where
       → has_passed p.role.handover ≡ true
   -- CONN/B3 or IN_R1/B2 came
   pub window : count_of opens_server (of_leg (is_leg n) p.came) ≤ 1
+
+-- IN_R1/B1 came for IN_R1/A6
+abbrev pub IsLetGo : ℕ → Passage InProxy → Type 0
+IsLetGo n p =
+    count_of is_in_r1_b1 (of_leg (is_leg n) p.came) ≤ count_of is_in_r1_a6 (of_leg (is_leg n) p.put)
