@@ -35,8 +35,8 @@ b1_leads = record {
   pings = refl;
 }
 
-a1_leads : (cookie : Cookie) → Leads (is_in_r1_a1 cookie) (is_in_a2 cookie) 0
-a1_leads cookie = record {
+a1_leads : (of : Cookie → Bool) → Leads (is_in_r1_a1 of) (is_in_a2 of) 0
+a1_leads of = record {
   connects = λ version lifetime keepalive window timeout connection channel group address padding.
       omega arith;
   replaces = λ version window timeout connection predecessor channel. omega arith;
@@ -61,8 +61,8 @@ a5_leads = record {
   pings = refl;
 }
 
-a7_leads : (cookie : Cookie) → Leads (is_out_r1_a7 cookie) (is_out_r1_a8 cookie) 0
-a7_leads cookie = record {
+a7_leads : (of : Cookie → Bool) → Leads (is_out_r1_a7 of) (is_out_r1_a8 of) 0
+a7_leads of = record {
   connects = λ version lifetime keepalive window timeout connection channel group address padding.
       omega arith;
   replaces = λ version window timeout connection predecessor channel. omega arith;
@@ -104,9 +104,9 @@ module _ (config : InProxyConfig) (moves : List Move) where
       (all_moved proxy_rules (started (first config)) moves)
   in_proxy_puts = record {
     connection = puts is_conn_b1 is_conn_b2 b1_leads;
-    successors = λ cookie. puts (is_in_r1_a1 cookie) (is_in_a2 cookie) (a1_leads cookie);
+    successors = λ of. puts (is_in_r1_a1 of) (is_in_a2 of) (a1_leads of);
     handover = puts is_in_r1_a5 is_in_r1_a6 a5_leads;
-    answers = λ cookie. puts (is_out_r1_a7 cookie) (is_out_r1_a8 cookie) (a7_leads cookie);
+    answers = λ of. puts (is_out_r1_a7 of) (is_out_r1_a8 of) (a7_leads of);
   }
 
   -- IN_R1/A6 is owed until it is put

@@ -1,15 +1,15 @@
-mod Counts
-mod Waits
-mod Pays
-mod InProxyOwes
-mod InProxyPays
-mod OutProxyOwes
-mod OutProxyGains
-mod OutProxyPays
-mod OutProxyLaws
+pub mod Counts
+pub mod Waits
+pub mod Pays
+pub mod InProxyOwes
+pub mod InProxyPays
 mod InProxyOnce
-mod InProxyLaws
-mod OutProxyOnce
-mod OutProxyNames
 mod InProxyFollows
 mod InProxyLeaves
+mod InProxyLaws
+pub mod OutProxyOwes
+mod OutProxyGains
+pub mod OutProxyPays
+mod OutProxyOnce
+mod OutProxyNames
+mod OutProxyLaws

@@ -1,6 +1,6 @@
 -- how many packets an in proxy puts for those that came (MS-RPCH 2.2.4; replacement is this
 -- profile's)
-use Rattle.std.specs.Prelude.{ℕ, ◌≡◌, ◌≤◌, true}
+use Rattle.std.specs.Prelude.{ℕ, ◌≡◌, ◌≤◌, true, Bool}
 use Rattle.rh_rts.specs.declared.command.Cookie.{Cookie}
 use Rattle.rh_line.specs.declared.leg.Leg.{Leg}
 use Rattle.rh_line.specs.declared.leg.LegKind.TheVariants.{ClientIn, InServer}
@@ -20,17 +20,17 @@ pub record PutsForWhatCame (n : ℕ) (p : Passage InProxy) : Type 0 where
   -- CONN/B2 for CONN/B1
   pub connection : count_of is_conn_b2 (of_leg (is_leg n) p.put)
       ≤ count_of is_conn_b1 (of_kind ClientIn p.came)
-  -- IN_R1/A2 and IN_R2/A2 of a successor for IN_R1/A1 of it
-  pub successors : (cookie : Cookie)
-      → count_of (is_in_a2 cookie) (of_leg (is_leg n) p.put)
-      ≤ count_of (is_in_r1_a1 cookie) (of_kind ClientIn p.came)
+  -- IN_R1/A2 and IN_R2/A2 for IN_R1/A1: of all successors, of one cookie, or of any others
+  pub successors : (of : Cookie → Bool)
+      → count_of (is_in_a2 of) (of_leg (is_leg n) p.put)
+      ≤ count_of (is_in_r1_a1 of) (of_kind ClientIn p.came)
   -- IN_R1/A6 for IN_R1/A5
   pub handover : count_of is_in_r1_a6 (of_leg (is_leg n) p.put)
       ≤ count_of is_in_r1_a5 (of_kind ClientIn p.came)
-  -- OUT_R1/A8 of a successor for OUT_R1/A7 of it
-  pub answers : (cookie : Cookie)
-      → count_of (is_out_r1_a8 cookie) (of_leg (is_leg n) p.put)
-      ≤ count_of (is_out_r1_a7 cookie) (of_kind ClientIn p.came)
+  -- OUT_R1/A8 for OUT_R1/A7, so too
+  pub answers : (of : Cookie → Bool)
+      → count_of (is_out_r1_a8 of) (of_leg (is_leg n) p.put)
+      ≤ count_of (is_out_r1_a7 of) (of_kind ClientIn p.came)
 
 -- what comes or is put once at most
 pub record HappensOnce (n : ℕ) (p : Passage InProxy) : Type 0 where

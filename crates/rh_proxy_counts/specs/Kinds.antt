@@ -1,12 +1,8 @@
 -- which packet it is (MS-RPCH 2.2.4; those of replacement and of the end are this profile's)
 use Rattle.std.specs.Prelude.{Bool, true, false}
-use Rattle.std.specs.Str.{bytes_eq}
 use Rattle.rh_rts.specs.declared.command.Cookie.{Cookie}
 use Rattle.rh_sig.specs.declared.named.Named.{Named}
 use Rattle.rh_sig.specs.declared.named.Named.TheVariants.{ConnA1, ConnA2, ConnA3, ConnB1, ConnB2, ConnB3, ConnC1, ConnC2, InR1A1, InR1A2, InR1A3, InR1A4, InR1A5, InR1A6, InR1B1, InR1B2, InR2A2, InR2A3, InR2A4, OutR1A1, OutR1A2, OutR1A3, OutR1A4, OutR1A5, OutR1A6, OutR1A7, OutR1A8, OutR1A9, OutR1A10, EndB1, EndB2}
-
-abbrev pub same_cookie : Cookie → Cookie → Bool
-same_cookie one other = bytes_eq one.0 other.0
 
 -- ---- what an in proxy takes and puts
 
@@ -18,18 +14,16 @@ abbrev pub is_conn_b2 : Named → Bool
 is_conn_b2 (ConnB2 version connection channel window timeout group address padding) = true
 is_conn_b2 packet = false
 
--- IN_R1/A1 of the successor with this cookie
-abbrev pub is_in_r1_a1 : Cookie → Named → Bool
-is_in_r1_a1 cookie (InR1A1 version connection predecessor successor) =
-    same_cookie successor cookie
-is_in_r1_a1 cookie packet = false
+-- IN_R1/A1 of a successor whose cookie passes a test
+abbrev pub is_in_r1_a1 : (Cookie → Bool) → Named → Bool
+is_in_r1_a1 of (InR1A1 version connection predecessor successor) = of successor
+is_in_r1_a1 of packet = false
 
--- IN_R1/A2 or IN_R2/A2 of it
-abbrev pub is_in_a2 : Cookie → Named → Bool
-is_in_a2 cookie (InR1A2 version connection predecessor successor window timeout) =
-    same_cookie successor cookie
-is_in_a2 cookie (InR2A2 successor) = same_cookie successor cookie
-is_in_a2 cookie packet = false
+-- IN_R1/A2 or IN_R2/A2 of one
+abbrev pub is_in_a2 : (Cookie → Bool) → Named → Bool
+is_in_a2 of (InR1A2 version connection predecessor successor window timeout) = of successor
+is_in_a2 of (InR2A2 successor) = of successor
+is_in_a2 of packet = false
 
 abbrev pub is_in_r1_a5 : Named → Bool
 is_in_r1_a5 (InR1A5 successor) = true
@@ -43,15 +37,15 @@ abbrev pub is_in_r1_b1 : Named → Bool
 is_in_r1_b1 InR1B1 = true
 is_in_r1_b1 packet = false
 
--- OUT_R1/A7 of the successor with this cookie
-abbrev pub is_out_r1_a7 : Cookie → Named → Bool
-is_out_r1_a7 cookie (OutR1A7 to successor) = same_cookie successor cookie
-is_out_r1_a7 cookie packet = false
+-- OUT_R1/A7 of a successor whose cookie passes a test
+abbrev pub is_out_r1_a7 : (Cookie → Bool) → Named → Bool
+is_out_r1_a7 of (OutR1A7 to successor) = of successor
+is_out_r1_a7 of packet = false
 
--- OUT_R1/A8 of it
-abbrev pub is_out_r1_a8 : Cookie → Named → Bool
-is_out_r1_a8 cookie (OutR1A8 to successor) = same_cookie successor cookie
-is_out_r1_a8 cookie packet = false
+-- OUT_R1/A8 of one
+abbrev pub is_out_r1_a8 : (Cookie → Bool) → Named → Bool
+is_out_r1_a8 of (OutR1A8 to successor) = of successor
+is_out_r1_a8 of packet = false
 
 -- CONN/B3 or IN_R1/B2, by which the server tells its window
 abbrev pub opens_server : Named → Bool

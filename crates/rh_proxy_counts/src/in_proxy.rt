@@ -8,8 +8,9 @@ ghost use Rattle.rh_inproxy.specs.State.{first};
 ghost use Rattle.rh_proxy_counts.specs.InCounts.{HappensOnce, IsLetGo, PutsForWhatCame};
 
 /// Whatever moves an in proxy makes, allowed or not: to the server it put no more CONN/B2 than
-/// CONN/B1 came on its ci legs; of each successor no more IN_R1/A2 and IN_R2/A2 than IN_R1/A1; no
-/// more IN_R1/A6 than IN_R1/A5; and of each successor no more OUT_R1/A8 than OUT_R1/A7.
+/// CONN/B1 came on its ci legs; of each successor, and of all, no more IN_R1/A2 and IN_R2/A2 than
+/// IN_R1/A1; no more IN_R1/A6 than IN_R1/A5; and of each successor, and of all, no more OUT_R1/A8
+/// than OUT_R1/A7.
 pub fn an_in_proxy_puts_for_what_came()
     ensures { (config : InProxyConfig) (moves : List Move)
         → PutsForWhatCame config.number (all_moved rules (started (first config)) moves) }
