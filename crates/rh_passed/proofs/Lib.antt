@@ -1,0 +1,5 @@
+mod Steps
+mod OutProxyPassed
+mod InProxyPassed
+mod ServerLegs
+mod ServerPassed
