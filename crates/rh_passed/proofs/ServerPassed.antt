@@ -20,7 +20,10 @@ use Rattle.rh_order.proofs.ByNumber.{by_test, same_number, test_same}
 use Rattle.rh_order.proofs.ItemLists.{has_handover-append}
 use Rattle.rh_shell.specs.declared.answers.Count.{Count}
 use Rattle.rh_shell.specs.declared.answers.Refused.TheVariants as refused
+use Rattle.rh_shell.specs.declared.due.Due.{Due}
 use Rattle.rh_shell.specs.NearEnds.{is_ended}
+use Rattle.rh_shell.specs.Waiting.{Waiting, taken}
+use Rattle.rh_line.specs.Queue.{front_length}
 use Rattle.rh_shell.specs.Shells.{is_of}
 use Rattle.rh_shell.specs.Rules.{Message, Pdu, Packet}
 use Rattle.rh_shell.specs.Moves.{OnLeg, Move, Up, HeadCame, PduCame, PacketCame, Puts, IsDrawn, Marks, Pings, EndMove, Moves, Gives, Takes, Closes, Recycles, EndPassage, end_started, end_moved, all_end_moved, is_in_use, AreAllowedAtEnd, MayEndMove}
@@ -33,18 +36,19 @@ use Rattle.rh_server.specs.declared.state.InLeg.{InLeg}
 use Rattle.rh_server.specs.declared.state.Leaving.{Leaving}
 use Rattle.rh_server.specs.declared.state.Leaving.TheVariants as leaving
 use Rattle.rh_server.specs.declared.state.OutLeg.{OutLeg}
+use Rattle.rh_server.specs.declared.state.Greeting.TheVariants as greeting
 use Rattle.rh_server.specs.declared.state.Tells.{Tells}
 use Rattle.rh_server.specs.declared.state.Tells.TheVariants as tells
 use Rattle.rh_server.specs.declared.out_line.Kind.TheVariants as kind
-use Rattle.rh_server.specs.OutLines.{waits}
-use Rattle.rh_server.specs.States.{Server, has_left, in_at, in_leg, in_place, is_fresh, is_lost, is_open, is_put, is_shut, phase_of, same_cookie, with_in, without_in}
+use Rattle.rh_server.specs.OutLines.{Gate, lets, waits}
+use Rattle.rh_server.specs.States.{Server, has_left, in_at, in_leg, in_place, is_due, is_fresh, is_lost, is_open, is_put, is_shut, out_place, phase_of, same_cookie, stays, with_in, without_in}
 use Rattle.rh_server.specs.Opening.{Done, took, refuse, unexpected, is_first, in_leg_up, may_up, up, up_by, opens, with_first_out, conn_a2_at, on_conn_a2, first_in, with_first_in, conn_b2_at, on_conn_b2}
 use Rattle.rh_server.specs.Acknowledging.{channel_at, on_ack_to, on_ack, on_ping_traffic}
 use Rattle.rh_server.specs.InReplacement.{opens_next, opens_leg, first_waiting, waiting_place, next_opened, becomes_current, moved_if, take, announced, in_r1_a2_by, in_r1_a2_at, on_in_r1_a2, has_fresh_below, leaves, leaves_by, hands_over, on_in_r1_a6, on_in_r2_a2}
 use Rattle.rh_server.specs.OutReplacement.{asks, recycle, wishes, wished, on_out_r1_a4, on_out_r1_a8}
 use Rattle.rh_server.specs.Ending.{are_lost, close, completed, drawn, drawn_by, end_a2_at, end_a2_on_leg, end_a2_waiting, give, in_is_done, in_is_drawn, is_complete, is_done, is_over_on, on_end_a2, settled}
 use Rattle.rh_server.specs.Order.{came_up, got, in_items, is_up, items_if, items_on}
-use Rattle.rh_server.specs.Putting.{Pick, or_else, put_in_greeting, put_tells_by, put_tells, told_by, was_current, put_b1_by, put_b1, put_ack, put_in_by, put_out_greeting, next_out, settled_pick, put_open, put_out_at, put_by}
+use Rattle.rh_server.specs.Putting.{Pick, or_else, put_in_greeting, put_tells_by, put_tells, told_by, was_current, put_b1_by, put_b1, put_ack, put_in_by, gate_at, next_out, out_greeting_at, pdu_by, put_by, put_end, put_open, put_out_at, put_out_greeting, put_pdu, put_pdu_or_end, put_waiting, settled_pick, waiting_at, waiting_by, was_put}
 use Rattle.rh_server.specs.Servers.{acts, first, pdu, packet, packet_by, on_is, on_os}
 use Rattle.rh_server.specs.Servers.{rules as server_rules}
 use Rattle.rh_passages.proofs.Logs.{RowKeeps, PutKeeps, ActsKeep}
@@ -218,3 +222,677 @@ module _ (n : ℕ) where
       (λ has_come h. keeps_next_opened (record s { current = s.next; edge = Shut }) has_come
       (record { each = h.each; there = h.there; work = h.work }))
       (λ has_come h. h)
+
+  -- ---- rows
+
+  -- the work is not done
+  keeps_stage : (s t : Server) (at : Stage) → is_ended (phase_of at) ≡ false → Keeps s t
+      → Keeps s (record t { stage = at })
+  keeps_stage s t at going keeps has_come h =
+      let now = keeps has_come h in
+      record { each = now.each; there = now.there; work = λ e. going }
+
+  keeps_opened : (s t : Server) (connection : Cookie) (window timeout : ℕ) → Keeps s t
+      → Keeps s (opens t connection window timeout)
+  keeps_opened s t connection window timeout keeps has_come h =
+      let now = keeps has_come h in
+      record { each = now.each; there = now.there; work = λ e. refl }
+
+  same_first_out : (s : Server) (cookie : Cookie) (lifetime window : ℕ)
+      → Same s (with_first_out s cookie lifetime window)
+  same_first_out s cookie lifetime window = search rules
+
+  keeps_first_out : (s : Server) (cookie : Cookie) (lifetime window : ℕ)
+      → Keeps s (with_first_out s cookie lifetime window)
+  keeps_first_out s cookie lifetime window =
+      keeps_same s (with_first_out s cookie lifetime window)
+      (same_first_out s cookie lifetime window)
+
+  keeps_first_in : (s : Server) (cookie : Cookie) → Keeps s (with_first_in s cookie)
+  keeps_first_in s cookie has_come h =
+      by (in_leg 1 s.ins) (each_found IsStaying s.ins (in_place 1 s.ins) h.each)
+    where
+      by : (o : Option InLeg) → IfSome o IsStaying → Stays has_come (first_in s cookie o)
+      by None is = h
+      by (Some leg) is = record {
+        each = each_set IsStaying s.ins _ (in_place leg.number s.ins) is h.each;
+        there = λ e. number_set n s.ins _ ∙ h.there e;
+        work = h.work;
+      }
+
+  keeps_a2_at : (s : Server) (at : Stage) (connection cookie : Cookie) (lifetime window : ℕ)
+      → Keeps s (conn_a2_at s at connection cookie lifetime window).0
+  keeps_a2_at s stage.Waits connection cookie lifetime window =
+      keeps_stage s (with_first_out s cookie lifetime window) (stage.OutCame connection) refl
+      (keeps_first_out s cookie lifetime window)
+  keeps_a2_at s (stage.InCame first' in_window timeout) connection cookie lifetime window =
+      keeps_if s (same_cookie first' connection)
+      (took (opens (with_first_out s cookie lifetime window) first' in_window timeout))
+      (refuse s (refused.Cookie first' connection))
+      (keeps_opened s (with_first_out s cookie lifetime window) first' in_window timeout
+      (keeps_first_out s cookie lifetime window))
+      (λ has_come h. h)
+  keeps_a2_at s (stage.OutCame first') connection cookie lifetime window = λ has_come h. h
+  keeps_a2_at s (stage.Open first') connection cookie lifetime window = λ has_come h. h
+  keeps_a2_at s stage.Ended connection cookie lifetime window = λ has_come h. h
+
+  keeps_conn_a2 : (s : Server) (number : ℕ) (count : Count) (connection cookie : Cookie)
+      (lifetime window : ℕ)
+      → Keeps s (on_conn_a2 s number count connection cookie lifetime window).0
+  keeps_conn_a2 s number count connection cookie lifetime window =
+      keeps_if s (is_first count && ((number == 1) && not (waits kind.ConnC1 s.waiting)))
+      (conn_a2_at s s.stage connection cookie lifetime window) (unexpected s)
+      (keeps_a2_at s s.stage connection cookie lifetime window) (λ has_come h. h)
+
+  keeps_b2_at : (s : Server) (at : Stage) (connection cookie : Cookie) (window timeout : ℕ)
+      → Keeps s (conn_b2_at s at connection cookie window timeout).0
+  keeps_b2_at s stage.Waits connection cookie window timeout =
+      keeps_stage s (with_first_in s cookie) (stage.InCame connection window timeout) refl
+      (keeps_first_in s cookie)
+  keeps_b2_at s (stage.OutCame first') connection cookie window timeout =
+      keeps_if s (same_cookie first' connection)
+      (took (opens (with_first_in s cookie) first' window timeout))
+      (refuse s (refused.Cookie first' connection))
+      (keeps_opened s (with_first_in s cookie) first' window timeout (keeps_first_in s cookie))
+      (λ has_come h. h)
+  keeps_b2_at s (stage.InCame first' in_window in_timeout) connection cookie window timeout =
+      λ has_come h. h
+  keeps_b2_at s (stage.Open first') connection cookie window timeout = λ has_come h. h
+  keeps_b2_at s stage.Ended connection cookie window timeout = λ has_come h. h
+
+  keeps_conn_b2 : (s : Server) (number : ℕ) (count : Count) (connection cookie : Cookie)
+      (window timeout : ℕ)
+      → Keeps s (on_conn_b2 s number count connection cookie window timeout).0
+  keeps_conn_b2 s number count connection cookie window timeout =
+      keeps_if s (is_first count && ((number == 1) && not (waits kind.ConnC1 s.waiting)))
+      (conn_b2_at s s.stage connection cookie window timeout) (unexpected s)
+      (keeps_b2_at s s.stage connection cookie window timeout) (λ has_come h. h)
+
+  keeps_announced : (s : Server) (leg : InLeg) (successor : Cookie) (window timeout : ℕ)
+      (has_come : Bool) → IsStaying leg → Stays has_come s
+      → Stays has_come (announced s leg successor window timeout)
+  keeps_announced s leg successor window timeout has_come is h =
+      keeps_next_opened (with_in
+      (record s { newest = record { leg = leg.number; cookie = successor } })
+      (record leg { cookie = successor; stage = in_stage.Waits window timeout false }))
+      has_come (record {
+        each = each_set IsStaying s.ins _ (in_place leg.number s.ins) is h.each;
+        there = λ e. number_set n s.ins _ ∙ h.there e;
+        work = h.work;
+      })
+
+  keeps_in_r1_a2_by : (s : Server) (first' connection predecessor successor : Cookie)
+      (window timeout : ℕ) (has_come : Bool) → Stays has_come s → (o : Option InLeg)
+      → IfSome o IsStaying
+      → Stays has_come
+      (in_r1_a2_by s first' connection predecessor successor window timeout o).0
+  keeps_in_r1_a2_by s first' connection predecessor successor window timeout has_come h None is =
+      h
+  keeps_in_r1_a2_by s first' connection predecessor successor window timeout has_come h
+      (Some leg) is =
+      by_test There (not (is_fresh leg.stage)) (unexpected s) _ (λ t. h)
+      (λ t. by_test There (not (same_cookie first' connection))
+      (refuse s (refused.Cookie first' connection)) _ (λ u. h)
+      (λ u. by_test There (not (same_cookie s.newest.cookie predecessor))
+      (refuse s (refused.Cookie s.newest.cookie predecessor))
+      (took (announced s leg successor window timeout)) (λ v. h)
+      (λ v. keeps_announced s leg successor window timeout has_come is h)))
+    where
+      There : Done → Type 0
+      There x = Stays has_come x.0
+
+  keeps_in_r1_a2_at : (s : Server) (at : Stage) (number : ℕ)
+      (connection predecessor successor : Cookie) (window timeout : ℕ)
+      → Keeps s (in_r1_a2_at s at number connection predecessor successor window timeout).0
+  keeps_in_r1_a2_at s (stage.Open first') number connection predecessor successor window timeout =
+      λ has_come h.
+      keeps_in_r1_a2_by s first' connection predecessor successor window timeout has_come h
+      (in_leg number s.ins) (each_found IsStaying s.ins (in_place number s.ins) h.each)
+  keeps_in_r1_a2_at s opening number connection predecessor successor window timeout =
+      λ has_come h. h
+
+  keeps_in_r1_a2 : (s : Server) (number : ℕ) (count : Count)
+      (connection predecessor successor : Cookie) (window timeout : ℕ)
+      → Keeps s (on_in_r1_a2 s number count connection predecessor successor window timeout).0
+  keeps_in_r1_a2 s number count connection predecessor successor window timeout =
+      keeps_if s (is_first count && not (has_fresh_below number s.ins))
+      (in_r1_a2_at s s.stage number connection predecessor successor window timeout) (unexpected s)
+      (keeps_in_r1_a2_at s s.stage number connection predecessor successor window timeout)
+      (λ has_come h. h)
+
+  -- another leg leaves
+  keeps_leaves : (s : Server) (number : ℕ) → (number ≡ n → ⊥) → Keeps s (leaves s number)
+  keeps_leaves s number other has_come h =
+      by (in_leg number s.ins) (found_number number s.ins)
+    where
+      by : (o : Option InLeg) → IsFound number (has_number number s.ins) o
+          → Stays has_come (leaves_by s o)
+      by None is = h
+      by (Some leg) is =
+          with_stays s (record leg { leaving = leaving.InR1B1 }) has_come
+          (λ same. absurd (other (sym is ∙ same))) h
+
+  keeps_hands_over : (s : Server) (number : ℕ) → (number ≡ n → ⊥)
+      → Keeps s (hands_over s number)
+  keeps_hands_over s number other has_come h =
+      let now = keeps_leaves s number other has_come h in
+      keeps_moved true (record (leaves s number) { line = after_finish s.line }) has_come
+      (record { each = now.each; there = now.there; work = now.work })
+
+  keeps_in_r1_a6 : (s : Server) (number : ℕ) (successor : Cookie) → (number ≡ n → ⊥)
+      → Keeps s (on_in_r1_a6 s number successor).0
+  keeps_in_r1_a6 s number successor other =
+      keeps_if s ((number == s.current.leg)
+      && (not s.line.finished && (s.line.has_next && not (waits kind.InR1A3 s.waiting))))
+      (if same_cookie s.next.cookie successor then took (hands_over s number)
+      else refuse s (refused.Cookie s.next.cookie successor)) (unexpected s)
+      (keeps_if s (same_cookie s.next.cookie successor) (took (hands_over s number))
+      (refuse s (refused.Cookie s.next.cookie successor)) (keeps_hands_over s number other)
+      (λ has_come h. h))
+      (λ has_come h. h)
+
+  same_in_r2_a2 : (s : Server) (number : ℕ) (count : Count) (successor : Cookie)
+      → Same s (on_in_r2_a2 s number count successor).0
+  same_in_r2_a2 s number count successor = search rules
+
+  same_ack_to : (s : Server) (count : Count) (destination received window : ℕ) (cookie : Cookie)
+      → Same s (on_ack_to s count destination received window cookie).0
+  same_ack_to s count destination received window cookie = search rules
+
+  same_out_r1_a8 : (s : Server) (count : Count) (destination : ℕ) (successor : Cookie)
+      → Same s (on_out_r1_a8 s count destination successor).0
+  same_out_r1_a8 s count destination successor = search rules
+
+  keeps_end_on : (s : Server) (leg : InLeg) (at : InStage) (has_come : Bool) → IsStaying leg
+      → Stays has_come s → Stays has_come (end_a2_on_leg s leg at).0
+  keeps_end_on s leg in_stage.Fresh has_come is h = h
+  keeps_end_on s leg in_stage.Opened has_come is h = h
+  keeps_end_on s leg (in_stage.Waits window timeout ended) has_come is h =
+      by_test (λ (x : Done). Stays has_come x.0) ended (unexpected s)
+      (took (with_in s (record leg { stage = in_stage.Waits window timeout true }))) (λ t. h)
+      (λ t. with_stays s (record leg { stage = in_stage.Waits window timeout true }) has_come is h)
+
+  keeps_end_at : (s : Server) (number : ℕ) (o : Option Which)
+      → Keeps s (end_a2_at s number o).0
+  keeps_end_at s number (Some which) has_come h =
+      by_test (λ (x : Done). Stays has_come x.0) (is_over_on s which) (unexpected s) _ (λ t. h)
+      (λ t. record { each = h.each; there = h.there; work = h.work })
+  keeps_end_at s number None has_come h =
+      by (in_leg number s.ins) (each_found IsStaying s.ins (in_place number s.ins) h.each)
+    where
+      by : (o : Option InLeg) → IfSome o IsStaying → Stays has_come (end_a2_waiting s o).0
+      by None is = h
+      by (Some leg) is = keeps_end_on s leg leg.stage has_come is h
+
+  keeps_end_a2 : (s : Server) (number : ℕ) (count : Count)
+      → Keeps s (on_end_a2 s number count).0
+  keeps_end_a2 s number count =
+      keeps_if s (is_first count) (unexpected s) (end_a2_at s number (channel_at s number))
+      (λ has_come h. h) (keeps_end_at s number (channel_at s number))
+
+  same_out_r1_a4 : (s : Server) (number : ℕ) (count : Count)
+      (connection predecessor successor : Cookie) (lifetime window timeout : ℕ)
+      → Same s
+      (on_out_r1_a4 s number count connection predecessor successor lifetime window timeout).0
+  same_out_r1_a4 s number count connection predecessor successor lifetime window timeout =
+      search rules
+
+  same_ack : (s : Server) (number : ℕ) (count : Count) (received window : ℕ) (cookie : Cookie)
+      → Same s (on_ack s number count received window cookie).0
+  same_ack s number count received window cookie = search rules
+
+  same_traffic : (s : Server) (count : Count) → Same s (on_ping_traffic s count).0
+  same_traffic s count = search rules
+
+  same_pdu : (s : Server) (leg : Leg) (count : Count) (bytes : List ℕ)
+      → Same s (pdu s leg count bytes).0
+  same_pdu s leg count bytes = search rules
+
+  -- ---- with what came
+
+  module _ (has_come : Bool) where
+    -- it left, or stays
+    abbrev Holds : Server → List OnLeg → List OnLeg → Type 0
+    Holds s came put = HasLeft n came ⊎ Stays has_come s
+
+    hold : (s t : Server) (came put now : List OnLeg) → (Stays has_come s → Stays has_come t)
+        → Holds s came put → Holds t came now
+    hold s t came put now keeps (inl left) = inl left
+    hold s t came put now keeps (inr stays) = inr (keeps stays)
+
+    keep_row : (s : Server) (one : OnLeg) (came put : List OnLeg) (x : Done) → Keeps s x.0
+        → Holds s came put → RowKeeps Holds one came put x
+    keep_row s one came put (t, Ok taken) keeps (inl left) = inl (left_more n came one left)
+    keep_row s one came put (t, Ok taken) keeps (inr stays) = inr (keeps has_come stays)
+    keep_row s one came put (t, Err why) keeps (inl left) = inl left
+    keep_row s one came put (t, Err why) keeps (inr stays) = inr (keeps has_come stays)
+
+    same_row : (s : Server) (one : OnLeg) (came put : List OnLeg) (x : Done) → Same s x.0
+        → Holds s came put → RowKeeps Holds one came put x
+    same_row s one came put x same = keep_row s one came put x (keeps_same s x.0 same)
+
+    -- IN_R1/A6 comes on this leg, or on another
+    leaving_row : (s : Server) (leg : Leg) (successor : Cookie) (came put : List OnLeg)
+        → is_of InServer leg ≡ true → Holds s came put
+        → RowKeeps Holds (leg, Packet (named.InR1A6 successor)) came put
+        (on_in_r1_a6 s leg.number successor)
+    leaving_row s leg successor came put here h = by (nat_eq n leg.number) refl
+      where
+        one : OnLeg
+        one = (leg, Packet (named.InR1A6 successor))
+
+        left : nat_eq n leg.number ≡ true → HasLeft n (came ++ one ∷ [])
+        left e =
+            left_last n came leg successor
+            (ap (λ (t : Bool). t && nat_eq n leg.number) here ∙ e)
+
+        Row : Done → Type 0
+        Row x = RowKeeps Holds one came put x
+
+        by : (b : Bool) → nat_eq n leg.number ≡ b
+            → Row (on_in_r1_a6 s leg.number successor)
+        by true e =
+            by_test Row ((leg.number == s.current.leg)
+            && (not s.line.finished && (s.line.has_next && not (waits kind.InR1A3 s.waiting))))
+            (if same_cookie s.next.cookie successor then took (hands_over s leg.number)
+            else refuse s (refused.Cookie s.next.cookie successor)) (unexpected s)
+            (λ t. by_test Row (same_cookie s.next.cookie successor)
+            (took (hands_over s leg.number)) (refuse s (refused.Cookie s.next.cookie successor))
+            (λ u. inl (left e)) (λ u. h))
+            (λ t. h)
+        by false e =
+            keep_row s one came put (on_in_r1_a6 s leg.number successor)
+            (keeps_in_r1_a6 s leg.number successor
+            (λ same. true≢false (sym (ap (λ (k : ℕ). nat_eq n k) same ∙ test_same n) ∙ e))) h
+
+    is_row : (s : Server) (leg : Leg) (count : Count) (m : Named) (came put : List OnLeg)
+        → is_of InServer leg ≡ true → Holds s came put
+        → RowKeeps Holds (leg, Packet m) came put (on_is s leg.number count m)
+    is_row s leg count (named.ConnB2 v connection cookie window timeout group address padding) came
+        put here h =
+        keep_row s (leg, Packet (named.ConnB2 v connection cookie window timeout group address
+        padding)) came put (on_conn_b2 s leg.number count connection cookie window timeout)
+        (keeps_conn_b2 s leg.number count connection cookie window timeout) h
+    is_row s leg count (named.InR1A2 v connection predecessor successor window timeout) came put
+        here h =
+        keep_row s (leg, Packet (named.InR1A2 v connection predecessor successor window timeout))
+        came put
+        (on_in_r1_a2 s leg.number count connection predecessor successor window timeout)
+        (keeps_in_r1_a2 s leg.number count connection predecessor successor window timeout) h
+    is_row s leg count (named.InR1A6 successor) came put here h =
+        leaving_row s leg successor came put here h
+    is_row s leg count (named.InR2A2 successor) came put here h =
+        same_row s (leg, Packet (named.InR2A2 successor)) came put
+        (on_in_r2_a2 s leg.number count successor) (same_in_r2_a2 s leg.number count successor) h
+    is_row s leg count (named.AckTo destination received window cookie) came put here h =
+        same_row s (leg, Packet (named.AckTo destination received window cookie)) came put
+        (on_ack_to s count destination received window cookie)
+        (same_ack_to s count destination received window cookie) h
+    is_row s leg count (named.OutR1A8 destination successor) came put here h =
+        same_row s (leg, Packet (named.OutR1A8 destination successor)) came put
+        (on_out_r1_a8 s count destination successor)
+        (same_out_r1_a8 s count destination successor) h
+    is_row s leg count named.EndA2 came put here h =
+        keep_row s (leg, Packet named.EndA2) came put (on_end_a2 s leg.number count)
+        (keeps_end_a2 s leg.number count) h
+    is_row s leg count m came put here h = h
+
+    os_row : (s : Server) (leg : Leg) (k : ℕ) (count : Count) (m : Named) (came put : List OnLeg)
+        → Holds s came put → RowKeeps Holds (leg, Packet m) came put (on_os s k count m)
+    os_row s leg k count (named.ConnA2 v connection cookie lifetime window) came put h =
+        keep_row s (leg, Packet (named.ConnA2 v connection cookie lifetime window)) came put
+        (on_conn_a2 s k count connection cookie lifetime window)
+        (keeps_conn_a2 s k count connection cookie lifetime window) h
+    os_row s leg k count
+        (named.OutR1A4 v connection predecessor successor lifetime window timeout) came put h =
+        same_row s
+        (leg, Packet (named.OutR1A4 v connection predecessor successor lifetime window timeout))
+        came put
+        (on_out_r1_a4 s k count connection predecessor successor lifetime window timeout)
+        (same_out_r1_a4 s k count connection predecessor successor lifetime window timeout) h
+    os_row s leg k count (named.Ack received window cookie) came put h =
+        same_row s (leg, Packet (named.Ack received window cookie)) came put
+        (on_ack s k count received window cookie) (same_ack s k count received window cookie) h
+    os_row s leg k count (named.PingTraffic bytes) came put h =
+        same_row s (leg, Packet (named.PingTraffic bytes)) came put (on_ping_traffic s count)
+        (same_traffic s count) h
+    os_row s leg k count m came put h = h
+
+    packet_row : (s : Server) (leg : Leg) (count : Count) (m : Named) (came put : List OnLeg)
+        → Holds s came put → RowKeeps Holds (leg, Packet m) came put (packet s leg count m)
+    packet_row s leg count m came put h = by leg.kind refl
+      where
+        by : (kind : LegKind) → leg.kind ≡ kind
+            → RowKeeps Holds (leg, Packet m) came put (packet_by s leg.number count m kind)
+        by InServer same =
+            is_row s leg count m came put
+            (ap (λ (kind : LegKind). is_of InServer (record { kind = kind; number = leg.number }))
+            same) h
+        by OutServer same = os_row s leg leg.number count m came put h
+        by ClientIn same = h
+        by ClientOut same = h
+
+    -- ---- what is put
+
+    abbrev PutStays : Pick → Type 0
+    PutStays pick = IfSome pick (λ (one : Server × Message). Stays has_come one.0)
+
+    abbrev PutSame : Server → Pick → Type 0
+    PutSame s pick = IfSome pick (λ (one : Server × Message). Same s one.0)
+
+    same_put : (s : Server) (pick : Pick) → PutSame s pick → Stays has_come s → PutStays pick
+    same_put s None same h = tt
+    same_put s (Some one) same h = keeps_same s one.0 same has_come h
+
+    or_put : (a b : Pick) → PutStays a → PutStays b → PutStays (or_else a b)
+    or_put None b h k = k
+    or_put (Some pick) b h k = h
+
+    same_told : (s : Server) (number : ℕ) → Same s (told_by s number)
+    same_told s number = search rules
+
+    tells_put : (s : Server) (leg : InLeg) (t : Tells) → IsStaying leg → Stays has_come s
+        → PutStays (put_tells_by s leg t)
+    tells_put s leg tells.Nothing is h = tt
+    tells_put s leg tells.ConnB3 is h =
+        by_test PutStays (is_open s.stage) _ None
+        (λ t. with_stays s (record leg { tells = tells.Nothing }) has_come is h) (λ t. tt)
+    tells_put s leg tells.InR1B2 is h =
+        by_test PutStays (was_current s leg) _ None
+        (λ t. with_stays (told_by s leg.number) (record leg { tells = tells.Nothing }) has_come is
+        (keeps_same s (told_by s leg.number) (same_told s leg.number) has_come h)) (λ t. tt)
+
+    -- IN_R1/B1 goes on a leg that stays no more
+    b1_put : (s : Server) (leg : InLeg) (x : Leaving) → leg.leaving ≡ x → IsStaying leg
+        → Stays has_come s → PutStays (put_b1_by s leg x)
+    b1_put s leg leaving.Stays same is h = tt
+    b1_put s leg leaving.Left same is h = tt
+    b1_put s leg leaving.Lost same is h = tt
+    b1_put s leg leaving.InR1B1 same is h =
+        with_stays s (record leg { leaving = leaving.Left }) has_come
+        (λ number. absurd (true≢false (sym (ap stays (is number)) ∙ ap stays same))) h
+
+    same_put_ack : (s : Server) (leg : InLeg) → PutSame s (put_ack s leg)
+    same_put_ack s leg = search rules
+
+    in_put : (s : Server) (o : Option InLeg) → IfSome o IsStaying → Stays has_come s
+        → PutStays (put_in_by s o)
+    in_put s None is h = tt
+    in_put s (Some leg) is h =
+        or_put (put_in_greeting s leg) _
+        (by_test PutStays (is_due leg.greeting) _ None
+        (λ t. with_stays s (record leg { greeting = greeting.Put }) has_come is h) (λ t. tt))
+        (or_put (put_tells s leg) _ (tells_put s leg leg.tells is h)
+        (or_put (put_b1 s leg) (put_ack s leg) (b1_put s leg leg.leaving refl is h)
+        (same_put s (put_ack s leg) (same_put_ack s leg) h)))
+
+    same_out_greeting : (s : Server) (place : ℕ) (o : Option OutLeg)
+        → PutSame s (out_greeting_at s place o)
+    same_out_greeting s place o = search rules
+
+    same_was_put : (s : Server) (place : ℕ) (m : Named) → Same s (was_put s place m)
+    same_was_put s place m = search rules
+
+    waiting_put : (s : Server) (place : ℕ) (o : Option Gate) → Stays has_come s
+        → PutStays (waiting_at s place o)
+    waiting_put s place None h = tt
+    waiting_put s place (Some gate) h =
+        found (taken (lets gate) s.waiting).0 (taken (lets gate) s.waiting).1
+      where
+        found : (w : Waiting) (o : Option Due) → PutStays (waiting_by s place (w, o))
+        found w None = tt
+        found w (Some due) =
+            let t : Server = record s { waiting = w } in
+            keeps_same t (was_put t place due.packet) (same_was_put t place due.packet) has_come
+            (record { each = h.each; there = h.there; work = h.work })
+
+    same_put_pdu : (s : Server) (place : ℕ) (o : Option ℕ) → PutSame s (pdu_by s place o)
+    same_put_pdu s place o = search rules
+
+    same_put_end : (s : Server) (place : ℕ) → PutSame s (put_end s place)
+    same_put_end s place = search rules
+
+    settled_put : (pick : Pick) → PutStays pick → PutStays (settled_pick pick)
+    settled_put None h = tt
+    settled_put (Some pick) h = keeps_settled pick.0 has_come h
+
+    next_put : (s : Server) (place : ℕ) → Stays has_come s → PutStays (next_out s place)
+    next_put s place h =
+        or_put (put_waiting s place) (put_pdu_or_end s place)
+        (waiting_put s place (gate_at s (slice_get s.outs place)) h)
+        (or_put (put_pdu s place) (put_end s place)
+        (same_put s (put_pdu s place) (same_put_pdu s place (front_length s.queue)) h)
+        (same_put s (put_end s place) (same_put_end s place) h))
+
+    out_put : (s : Server) (o : Option ℕ) → Stays has_come s → PutStays (put_out_at s o)
+    out_put s None h = tt
+    out_put s (Some place) h =
+        or_put (put_out_greeting s place) (put_open s place)
+        (same_put s (put_out_greeting s place)
+        (same_out_greeting s place (slice_get s.outs place)) h)
+        (by_test PutStays (is_open s.stage) (settled_pick (next_out s place)) None
+        (λ t. settled_put (next_out s place) (next_put s place h)) (λ t. tt))
+
+    put_stays : (s : Server) (number : ℕ) (k : LegKind) → Stays has_come s
+        → PutStays (put_by s number k)
+    put_stays s number InServer h =
+        in_put s (in_leg number s.ins)
+        (each_found IsStaying s.ins (in_place number s.ins) h.each) h
+    put_stays s number OutServer h = out_put s (out_place number s.outs) h
+    put_stays s number ClientIn h = tt
+    put_stays s number ClientOut h = tt
+
+    puts : (s : Server) (leg : Leg) (came put : List OnLeg) → Holds s came put
+        → PutKeeps Holds leg came put (put_by s leg.number leg.kind)
+    puts s leg came put h = by (put_by s leg.number leg.kind) h (put_stays s leg.number leg.kind)
+      where
+        by : (pick : Pick) → Holds s came put → (Stays has_come s → PutStays pick)
+            → PutKeeps Holds leg came put pick
+        by None h keeps = tt
+        by (Some one) (inl left) keeps = inl left
+        by (Some one) (inr stays) keeps = inr (keeps stays)
+
+  -- ---- legs come up, and are drawn to their ends
+
+  keeps_up : (s : Server) (leg : Leg) (cookie : Cookie) → Keeps s (up s leg cookie)
+  keeps_up s leg cookie has_come h =
+      by_test (Stays has_come) (may_up s leg) (up_by s leg.number leg.kind) s (λ t. by leg.kind)
+      (λ t. h)
+    where
+      by : (kind : LegKind) → Stays has_come (up_by s leg.number kind)
+      by InServer = record {
+        each = each_push IsStaying s.ins (in_leg_up leg.number) h.each (λ same. refl);
+        there = λ e. number_more n s.ins (in_leg_up leg.number) (h.there e);
+        work = h.work;
+      }
+      by OutServer = record { each = h.each; there = h.there; work = h.work }
+      by ClientIn = h
+      by ClientOut = h
+
+  keeps_without : (s : Server) (number : ℕ) → in_is_drawn (in_leg number s.ins) ≡ true
+      → Keeps s (without_in s number)
+  keeps_without s number is_drawn has_come h = record {
+    each = each_gone IsStaying s.ins (in_place number s.ins) h.each;
+    there = λ e. by e (number == n) refl;
+    work = h.work;
+  }
+    where
+      stays_there : has_come ≡ true → number ≡ n → (o : Option InLeg)
+          → IsFound number (has_number number s.ins) o → IfSome o IsStaying
+          → in_is_drawn o ≡ true → ⊥
+      stays_there e same None found is d =
+          true≢false (sym (h.there e) ∙ ap (λ (k : ℕ). has_number k s.ins) (sym same) ∙ found)
+      stays_there e same (Some leg) found is d =
+          true≢false (sym d ∙ ap has_left (is (found ∙ same)))
+
+      by : has_come ≡ true → (b : Bool) → number == n ≡ b
+          → has_number n (without_in s number).ins ≡ true
+      by e true same =
+          absurd (stays_there e (same_number number n same) (in_leg number s.ins)
+          (found_number number s.ins)
+          (each_found IsStaying s.ins (in_place number s.ins) h.each) is_drawn)
+      by e false other = number_gone n number s.ins other ∙ h.there e
+
+  keeps_drawn : (s : Server) (number : ℕ) (k : LegKind) → Keeps s (drawn_by s number k)
+  keeps_drawn s number InServer has_come h =
+      by_test (Stays has_come) (in_is_drawn (in_leg number s.ins))
+      (settled (without_in s number)) s
+      (λ t. keeps_settled (without_in s number) has_come (keeps_without s number t has_come h))
+      (λ t. h)
+  keeps_drawn s number OutServer has_come h = h
+  keeps_drawn s number ClientIn has_come h = h
+  keeps_drawn s number ClientOut has_come h = h
+
+  -- ---- the role
+
+  same_give : (s : Server) (bytes : List ℕ) → Same s (give s bytes).0
+  same_give s bytes = search rules
+
+  same_recycle : (s : Server) → Same s (recycle s).0
+  same_recycle s = search rules
+
+  steps : (has_come : Bool) → StepsKeep server_rules (λ text. Unit {0}) (Holds has_come)
+  steps has_come = record {
+    up = λ s leg cookie came put.
+        hold has_come s (up s leg cookie) came put put (keeps_up s leg cookie has_come);
+    head = λ s leg text came put none h. h;
+    pdu = λ s leg count bytes came put.
+        same_row has_come s (leg, Pdu bytes) came put (pdu s leg count bytes)
+        (same_pdu s leg count bytes);
+    packet = packet_row has_come;
+    put = puts has_come;
+    drawn = λ s leg came put.
+        hold has_come s (drawn s leg) came put put (keeps_drawn s leg.number leg.kind has_come);
+    ping = λ s leg came put h. h;
+  }
+
+  calls : (has_come : Bool) → ActsKeep acts (Holds has_come)
+  calls has_come = record {
+    give = λ s bytes came put.
+        hold has_come s (give s bytes).0 came put put
+        (keeps_same s (give s bytes).0 (same_give s bytes) has_come);
+    take = λ s came put.
+        hold has_come s (take s) came put put
+        (λ h. keeps_moved s.line.has_next (record s { line = after_take s.line }) has_come
+        (record { each = h.each; there = h.there; work = h.work }));
+    close = λ s came put.
+        hold has_come s (close s) came put put
+        (λ h. record { each = h.each; there = h.there; work = h.work });
+    recycle = λ s came put.
+        hold has_come s (recycle s).0 came put put
+        (keeps_same s (recycle s).0 (same_recycle s) has_come);
+  }
+
+  -- ---- the leg comes up
+
+  abbrev HoldsAt : Bool → EndPassage Server → Type 0
+  HoldsAt has_come p = Holds has_come p.passage.role p.passage.came p.passage.put
+
+  has_come_up : (s : Server) (leg : Leg) (cookie : Cookie)
+      → (not (is_ended (phase_of s.stage))) ≡ true → may_up s leg ≡ true
+      → (is_of InServer leg && nat_eq n leg.number) ≡ true → Stays false s
+      → Stays true (up s leg cookie)
+  has_come_up s leg cookie going may is h =
+      by_test (Stays true) (may_up s leg) (up_by s leg.number leg.kind) s
+      (λ t. by leg.kind
+      (and_parts (is_of InServer leg) (nat_eq n leg.number) is).0)
+      (λ t. absurd (true≢false (sym may ∙ t)))
+    where
+      same : n ≡ leg.number
+      same =
+          same_number n leg.number (and_parts (is_of InServer leg) (nat_eq n leg.number) is).1
+
+      works : (b : Bool) → not b ≡ true → b ≡ false
+      works false e = refl
+      works true e = absurd (true≢false (sym e))
+
+      by : (kind : LegKind)
+          → is_of InServer (record { kind = kind; number = leg.number }) ≡ true
+          → Stays true (up_by s leg.number kind)
+      by InServer e = record {
+        each = each_push IsStaying s.ins (in_leg_up leg.number) h.each (λ same. refl);
+        there = λ e. number_last n s.ins (in_leg_up leg.number) (sym same);
+        work = λ e. works (is_ended (phase_of s.stage)) going;
+      }
+      by OutServer e = absurd (true≢false (sym e))
+      by ClientIn e = absurd (true≢false (sym e))
+      by ClientOut e = absurd (true≢false (sym e))
+
+  came_move : (p : EndPassage Server) (move : EndMove)
+      → MayEndMove server_rules p.passage.role move → is_up n move ≡ true → HoldsAt false p
+      → HoldsAt true (end_moved server_rules acts p move)
+  came_move p (Moves (Up leg cookie)) may is (inl left) = inl left
+  came_move p (Moves (Up leg cookie)) may is (inr stays) =
+      inr (has_come_up p.passage.role leg cookie may.0 may.1 is stays)
+  came_move p (Moves (HeadCame leg text)) may is h = absurd (true≢false (sym is))
+  came_move p (Moves (PduCame leg count pdu)) may is h = absurd (true≢false (sym is))
+  came_move p (Moves (PacketCame leg count m)) may is h = absurd (true≢false (sym is))
+  came_move p (Moves (Puts leg)) may is h = absurd (true≢false (sym is))
+  came_move p (Moves (IsDrawn leg)) may is h = absurd (true≢false (sym is))
+  came_move p (Moves (Marks leg)) may is h = absurd (true≢false (sym is))
+  came_move p (Moves (Pings leg)) may is h = absurd (true≢false (sym is))
+  came_move p (Gives pdu) may is h = absurd (true≢false (sym is))
+  came_move p Takes may is h = absurd (true≢false (sym is))
+  came_move p Closes may is h = absurd (true≢false (sym is))
+  came_move p Recycles may is h = absurd (true≢false (sym is))
+
+  came_moves : (p : EndPassage Server) (moves : List EndMove)
+      → AreAllowedAtEnd server_rules acts p moves → AllByRecursion LosesNoneAtEnd moves
+      → came_up moves n ≡ true → HoldsAt false p
+      → HoldsAt true (all_end_moved server_rules acts p moves)
+  came_moves p [] may none is h = absurd (true≢false (sym is))
+  came_moves p (move ∷ moves) may none is h =
+      by (is_up n move) refl is
+      (λ later. came_moves (end_moved server_rules acts p move) moves may.1 none.1 later
+      (end_move_keeps server_rules (Holds false) (steps false) acts (calls false) p move none.0 h))
+    where
+      q : EndPassage Server
+      q = end_moved server_rules acts p move
+
+      by : (b : Bool) → is_up n move ≡ b → (b || came_up moves n) ≡ true
+          → (came_up moves n ≡ true → HoldsAt true (all_end_moved server_rules acts q moves))
+          → HoldsAt true (all_end_moved server_rules acts q moves)
+      by true now is rest =
+          end_moves_keep server_rules (Holds true) (steps true) acts (calls true) q moves none.1
+          (came_move p move may.0 now h)
+      by false now is rest = rest is
+
+  -- ---- a leg that is done
+
+  in_use : (s : Server) → Stays true s → is_in_use server_rules s (is_leg n) ≡ true
+  in_use s h =
+      by (is_ended (phase_of s.stage)) (in_is_done (in_leg n s.ins)) (h.work refl)
+      (kept (in_leg n s.ins) (found_number n s.ins)
+      (each_found IsStaying s.ins (in_place n s.ins) h.each))
+    where
+      kept : (o : Option InLeg) → IsFound n (has_number n s.ins) o → IfSome o IsStaying
+          → in_is_done o ≡ false
+      kept None found is = absurd (true≢false (sym (h.there refl) ∙ found))
+      kept (Some leg) found is =
+          ap (λ (x : Leaving). has_left x || is_lost x) (is found)
+
+      by : (a b : Bool) → a ≡ false → b ≡ false → (not a && not b) ≡ true
+      by false false e f = refl
+      by true b e f = absurd (true≢false e)
+      by false true e f = absurd (true≢false f)
+
+pub server_done : (window : ℕ) (moves : List EndMove)
+    → AreAllowedAtEnd server_rules acts (end_started (first window)) moves
+    → AllByRecursion LosesNoneAtEnd moves
+    → (let p = all_end_moved server_rules acts (end_started (first window)) moves in
+    (n : ℕ) → came_up moves n ≡ true
+    → IsDoneBehindMark server_rules p.passage.role (is_leg n) (got p n))
+server_done window moves may none n is e =
+    by (came_moves n (end_started (first window)) moves may none is
+    (inr (record {
+      each = tt;
+      there = λ f. absurd (true≢false (sym f));
+      work = λ f. absurd (true≢false (sym f));
+    })))
+  where
+    p : EndPassage Server
+    p = all_end_moved server_rules acts (end_started (first window)) moves
+
+    by : HoldsAt n true p → has_handover (got p n) ≡ true
+    by (inl left) = left
+    by (inr stays) = absurd (true≢false (sym (in_use n p.passage.role stays) ∙ e))
