@@ -55,6 +55,8 @@ use Rattle.rh_passages.proofs.Logs.{RowKeeps, PutKeeps, ActsKeep}
 use Rattle.rh_passed.specs.Passed.{IsDoneBehindMark, LosesNoneAtEnd, is_leg}
 use Rattle.rh_passed.proofs.ServerLegs.{has_number, each_found, each_set, each_gone, found_number, IsFound, number_set, number_gone, number_more, number_last}
 use Rattle.rh_passed.proofs.Steps.{StepsKeep, end_move_keeps, end_moves_keep}
+use Rattle.rh_passed.proofs.ServerKept as kept
+use Rattle.rh_passed.proofs.ServerKept.{keeps_conn_a2, keeps_conn_b2, keeps_end_a2, keeps_in_r1_a2, keeps_in_r1_a6, keeps_moved, keeps_same, keeps_settled, same_ack, same_ack_to, same_in_r2_a2, same_out_r1_a4, same_out_r1_a8, same_pdu, same_traffic, with_stays}
 
 -- ---- what came
 
@@ -102,351 +104,17 @@ left_last n came leg successor e =
 -- ---- the is legs that are kept
 
 module _ (n : ℕ) where
-  -- the leg of this number stays
   abbrev IsStaying : InLeg → Type 0
-  IsStaying leg = leg.number ≡ n → leg.leaving ≡ leaving.Stays
+  IsStaying = kept.IsStaying n
 
-  -- and is there, once it came up, while the work is not done
-  record Stays (has_come : Bool) (s : Server) : Type 0 where
-    each : AllByRecursion IsStaying s.ins
-    there : has_come ≡ true → has_number n s.ins ≡ true
-    work : has_come ≡ true → is_ended (phase_of s.stage) ≡ false
+  abbrev Stays : Bool → Server → Type 0
+  Stays = kept.Stays n
 
   abbrev Keeps : Server → Server → Type 0
-  Keeps s t = (has_come : Bool) → Stays has_come s → Stays has_come t
-
-  -- the parts that this is about
-  record Seen : Type 0 where
-    ins : List InLeg
-    stage : Stage
-
-  abbrev seen : Server → Seen
-  seen s = record { ins = s.ins; stage = s.stage }
+  Keeps = kept.Keeps n
 
   abbrev Same : Server → Server → Type 0
-  Same s t = seen t ≡ seen s
-
-  record SeenStays (has_come : Bool) (x : Seen) : Type 0 where
-    each : AllByRecursion IsStaying x.ins
-    there : has_come ≡ true → has_number n x.ins ≡ true
-    work : has_come ≡ true → is_ended (phase_of x.stage) ≡ false
-
-  keeps_same : (s t : Server) → Same s t → Keeps s t
-  keeps_same s t same has_come h =
-      let now : SeenStays has_come (seen t) = subst (SeenStays has_come) (sym same)
-      (record { each = h.each; there = h.there; work = h.work }) in
-      record { each = now.each; there = now.there; work = now.work }
-
-  keeps_if : (s : Server) (b : Bool) (x y : Done) → Keeps s x.0 → Keeps s y.0
-      → Keeps s (if b then x else y).0
-  keeps_if s b x y h k = by_test (λ (z : Done). Keeps s z.0) b x y (λ e. h) (λ e. k)
-
-  keeps_test : (s : Server) (b : Bool) (t u : Server) → Keeps s t → Keeps s u
-      → Keeps s (if b then t else u)
-  keeps_test s b t u h k = by_test (Keeps s) b t u (λ e. h) (λ e. k)
-
-  -- a leg has changed, which stays
-  with_stays : (s : Server) (leg : InLeg) (has_come : Bool) → IsStaying leg → Stays has_come s
-      → Stays has_come (with_in s leg)
-  with_stays s leg has_come is h = record {
-    each = each_set IsStaying s.ins leg (in_place leg.number s.ins) is h.each;
-    there = λ e. number_set n s.ins leg ∙ h.there e;
-    work = h.work;
-  }
-
-  -- ---- behind puts
-
-  none_lost : (legs : List InLeg) → AllByRecursion IsStaying legs → has_number n legs ≡ true
-      → are_lost legs ≡ true → ⊥
-  none_lost [] each e f = true≢false (sym e)
-  none_lost (leg ∷ legs) each e f =
-      by (leg.number == n) refl e (none_lost legs each.1)
-    where
-      by : (b : Bool) → leg.number == n ≡ b → cond b true (has_number n legs) ≡ true
-          → (has_number n legs ≡ true → are_lost legs ≡ true → ⊥) → ⊥
-      by true is t rest =
-          true≢false (sym (and_parts (is_lost leg.leaving) (are_lost legs) f).0
-          ∙ ap is_lost (each.0 (same_number leg.number n is)))
-      by false is t rest = rest t (and_parts (is_lost leg.leaving) (are_lost legs) f).1
-
-  -- the work is not done while the leg stays
-  keeps_completed : (s : Server) → Keeps s (completed s)
-  keeps_completed s has_come h =
-      by_test (Stays has_come) (is_complete s) (record s { stage = stage.Ended }) s
-      (λ t. record {
-        each = h.each;
-        there = h.there;
-        work = λ e. absurd (none_lost s.ins h.each (h.there e) (lost t));
-      })
-      (λ t. h)
-    where
-      lost : is_complete s ≡ true → are_lost s.ins ≡ true
-      lost t =
-          (and_parts (is_put s.end_mark) (are_lost s.ins)
-          (and_parts (is_open s.stage) (is_put s.end_mark && are_lost s.ins) t).1).1
-
-  same_wished : (s : Server) → Same s (wished s)
-  same_wished s = search rules
-
-  keeps_settled : (s : Server) → Keeps s (settled s)
-  keeps_settled s has_come h =
-      keeps_same (completed s) (wished (completed s)) (same_wished (completed s)) has_come
-      (keeps_completed s has_come h)
-
-  -- ---- the next channel
-
-  keeps_opens : (s : Server) (leg : InLeg) (stage : InStage) (has_come : Bool) → IsStaying leg
-      → Stays has_come s → Stays has_come (opens_next s leg stage)
-  keeps_opens s leg in_stage.Fresh has_come is h = h
-  keeps_opens s leg in_stage.Opened has_come is h = h
-  keeps_opens s leg (in_stage.Waits window timeout ended) has_come is h =
-      record {
-        each = each_set IsStaying s.ins _ (in_place leg.number s.ins) is h.each;
-        there = λ e. number_set n s.ins _ ∙ h.there e;
-        work = h.work;
-      }
-
-  keeps_next_opened : (s : Server) → Keeps s (next_opened s)
-  keeps_next_opened s has_come h =
-      by_test (Stays has_come) (s.line.has_next || waits kind.InR1A3 s.waiting) s
-      (opens_leg s (first_waiting s.ins)) (λ t. h)
-      (λ t. by (first_waiting s.ins) (each_found IsStaying s.ins (waiting_place s.ins) h.each))
-    where
-      by : (o : Option InLeg) → IfSome o IsStaying → Stays has_come (opens_leg s o)
-      by None is = h
-      by (Some leg) is = keeps_opens s leg leg.stage has_come is h
-
-  keeps_moved : (had_next : Bool) (s : Server) → Keeps s (moved_if had_next s)
-  keeps_moved had_next s =
-      keeps_test s (had_next && not s.line.has_next) (becomes_current s) s
-      (λ has_come h. keeps_next_opened (record s { current = s.next; edge = Shut }) has_come
-      (record { each = h.each; there = h.there; work = h.work }))
-      (λ has_come h. h)
-
-  -- ---- rows
-
-  -- the work is not done
-  keeps_stage : (s t : Server) (at : Stage) → is_ended (phase_of at) ≡ false → Keeps s t
-      → Keeps s (record t { stage = at })
-  keeps_stage s t at going keeps has_come h =
-      let now = keeps has_come h in
-      record { each = now.each; there = now.there; work = λ e. going }
-
-  keeps_opened : (s t : Server) (connection : Cookie) (window timeout : ℕ) → Keeps s t
-      → Keeps s (opens t connection window timeout)
-  keeps_opened s t connection window timeout keeps has_come h =
-      let now = keeps has_come h in
-      record { each = now.each; there = now.there; work = λ e. refl }
-
-  same_first_out : (s : Server) (cookie : Cookie) (lifetime window : ℕ)
-      → Same s (with_first_out s cookie lifetime window)
-  same_first_out s cookie lifetime window = search rules
-
-  keeps_first_out : (s : Server) (cookie : Cookie) (lifetime window : ℕ)
-      → Keeps s (with_first_out s cookie lifetime window)
-  keeps_first_out s cookie lifetime window =
-      keeps_same s (with_first_out s cookie lifetime window)
-      (same_first_out s cookie lifetime window)
-
-  keeps_first_in : (s : Server) (cookie : Cookie) → Keeps s (with_first_in s cookie)
-  keeps_first_in s cookie has_come h =
-      by (in_leg 1 s.ins) (each_found IsStaying s.ins (in_place 1 s.ins) h.each)
-    where
-      by : (o : Option InLeg) → IfSome o IsStaying → Stays has_come (first_in s cookie o)
-      by None is = h
-      by (Some leg) is = record {
-        each = each_set IsStaying s.ins _ (in_place leg.number s.ins) is h.each;
-        there = λ e. number_set n s.ins _ ∙ h.there e;
-        work = h.work;
-      }
-
-  keeps_a2_at : (s : Server) (at : Stage) (connection cookie : Cookie) (lifetime window : ℕ)
-      → Keeps s (conn_a2_at s at connection cookie lifetime window).0
-  keeps_a2_at s stage.Waits connection cookie lifetime window =
-      keeps_stage s (with_first_out s cookie lifetime window) (stage.OutCame connection) refl
-      (keeps_first_out s cookie lifetime window)
-  keeps_a2_at s (stage.InCame first' in_window timeout) connection cookie lifetime window =
-      keeps_if s (same_cookie first' connection)
-      (took (opens (with_first_out s cookie lifetime window) first' in_window timeout))
-      (refuse s (refused.Cookie first' connection))
-      (keeps_opened s (with_first_out s cookie lifetime window) first' in_window timeout
-      (keeps_first_out s cookie lifetime window))
-      (λ has_come h. h)
-  keeps_a2_at s (stage.OutCame first') connection cookie lifetime window = λ has_come h. h
-  keeps_a2_at s (stage.Open first') connection cookie lifetime window = λ has_come h. h
-  keeps_a2_at s stage.Ended connection cookie lifetime window = λ has_come h. h
-
-  keeps_conn_a2 : (s : Server) (number : ℕ) (count : Count) (connection cookie : Cookie)
-      (lifetime window : ℕ)
-      → Keeps s (on_conn_a2 s number count connection cookie lifetime window).0
-  keeps_conn_a2 s number count connection cookie lifetime window =
-      keeps_if s (is_first count && ((number == 1) && not (waits kind.ConnC1 s.waiting)))
-      (conn_a2_at s s.stage connection cookie lifetime window) (unexpected s)
-      (keeps_a2_at s s.stage connection cookie lifetime window) (λ has_come h. h)
-
-  keeps_b2_at : (s : Server) (at : Stage) (connection cookie : Cookie) (window timeout : ℕ)
-      → Keeps s (conn_b2_at s at connection cookie window timeout).0
-  keeps_b2_at s stage.Waits connection cookie window timeout =
-      keeps_stage s (with_first_in s cookie) (stage.InCame connection window timeout) refl
-      (keeps_first_in s cookie)
-  keeps_b2_at s (stage.OutCame first') connection cookie window timeout =
-      keeps_if s (same_cookie first' connection)
-      (took (opens (with_first_in s cookie) first' window timeout))
-      (refuse s (refused.Cookie first' connection))
-      (keeps_opened s (with_first_in s cookie) first' window timeout (keeps_first_in s cookie))
-      (λ has_come h. h)
-  keeps_b2_at s (stage.InCame first' in_window in_timeout) connection cookie window timeout =
-      λ has_come h. h
-  keeps_b2_at s (stage.Open first') connection cookie window timeout = λ has_come h. h
-  keeps_b2_at s stage.Ended connection cookie window timeout = λ has_come h. h
-
-  keeps_conn_b2 : (s : Server) (number : ℕ) (count : Count) (connection cookie : Cookie)
-      (window timeout : ℕ)
-      → Keeps s (on_conn_b2 s number count connection cookie window timeout).0
-  keeps_conn_b2 s number count connection cookie window timeout =
-      keeps_if s (is_first count && ((number == 1) && not (waits kind.ConnC1 s.waiting)))
-      (conn_b2_at s s.stage connection cookie window timeout) (unexpected s)
-      (keeps_b2_at s s.stage connection cookie window timeout) (λ has_come h. h)
-
-  keeps_announced : (s : Server) (leg : InLeg) (successor : Cookie) (window timeout : ℕ)
-      (has_come : Bool) → IsStaying leg → Stays has_come s
-      → Stays has_come (announced s leg successor window timeout)
-  keeps_announced s leg successor window timeout has_come is h =
-      keeps_next_opened (with_in
-      (record s { newest = record { leg = leg.number; cookie = successor } })
-      (record leg { cookie = successor; stage = in_stage.Waits window timeout false }))
-      has_come (record {
-        each = each_set IsStaying s.ins _ (in_place leg.number s.ins) is h.each;
-        there = λ e. number_set n s.ins _ ∙ h.there e;
-        work = h.work;
-      })
-
-  keeps_in_r1_a2_by : (s : Server) (first' connection predecessor successor : Cookie)
-      (window timeout : ℕ) (has_come : Bool) → Stays has_come s → (o : Option InLeg)
-      → IfSome o IsStaying
-      → Stays has_come
-      (in_r1_a2_by s first' connection predecessor successor window timeout o).0
-  keeps_in_r1_a2_by s first' connection predecessor successor window timeout has_come h None is =
-      h
-  keeps_in_r1_a2_by s first' connection predecessor successor window timeout has_come h
-      (Some leg) is =
-      by_test There (not (is_fresh leg.stage)) (unexpected s) _ (λ t. h)
-      (λ t. by_test There (not (same_cookie first' connection))
-      (refuse s (refused.Cookie first' connection)) _ (λ u. h)
-      (λ u. by_test There (not (same_cookie s.newest.cookie predecessor))
-      (refuse s (refused.Cookie s.newest.cookie predecessor))
-      (took (announced s leg successor window timeout)) (λ v. h)
-      (λ v. keeps_announced s leg successor window timeout has_come is h)))
-    where
-      There : Done → Type 0
-      There x = Stays has_come x.0
-
-  keeps_in_r1_a2_at : (s : Server) (at : Stage) (number : ℕ)
-      (connection predecessor successor : Cookie) (window timeout : ℕ)
-      → Keeps s (in_r1_a2_at s at number connection predecessor successor window timeout).0
-  keeps_in_r1_a2_at s (stage.Open first') number connection predecessor successor window timeout =
-      λ has_come h.
-      keeps_in_r1_a2_by s first' connection predecessor successor window timeout has_come h
-      (in_leg number s.ins) (each_found IsStaying s.ins (in_place number s.ins) h.each)
-  keeps_in_r1_a2_at s opening number connection predecessor successor window timeout =
-      λ has_come h. h
-
-  keeps_in_r1_a2 : (s : Server) (number : ℕ) (count : Count)
-      (connection predecessor successor : Cookie) (window timeout : ℕ)
-      → Keeps s (on_in_r1_a2 s number count connection predecessor successor window timeout).0
-  keeps_in_r1_a2 s number count connection predecessor successor window timeout =
-      keeps_if s (is_first count && not (has_fresh_below number s.ins))
-      (in_r1_a2_at s s.stage number connection predecessor successor window timeout) (unexpected s)
-      (keeps_in_r1_a2_at s s.stage number connection predecessor successor window timeout)
-      (λ has_come h. h)
-
-  -- another leg leaves
-  keeps_leaves : (s : Server) (number : ℕ) → (number ≡ n → ⊥) → Keeps s (leaves s number)
-  keeps_leaves s number other has_come h =
-      by (in_leg number s.ins) (found_number number s.ins)
-    where
-      by : (o : Option InLeg) → IsFound number (has_number number s.ins) o
-          → Stays has_come (leaves_by s o)
-      by None is = h
-      by (Some leg) is =
-          with_stays s (record leg { leaving = leaving.InR1B1 }) has_come
-          (λ same. absurd (other (sym is ∙ same))) h
-
-  keeps_hands_over : (s : Server) (number : ℕ) → (number ≡ n → ⊥)
-      → Keeps s (hands_over s number)
-  keeps_hands_over s number other has_come h =
-      let now = keeps_leaves s number other has_come h in
-      keeps_moved true (record (leaves s number) { line = after_finish s.line }) has_come
-      (record { each = now.each; there = now.there; work = now.work })
-
-  keeps_in_r1_a6 : (s : Server) (number : ℕ) (successor : Cookie) → (number ≡ n → ⊥)
-      → Keeps s (on_in_r1_a6 s number successor).0
-  keeps_in_r1_a6 s number successor other =
-      keeps_if s ((number == s.current.leg)
-      && (not s.line.finished && (s.line.has_next && not (waits kind.InR1A3 s.waiting))))
-      (if same_cookie s.next.cookie successor then took (hands_over s number)
-      else refuse s (refused.Cookie s.next.cookie successor)) (unexpected s)
-      (keeps_if s (same_cookie s.next.cookie successor) (took (hands_over s number))
-      (refuse s (refused.Cookie s.next.cookie successor)) (keeps_hands_over s number other)
-      (λ has_come h. h))
-      (λ has_come h. h)
-
-  same_in_r2_a2 : (s : Server) (number : ℕ) (count : Count) (successor : Cookie)
-      → Same s (on_in_r2_a2 s number count successor).0
-  same_in_r2_a2 s number count successor = search rules
-
-  same_ack_to : (s : Server) (count : Count) (destination received window : ℕ) (cookie : Cookie)
-      → Same s (on_ack_to s count destination received window cookie).0
-  same_ack_to s count destination received window cookie = search rules
-
-  same_out_r1_a8 : (s : Server) (count : Count) (destination : ℕ) (successor : Cookie)
-      → Same s (on_out_r1_a8 s count destination successor).0
-  same_out_r1_a8 s count destination successor = search rules
-
-  keeps_end_on : (s : Server) (leg : InLeg) (at : InStage) (has_come : Bool) → IsStaying leg
-      → Stays has_come s → Stays has_come (end_a2_on_leg s leg at).0
-  keeps_end_on s leg in_stage.Fresh has_come is h = h
-  keeps_end_on s leg in_stage.Opened has_come is h = h
-  keeps_end_on s leg (in_stage.Waits window timeout ended) has_come is h =
-      by_test (λ (x : Done). Stays has_come x.0) ended (unexpected s)
-      (took (with_in s (record leg { stage = in_stage.Waits window timeout true }))) (λ t. h)
-      (λ t. with_stays s (record leg { stage = in_stage.Waits window timeout true }) has_come is h)
-
-  keeps_end_at : (s : Server) (number : ℕ) (o : Option Which)
-      → Keeps s (end_a2_at s number o).0
-  keeps_end_at s number (Some which) has_come h =
-      by_test (λ (x : Done). Stays has_come x.0) (is_over_on s which) (unexpected s) _ (λ t. h)
-      (λ t. record { each = h.each; there = h.there; work = h.work })
-  keeps_end_at s number None has_come h =
-      by (in_leg number s.ins) (each_found IsStaying s.ins (in_place number s.ins) h.each)
-    where
-      by : (o : Option InLeg) → IfSome o IsStaying → Stays has_come (end_a2_waiting s o).0
-      by None is = h
-      by (Some leg) is = keeps_end_on s leg leg.stage has_come is h
-
-  keeps_end_a2 : (s : Server) (number : ℕ) (count : Count)
-      → Keeps s (on_end_a2 s number count).0
-  keeps_end_a2 s number count =
-      keeps_if s (is_first count) (unexpected s) (end_a2_at s number (channel_at s number))
-      (λ has_come h. h) (keeps_end_at s number (channel_at s number))
-
-  same_out_r1_a4 : (s : Server) (number : ℕ) (count : Count)
-      (connection predecessor successor : Cookie) (lifetime window timeout : ℕ)
-      → Same s
-      (on_out_r1_a4 s number count connection predecessor successor lifetime window timeout).0
-  same_out_r1_a4 s number count connection predecessor successor lifetime window timeout =
-      search rules
-
-  same_ack : (s : Server) (number : ℕ) (count : Count) (received window : ℕ) (cookie : Cookie)
-      → Same s (on_ack s number count received window cookie).0
-  same_ack s number count received window cookie = search rules
-
-  same_traffic : (s : Server) (count : Count) → Same s (on_ping_traffic s count).0
-  same_traffic s count = search rules
-
-  same_pdu : (s : Server) (leg : Leg) (count : Count) (bytes : List ℕ)
-      → Same s (pdu s leg count bytes).0
-  same_pdu s leg count bytes = search rules
+  Same = kept.Same n
 
   -- ---- with what came
 
@@ -469,7 +137,7 @@ module _ (n : ℕ) where
 
     same_row : (s : Server) (one : OnLeg) (came put : List OnLeg) (x : Done) → Same s x.0
         → Holds s came put → RowKeeps Holds one came put x
-    same_row s one came put x same = keep_row s one came put x (keeps_same s x.0 same)
+    same_row s one came put x same = keep_row s one came put x (keeps_same n s x.0 same)
 
     -- IN_R1/A6 comes on this leg, or on another
     leaving_row : (s : Server) (leg : Leg) (successor : Cookie) (came put : List OnLeg)
@@ -502,7 +170,7 @@ module _ (n : ℕ) where
             (λ t. h)
         by false e =
             keep_row s one came put (on_in_r1_a6 s leg.number successor)
-            (keeps_in_r1_a6 s leg.number successor
+            (keeps_in_r1_a6 n s leg.number successor
             (λ same. true≢false (sym (ap (λ (k : ℕ). nat_eq n k) same ∙ test_same n) ∙ e))) h
 
     is_row : (s : Server) (leg : Leg) (count : Count) (m : Named) (came put : List OnLeg)
@@ -512,29 +180,29 @@ module _ (n : ℕ) where
         put here h =
         keep_row s (leg, Packet (named.ConnB2 v connection cookie window timeout group address
         padding)) came put (on_conn_b2 s leg.number count connection cookie window timeout)
-        (keeps_conn_b2 s leg.number count connection cookie window timeout) h
+        (keeps_conn_b2 n s leg.number count connection cookie window timeout) h
     is_row s leg count (named.InR1A2 v connection predecessor successor window timeout) came put
         here h =
         keep_row s (leg, Packet (named.InR1A2 v connection predecessor successor window timeout))
         came put
         (on_in_r1_a2 s leg.number count connection predecessor successor window timeout)
-        (keeps_in_r1_a2 s leg.number count connection predecessor successor window timeout) h
+        (keeps_in_r1_a2 n s leg.number count connection predecessor successor window timeout) h
     is_row s leg count (named.InR1A6 successor) came put here h =
         leaving_row s leg successor came put here h
     is_row s leg count (named.InR2A2 successor) came put here h =
         same_row s (leg, Packet (named.InR2A2 successor)) came put
-        (on_in_r2_a2 s leg.number count successor) (same_in_r2_a2 s leg.number count successor) h
+        (on_in_r2_a2 s leg.number count successor) (same_in_r2_a2 n s leg.number count successor) h
     is_row s leg count (named.AckTo destination received window cookie) came put here h =
         same_row s (leg, Packet (named.AckTo destination received window cookie)) came put
         (on_ack_to s count destination received window cookie)
-        (same_ack_to s count destination received window cookie) h
+        (same_ack_to n s count destination received window cookie) h
     is_row s leg count (named.OutR1A8 destination successor) came put here h =
         same_row s (leg, Packet (named.OutR1A8 destination successor)) came put
         (on_out_r1_a8 s count destination successor)
-        (same_out_r1_a8 s count destination successor) h
+        (same_out_r1_a8 n s count destination successor) h
     is_row s leg count named.EndA2 came put here h =
         keep_row s (leg, Packet named.EndA2) came put (on_end_a2 s leg.number count)
-        (keeps_end_a2 s leg.number count) h
+        (keeps_end_a2 n s leg.number count) h
     is_row s leg count m came put here h = h
 
     os_row : (s : Server) (leg : Leg) (k : ℕ) (count : Count) (m : Named) (came put : List OnLeg)
@@ -542,20 +210,20 @@ module _ (n : ℕ) where
     os_row s leg k count (named.ConnA2 v connection cookie lifetime window) came put h =
         keep_row s (leg, Packet (named.ConnA2 v connection cookie lifetime window)) came put
         (on_conn_a2 s k count connection cookie lifetime window)
-        (keeps_conn_a2 s k count connection cookie lifetime window) h
+        (keeps_conn_a2 n s k count connection cookie lifetime window) h
     os_row s leg k count
         (named.OutR1A4 v connection predecessor successor lifetime window timeout) came put h =
         same_row s
         (leg, Packet (named.OutR1A4 v connection predecessor successor lifetime window timeout))
         came put
         (on_out_r1_a4 s k count connection predecessor successor lifetime window timeout)
-        (same_out_r1_a4 s k count connection predecessor successor lifetime window timeout) h
+        (same_out_r1_a4 n s k count connection predecessor successor lifetime window timeout) h
     os_row s leg k count (named.Ack received window cookie) came put h =
         same_row s (leg, Packet (named.Ack received window cookie)) came put
-        (on_ack s k count received window cookie) (same_ack s k count received window cookie) h
+        (on_ack s k count received window cookie) (same_ack n s k count received window cookie) h
     os_row s leg k count (named.PingTraffic bytes) came put h =
         same_row s (leg, Packet (named.PingTraffic bytes)) came put (on_ping_traffic s count)
-        (same_traffic s count) h
+        (same_traffic n s count) h
     os_row s leg k count m came put h = h
 
     packet_row : (s : Server) (leg : Leg) (count : Count) (m : Named) (came put : List OnLeg)
@@ -582,7 +250,7 @@ module _ (n : ℕ) where
 
     same_put : (s : Server) (pick : Pick) → PutSame s pick → Stays has_come s → PutStays pick
     same_put s None same h = tt
-    same_put s (Some one) same h = keeps_same s one.0 same has_come h
+    same_put s (Some one) same h = keeps_same n s one.0 same has_come h
 
     or_put : (a b : Pick) → PutStays a → PutStays b → PutStays (or_else a b)
     or_put None b h k = k
@@ -596,11 +264,11 @@ module _ (n : ℕ) where
     tells_put s leg tells.Nothing is h = tt
     tells_put s leg tells.ConnB3 is h =
         by_test PutStays (is_open s.stage) _ None
-        (λ t. with_stays s (record leg { tells = tells.Nothing }) has_come is h) (λ t. tt)
+        (λ t. with_stays n s (record leg { tells = tells.Nothing }) has_come is h) (λ t. tt)
     tells_put s leg tells.InR1B2 is h =
         by_test PutStays (was_current s leg) _ None
-        (λ t. with_stays (told_by s leg.number) (record leg { tells = tells.Nothing }) has_come is
-        (keeps_same s (told_by s leg.number) (same_told s leg.number) has_come h)) (λ t. tt)
+        (λ t. with_stays n (told_by s leg.number) (record leg { tells = tells.Nothing }) has_come is
+        (keeps_same n s (told_by s leg.number) (same_told s leg.number) has_come h)) (λ t. tt)
 
     -- IN_R1/B1 goes on a leg that stays no more
     b1_put : (s : Server) (leg : InLeg) (x : Leaving) → leg.leaving ≡ x → IsStaying leg
@@ -609,7 +277,7 @@ module _ (n : ℕ) where
     b1_put s leg leaving.Left same is h = tt
     b1_put s leg leaving.Lost same is h = tt
     b1_put s leg leaving.InR1B1 same is h =
-        with_stays s (record leg { leaving = leaving.Left }) has_come
+        with_stays n s (record leg { leaving = leaving.Left }) has_come
         (λ number. absurd (true≢false (sym (ap stays (is number)) ∙ ap stays same))) h
 
     same_put_ack : (s : Server) (leg : InLeg) → PutSame s (put_ack s leg)
@@ -621,7 +289,7 @@ module _ (n : ℕ) where
     in_put s (Some leg) is h =
         or_put (put_in_greeting s leg) _
         (by_test PutStays (is_due leg.greeting) _ None
-        (λ t. with_stays s (record leg { greeting = greeting.Put }) has_come is h) (λ t. tt))
+        (λ t. with_stays n s (record leg { greeting = greeting.Put }) has_come is h) (λ t. tt))
         (or_put (put_tells s leg) _ (tells_put s leg leg.tells is h)
         (or_put (put_b1 s leg) (put_ack s leg) (b1_put s leg leg.leaving refl is h)
         (same_put s (put_ack s leg) (same_put_ack s leg) h)))
@@ -643,7 +311,7 @@ module _ (n : ℕ) where
         found w None = tt
         found w (Some due) =
             let t : Server = record s { waiting = w } in
-            keeps_same t (was_put t place due.packet) (same_was_put t place due.packet) has_come
+            keeps_same n t (was_put t place due.packet) (same_was_put t place due.packet) has_come
             (record { each = h.each; there = h.there; work = h.work })
 
     same_put_pdu : (s : Server) (place : ℕ) (o : Option ℕ) → PutSame s (pdu_by s place o)
@@ -654,7 +322,7 @@ module _ (n : ℕ) where
 
     settled_put : (pick : Pick) → PutStays pick → PutStays (settled_pick pick)
     settled_put None h = tt
-    settled_put (Some pick) h = keeps_settled pick.0 has_come h
+    settled_put (Some pick) h = keeps_settled n pick.0 has_come h
 
     next_put : (s : Server) (place : ℕ) → Stays has_come s → PutStays (next_out s place)
     next_put s place h =
@@ -737,7 +405,7 @@ module _ (n : ℕ) where
   keeps_drawn s number InServer has_come h =
       by_test (Stays has_come) (in_is_drawn (in_leg number s.ins))
       (settled (without_in s number)) s
-      (λ t. keeps_settled (without_in s number) has_come (keeps_without s number t has_come h))
+      (λ t. keeps_settled n (without_in s number) has_come (keeps_without s number t has_come h))
       (λ t. h)
   keeps_drawn s number OutServer has_come h = h
   keeps_drawn s number ClientIn has_come h = h
@@ -758,7 +426,7 @@ module _ (n : ℕ) where
     head = λ s leg text came put none h. h;
     pdu = λ s leg count bytes came put.
         same_row has_come s (leg, Pdu bytes) came put (pdu s leg count bytes)
-        (same_pdu s leg count bytes);
+        (same_pdu n s leg count bytes);
     packet = packet_row has_come;
     put = puts has_come;
     drawn = λ s leg came put.
@@ -770,17 +438,17 @@ module _ (n : ℕ) where
   calls has_come = record {
     give = λ s bytes came put.
         hold has_come s (give s bytes).0 came put put
-        (keeps_same s (give s bytes).0 (same_give s bytes) has_come);
+        (keeps_same n s (give s bytes).0 (same_give s bytes) has_come);
     take = λ s came put.
         hold has_come s (take s) came put put
-        (λ h. keeps_moved s.line.has_next (record s { line = after_take s.line }) has_come
+        (λ h. keeps_moved n s.line.has_next (record s { line = after_take s.line }) has_come
         (record { each = h.each; there = h.there; work = h.work }));
     close = λ s came put.
         hold has_come s (close s) came put put
         (λ h. record { each = h.each; there = h.there; work = h.work });
     recycle = λ s came put.
         hold has_come s (recycle s).0 came put put
-        (keeps_same s (recycle s).0 (same_recycle s) has_come);
+        (keeps_same n s (recycle s).0 (same_recycle s) has_come);
   }
 
   -- ---- the leg comes up
