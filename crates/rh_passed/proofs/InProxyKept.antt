@@ -1,8 +1,7 @@
 -- what an in proxy keeps while it loses no leg: its work is done behind IN_R1/A6 alone
-use Rattle.std.proofs.Common.{◌≡◌, ◌⊎◌, inl, inr, ℕ, ◌+◌, ◌<◌, ◌≤◌, ◌==◌, Bool, true, false, true≢false, ◌&&◌, ◌||◌, not, List, [], ◌∷◌, length, Some, None, Ok, Err, nat_le, nat_lt, arith, refl, sym, ◌∙◌, subst, ap, rules}
+use Rattle.std.proofs.Common.{◌≡◌, ℕ, ◌==◌, Bool, true, false, true≢false, ◌&&◌, not, List, [], ◌∷◌, length, Some, None, Ok, Err, nat_le, arith, refl, sym, ◌∙◌, subst, ap, rules}
 use Rattle.std.proofs.lemmas.Bool.{and_parts}
 use Rattle.std.proofs.lemmas.Bool.Decides.{nat_tests}
-use Rattle.std.specs.List.{AllByRecursion}
 use Rattle.std.specs.Prelude.{if◌then◌else◌, IfSome}
 use Rattle.std.specs.declared.option.Option.{Option}
 use Rattle.std.specs.declared.result.Result.{Result}
@@ -18,23 +17,16 @@ use Rattle.rh_line.specs.declared.which.Which.{Which}
 use Rattle.rh_line.specs.declared.which.Which.TheVariants.{Current, Next}
 use Rattle.rh_line.specs.Lines as line
 use Rattle.rh_window.specs.Sending.{may_send, after_sent}
-use Rattle.rh_order.specs.Items.{has_handover}
-use Rattle.rh_order.proofs.ByNumber.{by_test, same_number}
+use Rattle.rh_order.proofs.ByNumber.{by_test}
 use Rattle.rh_shell.specs.declared.answers.Count.{Count}
 use Rattle.rh_shell.specs.declared.answers.HeadRefused.{HeadRefused}
 use Rattle.rh_shell.specs.declared.answers.HeadTaken.{HeadTaken}
-use Rattle.rh_shell.specs.declared.answers.Phase.{Phase}
-use Rattle.rh_shell.specs.declared.answers.Phase.TheVariants as phases
 use Rattle.rh_shell.specs.declared.answers.Refused.TheVariants as refused
 use Rattle.rh_shell.specs.declared.due.Due.{Due}
-use Rattle.rh_shell.specs.NearEnds.{is_ended}
 use Rattle.rh_shell.specs.Rules.{Message, Pdu, Packet}
-use Rattle.rh_shell.specs.Moves.{Move, OnLeg, started, all_moved, is_in_use}
-use Rattle.rh_inproxy.specs.declared.state.ClientLeg.{ClientLeg}
 use Rattle.rh_inproxy.specs.declared.state.Handover.{Handover}
 use Rattle.rh_inproxy.specs.declared.state.Handover.TheVariants.{Before, Came, Passed}
 use Rattle.rh_inproxy.specs.declared.state.InProxyConfig.{InProxyConfig}
-use Rattle.rh_inproxy.specs.declared.state.Joining.{Joining}
 use Rattle.rh_inproxy.specs.declared.state.Joining.TheVariants.{TellsServer, Told, Follows}
 use Rattle.rh_inproxy.specs.declared.state.Opener.{Opener}
 use Rattle.rh_inproxy.specs.declared.state.Opening.{Opening}
@@ -45,20 +37,19 @@ use Rattle.rh_inproxy.specs.declared.state.Work.{Work}
 use Rattle.rh_inproxy.specs.declared.state.Work.TheVariants as works
 use Rattle.rh_inproxy.specs.Answers.{Done, Pick, or_else, taken, refuse, unexpected}
 use Rattle.rh_inproxy.specs.State.{InProxy, channel_of, first, followed, follows, has_a5, has_come, hands_over, is_client_leg, is_server_leg, same_cookie}
-use Rattle.rh_inproxy.specs.Opening.{accepted, accepts, accepts_later, channel_asked, connected, drawn, echo_asked, drawn_by, echo_by, first_by, had_client, head, head_by, is_absent, is_first, may_accept, newest, newest_by, on_conn_b1, on_conn_b3, on_first_in_r1_a1, opener_of, phase_by, put_echo, put_first, up, wants, was_up}
+use Rattle.rh_inproxy.specs.Opening.{accepted, accepts, accepts_later, channel_asked, connected, drawn, echo_asked, drawn_by, echo_by, head_by, is_absent, is_first, may_accept, on_conn_b1, on_conn_b3, on_first_in_r1_a1, opener_of, put_echo, put_first, up, wants}
 use Rattle.rh_inproxy.specs.Acknowledging.{ack_by, ack_due, current_ack, next_ack, on_ack, on_ack_to, put_ack, put_acks}
-use Rattle.rh_inproxy.specs.Ending.{is_done, is_over, is_succeeded, newest_ended, is_drained, on_end_a1, put_end, settled, settled_pick}
-use Rattle.rh_inproxy.specs.InReplacement.{finish_by, finished, hand_over, handed_over, has_passed, is_newcomer, join, joined, mark_by, on_in_r1_a1, on_in_r1_a5, on_in_r1_b1, on_in_r1_b2, on_later_in_r1_a1, one_less, put_in_r1_a6, put_in_r2_a2, told_by}
+use Rattle.rh_inproxy.specs.Ending.{is_over, newest_ended, is_drained, on_end_a1, put_end, settled, settled_pick}
+use Rattle.rh_inproxy.specs.InReplacement.{finish_by, finished, handed_over, has_passed, is_newcomer, join, joined, mark_by, on_in_r1_a1, on_in_r1_a5, on_in_r1_b2, on_later_in_r1_a1, one_less, put_in_r1_a6, put_in_r2_a2, told_by}
 use Rattle.rh_inproxy.specs.OutReplacement.{on_out_r1_a7}
-use Rattle.rh_inproxy.specs.Order.{KeepsOrder, came_log}
 use Rattle.rh_inproxy.specs.Passing.{next_pdu, put_pdu}
 use Rattle.rh_inproxy.specs.Putting.{next, waiting_by, put_waiting, put_control, put_early, put_stream, put_behind, put_mark}
 use Rattle.rh_inproxy.specs.Putting.{put as put_of}
 use Rattle.rh_inproxy.specs.Time.{on_keep_alive, ping, put_ping}
 use Rattle.rh_inproxy.specs.Machine.{pdu, packet, on_channel, on_channel_by, on_ci, on_is}
 use Rattle.rh_inproxy.specs.Machine.{rules as proxy_rules}
-use Rattle.rh_passed.specs.Passed.{AsksNoEcho, IsDoneBehindMark, LosesNone, ci_leg}
-use Rattle.rh_passed.proofs.Steps.{StepsKeep, moves_keep, of_role, role_row}
+use Rattle.rh_passed.specs.Passed.{AsksNoEcho}
+use Rattle.rh_passed.proofs.Steps.{StepsKeep, of_role, role_row}
 
 -- what the fact is about
 pub record Seen : Type 0 where
@@ -272,8 +263,10 @@ module _ (config : InProxyConfig) where
   channel_fine : (s : InProxy) (which : Which) (named : Named) → Fine s
       → Fine (on_channel s which named).0
   channel_fine s which (AckTo to received available channel) h =
-      same_fine s (on_ack_to s which to received available channel).0 (same_ack_to s which to received available channel) h
-  channel_fine s which (OutR1A7 to successor) h = same_fine s (on_out_r1_a7 s which to successor).0 (same_a7 s which to successor) h
+      same_fine s (on_ack_to s which to received available channel).0
+      (same_ack_to s which to received available channel) h
+  channel_fine s which (OutR1A7 to successor) h =
+      same_fine s (on_out_r1_a7 s which to successor).0 (same_a7 s which to successor) h
   channel_fine s which (KeepAlive keepalive) h =
       same_fine s (on_keep_alive s which keepalive).0 (same_keep_alive s which keepalive) h
   channel_fine s which EndA1 h = same_fine s (on_end_a1 s which).0 (same_end_a1 s which) h
@@ -286,7 +279,8 @@ module _ (config : InProxyConfig) where
   on_fine s (Some which) named h = channel_fine s which named h
 
   ci_fine : (s : InProxy) (n : ℕ) (named : Named) → Fine s → Fine (on_ci s n named).0
-  ci_fine s n (ConnB1 v1 v2 v3 v4 v5 v6) h = same_fine s (on_conn_b1 s n v2 v3 v5 v6).0 (same_conn_b1 s n v2 v3 v5 v6) h
+  ci_fine s n (ConnB1 v1 v2 v3 v4 v5 v6) h =
+      same_fine s (on_conn_b1 s n v2 v3 v5 v6).0 (same_conn_b1 s n v2 v3 v5 v6) h
   ci_fine s n (InR1A1 v1 v2 v3 v4) h = a1_fine s n v2 v3 v4 h
   ci_fine s n packet h = on_fine s (channel_of s n) packet h
 

@@ -1,5 +1,5 @@
 -- on the os leg of an out proxy that has no more use for it, OUT_R1/A9 came
-use Rattle.std.proofs.Common.{◌≡◌, ℕ, ◌==◌, Bool, true, false, true≢false, ◌&&◌, ◌||◌, not, List, [], ◌∷◌, Some, None, Ok, Err, nat_le, arith, refl, sym, ◌∙◌, subst, ap, rules}
+use Rattle.std.proofs.Common.{◌≡◌, ℕ, ◌==◌, Bool, true, false, true≢false, ◌&&◌, ◌||◌, not, List, Some, None, Ok, Err, nat_le, refl, sym, ◌∙◌, subst, rules}
 use Rattle.std.proofs.lemmas.Bool.{and_parts}
 use Rattle.std.specs.List.{AllByRecursion}
 use Rattle.std.specs.Prelude.{if◌then◌else◌, IfSome}
@@ -19,7 +19,7 @@ use Rattle.rh_shell.specs.declared.answers.HeadTaken.{HeadTaken}
 use Rattle.rh_shell.specs.declared.answers.Phase.TheVariants as phases
 use Rattle.rh_shell.specs.NearEnds.{is_ended}
 use Rattle.rh_shell.specs.Rules.{Message, Pdu, Packet}
-use Rattle.rh_shell.specs.Moves.{Move, OnLeg, started, all_moved, is_in_use}
+use Rattle.rh_shell.specs.Moves.{Move, started, all_moved, is_in_use}
 use Rattle.rh_outproxy.specs.declared.state.Answer.{Answer}
 use Rattle.rh_outproxy.specs.declared.state.Answer.TheVariants as answers
 use Rattle.rh_outproxy.specs.declared.state.Channel.{Channel}
@@ -28,7 +28,7 @@ use Rattle.rh_outproxy.specs.declared.state.OutProxyConfig.{OutProxyConfig}
 use Rattle.rh_outproxy.specs.declared.state.ServerLeg.{ServerLeg}
 use Rattle.rh_outproxy.specs.OutProxy.{OutProxy, is_echo_drawn, is_echo_put, is_over, is_put, is_server_down, is_server_first, is_server_marked, new_proxy}
 use Rattle.rh_outproxy.specs.Rows.{Done, is_co, is_os, unexpected}
-use Rattle.rh_outproxy.specs.Opening.{up, asked, head, head_by, was_up, first_packet}
+use Rattle.rh_outproxy.specs.Opening.{up, head_by, was_up, first_packet}
 use Rattle.rh_outproxy.specs.Ending.{drawn}
 use Rattle.rh_outproxy.specs.Order.{KeepsOrder, came_log, server_leg}
 use Rattle.rh_outproxy.specs.Putting.{Pick, or_else, answer_by, behind_response, put_answer, put_waiting, put_pdu, put_mark, put_ping, next_co, first_by, put_first, put_ack, next_os}

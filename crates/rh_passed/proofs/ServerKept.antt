@@ -1,60 +1,34 @@
 -- what the rows of a server do to an is leg that stays: no IN_R1/A6 came there
-use Rattle.std.proofs.Common.{◌≡◌, ◌⊎◌, inl, inr, ℕ, ◌+◌, ◌==◌, Bool, true, false, true≢false, cond, not, ◌&&◌, ◌||◌, nat_eq, List, [], ◌∷◌, ◌++◌, Some, None, Ok, Err, refl, rules, sym, ap, ◌∙◌, subst}
+use Rattle.std.proofs.Common.{◌≡◌, ℕ, ◌==◌, Bool, true, false, true≢false, cond, not, ◌&&◌, ◌||◌, List, [], ◌∷◌, Some, None, refl, rules, sym, ap, ◌∙◌, subst}
 use Rattle.std.proofs.lemmas.Bool.{and_parts}
-use Rattle.std.specs.Prelude.{if◌then◌else◌, IfSome, IsTrue, slice_get, nat_lt}
-use Rattle.std.specs.List.{AllByRecursion, list_all}
+use Rattle.std.specs.Prelude.{if◌then◌else◌, IfSome}
+use Rattle.std.specs.List.{AllByRecursion}
 use Rattle.std.specs.declared.option.Option.{Option}
-use Rattle.std.specs.declared.result.Result.{Result}
 use Rattle.rh_rts.specs.declared.command.Cookie.{Cookie}
-use Rattle.rh_sig.specs.declared.named.Named.{Named}
-use Rattle.rh_sig.specs.declared.named.Named.TheVariants as named
-use Rattle.rh_window.specs.declared.recv_window.Ack.{Ack}
 use Rattle.rh_line.specs.declared.leg.Leg.{Leg}
-use Rattle.rh_line.specs.declared.leg.LegKind.{LegKind}
-use Rattle.rh_line.specs.declared.leg.LegKind.TheVariants.{ClientOut, OutServer, ClientIn, InServer}
 use Rattle.rh_line.specs.declared.which.Which.{Which}
-use Rattle.rh_line.specs.Lines.{after_finish, after_take}
-use Rattle.rh_line.proofs.Queues.{each_push}
-use Rattle.rh_order.specs.Items.{Item, Handover, has_handover}
-use Rattle.rh_order.proofs.ByNumber.{by_test, same_number, test_same}
-use Rattle.rh_order.proofs.ItemLists.{has_handover-append}
+use Rattle.rh_line.specs.Lines.{after_finish}
+use Rattle.rh_order.proofs.ByNumber.{by_test, same_number}
 use Rattle.rh_shell.specs.declared.answers.Count.{Count}
 use Rattle.rh_shell.specs.declared.answers.Refused.TheVariants as refused
-use Rattle.rh_shell.specs.declared.due.Due.{Due}
 use Rattle.rh_shell.specs.NearEnds.{is_ended}
-use Rattle.rh_shell.specs.Waiting.{Waiting, taken}
-use Rattle.rh_line.specs.Queue.{front_length}
-use Rattle.rh_shell.specs.Shells.{is_of}
-use Rattle.rh_shell.specs.Rules.{Message, Pdu, Packet}
-use Rattle.rh_shell.specs.Moves.{OnLeg, Move, Up, HeadCame, PduCame, PacketCame, Puts, IsDrawn, Marks, Pings, EndMove, Moves, Gives, Takes, Closes, Recycles, EndPassage, end_started, end_moved, all_end_moved, is_in_use, AreAllowedAtEnd, MayEndMove}
 use Rattle.rh_server.specs.declared.state.Stage.{Stage}
 use Rattle.rh_server.specs.declared.state.Stage.TheVariants as stage
 use Rattle.rh_server.specs.declared.state.Edge.TheVariants.{Shut}
 use Rattle.rh_server.specs.declared.state.InStage.{InStage}
 use Rattle.rh_server.specs.declared.state.InStage.TheVariants as in_stage
 use Rattle.rh_server.specs.declared.state.InLeg.{InLeg}
-use Rattle.rh_server.specs.declared.state.Leaving.{Leaving}
 use Rattle.rh_server.specs.declared.state.Leaving.TheVariants as leaving
-use Rattle.rh_server.specs.declared.state.OutLeg.{OutLeg}
-use Rattle.rh_server.specs.declared.state.Greeting.TheVariants as greeting
-use Rattle.rh_server.specs.declared.state.Tells.{Tells}
-use Rattle.rh_server.specs.declared.state.Tells.TheVariants as tells
 use Rattle.rh_server.specs.declared.out_line.Kind.TheVariants as kind
-use Rattle.rh_server.specs.OutLines.{Gate, lets, waits}
-use Rattle.rh_server.specs.States.{Server, has_left, in_at, in_leg, in_place, is_due, is_fresh, is_lost, is_open, is_put, is_shut, out_place, phase_of, same_cookie, stays, with_in, without_in}
-use Rattle.rh_server.specs.Opening.{Done, took, refuse, unexpected, is_first, in_leg_up, may_up, up, up_by, opens, with_first_out, conn_a2_at, on_conn_a2, first_in, with_first_in, conn_b2_at, on_conn_b2}
+use Rattle.rh_server.specs.OutLines.{waits}
+use Rattle.rh_server.specs.States.{Server, in_leg, in_place, is_fresh, is_lost, is_open, is_put, phase_of, same_cookie, with_in}
+use Rattle.rh_server.specs.Opening.{Done, took, refuse, unexpected, is_first, opens, with_first_out, conn_a2_at, on_conn_a2, first_in, with_first_in, conn_b2_at, on_conn_b2}
 use Rattle.rh_server.specs.Acknowledging.{channel_at, on_ack_to, on_ack, on_ping_traffic}
-use Rattle.rh_server.specs.InReplacement.{opens_next, opens_leg, first_waiting, waiting_place, next_opened, becomes_current, moved_if, take, announced, in_r1_a2_by, in_r1_a2_at, on_in_r1_a2, has_fresh_below, leaves, leaves_by, hands_over, on_in_r1_a6, on_in_r2_a2}
-use Rattle.rh_server.specs.OutReplacement.{asks, recycle, wishes, wished, on_out_r1_a4, on_out_r1_a8}
-use Rattle.rh_server.specs.Ending.{are_lost, close, completed, drawn, drawn_by, end_a2_at, end_a2_on_leg, end_a2_waiting, give, in_is_done, in_is_drawn, is_complete, is_done, is_over_on, on_end_a2, settled}
-use Rattle.rh_server.specs.Order.{came_up, got, in_items, is_up, items_if, items_on}
-use Rattle.rh_server.specs.Putting.{Pick, or_else, put_in_greeting, put_tells_by, put_tells, told_by, was_current, put_b1_by, put_b1, put_ack, put_in_by, gate_at, next_out, out_greeting_at, pdu_by, put_by, put_end, put_open, put_out_at, put_out_greeting, put_pdu, put_pdu_or_end, put_waiting, settled_pick, waiting_at, waiting_by, was_put}
-use Rattle.rh_server.specs.Servers.{acts, first, pdu, packet, packet_by, on_is, on_os}
-use Rattle.rh_server.specs.Servers.{rules as server_rules}
-use Rattle.rh_passages.proofs.Logs.{RowKeeps, PutKeeps, ActsKeep}
-use Rattle.rh_passed.specs.Passed.{IsDoneBehindMark, LosesNoneAtEnd, is_leg}
-use Rattle.rh_passed.proofs.ServerLegs.{has_number, each_found, each_set, each_gone, found_number, IsFound, number_set, number_gone, number_more, number_last}
-use Rattle.rh_passed.proofs.Steps.{StepsKeep, end_move_keeps, end_moves_keep}
+use Rattle.rh_server.specs.InReplacement.{opens_next, opens_leg, first_waiting, waiting_place, next_opened, becomes_current, moved_if, announced, in_r1_a2_by, in_r1_a2_at, on_in_r1_a2, has_fresh_below, leaves, leaves_by, hands_over, on_in_r1_a6, on_in_r2_a2}
+use Rattle.rh_server.specs.OutReplacement.{wished, on_out_r1_a4, on_out_r1_a8}
+use Rattle.rh_server.specs.Ending.{are_lost, completed, end_a2_at, end_a2_on_leg, end_a2_waiting, is_complete, is_over_on, on_end_a2, settled}
+use Rattle.rh_server.specs.Servers.{pdu}
+use Rattle.rh_passed.proofs.ServerLegs.{has_number, each_found, each_set, found_number, IsFound, number_set}
 
 -- ---- the is legs that are kept
 

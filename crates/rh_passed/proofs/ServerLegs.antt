@@ -1,10 +1,10 @@
 -- the is legs that a server keeps: what holds of each, and whether one has a number
-use Rattle.std.proofs.Common.{◌≡◌, ℕ, zero, suc, ◌+◌, ◌==◌, ◌||◌, cond, nat_eq, nat_lt, List, [], ◌∷◌, ◌++◌, length, Bool, true, false, true≢false, not, Some, None, arith, refl, sym, ap, ◌∙◌, subst}
-use Rattle.std.specs.Prelude.{position, find, slice_get, slice_set, remove, IfSome}
-use Rattle.std.specs.List.{AllByRecursion, list_all, position_or_len}
+use Rattle.std.proofs.Common.{◌≡◌, ℕ, zero, suc, ◌+◌, ◌==◌, cond, nat_lt, List, [], ◌∷◌, ◌++◌, length, Bool, true, false, true≢false, not, Some, None, arith, refl, sym, ap, ◌∙◌, subst}
+use Rattle.std.specs.Prelude.{position, slice_get, slice_set, remove, IfSome}
+use Rattle.std.specs.List.{AllByRecursion, position_or_len}
 use Rattle.std.specs.declared.option.Option.{Option}
 use Rattle.std.proofs.lemmas.Bool.Decides.{nat_tests}
-use Rattle.rh_order.proofs.ByNumber.{same_number, other_number, test_same, test_other}
+use Rattle.rh_order.proofs.ByNumber.{same_number, test_same}
 use Rattle.rh_server.specs.declared.state.InLeg.{InLeg}
 use Rattle.rh_server.specs.States.{in_place, in_at, in_leg, set_at, removed_at}
 

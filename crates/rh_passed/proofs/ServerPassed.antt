@@ -1,19 +1,16 @@
 -- on an is leg for which a server has no more use, IN_R1/A6 came
-use Rattle.std.proofs.Common.{◌≡◌, ◌⊎◌, inl, inr, ℕ, ◌+◌, ◌==◌, Bool, true, false, true≢false, cond, not, ◌&&◌, ◌||◌, nat_eq, List, [], ◌∷◌, ◌++◌, Some, None, Ok, Err, refl, rules, sym, ap, ◌∙◌, subst}
+use Rattle.std.proofs.Common.{◌≡◌, ◌⊎◌, inl, inr, ℕ, ◌==◌, Bool, true, false, true≢false, not, ◌&&◌, ◌||◌, nat_eq, List, [], ◌∷◌, ◌++◌, Some, None, Ok, Err, refl, rules, sym, ap, ◌∙◌}
 use Rattle.std.proofs.lemmas.Bool.{and_parts}
-use Rattle.std.specs.Prelude.{if◌then◌else◌, IfSome, IsTrue, slice_get, nat_lt}
-use Rattle.std.specs.List.{AllByRecursion, list_all}
+use Rattle.std.specs.Prelude.{if◌then◌else◌, IfSome, slice_get}
+use Rattle.std.specs.List.{AllByRecursion}
 use Rattle.std.specs.declared.option.Option.{Option}
-use Rattle.std.specs.declared.result.Result.{Result}
 use Rattle.rh_rts.specs.declared.command.Cookie.{Cookie}
 use Rattle.rh_sig.specs.declared.named.Named.{Named}
 use Rattle.rh_sig.specs.declared.named.Named.TheVariants as named
-use Rattle.rh_window.specs.declared.recv_window.Ack.{Ack}
 use Rattle.rh_line.specs.declared.leg.Leg.{Leg}
 use Rattle.rh_line.specs.declared.leg.LegKind.{LegKind}
 use Rattle.rh_line.specs.declared.leg.LegKind.TheVariants.{ClientOut, OutServer, ClientIn, InServer}
-use Rattle.rh_line.specs.declared.which.Which.{Which}
-use Rattle.rh_line.specs.Lines.{after_finish, after_take}
+use Rattle.rh_line.specs.Lines.{after_take}
 use Rattle.rh_line.proofs.Queues.{each_push}
 use Rattle.rh_order.specs.Items.{Item, Handover, has_handover}
 use Rattle.rh_order.proofs.ByNumber.{by_test, same_number, test_same}
@@ -26,12 +23,7 @@ use Rattle.rh_shell.specs.Waiting.{Waiting, taken}
 use Rattle.rh_line.specs.Queue.{front_length}
 use Rattle.rh_shell.specs.Shells.{is_of}
 use Rattle.rh_shell.specs.Rules.{Message, Pdu, Packet}
-use Rattle.rh_shell.specs.Moves.{OnLeg, Move, Up, HeadCame, PduCame, PacketCame, Puts, IsDrawn, Marks, Pings, EndMove, Moves, Gives, Takes, Closes, Recycles, EndPassage, end_started, end_moved, all_end_moved, is_in_use, AreAllowedAtEnd, MayEndMove}
-use Rattle.rh_server.specs.declared.state.Stage.{Stage}
-use Rattle.rh_server.specs.declared.state.Stage.TheVariants as stage
-use Rattle.rh_server.specs.declared.state.Edge.TheVariants.{Shut}
-use Rattle.rh_server.specs.declared.state.InStage.{InStage}
-use Rattle.rh_server.specs.declared.state.InStage.TheVariants as in_stage
+use Rattle.rh_shell.specs.Moves.{OnLeg, Up, HeadCame, PduCame, PacketCame, Puts, IsDrawn, Marks, Pings, EndMove, Moves, Gives, Takes, Closes, Recycles, EndPassage, end_started, end_moved, all_end_moved, is_in_use, AreAllowedAtEnd, MayEndMove}
 use Rattle.rh_server.specs.declared.state.InLeg.{InLeg}
 use Rattle.rh_server.specs.declared.state.Leaving.{Leaving}
 use Rattle.rh_server.specs.declared.state.Leaving.TheVariants as leaving
@@ -41,19 +33,19 @@ use Rattle.rh_server.specs.declared.state.Tells.{Tells}
 use Rattle.rh_server.specs.declared.state.Tells.TheVariants as tells
 use Rattle.rh_server.specs.declared.out_line.Kind.TheVariants as kind
 use Rattle.rh_server.specs.OutLines.{Gate, lets, waits}
-use Rattle.rh_server.specs.States.{Server, has_left, in_at, in_leg, in_place, is_due, is_fresh, is_lost, is_open, is_put, is_shut, out_place, phase_of, same_cookie, stays, with_in, without_in}
-use Rattle.rh_server.specs.Opening.{Done, took, refuse, unexpected, is_first, in_leg_up, may_up, up, up_by, opens, with_first_out, conn_a2_at, on_conn_a2, first_in, with_first_in, conn_b2_at, on_conn_b2}
-use Rattle.rh_server.specs.Acknowledging.{channel_at, on_ack_to, on_ack, on_ping_traffic}
-use Rattle.rh_server.specs.InReplacement.{opens_next, opens_leg, first_waiting, waiting_place, next_opened, becomes_current, moved_if, take, announced, in_r1_a2_by, in_r1_a2_at, on_in_r1_a2, has_fresh_below, leaves, leaves_by, hands_over, on_in_r1_a6, on_in_r2_a2}
-use Rattle.rh_server.specs.OutReplacement.{asks, recycle, wishes, wished, on_out_r1_a4, on_out_r1_a8}
-use Rattle.rh_server.specs.Ending.{are_lost, close, completed, drawn, drawn_by, end_a2_at, end_a2_on_leg, end_a2_waiting, give, in_is_done, in_is_drawn, is_complete, is_done, is_over_on, on_end_a2, settled}
+use Rattle.rh_server.specs.States.{Server, has_left, in_leg, in_place, is_due, is_lost, is_open, out_place, phase_of, same_cookie, stays, without_in}
+use Rattle.rh_server.specs.Opening.{Done, took, refuse, unexpected, in_leg_up, may_up, up, up_by, on_conn_a2, on_conn_b2}
+use Rattle.rh_server.specs.Acknowledging.{on_ack_to, on_ack, on_ping_traffic}
+use Rattle.rh_server.specs.InReplacement.{take, on_in_r1_a2, hands_over, on_in_r1_a6, on_in_r2_a2}
+use Rattle.rh_server.specs.OutReplacement.{recycle, on_out_r1_a4, on_out_r1_a8}
+use Rattle.rh_server.specs.Ending.{close, drawn, drawn_by, give, in_is_done, in_is_drawn, on_end_a2, settled}
 use Rattle.rh_server.specs.Order.{came_up, got, in_items, is_up, items_if, items_on}
 use Rattle.rh_server.specs.Putting.{Pick, or_else, put_in_greeting, put_tells_by, put_tells, told_by, was_current, put_b1_by, put_b1, put_ack, put_in_by, gate_at, next_out, out_greeting_at, pdu_by, put_by, put_end, put_open, put_out_at, put_out_greeting, put_pdu, put_pdu_or_end, put_waiting, settled_pick, waiting_at, waiting_by, was_put}
 use Rattle.rh_server.specs.Servers.{acts, first, pdu, packet, packet_by, on_is, on_os}
 use Rattle.rh_server.specs.Servers.{rules as server_rules}
 use Rattle.rh_passages.proofs.Logs.{RowKeeps, PutKeeps, ActsKeep}
 use Rattle.rh_passed.specs.Passed.{IsDoneBehindMark, LosesNoneAtEnd, is_leg}
-use Rattle.rh_passed.proofs.ServerLegs.{has_number, each_found, each_set, each_gone, found_number, IsFound, number_set, number_gone, number_more, number_last}
+use Rattle.rh_passed.proofs.ServerLegs.{has_number, each_found, each_gone, found_number, IsFound, number_gone, number_more, number_last}
 use Rattle.rh_passed.proofs.Steps.{StepsKeep, end_move_keeps, end_moves_keep}
 use Rattle.rh_passed.proofs.ServerKept as kept
 use Rattle.rh_passed.proofs.ServerKept.{keeps_conn_a2, keeps_conn_b2, keeps_end_a2, keeps_in_r1_a2, keeps_in_r1_a6, keeps_moved, keeps_same, keeps_settled, same_ack, same_ack_to, same_in_r2_a2, same_out_r1_a4, same_out_r1_a8, same_pdu, same_traffic, with_stays}
@@ -178,8 +170,11 @@ module _ (n : ℕ) where
         → RowKeeps Holds (leg, Packet m) came put (on_is s leg.number count m)
     is_row s leg count (named.ConnB2 v connection cookie window timeout group address padding) came
         put here h =
-        keep_row s (leg, Packet (named.ConnB2 v connection cookie window timeout group address
-        padding)) came put (on_conn_b2 s leg.number count connection cookie window timeout)
+        keep_row s (
+          leg,
+          Packet (named.ConnB2 v connection cookie window timeout group address
+              padding),
+        ) came put (on_conn_b2 s leg.number count connection cookie window timeout)
         (keeps_conn_b2 n s leg.number count connection cookie window timeout) h
     is_row s leg count (named.InR1A2 v connection predecessor successor window timeout) came put
         here h =
