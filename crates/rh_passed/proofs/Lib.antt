@@ -1,4 +1,5 @@
 mod Steps
+mod Allowed
 mod OutProxyPassed
 mod InProxyKept
 mod InProxyPassed

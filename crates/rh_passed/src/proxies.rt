@@ -12,7 +12,8 @@ ghost use Rattle.rh_outproxy.specs.declared.state.OutProxyConfig.{OutProxyConfig
 ghost use Rattle.rh_outproxy.specs.Machine.{rules as out_rules};
 ghost use Rattle.rh_outproxy.specs.Order.{came_log as out_came, server_leg};
 ghost use Rattle.rh_outproxy.specs.OutProxy.{new_proxy};
-ghost use Rattle.rh_passed.specs.Passed.{AsksNoEcho, IsDoneBehindMark, LosesNone, ci_leg};
+ghost use Rattle.rh_passed.specs.Passed.{AsksNoEcho, HeadsAre, IsDoneBehindEnd};
+ghost use Rattle.rh_passed.specs.Passed.{IsDoneBehindMark, LosesNone, ci_leg};
 
 use rh_inproxy::an_in_proxy_keeps_order;
 use rh_outproxy::an_out_proxy_keeps_order;
@@ -30,15 +31,15 @@ pub fn an_in_proxy_is_done_behind_a_mark()
     an_in_proxy_keeps_order();
 }
 
-/// Whatever moves an out proxy makes, as long as no leg is marked and no head asks for an echo: on
-/// its os leg, if that came up and is in use no more, OUT_R1/A9 came.
+/// Whatever moves an out proxy makes, as long as no head asks for an echo: on its os leg, if that
+/// came up and is in use no more, OUT_R1/A9 or END/B1 came.
 pub fn an_out_proxy_is_done_behind_a_mark()
     ensures { (config : OutProxyConfig) (moves : List Move)
         → AreAllowed out_rules (started (new_proxy config)) moves
-        → AllByRecursion (LosesNone (AsksNoEcho false)) moves
+        → AllByRecursion (HeadsAre (AsksNoEcho false)) moves
         → (let p = all_moved out_rules (started (new_proxy config)) moves in
         (n : ℕ) → out_rules.was_up p.role (server_leg n) ≡ true
-        → IsDoneBehindMark out_rules p.role (server_leg n) (out_came p.came n)) }
+        → IsDoneBehindEnd out_rules p.role (server_leg n) (out_came p.came n)) }
 {
     an_out_proxy_keeps_order();
 }
