@@ -5,4 +5,5 @@ mod InProxyKept
 mod InProxyPassed
 mod ServerLegs
 mod ServerKept
+mod ServerCame
 mod ServerPassed

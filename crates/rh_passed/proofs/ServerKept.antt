@@ -8,7 +8,7 @@ use Rattle.rh_rts.specs.declared.command.Cookie.{Cookie}
 use Rattle.rh_line.specs.declared.leg.Leg.{Leg}
 use Rattle.rh_line.specs.declared.which.Which.{Which}
 use Rattle.rh_line.specs.Lines.{after_finish}
-use Rattle.rh_order.proofs.ByNumber.{by_test, same_number}
+use Rattle.rh_order.proofs.ByNumber.{by_test, same_number, test_same}
 use Rattle.rh_shell.specs.declared.answers.Count.{Count}
 use Rattle.rh_shell.specs.declared.answers.Refused.TheVariants as refused
 use Rattle.rh_shell.specs.NearEnds.{is_ended}
@@ -21,21 +21,22 @@ use Rattle.rh_server.specs.declared.state.InLeg.{InLeg}
 use Rattle.rh_server.specs.declared.state.Leaving.TheVariants as leaving
 use Rattle.rh_server.specs.declared.out_line.Kind.TheVariants as kind
 use Rattle.rh_server.specs.OutLines.{waits}
-use Rattle.rh_server.specs.States.{Server, in_leg, in_place, is_fresh, is_lost, is_open, is_put, phase_of, same_cookie, with_in}
+use Rattle.rh_server.specs.States.{Server, in_leg, in_place, is_fresh, is_lost, is_open, is_put, is_waiting, phase_of, same_cookie, stays, with_in, without_in}
 use Rattle.rh_server.specs.Opening.{Done, took, refuse, unexpected, is_first, opens, with_first_out, conn_a2_at, on_conn_a2, first_in, with_first_in, conn_b2_at, on_conn_b2}
 use Rattle.rh_server.specs.Acknowledging.{channel_at, on_ack_to, on_ack, on_ping_traffic}
 use Rattle.rh_server.specs.InReplacement.{opens_next, opens_leg, first_waiting, waiting_place, next_opened, becomes_current, moved_if, announced, in_r1_a2_by, in_r1_a2_at, on_in_r1_a2, has_fresh_below, leaves, leaves_by, hands_over, on_in_r1_a6, on_in_r2_a2}
 use Rattle.rh_server.specs.OutReplacement.{wished, on_out_r1_a4, on_out_r1_a8}
-use Rattle.rh_server.specs.Ending.{are_lost, completed, end_a2_at, end_a2_on_leg, end_a2_waiting, is_complete, is_over_on, on_end_a2, settled}
+use Rattle.rh_server.specs.Ending.{lost_in, waits_ended, are_lost, completed, end_a2_at, end_a2_on_leg, end_a2_waiting, is_complete, is_over_on, on_end_a2, settled}
 use Rattle.rh_server.specs.Servers.{pdu}
-use Rattle.rh_passed.proofs.ServerLegs.{has_number, each_found, each_set, found_number, IsFound, number_set}
+use Rattle.rh_passed.proofs.ServerLegs.{IsFound, each_found, each_gone, each_set, found_number, has_number, number_gone, number_set}
 
 -- ---- the is legs that are kept
 
 module _ (n : ℕ) where
-  -- the leg of this number stays
+  -- the leg of this number stays, and no END waits there
   abbrev pub IsStaying : InLeg → Type 0
-  IsStaying leg = leg.number ≡ n → leg.leaving ≡ leaving.Stays
+  IsStaying leg =
+      leg.number ≡ n → (leg.leaving ≡ leaving.Stays) × (waits_ended leg.stage ≡ false)
 
   -- and is there, once it came up, while the work is not done
   pub record Stays (has_come : Bool) (s : Server) : Type 0 where
@@ -97,7 +98,7 @@ module _ (n : ℕ) where
           → (has_number n legs ≡ true → are_lost legs ≡ true → ⊥) → ⊥
       by true is t rest =
           true≢false (sym (and_parts (is_lost leg.leaving) (are_lost legs) f).0
-          ∙ ap is_lost (each.0 (same_number leg.number n is)))
+          ∙ ap is_lost (each.0 (same_number leg.number n is)).0)
       by false is t rest = rest t (and_parts (is_lost leg.leaving) (are_lost legs) f).1
 
   -- the work is not done while the leg stays
@@ -132,7 +133,8 @@ module _ (n : ℕ) where
   keeps_opens s leg in_stage.Opened has_come is h = h
   keeps_opens s leg (in_stage.Waits window timeout ended) has_come is h =
       record {
-        each = each_set IsStaying s.ins _ (in_place leg.number s.ins) is h.each;
+        each = each_set IsStaying s.ins _ (in_place leg.number s.ins)
+            (λ same. ((is same).0, refl)) h.each;
         there = λ e. number_set n s.ins _ ∙ h.there e;
         work = h.work;
       }
@@ -186,7 +188,8 @@ module _ (n : ℕ) where
       by : (o : Option InLeg) → IfSome o IsStaying → Stays has_come (first_in s cookie o)
       by None is = h
       by (Some leg) is = record {
-        each = each_set IsStaying s.ins _ (in_place leg.number s.ins) is h.each;
+        each = each_set IsStaying s.ins _ (in_place leg.number s.ins)
+            (λ same. ((is same).0, refl)) h.each;
         there = λ e. number_set n s.ins _ ∙ h.there e;
         work = h.work;
       }
@@ -247,7 +250,8 @@ module _ (n : ℕ) where
       (record s { newest = record { leg = leg.number; cookie = successor } })
       (record leg { cookie = successor; stage = in_stage.Waits window timeout false }))
       has_come (record {
-        each = each_set IsStaying s.ins _ (in_place leg.number s.ins) is h.each;
+        each = each_set IsStaying s.ins _ (in_place leg.number s.ins)
+            (λ same. ((is same).0, refl)) h.each;
         there = λ e. number_set n s.ins _ ∙ h.there e;
         work = h.work;
       })
@@ -334,32 +338,36 @@ module _ (n : ℕ) where
       → Same s (on_out_r1_a8 s count destination successor).0
   same_out_r1_a8 s count destination successor = search rules
 
-  keeps_end_on : (s : Server) (leg : InLeg) (at : InStage) (has_come : Bool) → IsStaying leg
-      → Stays has_come s → Stays has_come (end_a2_on_leg s leg at).0
-  keeps_end_on s leg in_stage.Fresh has_come is h = h
-  keeps_end_on s leg in_stage.Opened has_come is h = h
-  keeps_end_on s leg (in_stage.Waits window timeout ended) has_come is h =
+  -- END comes on another leg
+  keeps_end_on : (s : Server) (leg : InLeg) (at : InStage) (has_come : Bool)
+      → (leg.number ≡ n → ⊥) → Stays has_come s → Stays has_come (end_a2_on_leg s leg at).0
+  keeps_end_on s leg in_stage.Fresh has_come other h = h
+  keeps_end_on s leg in_stage.Opened has_come other h = h
+  keeps_end_on s leg (in_stage.Waits window timeout ended) has_come other h =
       by_test (λ (x : Done). Stays has_come x.0) ended (unexpected s)
       (took (with_in s (record leg { stage = in_stage.Waits window timeout true }))) (λ t. h)
-      (λ t. with_stays s (record leg { stage = in_stage.Waits window timeout true }) has_come is h)
+      (λ t. with_stays s (record leg { stage = in_stage.Waits window timeout true }) has_come
+      (λ same. absurd (other same)) h)
 
-  keeps_end_at : (s : Server) (number : ℕ) (o : Option Which)
+  keeps_end_at : (s : Server) (number : ℕ) (o : Option Which) → (number ≡ n → ⊥)
       → Keeps s (end_a2_at s number o).0
-  keeps_end_at s number (Some which) has_come h =
+  keeps_end_at s number (Some which) other has_come h =
       by_test (λ (x : Done). Stays has_come x.0) (is_over_on s which) (unexpected s) _ (λ t. h)
       (λ t. record { each = h.each; there = h.there; work = h.work })
-  keeps_end_at s number None has_come h =
-      by (in_leg number s.ins) (each_found IsStaying s.ins (in_place number s.ins) h.each)
+  keeps_end_at s number None other has_come h =
+      by (in_leg number s.ins) (found_number number s.ins)
     where
-      by : (o : Option InLeg) → IfSome o IsStaying → Stays has_come (end_a2_waiting s o).0
+      by : (o : Option InLeg) → IsFound number (has_number number s.ins) o
+          → Stays has_come (end_a2_waiting s o).0
       by None is = h
-      by (Some leg) is = keeps_end_on s leg leg.stage has_come is h
+      by (Some leg) is =
+          keeps_end_on s leg leg.stage has_come (λ same. other (sym is ∙ same)) h
 
-  pub keeps_end_a2 : (s : Server) (number : ℕ) (count : Count)
+  pub keeps_end_a2 : (s : Server) (number : ℕ) (count : Count) → (number ≡ n → ⊥)
       → Keeps s (on_end_a2 s number count).0
-  keeps_end_a2 s number count =
+  keeps_end_a2 s number count other =
       keeps_if s (is_first count) (unexpected s) (end_a2_at s number (channel_at s number))
-      (λ has_come h. h) (keeps_end_at s number (channel_at s number))
+      (λ has_come h. h) (keeps_end_at s number (channel_at s number) other)
 
   pub same_out_r1_a4 : (s : Server) (number : ℕ) (count : Count)
       (connection predecessor successor : Cookie) (lifetime window timeout : ℕ)
@@ -378,3 +386,29 @@ module _ (n : ℕ) where
   pub same_pdu : (s : Server) (leg : Leg) (count : Count) (bytes : List ℕ)
       → Same s (pdu s leg count bytes).0
   same_pdu s leg count bytes = search rules
+
+  -- ---- a leg is lost
+
+  pub keeps_gone : (s : Server) (number : ℕ) → (number == n) ≡ false
+      → Keeps s (without_in s number)
+  keeps_gone s number other has_come h = record {
+    each = each_gone IsStaying s.ins (in_place number s.ins) h.each;
+    there = λ e. number_gone n number s.ins other ∙ h.there e;
+    work = h.work;
+  }
+
+  pub keeps_lost : (s : Server) (number : ℕ) → (number == n) ≡ false
+      → Keeps s (lost_in s number (in_leg number s.ins))
+  keeps_lost s number other has_come h =
+      by (in_leg number s.ins) (found_number number s.ins)
+    where
+      by : (o : Option InLeg) → IsFound number (has_number number s.ins) o
+          → Stays has_come (lost_in s number o)
+      by None is = keeps_gone s number other has_come h
+      by (Some leg) is =
+          by_test (Stays has_come) (is_waiting leg.stage && stays leg.leaving)
+          (with_in s (record leg { leaving = leaving.Lost })) (without_in s number)
+          (λ t. with_stays s (record leg { leaving = leaving.Lost }) has_come
+          (λ same. absurd (true≢false (sym (ap (λ (k : ℕ). k == n) (sym is ∙ same)
+          ∙ test_same n) ∙ other))) h)
+          (λ t. keeps_gone s number other has_come h)

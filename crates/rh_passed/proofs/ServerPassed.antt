@@ -1,5 +1,5 @@
--- on an is leg for which a server has no more use, IN_R1/A6 came
-use Rattle.std.proofs.Common.{◌≡◌, ◌⊎◌, inl, inr, ℕ, ◌==◌, Bool, true, false, true≢false, not, ◌&&◌, ◌||◌, nat_eq, List, [], ◌∷◌, ◌++◌, Some, None, Ok, Err, refl, rules, sym, ap, ◌∙◌}
+-- on an is leg for which a server has no more use, IN_R1/A6 or END/A2 came
+use Rattle.std.proofs.Common.{◌≡◌, ◌⊎◌, inl, inr, ℕ, ◌==◌, Bool, true, false, true≢false, not, ◌&&◌, ◌||◌, nat_eq, List, [], ◌∷◌, ◌++◌, Some, None, Ok, Err, refl, rules, sym, ap, ◌∙◌, subst}
 use Rattle.std.proofs.lemmas.Bool.{and_parts}
 use Rattle.std.specs.Prelude.{if◌then◌else◌, IfSome, slice_get}
 use Rattle.std.specs.List.{AllByRecursion}
@@ -12,7 +12,9 @@ use Rattle.rh_line.specs.declared.leg.LegKind.{LegKind}
 use Rattle.rh_line.specs.declared.leg.LegKind.TheVariants.{ClientOut, OutServer, ClientIn, InServer}
 use Rattle.rh_line.specs.Lines.{after_take}
 use Rattle.rh_line.proofs.Queues.{each_push}
-use Rattle.rh_order.specs.Items.{Item, Handover, has_handover}
+use Rattle.rh_order.specs.Items.{has_end, has_handover}
+use Rattle.rh_order.specs.Taking.{TakerLaw}
+use Rattle.rh_line.specs.declared.which.Which.{Which}
 use Rattle.rh_order.proofs.ByNumber.{by_test, same_number, test_same}
 use Rattle.rh_order.proofs.ItemLists.{has_handover-append}
 use Rattle.rh_shell.specs.declared.answers.Count.{Count}
@@ -25,6 +27,8 @@ use Rattle.rh_shell.specs.Shells.{is_of}
 use Rattle.rh_shell.specs.Rules.{Message, Pdu, Packet}
 use Rattle.rh_shell.specs.Moves.{OnLeg, Up, HeadCame, PduCame, PacketCame, Puts, IsDrawn, Marks, Pings, EndMove, Moves, Gives, Takes, Closes, Recycles, EndPassage, end_started, end_moved, all_end_moved, is_in_use, AreAllowedAtEnd, MayEndMove}
 use Rattle.rh_server.specs.declared.state.InLeg.{InLeg}
+use Rattle.rh_server.specs.declared.state.InStage.{InStage}
+use Rattle.rh_server.specs.declared.state.InStage.TheVariants as in_stage
 use Rattle.rh_server.specs.declared.state.Leaving.{Leaving}
 use Rattle.rh_server.specs.declared.state.Leaving.TheVariants as leaving
 use Rattle.rh_server.specs.declared.state.OutLeg.{OutLeg}
@@ -33,65 +37,23 @@ use Rattle.rh_server.specs.declared.state.Tells.{Tells}
 use Rattle.rh_server.specs.declared.state.Tells.TheVariants as tells
 use Rattle.rh_server.specs.declared.out_line.Kind.TheVariants as kind
 use Rattle.rh_server.specs.OutLines.{Gate, lets, waits}
-use Rattle.rh_server.specs.States.{Server, has_left, in_leg, in_place, is_due, is_lost, is_open, out_place, phase_of, same_cookie, stays, without_in}
-use Rattle.rh_server.specs.Opening.{Done, took, refuse, unexpected, in_leg_up, may_up, up, up_by, on_conn_a2, on_conn_b2}
-use Rattle.rh_server.specs.Acknowledging.{on_ack_to, on_ack, on_ping_traffic}
+use Rattle.rh_server.specs.States.{Server, has_left, in_leg, in_place, is_due, is_lost, is_open, is_put, out_place, phase_of, same_cookie, stays, with_in, without_in, without_out}
+use Rattle.rh_server.specs.Opening.{Done, in_leg_up, is_first, may_up, on_conn_a2, on_conn_b2, refuse, took, unexpected, up, up_by}
+use Rattle.rh_server.specs.Acknowledging.{channel_at, on_ack, on_ack_to, on_ping_traffic}
 use Rattle.rh_server.specs.InReplacement.{take, on_in_r1_a2, hands_over, on_in_r1_a6, on_in_r2_a2}
 use Rattle.rh_server.specs.OutReplacement.{recycle, on_out_r1_a4, on_out_r1_a8}
-use Rattle.rh_server.specs.Ending.{close, drawn, drawn_by, give, in_is_done, in_is_drawn, on_end_a2, settled}
-use Rattle.rh_server.specs.Order.{came_up, got, in_items, is_up, items_if, items_on}
+use Rattle.rh_server.specs.Ending.{close, drawn, drawn_by, end_a2_at, end_a2_on_leg, end_a2_waiting, ended_on, give, in_is_done, in_is_drawn, in_only_marks, is_over_on, lost_in, mark_by, on_end_a2, only_marks_by, settled, with_ack_dropped}
+use Rattle.rh_server.specs.Order.{came_up, got, has_leg, is_up, taker_of}
 use Rattle.rh_server.specs.Putting.{Pick, or_else, put_in_greeting, put_tells_by, put_tells, told_by, was_current, put_b1_by, put_b1, put_ack, put_in_by, gate_at, next_out, out_greeting_at, pdu_by, put_by, put_end, put_open, put_out_at, put_out_greeting, put_pdu, put_pdu_or_end, put_waiting, settled_pick, waiting_at, waiting_by, was_put}
 use Rattle.rh_server.specs.Servers.{acts, first, pdu, packet, packet_by, on_is, on_os}
 use Rattle.rh_server.specs.Servers.{rules as server_rules}
 use Rattle.rh_passages.proofs.Logs.{RowKeeps, PutKeeps, ActsKeep}
-use Rattle.rh_passed.specs.Passed.{IsDoneBehindMark, LosesNoneAtEnd, is_leg}
+use Rattle.rh_passed.specs.Passed.{IsDoneBehindEnd, is_leg}
 use Rattle.rh_passed.proofs.ServerLegs.{has_number, each_found, each_gone, found_number, IsFound, number_gone, number_more, number_last}
-use Rattle.rh_passed.proofs.Steps.{StepsKeep, end_move_keeps, end_moves_keep}
+use Rattle.rh_passed.proofs.Allowed.{StepsKeep, end_move_keeps, end_moves_keep}
+use Rattle.rh_passed.proofs.ServerCame.{HasPassed, came_on, ended_came, passed_last, passed_more}
 use Rattle.rh_passed.proofs.ServerKept as kept
-use Rattle.rh_passed.proofs.ServerKept.{keeps_conn_a2, keeps_conn_b2, keeps_end_a2, keeps_in_r1_a2, keeps_in_r1_a6, keeps_moved, keeps_same, keeps_settled, same_ack, same_ack_to, same_in_r2_a2, same_out_r1_a4, same_out_r1_a8, same_pdu, same_traffic, with_stays}
-
--- ---- what came
-
--- IN_R1/A6 came on the is leg of this number
-abbrev HasLeft : ℕ → List OnLeg → Type 0
-HasLeft n came = has_handover (items_on in_items InServer came n) ≡ true
-
-items_more : (came more : List OnLeg) (n : ℕ)
-    → has_handover (items_on in_items InServer (came ++ more) n)
-    ≡ has_handover (items_on in_items InServer came n)
-    || has_handover (items_on in_items InServer more n)
-items_more [] more n = refl
-items_more ((leg, message) ∷ came) more n =
-    let front : List Item = items_if (is_of InServer leg && nat_eq n leg.number) (in_items message) in
-    has_handover-append front (items_on in_items InServer (came ++ more) n)
-    ∙ ap (λ (t : Bool). has_handover front || t) (items_more came more n)
-    ∙ joins (has_handover front) (has_handover (items_on in_items InServer came n))
-    (has_handover (items_on in_items InServer more n))
-    ∙ ap (λ (t : Bool). t || has_handover (items_on in_items InServer more n))
-    (sym (has_handover-append front (items_on in_items InServer came n)))
-  where
-    joins : (a b c : Bool) → (a || (b || c)) ≡ ((a || b) || c)
-    joins true b c = refl
-    joins false b c = refl
-
-left_more : (n : ℕ) (came : List OnLeg) (one : OnLeg) → HasLeft n came
-    → HasLeft n (came ++ one ∷ [])
-left_more n came one h =
-    items_more came (one ∷ []) n
-    ∙ ap (λ (t : Bool). t || has_handover (items_on in_items InServer (one ∷ []) n)) h
-
-left_last : (n : ℕ) (came : List OnLeg) (leg : Leg) (successor : Cookie)
-    → (is_of InServer leg && nat_eq n leg.number) ≡ true
-    → HasLeft n (came ++ (leg, Packet (named.InR1A6 successor)) ∷ [])
-left_last n came leg successor e =
-    items_more came ((leg, Packet (named.InR1A6 successor)) ∷ []) n
-    ∙ ap (λ (t : Bool). has_handover (items_on in_items InServer came n)
-    || has_handover (items_if t (Handover ∷ []) ++ [])) e
-    ∙ last (has_handover (items_on in_items InServer came n))
-  where
-    last : (t : Bool) → (t || true) ≡ true
-    last true = refl
-    last false = refl
+use Rattle.rh_passed.proofs.ServerKept.{keeps_conn_a2, keeps_conn_b2, keeps_end_a2, keeps_in_r1_a2, keeps_in_r1_a6, keeps_lost, keeps_moved, keeps_same, keeps_settled, same_ack, same_ack_to, same_in_r2_a2, same_out_r1_a4, same_out_r1_a8, same_pdu, same_traffic, with_stays}
 
 -- ---- the is legs that are kept
 
@@ -113,7 +75,7 @@ module _ (n : ℕ) where
   module _ (has_come : Bool) where
     -- it left, or stays
     abbrev Holds : Server → List OnLeg → List OnLeg → Type 0
-    Holds s came put = HasLeft n came ⊎ Stays has_come s
+    Holds s came put = HasPassed n came ⊎ Stays has_come s
 
     hold : (s t : Server) (came put now : List OnLeg) → (Stays has_come s → Stays has_come t)
         → Holds s came put → Holds t came now
@@ -122,7 +84,7 @@ module _ (n : ℕ) where
 
     keep_row : (s : Server) (one : OnLeg) (came put : List OnLeg) (x : Done) → Keeps s x.0
         → Holds s came put → RowKeeps Holds one came put x
-    keep_row s one came put (t, Ok taken) keeps (inl left) = inl (left_more n came one left)
+    keep_row s one came put (t, Ok taken) keeps (inl left) = inl (passed_more n came one left)
     keep_row s one came put (t, Ok taken) keeps (inr stays) = inr (keeps has_come stays)
     keep_row s one came put (t, Err why) keeps (inl left) = inl left
     keep_row s one came put (t, Err why) keeps (inr stays) = inr (keeps has_come stays)
@@ -141,9 +103,9 @@ module _ (n : ℕ) where
         one : OnLeg
         one = (leg, Packet (named.InR1A6 successor))
 
-        left : nat_eq n leg.number ≡ true → HasLeft n (came ++ one ∷ [])
+        left : nat_eq n leg.number ≡ true → HasPassed n (came ++ one ∷ [])
         left e =
-            left_last n came leg successor
+            passed_last n came leg (Packet (named.InR1A6 successor)) refl
             (ap (λ (t : Bool). t && nat_eq n leg.number) here ∙ e)
 
         Row : Done → Type 0
@@ -163,6 +125,51 @@ module _ (n : ℕ) where
         by false e =
             keep_row s one came put (on_in_r1_a6 s leg.number successor)
             (keeps_in_r1_a6 n s leg.number successor
+            (λ same. true≢false (sym (ap (λ (k : ℕ). nat_eq n k) same ∙ test_same n) ∙ e))) h
+
+    -- END/A2 comes on this leg, or on another
+    ending_row : (s : Server) (leg : Leg) (count : Count) (came put : List OnLeg)
+        → is_of InServer leg ≡ true → Holds s came put
+        → RowKeeps Holds (leg, Packet named.EndA2) came put (on_end_a2 s leg.number count)
+    ending_row s leg count came put here h = by (nat_eq n leg.number) refl
+      where
+        one : OnLeg
+        one = (leg, Packet named.EndA2)
+
+        Row : Done → Type 0
+        Row x = RowKeeps Holds one came put x
+
+        Here : Type 0
+        Here = HasPassed n (came ++ one ∷ [])
+
+        on_leg : Here → (l : InLeg) (at : InStage) → Row (end_a2_on_leg s l at)
+        on_leg now l in_stage.Fresh = h
+        on_leg now l in_stage.Opened = h
+        on_leg now l (in_stage.Waits window timeout ended) =
+            by_test Row ended (unexpected s)
+            (took (with_in s (record l { stage = in_stage.Waits window timeout true }))) (λ t. h)
+            (λ t. inl now)
+
+        waiting : Here → (o : Option InLeg) → Row (end_a2_waiting s o)
+        waiting now None = h
+        waiting now (Some l) = on_leg now l l.stage
+
+        on_channel : Here → (o : Option Which) → Row (end_a2_at s leg.number o)
+        on_channel now (Some which) =
+            by_test Row (is_over_on s which) (unexpected s) _ (λ t. h) (λ t. inl now)
+        on_channel now None = waiting now (in_leg leg.number s.ins)
+
+        by : (b : Bool) → nat_eq n leg.number ≡ b → Row (on_end_a2 s leg.number count)
+        by true e =
+            by_test Row (is_first count) (unexpected s)
+            (end_a2_at s leg.number (channel_at s leg.number)) (λ t. h)
+            (λ t. on_channel
+            (passed_last n came leg (Packet named.EndA2) refl
+            (ap (λ (t : Bool). t && nat_eq n leg.number) here ∙ e))
+            (channel_at s leg.number))
+        by false e =
+            keep_row s one came put (on_end_a2 s leg.number count)
+            (keeps_end_a2 n s leg.number count
             (λ same. true≢false (sym (ap (λ (k : ℕ). nat_eq n k) same ∙ test_same n) ∙ e))) h
 
     is_row : (s : Server) (leg : Leg) (count : Count) (m : Named) (came put : List OnLeg)
@@ -196,8 +203,7 @@ module _ (n : ℕ) where
         (on_out_r1_a8 s count destination successor)
         (same_out_r1_a8 n s count destination successor) h
     is_row s leg count named.EndA2 came put here h =
-        keep_row s (leg, Packet named.EndA2) came put (on_end_a2 s leg.number count)
-        (keeps_end_a2 n s leg.number count) h
+        ending_row s leg count came put here h
     is_row s leg count m came put here h = h
 
     os_row : (s : Server) (leg : Leg) (k : ℕ) (count : Count) (m : Named) (came put : List OnLeg)
@@ -273,7 +279,7 @@ module _ (n : ℕ) where
     b1_put s leg leaving.Lost same is h = tt
     b1_put s leg leaving.InR1B1 same is h =
         with_stays n s (record leg { leaving = leaving.Left }) has_come
-        (λ number. absurd (true≢false (sym (ap stays (is number)) ∙ ap stays same))) h
+        (λ number. absurd (true≢false (sym (ap stays (is number).0) ∙ ap stays same))) h
 
     same_put_ack : (s : Server) (leg : InLeg) → PutSame s (put_ack s leg)
     same_put_ack s leg = search rules
@@ -364,7 +370,7 @@ module _ (n : ℕ) where
     where
       by : (kind : LegKind) → Stays has_come (up_by s leg.number kind)
       by InServer = record {
-        each = each_push IsStaying s.ins (in_leg_up leg.number) h.each (λ same. refl);
+        each = each_push IsStaying s.ins (in_leg_up leg.number) h.each (λ same. (refl, refl));
         there = λ e. number_more n s.ins (in_leg_up leg.number) (h.there e);
         work = h.work;
       }
@@ -386,7 +392,7 @@ module _ (n : ℕ) where
       stays_there e same None found is d =
           true≢false (sym (h.there e) ∙ ap (λ (k : ℕ). has_number k s.ins) (sym same) ∙ found)
       stays_there e same (Some leg) found is d =
-          true≢false (sym d ∙ ap has_left (is (found ∙ same)))
+          true≢false (sym d ∙ ap has_left (is (found ∙ same)).0)
 
       by : has_come ≡ true → (b : Bool) → number == n ≡ b
           → has_number n (without_in s number).ins ≡ true
@@ -414,16 +420,62 @@ module _ (n : ℕ) where
   same_recycle : (s : Server) → Same s (recycle s).0
   same_recycle s = search rules
 
-  steps : (has_come : Bool) → StepsKeep server_rules (λ text. Unit {0}) (Holds has_come)
+  -- by the law of order
+  abbrev Known : Server → List OnLeg → List OnLeg → Type 0
+  Known s came put =
+      (taken : List (List ℕ)) × (legs : ℕ → Bool)
+      × TakerLaw (taker_of taken s) legs (λ k. came_on k came)
+
+  -- the leg is lost where the mark or END came
+  lost_here : (s : Server) (came put : List OnLeg) → Known s came put → (o : Option InLeg)
+      → IsFound n (has_number n s.ins) o → IfSome o IsStaying → in_only_marks s o ≡ true
+      → HasPassed n came
+  lost_here s came put known None found is only = absurd (true≢false (sym only))
+  lost_here s came put known (Some leg) found is only =
+      ended_came known.0 known.1 s came known.2 n leg found (is found).1
+      (by (stays leg.leaving) (is_put s.end_mark) (ended_on s leg (channel_at s leg.number))
+      (ap stays (is found).0) only)
+    where
+      by : (a b c : Bool) → a ≡ true → (not a || (b && c)) ≡ true → c ≡ true
+      by true true c e f = f
+      by true false c e f = absurd (true≢false (sym f))
+      by false b c e f = absurd (true≢false (sym e))
+
+  mark_holds : (has_come : Bool) (s : Server) (number : ℕ) (kind : LegKind)
+      (came put : List OnLeg) → Known s came put → only_marks_by s number kind ≡ true
+      → Holds has_come s came put → Holds has_come (mark_by s number kind) came put
+  mark_holds has_come s number kind came put known only (inl passed) = inl passed
+  mark_holds has_come s number InServer came put known only (inr h) = by (number == n) refl
+    where
+      by : (b : Bool) → (number == n) ≡ b
+          → Holds has_come (mark_by s number InServer) came put
+      by true same =
+          inl (lost_here s came put known (in_leg n s.ins) (found_number n s.ins)
+          (each_found IsStaying s.ins (in_place n s.ins) h.each)
+          (subst (λ (k : ℕ). in_only_marks s (in_leg k s.ins) ≡ true)
+          (same_number number n same) only))
+      by false other =
+          inr (keeps_settled n (lost_in s number (in_leg number s.ins)) has_come
+          (keeps_lost n s number other has_come h))
+  mark_holds has_come s number OutServer came put known only (inr h) =
+      inr (keeps_settled n (without_out (with_ack_dropped s number) number) has_come
+      (record { each = h.each; there = h.there; work = h.work }))
+  mark_holds has_come s number ClientIn came put known only (inr h) = inr h
+  mark_holds has_come s number ClientOut came put known only (inr h) = inr h
+
+  steps : (has_come : Bool)
+      → StepsKeep server_rules (λ text. Unit {0}) Known (Holds has_come)
   steps has_come = record {
-    up = λ s leg cookie came put.
+    up = λ s leg cookie came put works.
         hold has_come s (up s leg cookie) came put put (keeps_up s leg cookie has_come);
-    head = λ s leg text came put none h. h;
-    pdu = λ s leg count bytes came put.
+    head = λ s leg text came put works none h. h;
+    pdu = λ s leg count bytes came put works.
         same_row has_come s (leg, Pdu bytes) came put (pdu s leg count bytes)
         (same_pdu n s leg count bytes);
-    packet = packet_row has_come;
-    put = puts has_come;
+    packet = λ s leg count m came put works. packet_row has_come s leg count m came put;
+    put = λ s leg came put works. puts has_come s leg came put;
+    mark = λ s leg came put works only known.
+        mark_holds has_come s leg.number leg.kind came put known only;
     drawn = λ s leg came put.
         hold has_come s (drawn s leg) came put put (keeps_drawn s leg.number leg.kind has_come);
     ping = λ s leg came put h. h;
@@ -473,7 +525,7 @@ module _ (n : ℕ) where
           → is_of InServer (record { kind = kind; number = leg.number }) ≡ true
           → Stays true (up_by s leg.number kind)
       by InServer e = record {
-        each = each_push IsStaying s.ins (in_leg_up leg.number) h.each (λ same. refl);
+        each = each_push IsStaying s.ins (in_leg_up leg.number) h.each (λ same. (refl, refl));
         there = λ e. number_last n s.ins (in_leg_up leg.number) (sym same);
         work = λ e. works (is_ended (phase_of s.stage)) going;
       }
@@ -499,15 +551,22 @@ module _ (n : ℕ) where
   came_move p Closes may is h = absurd (true≢false (sym is))
   came_move p Recycles may is h = absurd (true≢false (sym is))
 
+  abbrev KnownAt : EndPassage Server → Type 0
+  KnownAt p = Known p.passage.role p.passage.came p.passage.put
+
   came_moves : (p : EndPassage Server) (moves : List EndMove)
-      → AreAllowedAtEnd server_rules acts p moves → AllByRecursion LosesNoneAtEnd moves
+      → AreAllowedAtEnd server_rules acts p moves
+      → ((front : List EndMove) → AreAllowedAtEnd server_rules acts p front
+      → KnownAt (all_end_moved server_rules acts p front))
       → came_up moves n ≡ true → HoldsAt false p
       → HoldsAt true (all_end_moved server_rules acts p moves)
-  came_moves p [] may none is h = absurd (true≢false (sym is))
-  came_moves p (move ∷ moves) may none is h =
+  came_moves p [] may known is h = absurd (true≢false (sym is))
+  came_moves p (move ∷ moves) may known is h =
       by (is_up n move) refl is
-      (λ later. came_moves (end_moved server_rules acts p move) moves may.1 none.1 later
-      (end_move_keeps server_rules (Holds false) (steps false) acts (calls false) p move none.0 h))
+      (λ later. came_moves (end_moved server_rules acts p move) moves may.1
+      (λ front allowed. known (move ∷ front) (may.0, allowed)) later
+      (end_move_keeps server_rules Known (Holds false) (steps false) acts (calls false) p move
+      may.0 (known [] tt) h))
     where
       q : EndPassage Server
       q = end_moved server_rules acts p move
@@ -516,7 +575,8 @@ module _ (n : ℕ) where
           → (came_up moves n ≡ true → HoldsAt true (all_end_moved server_rules acts q moves))
           → HoldsAt true (all_end_moved server_rules acts q moves)
       by true now is rest =
-          end_moves_keep server_rules (Holds true) (steps true) acts (calls true) q moves none.1
+          end_moves_keep server_rules Known (Holds true) (steps true) acts (calls true) q moves
+          may.1 (λ front allowed. known (move ∷ front) (may.0, allowed))
           (came_move p move may.0 now h)
       by false now is rest = rest is
 
@@ -532,21 +592,30 @@ module _ (n : ℕ) where
           → in_is_done o ≡ false
       kept None found is = absurd (true≢false (sym (h.there refl) ∙ found))
       kept (Some leg) found is =
-          ap (λ (x : Leaving). has_left x || is_lost x) (is found)
+          ap (λ (x : Leaving). has_left x || is_lost x) (is found).0
 
       by : (a b : Bool) → a ≡ false → b ≡ false → (not a && not b) ≡ true
       by false false e f = refl
       by true b e f = absurd (true≢false e)
       by false true e f = absurd (true≢false f)
 
-pub server_done : (window : ℕ) (moves : List EndMove)
-    → AreAllowedAtEnd server_rules acts (end_started (first window)) moves
-    → AllByRecursion LosesNoneAtEnd moves
-    → (let p = all_end_moved server_rules acts (end_started (first window)) moves in
+abbrev start : ℕ → EndPassage Server
+start window = end_started (first window)
+
+-- the law of order holds behind all moves
+abbrev pub AllKnown : ℕ → Type 0
+AllKnown window =
+    (moves : List EndMove) → AreAllowedAtEnd server_rules acts (start window) moves
+    → (let p = all_end_moved server_rules acts (start window) moves in
+    TakerLaw (taker_of p.taken p.passage.role) (has_leg moves p.passage.role) (got p))
+
+pub server_done : (window : ℕ) → AllKnown window → (moves : List EndMove)
+    → AreAllowedAtEnd server_rules acts (start window) moves
+    → (let p = all_end_moved server_rules acts (start window) moves in
     (n : ℕ) → came_up moves n ≡ true
-    → IsDoneBehindMark server_rules p.passage.role (is_leg n) (got p n))
-server_done window moves may none n is e =
-    by (came_moves n (end_started (first window)) moves may none is
+    → IsDoneBehindEnd server_rules p.passage.role (is_leg n) (got p n))
+server_done window law moves may n is e =
+    by (came_moves n (start window) moves may known is
     (inr (record {
       each = tt;
       there = λ f. absurd (true≢false (sym f));
@@ -554,8 +623,14 @@ server_done window moves may none n is e =
     })))
   where
     p : EndPassage Server
-    p = all_end_moved server_rules acts (end_started (first window)) moves
+    p = all_end_moved server_rules acts (start window) moves
 
-    by : HoldsAt n true p → has_handover (got p n) ≡ true
-    by (inl left) = left
-    by (inr stays) = absurd (true≢false (sym (in_use n p.passage.role stays) ∙ e))
+    known : (front : List EndMove) → AreAllowedAtEnd server_rules acts (start window) front
+        → KnownAt n (all_end_moved server_rules acts (start window) front)
+    known front allowed =
+        let q = all_end_moved server_rules acts (start window) front in
+        (q.taken, has_leg front q.passage.role, law front allowed)
+
+    by : HoldsAt n true p → (has_handover (got p n) || has_end (got p n)) ≡ true
+    by (inl passed) = passed
+    by (inr h) = absurd (true≢false (sym (in_use n p.passage.role h) ∙ e))
