@@ -1,5 +1,6 @@
--- what an in proxy keeps while it loses no leg: its work is done behind IN_R1/A6 alone
-use Rattle.std.proofs.Common.{◌≡◌, ℕ, ◌==◌, Bool, true, false, true≢false, ◌&&◌, not, List, [], ◌∷◌, length, Some, None, Ok, Err, nat_le, arith, refl, sym, ◌∙◌, subst, ap, rules}
+-- what an in proxy keeps: its work is done behind IN_R1/A6, or behind END where its newest ci leg
+-- was lost
+use Rattle.std.proofs.Common.{◌≡◌, ◌⊎◌, inl, inr, ℕ, suc, ◌+◌, ◌==◌, Bool, true, false, true≢false, ◌&&◌, not, List, [], ◌∷◌, length, Some, None, Ok, Err, nat_le, arith, refl, sym, ◌∙◌, subst, ap, rules}
 use Rattle.std.proofs.lemmas.Bool.{and_parts}
 use Rattle.std.proofs.lemmas.Bool.Decides.{nat_tests}
 use Rattle.std.specs.Prelude.{if◌then◌else◌, IfSome}
@@ -17,16 +18,20 @@ use Rattle.rh_line.specs.declared.which.Which.{Which}
 use Rattle.rh_line.specs.declared.which.Which.TheVariants.{Current, Next}
 use Rattle.rh_line.specs.Lines as line
 use Rattle.rh_window.specs.Sending.{may_send, after_sent}
-use Rattle.rh_order.proofs.ByNumber.{by_test}
+use Rattle.rh_order.proofs.ByNumber.{by_test, same_number}
 use Rattle.rh_shell.specs.declared.answers.Count.{Count}
 use Rattle.rh_shell.specs.declared.answers.HeadRefused.{HeadRefused}
 use Rattle.rh_shell.specs.declared.answers.HeadTaken.{HeadTaken}
 use Rattle.rh_shell.specs.declared.answers.Refused.TheVariants as refused
 use Rattle.rh_shell.specs.declared.due.Due.{Due}
+use Rattle.rh_shell.specs.NearEnds.{is_ended}
+use Rattle.rh_shell.specs.Moves.{HeadCame, Marks, Move, is_at_work}
 use Rattle.rh_shell.specs.Rules.{Message, Pdu, Packet}
+use Rattle.rh_inproxy.specs.declared.state.ClientLeg.{ClientLeg}
 use Rattle.rh_inproxy.specs.declared.state.Handover.{Handover}
 use Rattle.rh_inproxy.specs.declared.state.Handover.TheVariants.{Before, Came, Passed}
 use Rattle.rh_inproxy.specs.declared.state.InProxyConfig.{InProxyConfig}
+use Rattle.rh_inproxy.specs.declared.state.Joining.{Joining}
 use Rattle.rh_inproxy.specs.declared.state.Joining.TheVariants.{TellsServer, Told, Follows}
 use Rattle.rh_inproxy.specs.declared.state.Opener.{Opener}
 use Rattle.rh_inproxy.specs.declared.state.Opening.{Opening}
@@ -36,11 +41,11 @@ use Rattle.rh_inproxy.specs.declared.state.Successor.TheVariants as successors
 use Rattle.rh_inproxy.specs.declared.state.Work.{Work}
 use Rattle.rh_inproxy.specs.declared.state.Work.TheVariants as works
 use Rattle.rh_inproxy.specs.Answers.{Done, Pick, or_else, taken, refuse, unexpected}
-use Rattle.rh_inproxy.specs.State.{InProxy, channel_of, first, followed, follows, has_a5, has_come, hands_over, is_client_leg, is_server_leg, same_cookie}
-use Rattle.rh_inproxy.specs.Opening.{accepted, accepts, accepts_later, channel_asked, connected, drawn, echo_asked, drawn_by, echo_by, head_by, is_absent, is_first, may_accept, on_conn_b1, on_conn_b3, on_first_in_r1_a1, opener_of, put_echo, put_first, up, wants}
+use Rattle.rh_inproxy.specs.State.{InProxy, channel_of, first, followed, follows, hands_over, has_a5, has_come, is_client_leg, is_server_leg, same_cookie}
+use Rattle.rh_inproxy.specs.Opening.{accepted, accepts, accepts_later, channel_asked, connected, drawn, drawn_by, echo_asked, echo_by, head, head_by, is_absent, is_first, may_accept, on_conn_b1, on_conn_b3, on_first_in_r1_a1, opener_of, phase_by, put_echo, put_first, up, wants}
 use Rattle.rh_inproxy.specs.Acknowledging.{ack_by, ack_due, current_ack, next_ack, on_ack, on_ack_to, put_ack, put_acks}
-use Rattle.rh_inproxy.specs.Ending.{is_over, newest_ended, is_drained, on_end_a1, put_end, settled, settled_pick}
-use Rattle.rh_inproxy.specs.InReplacement.{finish_by, finished, handed_over, has_passed, is_newcomer, join, joined, mark_by, on_in_r1_a1, on_in_r1_a5, on_in_r1_b2, on_later_in_r1_a1, one_less, put_in_r1_a6, put_in_r2_a2, told_by}
+use Rattle.rh_inproxy.specs.Ending.{is_announced, is_drained, is_newest, is_over, mark, newest_ended, on_end_a1, put_end, settled, settled_pick, tells_server}
+use Rattle.rh_inproxy.specs.InReplacement.{finish_by, finished, handed_over, has_passed, is_newcomer, join, joined, mark_by, on_in_r1_a1, on_in_r1_a5, on_in_r1_b1, on_in_r1_b2, on_later_in_r1_a1, one_less, put_in_r1_a6, put_in_r2_a2, told_by}
 use Rattle.rh_inproxy.specs.OutReplacement.{on_out_r1_a7}
 use Rattle.rh_inproxy.specs.Passing.{next_pdu, put_pdu}
 use Rattle.rh_inproxy.specs.Putting.{next, waiting_by, put_waiting, put_control, put_early, put_stream, put_behind, put_mark}
@@ -49,7 +54,7 @@ use Rattle.rh_inproxy.specs.Time.{on_keep_alive, ping, put_ping}
 use Rattle.rh_inproxy.specs.Machine.{pdu, packet, on_channel, on_channel_by, on_ci, on_is}
 use Rattle.rh_inproxy.specs.Machine.{rules as proxy_rules}
 use Rattle.rh_passed.specs.Passed.{AsksNoEcho}
-use Rattle.rh_passed.proofs.Steps.{StepsKeep, of_role, role_row}
+use Rattle.rh_passed.proofs.Allowed.{StepsKeep, of_role, role_row}
 
 -- what the fact is about
 pub record Seen : Type 0 where
@@ -57,6 +62,7 @@ pub record Seen : Type 0 where
   pub work : Work
   pub newest_lost : Bool
   pub handover : Handover
+  pub number : ℕ
   pub successor : Successor
 
 abbrev pub seen : InProxy → Seen
@@ -65,67 +71,110 @@ seen s = record {
   work = s.work;
   newest_lost = s.newest_lost;
   handover = s.handover;
+  number = s.current.number;
   successor = s.successor;
 }
 
 abbrev Same : InProxy → InProxy → Type 0
 Same s t = seen t ≡ seen s
 
--- the work goes on, or is done behind IN_R1/A6
-abbrev pub IsWork : Work → Handover → Type 0
-IsWork works.Underway handover = Unit {0}
-IsWork (works.EchoDue number) handover = ⊥
-IsWork (works.EchoPut number) handover = ⊥
-IsWork works.Done handover = has_passed handover ≡ true
-
--- behind IN_R1/A6 no ci leg follows
-pub record SeenFine (config : InProxyConfig) (x : Seen) : Type 0 where
-  pub made : x.config ≡ config
-  pub kept : x.newest_lost ≡ false
-  pub works : IsWork x.work x.handover
-  pub last : has_passed x.handover ≡ true → is_absent x.successor ≡ true
+-- the ci leg behind has the number behind
+abbrev pub IsBehind : ℕ → Successor → Type 0
+IsBehind number successors.Absent = Unit {0}
+IsBehind number (successors.Up n) = n ≡ suc number
+IsBehind number (successors.Joined leg stage) = leg.number ≡ suc number
 
 not_passed : (h : Handover) → has_come h ≡ false → has_passed h ≡ true → ⊥
 not_passed Before e f = true≢false (sym f)
 not_passed (Came cookie) e f = true≢false (sym f)
 not_passed Passed e f = true≢false e
 
--- no IN_R1/A6 was put while the work went on
-unpassed : (w : Work) (h k : Handover) → (has_passed h ≡ true → ⊥) → IsWork w h → IsWork w k
-unpassed works.Underway h k none is = tt
-unpassed (works.EchoDue number) h k none is = absurd is
-unpassed (works.EchoPut number) h k none is = absurd is
-unpassed works.Done h k none is = absurd (none is)
+-- behind IN_R1/A6 no ci leg follows; Lost is what is known where the newest ci leg was lost
+pub record SeenFine (config : InProxyConfig) (Lost : Type 0) (x : Seen) : Type 0 where
+  pub made : x.config ≡ config
+  pub lost : x.newest_lost ≡ true → Lost
+  pub last : has_passed x.handover ≡ true → is_absent x.successor ≡ true
+  pub behind : IsBehind x.number x.successor
 
-module _ (config : InProxyConfig) where
-  abbrev pub Fine : InProxy → Type 0
-  Fine s = SeenFine config (seen s)
+-- the newest ci leg was lost behind END, and END/A2 was put
+pub record Over (Lost : Type 0) (s : InProxy) : Type 0 where
+  pub lost : Lost
+  pub ended : newest_ended s s.successor ≡ true
+  pub put : s.end_put ≡ true
+
+-- the work goes on, or is done behind IN_R1/A6, or so
+abbrev pub IsWork : Type 0 → InProxy → Work → Type 0
+IsWork Lost s works.Underway = Unit {0}
+IsWork Lost s (works.EchoDue number) = ⊥
+IsWork Lost s (works.EchoPut number) = ⊥
+IsWork Lost s works.Done = (has_passed s.handover ≡ true) ⊎ Over Lost s
+
+pub record Holds (config : InProxyConfig) (Lost : Type 0) (s : InProxy) : Type 0 where
+  pub seen : SeenFine config Lost (seen s)
+  pub works : IsWork Lost s s.work
+
+module _ (config : InProxyConfig) (Lost : Type 0) where
+  abbrev All : InProxy → Type 0
+  All = Holds config Lost
+
+  -- while the work goes on
+  record Fine (s : InProxy) : Type 0 where
+    fine : SeenFine config Lost (seen s)
+    underway : s.work ≡ works.Underway
+
+  to_fine : (s : InProxy) → is_at_work proxy_rules s ≡ true → All s → Fine s
+  to_fine s going h =
+      record { fine = h.seen; underway = by s.work refl s.opening h.works going }
+    where
+      by : (w : Work) → s.work ≡ w → (o : Opening) → IsWork Lost s w
+          → not (is_ended (phase_by w o)) ≡ true → s.work ≡ works.Underway
+      by works.Underway is o works going = is
+      by (works.EchoDue number) is o works going = absurd works
+      by (works.EchoPut number) is o works going = absurd works
+      by works.Done is o works going = absurd (true≢false (sym going))
+
+  to_all : (s : InProxy) → Fine s → All s
+  to_all s h = record {
+    seen = h.fine;
+    works = subst (IsWork Lost s) (sym h.underway) tt;
+  }
 
   same_fine : (s t : InProxy) → Same s t → Fine s → Fine t
-  same_fine s t same h = subst (SeenFine config) (sym same) h
+  same_fine s t same h = record {
+    fine = subst (SeenFine config Lost) (sym same) h.fine;
+    underway = ap (λ (x : Seen). x.work) same ∙ h.underway;
+  }
 
   -- ---- legs come up
 
   -- a ci leg comes to follow while no IN_R1/A6 was put
-  succeeds : (x : Seen) (successor : Successor) → (has_passed x.handover ≡ true → ⊥)
-      → SeenFine config x → SeenFine config (record x { successor = successor })
-  succeeds x successor none h = record {
-    made = h.made;
-    kept = h.kept;
-    works = h.works;
-    last = λ e. absurd (none e);
+  succeeds : (s t : InProxy) → (has_passed s.handover ≡ true → ⊥)
+      → seen t ≡ record (seen s) { successor = t.successor }
+      → IsBehind s.current.number t.successor → Fine s → Fine t
+  succeeds s t none same behind h = record {
+    fine =
+        subst (SeenFine config Lost) (sym same) (record {
+          made = h.fine.made;
+          lost = h.fine.lost;
+          last = λ e. absurd (none e);
+          behind = behind;
+        });
+    underway = ap (λ (x : Seen). x.work) same ∙ h.underway;
   }
 
   later : (s : InProxy) (n : ℕ) → accepts_later s n ≡ true → has_passed s.handover ≡ true → ⊥
   later s n e = not_passed s.handover (grind (arith, nat_tests, e))
 
-  comes_up : (s : InProxy) (n : ℕ) → (has_passed s.handover ≡ true → ⊥) → Fine s
+  comes_up : (s : InProxy) (n : ℕ) → accepts_later s n ≡ true → Fine s
       → Fine (record s { successor = successors.Up n; newest_lost = false })
-  comes_up s n none h = record {
-    made = h.made;
-    kept = refl;
-    works = h.works;
-    last = λ e. absurd (none e);
+  comes_up s n e h = record {
+    fine = record {
+      made = h.fine.made;
+      lost = λ f. absurd (true≢false (sym f));
+      last = λ f. absurd (later s n e f);
+      behind = grind (arith, nat_tests, e);
+    };
+    underway = h.underway;
   }
 
   accepted_fine : (s : InProxy) (o : Opening) (n : ℕ) → accepts s o n ≡ true → Fine s
@@ -133,9 +182,9 @@ module _ (config : InProxyConfig) where
   accepted_fine s openings.AwaitsClient n e h =
       same_fine s (accepted s openings.AwaitsClient n) refl h
   accepted_fine s openings.AwaitsPacket n e h = absurd (true≢false (sym e))
-  accepted_fine s (openings.WantsServer o) n e h = comes_up s n (later s n e) h
-  accepted_fine s (openings.Announces o) n e h = comes_up s n (later s n e) h
-  accepted_fine s (openings.Announced o) n e h = comes_up s n (later s n e) h
+  accepted_fine s (openings.WantsServer o) n e h = comes_up s n e h
+  accepted_fine s (openings.Announces o) n e h = comes_up s n e h
+  accepted_fine s (openings.Announced o) n e h = comes_up s n e h
 
   same_connected : (s : InProxy) (o : Opening) → Same s (connected s o)
   same_connected s o = search rules
@@ -178,6 +227,12 @@ module _ (config : InProxyConfig) where
   newcomer (successors.Up number) n e f = true≢false (sym f)
   newcomer (successors.Joined client stage) n e f = true≢false (sym f)
 
+  numbered : (z : Successor) (n : ℕ) → is_newcomer z n ≡ true → {k : ℕ} → IsBehind k z
+      → n ≡ suc k
+  numbered successors.Absent n e b = absurd (true≢false (sym e))
+  numbered (successors.Up number) n e b = sym (same_number number n e) ∙ b
+  numbered (successors.Joined client stage) n e b = absurd (true≢false (sym e))
+
   later_fine : (s : InProxy) (o : Option Opener) (n : ℕ) (a b c : Cookie) → Fine s
       → Fine (on_later_in_r1_a1 s o n a b c).0
   later_fine s None n a b c h = h
@@ -187,7 +242,8 @@ module _ (config : InProxyConfig) where
       (refuse s (refused.Cookie o.connection a)) _ (λ u. h)
       (λ u. by_test AtEnd (not (same_cookie s.current.cookie b))
       (refuse s (refused.Cookie s.current.cookie b)) (taken (joined s n c)) (λ v. h)
-      (λ v. succeeds (seen s) _ (λ e. newcomer s.successor n t (h.last e)) h)))
+      (λ v. succeeds s (joined s n c) (λ e. newcomer s.successor n t (h.fine.last e)) refl
+      (numbered s.successor n t h.fine.behind) h)))
       (λ t. h)
     where
       AtEnd : Done → Type 0
@@ -202,49 +258,81 @@ module _ (config : InProxyConfig) where
 
   -- the ci leg behind becomes the current one, or does not
   followed_fine : (s : InProxy) → Fine s → Fine (followed s)
-  followed_fine s h = by s.line.has_next s.successor h
+  followed_fine s h = by s.line.has_next s.successor refl
     where
-      by : (b : Bool) (z : Successor) → SeenFine config (record (seen s) { successor = z })
-          → SeenFine config (record (seen s) { successor = (follows b s.current z).1 })
-      by true z k = k
-      by false successors.Absent k = k
-      by false (successors.Up number) k = k
-      by false (successors.Joined client stage) k =
-          record { made = k.made; kept = k.kept; works = k.works; last = λ e. refl }
+      Followed : Bool → Successor → Type 0
+      Followed b z = Fine (record s {
+        current = (follows b s.current z).0;
+        successor = (follows b s.current z).1;
+      })
 
-  came_fine : (s : InProxy) (cookie : Cookie) → has_come s.handover ≡ false → Fine s
-      → Fine (handed_over s cookie).0
-  came_fine s cookie e h = record {
-    made = h.made;
-    kept = h.kept;
-    works = unpassed s.work s.handover (Came cookie) (not_passed s.handover e) h.works;
-    last = λ f. absurd (true≢false (sym f));
+      as_was : (z : Successor) → s.successor ≡ z → Fine (record s { successor = z })
+      as_was z is = record {
+        fine = record {
+          made = h.fine.made;
+          lost = h.fine.lost;
+          last = λ e. sym (ap is_absent is) ∙ h.fine.last e;
+          behind = subst (IsBehind s.current.number) is h.fine.behind;
+        };
+        underway = h.underway;
+      }
+
+      by : (b : Bool) (z : Successor) → s.successor ≡ z → Followed b z
+      by true z is = as_was z is
+      by false successors.Absent is = as_was successors.Absent is
+      by false (successors.Up number) is = as_was (successors.Up number) is
+      by false (successors.Joined client stage) is = record {
+        fine = record {
+          made = h.fine.made;
+          lost = h.fine.lost;
+          last = λ e. refl;
+          behind = tt;
+        };
+        underway = h.underway;
+      }
+
+  came_fine : (s : InProxy) (cookie : Cookie) → Fine s → Fine (handed_over s cookie).0
+  came_fine s cookie h = record {
+    fine = record {
+      made = h.fine.made;
+      lost = h.fine.lost;
+      last = λ f. absurd (true≢false (sym f));
+      behind = h.fine.behind;
+    };
+    underway = h.underway;
   }
 
-  finish_fine : (s : InProxy) (z : Successor) (cookie : Cookie) → s.successor ≡ z
-      → hands_over z s.handover ≡ false → Fine s → Fine (finish_by s z cookie).0
-  finish_fine s successors.Absent cookie is e h = came_fine s cookie e h
-  finish_fine s (successors.Up number) cookie is e h = h
-  finish_fine s (successors.Joined client (TellsServer behind)) cookie is e h = h
-  finish_fine s (successors.Joined client Follows) cookie is e h = h
-  finish_fine s (successors.Joined client Told) cookie is e h =
+  joined_not : (s : InProxy) (client : ClientLeg) (stage : Joining)
+      → s.successor ≡ successors.Joined client stage → Fine s → has_passed s.handover ≡ true → ⊥
+  joined_not s client stage is h f = true≢false (sym (h.fine.last f) ∙ ap is_absent is)
+
+  finish_fine : (s : InProxy) (z : Successor) (cookie : Cookie) → s.successor ≡ z → Fine s
+      → Fine (finish_by s z cookie).0
+  finish_fine s successors.Absent cookie is h = came_fine s cookie h
+  finish_fine s (successors.Up number) cookie is h = h
+  finish_fine s (successors.Joined client (TellsServer behind)) cookie is h = h
+  finish_fine s (successors.Joined client Follows) cookie is h = h
+  finish_fine s (successors.Joined client Told) cookie is h =
       by_test (λ (x : Done). Fine x.0) (same_cookie client.cookie cookie)
       (taken (finished s client)) (refuse s (refused.Cookie client.cookie cookie))
-      (λ t. followed_fine (record s {
+      (λ t. followed_fine next (succeeds s next (joined_not s client Told is h) refl
+      (subst (IsBehind s.current.number) is h.fine.behind) h))
+      (λ t. h)
+    where
+      next : InProxy
+      next = record s {
         line = line.after_finish s.line;
         successor = successors.Joined client Follows;
-      }) (succeeds (seen s) (successors.Joined client Follows)
-      (λ f. true≢false (sym (h.last f) ∙ ap is_absent is)) h))
-      (λ t. h)
+      }
 
   a5_fine : (s : InProxy) (which : Which) (cookie : Cookie) → Fine s
       → Fine (on_in_r1_a5 s which cookie).0
   a5_fine s Current cookie h =
       by_test (λ (x : Done). Fine x.0) (has_a5 s Current) (unexpected s) _ (λ t. h)
-      (λ t. finish_fine s s.successor cookie refl t h)
+      (λ t. finish_fine s s.successor cookie refl h)
   a5_fine s Next cookie h =
       by_test (λ (x : Done). Fine x.0) (has_a5 s Next) (unexpected s) _ (λ t. h)
-      (λ t. came_fine s cookie t h)
+      (λ t. came_fine s cookie h)
 
   same_ack_to : (s : InProxy) (which : Which) (to received available : ℕ) (channel : Cookie)
       → Same s (on_ack_to s which to received available channel).0
@@ -294,25 +382,42 @@ module _ (config : InProxyConfig) where
       → Same s (on_ack s received available channel).0
   same_ack s received available channel = search rules
 
-  is_fine : (s : InProxy) (named : Named) → Fine s → Fine (on_is s named).0
-  is_fine s (ConnB3 size version) h = same_fine s (on_conn_b3 s size).0 (same_conn_b3 s size) h
-  is_fine s (InR1B2 size) h = same_fine s (on_in_r1_b2 s size).0 (same_b2 s size) h
-  is_fine s InR1B1 h =
-      by_test (λ (x : Done). Fine x.0) (has_passed s.handover)
+  -- IN_R1/B1: the work is done
+  b1_all : (s : InProxy) → Fine s → All (on_in_r1_b1 s).0
+  b1_all s h =
+      by_test (λ (x : Done). All x.0) (has_passed s.handover)
       (taken (record s { work = works.Done })) (unexpected s)
-      (λ t. record { made = h.made; kept = h.kept; works = t; last = h.last }) (λ t. h)
-  is_fine s (Ack received available channel) h =
-      same_fine s (on_ack s received available channel).0 (same_ack s received available channel) h
-  is_fine s packet h = h
+      (λ t. record {
+        seen = record {
+          made = h.fine.made;
+          lost = h.fine.lost;
+          last = h.fine.last;
+          behind = h.fine.behind;
+        };
+        works = inl t;
+      })
+      (λ t. to_all s h)
 
-  packet_fine : (s : InProxy) (leg : Leg) (count : Count) (named : Named) → Fine s
-      → Fine (packet s leg count named).0
-  packet_fine s leg count named h =
-      by_test (λ (x : Done). Fine x.0) (is_client_leg leg) (on_ci s leg.number named)
+  is_all : (s : InProxy) (named : Named) → Fine s → All (on_is s named).0
+  is_all s (ConnB3 size version) h =
+      to_all (on_conn_b3 s size).0 (same_fine s (on_conn_b3 s size).0 (same_conn_b3 s size) h)
+  is_all s (InR1B2 size) h =
+      to_all (on_in_r1_b2 s size).0 (same_fine s (on_in_r1_b2 s size).0 (same_b2 s size) h)
+  is_all s InR1B1 h = b1_all s h
+  is_all s (Ack received available channel) h =
+      to_all (on_ack s received available channel).0
+      (same_fine s (on_ack s received available channel).0
+      (same_ack s received available channel) h)
+  is_all s packet h = to_all s h
+
+  packet_all : (s : InProxy) (leg : Leg) (count : Count) (named : Named) → Fine s
+      → All (packet s leg count named).0
+  packet_all s leg count named h =
+      by_test (λ (x : Done). All x.0) (is_client_leg leg) (on_ci s leg.number named)
       (if is_server_leg s leg then on_is s named else unexpected s)
-      (λ t. ci_fine s leg.number named h)
-      (λ t. by_test (λ (x : Done). Fine x.0) (is_server_leg s leg) (on_is s named) (unexpected s)
-      (λ u. is_fine s named h) (λ u. h))
+      (λ t. to_all (on_ci s leg.number named).0 (ci_fine s leg.number named h))
+      (λ t. by_test (λ (x : Done). All x.0) (is_server_leg s leg) (on_is s named) (unexpected s)
+      (λ u. is_all s named h) (λ u. to_all s h))
 
   -- ---- what is put
 
@@ -359,10 +464,11 @@ module _ (config : InProxyConfig) where
   told_fine s (successors.Up number) is h = tt
   told_fine s (successors.Joined client Told) is h = tt
   told_fine s (successors.Joined client Follows) is h = tt
-  told_fine s (successors.Joined client (TellsServer behind)) is h =
-      by_test PutFine (behind == 0) _ None
-      (λ t. succeeds (seen s) (successors.Joined client Told)
-      (λ f. true≢false (sym (h.last f) ∙ ap is_absent is)) h)
+  told_fine s (successors.Joined client (TellsServer before)) is h =
+      by_test PutFine (before == 0) _ None
+      (λ t. succeeds s (record s { successor = successors.Joined client Told })
+      (joined_not s client (TellsServer before) is h) refl
+      (subst (IsBehind s.current.number) is h.fine.behind) h)
       (λ t. tt)
 
   absent_less : (z : Successor) → is_absent (one_less z) ≡ is_absent z
@@ -370,37 +476,50 @@ module _ (config : InProxyConfig) where
   absent_less (successors.Up number) = refl
   absent_less (successors.Joined client Told) = refl
   absent_less (successors.Joined client Follows) = refl
-  absent_less (successors.Joined client (TellsServer behind)) = refl
+  absent_less (successors.Joined client (TellsServer before)) = refl
+
+  behind_less : (n : ℕ) (z : Successor) → IsBehind n z → IsBehind n (one_less z)
+  behind_less n successors.Absent b = b
+  behind_less n (successors.Up number) b = b
+  behind_less n (successors.Joined client Told) b = b
+  behind_less n (successors.Joined client Follows) b = b
+  behind_less n (successors.Joined client (TellsServer before)) b = b
 
   waiting_fine : (s : InProxy) (dues : List Due) → Fine s → PutFine (waiting_by s dues)
   waiting_fine s [] h = tt
   waiting_fine s (due ∷ dues) h = record {
-    made = h.made;
-    kept = h.kept;
-    works = h.works;
-    last = λ e. absent_less s.successor ∙ h.last e;
+    fine = record {
+      made = h.fine.made;
+      lost = h.fine.lost;
+      last = λ e. absent_less s.successor ∙ h.fine.last e;
+      behind = behind_less s.current.number s.successor h.fine.behind;
+    };
+    underway = h.underway;
   }
 
   pdu_fine : (s : InProxy) (pdus : List (List ℕ)) → Fine s → PutFine (next_pdu s pdus)
   pdu_fine s [] h = tt
   pdu_fine s (pdu ∷ pdus) h =
       by_test PutFine (may_send s.window (length pdu)) _ None
-      (λ t. followed_fine (record s {
-        line = line.after_take s.line;
-        window = after_sent s.window (length pdu);
-      }) h)
+      (λ t. followed_fine (sent (length pdu)) (same_fine s (sent (length pdu)) refl h))
       (λ t. tt)
+    where
+      sent : ℕ → InProxy
+      sent len =
+          record s { line = line.after_take s.line; window = after_sent s.window len }
 
-  mark_fine : (s : InProxy) (handover : Handover) → s.handover ≡ handover
-      → is_absent s.successor ≡ true → Fine s → PutFine (mark_by s handover)
-  mark_fine s Before is absent h = tt
-  mark_fine s Passed is absent h = tt
-  mark_fine s (Came cookie) is absent h = record {
-    made = h.made;
-    kept = h.kept;
-    works = unpassed s.work s.handover Passed
-        (λ e. true≢false (sym e ∙ ap has_passed is)) h.works;
-    last = λ e. absent;
+  mark_fine : (s : InProxy) (handover : Handover) → is_absent s.successor ≡ true → Fine s
+      → PutFine (mark_by s handover)
+  mark_fine s Before absent h = tt
+  mark_fine s Passed absent h = tt
+  mark_fine s (Came cookie) absent h = record {
+    fine = record {
+      made = h.fine.made;
+      lost = h.fine.lost;
+      last = λ e. absent;
+      behind = h.fine.behind;
+    };
+    underway = h.underway;
   }
 
   control_fine : (s : InProxy) → Fine s → PutFine (put_control s)
@@ -418,7 +537,7 @@ module _ (config : InProxyConfig) where
       (or_fine (put_end s) (put_in_r1_a6 s) (put_fine s (put_end s) (same_end s) h)
       (by_test PutFine (is_absent s.successor && line.is_empty s.line.current.pdus)
       (mark_by s s.handover) None
-      (λ t. mark_fine s s.handover refl
+      (λ t. mark_fine s s.handover
       (and_parts (is_absent s.successor) (line.is_empty s.line.current.pdus) t).0 h)
       (λ t. tt)))
       (put_fine s (put_ping s) (same_ping s) h)
@@ -428,67 +547,153 @@ module _ (config : InProxyConfig) where
       or_fine (put_control s) (put_stream s) (control_fine s h)
       (or_fine (put_pdu s) (put_behind s) (pdu_fine s s.line.current.pdus h) (behind_fine s h))
 
-  -- the newest ci leg was not lost, so that the work goes on
-  settled_fine : (s : InProxy) → Fine s → Fine (settled s)
-  settled_fine s h =
-      by_test Fine (is_over s) (record s { work = works.Done }) s
-      (λ t. absurd (by s.newest_lost (newest_ended s s.successor) (not (has_come s.handover))
-      (is_drained s) h.kept t))
-      (λ t. h)
+  -- where the newest ci leg is lost behind END, the work may be done
+  settled_all : (s : InProxy) → Fine s → All (settled s)
+  settled_all s h =
+      by_test All (is_over s) (record s { work = works.Done }) s
+      (λ t. record {
+        seen = record {
+          made = h.fine.made;
+          lost = h.fine.lost;
+          last = h.fine.last;
+          behind = h.fine.behind;
+        };
+        works = inr (over t);
+      })
+      (λ t. to_all s h)
     where
-      by : (a b c d : Bool) → a ≡ false → (a && b && c && d) ≡ true → ⊥
-      by true b c d e f = true≢false e
-      by false b c d e f = true≢false (sym f)
+      drained : (a b c d e f : Bool) → (a && b && c && d && e && f) ≡ true → a ≡ true
+      drained true b c d e f g = refl
+      drained false b c d e f g = g
 
-  settled_put : (pick : Pick) → PutFine pick → PutFine (settled_pick pick)
+      tests : (a b c d : Bool) → (a && b && c && d) ≡ true
+          → (a ≡ true) × (b ≡ true) × (d ≡ true)
+      tests true true true true e = (refl, refl, refl)
+      tests true true true false e = absurd (true≢false (sym e))
+      tests true true false d e = absurd (true≢false (sym e))
+      tests true false c d e = absurd (true≢false (sym e))
+      tests false b c d e = absurd (true≢false (sym e))
+
+      over : is_over s ≡ true → Over Lost (record s { work = works.Done })
+      over t =
+          let all = tests s.newest_lost (newest_ended s s.successor)
+          (not (has_come s.handover)) (is_drained s) t in
+          record {
+            lost = h.fine.lost all.0;
+            ended = all.1;
+            put =
+                drained s.end_put (line.is_empty s.line.current.pdus) (is_announced s.opening)
+                (not (tells_server s.successor)) (length s.waiting.due == 0) (not s.ping_due)
+                all.2;
+          }
+
+  abbrev PutAll : Pick → Type 0
+  PutAll pick = IfSome pick (λ (one : InProxy × Message). All one.0)
+
+  settled_put : (pick : Pick) → PutFine pick → PutAll (settled_pick pick)
   settled_put None h = tt
-  settled_put (Some pick) h = settled_fine pick.0 h
+  settled_put (Some pick) h = settled_all pick.0 h
 
-  echo_fine : (s : InProxy) (w : Work) (n : ℕ) → IsWork w s.handover → PutFine (echo_by s w n)
-  echo_fine s works.Underway n is = tt
-  echo_fine s (works.EchoDue asked_on) n is = absurd is
-  echo_fine s (works.EchoPut asked_on) n is = tt
-  echo_fine s works.Done n is = tt
+  echo_all : (s : InProxy) (w : Work) (n : ℕ) → w ≡ works.Underway → PutAll (echo_by s w n)
+  echo_all s works.Underway n is = tt
+  echo_all s (works.EchoDue asked_on) n is = absurd cc
+  echo_all s (works.EchoPut asked_on) n is = tt
+  echo_all s works.Done n is = tt
 
-  puts_fine : (s : InProxy) (leg : Leg) → Fine s → PutFine (put_of s leg)
-  puts_fine s leg h =
-      by_test PutFine (is_client_leg leg) (put_echo s leg.number)
+  puts_all : (s : InProxy) (leg : Leg) → Fine s → PutAll (put_of s leg)
+  puts_all s leg h =
+      by_test PutAll (is_client_leg leg) (put_echo s leg.number)
       (if is_server_leg s leg then settled_pick (next s) else None)
-      (λ t. echo_fine s s.work leg.number h.works)
-      (λ t. by_test PutFine (is_server_leg s leg) (settled_pick (next s)) None
+      (λ t. echo_all s s.work leg.number h.underway)
+      (λ t. by_test PutAll (is_server_leg s leg) (settled_pick (next s)) None
       (λ u. settled_put (next s) (next_fine s h)) (λ u. tt))
 
-  drawn_fine : (s : InProxy) (leg : Leg) → Fine s → Fine (drawn s leg)
-  drawn_fine s leg h =
-      by_test Fine (is_client_leg leg) (drawn_by s s.work leg.number) s (λ t. by s.work h.works)
+  -- ---- ends and breaks
+
+  mark_all : (s : InProxy) (leg : Leg) → Lost → Fine s → All (mark s leg)
+  mark_all s leg lost h =
+      settled_all (if is_newest s leg then record s { newest_lost = true } else s)
+      (by_test Fine (is_newest s leg) (record s { newest_lost = true }) s
+      (λ t. record {
+        fine = record {
+          made = h.fine.made;
+          lost = λ e. lost;
+          last = h.fine.last;
+          behind = h.fine.behind;
+        };
+        underway = h.underway;
+      })
+      (λ t. h))
+
+  drawn_all : (s : InProxy) (leg : Leg) → All s → All (drawn s leg)
+  drawn_all s leg h =
+      by_test All (is_client_leg leg) (drawn_by s s.work leg.number) s (λ t. by s.work h.works)
       (λ t. h)
     where
-      by : (w : Work) → IsWork w s.handover → Fine (drawn_by s w leg.number)
+      by : (w : Work) → IsWork Lost s w → All (drawn_by s w leg.number)
       by works.Underway is = h
       by (works.EchoDue asked_on) is = absurd is
       by (works.EchoPut asked_on) is = absurd is
       by works.Done is = h
 
-  same_pings : (s : InProxy) (leg : Leg) → Same s (ping s leg)
-  same_pings s leg = search rules
+  ping_all : (s : InProxy) (leg : Leg) → All s → All (ping s leg)
+  ping_all s leg h =
+      by_test All (is_server_leg s leg) (record s { ping_due = true }) s
+      (λ t. record {
+        seen = record {
+          made = h.seen.made;
+          lost = h.seen.lost;
+          last = h.seen.last;
+          behind = h.seen.behind;
+        };
+        works = by s.work h.works;
+      })
+      (λ t. h)
+    where
+      by : (w : Work) → IsWork Lost s w → IsWork Lost (record s { ping_due = true }) w
+      by works.Underway is = tt
+      by (works.EchoDue asked_on) is = is
+      by (works.EchoPut asked_on) is = is
+      by works.Done (inl passed) = inl passed
+      by works.Done (inr over) =
+          inr (record { lost = over.lost; ended = over.ended; put = over.put })
 
   -- ---- the role
 
-  pub keeps : StepsKeep proxy_rules (AsksNoEcho true) (of_role Fine)
-  keeps = record {
-    up = λ s leg cookie came put. up_fine s leg;
-    head = λ s leg text came put none. head_fine s leg.number (request_verdict true text) none;
-    pdu = λ s leg count bytes came put h.
-        role_row Fine (leg, Pdu bytes) came put (pdu s leg count bytes)
-        (same_fine s (pdu s leg count bytes).0 (same_pdu s leg count bytes) h);
-    packet = λ s leg count named came put h.
-        role_row Fine (leg, Packet named) came put (packet s leg count named)
-        (packet_fine s leg count named h);
-    put = λ s leg came put. puts_fine s leg;
-    drawn = λ s leg came put. drawn_fine s leg;
-    ping = λ s leg came put.
-        same_fine s (ping s leg) (same_pings s leg);
+  -- a leg is marked only where that is known
+  pub keeps : (Asks : Move → Type 0)
+      → ((leg : Leg) (text : List ℕ) → Asks (HeadCame leg text) → AsksNoEcho true text)
+      → ((leg : Leg) → Asks (Marks leg) → Lost)
+      → StepsKeep proxy_rules Asks (λ s came put. Unit {0}) (of_role All)
+  keeps Asks head_asks mark_asks = record {
+    up = λ s leg cookie came put going h.
+        to_all (up s leg) (up_fine s leg (to_fine s going h));
+    head = λ s leg text came put going asks h.
+        to_all (head s leg text).0
+        (head_fine s leg.number (request_verdict true text) (head_asks leg text asks)
+        (to_fine s going h));
+    pdu = λ s leg count bytes came put going h.
+        role_row All (leg, Pdu bytes) came put (pdu s leg count bytes)
+        (to_all (pdu s leg count bytes).0
+        (same_fine s (pdu s leg count bytes).0 (same_pdu s leg count bytes)
+        (to_fine s going h)));
+    packet = λ s leg count named came put going h.
+        role_row All (leg, Packet named) came put (packet s leg count named)
+        (packet_all s leg count named (to_fine s going h));
+    put = λ s leg came put going h. puts_all s leg (to_fine s going h);
+    mark = λ s leg came put going only asks known h.
+        mark_all s leg (mark_asks leg asks) (to_fine s going h);
+    drawn = λ s leg came put. drawn_all s leg;
+    ping = λ s leg came put. ping_all s leg;
   }
 
-  pub starts : Fine (first config)
-  starts = record { made = refl; kept = refl; works = tt; last = λ e. absurd (true≢false (sym e)) }
+  pub starts : All (first config)
+  starts = record {
+    seen = record {
+      made = refl;
+      lost = λ e. absurd (true≢false (sym e));
+      last = λ e. absurd (true≢false (sym e));
+      behind = tt;
+    };
+    works = tt;
+  }

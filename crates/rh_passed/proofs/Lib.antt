@@ -1,4 +1,3 @@
-mod Steps
 mod Allowed
 mod OutProxyPassed
 mod InProxyKept

@@ -45,8 +45,7 @@ use Rattle.rh_outproxy.specs.Putting.{put as put_of}
 use Rattle.rh_outproxy.specs.Machine.{on_co, on_os, pdu, packet}
 use Rattle.rh_outproxy.specs.Machine.{rules as proxy_rules}
 use Rattle.rh_passed.specs.Passed.{AsksNoEcho, HeadsAre, IsDoneBehindEnd}
-use Rattle.rh_passed.proofs.Allowed.{StepsKeep, moves_keep}
-use Rattle.rh_passed.proofs.Steps.{of_role, role_row}
+use Rattle.rh_passed.proofs.Allowed.{StepsKeep, moves_keep, of_role, role_row}
 
 -- what the fact is about
 record Seen : Type 0 where
@@ -282,7 +281,7 @@ module _ (config : OutProxyConfig) where
 
   -- ---- the role
 
-  keeps : StepsKeep proxy_rules (AsksNoEcho false) (λ s came put. Unit {0}) (of_role Fine)
+  keeps : StepsKeep proxy_rules (HeadsAre (AsksNoEcho false)) (λ s came put. Unit {0}) (of_role Fine)
   keeps = record {
     up = λ s leg cookie came put works. up_fine s leg cookie;
     head = λ s leg text came put works none. head_fine s (request_verdict false text) none;
@@ -293,7 +292,7 @@ module _ (config : OutProxyConfig) where
         role_row Fine (leg, Packet m) came put (packet s leg count m)
         (packet_fine s leg count m h);
     put = λ s leg came put works. puts_fine s leg;
-    mark = λ s leg came put works only known. mark_fine s leg only;
+    mark = λ s leg came put works only asks known. mark_fine s leg only;
     drawn = λ s leg came put. drawn_fine s leg;
     ping = λ s leg came put h. record { made = h.made; answer = h.answer; server = h.server };
   }
@@ -359,7 +358,7 @@ out_proxy_done config moves order may heads n up e =
     p = all_moved proxy_rules (started (new_proxy config)) moves
 
     h : Fine config p.role
-    h = moves_keep proxy_rules (AsksNoEcho false) (λ s came put. Unit {0})
+    h = moves_keep proxy_rules (HeadsAre (AsksNoEcho false)) (λ s came put. Unit {0})
         (of_role (Fine config)) (keeps config) (started (new_proxy config)) moves may heads
         (λ front allowed. tt)
         (record { made = refl; answer = refl; server = λ f. absurd (true≢false (sym f)) })

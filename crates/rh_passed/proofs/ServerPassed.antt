@@ -464,7 +464,7 @@ module _ (n : ℕ) where
   mark_holds has_come s number ClientOut came put known only (inr h) = inr h
 
   steps : (has_come : Bool)
-      → StepsKeep server_rules (λ text. Unit {0}) Known (Holds has_come)
+      → StepsKeep server_rules (λ move. Unit {0}) Known (Holds has_come)
   steps has_come = record {
     up = λ s leg cookie came put works.
         hold has_come s (up s leg cookie) came put put (keeps_up s leg cookie has_come);
@@ -474,7 +474,7 @@ module _ (n : ℕ) where
         (same_pdu n s leg count bytes);
     packet = λ s leg count m came put works. packet_row has_come s leg count m came put;
     put = λ s leg came put works. puts has_come s leg came put;
-    mark = λ s leg came put works only known.
+    mark = λ s leg came put works only asks known.
         mark_holds has_come s leg.number leg.kind came put known only;
     drawn = λ s leg came put.
         hold has_come s (drawn s leg) came put put (keeps_drawn s leg.number leg.kind has_come);

@@ -5,7 +5,8 @@ use Rattle.rh_heads.specs.Verdicts.{Asked, request_verdict}
 use Rattle.rh_line.specs.declared.leg.Leg.{Leg}
 use Rattle.rh_line.specs.declared.leg.LegKind.TheVariants.{ClientIn, InServer}
 use Rattle.rh_order.specs.Items.{Item, has_end, has_handover}
-use Rattle.rh_shell.specs.Moves.{Move, HeadCame, Marks, EndMove, Moves, is_in_use}
+use Rattle.rh_order.specs.Logs.{Log, through}
+use Rattle.rh_shell.specs.Moves.{Move, HeadCame, Marks, is_in_use}
 use Rattle.rh_shell.specs.Rules.{Rules}
 
 -- the legs of an IN channel
@@ -34,11 +35,6 @@ LosesNone Heads (HeadCame leg text) = Heads text
 LosesNone Heads (Marks leg) = ⊥
 LosesNone Heads move = Unit {0}
 
--- so it is at an end, whatever head comes
-abbrev pub LosesNoneAtEnd : EndMove → Type 0
-LosesNoneAtEnd (Moves move) = LosesNone (λ text. Unit {0}) move
-LosesNoneAtEnd move = Unit {0}
-
 -- ---- legs
 
 -- where the leg is in use no more, the handover mark is among what came there
@@ -49,3 +45,8 @@ IsDoneBehindMark rules s leg came = is_in_use rules s leg ≡ false → has_hand
 abbrev pub IsDoneBehindEnd : {S : Type 0} → Rules S → S → Leg → List Item → Type 0
 IsDoneBehindEnd rules s leg came =
     is_in_use rules s leg ≡ false → (has_handover came || has_end came) ≡ true
+
+-- or END is, there or on one of the legs before
+abbrev pub IsDoneBehindEnds : {S : Type 0} → Rules S → S → Leg → Log → ℕ → Type 0
+IsDoneBehindEnds rules s leg came n =
+    is_in_use rules s leg ≡ false → (has_handover (came n) || has_end (through came n)) ≡ true

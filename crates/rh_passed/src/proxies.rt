@@ -13,7 +13,7 @@ ghost use Rattle.rh_outproxy.specs.Machine.{rules as out_rules};
 ghost use Rattle.rh_outproxy.specs.Order.{came_log as out_came, server_leg};
 ghost use Rattle.rh_outproxy.specs.OutProxy.{new_proxy};
 ghost use Rattle.rh_passed.specs.Passed.{AsksNoEcho, HeadsAre, IsDoneBehindEnd};
-ghost use Rattle.rh_passed.specs.Passed.{IsDoneBehindMark, LosesNone, ci_leg};
+ghost use Rattle.rh_passed.specs.Passed.{IsDoneBehindEnds, IsDoneBehindMark, LosesNone, ci_leg};
 
 use rh_inproxy::an_in_proxy_keeps_order;
 use rh_outproxy::an_out_proxy_keeps_order;
@@ -27,6 +27,19 @@ pub fn an_in_proxy_is_done_behind_a_mark()
         → (let p = all_moved in_rules (started (first config)) moves in
         (n : ℕ) → in_rules.was_up p.role (ci_leg n) ≡ true
         → IsDoneBehindMark in_rules p.role (ci_leg n) (in_came p.came n)) }
+{
+    an_in_proxy_keeps_order();
+}
+
+/// And if legs are marked: on each ci leg that came up and is in use no more, IN_R1/A5 came, or
+/// END/A1 did there or on one of the ci legs before it, behind which no RPC PDU is taken.
+pub fn an_in_proxy_is_done_behind_a_mark_or_end()
+    ensures { (config : InProxyConfig) (moves : List Move)
+        → AreAllowed in_rules (started (first config)) moves
+        → AllByRecursion (HeadsAre (AsksNoEcho true)) moves
+        → (let p = all_moved in_rules (started (first config)) moves in
+        (n : ℕ) → in_rules.was_up p.role (ci_leg n) ≡ true
+        → IsDoneBehindEnds in_rules p.role (ci_leg n) (in_came p.came) n) }
 {
     an_in_proxy_keeps_order();
 }
