@@ -338,21 +338,16 @@ module _ (config : OutProxyConfig) where
           other true e = absurd (true≢false e)
           other false e = absurd (true≢false e)
 
-  here : (s : OutProxy) (n : ℕ) → was_up s (server_leg n) ≡ true → s.config.number ≡ n
-  here s n e =
-      same_number s.config.number n
-      (and_parts (s.config.number == n) (not (is_server_down s.server)) e).0
-
 pub out_proxy_done : (config : OutProxyConfig) (moves : List Move)
     → (let p = all_moved proxy_rules (started (new_proxy config)) moves in
     KeepsOrder config.number p → AreAllowed proxy_rules (started (new_proxy config)) moves
     → AllByRecursion (HeadsAre (AsksNoEcho false)) moves
-    → (n : ℕ) → was_up p.role (server_leg n) ≡ true
-    → IsDoneBehindEnd proxy_rules p.role (server_leg n) (came_log p.came n))
-out_proxy_done config moves order may heads n up e =
-    subst (λ (k : ℕ). (has_handover (came_log p.came k) || has_end (came_log p.came k)) ≡ true)
-    (here config p.role n up)
-    (by (over config p.role h (useless config p.role (server_leg n) e)))
+    → IsDoneBehindEnd proxy_rules p.role (server_leg config.number)
+    (came_log p.came config.number))
+out_proxy_done config moves order may heads e =
+    subst (λ (c : OutProxyConfig).
+    (has_handover (came_log p.came c.number) || has_end (came_log p.came c.number)) ≡ true) h.made
+    (by (over config p.role h (useless config p.role (server_leg config.number) e)))
   where
     p : Passage OutProxy
     p = all_moved proxy_rules (started (new_proxy config)) moves

@@ -44,15 +44,15 @@ pub fn an_in_proxy_is_done_behind_a_mark_or_end()
     an_in_proxy_keeps_order();
 }
 
-/// Whatever moves an out proxy makes, as long as no head asks for an echo: on its os leg, if that
-/// came up and is in use no more, OUT_R1/A9 or END/B1 came.
+/// Whatever moves an out proxy makes, as long as no head asks for an echo: on its os leg, which has
+/// its number, OUT_R1/A9 or END/B1 came if it is in use no more.
 pub fn an_out_proxy_is_done_behind_a_mark()
     ensures { (config : OutProxyConfig) (moves : List Move)
         → AreAllowed out_rules (started (new_proxy config)) moves
         → AllByRecursion (HeadsAre (AsksNoEcho false)) moves
         → (let p = all_moved out_rules (started (new_proxy config)) moves in
-        (n : ℕ) → out_rules.was_up p.role (server_leg n) ≡ true
-        → IsDoneBehindEnd out_rules p.role (server_leg n) (out_came p.came n)) }
+        IsDoneBehindEnd out_rules p.role (server_leg config.number)
+        (out_came p.came config.number)) }
 {
     an_out_proxy_keeps_order();
 }
