@@ -1,0 +1,3 @@
+mod Channels
+mod Facts
+mod Changes
