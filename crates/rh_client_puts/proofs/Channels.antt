@@ -105,15 +105,35 @@ module _ (way : Direction) (Comes : Leg → Cookie → Type 0) (Early : Leg → 
     pub lowest : is_asked x.opening ≡ false → x.number ≡ 1
     pub asked : answered ≡ true → is_asked y.opening ≡ true
 
+  -- nothing was put
+  none_is_so : (n : ℕ) → Is n []
+  none_is_so zero = refl
+  none_is_so (suc n) = tt
+
+  pub starts : AreSo (unopened 1) (unopened 0) false false []
+  starts = record {
+    legs = record {
+      below = 0;
+      is = refl;
+      next = λ e. absurd (false≢true e);
+      each = none_is_so;
+      later = λ n l. refl;
+    };
+    now = tt;
+    following = λ e. absurd (false≢true e);
+    up = λ e. absurd (false≢true e);
+    next_up = λ e. absurd (false≢true e);
+    lowest = λ e. refl;
+    asked = λ e. absurd (false≢true e);
+  }
+
   -- ---- messages that begin a channel
 
   pub text_more : (k below : ℕ) → k ≡ suc below → (ms : List Message) → HasNone ms
-      → Is k (ms ++ Text (way.request below) ∷ []) × HasText (ms ++ Text (way.request below) ∷ [])
-  text_more k below e [] h = (
-    subst (λ (n : ℕ). Is n (Text (way.request below) ∷ [])) (sym e) refl,
-    tt,
-  )
-  text_more k below e (m ∷ ms) h = absurd h
+      → (m : Message) → m ≡ Text (way.request below)
+      → Is k (ms ++ m ∷ []) × HasText (ms ++ m ∷ [])
+  text_more k below e [] h m is = (subst (λ (n : ℕ). Is n (m ∷ [])) (sym e) is, tt)
+  text_more k below e (other ∷ ms) h m is = absurd h
 
   pub first_more : (k below : ℕ) → k ≡ suc below → (ms : List Message) → HasText ms → Is k ms
       → (packet : Named) → Begins way Comes Early below packet → way.Rest below []
@@ -143,6 +163,20 @@ module _ (way : Direction) (Comes : Leg → Cookie → Type 0) (Early : Leg → 
             (was.0, was.1, more rest was.2),
         tt,
       )
+
+  -- the first of it
+  pub second_more : (k below : ℕ) → k ≡ suc below → (ms : List Message) → HasFirst ms → Is k ms
+      → (m : Message) → way.Rest below (m ∷ [])
+      → Is k (ms ++ m ∷ []) × HasMore (ms ++ m ∷ [])
+  second_more k below e [] h is m rest = absurd h
+  second_more k below e (text ∷ []) h is m rest = absurd h
+  second_more k below e (text ∷ first ∷ []) h is m rest =
+      let was : IsBegun (way.request below) (Begins way Comes Early below) (way.Rest below)
+      (text ∷ first ∷ []) = subst (λ (n : ℕ). Is n (text ∷ first ∷ [])) e is in (
+        subst (λ (n : ℕ). Is n (text ∷ first ∷ m ∷ [])) (sym e) (was.0, was.1, rest),
+        tt,
+      )
+  second_more k below e (text ∷ first ∷ other ∷ ms) h is m rest = absurd h
 
   pub first_is_more : (ms : List Message) → HasFirst ms → HasMore ms
   first_is_more [] h = absurd h
@@ -362,19 +396,43 @@ module _ (way : Direction) (Comes : Leg → Cookie → Type 0) (Early : Leg → 
 
   -- ---- what a successor's packet names
 
-  pub named_before : (x y : Channel) (answered : Bool) (put : List OnLeg)
-      → (on 1 put ≡ [] → Early (way.leg 1)) → AreSo x y true answered put
-      → Comes (way.leg x.number) x.cookie ⊎ ((x.number ≡ 1) × Early (way.leg 1))
-  named_before x y answered put early h = by (is_up x.opening) refl
+  pub named_before : (x y : Channel) (replaces answered : Bool) (put : List OnLeg)
+      (early : on 1 put ≡ [] → Early (way.leg 1)) (h : AreSo x y replaces answered put)
+      → Comes (way.leg (suc h.legs.below)) x.cookie
+      ⊎ ((h.legs.below ≡ 0) × Early (way.leg 1))
+  named_before x y replaces answered put early h = by (is_up x.opening) refl
     where
       by : (b : Bool) → is_up x.opening ≡ b
-          → Comes (way.leg x.number) x.cookie ⊎ ((x.number ≡ 1) × Early (way.leg 1))
-      by true e = inl (h.up e)
+          → Comes (way.leg (suc h.legs.below)) x.cookie
+          ⊎ ((h.legs.below ≡ 0) × Early (way.leg 1))
+      by true e = inl (subst (λ (n : ℕ). Comes (way.leg n) x.cookie) h.legs.is (h.up e))
       by false e =
           let lowest = h.lowest (down_unasked x.opening e) in
+          let is = h.legs.is in
           inr (
-            lowest,
+            omega (arith, is, lowest),
             early
                 (subst (λ (n : ℕ). on n put ≡ []) lowest
                 (none_is (on x.number put) (down_none x.opening (on x.number put) e h.now))),
           )
+
+  -- a channel whose first packet was put is up
+  pub asked_up : (opening : Opening) → is_asked opening ≡ true → is_up opening ≡ true
+  asked_up NotUp e = absurd (false≢true e)
+  asked_up Request e = refl
+  asked_up First e = refl
+  asked_up Second e = refl
+  asked_up Put e = refl
+
+  -- the number of a successor, and that its leg came up, by the number of the channel in use
+  pub next_number : (x y : Channel) (replaces answered : Bool) (put : List OnLeg)
+      (h : AreSo x y replaces answered put) → replaces ≡ true
+      → y.number ≡ suc (suc h.legs.below)
+  next_number x y replaces answered put h e = h.legs.next e ∙ ap suc h.legs.is
+
+  pub next_comes : (x y : Channel) (replaces answered : Bool) (put : List OnLeg)
+      (h : AreSo x y replaces answered put) → replaces ≡ true → is_up y.opening ≡ true
+      → Comes (way.leg (suc (suc h.legs.below))) y.cookie
+  next_comes x y replaces answered put h e up =
+      subst (λ (n : ℕ). Comes (way.leg n) y.cookie) (next_number x y replaces answered put h e)
+      (h.next_up up)

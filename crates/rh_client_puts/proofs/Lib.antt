@@ -1,3 +1,6 @@
 mod Channels
 mod Facts
 mod Changes
+mod Writing
+mod Beginning
+mod Rows
