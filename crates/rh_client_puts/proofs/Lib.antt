@@ -4,3 +4,4 @@ mod Changes
 mod Writing
 mod Beginning
 mod Rows
+mod Laws
