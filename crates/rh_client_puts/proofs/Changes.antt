@@ -1,5 +1,5 @@
 -- what is under way at a client changes
-use Rattle.std.proofs.Common.{◌≡◌, ℕ, suc, ◌+◌, nat_lt, Bool, true, false, true≢false, ◌&&◌, List, Ok, Err, refl, sym, ◌∙◌, subst}
+use Rattle.std.proofs.Common.{◌≡◌, ◌+◌, nat_lt, Bool, true, false, true≢false, ◌&&◌, List, Ok, Err, refl, sym, ◌∙◌, subst}
 use Rattle.std.proofs.lemmas.Bool.{false≢true, and_parts}
 use Rattle.std.specs.declared.result.Result.{Result}
 use Rattle.rh_rts.specs.declared.command.Cookie.{Cookie}
@@ -21,14 +21,13 @@ use Rattle.rh_client.specs.declared.replacement.Waits.{Waits}
 use Rattle.rh_client.specs.declared.replacement.Waits.TheVariants as waits
 use Rattle.rh_client.specs.declared.state.ClientRole.{ClientRole}
 use Rattle.rh_client.specs.Channels.{unopened_in, unopened_out}
-use Rattle.rh_client.specs.Replacements.{is_none, with_in}
 use Rattle.rh_client.specs.State.{is_open, is_over, begin_in, begin_out, after_in, after_out}
 use Rattle.rh_client.specs.InReplacement.{wish_by, wants_successor, wished, recycle_by, handed_over}
 use Rattle.rh_client.specs.OutReplacement.{succeeded, ended_or, pass_at, pass_by, passed}
 use Rattle.rh_client.specs.Putting.{settled_or_wished}
 use Rattle.rh_client_puts.specs.Puts.{in_way, out_way, HasOpened}
 use Rattle.rh_client_puts.proofs.Channels.{begins, succeeds}
-use Rattle.rh_client_puts.proofs.Facts.{seen_in, seen_out, View, view, IsSo, Kept}
+use Rattle.rh_client_puts.proofs.Facts.{Kept}
 
 -- with another replacement, or none
 abbrev pub turned : ClientRole → Replacement → ClientRole
@@ -72,8 +71,7 @@ module _ (config : ClientConfig) (Comes : Leg → Cookie → Type 0) (Early : Le
         same = h.same;
         opens = h.opens;
         under_way = λ f. opened;
-        ins = begins (in_way config Comes) Comes Early (λ k n. refl) (seen_in s.writing)
-            (seen_in s.in_successor) false put h.ins;
+        ins = begins (in_way config Comes) Comes Early h.ins;
         outs = h.outs;
         switches = h.switches;
       })
@@ -93,8 +91,7 @@ module _ (config : ClientConfig) (Comes : Leg → Cookie → Type 0) (Early : Le
         opens = h.opens;
         under_way = λ f. opened;
         ins = h.ins;
-        outs = begins (out_way config) Comes Early (λ k n. refl) (seen_out s.current)
-            (seen_out s.out_successor) false put h.outs;
+        outs = begins (out_way config) Comes Early h.outs;
         switches = h.switches;
       })
       (λ e. h)
@@ -149,10 +146,9 @@ module _ (config : ClientConfig) (Comes : Leg → Cookie → Type 0) (Early : Le
 
   -- the IN successor is the writing channel
   pub handed_kept : (s : ClientRole) (out_waits : Bool) (came put : List OnLeg)
-      → s.replacement ≡ In in_stage.Answered out_waits → Holds s came put
+      → Holds (turned s (In in_stage.Answered out_waits)) came put
       → Holds (handed_over s out_waits) came put
-  handed_kept s out_waits came put e was =
-      let h = at s (In in_stage.Answered out_waits) came put e was in
+  handed_kept s out_waits came put h =
       after_in_kept (record s {
         leaving = s.writing;
         writing = s.in_successor;
@@ -161,8 +157,7 @@ module _ (config : ClientConfig) (Comes : Leg → Cookie → Type 0) (Early : Le
         same = h.same;
         opens = h.opens;
         under_way = λ f. absurd (true≢false f);
-        ins = succeeds (in_way config Comes) Comes Early (λ k n. refl) (seen_in s.writing)
-            (seen_in s.in_successor) 0 put h.ins;
+        ins = succeeds (in_way config Comes) Comes Early h.ins 0;
         outs = h.outs;
         switches = h.switches;
       })
@@ -176,8 +171,7 @@ module _ (config : ClientConfig) (Comes : Leg → Cookie → Type 0) (Early : Le
     opens = h.opens;
     under_way = λ f. absurd (true≢false f);
     ins = h.ins;
-    outs = succeeds (out_way config) Comes Early (λ k n. refl) (seen_out s.current)
-        (seen_out s.out_successor) 0 put h.outs;
+    outs = succeeds (out_way config) Comes Early h.outs 0;
     switches = record {
       each = h.switches.each;
       counted = h.switches.counted ∙ sym (h.outs.legs.next refl);

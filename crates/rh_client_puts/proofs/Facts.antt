@@ -1,15 +1,13 @@
 -- what a client knows of its channels, by what came and what it put
 use Rattle.std.proofs.Common.{◌≡◌, ℕ, suc, Bool, true, false, List, [], ◌∷◌, ◌++◌, refl, sym, ap, ◌∙◌, subst}
-use Rattle.std.proofs.lemmas.Bool.{false≢true}
 use Rattle.std.proofs.lemmas.List.{append-nil}
 use Rattle.rh_rts.specs.declared.command.Cookie.{Cookie}
 use Rattle.rh_http.specs.declared.config.ClientConfig.{ClientConfig}
-use Rattle.rh_sig.specs.declared.named.Named.{Named}
 use Rattle.rh_sig.specs.declared.named.Named.TheVariants.{ConnC2, OutR1A7}
 use Rattle.rh_line.specs.declared.leg.Leg.{Leg}
 use Rattle.rh_line.specs.declared.leg.LegKind.TheVariants.{ClientIn}
 use Rattle.rh_shell.specs.Moves.{OnLeg}
-use Rattle.rh_shell.specs.Rules.{Message, Text, Pdu, Packet}
+use Rattle.rh_shell.specs.Rules.{Message, Packet}
 use Rattle.rh_shell.specs.Wires.{of_leg}
 use Rattle.rh_passages.specs.Passing.{Has, of_kind}
 use Rattle.rh_passages.proofs.Messages.{leg_more, kind_more, has_more, has_last}
@@ -26,7 +24,8 @@ use Rattle.rh_client.specs.Replacements.{is_none, is_in, is_out}
 use Rattle.rh_client.specs.State.{is_open, ci, co}
 use Rattle.rh_client.specs.Acknowledging.{is_switched_by}
 use Rattle.rh_client_puts.specs.Puts.{in_way, out_way, HasOpened, SwitchesFrom}
-use Rattle.rh_client_puts.proofs.Channels.{Channel, AreSo, leg_here, last}
+use Rattle.rh_client_puts.proofs.Fronts.{leg_here}
+use Rattle.rh_client_puts.proofs.Channels.{Channel, AreSo, puts_elsewhere, last}
 
 -- ---- what the facts are about
 
@@ -141,11 +140,11 @@ module _ (config : ClientConfig) (Comes : Leg → Cookie → Type 0) (Early : Le
 
   abbrev pub AreIns : Channel → Channel → Bool → Bool → List OnLeg → Type 0
   AreIns x y replaces answered put =
-      AreSo (in_way config Comes) Comes Early (λ k n. refl) x y replaces answered put
+      AreSo (in_way config Comes) Comes Early x y replaces answered put
 
   abbrev pub AreOuts : Channel → Channel → Bool → Bool → List OnLeg → Type 0
   AreOuts x y replaces answered put =
-      AreSo (out_way config) Comes Early (λ k n. refl) x y replaces answered put
+      AreSo (out_way config) Comes Early x y replaces answered put
 
   pub record IsSo (v : View) (came put : List OnLeg) : Type 0 where
     pub same : v.config ≡ config
@@ -157,6 +156,43 @@ module _ (config : ClientConfig) (Comes : Leg → Cookie → Type 0) (Early : Le
 
   abbrev pub Kept : ClientRole → List OnLeg → List OnLeg → Type 0
   Kept s came put = IsSo (view s) came put
+
+  -- ---- the channels change
+
+  pub with_ins : {v : View} {came put : List OnLeg} (h : IsSo v came put) {x y : Channel}
+      {replaces answered : Bool} → AreIns x y replaces answered put
+      → IsSo (record v {
+        writing = x;
+        in_successor = y;
+        replaces_in = replaces;
+        answered_in = answered;
+      }) came put
+  with_ins h ins = record {
+    same = h.same;
+    opens = h.opens;
+    under_way = h.under_way;
+    ins = ins;
+    outs = h.outs;
+    switches = h.switches;
+  }
+
+  pub with_outs : {v : View} {came put : List OnLeg} (h : IsSo v came put) {x y : Channel}
+      {replaces answered : Bool} → x.number ≡ v.current.number
+      → AreOuts x y replaces answered put
+      → IsSo (record v {
+        current = x;
+        out_successor = y;
+        replaces_out = replaces;
+        answered_out = answered;
+      }) came put
+  with_outs {v} {came} {put} h {x} e outs = record {
+    same = h.same;
+    opens = h.opens;
+    under_way = h.under_way;
+    ins = h.ins;
+    outs = outs;
+    switches = subst (λ (n : ℕ). Switches n v.switched put) (sym e) h.switches;
+  }
 
   -- ---- a message came
 
@@ -195,7 +231,7 @@ module _ (config : ClientConfig) (Comes : Leg → Cookie → Type 0) (Early : Le
   abbrev pub IsPlain : Message → Type 0
   IsPlain m = (k : ℕ) → SwitchesFrom Comes k (m ∷ []) × (counter k (m ∷ []) ≡ k)
 
-  pub plain_more : (current : ℕ) (switched : Bool) (put : List OnLeg) (n : ℕ) (m : Message)
+  plain_more : (current : ℕ) (switched : Bool) (put : List OnLeg) (n : ℕ) (m : Message)
       → IsPlain m → Switches current switched put
       → Switches current switched (put ++ (ci n, m) ∷ [])
   plain_more current switched put n m plain h =
@@ -213,7 +249,7 @@ module _ (config : ClientConfig) (Comes : Leg → Cookie → Type 0) (Early : Le
       record { each = more.0; counted = more.1 }
 
   -- on an OUT channel
-  pub out_more : (current : ℕ) (switched : Bool) (put : List OnLeg) (n : ℕ) (m : Message)
+  out_more : (current : ℕ) (switched : Bool) (put : List OnLeg) (n : ℕ) (m : Message)
       → Switches current switched put → Switches current switched (put ++ (co n, m) ∷ [])
   out_more current switched put n m h =
       let same : of_kind ClientIn (put ++ (co n, m) ∷ []) ≡ of_kind ClientIn put
@@ -222,3 +258,29 @@ module _ (config : ClientConfig) (Comes : Leg → Cookie → Type 0) (Early : Le
         each = subst (SwitchesFrom Comes 1) (sym same) h.each;
         counted = ap (counter 1) same ∙ h.counted;
       }
+
+  pub in_put : {v : View} {came put : List OnLeg} (h : IsSo v came put) (n : ℕ) (m : Message)
+      {x y : Channel} → IsPlain m → AreIns x y v.replaces_in v.answered_in (put ++ (ci n, m) ∷ [])
+      → IsSo (record v { writing = x; in_successor = y }) came (put ++ (ci n, m) ∷ [])
+  in_put {v} {came} {put} h n m plain ins = record {
+    same = h.same;
+    opens = h.opens;
+    under_way = h.under_way;
+    ins = ins;
+    outs = puts_elsewhere (out_way config) Comes Early h.outs (ci n, m) (λ k. refl);
+    switches = plain_more v.current.number v.switched put n m plain h.switches;
+  }
+
+  pub out_put : {v : View} {came put : List OnLeg} (h : IsSo v came put) (n : ℕ) (m : Message)
+      {x y : Channel} → x.number ≡ v.current.number
+      → AreOuts x y v.replaces_out v.answered_out (put ++ (co n, m) ∷ [])
+      → IsSo (record v { current = x; out_successor = y }) came (put ++ (co n, m) ∷ [])
+  out_put {v} {came} {put} h n m {x} e outs = record {
+    same = h.same;
+    opens = h.opens;
+    under_way = h.under_way;
+    ins = puts_elsewhere (in_way config Comes) Comes Early h.ins (co n, m) (λ k. refl);
+    outs = outs;
+    switches = subst (λ (k : ℕ). Switches k v.switched (put ++ (co n, m) ∷ [])) (sym e)
+        (out_more v.current.number v.switched put n m h.switches);
+  }

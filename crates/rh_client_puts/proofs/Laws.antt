@@ -1,6 +1,6 @@
 -- what a client puts on its channels, whatever happens
-use Rattle.std.proofs.Common.{◌≡◌, ◌⊎◌, ℕ, ◌+◌, ◌==◌, nat_le, Bool, true, false, true≢false, ◌&&◌, ◌||◌, not, if◌then◌else◌, List, [], ◌∷◌, ◌++◌, append_assoc, length, Some, None, Ok, Err, arith, inl, inr, refl, sym, ap, ◌∙◌, subst}
-use Rattle.std.proofs.lemmas.Bool.{false≢true, and_parts}
+use Rattle.std.proofs.Common.{◌≡◌, ◌⊎◌, ℕ, ◌+◌, ◌==◌, nat_le, true, true≢false, List, [], ◌∷◌, ◌++◌, append_assoc, length, Some, None, Ok, Err, inl, inr, refl, sym, ap, ◌∙◌, subst}
+use Rattle.std.proofs.lemmas.Bool.{false≢true}
 use Rattle.std.specs.declared.option.Option.{Option}
 use Rattle.std.specs.declared.result.Result.{Result}
 use Rattle.rh_rts.specs.declared.command.Cookie.{Cookie}
@@ -11,7 +11,7 @@ use Rattle.rh_line.specs.Queue.{total, queue_bytes}
 use Rattle.rh_line.specs.declared.leg.Leg.{Leg}
 use Rattle.rh_line.specs.declared.leg.LegKind.{LegKind}
 use Rattle.rh_line.specs.declared.leg.LegKind.TheVariants.{ClientOut, OutServer, ClientIn, InServer}
-use Rattle.rh_order.proofs.ByNumber.{by_test, same_number}
+use Rattle.rh_order.proofs.ByNumber.{by_test}
 use Rattle.rh_shell.specs.declared.end_role.GiveRefused.TheVariants.{Closing, Full}
 use Rattle.rh_shell.specs.declared.end_role.RecycleRefused.TheVariants.{Last}
 use Rattle.rh_shell.specs.Rules.{Rules, Acts, Message}
@@ -19,11 +19,10 @@ use Rattle.rh_shell.specs.Moves.{OnLeg, Up, Puts, Passage, put_by, EndMove, Move
 use Rattle.rh_shell.specs.Wires.{of_leg}
 use Rattle.rh_passages.proofs.Logs.{PutKeeps}
 use Rattle.rh_client.specs.declared.state.ClientRole.{ClientRole}
-use Rattle.rh_client.specs.Channels.{is_up, in_up, out_up}
-use Rattle.rh_client.specs.Replacements.{is_in, is_out}
-use Rattle.rh_client.specs.State.{first, is_open, is_writing, is_in_successor, is_current, is_out_successor, ci, co}
+use Rattle.rh_client.specs.Channels.{in_up, out_up}
+use Rattle.rh_client.specs.State.{first, is_open, is_writing, is_in_successor, is_current, ci, co}
 use Rattle.rh_client.specs.Opening.{wants_by, with_next, up_by}
-use Rattle.rh_client.specs.Ending.{Given, give, give_pdu, take, drawn_by}
+use Rattle.rh_client.specs.Ending.{Given, give, give_pdu, drawn_by}
 use Rattle.rh_client.specs.Time.{ping_by}
 use Rattle.rh_client.specs.Client.{acts}
 use Rattle.rh_client.specs.Client.{rules as client_rules}
@@ -31,26 +30,15 @@ use Rattle.rh_client.specs.Order.{AreAllowedMoves, client_moved, client_started}
 use Rattle.rh_client_sends.specs.Sends.{HasComeUp}
 use Rattle.rh_client_sends.proofs.Steps.{StepsKeep, end_moves_keep}
 use Rattle.rh_client_puts.specs.Puts.{in_way, out_way, HasOpened, OpenedBefore, OpensInChannels, OpensOutChannels, SwitchesInOrder}
-use Rattle.rh_client_puts.proofs.Channels.{starts, ups_now, ups_next}
-use Rattle.rh_client_puts.proofs.Facts.{seen_in, seen_out, view}
+use Rattle.rh_client_puts.proofs.Channels.{starts, ups}
+use Rattle.rh_client_puts.proofs.Facts.{with_ins, with_outs}
 use Rattle.rh_client_puts.proofs.Changes.{Holds, recycle_kept, passed_kept}
 use Rattle.rh_client_puts.proofs.Beginning.{MayBeEarly, put_kept}
 use Rattle.rh_client_puts.proofs.Rows.{pdu_kept, packet_kept}
 
 -- ---- what else happens
 
--- one of two legs is wanted
-wanted_parts : (a b c d : Bool) → ((a && b) || (c && d)) ≡ true
-    → ((a ≡ true) × (b ≡ true)) ⊎ ((c ≡ true) × (d ≡ true))
-wanted_parts true true c d e = inl (refl, refl)
-wanted_parts true false c d e = inr (and_parts c d e)
-wanted_parts false b c d e = inr (and_parts c d e)
-
-not_so : (b : Bool) → not b ≡ true → b ≡ false
-not_so true e = absurd (false≢true e)
-not_so false e = refl
-
--- all rows but those that put, and all calls but a replacement's
+-- the rows without those that put, and the calls without that for a replacement
 abbrev rules_but_put : Rules ClientRole
 rules_but_put = record client_rules { put = λ s leg. None }
 
@@ -65,113 +53,26 @@ module _ (config : ClientConfig) (Comes : Leg → Cookie → Type 0) (Early : Le
       → wants_by s n ClientIn ≡ true → Comes (ci n) cookie → Stands s came put
       → Stands (up_by s n cookie ClientIn) came put
   up_in_kept s n cookie came put may comes h =
-      by (wanted_parts (is_writing s n) (not (is_up s.writing.opening)) (is_in_successor s n)
-      (not (is_up s.in_successor.opening)) may)
-    where
-      Goal : ClientRole → Type 0
-      Goal t = Stands t came put
-
-      by : ((is_writing s n ≡ true) × (not (is_up s.writing.opening) ≡ true))
-          ⊎ ((is_in_successor s n ≡ true) × (not (is_up s.in_successor.opening) ≡ true))
-          → Goal (up_by s n cookie ClientIn)
-      by (inl is) =
-          let same = same_number n s.writing.number is.0 in
-          by_test Goal (is_writing s n) (record s { writing = in_up s.writing cookie })
-          (record s { in_successor = in_up s.in_successor cookie })
-          (λ e. record {
-            same = h.same;
-            opens = h.opens;
-            under_way = h.under_way;
-            ins = ups_now (in_way config Comes) Comes Early (λ k j. refl) (seen_in s.writing)
-                (seen_in s.in_successor) (view s).replaces_in (view s).answered_in cookie put
-                (not_so (is_up s.writing.opening) is.1)
-                (subst (λ (k : ℕ). Comes (ci k) cookie) same comes) h.ins;
-            outs = h.outs;
-            switches = h.switches;
-          })
-          (λ e. absurd (true≢false (sym is.0 ∙ e)))
-      by (inr is) =
-          let both = and_parts (is_in s.replacement) (n == s.in_successor.number) is.0 in
-          let same = same_number n s.in_successor.number both.1 in
-          let next = h.ins.legs.next both.0 in
-          by_test Goal (is_writing s n) (record s { writing = in_up s.writing cookie })
-          (record s { in_successor = in_up s.in_successor cookie })
-          (λ e.
-          let other = same_number n s.writing.number e in
-          absurd (omega (arith, same, next, other)))
-          (λ e. record {
-            same = h.same;
-            opens = h.opens;
-            under_way = h.under_way;
-            ins = ups_next (in_way config Comes) Comes Early (λ k j. refl) (seen_in s.writing)
-                (seen_in s.in_successor) (view s).replaces_in (view s).answered_in cookie put
-                (not_so (is_up s.in_successor.opening) is.1)
-                (subst (λ (k : ℕ). Comes (ci k) cookie) same comes) h.ins;
-            outs = h.outs;
-            switches = h.switches;
-          })
+      let both = ups (in_way config Comes) Comes Early h.ins n cookie may comes in
+      by_test (λ (t : ClientRole). Stands t came put) (is_writing s n)
+      (record s { writing = in_up s.writing cookie })
+      (record s { in_successor = in_up s.in_successor cookie })
+      (λ e. with_ins config Comes Early h (both.0 e))
+      (λ e. with_ins config Comes Early h (both.1 e))
 
   up_out_kept : (s : ClientRole) (n : ℕ) (cookie : Cookie) (came put : List OnLeg)
       → wants_by s n ClientOut ≡ true → Comes (co n) cookie → Stands s came put
       → Stands (up_by s n cookie ClientOut) came put
   up_out_kept s n cookie came put may comes h =
-      by (wanted_parts (is_current s n) (not (is_up s.current.opening)) (is_out_successor s n)
-      (not (is_up s.out_successor.opening)) may)
-    where
-      Goal : ClientRole → Type 0
-      Goal t = Stands t came put
-
-      next_up : ClientRole
-      next_up = record s {
+      let both = ups (out_way config) Comes Early h.outs n cookie may comes in
+      by_test (λ (t : ClientRole). Stands t came put) (is_current s n)
+      (record s { current = out_up s.current cookie })
+      (record s {
         out_successor = out_up s.out_successor cookie;
         line = with_next s.line;
-      }
-
-      by : ((is_current s n ≡ true) × (not (is_up s.current.opening) ≡ true))
-          ⊎ ((is_out_successor s n ≡ true) × (not (is_up s.out_successor.opening) ≡ true))
-          → Goal (up_by s n cookie ClientOut)
-      by (inl is) =
-          let same = same_number n s.current.number is.0 in
-          by_test Goal (is_current s n) (record s { current = out_up s.current cookie })
-          (record s {
-            out_successor = out_up s.out_successor cookie;
-            line = with_next s.line;
-          })
-          (λ e. record {
-            same = h.same;
-            opens = h.opens;
-            under_way = h.under_way;
-            ins = h.ins;
-            outs = ups_now (out_way config) Comes Early (λ k j. refl) (seen_out s.current)
-                (seen_out s.out_successor) (view s).replaces_out (view s).answered_out cookie put
-                (not_so (is_up s.current.opening) is.1)
-                (subst (λ (k : ℕ). Comes (co k) cookie) same comes) h.outs;
-            switches = h.switches;
-          })
-          (λ e. absurd (true≢false (sym is.0 ∙ e)))
-      by (inr is) =
-          let both = and_parts (is_out s.replacement) (n == s.out_successor.number) is.0 in
-          let same = same_number n s.out_successor.number both.1 in
-          let next = h.outs.legs.next both.0 in
-          by_test Goal (is_current s n) (record s { current = out_up s.current cookie })
-          (record s {
-            out_successor = out_up s.out_successor cookie;
-            line = with_next s.line;
-          })
-          (λ e.
-          let other = same_number n s.current.number e in
-          absurd (omega (arith, same, next, other)))
-          (λ e. record {
-            same = h.same;
-            opens = h.opens;
-            under_way = h.under_way;
-            ins = h.ins;
-            outs = ups_next (out_way config) Comes Early (λ k j. refl) (seen_out s.current)
-                (seen_out s.out_successor) (view s).replaces_out (view s).answered_out cookie put
-                (not_so (is_up s.out_successor.opening) is.1)
-                (subst (λ (k : ℕ). Comes (co k) cookie) same comes) h.outs;
-            switches = h.switches;
-          })
+      })
+      (λ e. with_outs config Comes Early h refl (both.0 e))
+      (λ e. with_outs config Comes Early h refl (both.1 e))
 
   up_kept : (s : ClientRole) (n : ℕ) (kind : LegKind) (cookie : Cookie) (came put : List OnLeg)
       → wants_by s n kind ≡ true → Comes (record { kind = kind; number = n }) cookie
@@ -241,8 +142,8 @@ module _ (config : ClientConfig) (Comes : Leg → Cookie → Type 0) (Early : Le
     same = refl;
     opens = λ e. absurd (false≢true e);
     under_way = λ e. absurd (true≢false e);
-    ins = starts (in_way config Comes) Comes Early (λ k j. refl);
-    outs = starts (out_way config) Comes Early (λ k j. refl);
+    ins = starts (in_way config Comes) Comes Early;
+    outs = starts (out_way config) Comes Early;
     switches = record { each = tt; counted = refl };
   }
 
@@ -253,9 +154,7 @@ module _ (config : ClientConfig) (Comes : Leg → Cookie → Type 0) (Early : Le
 
   by_put : (p : Passage ClientRole) (leg : Leg) (pick : Option (ClientRole × Message))
       → Stands p.role p.came p.put → PutKeeps Stands leg p.came p.put pick
-      → Stands (put_by p leg pick).role
-      (put_by p leg pick).came
-      (put_by p leg pick).put
+      → Stands (put_by p leg pick).role (put_by p leg pick).came (put_by p leg pick).put
   by_put p leg None h goes = h
   by_put p leg (Some one) h goes = goes
 
@@ -263,6 +162,8 @@ module _ (config : ClientConfig) (Comes : Leg → Cookie → Type 0) (Early : Le
   only (inl is) = is
   only (inr never) = absurd never
 
+  -- at a put it matters whether the client was opened early, and at a call for a replacement that it
+  -- is open; all other moves are steps
   move_kept : (p : EndPassage ClientRole) (move : EndMove)
       → MayEndMove client_rules p.passage.role move
       → ((leg : Leg) (cookie : Cookie) → move ≡ Moves (Up leg cookie) → Comes leg cookie)
@@ -282,13 +183,13 @@ module _ (config : ClientConfig) (Comes : Leg → Cookie → Type 0) (Early : Le
 
 -- ---- all moves
 
-moved_more : {S : Type 0} (rules : Rules S) (acts : Acts S) (p : EndPassage S)
+moved_more : {S : Type 0} (rules : Rules S) (calls : Acts S) (p : EndPassage S)
     (past : List EndMove) (move : EndMove)
-    → all_end_moved rules acts p (past ++ move ∷ [])
-    ≡ end_moved rules acts (all_end_moved rules acts p past) move
-moved_more rules acts p [] move = refl
-moved_more rules acts p (one ∷ past) move =
-    moved_more rules acts (end_moved rules acts p one) past move
+    → all_end_moved rules calls p (past ++ move ∷ [])
+    ≡ end_moved rules calls (all_end_moved rules calls p past) move
+moved_more rules calls p [] move = refl
+moved_more rules calls p (one ∷ past) move =
+    moved_more rules calls (end_moved rules calls p one) past move
 
 come_up : (past : List EndMove) (move : EndMove) (moves : List EndMove) (leg : Leg)
     (cookie : Cookie) → move ≡ Moves (Up leg cookie)
@@ -302,6 +203,7 @@ module _ (config : ClientConfig) (all : List EndMove) where
       Holds config (HasComeUp all) (OpenedBefore config all) p.passage.role p.passage.came
       p.passage.put
 
+  -- behind the first of the moves, and then the others
   moves_kept : (past moves : List EndMove) (p : EndPassage ClientRole) → all ≡ past ++ moves
       → client_moved config past ≡ p → AreAllowedAtEnd client_rules acts p moves → Kept p
       → Kept (all_end_moved client_rules acts p moves)

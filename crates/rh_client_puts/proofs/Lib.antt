@@ -1,4 +1,6 @@
+mod Fronts
 mod Channels
+mod Openings
 mod Facts
 mod Changes
 mod Writing

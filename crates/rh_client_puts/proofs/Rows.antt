@@ -1,5 +1,5 @@
 -- what the rows of a client keep, as what comes is taken or refused
-use Rattle.std.proofs.Common.{◌≡◌, ℕ, ◌==◌, nat_lt, Bool, true, false, ◌&&◌, ◌||◌, not, if◌then◌else◌, List, [], ◌∷◌, ◌++◌, Some, None, Ok, Err, refl, sym, ap, subst}
+use Rattle.std.proofs.Common.{◌≡◌, ℕ, ◌==◌, nat_lt, Bool, true, false, ◌&&◌, ◌||◌, not, if◌then◌else◌, List, [], ◌∷◌, ◌++◌, Some, None, Ok, Err, refl, sym, subst}
 use Rattle.std.proofs.lemmas.Bool.{false≢true, and_parts}
 use Rattle.std.specs.Option.{is_some}
 use Rattle.std.specs.declared.option.Option.{Option}
@@ -7,7 +7,7 @@ use Rattle.rh_rts.specs.declared.command.Cookie.{Cookie}
 use Rattle.rh_http.specs.declared.config.ClientConfig.{ClientConfig}
 use Rattle.rh_sig.specs.declared.named.Named.{Named}
 use Rattle.rh_sig.specs.declared.named.Named.TheVariants as named
-use Rattle.rh_line.specs.Lines.{after_admit, channel_of, after_end, after_finish}
+use Rattle.rh_line.specs.Lines.{channel_of, after_end, after_finish}
 use Rattle.rh_line.specs.declared.leg.Leg.{Leg}
 use Rattle.rh_line.specs.declared.leg.LegKind.{LegKind}
 use Rattle.rh_line.specs.declared.leg.LegKind.TheVariants.{ClientOut, OutServer, ClientIn, InServer}
@@ -42,7 +42,7 @@ use Rattle.rh_client.specs.Ending.{end_channel, end_on, on_end_b2}
 use Rattle.rh_client.specs.Client.{pdu_by, on_packet, packet_by}
 use Rattle.rh_client_puts.specs.Puts.{in_way, out_way, HasOpened}
 use Rattle.rh_client_puts.proofs.Channels.{answers}
-use Rattle.rh_client_puts.proofs.Facts.{view, seen_in, seen_out, heard, opened_last}
+use Rattle.rh_client_puts.proofs.Facts.{view, heard, with_ins, with_outs, opened_last}
 use Rattle.rh_client_puts.proofs.Changes.{Holds, at, ended, begin_out_kept, passed_kept}
 
 put_asked : (opening : Opening) → is_put opening ≡ true → is_asked opening ≡ true
@@ -140,16 +140,9 @@ module _ (config : ClientConfig) (Comes : Leg → Cookie → Type 0) (Early : Le
             })
             (λ f.
             let here = at config Comes Early s (In in_stage.Asked out_waits) came put e h in
-            record {
-              same = here.same;
-              opens = here.opens;
-              under_way = here.under_way;
-              ins = answers (in_way config Comes) Comes Early (λ k j. refl) (seen_in s.writing)
-                  (seen_in s.in_successor) true false put (put_asked s.in_successor.opening f)
-                  here.ins;
-              outs = here.outs;
-              switches = here.switches;
-            })
+            with_ins config Comes Early here
+            (answers (in_way config Comes) Comes Early here.ins
+            (put_asked s.in_successor.opening f)))
         stands in_stage.Answered out_waits e = h
 
         by : (r : Replacement) → s.replacement ≡ r → Keeps (answer_by s window timeout r)
@@ -205,15 +198,8 @@ module _ (config : ClientConfig) (Comes : Leg → Cookie → Type 0) (Early : Le
             })
             (λ f.
             let here = at config Comes Early s (Out out_stage.Asked waiting) came put e h in
-            record {
-              same = here.same;
-              opens = here.opens;
-              under_way = here.under_way;
-              ins = here.ins;
-              outs = answers (out_way config) Comes Early (λ k j. refl) (seen_out s.current)
-                  (seen_out s.out_successor) true false put f here.outs;
-              switches = here.switches;
-            })
+            with_outs config Comes Early here refl
+            (answers (out_way config) Comes Early here.outs f))
         stands waiting out_stage.Answered e = h
         stands waiting out_stage.Switched e = h
         stands waiting out_stage.Finished e = h

@@ -9,7 +9,8 @@ use Rattle.rh_sig.specs.declared.named.Named.{Named}
 use Rattle.rh_sig.specs.declared.named.Named.TheVariants.{ConnA1, ConnB1, ConnC2, InR1A1, InR1A5, OutR1A3, OutR1A7, OutR2C1, EndA1, AckTo, Ping}
 use Rattle.rh_sig.specs.declared.ranges.TheConstants.{PROTOCOL_VERSION}
 use Rattle.rh_line.specs.declared.leg.Leg.{Leg}
-use Rattle.rh_line.specs.declared.leg.LegKind.TheVariants.{ClientIn}
+use Rattle.rh_line.specs.declared.leg.LegKind.{LegKind}
+use Rattle.rh_line.specs.declared.leg.LegKind.TheVariants.{ClientIn, ClientOut}
 use Rattle.rh_shell.specs.Rules.{Message, Text, Pdu, Packet}
 use Rattle.rh_shell.specs.Moves.{OnLeg, EndMove}
 use Rattle.rh_shell.specs.Wires.{of_leg}
@@ -21,36 +22,38 @@ use Rattle.rh_client_sends.specs.Sends.{HasComeUp}
 
 -- ---- a channel
 
--- the channels of a direction: their legs, and what stands there first, as the one below has this
--- number
+-- what stands on the legs of a direction's channels, of each by the number of the one below it
 pub record Direction : Type 1 where
-  pub leg : ℕ → Leg
+  pub kind : LegKind
   pub request : ℕ → List ℕ
-  -- the packet of the first channel, by its cookie, and of a successor, by its predecessor's and its
-  -- own
+  -- the packet of the first channel, by its cookie, and of another, by the cookie of the one below
+  -- it and its own
   pub first : Cookie → Named
   pub next : Cookie → Cookie → Named
   -- what may stand behind that
   pub Rest : ℕ → List Message → Type 0
 
--- Comes says of a leg and a cookie that the leg came up with it, and Early of a leg that the client
--- was opened before anything was put there
+abbrev pub leg_of : Direction → ℕ → Leg
+leg_of way n = record { kind = way.kind; number = n }
+
+-- below, Comes says of a leg and a cookie that the leg came up with it, and Early of a leg that the
+-- client was opened before anything was put there
 
 -- the first channel's packet names the cookie with which its leg came up
 pub record Opens (way : Direction) (Comes : Leg → Cookie → Type 0) (packet : Named) : Type 0 where
   pub own : Cookie
   pub is : packet ≡ way.first own
-  pub names : Comes (way.leg 1) own
+  pub names : Comes (leg_of way 1) own
 
--- a successor's names its own, and that of the channel below it, where that isn't the first of a
--- client that was opened early
+-- that of another names its own, and the cookie of the channel below it, where that isn't the first
+-- of a client that was opened early
 pub record Succeeds (way : Direction) (Comes : Leg → Cookie → Type 0) (Early : Leg → Type 0)
     (m : ℕ) (packet : Named) : Type 0 where
   pub before : Cookie
   pub own : Cookie
   pub is : packet ≡ way.next before own
-  pub names : Comes (way.leg (suc (suc m))) own
-  pub follows : Comes (way.leg (suc m)) before ⊎ ((m ≡ 0) × Early (way.leg 1))
+  pub names : Comes (leg_of way (suc (suc m))) own
+  pub follows : Comes (leg_of way (suc m)) before ⊎ ((m ≡ 0) × Early (leg_of way 1))
 
 abbrev pub Begins : Direction → (Leg → Cookie → Type 0) → (Leg → Type 0) → ℕ → Named → Type 0
 Begins way Comes Early zero packet = Opens way Comes packet
@@ -96,7 +99,7 @@ IsBehind IsNext (Packet packet) = IsBehindPacket IsNext packet
 
 abbrev pub in_way : ClientConfig → (Leg → Cookie → Type 0) → Direction
 in_way config Comes = record {
-  leg = ci;
+  kind = ClientIn;
   request = λ n. in_request config;
   first = λ own.
       ConnB1 PROTOCOL_VERSION config.connection own config.lifetime config.keepalive config.group;
@@ -117,7 +120,7 @@ OutRest (suc n) messages = (messages ≡ []) ⊎ (messages ≡ Packet OutR2C1 �
 
 abbrev pub out_way : ClientConfig → Direction
 out_way config = record {
-  leg = co;
+  kind = ClientOut;
   request = λ n. out_request config (out_length n);
   first = λ own. ConnA1 PROTOCOL_VERSION config.connection own config.window;
   next = λ before own. OutR1A3 PROTOCOL_VERSION config.connection before own config.window;
@@ -133,7 +136,7 @@ pub record HasOpened (came : List OnLeg) : Type 0 where
   pub timeout : ℕ
   pub has : Has (ConnC2 version window timeout) (of_leg (co 1) came)
 
--- behind some of the moves it had come, and nothing was put on the leg
+-- it had come behind the first of the moves, when nothing was put on the leg yet
 pub record OpenedBefore (config : ClientConfig) (moves : List EndMove) (leg : Leg)
     : Type 0 where
   pub past : List EndMove

@@ -1,5 +1,5 @@
-//! What a client's channels begin with, and to which it switches. These functions do nothing: their
-//! contracts are the laws.
+//! What a client's channels begin with, and to which it switches. These functions do nothing:
+//! their contracts are the laws.
 
 ghost use Rattle.std.specs.Prelude.{List};
 ghost use Rattle.rh_http.specs.declared.config.ClientConfig.{ClientConfig};
@@ -12,8 +12,8 @@ ghost use Rattle.rh_client_puts.specs.Puts.{OpensInChannels, OpensOutChannels, S
 /// to the server, END/A1, IN_R1/A5 and Pings. The first channel begins by CONN/B1 with the cookie
 /// with which its leg came up; each other by IN_R1/A1 with that cookie, and with the cookie with
 /// which the channel below it came up, unless it is the second and the client was opened by CONN/C2
-/// before anything was put on the first. An IN_R1/A5 has the cookie with which the next channel came
-/// up. Nothing stands on a leg of number 0 (MS-RPCH 2.2.4; successors are this profile's).
+/// before anything was put on the first. An IN_R1/A5 has the cookie with which the next channel
+/// came up. Nothing stands on a leg of number 0 (MS-RPCH 2.2.4; successors are this profile's).
 pub fn a_client_opens_in_channels_in_order()
     ensures { (config : ClientConfig) (moves : List EndMove) → AreAllowedMoves config moves
         → OpensInChannels config moves }
