@@ -162,8 +162,8 @@ module _ (config : ClientConfig) (Comes : Leg → Cookie → Type 0) (Early : Le
   only (inl is) = is
   only (inr never) = absurd never
 
-  -- at a put it matters whether the client was opened early, and at a call for a replacement that it
-  -- is open; all other moves are steps
+  -- at a put it matters whether the client was opened early, and at a call for a replacement that
+  -- it is open; all other moves are steps
   move_kept : (p : EndPassage ClientRole) (move : EndMove)
       → MayEndMove client_rules p.passage.role move
       → ((leg : Leg) (cookie : Cookie) → move ≡ Moves (Up leg cookie) → Comes leg cookie)
