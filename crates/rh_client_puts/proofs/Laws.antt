@@ -27,7 +27,7 @@ use Rattle.rh_client.specs.Time.{ping_by}
 use Rattle.rh_client.specs.Client.{acts}
 use Rattle.rh_client.specs.Client.{rules as client_rules}
 use Rattle.rh_client.specs.Order.{AreAllowedMoves, client_moved, client_started}
-use Rattle.rh_client_sends.specs.Sends.{HasComeUp}
+use Rattle.rh_passages.specs.Rising.{HasComeUp}
 use Rattle.rh_client_sends.proofs.Steps.{StepsKeep, end_moves_keep}
 use Rattle.rh_client_puts.specs.Puts.{in_way, out_way, HasOpened, OpenedBefore, OpensInChannels, OpensOutChannels, SwitchesInOrder}
 use Rattle.rh_client_puts.proofs.Channels.{starts, ups}

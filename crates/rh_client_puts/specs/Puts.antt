@@ -18,7 +18,7 @@ use Rattle.rh_passages.specs.Passing.{Has, of_kind}
 use Rattle.rh_client.specs.declared.lengths.TheConstants.{CONN_A1_LEN, OUT_R1_A3_C1_LEN}
 use Rattle.rh_client.specs.State.{ci, co}
 use Rattle.rh_client.specs.Order.{client_moved}
-use Rattle.rh_client_sends.specs.Sends.{HasComeUp}
+use Rattle.rh_passages.specs.Rising.{HasComeUp}
 
 -- ---- a channel
 
