@@ -435,7 +435,8 @@ module _ (came put : Named → Bool) (base : ℕ) (leads : Leads came put base) 
   in_proxy_owes config moves to =
       let p = started (first config) in
       let paid = (moves_pay proxy_rules (λ s leg. Unit {0}) Known owes worth put steps to counted
-      rises here p moves (any_rise proxy_rules p moves) (tt, omega arith)).1 in
+      rises here p moves (any_rise proxy_rules (λ s leg. Unit {0}) (λ s leg. tt) p moves)
+      (tt, omega arith)).1 in
       omega (arith, paid)
 
   pub in_proxy_pays : (config : InProxyConfig) (moves : List Move) (to : Leg)

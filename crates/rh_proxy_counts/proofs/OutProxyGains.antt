@@ -23,21 +23,22 @@ use Rattle.rh_proxy_counts.proofs.Waits.{IsSame, waits, forwarded_waits, refused
 use Rattle.rh_proxy_counts.proofs.OutProxyOwes as due
 use Rattle.rh_proxy_counts.proofs.OutProxyOwes.{Seen, seen, Leads, Known, is_early, is_answering, is_response_due, first_is_early, both_ways, answer_owes, if_owes, marked_owes, other_owes, same_pdu, same_c1, same_ack, co_at, os_at}
 
-module _ (client server put : Named → Bool) (leads : Leads client server put) (n : ℕ) where
+module _ (client server put : Named → Bool) (strict : Bool)
+    (leads : Leads client server put strict) (n : ℕ) where
   abbrev owes : OutProxy → ℕ
-  owes = due.owes put n
+  owes = due.owes put n strict leads.closed
 
   abbrev Knows : OutProxy → Type 0
-  Knows = due.Knows put n
+  Knows = due.Knows put n strict leads.closed
 
   abbrev Gains : ℕ → OutProxy → Done → Type 0
-  Gains = due.Gains put n
+  Gains = due.Gains put n strict leads.closed
 
   abbrev channel_owes : OutProxyConfig → Channel → ℕ
-  channel_owes = due.channel_owes put n
+  channel_owes = due.channel_owes put n strict leads.closed
 
   abbrev timeout_owes : OutProxyConfig → Channel → ℕ
-  timeout_owes = due.timeout_owes put n
+  timeout_owes = due.timeout_owes put n strict leads.closed
 
   module _ (s : OutProxy) (h : Knows s) where
     -- a packet opens the channel
@@ -45,7 +46,7 @@ module _ (client server put : Named → Bool) (leads : Leads client server put) 
         → channel_owes s.config c + timeout_owes s.config c ≤ k
         → Gains k s (taken (opened s c size))
     opened_gains k c size known worth = (
-      record { number = h.number; down = h.down; known = λ e. known },
+      record { number = h.number; down = h.down; known = λ e f. known },
       (let first = if_owes (is_early s.server) (channel_owes s.config s.channel)
           (channel_owes s.config c) in
           let now = one_if (put (named.ConnA3 s.config.timeout)) in
@@ -76,7 +77,7 @@ module _ (client server put : Named → Bool) (leads : Leads client server put) 
         (omega (arith, worth)))
         (λ e. (h, omega arith))
     co_gains count named.OutR2C1 =
-        due.same_gains put n _ s (on_out_r2_c1 s count) h (same_c1 s count)
+        due.same_gains put n strict leads.closed _ s (on_out_r2_c1 s count) h (same_c1 s count)
     co_gains count m = (h, omega arith)
 
     forward_gains : (m : Named) → Gains (one_if (put m)) s (forwarded s m)
@@ -102,7 +103,8 @@ module _ (client server put : Named → Bool) (leads : Leads client server put) 
     passed_gains : (k to : ℕ) (m : Named) → one_if (put m) ≤ k → Gains k s (passed_on s to m)
     passed_gains k to m worth =
         by_test (Gains k s) (is_carrying s && (to == 0)) (forwarded s m) (unexpected s)
-        (λ e. due.more_gains put n (one_if (put m)) k s (forwarded s m) worth (forward_gains m))
+        (λ e. due.more_gains put n strict leads.closed (one_if (put m)) k s (forwarded s m) worth
+        (forward_gains m))
         (λ e. (h, omega arith))
 
   c1_gains : (s : OutProxy) (h : Knows s) (c : Channel) → s.channel ≡ c
@@ -121,11 +123,11 @@ module _ (client server put : Named → Bool) (leads : Leads client server put) 
       t = record s { channel = channels.Joined connection cookie }
 
       k : Knows t
-      k = record { number = h.number; down = h.down; known = λ f. refl }
+      k = record { number = h.number; down = h.down; known = λ f g. refl }
 
       -- it owes the same
       same : owes t ≡ owes s
-      same = ap (λ (c : Channel). due.owed put n (record {
+      same = ap (λ (c : Channel). due.owed put n strict leads.closed (record {
         config = s.config;
         answer = s.answer;
         channel = c;
@@ -148,7 +150,7 @@ module _ (client server put : Named → Bool) (leads : Leads client server put) 
     ack_gains k to received available cookie =
         by_test (Gains k s) (to == out_proxy) (on_ack s received available cookie)
         (passed_on s to (named.AckTo 0 received available cookie))
-        (λ e. due.same_gains put n k s (on_ack s received available cookie) h
+        (λ e. due.same_gains put n strict leads.closed k s (on_ack s received available cookie) h
         (same_ack s received available cookie))
         (λ e. let none = ap one_if (leads.acks 0 received available cookie) in
         passed_gains s h k to (named.AckTo 0 received available cookie) (omega (arith, none)))

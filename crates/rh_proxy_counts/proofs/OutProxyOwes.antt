@@ -110,11 +110,12 @@ first_is_early servers.Marked e = absurd cc
 pub both_ways : {X : Type 0} (b : Bool) → b ≡ true → b ≡ false → X
 both_ways b e f = absurd (true≢false (sym e ∙ f))
 
--- as long as the leg to the server is not up no response is due, and one is due for a channel alone
-pub record Known (n : ℕ) (x : Seen) : Type 0 where
+-- in a strict mode, where legs come up only where they may: as long as the leg to the server is not
+-- up no response is due, and one is due for a channel alone
+pub record Known (n : ℕ) (strict : Bool) (x : Seen) : Type 0 where
   pub number : x.config.number ≡ n
-  pub down : is_server_down x.server ≡ true → is_answering x.answer ≡ false
-  pub known : is_response_due x.answer ≡ true → is_known x.channel ≡ true
+  pub down : strict ≡ true → is_server_down x.server ≡ true → is_answering x.answer ≡ false
+  pub known : strict ≡ true → is_response_due x.answer ≡ true → is_known x.channel ≡ true
 
 -- ---- legs
 
@@ -126,9 +127,18 @@ os_at n = record { kind = OutServer; number = n }
 
 -- ---- what is due
 
+-- no packet passes that is put first to the server, or behind the response
+pub record IsClosed (put : Named → Bool) : Type 0 where
+  pub conn_a2 : (lifetime size : ℕ) (connection channel : Cookie)
+      → put (named.ConnA2 1 connection channel lifetime size) ≡ false
+  pub conn_a3 : (timeout : ℕ) → put (named.ConnA3 timeout) ≡ false
+  pub out_r1_a4 : (lifetime size timeout : ℕ) (connection predecessor channel : Cookie)
+      → put (named.OutR1A4 1 connection predecessor channel lifetime size timeout) ≡ false
+
 -- each packet that passes the test is put for one that came from the client or the server, and
 -- passes the test there
-pub record Leads (client server put : Named → Bool) : Type 0 where
+pub record Leads (client server put : Named → Bool) (strict : Bool) : Type 0 where
+  pub closed : strict ≡ false → IsClosed put
   pub connects : (version window lifetime size timeout : ℕ) (connection channel : Cookie)
       → one_if (put (named.ConnA2 1 connection channel lifetime size))
       + one_if (put (named.ConnA3 timeout))
@@ -167,6 +177,10 @@ pub if_owes : (t : Bool) (k other : ℕ)
     → (if t then other else 0) ≤ (if t then k else 0) + other
 if_owes true k other = omega arith
 if_owes false k other = omega arith
+
+pub if_zero : (t : Bool) (k : ℕ) → k ≡ 0 → (if t then k else 0) ≡ 0
+if_zero true k e = e
+if_zero false k e = refl
 
 module _ (down : Bool) (now later : ℕ) where
   -- before the leg to the server is up
@@ -211,143 +225,205 @@ module _ (down : Bool) (now later : ℕ) where
 
 -- ---- what is owed
 
-module _ (put : Named → Bool) (n : ℕ) where
-  -- the first packet to the server, by the channel
-  abbrev pub channel_owes : OutProxyConfig → Channel → ℕ
-  channel_owes config channels.Unknown = 0
-  channel_owes config (channels.New connection cookie) =
-      one_if (put (named.ConnA2 1 connection cookie config.lifetime config.window))
-  channel_owes config (channels.Joined connection cookie) =
-      one_if (put (named.ConnA2 1 connection cookie config.lifetime config.window))
-  channel_owes config (channels.Successor connection predecessor cookie) =
-      one_if (put (named.OutR1A4 1 connection predecessor cookie config.lifetime config.window
-      config.timeout))
+module _ (put : Named → Bool) (n : ℕ) (strict : Bool) (closed : strict ≡ false → IsClosed put)
+  where
+    -- the first packet to the server, by the channel
+    abbrev pub channel_owes : OutProxyConfig → Channel → ℕ
+    channel_owes config channels.Unknown = 0
+    channel_owes config (channels.New connection cookie) =
+        one_if (put (named.ConnA2 1 connection cookie config.lifetime config.window))
+    channel_owes config (channels.Joined connection cookie) =
+        one_if (put (named.ConnA2 1 connection cookie config.lifetime config.window))
+    channel_owes config (channels.Successor connection predecessor cookie) =
+        one_if (put (named.OutR1A4 1 connection predecessor cookie config.lifetime config.window
+        config.timeout))
 
-  -- and the timeout to the client
-  abbrev pub timeout_owes : OutProxyConfig → Channel → ℕ
-  timeout_owes config channels.Unknown = 0
-  timeout_owes config (channels.New connection cookie) = one_if (put (named.ConnA3 config.timeout))
-  timeout_owes config (channels.Joined connection cookie) =
-      one_if (put (named.ConnA3 config.timeout))
-  timeout_owes config (channels.Successor connection predecessor cookie) = 0
+    -- and the timeout to the client
+    abbrev pub timeout_owes : OutProxyConfig → Channel → ℕ
+    timeout_owes config channels.Unknown = 0
+    timeout_owes config (channels.New connection cookie) = one_if (put (named.ConnA3 config.timeout))
+    timeout_owes config (channels.Joined connection cookie) =
+        one_if (put (named.ConnA3 config.timeout))
+    timeout_owes config (channels.Successor connection predecessor cookie) = 0
 
-  abbrev pub mark_owes : Named → Mark → ℕ
-  mark_owes m marks.Came = one_if (put m)
-  mark_owes m mark = 0
+    abbrev pub mark_owes : Named → Mark → ℕ
+    mark_owes m marks.Came = one_if (put m)
+    mark_owes m mark = 0
 
-  abbrev pub owed : Seen → ℕ
-  owed x =
-      waits put x.waiting.due + mark_owes named.EndB2 x.end
-      + mark_owes named.OutR1A10 x.handover
-      + (if is_early x.server then channel_owes x.config x.channel else 0)
-      + answer_owes x.answer (is_server_down x.server) (one_if (put (named.ConnA3
-      x.config.timeout))) (timeout_owes x.config x.channel)
+    abbrev pub owed : Seen → ℕ
+    owed x =
+        waits put x.waiting.due + mark_owes named.EndB2 x.end
+        + mark_owes named.OutR1A10 x.handover
+        + (if is_early x.server then channel_owes x.config x.channel else 0)
+        + answer_owes x.answer (is_server_down x.server) (one_if (put (named.ConnA3
+        x.config.timeout))) (timeout_owes x.config x.channel)
 
-  abbrev pub owes : OutProxy → ℕ
-  owes s = owed (seen s)
+    abbrev pub owes : OutProxy → ℕ
+    owes s = owed (seen s)
 
-  abbrev pub Knows : OutProxy → Type 0
-  Knows s = Known n (seen s)
+    abbrev pub Knows : OutProxy → Type 0
+    Knows s = Known n strict (seen s)
 
-  abbrev pub Owes : ℕ → OutProxy → Type 0
-  Owes = pays.Owes Knows owes
+    abbrev pub Owes : ℕ → OutProxy → Type 0
+    Owes = pays.Owes Knows owes
 
-  abbrev pub Gains : ℕ → OutProxy → Done → Type 0
-  Gains = pays.Gains Knows owes
+    abbrev pub Gains : ℕ → OutProxy → Done → Type 0
+    Gains = pays.Gains Knows owes
 
-  abbrev pub Spends : OutProxy → Pick → Type 0
-  Spends = pays.Spends Knows owes put
+    abbrev pub Spends : OutProxy → Pick → Type 0
+    Spends = pays.Spends Knows owes put
 
-  pub same_owes : (s t : OutProxy) → Knows s → Same s t → Owes (owes s) t
-  same_owes s t h same =
-      let is = ap owed same in (subst (Known n) (sym same) h, omega (arith, is))
+    pub same_owes : (s t : OutProxy) → Knows s → Same s t → Owes (owes s) t
+    same_owes s t h same =
+        let is = ap owed same in (subst (Known n strict) (sym same) h, omega (arith, is))
 
-  pub same_gains : (k : ℕ) (s : OutProxy) (x : Done) → Knows s → Same s x.0 → Gains k s x
-  same_gains k s (t, Ok taken) h same =
-      let is = ap owed same in (subst (Known n) (sym same) h, omega (arith, is))
-  same_gains k s (t, Err why) h same = same_owes s t h same
+    pub same_gains : (k : ℕ) (s : OutProxy) (x : Done) → Knows s → Same s x.0 → Gains k s x
+    same_gains k s (t, Ok taken) h same =
+        let is = ap owed same in (subst (Known n strict) (sym same) h, omega (arith, is))
+    same_gains k s (t, Err why) h same = same_owes s t h same
 
-  pub more_gains : (j k : ℕ) (s : OutProxy) (x : Done) → j ≤ k → Gains j s x → Gains k s x
-  more_gains j k s (t, Ok taken) more h = let less = h.1 in (h.0, omega (arith, more, less))
-  more_gains j k s (t, Err why) more h = h
+    pub more_gains : (j k : ℕ) (s : OutProxy) (x : Done) → j ≤ k → Gains j s x → Gains k s x
+    more_gains j k s (t, Ok taken) more h = let less = h.1 in (h.0, omega (arith, more, less))
+    more_gains j k s (t, Err why) more h = h
 
-  -- ---- ups, heads, and what is lost
+    -- ---- where no packet passes that is put first
 
-  server_up : (s : OutProxy) → Knows s → is_known s.channel ≡ true
-      → is_server_down s.server ≡ true
-      → Owes (owes s)
-      (record s { server = servers.FirstDue; answer = answers.ResponseDue })
-  server_up s h known down = (
-    record { number = h.number; down = λ e. absurd cc; known = λ e. known },
-    (let first = ap (λ (t : Bool). if t then channel_owes s.config s.channel else 0)
-        (down_is_early s.server down) in
-        let now = one_if (put (named.ConnA3 s.config.timeout)) in
-        let later = timeout_owes s.config s.channel in
-        let is = waits_owes (is_server_down s.server) now later s.answer (h.down down) in
-        let yes = ap (λ (t : Bool). if t then later else 0) down in
-        omega (arith, first, is, yes)),
-  )
+    pub modes : (X : Type 0) → (strict ≡ true → X) → (strict ≡ false → X) → X
+    modes X so else_so = by strict refl
+      where
+        by : (t : Bool) → strict ≡ t → X
+        by true e = so e
+        by false e = else_so e
 
-  wanted : (one other free : Bool) → one || (other && free) ≡ true → other ≡ false → one ≡ true
-  wanted true other free e f = refl
-  wanted false true free e f = absurd cc
-  wanted false false free e f = absurd cc
+    pub now_zero : strict ≡ false → (timeout : ℕ) → one_if (put (named.ConnA3 timeout)) ≡ 0
+    now_zero e timeout = ap one_if ((closed e).conn_a3 timeout)
 
-  pub up_owes : (s : OutProxy) (leg : Leg) (cookie : Cookie) → Knows s
-      → IsTrue (proxy_rules.may_up s leg) → Owes (owes s) (up s leg cookie)
-  up_owes s leg cookie h may =
-      by_test (Owes (owes s)) (is_co s leg) (record s { client = clients.Up })
-      (record s { server = servers.FirstDue; answer = answers.ResponseDue })
-      (λ e. same_owes s (record s { client = clients.Up }) h refl)
-      (λ e.
-      let wish = wanted (wants s leg) (is_co s leg) (is_client_down s.client) may e in
-      let both = and_parts (is_known s.channel) (is_server_down s.server)
-      (and_parts (is_os s leg) (is_known s.channel && is_server_down s.server) wish).1 in
-      server_up s h both.0 both.1)
+    pub later_zero : strict ≡ false → (config : OutProxyConfig) (c : Channel)
+        → timeout_owes config c ≡ 0
+    later_zero e config channels.Unknown = refl
+    later_zero e config (channels.New connection cookie) = now_zero e config.timeout
+    later_zero e config (channels.Joined connection cookie) = now_zero e config.timeout
+    later_zero e config (channels.Successor connection predecessor cookie) = refl
 
-  -- another answer, which is no response
-  pub answers_owes : (s : OutProxy) (a : Answer) → Knows s → is_answering a ≡ false
-      → (is_response_due a ≡ true → is_known s.channel ≡ true)
-      → Owes (owes s) (record s { answer = a })
-  answers_owes s a h quiet known = (
-    record { number = h.number; down = λ e. quiet; known = known },
-    (let now = one_if (put (named.ConnA3 s.config.timeout)) in
-        let later = timeout_owes s.config s.channel in
-        let is = waits_owes (is_server_down s.server) now later a quiet in
-        let less = echo_owes (is_server_down s.server) now later s.answer h.down in
-        omega (arith, is, less)),
-  )
+    first_zero : strict ≡ false → (config : OutProxyConfig) (c : Channel)
+        → channel_owes config c ≡ 0
+    first_zero e config channels.Unknown = refl
+    first_zero e config (channels.New connection cookie) =
+        ap one_if ((closed e).conn_a2 config.lifetime config.window connection cookie)
+    first_zero e config (channels.Joined connection cookie) =
+        ap one_if ((closed e).conn_a2 config.lifetime config.window connection cookie)
+    first_zero e config (channels.Successor connection predecessor cookie) =
+        ap one_if ((closed e).out_r1_a4 config.lifetime config.window config.timeout connection
+        predecessor cookie)
 
-  pub head_owes : (s : OutProxy) (leg : Leg) (text : List ℕ) → Knows s
-      → Owes (owes s) (head s leg text).0
-  head_owes s leg text h = by (request_verdict false text)
-    where
-      by : (v : Result Asked HttpFault) → Owes (owes s) (head_by s v).0
-      by (Err fault) = (h, omega arith)
-      by (Ok request) =
-          by_test (λ (x : OutProxy × Result HeadTaken HeadRefused). Owes (owes s) x.0)
-          (nat_le request.length greatest_echo) _ _
-          (λ e. answers_owes s answers.EchoDue h refl (λ f. absurd cc))
-          (λ e. same_owes s (record s { request = Some request }) h refl)
+    -- ---- ups, heads, and what is lost
 
-  pub drawn_owes : (s : OutProxy) (leg : Leg) → Knows s → Owes (owes s) (drawn s leg)
-  drawn_owes s leg h =
-      by_test (Owes (owes s)) (is_co s leg && is_echo_put s.answer)
-      (record s { answer = answers.EchoDrawn }) s
-      (λ e. answers_owes s answers.EchoDrawn h refl (λ f. absurd cc))
-      (λ e. (h, omega arith))
+    server_up : (s : OutProxy) → Knows s → strict ≡ true → is_known s.channel ≡ true
+        → is_server_down s.server ≡ true
+        → Owes (owes s)
+        (record s { server = servers.FirstDue; answer = answers.ResponseDue })
+    server_up s h e known down = (
+      record { number = h.number; down = λ f g. absurd cc; known = λ f g. known },
+      (let first = ap (λ (t : Bool). if t then channel_owes s.config s.channel else 0)
+          (down_is_early s.server down) in
+          let now = one_if (put (named.ConnA3 s.config.timeout)) in
+          let later = timeout_owes s.config s.channel in
+          let is = waits_owes (is_server_down s.server) now later s.answer (h.down e down) in
+          let yes = ap (λ (t : Bool). if t then later else 0) down in
+          omega (arith, first, is, yes)),
+    )
 
-  marked : (s : OutProxy) → Knows s → Owes (owes s) (record s { server = servers.Marked })
-  marked s h = (
-    record { number = h.number; down = λ e. absurd cc; known = h.known },
-    (let now = one_if (put (named.ConnA3 s.config.timeout)) in
-        let later = timeout_owes s.config s.channel in
-        let less = marked_owes (is_server_down s.server) now later s.answer in
-        omega (arith, less)),
-  )
+    -- whether it may or not
+    any_up : (s : OutProxy) → Knows s → strict ≡ false
+        → Owes (owes s)
+        (record s { server = servers.FirstDue; answer = answers.ResponseDue })
+    any_up s h e = (
+      record {
+        number = h.number;
+        down = λ f g. both_ways strict f e;
+        known = λ f g. both_ways strict f e;
+      },
+      (let first = first_zero e s.config s.channel in
+          let later = later_zero e s.config s.channel in omega (arith, first, later)),
+    )
 
-  pub mark_owed : (s : OutProxy) (leg : Leg) → Knows s → Owes (owes s) (mark s leg)
-  mark_owed s leg h =
-      by_test (Owes (owes s)) (is_co s leg) (record s { client = clients.Marked })
-      (record s { server = servers.Marked })
-      (λ e. same_owes s (record s { client = clients.Marked }) h refl) (λ e. marked s h)
+    wanted : (one other free : Bool) → one || (other && free) ≡ true → other ≡ false → one ≡ true
+    wanted true other free e f = refl
+    wanted false true free e f = absurd cc
+    wanted false false free e f = absurd cc
+
+    abbrev pub MayUp : OutProxy → Leg → Type 0
+    MayUp s leg = strict ≡ true → IsTrue (proxy_rules.may_up s leg)
+
+    pub up_owes : (s : OutProxy) (leg : Leg) (cookie : Cookie) → Knows s → MayUp s leg
+        → Owes (owes s) (up s leg cookie)
+    up_owes s leg cookie h may =
+        by_test (Owes (owes s)) (is_co s leg) (record s { client = clients.Up })
+        (record s { server = servers.FirstDue; answer = answers.ResponseDue })
+        (λ e. same_owes s (record s { client = clients.Up }) h refl)
+        (λ e. modes (Owes (owes s)
+        (record s { server = servers.FirstDue; answer = answers.ResponseDue }))
+        (λ f.
+        let wish = wanted (wants s leg) (is_co s leg) (is_client_down s.client) (may f) e in
+        let both = and_parts (is_known s.channel) (is_server_down s.server)
+        (and_parts (is_os s leg) (is_known s.channel && is_server_down s.server) wish).1 in
+        server_up s h f both.0 both.1)
+        (λ f. any_up s h f))
+
+    -- another answer, which is no response
+    pub answers_owes : (s : OutProxy) (a : Answer) → Knows s → is_answering a ≡ false
+        → (is_response_due a ≡ true → is_known s.channel ≡ true)
+        → Owes (owes s) (record s { answer = a })
+    answers_owes s a h quiet known = (
+      record { number = h.number; down = λ e f. quiet; known = λ e. known },
+      (let now = one_if (put (named.ConnA3 s.config.timeout)) in
+          let later = timeout_owes s.config s.channel in
+          let is = waits_owes (is_server_down s.server) now later a quiet in
+          omega (arith, is, less)),
+    )
+      where
+        less : (if is_server_down s.server then timeout_owes s.config s.channel else 0)
+            ≤ answer_owes s.answer (is_server_down s.server)
+            (one_if (put (named.ConnA3 s.config.timeout))) (timeout_owes s.config s.channel)
+        less =
+            modes _
+            (λ e. echo_owes (is_server_down s.server)
+            (one_if (put (named.ConnA3 s.config.timeout))) (timeout_owes s.config s.channel)
+            s.answer (h.down e))
+            (λ e.
+            let none = if_zero (is_server_down s.server) (timeout_owes s.config s.channel)
+            (later_zero e s.config s.channel) in omega (arith, none))
+
+    pub head_owes : (s : OutProxy) (leg : Leg) (text : List ℕ) → Knows s
+        → Owes (owes s) (head s leg text).0
+    head_owes s leg text h = by (request_verdict false text)
+      where
+        by : (v : Result Asked HttpFault) → Owes (owes s) (head_by s v).0
+        by (Err fault) = (h, omega arith)
+        by (Ok request) =
+            by_test (λ (x : OutProxy × Result HeadTaken HeadRefused). Owes (owes s) x.0)
+            (nat_le request.length greatest_echo) _ _
+            (λ e. answers_owes s answers.EchoDue h refl (λ f. absurd cc))
+            (λ e. same_owes s (record s { request = Some request }) h refl)
+
+    pub drawn_owes : (s : OutProxy) (leg : Leg) → Knows s → Owes (owes s) (drawn s leg)
+    drawn_owes s leg h =
+        by_test (Owes (owes s)) (is_co s leg && is_echo_put s.answer)
+        (record s { answer = answers.EchoDrawn }) s
+        (λ e. answers_owes s answers.EchoDrawn h refl (λ f. absurd cc))
+        (λ e. (h, omega arith))
+
+    marked : (s : OutProxy) → Knows s → Owes (owes s) (record s { server = servers.Marked })
+    marked s h = (
+      record { number = h.number; down = λ e f. absurd cc; known = h.known },
+      (let now = one_if (put (named.ConnA3 s.config.timeout)) in
+          let later = timeout_owes s.config s.channel in
+          let less = marked_owes (is_server_down s.server) now later s.answer in
+          omega (arith, less)),
+    )
+
+    pub mark_owed : (s : OutProxy) (leg : Leg) → Knows s → Owes (owes s) (mark s leg)
+    mark_owed s leg h =
+        by_test (Owes (owes s)) (is_co s leg) (record s { client = clients.Marked })
+        (record s { server = servers.Marked })
+        (λ e. same_owes s (record s { client = clients.Marked }) h refl) (λ e. marked s h)

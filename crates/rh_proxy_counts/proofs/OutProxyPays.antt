@@ -1,5 +1,5 @@
 -- an out proxy puts no more packets of a kind than came for them
-use Rattle.std.proofs.Common.{◌≡◌, ℕ, ◌+◌, ◌≤◌, Bool, true, false, IsTrue, ◌&&◌, if◌then◌else◌, List, [], ◌∷◌, ◌++◌, length, Some, None, refl, sym, ap, ◌∙◌, subst, arith}
+use Rattle.std.proofs.Common.{◌≡◌, ℕ, ◌+◌, ◌≤◌, Bool, true, false, ◌&&◌, if◌then◌else◌, List, [], ◌∷◌, ◌++◌, length, Some, None, refl, sym, ap, ◌∙◌, subst, arith}
 use Rattle.std.specs.Prelude.{nat_le}
 use Rattle.std.proofs.lemmas.Bool.{and_parts}
 use Rattle.std.specs.declared.option.Option.{Option}
@@ -14,7 +14,7 @@ use Rattle.rh_order.proofs.ByNumber.{by_test}
 use Rattle.rh_shell.specs.declared.due.Due.{Due}
 use Rattle.rh_shell.specs.Rules.{Packet}
 use Rattle.rh_shell.specs.Shells.{one_if}
-use Rattle.rh_shell.specs.Moves.{OnLeg, Move, AreAllowed, started, all_moved}
+use Rattle.rh_shell.specs.Moves.{OnLeg, Move, started, all_moved}
 use Rattle.rh_shell.specs.Wires.{of_leg}
 use Rattle.rh_outproxy.specs.declared.state.Answer.{Answer}
 use Rattle.rh_outproxy.specs.declared.state.Answer.TheVariants as answers
@@ -35,43 +35,44 @@ use Rattle.rh_outproxy.specs.Machine.{rules as proxy_rules}
 use Rattle.rh_passages.specs.Passing.{count_of}
 use Rattle.rh_proxy_counts.proofs.Counts.{leg_is, one_counts, leg_rises, leg_here}
 use Rattle.rh_proxy_counts.proofs.Waits.{waits}
-use Rattle.rh_proxy_counts.proofs.Pays.{StepsPay, moves_pay, allowed_rise}
+use Rattle.rh_proxy_counts.proofs.Pays.{StepsPay, Rise, moves_pay}
 use Rattle.rh_proxy_counts.proofs.OutProxyOwes as due
-use Rattle.rh_proxy_counts.proofs.OutProxyOwes.{Seen, seen, Leads, Known, is_early, is_answering, is_response_due, first_is_early, both_ways, answer_owes, if_owes, marked_owes, other_owes, same_pdu, same_c1, same_ack, co_at, os_at}
+use Rattle.rh_proxy_counts.proofs.OutProxyOwes.{Seen, seen, Leads, Known, is_early, is_answering, is_response_due, first_is_early, if_zero, both_ways, answer_owes, if_owes, marked_owes, other_owes, same_pdu, same_c1, same_ack, co_at, os_at}
 use Rattle.rh_proxy_counts.proofs.OutProxyGains.{packet_gains}
 
-module _ (client server put : Named → Bool) (leads : Leads client server put) (n : ℕ) where
+module _ (client server put : Named → Bool) (strict : Bool)
+    (leads : Leads client server put strict) (n : ℕ) where
   abbrev owes : OutProxy → ℕ
-  owes = due.owes put n
+  owes = due.owes put n strict leads.closed
 
   abbrev Knows : OutProxy → Type 0
-  Knows = due.Knows put n
+  Knows = due.Knows put n strict leads.closed
 
   abbrev Owes : ℕ → OutProxy → Type 0
-  Owes = due.Owes put n
+  Owes = due.Owes put n strict leads.closed
 
   abbrev Spends : OutProxy → Pick → Type 0
-  Spends = due.Spends put n
+  Spends = due.Spends put n strict leads.closed
 
   abbrev channel_owes : OutProxyConfig → Channel → ℕ
-  channel_owes = due.channel_owes put n
+  channel_owes = due.channel_owes put n strict leads.closed
 
   abbrev timeout_owes : OutProxyConfig → Channel → ℕ
-  timeout_owes = due.timeout_owes put n
+  timeout_owes = due.timeout_owes put n strict leads.closed
 
   abbrev mark_owes : Named → Mark → ℕ
-  mark_owes = due.mark_owes put n
+  mark_owes = due.mark_owes put n strict leads.closed
 
   module _ (s : OutProxy) (h : Knows s) where
     or_spends : (a b : Pick) → Spends s a → Spends s b → Spends s (or_else a b)
     or_spends None b g k = k
     or_spends (Some pick) b g k = g
 
-    not_down : is_answering s.answer ≡ true → is_server_down s.server ≡ false
-    not_down e = by (is_server_down s.server) refl
+    not_down : strict ≡ true → is_answering s.answer ≡ true → is_server_down s.server ≡ false
+    not_down f e = by (is_server_down s.server) refl
       where
         by : (t : Bool) → is_server_down s.server ≡ t → is_server_down s.server ≡ false
-        by true d = both_ways (is_answering s.answer) e (h.down d)
+        by true d = both_ways (is_answering s.answer) e (h.down f d)
         by false d = d
 
     timeout_due : (c : Channel) → s.channel ≡ c → s.answer ≡ answers.ResponseDue
@@ -80,8 +81,8 @@ module _ (client server put : Named → Bool) (leads : Leads client server put) 
     timeout_due c e a due = (
       record {
         number = h.number;
-        down = λ d. both_ways (is_answering s.answer) (ap is_answering a) (h.down d);
-        known = λ f. absurd cc;
+        down = λ f d. both_ways (is_answering s.answer) (ap is_answering a) (h.down f d);
+        known = λ f g. absurd cc;
       },
       (let now = one_if (put (named.ConnA3 s.config.timeout)) in
           let later = timeout_owes s.config s.channel in
@@ -93,13 +94,26 @@ module _ (client server put : Named → Bool) (leads : Leads client server put) 
     behind_spends : (c : Channel) → s.channel ≡ c → s.answer ≡ answers.ResponseDue
         → Owes (owes s) (record s { answer = behind_response c })
     behind_spends channels.Unknown e a =
-        both_ways (is_known s.channel) (h.known (ap is_response_due a)) (ap is_known e)
+        due.modes put n strict leads.closed
+        (Owes (owes s) (record s { answer = behind_response channels.Unknown }))
+        (λ f. both_ways (is_known s.channel) (h.known f (ap is_response_due a)) (ap is_known e))
+        (λ f. timeout_due channels.Unknown e a
+        (sym (due.now_zero put n strict leads.closed f s.config.timeout)))
     behind_spends (channels.New connection cookie) e a =
         timeout_due (channels.New connection cookie) e a refl
     behind_spends (channels.Joined connection cookie) e a =
         timeout_due (channels.Joined connection cookie) e a refl
     behind_spends (channels.Successor connection predecessor cookie) e a =
-        due.answers_owes put n s answers.Put h refl (λ f. absurd cc)
+        due.answers_owes put n strict leads.closed s answers.Put h refl (λ f. absurd cc)
+
+    nothing_later : is_answering s.answer ≡ true
+        → (if is_server_down s.server then timeout_owes s.config s.channel else 0) ≡ 0
+    nothing_later e =
+        due.modes put n strict leads.closed _
+        (λ f. ap (λ (t : Bool). if t then timeout_owes s.config s.channel else 0)
+        (not_down f e))
+        (λ f. if_zero (is_server_down s.server) (timeout_owes s.config s.channel)
+        (due.later_zero put n strict leads.closed f s.config s.channel))
 
     answer_spends : (a : Answer) → s.answer ≡ a → Spends s (answer_by a s)
     answer_spends answers.Awaited e = tt
@@ -107,18 +121,19 @@ module _ (client server put : Named → Bool) (leads : Leads client server put) 
     answer_spends answers.EchoDrawn e = tt
     answer_spends answers.Put e = tt
     answer_spends answers.EchoDue e =
-        let less = due.answers_owes put n s answers.EchoPut h refl (λ f. absurd cc) in
+        let less = due.answers_owes put n strict leads.closed s answers.EchoPut h refl
+        (λ f. absurd cc) in
         let fits = less.1 in (less.0, omega (arith, fits))
     answer_spends answers.ResponseDue e =
         let less = behind_spends s.channel refl e in
         let fits = less.1 in (less.0, omega (arith, fits))
     answer_spends answers.TimeoutDue e = (
-      record { number = h.number; down = λ f. refl; known = λ f. absurd cc },
+      record { number = h.number; down = λ f g. refl; known = λ f g. absurd cc },
       (let one = one_counts put (named.ConnA3 s.config.timeout) in
           let now = one_if (put (named.ConnA3 s.config.timeout)) in
           let later = timeout_owes s.config s.channel in
           let is = ap (λ (a : Answer). answer_owes a (is_server_down s.server) now later) e in
-          let none = ap (λ (t : Bool). if t then later else 0) (not_down (ap is_answering e)) in
+          let none = nothing_later (ap is_answering e) in
           omega (arith, one, is, none)),
     )
 
@@ -190,7 +205,7 @@ module _ (client server put : Named → Bool) (leads : Leads client server put) 
         → channel_owes s.config c ≡ one_if (put m)
         → Spends s (Some (record s { server = servers.Up }, Packet m))
     first_put c m e first due = (
-      record { number = h.number; down = λ f. absurd cc; known = h.known },
+      record { number = h.number; down = λ f g. absurd cc; known = h.known },
       (let early = first_is_early s.server first in
           let now = one_if (put (named.ConnA3 s.config.timeout)) in
           let later = timeout_owes s.config s.channel in
@@ -245,18 +260,20 @@ module _ (client server put : Named → Bool) (leads : Leads client server put) 
       else (if is_os s leg then one_if (server m) else 0)
 
   abbrev MayUp : OutProxy → Leg → Type 0
-  MayUp s leg = IsTrue (proxy_rules.may_up s leg)
+  MayUp = due.MayUp put n strict leads.closed
 
   steps : StepsPay proxy_rules MayUp Knows owes worth put
   steps = record {
-    up = λ s leg cookie known may. due.up_owes put n s leg cookie known may;
-    head = λ s leg text known. due.head_owes put n s leg text known;
+    up = λ s leg cookie known may. due.up_owes put n strict leads.closed s leg cookie known may;
+    head = λ s leg text known. due.head_owes put n strict leads.closed s leg text known;
     pdu = λ s leg count bytes known.
-        due.same_gains put n 0 s (pdu s leg count bytes) known (same_pdu s leg count bytes);
-    packet = λ s leg count m known. packet_gains client server put leads n s known leg count m;
+        due.same_gains put n strict leads.closed 0 s (pdu s leg count bytes) known
+        (same_pdu s leg count bytes);
+    packet = λ s leg count m known.
+        packet_gains client server put strict leads n s known leg count m;
     put = λ s leg known. put_spends s known leg;
-    drawn = λ s leg known. due.drawn_owes put n s leg known;
-    mark = λ s leg known. due.mark_owed put n s leg known;
+    drawn = λ s leg known. due.drawn_owes put n strict leads.closed s leg known;
+    mark = λ s leg known. due.mark_owed put n strict leads.closed s leg known;
     ping = λ s leg known. (known, omega arith);
   }
 
@@ -297,13 +314,12 @@ module _ (client server put : Named → Bool) (leads : Leads client server put) 
       Fits k = counted log + k ≤ counted (log ++ (leg, Packet m) ∷ [])
 
   pub out_proxy_pays : (config : OutProxyConfig) (moves : List Move) → config.number ≡ n
-      → AreAllowed proxy_rules (started (new_proxy config)) moves → (to : Leg)
+      → Rise proxy_rules MayUp (started (new_proxy config)) moves → (to : Leg)
       → (let p = all_moved proxy_rules (started (new_proxy config)) moves in
       count_of put (of_leg to p.put)
       ≤ count_of client (of_leg (co_at n) p.came) + count_of server (of_leg (os_at n) p.came))
-  out_proxy_pays config moves is allowed to =
-      let p = started (new_proxy config) in
-      let paid = (moves_pay proxy_rules MayUp Knows owes worth put steps to counted rises here p
-      moves (allowed_rise proxy_rules p moves allowed)
-      (record { number = is; down = λ e. refl; known = λ e. absurd cc }, omega arith)).1 in
+  out_proxy_pays config moves is rise to =
+      let paid = (moves_pay proxy_rules MayUp Knows owes worth put steps to counted rises here
+      (started (new_proxy config)) moves rise
+      (record { number = is; down = λ e f. refl; known = λ e f. absurd cc }, omega arith)).1 in
       omega (arith, paid)

@@ -61,24 +61,26 @@ module _ {S : Type 0} (rules : Rules S) (MayUp : S → Leg → Type 0) where
   Rise p [] = Unit {0}
   Rise p (move ∷ moves) = MayRise p.role move × Rise (moved rules p move) moves
 
-pub allowed_rise : {S : Type 0} (rules : Rules S) (p : Passage S) (moves : List Move)
-    → AreAllowed rules p moves → Rise rules (λ s leg. IsTrue (rules.may_up s leg)) p moves
-allowed_rise rules p [] allowed = tt
-allowed_rise {S} rules p (move ∷ moves) allowed =
-    (by move allowed.0, allowed_rise rules (moved rules p move) moves allowed.1)
+pub allowed_rise : {S : Type 0} (rules : Rules S) (MayUp : S → Leg → Type 0)
+    → ((s : S) (leg : Leg) → IsTrue (rules.may_up s leg) → MayUp s leg) → (p : Passage S)
+    (moves : List Move) → AreAllowed rules p moves → Rise rules MayUp p moves
+allowed_rise rules MayUp so p [] allowed = tt
+allowed_rise rules MayUp so p (move ∷ moves) allowed =
+    (by move allowed.0, allowed_rise rules MayUp so (moved rules p move) moves allowed.1)
   where
-    by : (m : Move) → MayMove rules p.role m
-        → MayRise rules (λ s leg. IsTrue (rules.may_up s leg)) p.role m
-    by (Up leg cookie) may = may.1
+    by : (m : Move) → MayMove rules p.role m → MayRise rules MayUp p.role m
+    by (Up leg cookie) may = so p.role leg may.1
     by m may = tt
 
-pub any_rise : {S : Type 0} (rules : Rules S) (p : Passage S) (moves : List Move)
-    → Rise rules (λ s leg. Unit {0}) p moves
-any_rise rules p [] = tt
-any_rise rules p (move ∷ moves) = (by move, any_rise rules (moved rules p move) moves)
+pub any_rise : {S : Type 0} (rules : Rules S) (MayUp : S → Leg → Type 0)
+    → ((s : S) (leg : Leg) → MayUp s leg) → (p : Passage S) (moves : List Move)
+    → Rise rules MayUp p moves
+any_rise rules MayUp may p [] = tt
+any_rise {S} rules MayUp may p (move ∷ moves) =
+    (by move, any_rise rules MayUp may (moved rules p move) moves)
   where
-    by : (m : Move) → MayRise rules (λ s leg. Unit {0}) p.role m
-    by (Up leg cookie) = tt
+    by : (m : Move) → MayRise rules MayUp p.role m
+    by (Up leg cookie) = may p.role leg
     by m = tt
 
 -- came is counted so that a packet more is worth what it is

@@ -13,12 +13,11 @@ ghost use Rattle.rh_proxy_counts.specs.Kinds.{opens_client};
 ghost use Rattle.rh_proxy_counts.specs.OutCounts.{ForwardsWhatCame, OpensAsAsked};
 ghost use Rattle.rh_proxy_counts.specs.OutCounts.{OpensWhatCame};
 
-/// An out proxy put no more of each kind to its client than came for it from the server: CONN/C2
-/// for CONN/C1, IN_R1/A4 for IN_R1/A3, IN_R2/A4 for IN_R2/A3, OUT_R1/A2 for A1, A6 for A5, A10 for
-/// A9, and END/B2 for END/B1.
+/// Whatever moves an out proxy makes, allowed or not: it put no more of each kind to its client
+/// than came for it from the server: CONN/C2 for CONN/C1, IN_R1/A4 for IN_R1/A3, IN_R2/A4 for
+/// IN_R2/A3, OUT_R1/A2 for A1, A6 for A5, A10 for A9, and END/B2 for END/B1.
 pub fn an_out_proxy_forwards_what_came()
     ensures { (config : OutProxyConfig) (moves : List Move)
-        → AreAllowed rules (started (new_proxy config)) moves
         → ForwardsWhatCame config.number (all_moved rules (started (new_proxy config)) moves) }
 {}
 
