@@ -16,3 +16,5 @@ mod Rows
 mod Puts
 mod Steps
 mod EndMarks
+mod FirstPuts
+mod FirstRows
