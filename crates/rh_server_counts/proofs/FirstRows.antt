@@ -98,21 +98,21 @@ Keeps s t = (put : List OnLeg) → Before s put → Before t put
 pub keeps_same : (s t : Server) → view t ≡ view s → Keeps s t
 keeps_same s t same put = same_before s t put same
 
-row_keeps : (s : Server) (one : OnLeg) (came put : List OnLeg) (x : Done) → Keeps s x.0
+pub row_keeps : (s : Server) (one : OnLeg) (came put : List OnLeg) (x : Done) → Keeps s x.0
     → Holds s came put → RowKeeps Holds one came put x
 row_keeps s one came put (t, Ok took') keeps h =
     λ a. keeps put (h (came_before came put one a))
 row_keeps s one came put (t, Err why) keeps h = λ a. keeps put (h a)
 
 -- of an open server that adds to what waits, or of one that is none and refuses
-record Parts : Type 0 where
-  writing : ℕ
-  outs : List OutLeg
+pub record Parts : Type 0 where
+  pub writing : ℕ
+  pub outs : List OutLeg
 
-abbrev parts : Server → Parts
+abbrev pub parts : Server → Parts
 parts s = record { writing = s.writing; outs = s.outs }
 
-keeps_adds : (kind : Named → Bool) (s t : Server) → (since_open s.stage ≡ 0 → view t ≡ view s)
+pub keeps_adds : (kind : Named → Bool) (s t : Server) → (since_open s.stage ≡ 0 → view t ≡ view s)
     → since_open t.stage ≡ since_open s.stage → parts t ≡ parts s → MayAdd kind s t → Keeps s t
 keeps_adds kind s t early at same adds put h = by (open_or_not s.stage)
   where
@@ -141,7 +141,7 @@ in_r1_a2_early s n count a b c d e early =
     by (stage.Open known) f = absurd (omega (arith, f))
     by stage.Ended f = refl
 
-not_open : (at : Stage) → since_open at ≡ 0 → is_open at ≡ true → ⊥
+pub not_open : (at : Stage) → since_open at ≡ 0 → is_open at ≡ true → ⊥
 not_open stage.Waits e f = false≢true f
 not_open (stage.OutCame known) e f = false≢true f
 not_open (stage.InCame known window timeout) e f = false≢true f
@@ -302,7 +302,7 @@ a8_keeps s count to a put h =
 
 -- ---- acknowledgements
 
-waits_before : (s : Server) (w : Waiting) (put : List OnLeg)
+pub waits_before : (s : Server) (w : Waiting) (put : List OnLeg)
     → (AreAcks s.waiting.due → AreAcks w.due) → (FirstIsC1 s.waiting.due → FirstIsC1 w.due)
     → Before s put → Before (record s { waiting = w }) put
 waits_before s w put acks firsts h = record {

@@ -18,3 +18,4 @@ mod Steps
 mod EndMarks
 mod FirstPuts
 mod FirstRows
+mod FirstSteps
