@@ -16,6 +16,7 @@ mod Rows
 mod Puts
 mod Steps
 mod EndMarks
-mod FirstPuts
-mod FirstRows
-mod FirstSteps
+mod BeforeC1
+mod BeforeC1Open
+mod BeforeC1Rows
+mod BeforeC1Steps

@@ -7,7 +7,7 @@ ghost use Rattle.rh_shell.specs.Moves.{AreAllowedAtEnd, EndMove, all_end_moved, 
 ghost use Rattle.rh_passages.specs.Passing.{of_kind};
 ghost use Rattle.rh_server.specs.Servers.{acts, first, rules};
 ghost use Rattle.rh_server_counts.specs.Counting.{in_came, is_ack_to, is_conn_c1, out_put};
-ghost use Rattle.rh_server_counts.specs.FirstPut.{HaveRoom, MayGoBefore};
+ghost use Rattle.rh_server_counts.specs.BeforeC1.{HaveRoom, MayGoBefore};
 ghost use Rattle.rh_server_counts.specs.Opening.{OpensOnce};
 
 /// Whatever moves a server makes, allowed or not: CONN/A2 and CONN/B2 came once at most, and
@@ -18,9 +18,9 @@ pub fn a_server_opens_once()
         → OpensOnce (all_end_moved rules acts (end_started (first window)) moves).passage }
 {}
 
-/// Whatever happens to a server: where CONN/C1 was not put, nothing was put on os legs but greetings
-/// and acknowledgements to out proxies, as long as no acknowledgement to the client came, and the
-/// lifetime that CONN/A2 told had room for CONN/C1.
+/// Whatever happens to a server: where CONN/C1 was not put, nothing was put on os legs but
+/// greetings and acknowledgements to out proxies, as long as no acknowledgement to the client came,
+/// and the lifetime that CONN/A2 told had room for CONN/C1.
 pub fn a_server_puts_conn_c1_first()
     ensures { (window : ℕ) (moves : List EndMove)
         → AreAllowedAtEnd rules acts (end_started (first window)) moves

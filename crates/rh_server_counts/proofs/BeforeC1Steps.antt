@@ -43,12 +43,13 @@ use Rattle.rh_server.specs.Servers.{acts, first, pdu}
 use Rattle.rh_server.specs.Servers.{rules as server_rules}
 use Rattle.rh_server_counts.specs.Counting.{is_ack_to, is_conn_c1, in_came, out_put, often, leg_at}
 use Rattle.rh_server_counts.specs.Opening.{since_open}
-use Rattle.rh_server_counts.specs.FirstPut.{HaveRoom, MayGoBefore}
+use Rattle.rh_server_counts.specs.BeforeC1.{HaveRoom, MayGoBefore}
 use Rattle.rh_server_counts.proofs.Dues.{FirstIsC1, C1Goes, first_goes_c1, first_left, found_may}
 use Rattle.rh_server_counts.proofs.Adding.{of_out, settled_adds, recycle_adds, dropped_adds}
 use Rattle.rh_server_counts.proofs.Connecting.{settled_opens}
-use Rattle.rh_server_counts.proofs.FirstPuts.{AreAcks, acks_left, LetsC1, LetsAcks, LetsC1Go, lets_of, ack_was_put, legs_at, legs_set, legs_removed, Before, View, view, same_before, open_or_not, open_before, legs_before, put_before}
-use Rattle.rh_server_counts.proofs.FirstRows.{Applies, Holds, put_applied, Keeps, keeps_same, row_keeps, Parts, parts, keeps_adds, not_open, waits_before, take_keeps, packet_row}
+use Rattle.rh_server_counts.proofs.BeforeC1.{AreAcks, acks_left, LetsC1, LetsAcks, LetsC1Go, lets_of, ack_was_put, legs_at, legs_set, legs_removed, Before, View, view, same_before, open_or_not, open_before, legs_before, put_before}
+use Rattle.rh_server_counts.proofs.BeforeC1Open.{Applies, Holds, put_applied, Keeps, keeps_same, row_keeps, Parts, parts, keeps_adds, not_open, take_keeps}
+use Rattle.rh_server_counts.proofs.BeforeC1Rows.{waits_before, packet_row}
 
 -- ---- behind puts
 
@@ -220,7 +221,8 @@ module _ (n : ℕ) (put : List OnLeg) where
           is_one none =
               let one : often is_conn_c1 OutServer
                   ((leg_at OutServer n, Packet due.packet) ∷ []) ≡ 1 =
-                  ap {B = ℕ} (λ (b : Bool). if b then 1 else 0) c1 in absurd (omega (arith, one, none))
+                  ap {B = ℕ} (λ (b : Bool). if b then 1 else 0) c1 in
+              absurd (omega (arith, one, none))
       first_so (Some due) (inr ack) = (
         (λ none. ack_ok s place left due.packet ack.0 opened ack.1 h),
         (λ e. absurd (cc)),

@@ -32,7 +32,7 @@ use Rattle.rh_server.specs.States.{Server, is_steady, same_cookie}
 use Rattle.rh_server.specs.Putting.{gate, counts, was_put}
 use Rattle.rh_server_counts.specs.Counting.{is_ack_to, is_conn_c1, often}
 use Rattle.rh_server_counts.specs.Opening.{since_open}
-use Rattle.rh_server_counts.specs.FirstPut.{HasRoom, HaveRoom, MayGoBefore}
+use Rattle.rh_server_counts.specs.BeforeC1.{HasRoom, HaveRoom, MayGoBefore}
 use Rattle.rh_server_counts.proofs.Dues.{FirstIsC1}
 
 -- ---- acknowledgements to out proxies alone
@@ -103,16 +103,6 @@ module _ (P : OutLeg → Type 0) where
 
 -- ---- what is kept
 
--- while CONN/C1 was not put
-pub record Before (s : Server) (put : List OnLeg) : Type 0 where
-  pub steady : since_open s.stage ≡ 0 → is_steady s.replacement ≡ true
-  pub lone : since_open s.stage ≡ 0 → s.line.has_next ≡ false
-  pub acks : since_open s.stage ≡ 0 → AreAcks s.waiting.due
-  pub first : since_open s.stage ≡ 1 → FirstIsC1 s.waiting.due
-  pub writes : s.writing ≡ 1
-  pub legs : AllByRecursion LetsC1 s.outs
-  pub puts : AllByRecursion MayGoBefore (of_kind OutServer put)
-
 -- what it is about
 pub record View : Type 0 where
   pub at : Stage
@@ -132,41 +122,22 @@ view s = record {
   outs = s.outs;
 }
 
-record BeforeBy (x : View) (put : List OnLeg) : Type 0 where
-  steady : since_open x.at ≡ 0 → is_steady x.replacing ≡ true
-  lone : since_open x.at ≡ 0 → x.has_next ≡ false
-  acks : since_open x.at ≡ 0 → AreAcks x.waiting.due
-  first : since_open x.at ≡ 1 → FirstIsC1 x.waiting.due
-  writes : x.writing ≡ 1
-  legs : AllByRecursion LetsC1 x.outs
-  puts : AllByRecursion MayGoBefore (of_kind OutServer put)
+-- while CONN/C1 was not put
+pub record IsBefore (x : View) (put : List OnLeg) : Type 0 where
+  pub steady : since_open x.at ≡ 0 → is_steady x.replacing ≡ true
+  pub lone : since_open x.at ≡ 0 → x.has_next ≡ false
+  pub acks : since_open x.at ≡ 0 → AreAcks x.waiting.due
+  pub first : since_open x.at ≡ 1 → FirstIsC1 x.waiting.due
+  pub writes : x.writing ≡ 1
+  pub legs : AllByRecursion LetsC1 x.outs
+  pub puts : AllByRecursion MayGoBefore (of_kind OutServer put)
 
-to_view : (s : Server) (put : List OnLeg) → Before s put → BeforeBy (view s) put
-to_view s put h = record {
-  steady = h.steady;
-  lone = h.lone;
-  acks = h.acks;
-  first = h.first;
-  writes = h.writes;
-  legs = h.legs;
-  puts = h.puts;
-}
-
-of_view : (s : Server) (put : List OnLeg) → BeforeBy (view s) put → Before s put
-of_view s put h = record {
-  steady = h.steady;
-  lone = h.lone;
-  acks = h.acks;
-  first = h.first;
-  writes = h.writes;
-  legs = h.legs;
-  puts = h.puts;
-}
+abbrev pub Before : Server → List OnLeg → Type 0
+Before s put = IsBefore (view s) put
 
 pub same_before : (s t : Server) (put : List OnLeg) → view t ≡ view s → Before s put
     → Before t put
-same_before s t put same h =
-    of_view t put (subst (λ (x : View). BeforeBy x put) (sym same) (to_view s put h))
+same_before s t put same h = subst (λ (x : View). IsBefore x put) (sym same) h
 
 -- the server is not open yet, or it is
 pub open_or_not : (at : Stage) → (since_open at ≡ 0) ⊎ (since_open at ≡ 1)
