@@ -1,38 +1,33 @@
 -- before CONN/C1 is put, nothing goes on the OUT channel but acknowledgements to out proxies
-use Rattle.std.proofs.Common.{◌≡◌, ◌⊎◌, inl, inr, ℕ, zero, suc, ◌+◌, ◌==◌, ◌&&◌, not, Bool, true, false, true≢false, if◌then◌else◌, nat_lt, nat_le, List, [], ◌∷◌, ◌++◌, Some, None, Ok, Err, arith, refl, rules, sym, ap, ◌∙◌, subst}
-use Rattle.std.proofs.lemmas.Bool.{false≢true, and_parts, and_from, not-true}
+use Rattle.std.proofs.Common.{◌≡◌, ◌⊎◌, inl, inr, ℕ, zero, suc, ◌==◌, ◌&&◌, Bool, true, false, true≢false, if◌then◌else◌, nat_lt, List, [], ◌∷◌, ◌++◌, arith, refl, sym, ap, ◌∙◌, subst}
+use Rattle.std.proofs.lemmas.Bool.{false≢true, and_parts, and_from}
 use Rattle.std.proofs.lemmas.Bool.Decides.{nat_tests}
-use Rattle.std.specs.Prelude.{IfSome, slice_get, slice_set, remove, find}
+use Rattle.std.specs.Prelude.{IfSome, slice_get, slice_set, remove}
 use Rattle.std.specs.List.{AllByRecursion, list_any}
-use Rattle.std.specs.declared.option.Option.{Option}
-use Rattle.rh_rts.specs.declared.command.Cookie.{Cookie}
 use Rattle.rh_sig.specs.declared.named.Named.{Named}
 use Rattle.rh_sig.specs.declared.named.Named.TheVariants as named
 use Rattle.rh_window.specs.Sending.{may_send}
 use Rattle.rh_keep.specs.Meters.{Meter, started, may_put, fits}
 use Rattle.rh_line.proofs.Queues.{each_push}
-use Rattle.rh_line.specs.Lines.{after_take}
-use Rattle.rh_line.specs.Queue.{front_length}
-use Rattle.rh_line.specs.declared.leg.LegKind.TheVariants.{OutServer, InServer}
+use Rattle.rh_line.specs.declared.leg.LegKind.TheVariants.{OutServer}
 use Rattle.rh_order.proofs.ByNumber.{by_test, same_number}
 use Rattle.rh_shell.specs.declared.due.Due.{Due}
 use Rattle.rh_shell.specs.declared.due.Origin.TheVariants.{Forwarded}
-use Rattle.rh_shell.specs.Rules.{Message, Text, Pdu, Packet}
 use Rattle.rh_shell.specs.Moves.{OnLeg}
-use Rattle.rh_shell.specs.Waiting.{Waiting, own, to_forward, takes, edge_of, better, merged, with_due, pushed, count, forwarded, without_first, taken}
+use Rattle.rh_shell.specs.Waiting.{Waiting, own, to_forward, takes, edge_of, better, merged, with_due, pushed, count, forwarded, without_first}
 use Rattle.rh_passages.specs.Passing.{of_kind}
 use Rattle.rh_passages.proofs.Messages.{all_append, kind_more}
 use Rattle.rh_server.specs.declared.state.Stage.{Stage}
 use Rattle.rh_server.specs.declared.state.Stage.TheVariants as stage
 use Rattle.rh_server.specs.declared.state.OutLeg.{OutLeg}
 use Rattle.rh_server.specs.declared.state.Replacement.{Replacement}
-use Rattle.rh_server.specs.OutLines.{Gate, lets, lets_packet, is_ack}
+use Rattle.rh_server.specs.OutLines.{Gate, lets, lets_packet}
 use Rattle.rh_server.specs.OutLegs.{may_go, may_end}
 use Rattle.rh_server.specs.States.{Server, is_steady, same_cookie}
 use Rattle.rh_server.specs.Putting.{gate, counts, was_put}
-use Rattle.rh_server_counts.specs.Counting.{is_ack_to, is_conn_c1, often}
+use Rattle.rh_server_counts.specs.Counting.{is_ack_to, is_conn_c1}
 use Rattle.rh_server_counts.specs.Opening.{since_open}
-use Rattle.rh_server_counts.specs.BeforeC1.{HasRoom, HaveRoom, MayGoBefore}
+use Rattle.rh_server_counts.specs.BeforeC1.{MayGoBefore}
 use Rattle.rh_server_counts.proofs.Dues.{FirstIsC1}
 
 -- ---- acknowledgements to out proxies alone
@@ -57,9 +52,12 @@ acks_forwarded packet is w all =
     merges [] all = tt
     merges (due ∷ dues) all =
         by_test AreAcks (takes packet due) (better due packet ∷ dues) (due ∷ merged dues packet)
-        (λ t. (by_test (λ (d : Due). is_ack_to 3 d.packet ≡ true)
-        (nat_lt (edge_of packet) (edge_of due.packet)) due
-        (record { packet = packet; origin = due.origin }) (λ u. all.0) (λ u. is), all.1))
+        (λ t. (
+          by_test (λ (d : Due). is_ack_to 3 d.packet ≡ true)
+              (nat_lt (edge_of packet) (edge_of due.packet)) due
+              (record { packet = packet; origin = due.origin }) (λ u. all.0) (λ u. is),
+          all.1,
+        ))
         (λ t. (all.0, merges dues all.1))
 
 pub acks_left : (may_go : Due → Bool) (dues : List Due) → AreAcks dues

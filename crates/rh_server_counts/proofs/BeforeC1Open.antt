@@ -1,58 +1,36 @@
 -- the rows of an open server before CONN/C1 is put
-use Rattle.std.proofs.Common.{◌≡◌, ◌⊎◌, inl, inr, ℕ, suc, ◌+◌, ◌==◌, ◌&&◌, not, Bool, true, false, true≢false, if◌then◌else◌, nat_lt, List, [], ◌∷◌, ◌++◌, Some, None, Ok, Err, arith, refl, rules, sym, ap, ◌∙◌, subst}
-use Rattle.std.proofs.lemmas.Bool.{false≢true, and_parts, not-true}
-use Rattle.std.specs.Prelude.{IfSome, slice_get, slice_set, find}
+use Rattle.std.proofs.Common.{◌≡◌, ◌⊎◌, inl, inr, ℕ, ◌+◌, ◌==◌, ◌&&◌, not, Bool, true, false, true≢false, nat_lt, List, [], ◌∷◌, ◌++◌, Some, None, Ok, Err, arith, refl, rules, sym, ap, ◌∙◌, subst}
+use Rattle.std.proofs.lemmas.Bool.{false≢true, and_parts}
 use Rattle.std.specs.List.{AllByRecursion}
 use Rattle.std.specs.declared.option.Option.{Option}
-use Rattle.std.specs.declared.result.Result.{Result}
 use Rattle.rh_rts.specs.declared.command.Cookie.{Cookie}
 use Rattle.rh_sig.specs.declared.named.Named.{Named}
-use Rattle.rh_sig.specs.declared.named.Named.TheVariants as named
-use Rattle.rh_keep.specs.Meters.{started, may_put}
-use Rattle.rh_window.specs.Sending.{ack_verdict, after_acked}
-use Rattle.rh_line.proofs.Queues.{each_push}
 use Rattle.rh_line.specs.Lines.{after_take}
-use Rattle.rh_line.specs.Queue.{front_length}
-use Rattle.rh_line.specs.declared.leg.Leg.{Leg}
-use Rattle.rh_line.specs.declared.leg.LegKind.{LegKind}
-use Rattle.rh_line.specs.declared.leg.LegKind.TheVariants.{ClientOut, OutServer, ClientIn, InServer}
+use Rattle.rh_line.specs.declared.leg.LegKind.TheVariants.{OutServer, InServer}
 use Rattle.rh_order.proofs.ByNumber.{by_test, same_number}
 use Rattle.rh_shell.specs.declared.answers.Count.{Count}
-use Rattle.rh_shell.specs.declared.answers.Phase.TheVariants as phase
 use Rattle.rh_shell.specs.declared.answers.Refused.TheVariants as refused
-use Rattle.rh_shell.specs.declared.due.Due.{Due}
-use Rattle.rh_shell.specs.Rules.{Message, Text, Pdu, Packet}
-use Rattle.rh_shell.specs.Hearing.{greeting as greeting_text}
 use Rattle.rh_shell.specs.Moves.{OnLeg}
-use Rattle.rh_shell.specs.Waiting.{Waiting, own, takes, forwarded, taken, without_first}
-use Rattle.rh_passages.specs.Passing.{of_kind}
-use Rattle.rh_passages.proofs.Logs.{RowKeeps, PutKeeps}
+use Rattle.rh_passages.proofs.Logs.{RowKeeps}
 use Rattle.rh_server.specs.declared.state.Stage.{Stage}
 use Rattle.rh_server.specs.declared.state.Stage.TheVariants as stage
-use Rattle.rh_server.specs.declared.state.Greeting.TheVariants as greetings
-use Rattle.rh_server.specs.declared.state.InLeg.{InLeg}
 use Rattle.rh_server.specs.declared.state.OutLeg.{OutLeg}
 use Rattle.rh_server.specs.declared.state.Replacement.{Replacement}
 use Rattle.rh_server.specs.declared.state.Replacement.TheVariants.{Steady, Asked, Answered, Confirmed}
 use Rattle.rh_server.specs.declared.out_line.Kind.TheVariants as kind
-use Rattle.rh_server.specs.OutLines.{has, is_ack, waits}
-use Rattle.rh_server.specs.Servers.{packet_by, on_is, on_os}
-use Rattle.rh_server.specs.OutLegs.{acked, acked_by}
-use Rattle.rh_server.specs.States.{Server, phase_of, is_open, is_due, is_steady, same_cookie, in_leg, out_place, out_at, out_leg, out_cookie, removed_at, without_in, without_out}
-use Rattle.rh_server.specs.Opening.{Done, took, refuse, unexpected, is_first, may_up_by, out_leg_up, up, up_by, opens, first_out_at, with_first_out, conn_a2_at, on_conn_a2, with_first_in, conn_b2_at, on_conn_b2}
-use Rattle.rh_server.specs.Acknowledging.{forward_by, forwards, forwards_writing, forwards_to, channel_leg, is_full, out_server, on_ack_to, acked_at, acked_in, acked_cookie, on_ack, on_ping_traffic}
-use Rattle.rh_server.specs.InReplacement.{moved_if, take, in_r1_a2_at, on_in_r1_a2, has_fresh_below, hands_over, on_in_r1_a6, in_r2_a2_on, on_in_r2_a2}
-use Rattle.rh_server.specs.OutReplacement.{asks, recycle, wishes, wished, answered_by, answered_on, out_r1_a4_by, out_r1_a4_at, may_answer, on_out_r1_a4, confirms, out_r1_a8_at, on_out_r1_a8}
-use Rattle.rh_server.specs.Ending.{give, on_end_a2, is_complete, completed, settled, drawn_by, in_is_drawn, mark_by, lost_in, without_ack_of, with_ack_dropped}
-use Rattle.rh_server_counts.specs.Counting.{is_ack_to, is_conn_c1, is_in_r1_a3, is_in_r2_a3, often, leg_at}
+use Rattle.rh_server.specs.OutLines.{waits}
+use Rattle.rh_server.specs.States.{Server, is_open, is_steady, same_cookie, out_place, out_at, out_cookie}
+use Rattle.rh_server.specs.Opening.{Done, refuse, unexpected, is_first}
+use Rattle.rh_server.specs.InReplacement.{moved_if, take, in_r1_a2_at, on_in_r1_a2, has_fresh_below, on_in_r1_a6, on_in_r2_a2}
+use Rattle.rh_server.specs.OutReplacement.{answered_by, answered_on, out_r1_a4_by, out_r1_a4_at, may_answer, on_out_r1_a4, out_r1_a8_at, on_out_r1_a8}
+use Rattle.rh_server_counts.specs.Counting.{is_ack_to, is_conn_c1, is_in_r1_a3, often}
 use Rattle.rh_server_counts.specs.Opening.{since_open}
-use Rattle.rh_server_counts.specs.BeforeC1.{HasRoomIn, HaveRoom, MayGoBefore}
+use Rattle.rh_server_counts.specs.BeforeC1.{HasRoomIn, HaveRoom}
 use Rattle.rh_server_counts.proofs.Logs.{often_more}
-use Rattle.rh_server_counts.proofs.Dues.{FirstIsC1, Adds, adds_forwarded}
 use Rattle.rh_server_counts.proofs.Replacing.{found_number}
-use Rattle.rh_server_counts.proofs.Adding.{MayAdd, of_out, settled_adds, recycle_adds, take_adds, in_r1_a2_adds, in_r1_a6_adds, in_r2_a2_adds, ack_to_adds, out_r1_a4_adds, out_r1_a8_adds, dropped_adds}
+use Rattle.rh_server_counts.proofs.Adding.{MayAdd, of_out, take_adds, in_r1_a6_adds, out_r1_a4_adds, out_r1_a8_adds}
 use Rattle.rh_server_counts.proofs.Announcing.{take_step, LineStep}
-use Rattle.rh_server_counts.proofs.BeforeC1.{AreAcks, acks_forwarded, acks_left, c1_behind, LetsC1, legs_at, legs_set, legs_removed, Before, View, view, same_before, open_or_not, open_before, legs_before, put_before}
+use Rattle.rh_server_counts.proofs.BeforeC1.{LetsC1, legs_set, Before, view, same_before, open_or_not, open_before}
 
 -- ---- the fact
 
@@ -86,9 +64,10 @@ pub put_applied : (came put : List OnLeg) (one : OnLeg) → Applies came (put ++
     → Applies came put × (often is_conn_c1 OutServer (one ∷ []) ≡ 0)
 put_applied came put one a =
     let more = often_more is_conn_c1 OutServer put one in
-    let none = a.no_c1 in
-    (record { room = a.room; no_ack = a.no_ack; no_c1 = omega (arith, more, none) },
-    omega (arith, more, none))
+    let none = a.no_c1 in (
+      record { room = a.room; no_ack = a.no_ack; no_c1 = omega (arith, more, none) },
+      omega (arith, more, none),
+    )
 
 -- ---- a step that keeps the state right
 
@@ -198,7 +177,7 @@ take_keeps s put h =
     early none =
         let t : Server = record s { line = after_take s.line } in
         let same : view t ≡ view s =
-            ap (λ (b : Bool). record (view s) { has_next = b }) (still (take_step s.line) none) in
+        ap (λ (b : Bool). record (view s) { has_next = b }) (still (take_step s.line) none) in
         subst (λ (b : Bool). view (moved_if b t) ≡ view s) (sym none) same
 
 -- ---- OUT_R1/A4 and OUT_R1/A8

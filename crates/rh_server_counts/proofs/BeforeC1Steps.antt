@@ -1,5 +1,5 @@
 -- what a server puts before CONN/C1, and its other steps
-use Rattle.std.proofs.Common.{◌≡◌, ◌⊎◌, inl, inr, ℕ, suc, ◌+◌, ◌==◌, ◌&&◌, not, Bool, true, false, true≢false, if◌then◌else◌, nat_lt, List, [], ◌∷◌, ◌++◌, Some, None, Ok, Err, arith, refl, rules, sym, ap, ◌∙◌, subst}
+use Rattle.std.proofs.Common.{◌≡◌, ◌⊎◌, inl, inr, ℕ, ◌&&◌, Bool, true, false, if◌then◌else◌, List, [], ◌∷◌, ◌++◌, Some, None, Ok, Err, arith, refl, rules, sym, ap, ◌∙◌, subst}
 use Rattle.std.proofs.lemmas.Bool.{false≢true, and_parts}
 use Rattle.std.specs.Prelude.{IfSome, slice_get, slice_set, find}
 use Rattle.std.specs.List.{AllByRecursion}
@@ -21,8 +21,8 @@ use Rattle.rh_shell.specs.declared.due.Due.{Due}
 use Rattle.rh_shell.specs.declared.end_role.GiveRefused.{GiveRefused}
 use Rattle.rh_shell.specs.Rules.{Message, Text, Pdu, Packet}
 use Rattle.rh_shell.specs.Hearing.{greeting as greeting_text}
-use Rattle.rh_shell.specs.Moves.{OnLeg, Passage, EndMove, Moves, Gives, Takes, Closes, Recycles, EndPassage, AreAllowedAtEnd, MayEndMove, end_started, end_moved, all_end_moved, end_now_at, given_by, with_first}
-use Rattle.rh_shell.specs.Waiting.{Waiting, taken, without_first}
+use Rattle.rh_shell.specs.Moves.{OnLeg, EndMove, Moves, Gives, Takes, Closes, Recycles, EndPassage, AreAllowedAtEnd, MayEndMove, end_started, end_moved, all_end_moved, end_now_at, given_by, with_first}
+use Rattle.rh_shell.specs.Waiting.{Waiting, taken}
 use Rattle.rh_passages.specs.Passing.{of_kind}
 use Rattle.rh_passages.proofs.Logs.{PutKeeps, StepsKeep, moves_keep}
 use Rattle.rh_server.specs.declared.state.Stage.{Stage}
@@ -36,7 +36,7 @@ use Rattle.rh_server.specs.OutLines.{lets, is_ack_of}
 use Rattle.rh_server.specs.States.{Server, phase_of, is_open, is_due, in_leg, out_place, out_cookie, removed_at, without_in, without_out}
 use Rattle.rh_server.specs.Opening.{may_up_by, out_leg_up, up, up_by}
 use Rattle.rh_server.specs.InReplacement.{take}
-use Rattle.rh_server.specs.OutReplacement.{asks, recycle, wishes, wished}
+use Rattle.rh_server.specs.OutReplacement.{asks, recycle, wishes}
 use Rattle.rh_server.specs.Ending.{give, is_complete, completed, settled, drawn_by, in_is_drawn, mark_by, lost_in, without_ack_of, with_ack_dropped}
 use Rattle.rh_server.specs.Putting.{Pick, or_else, put_in_greeting, put_tells_by, put_tells, put_b1_by, put_b1, put_ack_by, put_ack, ack_due, put_in_by, out_greeting_at, put_out_greeting, was_put, waiting_by, waiting_at, put_waiting, gate, gate_at, may_go_at, may_end_at, is_end_due, pdu_by, put_pdu, put_end, put_pdu_or_end, next_out, settled_pick, put_open, put_out_at, put_by}
 use Rattle.rh_server.specs.Servers.{acts, first, pdu}
@@ -47,8 +47,8 @@ use Rattle.rh_server_counts.specs.BeforeC1.{HaveRoom, MayGoBefore}
 use Rattle.rh_server_counts.proofs.Dues.{FirstIsC1, C1Goes, first_goes_c1, first_left, found_may}
 use Rattle.rh_server_counts.proofs.Adding.{of_out, settled_adds, recycle_adds, dropped_adds}
 use Rattle.rh_server_counts.proofs.Connecting.{settled_opens}
-use Rattle.rh_server_counts.proofs.BeforeC1.{AreAcks, acks_left, LetsC1, LetsAcks, LetsC1Go, lets_of, ack_was_put, legs_at, legs_set, legs_removed, Before, View, view, same_before, open_or_not, open_before, legs_before, put_before}
-use Rattle.rh_server_counts.proofs.BeforeC1Open.{Applies, Holds, put_applied, Keeps, keeps_same, row_keeps, Parts, parts, keeps_adds, not_open, take_keeps}
+use Rattle.rh_server_counts.proofs.BeforeC1.{AreAcks, acks_left, LetsC1, LetsAcks, LetsC1Go, lets_of, ack_was_put, legs_at, legs_set, legs_removed, Before, View, view, same_before, open_before, legs_before, put_before}
+use Rattle.rh_server_counts.proofs.BeforeC1Open.{Holds, put_applied, Keeps, keeps_same, row_keeps, parts, keeps_adds, not_open, take_keeps}
 use Rattle.rh_server_counts.proofs.BeforeC1Rows.{waits_before, packet_row}
 
 -- ---- behind puts
@@ -220,8 +220,8 @@ module _ (n : ℕ) (put : List OnLeg) where
               → ⊥
           is_one none =
               let one : often is_conn_c1 OutServer
-                  ((leg_at OutServer n, Packet due.packet) ∷ []) ≡ 1 =
-                  ap {B = ℕ} (λ (b : Bool). if b then 1 else 0) c1 in
+              ((leg_at OutServer n, Packet due.packet) ∷ []) ≡ 1 =
+              ap {B = ℕ} (λ (b : Bool). if b then 1 else 0) c1 in
               absurd (omega (arith, one, none))
       first_so (Some due) (inr ack) = (
         (λ none. ack_ok s place left due.packet ack.0 opened ack.1 h),
@@ -251,7 +251,7 @@ module _ (n : ℕ) (put : List OnLeg) where
       → PutOk OutServer (next_out s place)
   next_ok s place is h =
       let ok = waiting_ok s place (slice_get s.outs place) (legs_at LetsC1 s.outs place h.legs)
-          (open_is s.stage is) h in
+      (open_is s.stage is) h in
       or_ok OutServer (put_waiting s place) (put_pdu_or_end s place) ok.0
       (λ e. or_ok OutServer (put_pdu s place) (put_end s place)
       (pdu_ok s place (front_length s.queue) (ok.1 e)) (λ f. end_ok s place (ok.1 e)))

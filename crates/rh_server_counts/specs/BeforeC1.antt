@@ -1,5 +1,5 @@
 -- CONN/C1 goes first on the OUT channel (MS-RPCH 3.2.5; profile)
-use Rattle.std.specs.Prelude.{ℕ, ◌≡◌, List, true, IsTrue}
+use Rattle.std.specs.Prelude.{◌≡◌, List, true, IsTrue}
 use Rattle.std.specs.List.{AllByRecursion}
 use Rattle.rh_sig.specs.declared.named.Named.{Named}
 use Rattle.rh_sig.specs.declared.named.Named.TheVariants.{ConnA2}
