@@ -294,7 +294,7 @@ next_opens s came put h =
 -- ---- the next channel becomes current
 
 -- a line goes on, or has no next channel any more
-abbrev LineStep : Line → Line → Type 0
+abbrev pub LineStep : Line → Line → Type 0
 LineStep line new =
     ((new.has_next ≡ line.has_next) × (new.finished ≡ line.finished))
     ⊎ ((line.finished ≡ true) × (new.has_next ≡ false) × (new.finished ≡ false))
@@ -305,7 +305,7 @@ settled_step line =
     (λ e. inr ((and_parts line.finished (is_empty line.current.pdus) e).0, refl, refl))
     (λ e. inl (refl, refl))
 
-take_step : (line : Line) → LineStep line (after_take line)
+pub take_step : (line : Line) → LineStep line (after_take line)
 take_step line = by line.current.pdus
   where
     by : (pdus : List (List ℕ)) → LineStep line (line_taken pdus line)

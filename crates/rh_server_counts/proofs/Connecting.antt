@@ -212,6 +212,9 @@ settled_stage s = search rules
 settled_rest : (s : Server) → rest (settled s) ≡ rest s
 settled_rest s = search rules
 
+pub settled_opens : (s : Server) → since_open (settled s).stage ≡ since_open s.stage
+settled_opens s = ap since_open (settled_stage s) ∙ (completed_alike s).opens
+
 pub settled_keeps : (s : Server) → Keeps s (settled s)
 settled_keeps s =
     added_keeps of_out out_alone s (settled s) (settled_rest s)

@@ -16,3 +16,7 @@ mod Rows
 mod Puts
 mod Steps
 mod EndMarks
+mod BeforeC1
+mod BeforeC1Open
+mod BeforeC1Rows
+mod BeforeC1Steps

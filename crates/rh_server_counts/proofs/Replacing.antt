@@ -62,7 +62,7 @@ was_put_seen s place (named.AckTo destination received window cookie) =
 was_put_seen s place packet = counts_same s place (length_of packet)
 
 -- the leg that is found has the number
-found_number : (n place : ℕ) (legs : List OutLeg) (leg : OutLeg) → out_place n legs ≡ Some place
+pub found_number : (n place : ℕ) (legs : List OutLeg) (leg : OutLeg) → out_place n legs ≡ Some place
     → slice_get legs place ≡ Some leg → leg.number ≡ n
 found_number n place legs leg e at =
     let found = position-Some (λ (one : OutLeg). one.number == n) legs place leg e in

@@ -63,8 +63,8 @@ announced_row s known n leg successor window timeout m came put at f fresh below
     is2 h = record {
       opening =
           subst (λ (z : Stage). Opening z t.waiting.due t.ins new put) (sym (next_stage v ∙ at))
-          (opening_came (stage.Open known) (stage.Open known) s.waiting.due t.waiting.due s.ins t.ins
-          came put (leg_at InServer n, Packet m) (record {
+          (opening_came (stage.Open known) (stage.Open known) s.waiting.due t.waiting.due s.ins
+          t.ins came put (leg_at InServer n, Packet m) (record {
             conn_a2 = omega (arith, no_a2);
             conn_b2 = omega (arith, no_b2);
             conn_c1 =

@@ -58,8 +58,9 @@ up_keeps s leg cookie came put h =
             opens = refl;
             conn_c1 = refl;
             conn_b3 =
-                let more : how_many owes_b3 (s.ins ++ in_leg_up n ∷ []) ≡ how_many owes_b3 s.ins + 0 =
-                many_pushed owes_b3 (in_leg_up n) s.ins in omega (arith, more);
+                let more : how_many owes_b3 (s.ins ++ in_leg_up n ∷ [])
+                ≡ how_many owes_b3 s.ins + 0 = many_pushed owes_b3 (in_leg_up n) s.ins in
+                omega (arith, more);
           }) h.opening;
       answering = leg_up (look s) (in_leg_up n) came put
           (same_number n (s.newest_in + 1) (and_parts (n == s.newest_in + 1) (has_room s.ins) e).0)
