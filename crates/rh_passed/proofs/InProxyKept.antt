@@ -1,6 +1,6 @@
 -- what an in proxy keeps: its work is done behind IN_R1/A6, or behind END where its newest ci leg
 -- was lost
-use Rattle.std.proofs.Common.{◌≡◌, ◌⊎◌, inl, inr, ℕ, suc, ◌+◌, ◌==◌, Bool, true, false, true≢false, ◌&&◌, not, List, [], ◌∷◌, length, Some, None, Ok, Err, nat_le, arith, refl, sym, ◌∙◌, subst, ap, rules}
+use Rattle.std.proofs.Common.{◌≡◌, ◌⊎◌, inl, inr, ℕ, suc, ◌==◌, Bool, true, false, true≢false, ◌&&◌, not, List, [], ◌∷◌, length, Some, None, Ok, Err, nat_le, arith, refl, sym, ◌∙◌, subst, ap, rules}
 use Rattle.std.proofs.lemmas.Bool.{and_parts}
 use Rattle.std.proofs.lemmas.Bool.Decides.{nat_tests}
 use Rattle.std.specs.Prelude.{if◌then◌else◌, IfSome}
@@ -41,7 +41,7 @@ use Rattle.rh_inproxy.specs.declared.state.Successor.TheVariants as successors
 use Rattle.rh_inproxy.specs.declared.state.Work.{Work}
 use Rattle.rh_inproxy.specs.declared.state.Work.TheVariants as works
 use Rattle.rh_inproxy.specs.Answers.{Done, Pick, or_else, taken, refuse, unexpected}
-use Rattle.rh_inproxy.specs.State.{InProxy, channel_of, first, followed, follows, hands_over, has_a5, has_come, is_client_leg, is_server_leg, same_cookie}
+use Rattle.rh_inproxy.specs.State.{InProxy, channel_of, first, followed, follows, has_a5, has_come, is_client_leg, is_server_leg, same_cookie}
 use Rattle.rh_inproxy.specs.Opening.{accepted, accepts, accepts_later, channel_asked, connected, drawn, drawn_by, echo_asked, echo_by, head, head_by, is_absent, is_first, may_accept, on_conn_b1, on_conn_b3, on_first_in_r1_a1, opener_of, phase_by, put_echo, put_first, up, wants}
 use Rattle.rh_inproxy.specs.Acknowledging.{ack_by, ack_due, current_ack, next_ack, on_ack, on_ack_to, put_ack, put_acks}
 use Rattle.rh_inproxy.specs.Ending.{is_announced, is_drained, is_newest, is_over, mark, newest_ended, on_end_a1, put_end, settled, settled_pick, tells_server}
