@@ -218,7 +218,11 @@ module _ (config : OutProxyConfig) where
 
   first_fine : (s : OutProxy) (o : Option Named) → Fine s → PutFine (first_by s o)
   first_fine s None h = tt
-  first_fine s (Some packet) h = record { made = h.made; answer = h.answer; server = λ e. absurd (true≢false (sym e)) }
+  first_fine s (Some packet) h = record {
+    made = h.made;
+    answer = h.answer;
+    server = λ e. absurd (true≢false (sym e));
+  }
 
   same_ack : (s : OutProxy) → PutSame s (put_ack s)
   same_ack s = search rules
@@ -281,7 +285,8 @@ module _ (config : OutProxyConfig) where
 
   -- ---- the role
 
-  keeps : StepsKeep proxy_rules (HeadsAre (AsksNoEcho false)) (λ s came put. Unit {0}) (of_role Fine)
+  keeps : StepsKeep proxy_rules (HeadsAre (AsksNoEcho false)) (λ s came put. Unit {0})
+      (of_role Fine)
   keeps = record {
     up = λ s leg cookie came put works. up_fine s leg cookie;
     head = λ s leg text came put works none. head_fine s (request_verdict false text) none;
