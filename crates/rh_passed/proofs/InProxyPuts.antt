@@ -1,56 +1,39 @@
 -- what an in proxy keeps where it puts, and where a leg is lost
-use Rattle.std.proofs.Common.{◌≡◌, ◌⊎◌, inl, inr, ℕ, suc, ◌==◌, Bool, true, false, true≢false, ◌&&◌, not, List, [], ◌∷◌, length, Some, None, Ok, Err, nat_le, arith, refl, sym, ◌∙◌, subst, ap, rules}
+use Rattle.std.proofs.Common.{◌≡◌, inl, inr, ℕ, ◌==◌, Bool, true, false, true≢false, ◌&&◌, not, List, [], ◌∷◌, length, Some, None, refl, sym, ◌∙◌, subst, rules}
 use Rattle.std.proofs.lemmas.Bool.{and_parts}
-use Rattle.std.proofs.lemmas.Bool.Decides.{nat_tests}
 use Rattle.std.specs.Prelude.{if◌then◌else◌, IfSome}
 use Rattle.std.specs.declared.option.Option.{Option}
-use Rattle.std.specs.declared.result.Result.{Result}
-use Rattle.rh_http.specs.declared.fault.HttpFault.{HttpFault}
-use Rattle.rh_http.specs.Lengths.{greatest_echo}
-use Rattle.rh_heads.specs.Verdicts.{Asked, request_verdict}
+use Rattle.rh_heads.specs.Verdicts.{request_verdict}
 use Rattle.rh_rts.specs.declared.command.Cookie.{Cookie}
-use Rattle.rh_sig.specs.declared.named.Named.{Named}
-use Rattle.rh_sig.specs.declared.named.Named.TheVariants.{ConnB1, ConnB3, InR1A1, InR1A5, InR1B1, InR1B2, OutR1A7, EndA1, Ack, AckTo, KeepAlive}
 use Rattle.rh_window.specs.declared.recv_window.Ack as told
 use Rattle.rh_line.specs.declared.leg.Leg.{Leg}
 use Rattle.rh_line.specs.declared.which.Which.{Which}
 use Rattle.rh_line.specs.declared.which.Which.TheVariants.{Current, Next}
 use Rattle.rh_line.specs.Lines as line
 use Rattle.rh_window.specs.Sending.{may_send, after_sent}
-use Rattle.rh_order.proofs.ByNumber.{by_test, same_number}
-use Rattle.rh_shell.specs.declared.answers.Count.{Count}
-use Rattle.rh_shell.specs.declared.answers.HeadRefused.{HeadRefused}
-use Rattle.rh_shell.specs.declared.answers.HeadTaken.{HeadTaken}
-use Rattle.rh_shell.specs.declared.answers.Refused.TheVariants as refused
+use Rattle.rh_order.proofs.ByNumber.{by_test}
 use Rattle.rh_shell.specs.declared.due.Due.{Due}
-use Rattle.rh_shell.specs.NearEnds.{is_ended}
-use Rattle.rh_shell.specs.Moves.{HeadCame, Marks, Move, is_at_work}
+use Rattle.rh_shell.specs.Moves.{HeadCame, Marks, Move}
 use Rattle.rh_shell.specs.Rules.{Message, Pdu, Packet}
-use Rattle.rh_inproxy.specs.declared.state.ClientLeg.{ClientLeg}
 use Rattle.rh_inproxy.specs.declared.state.Handover.{Handover}
 use Rattle.rh_inproxy.specs.declared.state.Handover.TheVariants.{Before, Came, Passed}
 use Rattle.rh_inproxy.specs.declared.state.InProxyConfig.{InProxyConfig}
-use Rattle.rh_inproxy.specs.declared.state.Joining.{Joining}
 use Rattle.rh_inproxy.specs.declared.state.Joining.TheVariants.{TellsServer, Told, Follows}
-use Rattle.rh_inproxy.specs.declared.state.Opener.{Opener}
-use Rattle.rh_inproxy.specs.declared.state.Opening.{Opening}
-use Rattle.rh_inproxy.specs.declared.state.Opening.TheVariants as openings
 use Rattle.rh_inproxy.specs.declared.state.Successor.{Successor}
 use Rattle.rh_inproxy.specs.declared.state.Successor.TheVariants as successors
 use Rattle.rh_inproxy.specs.declared.state.Work.{Work}
 use Rattle.rh_inproxy.specs.declared.state.Work.TheVariants as works
-use Rattle.rh_inproxy.specs.Answers.{Done, Pick, or_else, taken, refuse, unexpected}
-use Rattle.rh_inproxy.specs.State.{InProxy, channel_of, first, followed, follows, has_a5, has_come, is_client_leg, is_server_leg, same_cookie}
-use Rattle.rh_inproxy.specs.Opening.{accepted, accepts, accepts_later, channel_asked, connected, drawn, drawn_by, echo_asked, echo_by, head, head_by, is_absent, is_first, may_accept, on_conn_b1, on_conn_b3, on_first_in_r1_a1, opener_of, phase_by, put_echo, put_first, up, wants}
-use Rattle.rh_inproxy.specs.Acknowledging.{ack_by, ack_due, current_ack, next_ack, on_ack, on_ack_to, put_ack, put_acks}
-use Rattle.rh_inproxy.specs.Ending.{is_announced, is_drained, is_newest, is_over, mark, newest_ended, on_end_a1, put_end, settled, settled_pick, tells_server}
-use Rattle.rh_inproxy.specs.InReplacement.{finish_by, finished, handed_over, has_passed, is_newcomer, join, joined, mark_by, on_in_r1_a1, on_in_r1_a5, on_in_r1_b1, on_in_r1_b2, on_later_in_r1_a1, one_less, put_in_r1_a6, put_in_r2_a2, told_by}
-use Rattle.rh_inproxy.specs.OutReplacement.{on_out_r1_a7}
+use Rattle.rh_inproxy.specs.Answers.{Pick, or_else}
+use Rattle.rh_inproxy.specs.State.{InProxy, first, has_come, is_client_leg, is_server_leg}
+use Rattle.rh_inproxy.specs.Opening.{drawn, drawn_by, echo_by, head, is_absent, put_echo, put_first, up}
+use Rattle.rh_inproxy.specs.Acknowledging.{ack_by, ack_due, current_ack, next_ack, put_ack, put_acks}
+use Rattle.rh_inproxy.specs.Ending.{is_announced, is_drained, is_newest, is_over, mark, newest_ended, put_end, settled, settled_pick, tells_server}
+use Rattle.rh_inproxy.specs.InReplacement.{mark_by, one_less, put_in_r1_a6, put_in_r2_a2, told_by}
 use Rattle.rh_inproxy.specs.Passing.{next_pdu, put_pdu}
 use Rattle.rh_inproxy.specs.Putting.{next, waiting_by, put_waiting, put_control, put_early, put_stream, put_behind, put_mark}
 use Rattle.rh_inproxy.specs.Putting.{put as put_of}
-use Rattle.rh_inproxy.specs.Time.{on_keep_alive, ping, put_ping}
-use Rattle.rh_inproxy.specs.Machine.{pdu, packet, on_channel, on_channel_by, on_ci, on_is}
+use Rattle.rh_inproxy.specs.Time.{ping, put_ping}
+use Rattle.rh_inproxy.specs.Machine.{pdu, packet}
 use Rattle.rh_inproxy.specs.Machine.{rules as proxy_rules}
 use Rattle.rh_passed.specs.Passed.{AsksNoEcho}
 use Rattle.rh_passed.proofs.Allowed.{StepsKeep, of_role, role_row}
@@ -146,7 +129,8 @@ module _ (config : InProxyConfig) (Lost : Type 0) where
   pdu_fine s [] h = tt
   pdu_fine s (pdu ∷ pdus) h =
       by_test PutFine (may_send s.window (length pdu)) _ None
-      (λ t. followed_fine config Lost (sent (length pdu)) (same_fine config Lost s (sent (length pdu)) refl h))
+      (λ t. followed_fine config Lost (sent (length pdu))
+      (same_fine config Lost s (sent (length pdu)) refl h))
       (λ t. tt)
     where
       sent : ℕ → InProxy

@@ -1,55 +1,31 @@
 -- what a server's is leg keeps that stays, where the server puts, and legs come up and are drawn
-use Rattle.std.proofs.Common.{◌≡◌, ◌⊎◌, inl, inr, ℕ, ◌==◌, Bool, true, false, true≢false, not, ◌&&◌, ◌||◌, nat_eq, List, [], ◌∷◌, ◌++◌, Some, None, Ok, Err, refl, rules, sym, ap, ◌∙◌, subst}
-use Rattle.std.proofs.lemmas.Bool.{and_parts}
-use Rattle.std.specs.Prelude.{if◌then◌else◌, IfSome, slice_get}
+use Rattle.std.proofs.Common.{◌≡◌, ℕ, ◌==◌, Bool, true, false, true≢false, Some, None, refl, rules, sym, ap, ◌∙◌}
+use Rattle.std.specs.Prelude.{IfSome, slice_get}
 use Rattle.std.specs.declared.option.Option.{Option}
 use Rattle.rh_rts.specs.declared.command.Cookie.{Cookie}
 use Rattle.rh_sig.specs.declared.named.Named.{Named}
-use Rattle.rh_sig.specs.declared.named.Named.TheVariants as named
 use Rattle.rh_line.specs.declared.leg.Leg.{Leg}
 use Rattle.rh_line.specs.declared.leg.LegKind.{LegKind}
 use Rattle.rh_line.specs.declared.leg.LegKind.TheVariants.{ClientOut, OutServer, ClientIn, InServer}
-use Rattle.rh_line.specs.Lines.{after_take}
 use Rattle.rh_line.proofs.Queues.{each_push}
-use Rattle.rh_order.specs.Items.{has_end, has_handover}
-use Rattle.rh_order.specs.Taking.{TakerLaw}
-use Rattle.rh_line.specs.declared.which.Which.{Which}
-use Rattle.rh_order.proofs.ByNumber.{by_test, same_number, test_same}
-use Rattle.rh_shell.specs.declared.answers.Count.{Count}
-use Rattle.rh_shell.specs.declared.answers.Refused.TheVariants as refused
+use Rattle.rh_order.proofs.ByNumber.{by_test, same_number}
 use Rattle.rh_shell.specs.declared.due.Due.{Due}
-use Rattle.rh_shell.specs.NearEnds.{is_ended}
 use Rattle.rh_shell.specs.Waiting.{Waiting, taken}
 use Rattle.rh_line.specs.Queue.{front_length}
-use Rattle.rh_shell.specs.Shells.{is_of}
-use Rattle.rh_shell.specs.Rules.{Message, Pdu, Packet}
-use Rattle.rh_shell.specs.Moves.{OnLeg, Up, HeadCame, PduCame, PacketCame, Puts, IsDrawn, Marks, Pings, EndMove, Moves, Gives, Takes, Closes, Recycles, EndPassage, end_started, end_moved, all_end_moved, is_in_use, AreAllowedAtEnd, MayEndMove}
+use Rattle.rh_shell.specs.Rules.{Message}
 use Rattle.rh_server.specs.declared.state.InLeg.{InLeg}
-use Rattle.rh_server.specs.declared.state.InStage.{InStage}
-use Rattle.rh_server.specs.declared.state.InStage.TheVariants as in_stage
 use Rattle.rh_server.specs.declared.state.Leaving.{Leaving}
 use Rattle.rh_server.specs.declared.state.Leaving.TheVariants as leaving
 use Rattle.rh_server.specs.declared.state.OutLeg.{OutLeg}
 use Rattle.rh_server.specs.declared.state.Greeting.TheVariants as greeting
 use Rattle.rh_server.specs.declared.state.Tells.{Tells}
 use Rattle.rh_server.specs.declared.state.Tells.TheVariants as tells
-use Rattle.rh_server.specs.declared.out_line.Kind.TheVariants as kind
-use Rattle.rh_server.specs.OutLines.{Gate, lets, waits}
-use Rattle.rh_server.specs.States.{Server, has_left, in_leg, in_place, is_due, is_lost, is_open, is_put, out_place, phase_of, same_cookie, stays, with_in, without_in, without_out}
-use Rattle.rh_server.specs.Opening.{Done, in_leg_up, is_first, may_up, on_conn_a2, on_conn_b2, refuse, took, unexpected, up, up_by}
-use Rattle.rh_server.specs.Acknowledging.{channel_at, on_ack, on_ack_to, on_ping_traffic}
-use Rattle.rh_server.specs.InReplacement.{take, on_in_r1_a2, hands_over, on_in_r1_a6, on_in_r2_a2}
-use Rattle.rh_server.specs.OutReplacement.{recycle, on_out_r1_a4, on_out_r1_a8}
-use Rattle.rh_server.specs.Ending.{close, drawn, drawn_by, end_a2_at, end_a2_on_leg, end_a2_waiting, ended_on, give, in_is_done, in_is_drawn, in_only_marks, is_over_on, lost_in, mark_by, on_end_a2, only_marks_by, settled, with_ack_dropped}
-use Rattle.rh_server.specs.Order.{came_up, got, has_leg, is_up, taker_of}
+use Rattle.rh_server.specs.OutLines.{Gate, lets}
+use Rattle.rh_server.specs.States.{Server, has_left, in_leg, in_place, is_due, is_open, out_place, stays, without_in}
+use Rattle.rh_server.specs.Opening.{in_leg_up, may_up, up, up_by}
+use Rattle.rh_server.specs.Ending.{drawn_by, in_is_drawn, settled}
 use Rattle.rh_server.specs.Putting.{Pick, or_else, put_in_greeting, put_tells_by, put_tells, told_by, was_current, put_b1_by, put_b1, put_ack, put_in_by, gate_at, next_out, out_greeting_at, pdu_by, put_by, put_end, put_open, put_out_at, put_out_greeting, put_pdu, put_pdu_or_end, put_waiting, settled_pick, waiting_at, waiting_by, was_put}
-use Rattle.rh_server.specs.Servers.{acts, first, pdu, packet, packet_by, on_is, on_os}
-use Rattle.rh_server.specs.Servers.{rules as server_rules}
-use Rattle.rh_passages.proofs.Logs.{RowKeeps, PutKeeps, ActsKeep}
-use Rattle.rh_passed.specs.Passed.{IsDoneBehindEnd, is_leg}
-use Rattle.rh_passed.proofs.ServerLegs.{has_number, each_found, each_gone, found_number, IsFound, number_gone, number_more, number_last}
-use Rattle.rh_passed.proofs.Allowed.{StepsKeep, end_move_keeps, end_moves_keep}
-use Rattle.rh_passed.proofs.ServerCame.{HasPassed, came_on, ended_came, passed_last, passed_more}
+use Rattle.rh_passed.proofs.ServerLegs.{has_number, each_found, each_gone, found_number, IsFound, number_gone, number_more}
 use Rattle.rh_passed.proofs.ServerKept as kept
 use Rattle.rh_passed.proofs.ServerKept.{keeps_conn_a2, keeps_conn_b2, keeps_end_a2, keeps_in_r1_a2, keeps_in_r1_a6, keeps_lost, keeps_moved, keeps_same, keeps_settled, same_ack, same_ack_to, same_in_r2_a2, same_out_r1_a4, same_out_r1_a8, same_pdu, same_traffic, with_stays}
 
