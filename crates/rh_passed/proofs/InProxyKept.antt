@@ -1,32 +1,28 @@
 -- what an in proxy keeps: its work is done behind IN_R1/A6, or behind END where its newest ci leg
 -- was lost
-use Rattle.std.proofs.Common.{◌≡◌, ◌⊎◌, inl, inr, ℕ, suc, ◌+◌, ◌==◌, Bool, true, false, true≢false, ◌&&◌, not, List, [], ◌∷◌, length, Some, None, Ok, Err, nat_le, arith, refl, sym, ◌∙◌, subst, ap, rules}
+use Rattle.std.proofs.Common.{◌≡◌, ◌⊎◌, inl, ℕ, suc, Bool, true, false, true≢false, not, List, Some, None, Ok, Err, nat_le, arith, refl, sym, ◌∙◌, subst, ap, rules}
 use Rattle.std.proofs.lemmas.Bool.{and_parts}
 use Rattle.std.proofs.lemmas.Bool.Decides.{nat_tests}
-use Rattle.std.specs.Prelude.{if◌then◌else◌, IfSome}
+use Rattle.std.specs.Prelude.{if◌then◌else◌}
 use Rattle.std.specs.declared.option.Option.{Option}
 use Rattle.std.specs.declared.result.Result.{Result}
 use Rattle.rh_http.specs.declared.fault.HttpFault.{HttpFault}
 use Rattle.rh_http.specs.Lengths.{greatest_echo}
-use Rattle.rh_heads.specs.Verdicts.{Asked, request_verdict}
+use Rattle.rh_heads.specs.Verdicts.{Asked}
 use Rattle.rh_rts.specs.declared.command.Cookie.{Cookie}
 use Rattle.rh_sig.specs.declared.named.Named.{Named}
 use Rattle.rh_sig.specs.declared.named.Named.TheVariants.{ConnB1, ConnB3, InR1A1, InR1A5, InR1B1, InR1B2, OutR1A7, EndA1, Ack, AckTo, KeepAlive}
-use Rattle.rh_window.specs.declared.recv_window.Ack as told
 use Rattle.rh_line.specs.declared.leg.Leg.{Leg}
 use Rattle.rh_line.specs.declared.which.Which.{Which}
 use Rattle.rh_line.specs.declared.which.Which.TheVariants.{Current, Next}
 use Rattle.rh_line.specs.Lines as line
-use Rattle.rh_window.specs.Sending.{may_send, after_sent}
 use Rattle.rh_order.proofs.ByNumber.{by_test, same_number}
 use Rattle.rh_shell.specs.declared.answers.Count.{Count}
 use Rattle.rh_shell.specs.declared.answers.HeadRefused.{HeadRefused}
 use Rattle.rh_shell.specs.declared.answers.HeadTaken.{HeadTaken}
 use Rattle.rh_shell.specs.declared.answers.Refused.TheVariants as refused
-use Rattle.rh_shell.specs.declared.due.Due.{Due}
 use Rattle.rh_shell.specs.NearEnds.{is_ended}
-use Rattle.rh_shell.specs.Moves.{HeadCame, Marks, Move, is_at_work}
-use Rattle.rh_shell.specs.Rules.{Message, Pdu, Packet}
+use Rattle.rh_shell.specs.Moves.{is_at_work}
 use Rattle.rh_inproxy.specs.declared.state.ClientLeg.{ClientLeg}
 use Rattle.rh_inproxy.specs.declared.state.Handover.{Handover}
 use Rattle.rh_inproxy.specs.declared.state.Handover.TheVariants.{Before, Came, Passed}
@@ -40,21 +36,16 @@ use Rattle.rh_inproxy.specs.declared.state.Successor.{Successor}
 use Rattle.rh_inproxy.specs.declared.state.Successor.TheVariants as successors
 use Rattle.rh_inproxy.specs.declared.state.Work.{Work}
 use Rattle.rh_inproxy.specs.declared.state.Work.TheVariants as works
-use Rattle.rh_inproxy.specs.Answers.{Done, Pick, or_else, taken, refuse, unexpected}
-use Rattle.rh_inproxy.specs.State.{InProxy, channel_of, first, followed, follows, hands_over, has_a5, has_come, is_client_leg, is_server_leg, same_cookie}
-use Rattle.rh_inproxy.specs.Opening.{accepted, accepts, accepts_later, channel_asked, connected, drawn, drawn_by, echo_asked, echo_by, head, head_by, is_absent, is_first, may_accept, on_conn_b1, on_conn_b3, on_first_in_r1_a1, opener_of, phase_by, put_echo, put_first, up, wants}
-use Rattle.rh_inproxy.specs.Acknowledging.{ack_by, ack_due, current_ack, next_ack, on_ack, on_ack_to, put_ack, put_acks}
-use Rattle.rh_inproxy.specs.Ending.{is_announced, is_drained, is_newest, is_over, mark, newest_ended, on_end_a1, put_end, settled, settled_pick, tells_server}
-use Rattle.rh_inproxy.specs.InReplacement.{finish_by, finished, handed_over, has_passed, is_newcomer, join, joined, mark_by, on_in_r1_a1, on_in_r1_a5, on_in_r1_b1, on_in_r1_b2, on_later_in_r1_a1, one_less, put_in_r1_a6, put_in_r2_a2, told_by}
+use Rattle.rh_inproxy.specs.Answers.{Done, taken, refuse, unexpected}
+use Rattle.rh_inproxy.specs.State.{InProxy, channel_of, followed, follows, has_a5, has_come, is_client_leg, is_server_leg, same_cookie}
+use Rattle.rh_inproxy.specs.Opening.{accepted, accepts, accepts_later, channel_asked, connected, echo_asked, head_by, is_absent, is_first, may_accept, on_conn_b1, on_conn_b3, on_first_in_r1_a1, opener_of, phase_by, up, wants}
+use Rattle.rh_inproxy.specs.Acknowledging.{on_ack, on_ack_to}
+use Rattle.rh_inproxy.specs.Ending.{newest_ended, on_end_a1}
+use Rattle.rh_inproxy.specs.InReplacement.{finish_by, finished, handed_over, has_passed, is_newcomer, join, joined, on_in_r1_a1, on_in_r1_a5, on_in_r1_b1, on_in_r1_b2, on_later_in_r1_a1}
 use Rattle.rh_inproxy.specs.OutReplacement.{on_out_r1_a7}
-use Rattle.rh_inproxy.specs.Passing.{next_pdu, put_pdu}
-use Rattle.rh_inproxy.specs.Putting.{next, waiting_by, put_waiting, put_control, put_early, put_stream, put_behind, put_mark}
-use Rattle.rh_inproxy.specs.Putting.{put as put_of}
-use Rattle.rh_inproxy.specs.Time.{on_keep_alive, ping, put_ping}
+use Rattle.rh_inproxy.specs.Time.{on_keep_alive}
 use Rattle.rh_inproxy.specs.Machine.{pdu, packet, on_channel, on_channel_by, on_ci, on_is}
 use Rattle.rh_inproxy.specs.Machine.{rules as proxy_rules}
-use Rattle.rh_passed.specs.Passed.{AsksNoEcho}
-use Rattle.rh_passed.proofs.Allowed.{StepsKeep, of_role, role_row}
 
 -- what the fact is about
 pub record Seen : Type 0 where
@@ -75,7 +66,7 @@ seen s = record {
   successor = s.successor;
 }
 
-abbrev Same : InProxy → InProxy → Type 0
+abbrev pub Same : InProxy → InProxy → Type 0
 Same s t = seen t ≡ seen s
 
 -- the ci leg behind has the number behind
@@ -118,11 +109,11 @@ module _ (config : InProxyConfig) (Lost : Type 0) where
   All = Holds config Lost
 
   -- while the work goes on
-  record Fine (s : InProxy) : Type 0 where
-    fine : SeenFine config Lost (seen s)
-    underway : s.work ≡ works.Underway
+  pub record Fine (s : InProxy) : Type 0 where
+    pub fine : SeenFine config Lost (seen s)
+    pub underway : s.work ≡ works.Underway
 
-  to_fine : (s : InProxy) → is_at_work proxy_rules s ≡ true → All s → Fine s
+  pub to_fine : (s : InProxy) → is_at_work proxy_rules s ≡ true → All s → Fine s
   to_fine s going h =
       record { fine = h.seen; underway = by s.work refl s.opening h.works going }
     where
@@ -133,13 +124,13 @@ module _ (config : InProxyConfig) (Lost : Type 0) where
       by (works.EchoPut number) is o works going = absurd works
       by works.Done is o works going = absurd (true≢false (sym going))
 
-  to_all : (s : InProxy) → Fine s → All s
+  pub to_all : (s : InProxy) → Fine s → All s
   to_all s h = record {
     seen = h.fine;
     works = subst (IsWork Lost s) (sym h.underway) tt;
   }
 
-  same_fine : (s t : InProxy) → Same s t → Fine s → Fine t
+  pub same_fine : (s t : InProxy) → Same s t → Fine s → Fine t
   same_fine s t same h = record {
     fine = subst (SeenFine config Lost) (sym same) h.fine;
     underway = ap (λ (x : Seen). x.work) same ∙ h.underway;
@@ -148,7 +139,7 @@ module _ (config : InProxyConfig) (Lost : Type 0) where
   -- ---- legs come up
 
   -- a ci leg comes to follow while no IN_R1/A6 was put
-  succeeds : (s t : InProxy) → (has_passed s.handover ≡ true → ⊥)
+  pub succeeds : (s t : InProxy) → (has_passed s.handover ≡ true → ⊥)
       → seen t ≡ record (seen s) { successor = t.successor }
       → IsBehind s.current.number t.successor → Fine s → Fine t
   succeeds s t none same behind h = record {
@@ -189,7 +180,7 @@ module _ (config : InProxyConfig) (Lost : Type 0) where
   same_connected : (s : InProxy) (o : Opening) → Same s (connected s o)
   same_connected s o = search rules
 
-  up_fine : (s : InProxy) (leg : Leg) → Fine s → Fine (up s leg)
+  pub up_fine : (s : InProxy) (leg : Leg) → Fine s → Fine (up s leg)
   up_fine s leg h =
       by_test Fine (may_accept s leg) (accepted s s.opening leg.number) _
       (λ t. accepted_fine s s.opening leg.number
@@ -199,7 +190,7 @@ module _ (config : InProxyConfig) (Lost : Type 0) where
 
   -- ---- what comes
 
-  head_fine : (s : InProxy) (n : ℕ) (verdict : Result Asked HttpFault)
+  pub head_fine : (s : InProxy) (n : ℕ) (verdict : Result Asked HttpFault)
       → ((request : Asked) → verdict ≡ Ok request → nat_le request.length greatest_echo ≡ false)
       → Fine s → Fine (head_by s n verdict).0
   head_fine s n (Err fault) none h = h
@@ -211,7 +202,7 @@ module _ (config : InProxyConfig) (Lost : Type 0) where
       AtEnd : InProxy × Result HeadTaken HeadRefused → Type 0
       AtEnd x = Fine x.0
 
-  same_pdu : (s : InProxy) (leg : Leg) (count : Count) (bytes : List ℕ)
+  pub same_pdu : (s : InProxy) (leg : Leg) (count : Count) (bytes : List ℕ)
       → Same s (pdu s leg count bytes).0
   same_pdu s leg count bytes = search rules
 
@@ -257,7 +248,7 @@ module _ (config : InProxyConfig) (Lost : Type 0) where
       (λ t. later_fine s (opener_of s.opening) n a b c h)
 
   -- the ci leg behind becomes the current one, or does not
-  followed_fine : (s : InProxy) → Fine s → Fine (followed s)
+  pub followed_fine : (s : InProxy) → Fine s → Fine (followed s)
   followed_fine s h = by s.line.has_next s.successor refl
     where
       Followed : Bool → Successor → Type 0
@@ -302,7 +293,7 @@ module _ (config : InProxyConfig) (Lost : Type 0) where
     underway = h.underway;
   }
 
-  joined_not : (s : InProxy) (client : ClientLeg) (stage : Joining)
+  pub joined_not : (s : InProxy) (client : ClientLeg) (stage : Joining)
       → s.successor ≡ successors.Joined client stage → Fine s → has_passed s.handover ≡ true → ⊥
   joined_not s client stage is h f = true≢false (sym (h.fine.last f) ∙ ap is_absent is)
 
@@ -410,7 +401,7 @@ module _ (config : InProxyConfig) (Lost : Type 0) where
       (same_ack s received available channel) h)
   is_all s packet h = to_all s h
 
-  packet_all : (s : InProxy) (leg : Leg) (count : Count) (named : Named) → Fine s
+  pub packet_all : (s : InProxy) (leg : Leg) (count : Count) (named : Named) → Fine s
       → All (packet s leg count named).0
   packet_all s leg count named h =
       by_test (λ (x : Done). All x.0) (is_client_leg leg) (on_ci s leg.number named)
@@ -418,282 +409,3 @@ module _ (config : InProxyConfig) (Lost : Type 0) where
       (λ t. to_all (on_ci s leg.number named).0 (ci_fine s leg.number named h))
       (λ t. by_test (λ (x : Done). All x.0) (is_server_leg s leg) (on_is s named) (unexpected s)
       (λ u. is_all s named h) (λ u. to_all s h))
-
-  -- ---- what is put
-
-  abbrev PutFine : Pick → Type 0
-  PutFine pick = IfSome pick (λ (one : InProxy × Message). Fine one.0)
-
-  abbrev PutSame : InProxy → Pick → Type 0
-  PutSame s pick = IfSome pick (λ (one : InProxy × Message). Same s one.0)
-
-  put_fine : (s : InProxy) (pick : Pick) → PutSame s pick → Fine s → PutFine pick
-  put_fine s None same h = tt
-  put_fine s (Some one) same h = same_fine s one.0 same h
-
-  or_fine : (a b : Pick) → PutFine a → PutFine b → PutFine (or_else a b)
-  or_fine None b h k = k
-  or_fine (Some pick) b h k = h
-
-  same_put_first : (s : InProxy) → PutSame s (put_first s)
-  same_put_first s = search rules
-
-  same_ack_by : (s : InProxy) (which : Which) (cookie : Cookie) (o : Option told.Ack)
-      → PutSame s (ack_by s which cookie o)
-  same_ack_by s which cookie None = tt
-  same_ack_by s which cookie (Some ack) = refl
-
-  ack_fine : (s : InProxy) (which : Which) (cookie : Cookie) → Fine s
-      → PutFine (put_ack s which cookie)
-  ack_fine s which cookie h =
-      put_fine s (put_ack s which cookie) (same_ack_by s which cookie (ack_due s which)) h
-
-  next_ack_fine : (s : InProxy) (z : Successor) → Fine s → PutFine (next_ack s z)
-  next_ack_fine s successors.Absent h = tt
-  next_ack_fine s (successors.Up number) h = tt
-  next_ack_fine s (successors.Joined client stage) h = ack_fine s Next client.cookie h
-
-  same_end : (s : InProxy) → PutSame s (put_end s)
-  same_end s = search rules
-
-  same_ping : (s : InProxy) → PutSame s (put_ping s)
-  same_ping s = search rules
-
-  told_fine : (s : InProxy) (z : Successor) → s.successor ≡ z → Fine s → PutFine (told_by s z)
-  told_fine s successors.Absent is h = tt
-  told_fine s (successors.Up number) is h = tt
-  told_fine s (successors.Joined client Told) is h = tt
-  told_fine s (successors.Joined client Follows) is h = tt
-  told_fine s (successors.Joined client (TellsServer before)) is h =
-      by_test PutFine (before == 0) _ None
-      (λ t. succeeds s (record s { successor = successors.Joined client Told })
-      (joined_not s client (TellsServer before) is h) refl
-      (subst (IsBehind s.current.number) is h.fine.behind) h)
-      (λ t. tt)
-
-  absent_less : (z : Successor) → is_absent (one_less z) ≡ is_absent z
-  absent_less successors.Absent = refl
-  absent_less (successors.Up number) = refl
-  absent_less (successors.Joined client Told) = refl
-  absent_less (successors.Joined client Follows) = refl
-  absent_less (successors.Joined client (TellsServer before)) = refl
-
-  behind_less : (n : ℕ) (z : Successor) → IsBehind n z → IsBehind n (one_less z)
-  behind_less n successors.Absent b = b
-  behind_less n (successors.Up number) b = b
-  behind_less n (successors.Joined client Told) b = b
-  behind_less n (successors.Joined client Follows) b = b
-  behind_less n (successors.Joined client (TellsServer before)) b = b
-
-  waiting_fine : (s : InProxy) (dues : List Due) → Fine s → PutFine (waiting_by s dues)
-  waiting_fine s [] h = tt
-  waiting_fine s (due ∷ dues) h = record {
-    fine = record {
-      made = h.fine.made;
-      lost = h.fine.lost;
-      last = λ e. absent_less s.successor ∙ h.fine.last e;
-      behind = behind_less s.current.number s.successor h.fine.behind;
-    };
-    underway = h.underway;
-  }
-
-  pdu_fine : (s : InProxy) (pdus : List (List ℕ)) → Fine s → PutFine (next_pdu s pdus)
-  pdu_fine s [] h = tt
-  pdu_fine s (pdu ∷ pdus) h =
-      by_test PutFine (may_send s.window (length pdu)) _ None
-      (λ t. followed_fine (sent (length pdu)) (same_fine s (sent (length pdu)) refl h))
-      (λ t. tt)
-    where
-      sent : ℕ → InProxy
-      sent len =
-          record s { line = line.after_take s.line; window = after_sent s.window len }
-
-  mark_fine : (s : InProxy) (handover : Handover) → is_absent s.successor ≡ true → Fine s
-      → PutFine (mark_by s handover)
-  mark_fine s Before absent h = tt
-  mark_fine s Passed absent h = tt
-  mark_fine s (Came cookie) absent h = record {
-    fine = record {
-      made = h.fine.made;
-      lost = h.fine.lost;
-      last = λ e. absent;
-      behind = h.fine.behind;
-    };
-    underway = h.underway;
-  }
-
-  control_fine : (s : InProxy) → Fine s → PutFine (put_control s)
-  control_fine s h =
-      or_fine (put_early s) (put_acks s)
-      (or_fine (put_first s) _ (put_fine s (put_first s) (same_put_first s) h)
-      (or_fine (put_in_r2_a2 s) (put_waiting s) (told_fine s s.successor refl h)
-      (waiting_fine s s.waiting.due h)))
-      (or_fine (current_ack s) (next_ack s s.successor) (ack_fine s Current s.current.cookie h)
-      (next_ack_fine s s.successor h))
-
-  behind_fine : (s : InProxy) → Fine s → PutFine (put_behind s)
-  behind_fine s h =
-      or_fine (put_mark s) (put_ping s)
-      (or_fine (put_end s) (put_in_r1_a6 s) (put_fine s (put_end s) (same_end s) h)
-      (by_test PutFine (is_absent s.successor && line.is_empty s.line.current.pdus)
-      (mark_by s s.handover) None
-      (λ t. mark_fine s s.handover
-      (and_parts (is_absent s.successor) (line.is_empty s.line.current.pdus) t).0 h)
-      (λ t. tt)))
-      (put_fine s (put_ping s) (same_ping s) h)
-
-  next_fine : (s : InProxy) → Fine s → PutFine (next s)
-  next_fine s h =
-      or_fine (put_control s) (put_stream s) (control_fine s h)
-      (or_fine (put_pdu s) (put_behind s) (pdu_fine s s.line.current.pdus h) (behind_fine s h))
-
-  -- where the newest ci leg is lost behind END, the work may be done
-  settled_all : (s : InProxy) → Fine s → All (settled s)
-  settled_all s h =
-      by_test All (is_over s) (record s { work = works.Done }) s
-      (λ t. record {
-        seen = record {
-          made = h.fine.made;
-          lost = h.fine.lost;
-          last = h.fine.last;
-          behind = h.fine.behind;
-        };
-        works = inr (over t);
-      })
-      (λ t. to_all s h)
-    where
-      drained : (a b c d e f : Bool) → (a && b && c && d && e && f) ≡ true → a ≡ true
-      drained true b c d e f g = refl
-      drained false b c d e f g = g
-
-      tests : (a b c d : Bool) → (a && b && c && d) ≡ true
-          → (a ≡ true) × (b ≡ true) × (d ≡ true)
-      tests true true true true e = (refl, refl, refl)
-      tests true true true false e = absurd (true≢false (sym e))
-      tests true true false d e = absurd (true≢false (sym e))
-      tests true false c d e = absurd (true≢false (sym e))
-      tests false b c d e = absurd (true≢false (sym e))
-
-      over : is_over s ≡ true → Over Lost (record s { work = works.Done })
-      over t =
-          let all = tests s.newest_lost (newest_ended s s.successor)
-          (not (has_come s.handover)) (is_drained s) t in
-          record {
-            lost = h.fine.lost all.0;
-            ended = all.1;
-            put =
-                drained s.end_put (line.is_empty s.line.current.pdus) (is_announced s.opening)
-                (not (tells_server s.successor)) (length s.waiting.due == 0) (not s.ping_due)
-                all.2;
-          }
-
-  abbrev PutAll : Pick → Type 0
-  PutAll pick = IfSome pick (λ (one : InProxy × Message). All one.0)
-
-  settled_put : (pick : Pick) → PutFine pick → PutAll (settled_pick pick)
-  settled_put None h = tt
-  settled_put (Some pick) h = settled_all pick.0 h
-
-  echo_all : (s : InProxy) (w : Work) (n : ℕ) → w ≡ works.Underway → PutAll (echo_by s w n)
-  echo_all s works.Underway n is = tt
-  echo_all s (works.EchoDue asked_on) n is = absurd cc
-  echo_all s (works.EchoPut asked_on) n is = tt
-  echo_all s works.Done n is = tt
-
-  puts_all : (s : InProxy) (leg : Leg) → Fine s → PutAll (put_of s leg)
-  puts_all s leg h =
-      by_test PutAll (is_client_leg leg) (put_echo s leg.number)
-      (if is_server_leg s leg then settled_pick (next s) else None)
-      (λ t. echo_all s s.work leg.number h.underway)
-      (λ t. by_test PutAll (is_server_leg s leg) (settled_pick (next s)) None
-      (λ u. settled_put (next s) (next_fine s h)) (λ u. tt))
-
-  -- ---- ends and breaks
-
-  mark_all : (s : InProxy) (leg : Leg) → Lost → Fine s → All (mark s leg)
-  mark_all s leg lost h =
-      settled_all (if is_newest s leg then record s { newest_lost = true } else s)
-      (by_test Fine (is_newest s leg) (record s { newest_lost = true }) s
-      (λ t. record {
-        fine = record {
-          made = h.fine.made;
-          lost = λ e. lost;
-          last = h.fine.last;
-          behind = h.fine.behind;
-        };
-        underway = h.underway;
-      })
-      (λ t. h))
-
-  drawn_all : (s : InProxy) (leg : Leg) → All s → All (drawn s leg)
-  drawn_all s leg h =
-      by_test All (is_client_leg leg) (drawn_by s s.work leg.number) s (λ t. by s.work h.works)
-      (λ t. h)
-    where
-      by : (w : Work) → IsWork Lost s w → All (drawn_by s w leg.number)
-      by works.Underway is = h
-      by (works.EchoDue asked_on) is = absurd is
-      by (works.EchoPut asked_on) is = absurd is
-      by works.Done is = h
-
-  ping_all : (s : InProxy) (leg : Leg) → All s → All (ping s leg)
-  ping_all s leg h =
-      by_test All (is_server_leg s leg) (record s { ping_due = true }) s
-      (λ t. record {
-        seen = record {
-          made = h.seen.made;
-          lost = h.seen.lost;
-          last = h.seen.last;
-          behind = h.seen.behind;
-        };
-        works = by s.work h.works;
-      })
-      (λ t. h)
-    where
-      by : (w : Work) → IsWork Lost s w → IsWork Lost (record s { ping_due = true }) w
-      by works.Underway is = tt
-      by (works.EchoDue asked_on) is = is
-      by (works.EchoPut asked_on) is = is
-      by works.Done (inl passed) = inl passed
-      by works.Done (inr over) =
-          inr (record { lost = over.lost; ended = over.ended; put = over.put })
-
-  -- ---- the role
-
-  -- a leg is marked only where that is known
-  pub keeps : (Asks : Move → Type 0)
-      → ((leg : Leg) (text : List ℕ) → Asks (HeadCame leg text) → AsksNoEcho true text)
-      → ((leg : Leg) → Asks (Marks leg) → Lost)
-      → StepsKeep proxy_rules Asks (λ s came put. Unit {0}) (of_role All)
-  keeps Asks head_asks mark_asks = record {
-    up = λ s leg cookie came put going h.
-        to_all (up s leg) (up_fine s leg (to_fine s going h));
-    head = λ s leg text came put going asks h.
-        to_all (head s leg text).0
-        (head_fine s leg.number (request_verdict true text) (head_asks leg text asks)
-        (to_fine s going h));
-    pdu = λ s leg count bytes came put going h.
-        role_row All (leg, Pdu bytes) came put (pdu s leg count bytes)
-        (to_all (pdu s leg count bytes).0
-        (same_fine s (pdu s leg count bytes).0 (same_pdu s leg count bytes)
-        (to_fine s going h)));
-    packet = λ s leg count named came put going h.
-        role_row All (leg, Packet named) came put (packet s leg count named)
-        (packet_all s leg count named (to_fine s going h));
-    put = λ s leg came put going h. puts_all s leg (to_fine s going h);
-    mark = λ s leg came put going only asks known h.
-        mark_all s leg (mark_asks leg asks) (to_fine s going h);
-    drawn = λ s leg came put. drawn_all s leg;
-    ping = λ s leg came put. ping_all s leg;
-  }
-
-  pub starts : All (first config)
-  starts = record {
-    seen = record {
-      made = refl;
-      lost = λ e. absurd (true≢false (sym e));
-      last = λ e. absurd (true≢false (sym e));
-      behind = tt;
-    };
-    works = tt;
-  }

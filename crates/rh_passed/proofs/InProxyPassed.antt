@@ -27,7 +27,8 @@ use Rattle.rh_inproxy.specs.Order.{KeepsOrder, came_log, next_shelf}
 use Rattle.rh_inproxy.specs.Machine.{rules as proxy_rules}
 use Rattle.rh_passed.specs.Passed.{AsksNoEcho, HeadsAre, IsDoneBehindEnds, IsDoneBehindMark, LosesNone, ci_leg}
 use Rattle.rh_passed.proofs.Allowed.{moves_keep, of_role}
-use Rattle.rh_passed.proofs.InProxyKept.{Holds, IsBehind, IsWork, Over, keeps, starts}
+use Rattle.rh_passed.proofs.InProxyKept.{Holds, IsBehind, IsWork, Over}
+use Rattle.rh_passed.proofs.InProxyPuts.{keeps, starts}
 
 -- ---- a leg that is done
 
@@ -79,7 +80,8 @@ record CameUp (s : InProxy) (n : ℕ) : Type 0 where
   upto : nat_le n (newest s) ≡ true
 
 came_up : (s : InProxy) (n : ℕ) → was_up s (ci_leg n) ≡ true → CameUp s n
-came_up s n e = by (had_client s.opening) (nat_le s.config.number n) (nat_le n (newest s)) refl refl e
+came_up s n e =
+    by (had_client s.opening) (nat_le s.config.number n) (nat_le n (newest s)) refl refl e
   where
     by : (a b c : Bool) → nat_le s.config.number n ≡ b → nat_le n (newest s) ≡ c
         → ((true && a && b && c) || false) ≡ true → CameUp s n

@@ -1,5 +1,5 @@
 -- on the os leg of an out proxy that has no more use for it, OUT_R1/A9 or END/B1 came
-use Rattle.std.proofs.Common.{◌≡◌, ◌⊎◌, inl, inr, ap, [], ◌∷◌, ℕ, ◌==◌, Bool, true, false, true≢false, ◌&&◌, ◌||◌, not, List, Some, None, Ok, Err, nat_le, refl, sym, ◌∙◌, subst, rules}
+use Rattle.std.proofs.Common.{◌≡◌, ◌⊎◌, inl, inr, ap, ℕ, Bool, true, false, true≢false, ◌&&◌, ◌||◌, not, List, Some, None, Ok, Err, nat_le, refl, sym, ◌∙◌, subst, rules}
 use Rattle.std.proofs.lemmas.Bool.{and_parts}
 use Rattle.std.specs.List.{AllByRecursion}
 use Rattle.std.specs.Prelude.{if◌then◌else◌, IfSome}
@@ -14,7 +14,7 @@ use Rattle.rh_sig.specs.declared.named.Named.TheVariants as named
 use Rattle.rh_line.specs.declared.leg.Leg.{Leg}
 use Rattle.rh_line.specs.Lines.{is_empty}
 use Rattle.rh_order.specs.Items.{Item, has_end, has_handover}
-use Rattle.rh_order.proofs.ByNumber.{by_test, same_number}
+use Rattle.rh_order.proofs.ByNumber.{by_test}
 use Rattle.rh_shell.specs.declared.answers.Count.{Count}
 use Rattle.rh_shell.specs.declared.answers.HeadRefused.{HeadRefused}
 use Rattle.rh_shell.specs.declared.due.Due.{Due}
@@ -35,7 +35,7 @@ use Rattle.rh_outproxy.specs.declared.state.ServerLeg.TheVariants as servers
 use Rattle.rh_outproxy.specs.declared.state.ClientLeg.TheVariants as clients
 use Rattle.rh_outproxy.specs.OutProxy.{OutProxy, is_echo_drawn, has_come, is_due, is_echo_put, is_over, is_put, is_server_down, is_server_first, is_server_marked, new_proxy}
 use Rattle.rh_outproxy.specs.Rows.{Done, is_carrying, is_co, is_os, passed_on, taken, takes_pdus, unexpected}
-use Rattle.rh_outproxy.specs.Opening.{up, head_by, on_conn_c1, was_up, first_packet}
+use Rattle.rh_outproxy.specs.Opening.{up, head_by, on_conn_c1, first_packet}
 use Rattle.rh_outproxy.specs.Acknowledging.{on_ack_to}
 use Rattle.rh_outproxy.specs.OutReplacement.{on_out_r1_a9}
 use Rattle.rh_outproxy.specs.Ending.{drawn, mark, on_end_b1, only_marks}
@@ -127,7 +127,7 @@ module _ (config : OutProxyConfig) where
         made = h.made;
         answer = h.answer;
         server = λ e. absurd (unput s.end
-        (and_parts (is_carrying s) (not (has_come s.end)) t).1 (h.server e));
+            (and_parts (is_carrying s) (not (has_come s.end)) t).1 (h.server e));
       })
       (λ t. h)
     where
@@ -218,7 +218,11 @@ module _ (config : OutProxyConfig) where
 
   first_fine : (s : OutProxy) (o : Option Named) → Fine s → PutFine (first_by s o)
   first_fine s None h = tt
-  first_fine s (Some packet) h = record { made = h.made; answer = h.answer; server = λ e. absurd (true≢false (sym e)) }
+  first_fine s (Some packet) h = record {
+    made = h.made;
+    answer = h.answer;
+    server = λ e. absurd (true≢false (sym e));
+  }
 
   same_ack : (s : OutProxy) → PutSame s (put_ack s)
   same_ack s = search rules
@@ -281,7 +285,8 @@ module _ (config : OutProxyConfig) where
 
   -- ---- the role
 
-  keeps : StepsKeep proxy_rules (HeadsAre (AsksNoEcho false)) (λ s came put. Unit {0}) (of_role Fine)
+  keeps : StepsKeep proxy_rules (HeadsAre (AsksNoEcho false)) (λ s came put. Unit {0})
+      (of_role Fine)
   keeps = record {
     up = λ s leg cookie came put works. up_fine s leg cookie;
     head = λ s leg text came put works none. head_fine s (request_verdict false text) none;

@@ -17,7 +17,7 @@ use Rattle.rh_shell.specs.Moves.{OnLeg}
 use Rattle.rh_server.specs.declared.state.InLeg.{InLeg}
 use Rattle.rh_server.specs.Acknowledging.{channel_at}
 use Rattle.rh_server.specs.Ending.{ended_on, waits_ended}
-use Rattle.rh_server.specs.Order.{following, in_items, items_if, items_on, taker_of}
+use Rattle.rh_server.specs.Order.{in_items, items_if, items_on, taker_of}
 use Rattle.rh_server.specs.States.{Server}
 
 abbrev pub passed : List Item → Bool

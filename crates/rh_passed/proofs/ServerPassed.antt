@@ -1,8 +1,7 @@
 -- on an is leg for which a server has no more use, IN_R1/A6 or END/A2 came
 use Rattle.std.proofs.Common.{◌≡◌, ◌⊎◌, inl, inr, ℕ, ◌==◌, Bool, true, false, true≢false, not, ◌&&◌, ◌||◌, nat_eq, List, [], ◌∷◌, ◌++◌, Some, None, Ok, Err, refl, rules, sym, ap, ◌∙◌, subst}
 use Rattle.std.proofs.lemmas.Bool.{and_parts}
-use Rattle.std.specs.Prelude.{if◌then◌else◌, IfSome, slice_get}
-use Rattle.std.specs.List.{AllByRecursion}
+use Rattle.std.specs.Prelude.{if◌then◌else◌, IfSome}
 use Rattle.std.specs.declared.option.Option.{Option}
 use Rattle.rh_rts.specs.declared.command.Cookie.{Cookie}
 use Rattle.rh_sig.specs.declared.named.Named.{Named}
@@ -16,44 +15,38 @@ use Rattle.rh_order.specs.Items.{has_end, has_handover}
 use Rattle.rh_order.specs.Taking.{TakerLaw}
 use Rattle.rh_line.specs.declared.which.Which.{Which}
 use Rattle.rh_order.proofs.ByNumber.{by_test, same_number, test_same}
-use Rattle.rh_order.proofs.ItemLists.{has_handover-append}
 use Rattle.rh_shell.specs.declared.answers.Count.{Count}
 use Rattle.rh_shell.specs.declared.answers.Refused.TheVariants as refused
-use Rattle.rh_shell.specs.declared.due.Due.{Due}
 use Rattle.rh_shell.specs.NearEnds.{is_ended}
-use Rattle.rh_shell.specs.Waiting.{Waiting, taken}
-use Rattle.rh_line.specs.Queue.{front_length}
+use Rattle.rh_shell.specs.Waiting.{taken}
 use Rattle.rh_shell.specs.Shells.{is_of}
-use Rattle.rh_shell.specs.Rules.{Message, Pdu, Packet}
+use Rattle.rh_shell.specs.Rules.{Pdu, Packet}
 use Rattle.rh_shell.specs.Moves.{OnLeg, Up, HeadCame, PduCame, PacketCame, Puts, IsDrawn, Marks, Pings, EndMove, Moves, Gives, Takes, Closes, Recycles, EndPassage, end_started, end_moved, all_end_moved, is_in_use, AreAllowedAtEnd, MayEndMove}
 use Rattle.rh_server.specs.declared.state.InLeg.{InLeg}
 use Rattle.rh_server.specs.declared.state.InStage.{InStage}
 use Rattle.rh_server.specs.declared.state.InStage.TheVariants as in_stage
 use Rattle.rh_server.specs.declared.state.Leaving.{Leaving}
-use Rattle.rh_server.specs.declared.state.Leaving.TheVariants as leaving
-use Rattle.rh_server.specs.declared.state.OutLeg.{OutLeg}
-use Rattle.rh_server.specs.declared.state.Greeting.TheVariants as greeting
-use Rattle.rh_server.specs.declared.state.Tells.{Tells}
-use Rattle.rh_server.specs.declared.state.Tells.TheVariants as tells
 use Rattle.rh_server.specs.declared.out_line.Kind.TheVariants as kind
-use Rattle.rh_server.specs.OutLines.{Gate, lets, waits}
-use Rattle.rh_server.specs.States.{Server, has_left, in_leg, in_place, is_due, is_lost, is_open, is_put, out_place, phase_of, same_cookie, stays, with_in, without_in, without_out}
+use Rattle.rh_server.specs.OutLines.{waits}
+use Rattle.rh_server.specs.States.{Server, has_left, in_leg, in_place, is_lost, is_put, phase_of, same_cookie, stays, with_in, without_out}
 use Rattle.rh_server.specs.Opening.{Done, in_leg_up, is_first, may_up, on_conn_a2, on_conn_b2, refuse, took, unexpected, up, up_by}
 use Rattle.rh_server.specs.Acknowledging.{channel_at, on_ack, on_ack_to, on_ping_traffic}
 use Rattle.rh_server.specs.InReplacement.{take, on_in_r1_a2, hands_over, on_in_r1_a6, on_in_r2_a2}
 use Rattle.rh_server.specs.OutReplacement.{recycle, on_out_r1_a4, on_out_r1_a8}
-use Rattle.rh_server.specs.Ending.{close, drawn, drawn_by, end_a2_at, end_a2_on_leg, end_a2_waiting, ended_on, give, in_is_done, in_is_drawn, in_only_marks, is_over_on, lost_in, mark_by, on_end_a2, only_marks_by, settled, with_ack_dropped}
+use Rattle.rh_server.specs.Ending.{close, drawn, end_a2_at, end_a2_on_leg, end_a2_waiting, ended_on, give, in_is_done, in_only_marks, is_over_on, lost_in, mark_by, on_end_a2, only_marks_by, with_ack_dropped}
 use Rattle.rh_server.specs.Order.{came_up, got, has_leg, is_up, taker_of}
-use Rattle.rh_server.specs.Putting.{Pick, or_else, put_in_greeting, put_tells_by, put_tells, told_by, was_current, put_b1_by, put_b1, put_ack, put_in_by, gate_at, next_out, out_greeting_at, pdu_by, put_by, put_end, put_open, put_out_at, put_out_greeting, put_pdu, put_pdu_or_end, put_waiting, settled_pick, waiting_at, waiting_by, was_put}
+use Rattle.rh_server.specs.Putting.{Pick, put_by}
 use Rattle.rh_server.specs.Servers.{acts, first, pdu, packet, packet_by, on_is, on_os}
 use Rattle.rh_server.specs.Servers.{rules as server_rules}
 use Rattle.rh_passages.proofs.Logs.{RowKeeps, PutKeeps, ActsKeep}
 use Rattle.rh_passed.specs.Passed.{IsDoneBehindEnd, is_leg}
-use Rattle.rh_passed.proofs.ServerLegs.{has_number, each_found, each_gone, found_number, IsFound, number_gone, number_more, number_last}
+use Rattle.rh_passed.proofs.ServerLegs.{has_number, each_found, found_number, IsFound, number_last}
 use Rattle.rh_passed.proofs.Allowed.{StepsKeep, end_move_keeps, end_moves_keep}
 use Rattle.rh_passed.proofs.ServerCame.{HasPassed, came_on, ended_came, passed_last, passed_more}
 use Rattle.rh_passed.proofs.ServerKept as kept
 use Rattle.rh_passed.proofs.ServerKept.{keeps_conn_a2, keeps_conn_b2, keeps_end_a2, keeps_in_r1_a2, keeps_in_r1_a6, keeps_lost, keeps_moved, keeps_same, keeps_settled, same_ack, same_ack_to, same_in_r2_a2, same_out_r1_a4, same_out_r1_a8, same_pdu, same_traffic, with_stays}
+use Rattle.rh_passed.proofs.ServerPuts as put_of
+use Rattle.rh_passed.proofs.ServerPuts.{keeps_drawn, keeps_up}
 
 -- ---- the is legs that are kept
 
@@ -244,173 +237,19 @@ module _ (n : ℕ) where
     -- ---- what is put
 
     abbrev PutStays : Pick → Type 0
-    PutStays pick = IfSome pick (λ (one : Server × Message). Stays has_come one.0)
-
-    abbrev PutSame : Server → Pick → Type 0
-    PutSame s pick = IfSome pick (λ (one : Server × Message). Same s one.0)
-
-    same_put : (s : Server) (pick : Pick) → PutSame s pick → Stays has_come s → PutStays pick
-    same_put s None same h = tt
-    same_put s (Some one) same h = keeps_same n s one.0 same has_come h
-
-    or_put : (a b : Pick) → PutStays a → PutStays b → PutStays (or_else a b)
-    or_put None b h k = k
-    or_put (Some pick) b h k = h
-
-    same_told : (s : Server) (number : ℕ) → Same s (told_by s number)
-    same_told s number = search rules
-
-    tells_put : (s : Server) (leg : InLeg) (t : Tells) → IsStaying leg → Stays has_come s
-        → PutStays (put_tells_by s leg t)
-    tells_put s leg tells.Nothing is h = tt
-    tells_put s leg tells.ConnB3 is h =
-        by_test PutStays (is_open s.stage) _ None
-        (λ t. with_stays n s (record leg { tells = tells.Nothing }) has_come is h) (λ t. tt)
-    tells_put s leg tells.InR1B2 is h =
-        by_test PutStays (was_current s leg) _ None
-        (λ t. with_stays n (told_by s leg.number) (record leg { tells = tells.Nothing }) has_come is
-        (keeps_same n s (told_by s leg.number) (same_told s leg.number) has_come h)) (λ t. tt)
-
-    -- IN_R1/B1 goes on a leg that stays no more
-    b1_put : (s : Server) (leg : InLeg) (x : Leaving) → leg.leaving ≡ x → IsStaying leg
-        → Stays has_come s → PutStays (put_b1_by s leg x)
-    b1_put s leg leaving.Stays same is h = tt
-    b1_put s leg leaving.Left same is h = tt
-    b1_put s leg leaving.Lost same is h = tt
-    b1_put s leg leaving.InR1B1 same is h =
-        with_stays n s (record leg { leaving = leaving.Left }) has_come
-        (λ number. absurd (true≢false (sym (ap stays (is number).0) ∙ ap stays same))) h
-
-    same_put_ack : (s : Server) (leg : InLeg) → PutSame s (put_ack s leg)
-    same_put_ack s leg = search rules
-
-    in_put : (s : Server) (o : Option InLeg) → IfSome o IsStaying → Stays has_come s
-        → PutStays (put_in_by s o)
-    in_put s None is h = tt
-    in_put s (Some leg) is h =
-        or_put (put_in_greeting s leg) _
-        (by_test PutStays (is_due leg.greeting) _ None
-        (λ t. with_stays n s (record leg { greeting = greeting.Put }) has_come is h) (λ t. tt))
-        (or_put (put_tells s leg) _ (tells_put s leg leg.tells is h)
-        (or_put (put_b1 s leg) (put_ack s leg) (b1_put s leg leg.leaving refl is h)
-        (same_put s (put_ack s leg) (same_put_ack s leg) h)))
-
-    same_out_greeting : (s : Server) (place : ℕ) (o : Option OutLeg)
-        → PutSame s (out_greeting_at s place o)
-    same_out_greeting s place o = search rules
-
-    same_was_put : (s : Server) (place : ℕ) (m : Named) → Same s (was_put s place m)
-    same_was_put s place m = search rules
-
-    waiting_put : (s : Server) (place : ℕ) (o : Option Gate) → Stays has_come s
-        → PutStays (waiting_at s place o)
-    waiting_put s place None h = tt
-    waiting_put s place (Some gate) h =
-        found (taken (lets gate) s.waiting).0 (taken (lets gate) s.waiting).1
-      where
-        found : (w : Waiting) (o : Option Due) → PutStays (waiting_by s place (w, o))
-        found w None = tt
-        found w (Some due) =
-            let t : Server = record s { waiting = w } in
-            keeps_same n t (was_put t place due.packet) (same_was_put t place due.packet) has_come
-            (record { each = h.each; there = h.there; work = h.work })
-
-    same_put_pdu : (s : Server) (place : ℕ) (o : Option ℕ) → PutSame s (pdu_by s place o)
-    same_put_pdu s place o = search rules
-
-    same_put_end : (s : Server) (place : ℕ) → PutSame s (put_end s place)
-    same_put_end s place = search rules
-
-    settled_put : (pick : Pick) → PutStays pick → PutStays (settled_pick pick)
-    settled_put None h = tt
-    settled_put (Some pick) h = keeps_settled n pick.0 has_come h
-
-    next_put : (s : Server) (place : ℕ) → Stays has_come s → PutStays (next_out s place)
-    next_put s place h =
-        or_put (put_waiting s place) (put_pdu_or_end s place)
-        (waiting_put s place (gate_at s (slice_get s.outs place)) h)
-        (or_put (put_pdu s place) (put_end s place)
-        (same_put s (put_pdu s place) (same_put_pdu s place (front_length s.queue)) h)
-        (same_put s (put_end s place) (same_put_end s place) h))
-
-    out_put : (s : Server) (o : Option ℕ) → Stays has_come s → PutStays (put_out_at s o)
-    out_put s None h = tt
-    out_put s (Some place) h =
-        or_put (put_out_greeting s place) (put_open s place)
-        (same_put s (put_out_greeting s place)
-        (same_out_greeting s place (slice_get s.outs place)) h)
-        (by_test PutStays (is_open s.stage) (settled_pick (next_out s place)) None
-        (λ t. settled_put (next_out s place) (next_put s place h)) (λ t. tt))
-
-    put_stays : (s : Server) (number : ℕ) (k : LegKind) → Stays has_come s
-        → PutStays (put_by s number k)
-    put_stays s number InServer h =
-        in_put s (in_leg number s.ins)
-        (each_found IsStaying s.ins (in_place number s.ins) h.each) h
-    put_stays s number OutServer h = out_put s (out_place number s.outs) h
-    put_stays s number ClientIn h = tt
-    put_stays s number ClientOut h = tt
+    PutStays = put_of.PutStays n has_come
 
     puts : (s : Server) (leg : Leg) (came put : List OnLeg) → Holds s came put
         → PutKeeps Holds leg came put (put_by s leg.number leg.kind)
-    puts s leg came put h = by (put_by s leg.number leg.kind) h (put_stays s leg.number leg.kind)
+    puts s leg came put h =
+        by (put_by s leg.number leg.kind) h
+        (put_of.put_stays n has_come s leg.number leg.kind)
       where
         by : (pick : Pick) → Holds s came put → (Stays has_come s → PutStays pick)
             → PutKeeps Holds leg came put pick
         by None h keeps = tt
         by (Some one) (inl left) keeps = inl left
         by (Some one) (inr stays) keeps = inr (keeps stays)
-
-  -- ---- legs come up, and are drawn to their ends
-
-  keeps_up : (s : Server) (leg : Leg) (cookie : Cookie) → Keeps s (up s leg cookie)
-  keeps_up s leg cookie has_come h =
-      by_test (Stays has_come) (may_up s leg) (up_by s leg.number leg.kind) s (λ t. by leg.kind)
-      (λ t. h)
-    where
-      by : (kind : LegKind) → Stays has_come (up_by s leg.number kind)
-      by InServer = record {
-        each = each_push IsStaying s.ins (in_leg_up leg.number) h.each (λ same. (refl, refl));
-        there = λ e. number_more n s.ins (in_leg_up leg.number) (h.there e);
-        work = h.work;
-      }
-      by OutServer = record { each = h.each; there = h.there; work = h.work }
-      by ClientIn = h
-      by ClientOut = h
-
-  keeps_without : (s : Server) (number : ℕ) → in_is_drawn (in_leg number s.ins) ≡ true
-      → Keeps s (without_in s number)
-  keeps_without s number is_drawn has_come h = record {
-    each = each_gone IsStaying s.ins (in_place number s.ins) h.each;
-    there = λ e. by e (number == n) refl;
-    work = h.work;
-  }
-    where
-      stays_there : has_come ≡ true → number ≡ n → (o : Option InLeg)
-          → IsFound number (has_number number s.ins) o → IfSome o IsStaying
-          → in_is_drawn o ≡ true → ⊥
-      stays_there e same None found is d =
-          true≢false (sym (h.there e) ∙ ap (λ (k : ℕ). has_number k s.ins) (sym same) ∙ found)
-      stays_there e same (Some leg) found is d =
-          true≢false (sym d ∙ ap has_left (is (found ∙ same)).0)
-
-      by : has_come ≡ true → (b : Bool) → number == n ≡ b
-          → has_number n (without_in s number).ins ≡ true
-      by e true same =
-          absurd (stays_there e (same_number number n same) (in_leg number s.ins)
-          (found_number number s.ins)
-          (each_found IsStaying s.ins (in_place number s.ins) h.each) is_drawn)
-      by e false other = number_gone n number s.ins other ∙ h.there e
-
-  keeps_drawn : (s : Server) (number : ℕ) (k : LegKind) → Keeps s (drawn_by s number k)
-  keeps_drawn s number InServer has_come h =
-      by_test (Stays has_come) (in_is_drawn (in_leg number s.ins))
-      (settled (without_in s number)) s
-      (λ t. keeps_settled n (without_in s number) has_come (keeps_without s number t has_come h))
-      (λ t. h)
-  keeps_drawn s number OutServer has_come h = h
-  keeps_drawn s number ClientIn has_come h = h
-  keeps_drawn s number ClientOut has_come h = h
 
   -- ---- the role
 
@@ -467,7 +306,7 @@ module _ (n : ℕ) where
       → StepsKeep server_rules (λ move. Unit {0}) Known (Holds has_come)
   steps has_come = record {
     up = λ s leg cookie came put works.
-        hold has_come s (up s leg cookie) came put put (keeps_up s leg cookie has_come);
+        hold has_come s (up s leg cookie) came put put (keeps_up n s leg cookie has_come);
     head = λ s leg text came put works none h. h;
     pdu = λ s leg count bytes came put works.
         same_row has_come s (leg, Pdu bytes) came put (pdu s leg count bytes)
@@ -477,7 +316,7 @@ module _ (n : ℕ) where
     mark = λ s leg came put works only asks known.
         mark_holds has_come s leg.number leg.kind came put known only;
     drawn = λ s leg came put.
-        hold has_come s (drawn s leg) came put put (keeps_drawn s leg.number leg.kind has_come);
+        hold has_come s (drawn s leg) came put put (keeps_drawn n s leg.number leg.kind has_come);
     ping = λ s leg came put h. h;
   }
 

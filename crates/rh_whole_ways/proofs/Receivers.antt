@@ -1,18 +1,17 @@
 -- behind the last use of a leg, the node that takes took its handover mark or END
-use Rattle.std.proofs.Common.{◌≡◌, ℕ, ◌==◌, Bool, true, false, true≢false, ◌&&◌, ◌||◌, nat_eq, List, [], ◌∷◌, Some, refl, sym, ap, ◌∙◌, subst}
+use Rattle.std.proofs.Common.{◌≡◌, ℕ, ◌==◌, Bool, true, false, true≢false, ◌&&◌, ◌||◌, List, [], ◌∷◌, refl, sym, ap, ◌∙◌, subst}
 use Rattle.std.specs.List.{AllByRecursion, list_any}
 use Rattle.std.specs.declared.option.Option.{Option}
 use Rattle.rh_sig.specs.declared.name.Pipe.{Pipe}
 use Rattle.rh_line.specs.declared.leg.Leg.{Leg}
 use Rattle.rh_line.specs.declared.leg.LegKind.TheVariants.{InServer}
 use Rattle.rh_order.specs.Items.{Item, has_end, has_handover}
-use Rattle.rh_order.specs.Logs.{below, through}
+use Rattle.rh_order.specs.Logs.{below}
 use Rattle.rh_order.proofs.ByNumber.{same_number, test_same}
 use Rattle.rh_order.proofs.ItemLists.{has_end-append}
-use Rattle.rh_shell.specs.declared.rooms.Rooms.{Rooms}
 use Rattle.rh_shell.specs.Moves.{AreAllowed, AreAllowedAtEnd, EndMove, EndPassage, Move, Moves, Gives, Takes, Closes, Recycles, Up, HeadCame, PduCame, PacketCame, Puts, IsDrawn, Marks, Pings, Passage, all_end_moved, all_moved, end_started, is_in_use, started}
 use Rattle.rh_shell.specs.Moving.{EndEvent, Event, after_end_events, after_events}
-use Rattle.rh_shell.specs.Shells.{begun, is_of, kind_number, same_leg}
+use Rattle.rh_shell.specs.Shells.{begun, is_of, kind_number}
 use Rattle.rh_inproxy.specs.declared.state.InProxyConfig.{InProxyConfig}
 use Rattle.rh_inproxy.specs.Machine as in_proxy
 use Rattle.rh_inproxy.specs.Order as in_order

@@ -16,8 +16,10 @@ ghost use Rattle.rh_fifo.specs.Flows.{Numbers};
 ghost use Rattle.rh_paths.specs.Ways.{AreOnTheirWay, down_on, up_on};
 ghost use Rattle.rh_whole_ways.specs.Kept.{AreKeptDown, AreKeptUp, AskNoEchoes};
 
-use rh_passed::a_server_is_done_behind_a_mark;
-use rh_passed::{an_in_proxy_is_done_behind_a_mark_or_end, an_out_proxy_is_done_behind_a_mark};
+use rh_passed::{
+    a_server_is_done_behind_a_mark, an_in_proxy_is_done_behind_a_mark_or_end,
+    an_out_proxy_is_done_behind_a_mark,
+};
 use rh_paths::legs_in_use_lose_nothing;
 
 /// What was given is what was taken and what is on its way while each leg of these channels is kept
