@@ -1,5 +1,5 @@
 -- what a client keeps of the first channel's timeout, and of a successor's place in its line
-use Rattle.std.proofs.Common.{◌≡◌, ◌<◌, ℕ, ◌+◌, ◌==◌, Bool, true, false, true≢false, not, ◌&&◌, nat_lt, if◌then◌else◌, List, [], ◌∷◌, ◌++◌, Some, None, Ok, Err, arith, rules, refl, sym, ap, ◌∙◌, subst}
+use Rattle.std.proofs.Common.{◌≡◌, ◌<◌, ℕ, ◌+◌, Bool, true, false, true≢false, ◌&&◌, nat_lt, List, [], ◌∷◌, Ok, Err, arith, refl, sym, ◌∙◌, subst}
 use Rattle.std.proofs.lemmas.Bool.{and_parts}
 use Rattle.std.specs.Option.{is_some}
 use Rattle.std.specs.declared.option.Option.{Option}
@@ -28,7 +28,6 @@ use Rattle.rh_client.specs.Replacements.{is_none, is_out, is_finished, with_in}
 use Rattle.rh_client.specs.State.{is_opening, is_open, is_over, co, settled, begin_in, begin_out, after_in, after_out}
 use Rattle.rh_client.specs.InReplacement.{recycle_by, wish_by, wished, wants_successor}
 use Rattle.rh_client.specs.OutReplacement.{succeeded, ended_or, pass_by, passed}
-use Rattle.rh_client.specs.Ending.{take}
 use Rattle.rh_client.specs.Putting.{settled_or_wished}
 use Rattle.rh_client_rows.specs.Refusing.{is_conn_a3}
 
@@ -84,7 +83,7 @@ pub record Channels (v : Seen) (came : List OnLeg) : Type 0 where
 
 -- ---- phases
 
-open_past : (f : Phase) → is_open f ≡ true → is_opening f ≡ false
+pub open_past : (f : Phase) → is_open f ≡ true → is_opening f ≡ false
 open_past phase.Opening e = absurd (cc)
 open_past phase.Open e = refl
 open_past phase.Ended e = absurd (cc)

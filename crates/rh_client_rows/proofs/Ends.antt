@@ -9,9 +9,8 @@ use Rattle.rh_sig.specs.declared.named.Named.{Named}
 use Rattle.rh_sig.specs.declared.named.Named.TheVariants as named
 use Rattle.rh_window.specs.declared.fault.WindowExceeded.{WindowExceeded}
 use Rattle.rh_window.specs.Receiving as windows
-use Rattle.rh_line.specs.Lines.{Incoming, by_window, channel_verdict, after_end}
+use Rattle.rh_line.specs.Lines.{by_window}
 use Rattle.rh_line.specs.declared.line_fault.LineFault.TheVariants as line_fault
-use Rattle.rh_line.specs.declared.leg.Leg.{Leg}
 use Rattle.rh_line.specs.declared.leg.LegKind.TheVariants.{ClientOut}
 use Rattle.rh_line.specs.declared.which.Which.{Which}
 use Rattle.rh_line.specs.declared.which.Which.TheVariants.{Current, Next}
@@ -23,7 +22,7 @@ use Rattle.rh_shell.specs.declared.answers.Refused.TheVariants as refused
 use Rattle.rh_shell.specs.Hearing.{is_zero}
 use Rattle.rh_shell.specs.Moves.{OnLeg, Passage}
 use Rattle.rh_shell.specs.Rules.{Message, Text, Pdu, Packet}
-use Rattle.rh_shell.specs.Shells.{same_leg, is_of, kind_number}
+use Rattle.rh_shell.specs.Shells.{is_of, kind_number}
 use Rattle.rh_shell.specs.Wires.{of_leg}
 use Rattle.rh_passages.specs.Passing.{Has, count_of}
 use Rattle.rh_client.specs.declared.replacement.Replacement.{Replacement}
@@ -32,12 +31,11 @@ use Rattle.rh_client.specs.declared.replacement.OutStage.TheVariants as out_stag
 use Rattle.rh_client.specs.declared.state.ClientRole.{ClientRole}
 use Rattle.rh_client.specs.Channels.{is_up}
 use Rattle.rh_client.specs.Replacements.{is_out}
-use Rattle.rh_client.specs.State.{Done, taken, unexpected, settled, is_open, is_opening, is_current, is_out_successor, co}
+use Rattle.rh_client.specs.State.{unexpected, is_open, is_opening, is_current, is_out_successor, co}
 use Rattle.rh_client.specs.Opening.{on_conn_a3, on_conn_c2}
 use Rattle.rh_client.specs.Acknowledging.{pdu_on, pdu_channel, is_switched, is_switched_by, admit_row}
 use Rattle.rh_client.specs.Ending.{on_end_b2, end_on, end_channel}
 use Rattle.rh_client.specs.Order.{down_items, down_mark, came_log, log_of}
-use Rattle.rh_client_counts.specs.Opening.{opened}
 use Rattle.rh_client_counts.specs.Replacing.{OutIsAt, OutFollows, out_switched, out_finished}
 use Rattle.rh_client_rows.specs.Refusing.{packets, Tells, is_conn_a3, UnexpectedPduBy, UnexpectedOn}
 use Rattle.rh_client_rows.proofs.Channels.{IsNext}
@@ -210,12 +208,14 @@ pdu_early p n h (inr next) other e =
   where
     out : is_out p.role.replacement ≡ true
     out = (and_parts (is_out p.role.replacement) (n == p.role.out_successor.number) next.1).0
+
     on : (is_switched_by p.role.replacement ≡ false)
         ⊎ ((is_switched_by p.role.replacement ≡ true) × (p.role.line.has_next ≡ false))
         → (n ≡ out_finished p + 2) × (out_switched p ≡ out_finished p)
     on (inl o) =
         not_switched p n p.role.replacement out o h.outs.at (next_number p n h next.1)
     on (inr o) = absurd (true≢false (sym (has_next p n h next.1 next.2) ∙ o.1))
+
     by : (is_switched p.role ≡ false)
         ⊎ ((is_switched p.role ≡ true) × (is_out_successor p.role n ≡ false))
         → (n ≡ out_finished p + 2) × (out_switched p ≡ out_finished p)
@@ -240,6 +240,7 @@ pdu_refused p n pdu h stands =
   where
     Why : Option Which → Type 0
     Why w = IsRefused (pdu_on p.role pdu w) → UnexpectedPduBy p n ClientOut
+
     closed : (b : Bool) → not b ≡ true → b ≡ false
     closed true e = absurd (cc)
     closed false e = refl
@@ -282,6 +283,7 @@ a3_refused p n count' timeout h stands tells =
         → UnexpectedOn p n (named.ConnA3 timeout)
     on is (inl o) = absurd (true≢false (sym (first_is p n h stands is) ∙ o))
     on is (inr o) = inr (some_came count' (packets (of_leg (co n) p.came)) tells o.1)
+
     by : (n == 1 ≡ false)
         ⊎ ((n == 1 ≡ true) × (is_current p.role n && is_zero count' ≡ false))
         → UnexpectedOn p n (named.ConnA3 timeout)
@@ -314,6 +316,7 @@ c2_refused p n version window timeout h stands =
         count_of is_conn_a3 (of_leg (co k) p.came) ≡ 0) (sym is)
         (none_of (count_of is_conn_a3 (of_leg (co 1) p.came))
         (λ some. true≢false (sym (h.channels.told o.0 some) ∙ o.1)))))
+
     by : (n == 1 && is_current p.role n ≡ false)
         ⊎ ((n == 1 && is_current p.role n ≡ true)
         × (is_opening p.role.phase && is_some p.role.current.timeout ≡ false))

@@ -1,12 +1,12 @@
 -- each allowed step of a client keeps these facts: what comes, and its legs
-use Rattle.std.proofs.Common.{◌≡◌, ◌<◌, ℕ, ◌+◌, ◌==◌, Bool, true, false, true≢false, not, ◌&&◌, ◌||◌, nat_lt, if◌then◌else◌, List, [], ◌∷◌, ◌++◌, Some, None, Ok, Err, arith, rules, refl, sym, ap, ◌∙◌, subst}
+use Rattle.std.proofs.Common.{◌≡◌, ◌<◌, ℕ, ◌==◌, Bool, true, false, true≢false, not, ◌&&◌, ◌||◌, nat_lt, if◌then◌else◌, List, [], ◌∷◌, ◌++◌, Some, None, Ok, Err, arith, rules, refl, sym, ap, ◌∙◌, subst}
 use Rattle.std.proofs.lemmas.Bool.{and_parts}
 use Rattle.std.specs.Option.{is_some}
 use Rattle.std.specs.declared.option.Option.{Option}
 use Rattle.rh_rts.specs.declared.command.Cookie.{Cookie}
 use Rattle.rh_sig.specs.declared.named.Named.{Named}
 use Rattle.rh_sig.specs.declared.named.Named.TheVariants as named
-use Rattle.rh_line.specs.Lines.{Line, admit_verdict, after_admit, after_end, after_finish, after_open_next, channel_of}
+use Rattle.rh_line.specs.Lines.{Line, admit_verdict, after_admit, after_end, after_finish, after_open_next}
 use Rattle.rh_line.specs.declared.leg.Leg.{Leg}
 use Rattle.rh_line.specs.declared.leg.LegKind.{LegKind}
 use Rattle.rh_line.specs.declared.leg.LegKind.TheVariants.{ClientOut, OutServer, ClientIn, InServer}
@@ -14,7 +14,6 @@ use Rattle.rh_line.specs.declared.which.Which.{Which}
 use Rattle.rh_line.specs.declared.which.Which.TheVariants.{Current, Next}
 use Rattle.rh_order.proofs.ByNumber.{by_test}
 use Rattle.rh_shell.specs.declared.answers.Count.{Count}
-use Rattle.rh_shell.specs.declared.answers.Phase.{Phase}
 use Rattle.rh_shell.specs.declared.answers.Phase.TheVariants as phase
 use Rattle.rh_shell.specs.Hearing.{is_zero}
 use Rattle.rh_shell.specs.Rules.{Row, Message, Text, Pdu, Packet}
@@ -30,13 +29,11 @@ use Rattle.rh_client.specs.declared.channels.TheConstants.{LAST_NUMBER}
 use Rattle.rh_client.specs.declared.replacement.Replacement.{Replacement}
 use Rattle.rh_client.specs.declared.replacement.Replacement.TheVariants.{NoneUnderWay, In, Out}
 use Rattle.rh_client.specs.declared.replacement.InStage.TheVariants as in_stage
-use Rattle.rh_client.specs.declared.replacement.OutStage.{OutStage}
 use Rattle.rh_client.specs.declared.replacement.OutStage.TheVariants as out_stage
-use Rattle.rh_client.specs.declared.replacement.Waits.{Waits}
 use Rattle.rh_client.specs.declared.replacement.Waits.TheVariants as waits
 use Rattle.rh_client.specs.declared.state.ClientRole.{ClientRole}
 use Rattle.rh_client.specs.Channels.{is_up, is_put, is_asked, is_named, told_in, out_up}
-use Rattle.rh_client.specs.Replacements.{is_none, is_out, is_finished, has_out, with_out}
+use Rattle.rh_client.specs.Replacements.{is_none, has_out, with_out}
 use Rattle.rh_client.specs.State.{Done, taken, unexpected, settled, is_open, is_opening, is_current, is_out_successor, co}
 use Rattle.rh_client.specs.Opening.{up_by, on_conn_a3, on_conn_c2, with_next}
 use Rattle.rh_client.specs.Acknowledging.{pdu_on, pdu_channel, admit_row, on_ack_to, ack_named, acked, ack_row}
@@ -47,7 +44,7 @@ use Rattle.rh_client.specs.Client as client
 use Rattle.rh_client.specs.Client.{on_packet, packet_by}
 use Rattle.rh_client_counts.proofs.Standing.{passes}
 use Rattle.rh_client_rows.specs.Refusing.{is_conn_a3}
-use Rattle.rh_client_rows.proofs.Channels.{Seen, sees_by, sees, IsNext, Channels, past, Keeps, same, at, turned, begin_out_keeps, waits_else, settled_keeps, settles}
+use Rattle.rh_client_rows.proofs.Channels.{Seen, sees_by, sees, IsNext, Channels, open_past, past, Keeps, same, at, turned, begin_out_keeps, waits_else, settled_keeps, settles}
 
 abbrev pub Holds : Fact ClientRole
 Holds s came put = Keeps came s
@@ -137,19 +134,22 @@ module _ (leg : Leg) (came put : List OnLeg) where
       (on_ack_to s to received available of)
   ack_keeps s to received available of h =
       by_test Row' (is_open s.phase && to == 0) (ack_named s received available of) (unexpected s)
-      (λ o. by_test Row' (is_named s.writing of)
-      (record s { writing = acked s.writing received available },
-      ack_row s.writing received available) _
+      (λ o. by_test Row' (is_named s.writing of) (
+        record s { writing = acked s.writing received available },
+        ack_row s.writing received available,
+      ) _
       (λ e. quiet s m refl h (record s { writing = acked s.writing received available })
       (ack_row s.writing received available) refl)
-      (λ e. by_test Row' (is_named s.in_successor of)
-      (record s { in_successor = acked s.in_successor received available },
-      ack_row s.in_successor received available) _
+      (λ e. by_test Row' (is_named s.in_successor of) (
+        record s { in_successor = acked s.in_successor received available },
+        ack_row s.in_successor received available,
+      ) _
       (λ u. quiet s m refl h (record s { in_successor = acked s.in_successor received available })
       (ack_row s.in_successor received available) refl)
-      (λ u. by_test Row' (is_named s.leaving of)
-      (record s { leaving = acked s.leaving received available },
-      ack_row s.leaving received available) (taken s)
+      (λ u. by_test Row' (is_named s.leaving of) (
+        record s { leaving = acked s.leaving received available },
+        ack_row s.leaving received available,
+      ) (taken s)
       (λ x. quiet s m refl h (record s { leaving = acked s.leaving received available })
       (ack_row s.leaving received available) refl)
       (λ x. quiet s m refl h s (Ok tt) refl))))
@@ -157,6 +157,7 @@ module _ (leg : Leg) (came put : List OnLeg) where
     where
       m : Message
       m = Packet (named.AckTo to received available of)
+
       Row' : Done → Type 0
       Row' x = Rows (Packet (named.AckTo to received available of)) x
 
@@ -210,11 +211,6 @@ module _ (leg : Leg) (came put : List OnLeg) where
       (λ t. grows (sees_by s (Out stage (with_out w))) came (leg, Packet (named.OutR1A2 to)) refl
       (waits_else came s stage w (with_out w) (at came s (Out stage w) e h)))
       (λ t. h)
-
-  open_past : (f : Phase) → is_open f ≡ true → is_opening f ≡ false
-  open_past phase.Opening e = absurd (cc)
-  open_past phase.Open e = refl
-  open_past phase.Ended e = absurd (cc)
 
   a2_if : (s : ClientRole) (to : ℕ) → Keeps came s
       → Rows (Packet (named.OutR1A2 to)) (on_out_r1_a2 s leg.number to)

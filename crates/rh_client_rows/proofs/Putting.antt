@@ -1,5 +1,5 @@
 -- each allowed step of a client keeps these facts: what it puts, and the calls of its end
-use Rattle.std.proofs.Common.{◌≡◌, ◌<◌, ℕ, Bool, true, false, true≢false, not, ◌&&◌, if◌then◌else◌, List, [], ◌∷◌, ◌++◌, Some, None, Ok, Err, arith, rules, refl, sym, ap, ◌∙◌, subst}
+use Rattle.std.proofs.Common.{◌≡◌, ℕ, false, ◌&&◌, if◌then◌else◌, List, Some, None, arith, rules, refl, ap, subst}
 use Rattle.std.specs.Prelude.{IfSome}
 use Rattle.std.specs.declared.option.Option.{Option}
 use Rattle.rh_http.specs.declared.config.ClientConfig.{ClientConfig}
@@ -14,7 +14,6 @@ use Rattle.rh_line.specs.declared.leg.LegKind.TheVariants.{ClientOut, OutServer,
 use Rattle.rh_line.specs.declared.which.Which.{Which}
 use Rattle.rh_line.specs.declared.which.Which.TheVariants.{Current, Next}
 use Rattle.rh_order.proofs.ByNumber.{by_test}
-use Rattle.rh_shell.specs.declared.answers.Phase.TheVariants as phase
 use Rattle.rh_shell.specs.Rules.{Message, Packet}
 use Rattle.rh_shell.specs.Moves.{OnLeg, EndMove, end_started, all_end_moved, AreAllowedAtEnd}
 use Rattle.rh_passages.proofs.Logs.{PutKeeps}
@@ -27,7 +26,6 @@ use Rattle.rh_client.specs.declared.replacement.InStage.TheVariants as in_stage
 use Rattle.rh_client.specs.declared.replacement.OutStage.TheVariants as out_stage
 use Rattle.rh_client.specs.declared.state.ClientRole.{ClientRole}
 use Rattle.rh_client.specs.Channels.{is_up, unopened_in, metered}
-use Rattle.rh_client.specs.Replacements.{is_none}
 use Rattle.rh_client.specs.State.{first, is_opening, is_writing, is_in_successor, is_current, is_out_successor}
 use Rattle.rh_client.specs.Acknowledging.{ack_due, cookie_of}
 use Rattle.rh_client.specs.InReplacement.{handed_over}
@@ -37,7 +35,7 @@ use Rattle.rh_client.specs.Putting as putting
 use Rattle.rh_client.specs.Putting.{Pick, or_else, put_conn_b1, put_in_r1_a1, put_current, put_out_successor, put_out, put_in_r1_a5, put_out_r1_a7, due_by, put_due, ack_by, put_ack_of, put_ack, put_pdu, put_end, put_ping, put_successor_ping, put_next, put_writing, put_in_successor, put_in, put_by, settled_or_wished, settled_pick}
 use Rattle.rh_client.specs.Client.{acts, rules as client_rules}
 use Rattle.rh_client_counts.proofs.Allowed.{AllowedKeep, allowed_moves_keep}
-use Rattle.rh_client_rows.proofs.Channels.{Seen, sees_by, sees, IsNext, Channels, past, Keeps, same, at, turned, after_in_keeps, recycle_keeps, settled_or_wished_keeps, take_keeps}
+use Rattle.rh_client_rows.proofs.Channels.{sees, Channels, past, Keeps, same, at, turned, after_in_keeps, recycle_keeps, settled_or_wished_keeps, take_keeps}
 use Rattle.rh_client_rows.proofs.Keeping.{Holds, pdu_by_keeps, packet_by_keeps, up_keeps}
 
 module _ (came : List OnLeg) where
@@ -211,7 +209,8 @@ steps = record {
   pdu = λ s leg count bytes came put h. pdu_by_keeps leg came put s bytes leg.kind h;
   packet = λ s leg count m came put h. packet_by_keeps leg came put s count m leg.kind h;
   puts = λ s leg came put h.
-      puts_keep came leg put (put_by s leg.number leg.kind) (put_keeps came s leg.number leg.kind h);
+      puts_keep came leg put (put_by s leg.number leg.kind)
+      (put_keeps came s leg.number leg.kind h);
   drawn = λ s leg came put h.
       same came s (drawn s leg) (same_drawn s leg.number leg.kind) h;
   mark = λ s leg came put h. h;

@@ -1,37 +1,17 @@
 -- why each row of a client refuses
-use Rattle.std.proofs.Common.{◌≡◌, ◌⊎◌, ◌<◌, ◌≤◌, inl, inr, ℕ, suc, ◌+◌, ◌==◌, Bool, true, false, true≢false, not, ◌&&◌, ◌||◌, nat_lt, if◌then◌else◌, List, [], ◌∷◌, ◌++◌, length, Some, None, Ok, Err, arith, refl, sym, ap, ◌∙◌, subst}
+use Rattle.std.proofs.Common.{◌≡◌, ◌⊎◌, ◌<◌, ◌≤◌, inl, inr, ℕ, ◌+◌, ◌==◌, Bool, true, false, true≢false, not, ◌&&◌, ◌||◌, nat_lt, if◌then◌else◌, List, Ok, Err, arith, refl, sym, ap, ◌∙◌}
 use Rattle.std.proofs.lemmas.Bool.Decides.{nat_tests}
-use Rattle.std.specs.Option.{is_some}
-use Rattle.std.specs.declared.option.Option.{Option}
 use Rattle.std.specs.declared.result.Result.{Result}
 use Rattle.rh_rts.specs.declared.command.Cookie.{Cookie}
-use Rattle.rh_sig.specs.declared.named.Named.{Named}
 use Rattle.rh_sig.specs.declared.named.Named.TheVariants as named
 use Rattle.rh_window.specs.declared.fault.BadAck.{BadAck}
-use Rattle.rh_window.specs.declared.fault.WindowExceeded.{WindowExceeded}
-use Rattle.rh_window.specs.Receiving as windows
-use Rattle.rh_line.specs.Lines.{Incoming, channel_of, by_window, channel_verdict, after_end}
-use Rattle.rh_line.specs.declared.line_fault.LineFault.TheVariants as line_fault
-use Rattle.rh_line.specs.declared.leg.Leg.{Leg}
-use Rattle.rh_line.specs.declared.leg.LegKind.{LegKind}
-use Rattle.rh_line.specs.declared.leg.LegKind.TheVariants.{ClientOut, OutServer, ClientIn, InServer}
-use Rattle.rh_line.specs.declared.which.Which.{Which}
-use Rattle.rh_line.specs.declared.which.Which.TheVariants.{Current, Next}
-use Rattle.rh_order.specs.Items.{Item, has_end, has_handover}
 use Rattle.rh_order.specs.Taking.{TakerLaw}
-use Rattle.rh_order.proofs.ByNumber.{by_test, same_number, other_number}
-use Rattle.rh_shell.specs.declared.answers.Count.{Count}
-use Rattle.rh_shell.specs.declared.answers.Count.TheVariants as count
+use Rattle.rh_order.proofs.ByNumber.{same_number, other_number}
 use Rattle.rh_shell.specs.declared.answers.Phase.{Phase}
 use Rattle.rh_shell.specs.declared.answers.Phase.TheVariants as phase
 use Rattle.rh_shell.specs.declared.answers.Refused.TheVariants as refused
-use Rattle.rh_shell.specs.Hearing.{is_zero}
 use Rattle.rh_shell.specs.NearEnds.{is_ended}
-use Rattle.rh_shell.specs.Moves.{OnLeg, Passage}
-use Rattle.rh_shell.specs.Rules.{Row}
-use Rattle.rh_shell.specs.Wires.{of_leg}
-use Rattle.rh_passages.specs.Passing.{Has, count_of}
-use Rattle.rh_client.specs.declared.channels.InChannel.{InChannel}
+use Rattle.rh_shell.specs.Moves.{Passage}
 use Rattle.rh_client.specs.declared.channels.TheConstants.{LAST_NUMBER}
 use Rattle.rh_client.specs.declared.replacement.Replacement.{Replacement}
 use Rattle.rh_client.specs.declared.replacement.Replacement.TheVariants.{NoneUnderWay, In, Out}
@@ -40,17 +20,15 @@ use Rattle.rh_client.specs.declared.replacement.OutStage.TheVariants as out_stag
 use Rattle.rh_client.specs.declared.state.ClientRole.{ClientRole}
 use Rattle.rh_client.specs.Channels.{is_up, is_put, is_asked, is_named}
 use Rattle.rh_client.specs.Replacements.{is_out, is_finished, has_out}
-use Rattle.rh_client.specs.State.{Done, taken, unexpected, settled, is_open, is_opening, is_current, is_out_successor, co}
-use Rattle.rh_client.specs.Opening.{on_conn_a3, on_conn_c2}
-use Rattle.rh_client.specs.Acknowledging.{pdu_on, pdu_channel, is_switched, is_switched_by, admit_row, on_ack_to, ack_named, acked, ack_row, ack_row_by}
+use Rattle.rh_client.specs.State.{Done, unexpected, is_open, is_opening, is_current, is_out_successor}
+use Rattle.rh_client.specs.Acknowledging.{on_ack_to, ack_named, acked, ack_row_by}
 use Rattle.rh_client.specs.InReplacement.{answer_by}
 use Rattle.rh_client.specs.OutReplacement.{a2_by, a6_by, a10_by, on_out_r1_a2, on_out_r1_a6}
-use Rattle.rh_client.specs.Ending.{on_end_b2, end_on, end_channel, is_done_by}
 use Rattle.rh_client.specs.Order.{taker_of, has_leg, came_log}
 use Rattle.rh_client_counts.specs.Counting.{once_if}
 use Rattle.rh_client_counts.specs.Opening.{opened, OpensOnce}
-use Rattle.rh_client_counts.specs.Replacing.{InIsAt, OutIsAt, ReplacesIns, ReplacesOuts, AsksWhereWanted, is_to_ask, out_waits, in_asked, in_answered, in_handed_over, out_wanted, out_asked, out_answered, out_switched, out_finished}
-use Rattle.rh_client_rows.specs.Refusing.{packets, Tells, is_conn_a3, UnexpectedPduBy, UnexpectedOn}
+use Rattle.rh_client_counts.specs.Replacing.{InIsAt, OutIsAt, ReplacesIns, ReplacesOuts, AsksWhereWanted, is_to_ask, out_waits, in_asked, in_answered, in_handed_over, out_wanted, out_asked, out_answered, out_finished}
+use Rattle.rh_client_rows.specs.Refusing.{UnexpectedOn}
 use Rattle.rh_client_rows.proofs.Channels.{Channels, IsNext, sees}
 
 abbrev pub IsRefused : Done → Type 0
@@ -241,10 +219,12 @@ a2_refused p n to h stands =
   where
     last : nat_lt n LAST_NUMBER ≡ false → LAST_NUMBER ≤ n
     last e = grind (arith, nat_tests, e)
+
     other : (to == 0 ≡ false) ⊎ ((to == 0 ≡ true) × (nat_lt n LAST_NUMBER ≡ false))
         → UnexpectedOn p n (named.OutR1A2 to)
     other (inl e) = inl (other_number to 0 e)
     other (inr e) = inr (inr (inl (last e.1)))
+
     by : (is_open p.role.phase ≡ false)
         ⊎ ((is_open p.role.phase ≡ true) × (to == 0 && nat_lt n LAST_NUMBER ≡ false))
         → UnexpectedOn p n (named.OutR1A2 to)

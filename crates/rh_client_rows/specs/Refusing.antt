@@ -42,7 +42,7 @@ is_conn_a3 packet = false
 -- ---- RPC PDUs
 
 -- CONN/C2 did not come, or END/B2 came on this leg, or it is the successor's and OUT_R1/A7 was not
--- put. No PDU is read on IN channels
+-- put. No PDU is read on other legs
 abbrev pub UnexpectedPduBy : Passage ClientRole → ℕ → LegKind → Type 0
 UnexpectedPduBy p n ClientOut =
     (opened p ≡ 0)
@@ -57,11 +57,11 @@ UnexpectedPdu p leg = UnexpectedPduBy p leg.number leg.kind
 
 -- ---- packets
 
--- CONN/A3 is the first on the first channel; CONN/C2 comes there behind CONN/A3, and once; all
--- others behind CONN/C2. An answer for an IN channel follows an IN_R1/A1; OUT_R1/A2 comes where none
--- waits, on the newest channel; OUT_R1/A6 follows an OUT_R1/A3 and comes on the channel that is
--- replaced, as does OUT_R1/A10, which follows an OUT_R1/A7; END/B2 comes once on each channel. Other
--- packets have no name on OUT channels
+-- CONN/A3 comes first on the first channel, and CONN/C2 there behind it, once (MS-RPCH 3.2.2.5). An
+-- acknowledgement, OUT_R1/A2 and END/B2 come behind CONN/C2. An answer for an IN channel follows an
+-- IN_R1/A1. OUT_R1/A2 comes where none waits, and not on a channel whose successor was asked for.
+-- OUT_R1/A6 follows an OUT_R1/A3, and OUT_R1/A10 an OUT_R1/A7, on the channel that is replaced.
+-- END/B2 comes once on each. No row is asked about a Ping, and no other packet is of OUT channels
 abbrev pub UnexpectedOn : Passage ClientRole → ℕ → Named → Type 0
 UnexpectedOn p n (ConnA3 timeout) = (n ≡ 1 → ⊥) ⊎ (0 < packets (of_leg (co n) p.came))
 UnexpectedOn p n (ConnC2 version window timeout) =
@@ -84,7 +84,7 @@ UnexpectedOn p n OutR1A10 = (out_switched p ≡ out_finished p) ⊎ (n ≡ out_f
 UnexpectedOn p n EndB2 = (opened p ≡ 0) ⊎ Has EndB2 (of_leg (co n) p.came)
 UnexpectedOn p n packet = Unit {0}
 
--- no packet is read on IN channels
+-- no packet is read on other legs
 abbrev pub UnexpectedBy : Passage ClientRole → ℕ → Named → LegKind → Type 0
 UnexpectedBy p n named ClientOut = UnexpectedOn p n named
 UnexpectedBy p n named OutServer = Unit {0}
@@ -96,7 +96,8 @@ Unexpected p leg named = UnexpectedBy p leg.number named leg.kind
 
 -- ---- what it refuses
 
--- on a leg that was up and is in use it refuses as unexpected what is so, and nothing for its cookie
+-- on a leg that was up and is in use, it refuses as unexpected only what is so; and nothing for its
+-- cookie, on any leg
 pub record Refuses (p : Passage ClientRole) : Type 0 where
   pub pdu : (leg : Leg) (count : Count) (bytes : List ℕ) → is_in_use rules p.role leg ≡ true
       → rules.was_up p.role leg ≡ true

@@ -8,8 +8,8 @@ ghost use Rattle.rh_client.specs.State.{first};
 ghost use Rattle.rh_client_rows.specs.Refusing.{Refuses};
 
 /// Whatever happens to a client: where it refuses a packet or an RPC PDU as unexpected, on a leg
-/// that was up and is in use, what came to it and what it put tell why. It refuses nothing for its
-/// cookie.
+/// that was up and is in use, what came to it before and what it put are so that none was to come
+/// there. It refuses nothing for its cookie.
 pub fn what_a_client_refuses()
     ensures { (config : ClientConfig) (moves : List EndMove)
         → AreAllowedAtEnd rules acts (end_started (first config)) moves
