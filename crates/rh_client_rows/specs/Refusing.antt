@@ -21,20 +21,22 @@ use Rattle.rh_client.specs.Client.{rules}
 use Rattle.rh_client_counts.specs.Opening.{opened}
 use Rattle.rh_client_counts.specs.Replacing.{in_asked, in_answered, out_wanted, out_asked, out_answered, out_switched, out_finished}
 
--- ---- how many packets came before
+-- ---- packets that came before
 
 abbrev pub is_any : Named → Bool
 is_any named = true
 
+-- how many there are
 abbrev pub packets : List Message → ℕ
 packets messages = count_of is_any messages
 
--- a count tells this number, up to two
+-- what a row is told of that number, up to two (profile)
 abbrev pub Tells : Count → ℕ → Type 0
 Tells count.Zero n = n ≡ 0
 Tells count.One n = n ≡ 1
 Tells count.More n = 2 ≤ n
 
+-- MS-RPCH 2.2.4
 abbrev pub is_conn_a3 : Named → Bool
 is_conn_a3 (ConnA3 timeout) = true
 is_conn_a3 packet = false
