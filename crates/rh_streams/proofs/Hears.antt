@@ -29,17 +29,20 @@ use Rattle.rh_shell.specs.declared.stop.Stop.{Stop}
 use Rattle.rh_shell.specs.Carrying.{on_leg, message_in, named_messages, is_deaf}
 use Rattle.rh_shell.specs.Hearing.{Turn, goes, stops, stop_head, with_intake, touched, heading, take, take_next, take_frame, take_packet, take_ping, head_row, behind_head, behind_frame, begun_body, stage_of, close_row, is_ping, is_greeting, is_stopped, one_more, is_zero, is_upward}
 use Rattle.rh_shell.specs.Intakes.{Intake, Came, Nothing, Head, Greeting, Frame, Fault, Over, on_byte}
-use Rattle.rh_shell.specs.Moves.{Passage, OnLeg, HeadCame, PduCame, PacketCame, moved, taken_by, is_in_use}
+use Rattle.rh_shell.specs.Moves.{Move, Passage, OnLeg, HeadCame, PduCame, PacketCame, moved, taken_by, is_in_use}
 use Rattle.rh_shell.specs.Moving.{IsHeld}
 use Rattle.rh_shell.specs.NearEnds.{NearEnd, is_over, is_ended, is_marked}
 use Rattle.rh_shell.specs.Readings.{packet_of}
 use Rattle.rh_shell.specs.Rules.{Rules, Row, Message, Pdu, Packet}
 use Rattle.rh_shell.specs.Shells.{same_leg}
+use Rattle.rh_shell.specs.Wires.{of_leg}
+use Rattle.rh_passages.specs.Counted.{Tells, AreCounted, packets}
 use Rattle.rh_reading.specs.Reading.{Reading, reading, read_byte, reading_after, messages_from}
 use Rattle.rh_streams.specs.Streams.{is_live}
+use Rattle.rh_streams.proofs.Counts.{TellsOn, ToldBy, tells_packet, tells_pdu}
 use Rattle.rh_streams.proofs.Bytes.{ByteIs, byte_is}
 use Rattle.rh_streams.specs.Turns as turn
-use Rattle.rh_streams.specs.Turns.{Stages, AreInTurnFrom, takes_frames}
+use Rattle.rh_streams.specs.Turns.{Stages, AreInTurnFrom, none_up, takes_frames}
 use Rattle.rh_streams.proofs.Heads.{HeadBy, HeadIn, IsHead, head_whole, no_heads}
 use Rattle.rh_streams.proofs.Staging.{IsNext, LeavesStages, all_stages, leaves_none}
 use Rattle.rh_streams.proofs.Ways.{Way, nowhere, way_as, way_none, way_one}
@@ -106,6 +109,9 @@ module _ {S : Type 0} (rules : Rules S) where
         → AreInTurnFrom rules p g way.moves
         × (is_stopped u.stop ≡ false
         → IsNext (all_stages rules p g way.moves end.leg) u.end.intake.stage)
+    pub counted : TellsOn p end.leg end.count
+        → AreCounted rules p way.moves
+        × (is_stopped u.stop ≡ false → TellsOn passage end.leg u.end.count)
     pub on : ((messages ≡ []) × (is_deaf rules u ≡ true)) ⊎ (is_over rules end p.role ≡ false)
     pub same : IsSame end u.end
     pub held : IsHeld u.end
@@ -135,44 +141,63 @@ module _ {S : Type 0} (rules : Rules S) (heads : Leg → Bool) (p : Passage S) (
     pub put : passage.put ≡ p.put
     pub came : passage.came ≡ p.came ++ on_leg at.leg (logged (message_in at.pipe frame) x.1)
     pub leaves : LeavesStages rules framed p way.moves
+    pub counted : TellsOn p at.leg at.count
+        → AreCounted rules p way.moves × ToldBy (of_leg at.leg passage.came) x.1
 
   -- no move is made
   none_is : (frame : List ℕ) (r : Result Count Cause)
-      → logged (message_in at.pipe frame) r ≡ [] → FrameIs frame (p.role, r)
-  none_is frame r none = record {
+      → logged (message_in at.pipe frame) r ≡ []
+      → (TellsOn p at.leg at.count → ToldBy (of_leg at.leg p.came) r)
+      → FrameIs frame (p.role, r)
+  none_is frame r none counts = record {
     passage = p;
     way = way_none rules heads p;
     role = refl;
     put = refl;
     came = rw none (sym (append-nil p.came));
     leaves = leaves_none rules framed p;
+    counted = λ h. (tt, counts h);
   }
 
   ping_is : (frame : List ℕ) (t : Bool) (why : Cause) → message_in at.pipe frame ≡ []
       → FrameIs frame (p.role, cond {A = Result Count Cause} t (Err why) (Ok at.count))
-  ping_is frame true why none = none_is frame (Err why) refl
-  ping_is frame false why none = none_is frame (Ok at.count) none
+  ping_is frame true why none = none_is frame (Err why) refl (λ h. tt)
+  ping_is frame false why none = none_is frame (Ok at.count) none (λ h. h)
 
   -- a row takes the message, or refuses it
   row_is : (frame : List ℕ) (message : Message) (next : Count) (x : S × Row)
       → (way : Way rules heads nowhere p (taken_by p at.leg message x))
       → LeavesStages rules framed p way.moves → message_in at.pipe frame ≡ message ∷ []
+      → (TellsOn p at.leg at.count → AreCounted rules p way.moves
+      × Tells next (packets (of_leg at.leg (p.came ++ (at.leg, message) ∷ []))))
       → FrameIs frame (close_row at next x)
-  row_is frame message next (role, Ok taken) way leaves is = record {
+  row_is frame message next (role, Ok taken) way leaves is counts = record {
     passage = taken_by p at.leg message (role, Ok taken);
     way = way;
     role = refl;
     put = refl;
     came = rw is refl;
     leaves = leaves;
+    counted = counts;
   }
-  row_is frame message next (role, Err why) way leaves is = record {
+  row_is frame message next (role, Err why) way leaves is counts = record {
     passage = taken_by p at.leg message (role, Err why);
     way = way;
     role = refl;
     put = refl;
     came = sym (append-nil p.came);
     leaves = leaves;
+    counted = λ h. ((counts h).0, tt);
+  }
+
+  -- a frame comes where frames do
+  leaves_frame : (move : Move) → ((g : Stages) → framed g → AreInTurnFrom rules p g (move ∷ []))
+      → ((g : Stages) → all_stages rules p g (move ∷ []) ≡ g)
+      → LeavesStages rules framed p (move ∷ [])
+  leaves_frame move in_turn stays = record {
+    in_turn = in_turn;
+    stays = stays;
+    counted = λ all. absurd (let bad : false ≡ true = all none_up in cc);
   }
 
   named_is : (frame : List ℕ) (named : Named) (t : Bool)
@@ -185,12 +210,13 @@ module _ {S : Type 0} (rules : Rules S) (heads : Leg → Bool) (p : Passage S) (
       row_is frame (Packet named) (one_more at.count) (rules.packet p.role at.leg at.count named)
       (way_one rules heads nowhere p (PacketCame at.leg at.count named) may
       (λ leg. λ h. refl) (λ leg. refl))
-      (record { in_turn = λ g. λ a. (a, tt); stays = λ g. refl }) is
+      (leaves_frame (PacketCame at.leg at.count named) (λ g a. (a, tt)) (λ g. refl)) is
+      (λ h. ((h, tt), tells_packet at.count at.leg p.came named h))
 
   packet_is : (frame : List ℕ) (r : Result Named PacketFault)
       → message_in at.pipe frame ≡ named_messages r → FrameIs frame (take_packet rules at p.role r)
   packet_is frame (Ok named) is = named_is frame named (is_ping named) is
-  packet_is frame (Err fault) is = none_is frame _ refl
+  packet_is frame (Err fault) is = none_is frame _ refl (λ h. tt)
 
   kind_is : (frame : List ℕ) (t : Bool) → (slice_index frame 2 == rts) ≡ t → IsFrame frame
       → FrameIs frame (cond {A = S × Result Count Cause} t
@@ -202,7 +228,8 @@ module _ {S : Type 0} (rules : Rules S) (heads : Leg → Bool) (p : Passage S) (
       row_is frame (Pdu frame) at.count (rules.pdu p.role at.leg at.count frame)
       (way_one rules heads nowhere p (PduCame at.leg at.count frame)
       (may, record { frame = whole; not_rts = apart }) (λ leg. λ h. refl) (λ leg. refl))
-      (record { in_turn = λ g. λ a. (a, tt); stays = λ g. refl }) (rw is refl)
+      (leaves_frame (PduCame at.leg at.count frame) (λ g a. (a, tt)) (λ g. refl)) (rw is refl)
+      (λ h. ((tt, tt), tells_pdu at.count at.leg p.came frame h))
 
   pub frame_taken : (frame : List ℕ) → IsFrame frame
       → FrameIs frame (take_frame rules at p.role frame)
@@ -249,8 +276,9 @@ module _ {S : Type 0} (rules : Rules S) (moment : ℕ) (p : Passage S) (end : Ne
       → (IsRefused (Some why)
       → (end.intake.stage ≡ stage.Head) × Refuses rules p end (b ∷ []))
       → AllByRecursion (HeadBy (Judges rules p end (b ∷ []))) way.moves
+      → (TellsOn p end.leg end.count → AreCounted rules p way.moves)
       → Heard rules p end (stops (now j) role why) (b ∷ [])
-  stops_here q j role why way turns is put came held refused texts = record {
+  stops_here q j role why way turns is put came held refused texts counts = record {
     passage = q;
     way = way;
     role = is;
@@ -263,6 +291,7 @@ module _ {S : Type 0} (rules : Rules S) (moment : ℕ) (p : Passage S) (end : Ne
     refused = refused;
     texts = texts;
     turns = λ g. λ n. (turns g n, λ h. absurd cc);
+    counted = λ h. (counts h, λ go. absurd cc);
     on = inr on;
     same = record { leg = refl; pipe = refl; begun = refl; standing = refl };
     held = held;
@@ -279,8 +308,9 @@ module _ {S : Type 0} (rules : Rules S) (moment : ℕ) (p : Passage S) (end : Ne
       → AreInTurnFrom rules p g way.moves
       × IsNext (all_stages rules p g way.moves end.leg) to.intake.stage)
       → AllByRecursion (HeadBy (Judges rules p end (b ∷ []))) way.moves
+      → to.count ≡ end.count → AreCounted rules p way.moves
       → Heard rules p end (goes to role) (b ∷ [])
-  goes_on q to role way is put came held same live top turns texts = record {
+  goes_on q to role way is put came held same live top turns texts count counts = record {
     passage = q;
     way = way;
     role = is;
@@ -297,6 +327,13 @@ module _ {S : Type 0} (rules : Rules S) (moment : ℕ) (p : Passage S) (end : Ne
     refused = λ h. absurd h;
     texts = texts;
     turns = λ g. λ n. let both = turns g n in (both.0, λ h. both.1);
+    counted = λ h. (
+      counts,
+      λ go.
+          subst (TellsOn q end.leg) (sym count)
+          (subst (λ (log : List OnLeg). Tells end.count (packets (of_leg end.leg log)))
+          (sym came) h),
+    );
     on = inr on;
     same = same;
     held = held;
@@ -312,7 +349,7 @@ module _ {S : Type 0} (rules : Rules S) (moment : ℕ) (p : Passage S) (end : Ne
       subst (λ (s : Stage). is_live s ≡ true) is.0 l in
       (live, is.1 live ∙ ap (λ (s : Stage). (reading s j.held, [])) (sym is.0)))
       (λ h. (sym is.0 ∙ h, refl))
-      (λ g. λ n. (tt, subst (λ (s : Stage). IsNext (g end.leg) s) (sym is.0) n)) tt
+      (λ g. λ n. (tt, subst (λ (s : Stage). IsNext (g end.leg) s) (sym is.0) n)) tt refl tt
 
   head_is : (j : Intake) (text : List ℕ) (x : S × Result HeadTaken HeadRefused)
       → rules.head p.role end.leg text ≡ x
@@ -367,11 +404,13 @@ module _ {S : Type 0} (rules : Rules S) (moment : ℕ) (p : Passage S) (end : Ne
           (record { leg = refl; pipe = refl; begun = refl; standing = refl })
           (λ l. (ap is_live top, is ∙ ap (λ (x : List ℕ). (reading stage.Frames x, [])) (sym none)))
           (λ h. absurd cc) (λ g. λ n. (first g n, ap takes_frames (next_is g))) (judged, tt)
+          refl (tt, tt)
       by_behind role passed.PassedOver length same next_is =
           goes_on q (begun_body (now j) stage.PassedOver (Some length)) role way same refl refl
           (λ fr. nothing_held j.held none)
           (record { leg = refl; pipe = refl; begun = refl; standing = refl })
           (λ l. absurd cc) (λ h. absurd cc) (λ g. λ n. (first g n, tt)) (judged, tt)
+          refl (tt, tt)
 
       by_why : (role : S) (why : HeadRefused) → rules.head p.role end.leg text ≡ (role, Err why)
           → IsRefused (Some (stop_head end.leg (length text) why))
@@ -398,6 +437,7 @@ module _ {S : Type 0} (rules : Rules S) (moment : ℕ) (p : Passage S) (end : Ne
           stops_here q j role (stop_head end.leg (length text) why) way first
           (ap (λ (y : S × Result HeadTaken HeadRefused). y.0) e) refl refl
           (λ fr. nothing_held j.held none) (by_why role why e) (judged, tt)
+          (λ h. (tt, tt))
 
   greeting_is : (j : Intake) (t : Bool) (why : Cause) → end.intake.stage ≡ stage.Greeting
       → next ≡ (reading stage.Frames [], []) → j.held ≡ []
@@ -410,11 +450,11 @@ module _ {S : Type 0} (rules : Rules S) (moment : ℕ) (p : Passage S) (end : Ne
       (record { leg = refl; pipe = refl; begun = refl; standing = refl })
       (λ l. (ap is_live at, is ∙ ap (λ (x : List ℕ). (reading stage.Frames x, [])) (sym none)))
       (λ h. absurd cc)
-      (λ g. λ n. (tt, subst (λ (s : Stage). IsNext (g end.leg) s) at n)) tt
+      (λ g. λ n. (tt, subst (λ (s : Stage). IsNext (g end.leg) s) at n)) tt refl tt
   greeting_is j false why at is none =
       stops_here p j p.role (record { cause = why; refusal = None })
       (way_none rules heads p) (λ g. λ n. tt) refl refl refl
-      (λ fr. nothing_held j.held none) (λ r. absurd r) tt
+      (λ fr. nothing_held j.held none) (λ r. absurd r) tt (λ h. tt)
 
   frame_is : (j : Intake) (frame : List ℕ) (place : ℕ) (x : S × Result Count Cause)
       → FrameIs rules nowhere p (heading (now j) place) may frame x
@@ -451,6 +491,7 @@ module _ {S : Type 0} (rules : Rules S) (moment : ℕ) (p : Passage S) (end : Ne
               (subst (λ (x : Stages). takes_frames (x end.leg) ≡ true) (sym (f.leaves.stays g))
               frames),
         );
+    counted = λ h. let two = f.counted h in (two.0, λ go. two.1);
     on = inr on;
     same = record { leg = refl; pipe = refl; begun = refl; standing = refl };
     held = λ fr. nothing_held j.held none;
@@ -465,6 +506,7 @@ module _ {S : Type 0} (rules : Rules S) (moment : ℕ) (p : Passage S) (end : Ne
       f.role f.put
       (f.came ∙ append-nil p.came) (λ fr. nothing_held j.held none) (λ r. absurd r)
       (no_heads (Judges rules p end (b ∷ [])) f.way.moves (λ leg. f.way.headless leg refl))
+      (λ h. (f.counted h).0)
 
   by_came : (j : Intake) (c : Came) → ByteIs end.pipe end.intake.stage j c next
       → (end.intake.stage ≡ stage.Head → IsHead end.intake b c)
@@ -479,13 +521,13 @@ module _ {S : Type 0} (rules : Rules S) (moment : ℕ) (p : Passage S) (end : Ne
       (frame_taken rules nowhere p (heading (now j) place) may frame is.4) is.0 is.1 is.2 is.3
   by_came j (Fault place fault) is stands =
       stops_here p j p.role _ (way_none rules heads p) (λ g. λ n. tt) refl refl refl
-      (λ fr. absurd (apart (sym is ∙ fr))) (λ r. absurd r) tt
+      (λ fr. absurd (apart (sym is ∙ fr))) (λ r. absurd r) tt (λ h. tt)
     where
       apart : stage.Shut ≡ stage.Frames → ⊥
       apart e = absurd cc
   by_came j (Over length) is stands =
       stops_here p j p.role _ (way_none rules heads p) (λ g. λ n. tt) refl refl refl
-      (λ fr. absurd (apart (sym is ∙ fr))) (λ r. absurd r) tt
+      (λ fr. absurd (apart (sym is ∙ fr))) (λ r. absurd r) tt (λ h. tt)
     where
       apart : stage.Shut ≡ stage.Frames → ⊥
       apart e = absurd cc

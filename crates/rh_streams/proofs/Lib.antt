@@ -1,4 +1,5 @@
 mod Ways
+mod Counts
 mod Staging
 mod Bytes
 pub mod Heads
