@@ -12,7 +12,7 @@ use Rattle.rh_passages.specs.Passing.{count_of}
 abbrev pub is_any : Named → Bool
 is_any named = true
 
--- so many packets
+-- so many packets; Pings are not among them, for they come to no row
 abbrev pub packets : List Message → ℕ
 packets messages = count_of is_any messages
 

@@ -276,7 +276,8 @@ module _ {S : Type 0} (rules : Rules S) (acts : Acts S) (first : S) (rooms : Roo
       recycles : (x : State) → state_of rules s ≡ x → After [] [] (recycle_where acts s x).0
       recycles state.Open e =
           act Recycles (acts.recycle s.role).0 [] [] (is_open s.course (rules.phase s.role) e)
-          (λ leg. refl) tt (λ before. tt) (λ x. tt) (did_recycle rules acts ran.at.end s.role role_is)
+          (λ leg. refl) tt (λ before. tt) (λ x. tt)
+          (did_recycle rules acts ran.at.end s.role role_is)
       recycles state.Opening e = idle
       recycles state.Ended e = idle
       recycles (state.Closed why) e = idle

@@ -3,6 +3,7 @@ mod Counts
 mod Staging
 mod Bytes
 pub mod Heads
+mod Frames
 mod Hears
 mod Pieces
 mod Draws

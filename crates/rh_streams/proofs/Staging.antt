@@ -158,12 +158,12 @@ module _ {S : Type 0} (rules : Rules S) where
         let h = stages_after rules p.role g n in
         subst (λ x. At (all_moved rules q ns) x (all_stages rules q h ns))
         (append_assoc ms (n ∷ []) ns)
-        (all_reached q (ms ++ n ∷ []) h ns (more p ms g n at a.0 turn.0 c.0) a.1 turn.1
-        c.1)
+        (all_reached q (ms ++ n ∷ []) h ns (more p ms g n at a.0 turn.0 c.0) a.1 turn.1 c.1)
 
     pub way_reached : (heads ups : Leg → Bool) (p q : Passage S) (ms : List Move)
         (g : Stages) → (way : Way rules heads ups p q) → AreInTurnFrom rules p g way.moves
-        → AreCounted rules p way.moves → At p ms g → At q (ms ++ way.moves) (all_stages rules p g way.moves)
+        → AreCounted rules p way.moves → At p ms g
+        → At q (ms ++ way.moves) (all_stages rules p g way.moves)
     way_reached heads ups p q ms g way turn c at =
         subst (λ x. At x (ms ++ way.moves) (all_stages rules p g way.moves)) way.reached
         (all_reached p ms g way.moves at way.allowed turn c)
