@@ -13,8 +13,9 @@ use Rattle.rh_line.specs.declared.leg.LegKind.TheVariants.{ClientOut, OutServer,
 use Rattle.rh_record.specs.declared.answer.Who.{Who}
 use Rattle.rh_record.specs.declared.answer.Who.TheVariants as who
 use Rattle.rh_shell.specs.declared.answers.Refused.TheVariants as refused
+use Rattle.rh_shell.specs.Moves.{EndMove}
 use Rattle.rh_shell.specs.Rules.{Message, Rules}
-use Rattle.rh_legible.specs.Legible.{IsFineMessage}
+use Rattle.rh_legible.specs.Legible.{IsFineMessage, ReadsBack}
 use Rattle.rh_shell.specs.Shells.{Shell}
 use Rattle.rh_shell.specs.Wires.{of_leg}
 use Rattle.rh_nodes.specs.declared.event.Event.{Event}
@@ -31,6 +32,8 @@ use Rattle.rh_nodes.specs.Wires.{receiver}
 use Rattle.rh_nodes.specs.World.{World, at}
 use Rattle.rh_client.specs.declared.state.ClientRole.{ClientRole}
 use Rattle.rh_client.specs.Client as client
+use Rattle.rh_client.specs.Legible as client_legible
+use Rattle.rh_client.specs.Order.{client_started}
 use Rattle.rh_client.specs.State.{ci, co}
 use Rattle.rh_inproxy.specs.Machine as in_proxy
 use Rattle.rh_inproxy.specs.State.{InProxy}
@@ -43,13 +46,14 @@ use Rattle.rh_history.specs.Changes.{Change, IsFed, MayChange}
 use Rattle.rh_history.specs.Closes.{ClosesNode}
 use Rattle.rh_history.specs.Histories.{History, in_place, out_place}
 use Rattle.rh_history.proofs.Numbers.{answered}
+use Rattle.rh_history.proofs.Working.{works_more}
 use Rattle.rh_reading.specs.Reading.{all_read_of}
-use Rattle.rh_passages.specs.Passing.{HasBegunIn, HasBegunOut}
 use Rattle.rh_traced.specs.Cookies.{ByChanges}
 use Rattle.rh_traced.specs.Ours.{AreOurs, deeds, rules}
 use Rattle.rh_ordered.specs.Premises.{history_at}
 use Rattle.rh_fifo.specs.Flows.{IsFlowing, numbers_of}
 use Rattle.rh_fifo.specs.Premises.{AreInRange}
+use Rattle.rh_fifo.proofs.Fine.{on_leg}
 use Rattle.rh_honest.proofs.Closing.{EachComes, by_fed}
 use Rattle.rh_honest.proofs.Fed.{told_what, told_who}
 use Rattle.rh_hops.specs.Hops.{os_leg}
@@ -57,11 +61,12 @@ use Rattle.rh_hops.specs.Refusing.{RefusesMessage}
 use Rattle.rh_hops.proofs.Moment.{Laws, NodeLaws, known}
 use Rattle.rh_hops.proofs.Stopping.{Readings}
 use Rattle.rh_client_hops.specs.Premises.{AreDistinct, HasOneWindow}
-use Rattle.rh_client_hops.proofs.Honest.{RoleLaws, are_honest, distinct_behind, ins_apart, outs_apart}
-use Rattle.rh_client_hops.proofs.Joined.{Reads, put_is_fine}
-use Rattle.rh_client_hops.proofs.Moments.{AreAlone, client_next, flows, in_next, joined, out_next, passages, story, world}
+use Rattle.rh_client_hops.proofs.Honest.{RoleLaws, StreamLaws, are_honest, distinct_behind}
+use Rattle.rh_client_hops.proofs.Joined.{AreAlone, Reads, put_is_fine}
+use Rattle.rh_client_hops.proofs.Moments.{client_next, flows, in_next, joined, out_next, passages, story, world}
 use Rattle.rh_client_hops.proofs.Refusing.{client_range, client_window, in_range, in_window, out_range, out_range_none, out_window}
-use Rattle.rh_client_hops.proofs.Roles.{BeginApart}
+use Rattle.rh_client_hops.proofs.Roles.{NoneIsEarly}
+use Rattle.rh_client_hops.proofs.Timely.{EarlyLaws, history_more, timely}
 use Rattle.rh_client_hops.proofs.Routes.{AreHonest, AreJoined, Passages}
 
 -- ---- the laws that this stands on
@@ -86,7 +91,8 @@ in_number a b e = cc
 out_number : (a b : ℕ) → who.Out a ≡ who.Out b → a ≡ b
 out_number a b e = cc
 
-module _ {K : Type 0} (roles : RoleLaws) (nodes : NodesLaws) (reads : Reads) (readings : Readings)
+module _ {K : Type 0} (roles : RoleLaws) (streams : StreamLaws)
+    (early : EarlyLaws) (nodes : NodesLaws) (reads : Reads) (readings : Readings)
     (m : Makers K InProxy OutProxy) (w : World K ClientRole Server InProxy OutProxy)
     (ours : AreOurs m w.company w.cast) (ranges : AreInRange (numbers_of ours))
     (one : HasOneWindow (numbers_of ours)) (law : Laws m w ours) (alone : AreAlone m w)
@@ -110,21 +116,26 @@ module _ {K : Type 0} (roles : RoleLaws) (nodes : NodesLaws) (reads : Reads) (re
     then_joined : AreJoined v.readers then_all
     then_joined = joined reads readings m w v ours law alone by leg dir (λ k. may) count
 
-    honest : AreHonest (ours.in_config 1).window then_all
-    honest = are_honest roles reads m w ours ranges one then_world then_story then_flows
+    abbrev then_moves : List EndMove
+    then_moves = then_flows.flows.client.leads.moves
 
     apart : AreDistinct (happened then_story.client)
     apart =
         distinct_behind w.company.client v (history_at m w v by.leads) leg dir count
         (known m w v ours law by leg dir (λ k. may)).traced.runs.client distinct
 
-    apart_in : BeginApart ci HasBegunIn then_all.client.put
-    apart_in =
-        ins_apart roles reads m w ours ranges one then_world then_story then_flows apart
+    in_time : NoneIsEarly (client_started ours.config) then_moves
+    in_time =
+        let by_then = works_more rules m deeds w v (IsFed leg dir count) by may refl in
+        timely roles streams early reads m w ours ranges law alone then_world by_then then_story
+        (history_more m w v by (IsFed leg dir count) may refl) then_flows.flows.client
+        (on_leg client_legible.pipe_put ReadsBack (co 1) then_all.client.put
+        then_flows.legible.client.read_back)
 
-    apart_out : BeginApart co HasBegunOut then_all.client.put
-    apart_out =
-        outs_apart roles reads m w ours ranges one then_world then_story then_flows apart
+    honest : AreHonest (ours.in_config 1).window then_moves then_all
+    honest =
+        are_honest roles streams reads m w ours ranges then_world then_story then_flows
+        then_joined one apart in_time
 
     -- a message that is the next of what an out proxy put for its client is fine
     next_fine : (k : ℕ) (came : List Message) (x : Message)
@@ -177,8 +188,8 @@ module _ {K : Type 0} (roles : RoleLaws) (nodes : NodesLaws) (reads : Reads) (re
           (refused.OutOfRange command value) (cause.OutOfRange (co n) command value) refl count
           who.Client refl nodes.client refl closes in
           client_range v.readers (then_all (co n) D may next.0) (then_joined (co n) D may next.0)
-          (ours.in_config 1).window (honest (co n) D may next.0) (apart_in (co n) D may next.0)
-          (apart_out (co n) D may next.0) n next.1.message next.1.ahead command value
+          (ours.in_config 1).window (then_moves (co n) D may next.0)
+          (honest (co n) D may next.0) n next.1.message next.1.ahead command value
           next.1.refuses
 
   client_window_fed : (n reached edge : ℕ)
@@ -202,9 +213,8 @@ module _ {K : Type 0} (roles : RoleLaws) (nodes : NodesLaws) (reads : Reads) (re
           (cause.WindowExceeded (co n) reached edge) refl count who.Client refl nodes.client refl
           closes in
           client_window v.readers (then_all (co n) D may next.0)
-          (then_joined (co n) D may next.0) (ours.in_config 1).window
-          (honest (co n) D may next.0) (apart_in (co n) D may next.0)
-          (apart_out (co n) D may next.0) n next.1.message
+          (then_joined (co n) D may next.0) (ours.in_config 1).window (then_moves (co n) D may next.0)
+          (honest (co n) D may next.0) n next.1.message
           (next_fine (co n) D may next.0 n
           (of_leg (co n) (then_all (co n) D may next.0).client.came) next.1.message next.1.ahead)
           next.1.ahead (record { reached = reached; edge = edge }) next.1.refuses
@@ -264,8 +274,8 @@ module _ {K : Type 0} (roles : RoleLaws) (nodes : NodesLaws) (reads : Reads) (re
       (cause.WindowExceeded (ci n) reached edge) refl count (who.In k) here nodes.ins k refl node
       up there closes in
       in_window v.readers (then_all (ci n) U may next.0) (then_joined (ci n) U may next.0)
-      (ours.in_config 1).window (honest (ci n) U may next.0) (apart_in (ci n) U may next.0)
-      (apart_out (ci n) U may next.0) k n (in_number (reader_of v.readers n) k here)
+      (ours.in_config 1).window (then_moves (ci n) U may next.0)
+          (honest (ci n) U may next.0) k n (in_number (reader_of v.readers n) k here)
       next.1.message next.1.ahead (record { reached = reached; edge = edge }) next.1.refuses
 
   in_window_fed : (k n reached edge : ℕ)
@@ -284,8 +294,8 @@ module _ {K : Type 0} (roles : RoleLaws) (nodes : NodesLaws) (reads : Reads) (re
       (refused.OutOfRange command value) (cause.OutOfRange (ci n) command value) refl count
       (who.In k) here nodes.ins k refl node up there closes in
       in_range v.readers (then_all (ci n) U may next.0) (then_joined (ci n) U may next.0)
-      (ours.in_config 1).window (honest (ci n) U may next.0) (apart_in (ci n) U may next.0)
-      (apart_out (ci n) U may next.0) k n next.1.message command value next.1.refuses
+      (ours.in_config 1).window (then_moves (ci n) U may next.0)
+          (honest (ci n) U may next.0) k n next.1.message command value next.1.refuses
 
   in_range_fed : (k n command value : ℕ)
       → Fed (who.In k) (cause.OutOfRange (ci n) command value)
@@ -306,8 +316,8 @@ module _ {K : Type 0} (roles : RoleLaws) (nodes : NodesLaws) (reads : Reads) (re
       (cause.WindowExceeded (co n) reached edge) refl count (who.Out k) here nodes.outs k refl
       node up there closes in
       out_window v.readers (then_all (co n) U may next.0) (then_joined (co n) U may next.0)
-      (ours.in_config 1).window (honest (co n) U may next.0) (apart_in (co n) U may next.0)
-      (apart_out (co n) U may next.0) k next.1.message
+      (ours.in_config 1).window (then_moves (co n) U may next.0)
+          (honest (co n) U may next.0) k next.1.message
       (record { reached = reached; edge = edge })
       (subst (λ (j : ℕ). RefusesMessage out_proxy.rules
       ((then_all (co n) U may next.0).outs k).role (co j)
@@ -340,9 +350,8 @@ module _ {K : Type 0} (roles : RoleLaws) (nodes : NodesLaws) (reads : Reads) (re
           (refused.OutOfRange command value) (cause.OutOfRange l command value) refl count
           (who.Out k) here nodes.outs k refl node up there closes in
           out_range_none v.readers (then_all (co n) U may next.0)
-          (then_joined (co n) U may next.0) (ours.in_config 1).window
-          (honest (co n) U may next.0) (apart_in (co n) U may next.0)
-          (apart_out (co n) U may next.0) k next.1.message command value
+          (then_joined (co n) U may next.0) (ours.in_config 1).window (then_moves (co n) U may next.0)
+          (honest (co n) U may next.0) k next.1.message command value
           (subst (λ (j : ℕ). RefusesMessage out_proxy.rules
           ((then_all (co n) U may next.0).outs k).role (co j)
           (refused.OutOfRange command value) next.1.message) (out_number n k here)
@@ -359,8 +368,8 @@ module _ {K : Type 0} (roles : RoleLaws) (nodes : NodesLaws) (reads : Reads) (re
           (refused.OutOfRange command value) next.1.message) (out_number n k here)
           (next.1.ahead, next.1.refuses) in
           out_range v.readers all (then_joined (os_leg n) D may next.0)
-          (ours.in_config 1).window (honest (os_leg n) D may next.0)
-          (apart_in (os_leg n) D may next.0) (apart_out (os_leg n) D may next.0) k
+          (ours.in_config 1).window (then_moves (os_leg n) D may next.0)
+          (honest (os_leg n) D may next.0) k
           next.1.message both.0 command value both.1
 
   out_range_fed : (k : ℕ) (l : Leg) (command value : ℕ)

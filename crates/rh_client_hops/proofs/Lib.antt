@@ -3,7 +3,8 @@ mod Roles
 mod Routes
 mod Refusing
 mod Joined
+mod Honest
+mod Timely
 mod Stops
 mod Moments
-mod Honest
 mod Closing

@@ -57,18 +57,9 @@ use Rattle.rh_hops.proofs.Moment.{Laws, NodeLaws, behind, closes_at, drawn_befor
 use Rattle.rh_hops.proofs.OneByte.{AtByte}
 use Rattle.rh_hops.proofs.Pieces.{FedFronts, fed_fronts}
 use Rattle.rh_hops.proofs.Stopping.{Readings}
-use Rattle.rh_client_hops.proofs.Joined.{Reads, all, are_joined, reads_put}
+use Rattle.rh_client_hops.proofs.Joined.{AreAlone, Reads, all, joined_at, reads_put}
 use Rattle.rh_client_hops.proofs.Routes.{AreJoined, Passages, put_by}
 use Rattle.rh_client_hops.proofs.Stops.{IsNext, end_next, stream_next}
-
--- a node that stands at no end of a leg heard nothing there
-abbrev pub AreAlone : {K : Type 0} → Makers K InProxy OutProxy
-    → World K ClientRole Server InProxy OutProxy → Type 0
-AreAlone {K} m w =
-    (u : World K ClientRole Server InProxy OutProxy) (h : History)
-    → IsTraced rules m deeds w.company u h → (node : Who) (leg : Leg)
-    → ((end : Side) → end_node u.readers leg end ≡ node → ⊥)
-    → heard_on leg (events_of h node) ≡ []
 
 -- what a node drew it has drawn whatever changes
 drawn_more : {K : Type 0} (m : Makers K InProxy OutProxy)
@@ -113,20 +104,8 @@ module _ {K : Type 0} (law_reads : Reads) (readings : Readings) (m : Makers K In
         noted x (now m w v ours law by leg dir may) (IsFed leg dir count)) by.leads.reached)
         (law.known world by_then.leads).traced
 
-    drew : (other : Leg) (way : Dir)
-        → IsPrefix (heard_on other (events_of story (end_node v.readers other (receiver way))))
-        (drawn_by rules m deeds w.company w.cast story
-        (end_node v.readers other (sender way)) other)
-    drew other way =
-        subst (λ (k : K). IsPrefix
-        (heard_on other (events_of story (end_node v.readers other (receiver way))))
-        (drawn_by rules m deeds w.company k story (end_node v.readers other (sender way)) other))
-        flows.cast (law.drawn world story traced other way)
-
     pub joined : AreJoined v.readers passages
-    joined =
-        are_joined law_reads m w world ours story flows v.readers drew
-        (λ node other away. alone world story traced node other away)
+    joined = joined_at law_reads m w ours law alone world story flows traced
 
     -- the messages that were put at the other end of the leg
     abbrev pub all_put : List Message

@@ -1,5 +1,5 @@
 -- what each role sees to on the hops between a client and its proxies (MS-RPCH 3.2.1)
-use Rattle.std.specs.Prelude.{◌≡◌, ◌⊎◌, ℕ, ◌+◌, ◌<◌, ◌≤◌, List, length, Err}
+use Rattle.std.specs.Prelude.{◌≡◌, ◌⊎◌, ℕ, ◌+◌, ◌<◌, ◌≤◌, List, [], ◌∷◌, length, Bool, true, false, Err}
 use Rattle.rh_rts.specs.declared.command.Cookie.{Cookie}
 use Rattle.rh_window.specs.declared.fault.WindowExceeded.{WindowExceeded}
 use Rattle.rh_window.specs.declared.range.TheConstants.{GREATEST_WINDOW}
@@ -9,7 +9,7 @@ use Rattle.rh_line.specs.declared.leg.Leg.{Leg}
 use Rattle.rh_line.specs.declared.leg.LegKind.TheVariants.{ClientIn, InServer, OutServer}
 use Rattle.rh_shell.specs.declared.answers.Count.{Count}
 use Rattle.rh_shell.specs.declared.answers.Refused.TheVariants as refused
-use Rattle.rh_shell.specs.Moves.{EndMove, OnLeg, Passage}
+use Rattle.rh_shell.specs.Moves.{EndMove, EndPassage, OnLeg, Passage, end_moved}
 use Rattle.rh_shell.specs.Rules.{Message, Rules}
 use Rattle.rh_shell.specs.Wires.{of_leg}
 use Rattle.rh_client.specs.declared.state.ClientRole.{ClientRole}
@@ -48,6 +48,12 @@ abbrev pub TellsProxy : ℕ → Named → Type 0
 TellsProxy edge (ConnA1 version connection channel window) = window ≡ edge
 TellsProxy edge (OutR1A3 version connection predecessor channel window) = window ≡ edge
 TellsProxy edge packet = ⊥
+
+-- the packet opens an OUT channel
+abbrev pub opens : Named → Bool
+opens (ConnA1 version connection channel window) = true
+opens (OutR1A3 version connection predecessor channel window) = true
+opens packet = false
 
 -- ---- acknowledgements with a destination
 
@@ -97,25 +103,36 @@ pub record IsTrue (leg_of : ℕ → Leg) (Begun : ℕ → Type 0) (log : List On
 
 -- ---- the client
 
--- no two of its channels of one direction began under one cookie
-abbrev pub BeginApart : (ℕ → Leg) → (Cookie → List Message → Type 0) → List OnLeg → Type 0
-BeginApart leg_of Begun put =
-    (cookie : Cookie) (l n : ℕ) → Begun cookie (of_leg (leg_of l) put)
-    → Begun cookie (of_leg (leg_of n) put) → l ≡ n
+-- RPC PDUs came on the first OUT channel only if CONN/A1 was put there
+abbrev pub IsNotEarly : List OnLeg → List OnLeg → Type 0
+IsNotEarly came put =
+    0 < pdu_bytes (of_leg (co 1) came)
+    → (cookie : Cookie) × HasBegunOut cookie (of_leg (co 1) put)
 
-pub record ClientSees (p : Passage ClientRole) : Type 0 where
-  -- it sends on an IN channel as it was told, and refuses only false acknowledgements of it
+-- so it is before each of these moves, and behind them
+abbrev pub NoneIsEarly : EndPassage ClientRole → List EndMove → Type 0
+NoneIsEarly p [] = IsNotEarly p.passage.came p.passage.put
+NoneIsEarly p (move ∷ moves) =
+    IsNotEarly p.passage.came p.passage.put
+    × NoneIsEarly (end_moved client.rules client.acts p move) moves
+
+-- it sends on an IN channel as it was told, and refuses only false acknowledgements of one that came
+-- up under their cookie
+pub record ClientSends (moves : List EndMove) (p : Passage ClientRole) : Type 0 where
   pub sends : (n : ℕ)
       → SendsWithin (IsToldIn (of_leg (ci n) p.put) p.came) (pdu_bytes (of_leg (ci n) p.put))
   pub refuses : (k : ℕ) (count : Count) (named : Named) (command value : ℕ)
-      → (client.rules.packet p.role (co k) count named).1 ≡ Err (refused.OutOfRange command value)
+      → (client.rules.packet p.role (co k) count named).1
+      ≡ Err (refused.OutOfRange command value)
       → (received : ℕ) × (available : ℕ) × (cookie : Cookie) × (n : ℕ)
-      × (named ≡ AckTo 0 received available cookie)
-      × HasBegunIn cookie (of_leg (ci n) p.put)
+      × (named ≡ AckTo 0 received available cookie) × WasRaisedWith (ci n) cookie moves
       × IsFalse (pdu_bytes (of_leg (ci n) p.put)) received available
   pub refuses_none : (k : ℕ) (count : Count) (pdu : List ℕ) (command value : ℕ)
       → (client.rules.pdu p.role (co k) count pdu).1 ≡ Err (refused.OutOfRange command value) → ⊥
-  -- it refuses a PDU of an OUT channel only where that ends behind all that it told
+
+-- it refuses a PDU of an OUT channel only where that ends behind all that it told, and acknowledges
+-- what came
+pub record ClientReceives (p : Passage ClientRole) : Type 0 where
   pub exceeded : (k : ℕ) (count : Count) (pdu : List ℕ) (exceeded : WindowExceeded)
       → (client.rules.pdu p.role (co k) count pdu).1 ≡ Err (refused.Window exceeded)
       → (edge : ℕ) → HasOne (TellsProxy edge) (of_leg (co k) p.put)
@@ -129,7 +146,6 @@ pub record ClientSees (p : Passage ClientRole) : Type 0 where
       → received + available < pdu_bytes (of_leg (co k) p.came) + length pdu
   pub exceeded_none : (k : ℕ) (count : Count) (named : Named) (exceeded : WindowExceeded)
       → (client.rules.packet p.role (co k) count named).1 ≡ Err (refused.Window exceeded) → ⊥
-  -- it acknowledges what came
   pub acks : (ack : Acks 3 ci p.put)
       → IsTrue co (λ k. HasBegunOut ack.cookie (of_leg (co k) p.put)) p.came ack.received
       ack.available
@@ -140,6 +156,13 @@ pub record ClientBegins (moves : List EndMove) (p : Passage ClientRole) : Type 0
       → WasRaisedWith (ci n) cookie moves
   pub outs : (n : ℕ) (cookie : Cookie) → HasBegunOut cookie (of_leg (co n) p.put)
       → WasRaisedWith (co n) cookie moves
+
+-- no two legs of one direction came up under one cookie
+pub record AreApart (moves : List EndMove) : Type 0 where
+  pub ins : (cookie : Cookie) (l n : ℕ) → WasRaisedWith (ci l) cookie moves
+      → WasRaisedWith (ci n) cookie moves → l ≡ n
+  pub outs : (cookie : Cookie) (l n : ℕ) → WasRaisedWith (co l) cookie moves
+      → WasRaisedWith (co n) cookie moves → l ≡ n
 
 -- ---- an in proxy of this window and number
 
