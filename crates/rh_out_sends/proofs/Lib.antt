@@ -1,0 +1,4 @@
+mod Legs
+mod Windows
+mod Sent
+mod OutProxySends
