@@ -15,7 +15,7 @@ use Rattle.rh_record.specs.declared.answer.Who.TheVariants as who
 use Rattle.rh_shell.specs.declared.answers.Refused.TheVariants as refused
 use Rattle.rh_shell.specs.Moves.{EndMove}
 use Rattle.rh_shell.specs.Rules.{Message, Rules}
-use Rattle.rh_legible.specs.Legible.{IsFineMessage, ReadsBack}
+use Rattle.rh_legible.specs.Legible.{IsFineMessage}
 use Rattle.rh_shell.specs.Shells.{Shell}
 use Rattle.rh_shell.specs.Wires.{of_leg}
 use Rattle.rh_nodes.specs.declared.event.Event.{Event}
@@ -32,8 +32,6 @@ use Rattle.rh_nodes.specs.Wires.{receiver}
 use Rattle.rh_nodes.specs.World.{World, at}
 use Rattle.rh_client.specs.declared.state.ClientRole.{ClientRole}
 use Rattle.rh_client.specs.Client as client
-use Rattle.rh_client.specs.Legible as client_legible
-use Rattle.rh_client.specs.Order.{client_started}
 use Rattle.rh_client.specs.State.{ci, co}
 use Rattle.rh_inproxy.specs.Machine as in_proxy
 use Rattle.rh_inproxy.specs.State.{InProxy}
@@ -46,14 +44,12 @@ use Rattle.rh_history.specs.Changes.{Change, IsFed, MayChange}
 use Rattle.rh_history.specs.Closes.{ClosesNode}
 use Rattle.rh_history.specs.Histories.{History, in_place, out_place}
 use Rattle.rh_history.proofs.Numbers.{answered}
-use Rattle.rh_history.proofs.Working.{works_more}
 use Rattle.rh_reading.specs.Reading.{all_read_of}
 use Rattle.rh_traced.specs.Cookies.{ByChanges}
 use Rattle.rh_traced.specs.Ours.{AreOurs, deeds, rules}
 use Rattle.rh_ordered.specs.Premises.{history_at}
 use Rattle.rh_fifo.specs.Flows.{IsFlowing, numbers_of}
 use Rattle.rh_fifo.specs.Premises.{AreInRange}
-use Rattle.rh_fifo.proofs.Fine.{on_leg}
 use Rattle.rh_honest.proofs.Closing.{EachComes, by_fed}
 use Rattle.rh_honest.proofs.Fed.{told_what, told_who}
 use Rattle.rh_hops.specs.Hops.{os_leg}
@@ -65,8 +61,6 @@ use Rattle.rh_client_hops.proofs.Honest.{RoleLaws, StreamLaws, are_honest, disti
 use Rattle.rh_client_hops.proofs.Joined.{AreAlone, Reads, put_is_fine}
 use Rattle.rh_client_hops.proofs.Moments.{client_next, flows, in_next, joined, out_next, passages, story, world}
 use Rattle.rh_client_hops.proofs.Refusing.{client_range, client_window, in_range, in_window, out_range, out_range_none, out_window}
-use Rattle.rh_client_hops.proofs.Roles.{NoneIsEarly}
-use Rattle.rh_client_hops.proofs.Timely.{EarlyLaws, history_more, timely}
 use Rattle.rh_client_hops.proofs.Routes.{AreHonest, AreJoined, Passages}
 
 -- ---- the laws that this stands on
@@ -92,7 +86,7 @@ out_number : (a b : ℕ) → who.Out a ≡ who.Out b → a ≡ b
 out_number a b e = cc
 
 module _ {K : Type 0} (roles : RoleLaws) (streams : StreamLaws)
-    (early : EarlyLaws) (nodes : NodesLaws) (reads : Reads) (readings : Readings)
+    (nodes : NodesLaws) (reads : Reads) (readings : Readings)
     (m : Makers K InProxy OutProxy) (w : World K ClientRole Server InProxy OutProxy)
     (ours : AreOurs m w.company w.cast) (ranges : AreInRange (numbers_of ours))
     (one : HasOneWindow (numbers_of ours)) (law : Laws m w ours) (alone : AreAlone m w)
@@ -124,18 +118,10 @@ module _ {K : Type 0} (roles : RoleLaws) (streams : StreamLaws)
         distinct_behind w.company.client v (history_at m w v by.leads) leg dir count
         (known m w v ours law by leg dir (λ k. may)).traced.runs.client distinct
 
-    in_time : NoneIsEarly (client_started ours.config) then_moves
-    in_time =
-        let by_then = works_more rules m deeds w v (IsFed leg dir count) by may refl in
-        timely roles streams early reads m w ours ranges law alone then_world by_then then_story
-        (history_more m w v by (IsFed leg dir count) may refl) then_flows.flows.client
-        (on_leg client_legible.pipe_put ReadsBack (co 1) then_all.client.put
-        then_flows.legible.client.read_back)
-
     honest : AreHonest (ours.in_config 1).window then_moves then_all
     honest =
         are_honest roles streams reads m w ours ranges then_world then_story then_flows
-        then_joined one apart in_time
+        then_joined one apart
 
     -- a message that is the next of what an out proxy put for its client is fine
     next_fine : (k : ℕ) (came : List Message) (x : Message)

@@ -1,6 +1,5 @@
 -- at each moment of a world of roles each sees to its part, and channels begin apart
 use Rattle.std.proofs.Common.{◌≡◌, ◌⊎◌, ℕ, ◌≤◌, Bool, true, false, if◌then◌else◌, List, [], ◌∷◌, ◌++◌, inl, inr, arith, subst}
-use mathlib.Core.List.{IsPrefix}
 use Rattle.rh_text.specs.declared.ends.Dir.{Dir}
 use Rattle.rh_text.specs.declared.ends.Dir.TheVariants.{U}
 use Rattle.rh_text.specs.declared.ends.Side.TheVariants as side
@@ -10,7 +9,6 @@ use Rattle.rh_window.specs.Sides.{IsWindow}
 use Rattle.rh_line.specs.declared.leg.Leg.{Leg}
 use Rattle.rh_line.specs.declared.leg.LegKind.TheVariants.{ClientIn, ClientOut}
 use Rattle.rh_record.specs.declared.answer.Who.TheVariants as who
-use Rattle.rh_shell.specs.Carrying.{spelled}
 use Rattle.rh_shell.specs.Moves.{AreAllowed, AreAllowedAtEnd, EndMove, EndPassage, Move, Passage, all_end_moved, all_moved, end_started, started}
 use Rattle.rh_shell.specs.Moving.{EndEvent, Event, Hears, after_end_events}
 use Rattle.rh_shell.specs.Shells.{Shell, begun}
@@ -22,7 +20,7 @@ use Rattle.rh_nodes.specs.Halves.{is_same}
 use Rattle.rh_nodes.specs.Legs as legs
 use Rattle.rh_client.specs.declared.state.ClientRole.{ClientRole}
 use Rattle.rh_client.specs.Client as client
-use Rattle.rh_client.specs.Order.{AreAllowedMoves, client_moved, client_started}
+use Rattle.rh_client.specs.Order.{AreAllowedMoves, client_moved}
 use Rattle.rh_client.specs.State as client_state
 use Rattle.rh_client.specs.State.{ci, co}
 use Rattle.rh_inproxy.specs.declared.state.InProxyConfig.{InProxyConfig}
@@ -34,21 +32,22 @@ use Rattle.rh_outproxy.specs.Machine as out_proxy
 use Rattle.rh_outproxy.specs.OutProxy.{OutProxy, new_proxy}
 use Rattle.rh_server.specs.Servers as server
 use Rattle.rh_server.specs.States.{Server}
-use Rattle.rh_history.specs.Carried.{end_drawn_on, happened, heard_on}
+use Rattle.rh_history.specs.Carried.{happened}
 use Rattle.rh_history.specs.Changes.{IsFed}
 use Rattle.rh_history.specs.Histories.{History, noted, told_to}
 use Rattle.rh_history.proofs.Appended.{happened_more}
 use Rattle.rh_streams.specs.Streams.{EndStream}
 use Rattle.rh_down.specs.Down as down
-use Rattle.rh_reading.specs.Reading.{messages_read}
 use Rattle.rh_passages.specs.Passing.{count_of}
+use Rattle.rh_passages.specs.Rising.{AreUpFirst, CameUpWith, HasComeUp}
+use Rattle.rh_out_sends.specs.Sending.{opens}
 use Rattle.rh_traced.specs.Ours.{AreOurs, deeds, rules}
 use Rattle.rh_fifo.specs.Flows.{IsFlowing, numbers_of}
 use Rattle.rh_fifo.specs.Premises.{AreInRange}
-use Rattle.rh_client_hops.specs.Premises.{AreDistinct, CameUpWith, HasOneWindow, WasRaisedWith}
+use Rattle.rh_client_hops.specs.Premises.{AreDistinct, HasOneWindow}
 use Rattle.rh_client_hops.proofs.Joined.{Reads, all}
 use Rattle.rh_client_hops.proofs.Read.{front_count}
-use Rattle.rh_client_hops.proofs.Roles.{AreApart, ClientBegins, ClientReceives, ClientSends, InProxySees, NoneIsEarly, OutProxySees, ServerSees, opens}
+use Rattle.rh_client_hops.proofs.Roles.{AreApart, ClientBegins, ClientReceives, ClientSends, InProxySees, OutProxySees, ServerSees}
 use Rattle.rh_client_hops.proofs.Routes.{AreHonest, AreJoined, Passages}
 
 -- ---- a client's stream
@@ -58,28 +57,14 @@ ClientStream config events =
     EndStream client.rules client.acts (client_state.first config) client.rooms
     down.client_reads events
 
--- what passed the client by its first events: the moves begin with those, by which came what was
--- read until then, and was put what was drawn
-pub record ClientFront (config : ClientConfig) (moves : List EndMove) (events : List EndEvent)
-    : Type 0 where
-  pub first : List EndMove
-  pub more : List EndMove
-  pub split : first ++ more ≡ moves
-  pub read : (leg : Leg)
-      → IsPrefix (of_leg leg (client_moved config first).passage.came)
-      (messages_read (down.client_reads leg) (heard_on leg (happened events)))
-  pub drawn : (leg : Leg)
-      → IsPrefix (end_drawn_on client.rules client.acts (client.first_client config) leg events)
-      (spelled (of_leg leg (client_moved config first).passage.put))
-
 -- ---- the laws that this stands on, over every list of moves
 
 pub record RoleLaws : Type 0 where
   pub sends : (config : ClientConfig) (moves : List EndMove) → AreAllowedMoves config moves
       → ClientSends moves (client_moved config moves).passage
   pub receives : (config : ClientConfig) (moves : List EndMove) → IsWindow config.window
-      → AreAllowedMoves config moves → NoneIsEarly (client_started config) moves
-      → ClientReceives (client_moved config moves).passage
+      → AreAllowedMoves config moves → AreUpFirst [] moves
+      → ClientReceives moves (client_moved config moves).passage
   pub begins : (config : ClientConfig) (moves : List EndMove) → AreAllowedMoves config moves
       → ClientBegins moves (client_moved config moves).passage
   pub opens_once : (config : ClientConfig) (moves : List EndMove) → AreAllowedMoves config moves
@@ -99,16 +84,14 @@ pub record RoleLaws : Type 0 where
       → OutProxySees config.number
       (all_moved out_proxy.rules (started (new_proxy config)) moves)
 
--- a client's stream follows its events
+-- a client's stream follows its events: legs came up by its moves with the cookies of the events,
+-- and PDUs and packets came only on legs that came up before
 pub record StreamLaws : Type 0 where
-  -- its moves bring legs up under the cookies of the events
-  pub raised : (config : ClientConfig) (events : List EndEvent)
-      (f : ClientStream config events) (leg : Leg) (cookie : Cookie)
-      → WasRaisedWith leg cookie f.leads.moves → CameUpWith leg cookie (happened events)
-  -- and begin with those of the first events
-  pub fronts : (config : ClientConfig) (before behind events : List EndEvent)
-      (f : ClientStream config events) → events ≡ before ++ behind
-      → ClientFront config f.leads.moves before
+  pub raised : (config : ClientConfig) (events : List EndEvent) (f : ClientStream config events)
+      (leg : Leg) (cookie : Cookie) → HasComeUp f.leads.moves leg cookie
+      → CameUpWith (happened events) leg cookie
+  pub up_first : (config : ClientConfig) (events : List EndEvent)
+      (f : ClientStream config events) → AreUpFirst [] f.leads.moves
 
 module _ {K : Type 0} (law : RoleLaws) (streams : StreamLaws) (reads : Reads)
     (m : Makers K InProxy OutProxy) (w : World K ClientRole Server InProxy OutProxy)
@@ -145,7 +128,7 @@ module _ {K : Type 0} (law : RoleLaws) (streams : StreamLaws) (reads : Reads)
   -- ---- all of them
 
   module _ (one : HasOneWindow (numbers_of ours)) (distinct : AreDistinct (happened g.client))
-      (timely : NoneIsEarly (client_started ours.config) flowing.flows.client.leads.moves) where
+      where
     -- the window of the in proxies
     abbrev pub window : ℕ
     window = (ours.in_config 1).window
@@ -159,11 +142,12 @@ module _ {K : Type 0} (law : RoleLaws) (streams : StreamLaws) (reads : Reads)
         subst (λ (p : EndPassage ClientRole). ClientSends moves p.passage) f.leads.reached
         (law.sends ours.config f.leads.moves f.leads.allowed)
 
-    client_receives : ClientReceives passages.client
+    client_receives : ClientReceives moves passages.client
     client_receives =
         let f = flowing.flows.client in
-        subst (λ (p : EndPassage ClientRole). ClientReceives p.passage) f.leads.reached
-        (law.receives ours.config f.leads.moves ranges.client.window f.leads.allowed timely)
+        subst (λ (p : EndPassage ClientRole). ClientReceives moves p.passage) f.leads.reached
+        (law.receives ours.config f.leads.moves ranges.client.window f.leads.allowed
+        (streams.up_first ours.config g.client f))
 
     client_begins : ClientBegins moves passages.client
     client_begins =
@@ -171,8 +155,8 @@ module _ {K : Type 0} (law : RoleLaws) (streams : StreamLaws) (reads : Reads)
         subst (λ (p : EndPassage ClientRole). ClientBegins moves p.passage) f.leads.reached
         (law.begins ours.config f.leads.moves f.leads.allowed)
 
-    came_up : (leg : Leg) (cookie : Cookie) → WasRaisedWith leg cookie moves
-        → CameUpWith leg cookie (happened g.client)
+    came_up : (leg : Leg) (cookie : Cookie) → HasComeUp moves leg cookie
+        → CameUpWith (happened g.client) leg cookie
     came_up = streams.raised ours.config g.client flowing.flows.client
 
     apart : AreApart moves
@@ -216,9 +200,9 @@ module _ {K : Type 0} (law : RoleLaws) (streams : StreamLaws) (reads : Reads)
 -- ---- a piece that is fed brings no leg up
 
 up_before : (leg on : Leg) (cookie : Cookie) (piece : List ℕ) (fed : Bool) (events : List Event)
-    → CameUpWith leg cookie (events ++ (if fed then Hears on piece ∷ [] else []))
-    → CameUpWith leg cookie events
-up_before leg on cookie piece true [] (inl is) = is
+    → CameUpWith (events ++ (if fed then Hears on piece ∷ [] else [])) leg cookie
+    → CameUpWith events leg cookie
+up_before leg on cookie piece true [] (inl is) = absurd cc
 up_before leg on cookie piece true [] (inr none) = none
 up_before leg on cookie piece false [] none = none
 up_before leg on cookie piece fed (event ∷ events) (inl is) = inl is
@@ -247,8 +231,8 @@ distinct_behind first v h leg dir count run distinct kind l n cookie here there 
         (told_to v (IsFed leg dir count) who.Client) (IsFed leg dir count) side.Client run
 
     before : (other : Leg)
-        → CameUpWith other cookie (happened (noted v h (IsFed leg dir count)).client)
-        → CameUpWith other cookie (happened h.client)
+        → CameUpWith (happened (noted v h (IsFed leg dir count)).client) other cookie
+        → CameUpWith (happened h.client) other cookie
     before other has =
         up_before other leg cookie piece fed (happened h.client)
-        (subst (CameUpWith other cookie) same has)
+        (subst (λ (es : List Event). CameUpWith es other cookie) same has)

@@ -4,7 +4,7 @@ mod Routes
 mod Refusing
 mod Joined
 mod Honest
-mod Timely
 mod Stops
 mod Moments
 mod Closing
+mod Joining

@@ -21,10 +21,10 @@ use Rattle.rh_outproxy.specs.Machine as out_proxy
 use Rattle.rh_legible.specs.Legible.{IsFineMessage}
 use Rattle.rh_reading.specs.Reading.{all_read_of}
 use Rattle.rh_passages.specs.Passing.{pdu_bytes, Has, HasOne, BeginsIn, BeginsOut, HasBegunIn, HasBegunOut}
+use Rattle.rh_passages.specs.Rising.{HasComeUp}
 use Rattle.rh_passages.proofs.Messages.{bytes_append, has_last}
 use Rattle.rh_hops.specs.Hops.{is_leg, os_leg}
 use Rattle.rh_hops.specs.Refusing.{RefusesMessage}
-use Rattle.rh_client_hops.specs.Premises.{WasRaisedWith}
 use Rattle.rh_client_hops.proofs.Read.{front_bytes, front_has, front_one}
 use Rattle.rh_client_hops.proofs.Roles.{Acks, AcksRoom, IsFalse, IsToldIn, IsToldOut, SendsWithin, TellsProxy}
 use Rattle.rh_client_hops.proofs.Routes.{AreHonest, AreJoined, Passages, client_put, from_client, from_out, in_front, in_reads, out_front, window_is}
@@ -67,7 +67,7 @@ module _ (readers : List ℕ) (all : Passages) (joined : AreJoined readers all) 
 
   -- a channel that began there came up under the cookie
   came_in : (m n : ℕ) (cookie : Cookie) → HasBegunIn cookie (of_leg (ci n) (all.ins m).came)
-      → WasRaisedWith (ci n) cookie moves
+      → HasComeUp moves (ci n) cookie
   came_in m n cookie begun =
       honest.begins.ins n cookie
       (front_one (BeginsIn cookie) (of_leg (ci n) (all.ins m).came) (of_leg (ci n) all.client.put)
@@ -75,7 +75,7 @@ module _ (readers : List ℕ) (all : Passages) (joined : AreJoined readers all) 
 
   of_in : (m n received available : ℕ) (cookie : Cookie)
       → Has (AckTo 0 received available cookie) (of_leg (is_leg m) (all.ins m).put)
-      → WasRaisedWith (ci n) cookie moves → IsOfIn n received available cookie m
+      → HasComeUp moves (ci n) cookie → IsOfIn n received available cookie m
   of_in m n received available cookie has raised =
       let ack : Acks 0 is_leg (all.ins m).put = record {
         number = m;
@@ -107,8 +107,7 @@ module _ (readers : List ℕ) (all : Passages) (joined : AreJoined readers all) 
       } in
       let is = honest.receives.acks ack in
       subst (λ (k : ℕ). IsOfClient k received available)
-      (honest.apart.outs cookie is.number n (honest.begins.outs is.number cookie is.begun)
-      (honest.begins.outs n cookie begun))
+      (honest.apart.outs cookie is.number n is.begun (honest.begins.outs n cookie begun))
       (record { came = is.came; small = is.window })
 
   began_out : (n : ℕ) (cookie : Cookie) → HasBegunOut cookie (of_leg (co n) (all.outs n).came)
@@ -194,7 +193,7 @@ module _ (readers : List ℕ) (all : Passages) (joined : AreJoined readers all) 
       (all_read_of (of_leg (co k) (all.outs k).put))
       → (n received available : ℕ) (cookie : Cookie)
       → named ≡ AckTo 0 received available cookie
-      → WasRaisedWith (ci n) cookie moves
+      → HasComeUp moves (ci n) cookie
       → IsFalse (pdu_bytes (of_leg (ci n) all.client.put)) received available → ⊥
   client_ack k named ahead n received available cookie is raised false_one =
       let put = from_out readers all joined window moves honest 0 received available cookie k
@@ -238,12 +237,10 @@ module _ (readers : List ℕ) (all : Passages) (joined : AreJoined readers all) 
         (out_front readers all joined k ack.number) ack.has in
         let put = client_put readers all joined window moves honest ack.number ack.received
         ack.available ack.cookie came in
-        let begun = began_out k ack.cookie acked.1 in
+        let raised = honest.begins.outs k ack.cookie (began_out k ack.cookie acked.1) in
         subst (λ (n : ℕ). n < client_end) acked.2
         (honest.receives.exceeded_ack k count pdu why row put.0 ack.received ack.available
-        ack.cookie put.1 begun (λ j other.
-        honest.apart.outs ack.cookie j k (honest.begins.outs j ack.cookie other)
-        (honest.begins.outs k ack.cookie begun)))
+        ack.cookie put.1 raised (λ j other. honest.apart.outs ack.cookie j k other raised))
 
     client_pdu : ⊥
     client_pdu = by (honest.outs k).sends

@@ -62,7 +62,7 @@ pub record AreJoined (readers : List ℕ) (all : Passages) : Type 0 where
 -- and each role sees to its part, the client behind these moves; the in proxies have one window
 pub record AreHonest (window : ℕ) (moves : List EndMove) (all : Passages) : Type 0 where
   pub sends : ClientSends moves all.client
-  pub receives : ClientReceives all.client
+  pub receives : ClientReceives moves all.client
   pub begins : ClientBegins moves all.client
   pub apart : AreApart moves
   pub server : ServerSees all.server
