@@ -199,7 +199,8 @@ module _ {K : Type 0} (roles : RoleLaws) (streams : StreamLaws)
           (cause.WindowExceeded (co n) reached edge) refl count who.Client refl nodes.client refl
           closes in
           client_window v.readers (then_all (co n) D may next.0)
-          (then_joined (co n) D may next.0) (ours.in_config 1).window (then_moves (co n) D may next.0)
+          (then_joined (co n) D may next.0) (ours.in_config 1).window
+          (then_moves (co n) D may next.0)
           (honest (co n) D may next.0) n next.1.message
           (next_fine (co n) D may next.0 n
           (of_leg (co n) (then_all (co n) D may next.0).client.came) next.1.message next.1.ahead)
@@ -336,7 +337,8 @@ module _ {K : Type 0} (roles : RoleLaws) (streams : StreamLaws)
           (refused.OutOfRange command value) (cause.OutOfRange l command value) refl count
           (who.Out k) here nodes.outs k refl node up there closes in
           out_range_none v.readers (then_all (co n) U may next.0)
-          (then_joined (co n) U may next.0) (ours.in_config 1).window (then_moves (co n) U may next.0)
+          (then_joined (co n) U may next.0) (ours.in_config 1).window
+          (then_moves (co n) U may next.0)
           (honest (co n) U may next.0) k next.1.message command value
           (subst (λ (j : ℕ). RefusesMessage out_proxy.rules
           ((then_all (co n) U may next.0).outs k).role (co j)

@@ -1,5 +1,5 @@
 -- the laws of the roles, as the hops of a client need them
-use Rattle.std.proofs.Common.{◌≡◌, ◌⊎◌, ℕ, ◌+◌, ◌≤◌, Bool, true, false, if◌then◌else◌, List, [], ◌∷◌, length, ◌<◌, Err, inl, inr, refl, sym, ◌∙◌, subst}
+use Rattle.std.proofs.Common.{◌≡◌, ◌⊎◌, ℕ, ◌+◌, Bool, true, false, if◌then◌else◌, List, [], ◌∷◌, length, ◌<◌, Err, inl, inr, refl, sym, ◌∙◌, subst}
 use Rattle.std.specs.List.{AllByRecursion}
 use Rattle.rh_rts.specs.declared.command.Cookie.{Cookie}
 use Rattle.rh_window.specs.declared.fault.WindowExceeded.{WindowExceeded}
@@ -369,14 +369,14 @@ module _ (moves : List EndMove) (p : Passage ClientRole) where
           → HasOne (TellsProxy edge) ms → edge < reached
       opened [] first later has = absurd has
       opened (Text bytes ∷ ms) first later has =
-          opened ms (λ v c h w is. first v c h w (inr is)) (λ v c q h w is. later v c q h w (inr is))
-          has
+          opened ms (λ v c h w is. first v c h w (inr is))
+          (λ v c q h w is. later v c q h w (inr is)) has
       opened (Pdu pdu ∷ ms) first later has =
-          opened ms (λ v c h w is. first v c h w (inr is)) (λ v c q h w is. later v c q h w (inr is))
-          has
+          opened ms (λ v c h w is. first v c h w (inr is))
+          (λ v c q h w is. later v c q h w (inr is)) has
       opened (Packet named ∷ ms) first later (inr has) =
-          opened ms (λ v c h w is. first v c h w (inr is)) (λ v c q h w is. later v c q h w (inr is))
-          has
+          opened ms (λ v c h w is. first v c h w (inr is))
+          (λ v c q h w is. later v c q h w (inr is)) has
       opened (Packet named ∷ ms) first later (inl is) =
           one named is (λ v c h w e. first v c h w (inl e)) (λ v c q h w e. later v c q h w (inl e))
         where

@@ -1,13 +1,8 @@
 -- the moment before the byte of a fed piece that closes a node, at which all is joined
 use Rattle.std.proofs.Common.{◌≡◌, ℕ, ◌+◌, List, [], ◌∷◌, ◌++◌, length, map, refl, sym, ap, ◌∙◌, subst}
-use Rattle.std.specs.Prelude.{Some, None}
-use Rattle.std.specs.declared.option.Option.{Option}
-use Rattle.std.proofs.lemmas.List.{append-nil}
+use Rattle.std.specs.Prelude.{Some}
 use mathlib.Core.List.{IsPrefix}
 use Rattle.rh_text.specs.declared.ends.Dir.{Dir}
-use Rattle.rh_text.specs.declared.ends.Side.{Side}
-use Rattle.rh_text.specs.declared.ends.Side.TheVariants as side
-use Rattle.rh_sig.specs.declared.name.Pipe.{Pipe}
 use Rattle.rh_line.specs.declared.cause.Cause.{Cause}
 use Rattle.rh_line.specs.declared.leg.Leg.{Leg}
 use Rattle.rh_order.proofs.Prefixes.{prefix_trans}
@@ -39,7 +34,7 @@ use Rattle.rh_server.specs.States.{Server}
 use Rattle.rh_causes.specs.Closings.{ClosesWith}
 use Rattle.rh_history.specs.Carried.{IsTraced, drawn_by, end_node, events_of, happened, heard_on}
 use Rattle.rh_history.specs.Changes.{Change, IsFed, MayChange, changed}
-use Rattle.rh_history.specs.Histories.{History, IsRun, in_place, noted, nothing, out_place, told_to}
+use Rattle.rh_history.specs.Histories.{History, IsRun, in_place, noted, nothing, out_place}
 use Rattle.rh_history.proofs.Appended.{drawn_append, end_drawn_append, happened_append}
 use Rattle.rh_history.proofs.Working.{works_more}
 use Rattle.rh_proxies_begin.specs.Pipes as pipes
@@ -47,7 +42,6 @@ use Rattle.rh_down.specs.Down as down
 use Rattle.rh_reading.specs.Reading.{all_read_of, messages_read}
 use Rattle.rh_traced.specs.Cookies.{ByChanges}
 use Rattle.rh_traced.specs.Ours.{AreOurs, deeds, rules}
-use Rattle.rh_ordered.specs.Premises.{history_at}
 use Rattle.rh_fifo.specs.Flows.{IsFlowing, numbers_of}
 use Rattle.rh_honest.specs.Honest.{read_on, well_on}
 use Rattle.rh_honest.proofs.Fed.{node_reads, reads_on, strict_on}

@@ -1,5 +1,5 @@
 -- what a row on a hop of a client refuses cannot come from the other end (MS-RPCH 3.2, 3.2.1)
-use Rattle.std.proofs.Common.{◌≡◌, ◌⊎◌, ℕ, ◌+◌, ◌≤◌, ◌<◌, List, [], ◌∷◌, ◌++◌, length, Err, arith, inl, inr, sym, ◌∙◌, subst}
+use Rattle.std.proofs.Common.{◌≡◌, ℕ, ◌+◌, ◌≤◌, ◌<◌, List, [], ◌∷◌, ◌++◌, length, Err, arith, inl, inr, sym, ◌∙◌, subst}
 use mathlib.Core.List.{IsPrefix}
 use Rattle.rh_text.specs.declared.ends.Dir.TheVariants.{U, D}
 use Rattle.rh_rts.specs.declared.command.Cookie.{Cookie}
@@ -20,7 +20,7 @@ use Rattle.rh_inproxy.specs.Machine as in_proxy
 use Rattle.rh_outproxy.specs.Machine as out_proxy
 use Rattle.rh_legible.specs.Legible.{IsFineMessage}
 use Rattle.rh_reading.specs.Reading.{all_read_of}
-use Rattle.rh_passages.specs.Passing.{pdu_bytes, Has, HasOne, BeginsIn, BeginsOut, HasBegunIn, HasBegunOut}
+use Rattle.rh_passages.specs.Passing.{pdu_bytes, Has, BeginsIn, BeginsOut, HasBegunIn, HasBegunOut}
 use Rattle.rh_passages.specs.Rising.{HasComeUp}
 use Rattle.rh_passages.proofs.Messages.{bytes_append, has_last}
 use Rattle.rh_hops.specs.Hops.{is_leg, os_leg}

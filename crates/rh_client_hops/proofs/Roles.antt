@@ -10,7 +10,7 @@ use Rattle.rh_line.specs.declared.leg.LegKind.TheVariants.{ClientIn, InServer, O
 use Rattle.rh_shell.specs.declared.answers.Count.{Count}
 use Rattle.rh_shell.specs.declared.answers.Refused.TheVariants as refused
 use Rattle.rh_shell.specs.Moves.{EndMove, OnLeg, Passage}
-use Rattle.rh_shell.specs.Rules.{Message, Rules}
+use Rattle.rh_shell.specs.Rules.{Message}
 use Rattle.rh_shell.specs.Wires.{of_leg}
 use Rattle.rh_client.specs.declared.state.ClientRole.{ClientRole}
 use Rattle.rh_client.specs.Client as client
@@ -96,8 +96,8 @@ pub record IsTrue (leg_of : ℕ → Leg) (Begun : ℕ → Type 0) (log : List On
 
 -- ---- the client
 
--- it sends on an IN channel as it was told, and refuses only false acknowledgements of one that came
--- up under their cookie
+-- it sends on an IN channel as it was told, and refuses only false acknowledgements of one that
+-- came up under their cookie
 pub record ClientSends (moves : List EndMove) (p : Passage ClientRole) : Type 0 where
   pub sends : (n : ℕ)
       → SendsWithin (IsToldIn (of_leg (ci n) p.put) p.came) (pdu_bytes (of_leg (ci n) p.put))
