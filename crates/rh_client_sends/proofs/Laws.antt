@@ -39,7 +39,8 @@ use Rattle.rh_client.specs.Time.{ping_by}
 use Rattle.rh_client.specs.Client.{pdu_by, on_packet, packet_by, acts}
 use Rattle.rh_client.specs.Client.{rules as client_rules}
 use Rattle.rh_client.specs.Order.{AreAllowedMoves, client_moved, client_started}
-use Rattle.rh_client_sends.specs.Sends.{HasComeUp, BeginsByCookie, RefusesFalseAcks, IsInRange, SendsAsTold}
+use Rattle.rh_client_sends.specs.Sends.{BeginsByCookie, RefusesFalseAcks, IsInRange, SendsAsTold}
+use Rattle.rh_passages.specs.Rising.{HasComeUp}
 use Rattle.rh_client_sends.proofs.Steps.{StepsKeep, end_moves_keep}
 use Rattle.rh_client_sends.proofs.Facts.{seen_in, IsKnownIn, Kept}
 use Rattle.rh_client_sends.proofs.Channels.{unknown, known_up, with_writing, with_successor, with_leaving, with_current, with_out_successor}

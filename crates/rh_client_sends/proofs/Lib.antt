@@ -1,4 +1,4 @@
-mod Steps
+pub mod Steps
 mod Logs
 mod Facts
 mod Channels

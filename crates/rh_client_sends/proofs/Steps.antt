@@ -11,7 +11,7 @@ use Rattle.rh_shell.specs.declared.end_role.GiveRefused.{GiveRefused}
 use Rattle.rh_shell.specs.Rules.{Rules, Acts, Row, Message, Pdu, Packet}
 use Rattle.rh_shell.specs.Moves.{Move, Up, HeadCame, PduCame, PacketCame, Puts, IsDrawn, Marks, Pings, Passage, MayMove, moved, taken_by, put_by, EndMove, Moves, Gives, Takes, Closes, Recycles, EndPassage, AreAllowedAtEnd, MayEndMove, end_moved, all_end_moved, end_now_at, given_by, with_first}
 use Rattle.rh_passages.proofs.Logs.{Fact, RowKeeps, PutKeeps}
-use Rattle.rh_client_sends.specs.Sends.{HasComeUp}
+use Rattle.rh_passages.specs.Rising.{HasComeUp}
 
 -- each step keeps the fact, where legs come up only with cookies of which something holds
 pub record StepsKeep {S : Type 0} (rules : Rules S) (acts : Acts S)

@@ -14,17 +14,12 @@ use Rattle.rh_shell.specs.Shells.{is_of}
 use Rattle.rh_shell.specs.Moves.{OnLeg, Up, Passage, EndMove, Moves}
 use Rattle.rh_shell.specs.Wires.{of_leg}
 use Rattle.rh_passages.specs.Passing.{pdu_bytes, HasOn, HasBegunIn, HasBegunOut}
+use Rattle.rh_passages.specs.Rising.{HasComeUp}
 use Rattle.rh_client.specs.declared.state.ClientRole.{ClientRole}
 use Rattle.rh_client.specs.State.{ci, co}
 use Rattle.rh_client.specs.Client.{rules}
 
 -- ---- cookies
-
--- at one of these moves the leg came up, with the cookie of its channel (profile)
-abbrev pub HasComeUp : List EndMove → Leg → Cookie → Type 0
-HasComeUp [] leg cookie = ⊥
-HasComeUp (move ∷ moves) leg cookie =
-    (move ≡ Moves (Up leg cookie)) ⊎ HasComeUp moves leg cookie
 
 -- a channel that begins on a leg has the cookie with which that came up (MS-RPCH 2.2.4)
 pub record BeginsByCookie (moves : List EndMove) (put : List OnLeg) : Type 0 where

@@ -1,4 +1,5 @@
-mod Legs
+pub mod Legs
 mod Windows
 mod Sent
 mod OutProxySends
+pub mod Opening
