@@ -37,7 +37,9 @@ use Rattle.rh_client.specs.Acknowledging.{pdu_on, pdu_channel, is_switched, is_s
 use Rattle.rh_client.specs.Ending.{on_end_b2, end_on, end_channel}
 use Rattle.rh_client.specs.Order.{down_items, down_mark, came_log, log_of}
 use Rattle.rh_client_counts.specs.Replacing.{OutIsAt, OutFollows, out_switched, out_finished}
-use Rattle.rh_client_rows.specs.Refusing.{packets, Tells, is_conn_a3, UnexpectedPduBy, UnexpectedOn}
+use Rattle.rh_client_rows.specs.Refusing.{is_conn_a3, UnexpectedPduBy, UnexpectedOn}
+use Rattle.rh_passages.specs.Counted.{Tells}
+use Rattle.rh_passages.specs.Counted.{packets}
 use Rattle.rh_client_rows.proofs.Channels.{IsNext}
 use Rattle.rh_client_rows.proofs.Rows.{IsRefused, refused_by, not_both, not_open, Stands, Facts}
 

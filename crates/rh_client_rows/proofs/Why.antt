@@ -31,7 +31,9 @@ use Rattle.rh_client_counts.proofs.InCounts.{replaces_ins}
 use Rattle.rh_client_counts.proofs.OutCounts.{replaces_outs}
 use Rattle.rh_client_counts.proofs.Wishes.{asks_where_wanted}
 use Rattle.rh_client_counts.proofs.Opens.{opens_once}
-use Rattle.rh_client_rows.specs.Refusing.{packets, Tells, UnexpectedPduBy, UnexpectedOn, UnexpectedBy, Refuses}
+use Rattle.rh_client_rows.specs.Refusing.{UnexpectedPduBy, UnexpectedOn, UnexpectedBy, Refuses}
+use Rattle.rh_passages.specs.Counted.{Tells}
+use Rattle.rh_passages.specs.Counted.{packets}
 use Rattle.rh_client_rows.proofs.Rows.{IsRefused, refused_by, Stands, stands_by, on_one, Facts, ack_refused, answer_refused, a2_refused, a6_refused, a10_refused}
 use Rattle.rh_client_rows.proofs.Ends.{end_refused, pdu_refused, a3_refused, c2_refused}
 use Rattle.rh_client_rows.proofs.Putting.{client_channels}

@@ -13,6 +13,7 @@ use Rattle.rh_shell.specs.declared.answers.Refused.TheVariants as refused
 use Rattle.rh_shell.specs.Moves.{Passage, is_in_use}
 use Rattle.rh_shell.specs.Rules.{Message}
 use Rattle.rh_shell.specs.Wires.{of_leg}
+use Rattle.rh_passages.specs.Counted.{Tells, packets}
 use Rattle.rh_passages.specs.Passing.{Has, count_of}
 use Rattle.rh_client.specs.declared.channels.TheConstants.{LAST_NUMBER}
 use Rattle.rh_client.specs.declared.state.ClientRole.{ClientRole}
@@ -22,19 +23,6 @@ use Rattle.rh_client_counts.specs.Opening.{opened}
 use Rattle.rh_client_counts.specs.Replacing.{in_asked, in_answered, out_wanted, out_asked, out_answered, out_switched, out_finished}
 
 -- ---- packets that came before
-
-abbrev pub is_any : Named → Bool
-is_any named = true
-
--- how many there are
-abbrev pub packets : List Message → ℕ
-packets messages = count_of is_any messages
-
--- what a row is told of that number, up to two (profile)
-abbrev pub Tells : Count → ℕ → Type 0
-Tells count.Zero n = n ≡ 0
-Tells count.One n = n ≡ 1
-Tells count.More n = 2 ≤ n
 
 -- MS-RPCH 2.2.4
 abbrev pub is_conn_a3 : Named → Bool
