@@ -1,1 +1,6 @@
 mod Told
+mod RowsKeep
+mod MovesKeep
+mod Refusals
+mod Cookies
+mod Law

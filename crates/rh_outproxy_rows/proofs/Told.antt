@@ -90,19 +90,19 @@ same_drawn s leg = search rules
 pub same_mark : (s : OutProxy) (leg : Leg) → Same s (mark s leg)
 same_mark s leg = search rules
 
-abbrev IsQuiet : OutProxy → Pick → Type 0
+abbrev pub IsQuiet : OutProxy → Pick → Type 0
 IsQuiet s pick = IfSome pick (λ (one : OutProxy × Message). Same s one.0)
 
-quiet_answer : (s : OutProxy) (a : Answer) → IsQuiet s (answer_by a s)
+pub quiet_answer : (s : OutProxy) (a : Answer) → IsQuiet s (answer_by a s)
 quiet_answer s a = search rules
 
-quiet_ping : (s : OutProxy) → IsQuiet s (put_ping s)
+pub quiet_ping : (s : OutProxy) → IsQuiet s (put_ping s)
 quiet_ping s = search rules
 
-quiet_first : (s : OutProxy) → IsQuiet s (put_first s)
+pub quiet_first : (s : OutProxy) → IsQuiet s (put_first s)
 quiet_first s = search rules
 
-quiet_ack : (s : OutProxy) (o : Option Cookie) (a : Option Ack) → IsQuiet s (ack_by s o a)
+pub quiet_ack : (s : OutProxy) (o : Option Cookie) (a : Option Ack) → IsQuiet s (ack_by s o a)
 quiet_ack s o a = search rules
 
 -- ---- what the channel tells
@@ -121,14 +121,14 @@ IsBegun (channels.New connection cookie) came = HasBegunOut cookie came
 IsBegun (channels.Joined connection cookie) came = HasBegunOut cookie came
 IsBegun (channels.Successor connection predecessor cookie) came = HasBegunOut cookie came
 
-begun_more : (c : Channel) (a b : List Message) → IsBegun c a → IsBegun c (a ++ b)
+pub begun_more : (c : Channel) (a b : List Message) → IsBegun c a → IsBegun c (a ++ b)
 begun_more channels.Unknown a b h = tt
 begun_more (channels.New connection cookie) a b h = one_more_so (BeginsOut cookie) a b h
 begun_more (channels.Joined connection cookie) a b h = one_more_so (BeginsOut cookie) a b h
 begun_more (channels.Successor connection predecessor cookie) a b h =
     one_more_so (BeginsOut cookie) a b h
 
-successor_more : (c : Channel) (all a1 a3 c1 more same other : ℕ) → is_successor c ≡ true
+pub successor_more : (c : Channel) (all a1 a3 c1 more same other : ℕ) → is_successor c ≡ true
     → Counts c all a1 a3 c1 → all ≤ more → same ≡ a1 → Counts c more same other c1
 successor_more (channels.Successor connection predecessor cookie) all a1 a3 c1 more same other e
     h rise is = (
@@ -137,12 +137,12 @@ successor_more (channels.Successor connection predecessor cookie) all a1 a3 c1 m
 )
 successor_more c all a1 a3 c1 more same other e h rise is = absurd cc
 
-is_zero : (number : Count) → is_first number ≡ true → number ≡ count.Zero
+pub is_zero : (number : Count) → is_first number ≡ true → number ≡ count.Zero
 is_zero count.Zero e = refl
 is_zero count.One e = absurd cc
 is_zero count.More e = absurd cc
 
-due_came : (m : Mark) → is_due m ≡ true → has_come m ≡ true
+pub due_came : (m : Mark) → is_due m ≡ true → has_come m ≡ true
 due_came marks.Came e = refl
 due_came m e = absurd cc
 
@@ -195,7 +195,7 @@ module _ (n : ℕ) where
       omega (arith, all, both, none)
 
   -- the client's leg stands still
-  still : (came : List OnLeg) (m : Message)
+  pub still : (came : List OnLeg) (m : Message)
       → of_leg co came ≡ of_leg co (came ++ (os, m) ∷ [])
   still came m = sym (other_more co came (os, m) refl)
 
@@ -210,7 +210,7 @@ module _ (n : ℕ) where
         subst (λ (ms : List Message). Counts x.channel (packets ms) (count_of is_conn_a1 ms)
         (count_of is_out_r1_a3 ms) k) (still came m) counts
 
-    one_more : (m : Message) → count_of is_conn_c1 (m ∷ []) ≡ 0 → Told n x (came ++ (os, m) ∷ [])
+    pub one_more : (m : Message) → count_of is_conn_c1 (m ∷ []) ≡ 0 → Told n x (came ++ (os, m) ∷ [])
     one_more m none = record {
       is = h.is;
       channel = counts_at m (count_of is_conn_c1 (of_leg os (came ++ (os, m) ∷ [])))
@@ -229,7 +229,7 @@ module _ (n : ℕ) where
     }
 
     -- other packets wait
-    waiting_holds : (w : Waiting) → is_some (joined x.channel) ≡ true
+    pub waiting_holds : (w : Waiting) → is_some (joined x.channel) ≡ true
         → Told n (record x { waiting = w }) came
     waiting_holds w known = record {
       is = h.is;

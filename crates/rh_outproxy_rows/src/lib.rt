@@ -1,3 +1,7 @@
-//! Why an out proxy refuses what comes. Its function does nothing: its contract is the law.
+//! Why an out proxy refuses what comes, by what came to it before. Its function does nothing: its
+//! contract is the law.
 #![tactic(auto)]
 
+pub mod refusing;
+
+pub use refusing::what_an_out_proxy_refuses;
