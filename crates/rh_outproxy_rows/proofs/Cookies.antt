@@ -1,5 +1,5 @@
 -- where an out proxy refuses a packet for its cookie, it is an acknowledgement for the proxy
-use Rattle.std.proofs.Common.{◌≡◌, ℕ, ◌==◌, Bool, if◌then◌else◌, List, Some, None, Ok, Err, refl, sym, ap, ◌∙◌, subst, rules}
+use Rattle.std.proofs.Common.{◌≡◌, ℕ, ◌≤◌, ◌==◌, Bool, if◌then◌else◌, List, Some, None, Ok, Err, refl, sym, ap, ◌∙◌, subst, rules}
 use Rattle.std.specs.declared.result.Result.{Result}
 use Rattle.rh_rts.specs.declared.command.Cookie.{Cookie}
 use Rattle.rh_sig.specs.declared.named.Named.{Named}
@@ -21,11 +21,13 @@ use Rattle.rh_outproxy.specs.Acknowledging.{out_proxy, on_ack, ack_by, acked, ac
 use Rattle.rh_outproxy.specs.Ending.{on_end_b1}
 use Rattle.rh_outproxy.specs.OutReplacement.{on_out_r1_a9}
 use Rattle.rh_outproxy.specs.Machine.{pdu, packet, on_co, on_os}
-use Rattle.rh_passages.specs.Passing.{HasBegunOut}
+use Rattle.rh_passages.specs.Passing.{count_of, HasBegunOut}
+use Rattle.rh_proxy_counts.specs.Kinds.{opens_client}
 use Rattle.rh_outproxy_rows.specs.Refusing.{from_client, MismatchFromServer, Mismatch}
 use Rattle.rh_outproxy_rows.proofs.Told.{seen, Told, IsBegun}
 use Rattle.rh_outproxy_rows.proofs.MovesKeep.{is_client, is_server}
 use Rattle.rh_outproxy_rows.proofs.Refusals.{same_number, other_cookie}
+use Rattle.rh_outproxy_rows.proofs.OneCookie.{one_begun}
 
 -- the row refuses nothing for its cookie
 abbrev IsNoCookie : Row → Type 0
@@ -73,14 +75,16 @@ module _ (expected got : Cookie) where
       → Says ⊥ (pdu s leg number bytes)
   pdu_never s leg number bytes = never (pdu s leg number bytes) (pdu_none s leg number bytes)
 
-  module _ (n : ℕ) (p : Passage OutProxy) (h : Told n (seen p.role) p.came) where
+  module _ (n : ℕ) (p : Passage OutProxy) (h : Told n (seen p.role) p.came)
+      (once : count_of opens_client (from_client n p) ≤ 1) where
     abbrev s : OutProxy
     s = p.role
 
     module _ (to received available : ℕ) (of : Cookie) where
       abbrev Mismatched : Type 0
       Mismatched =
-          (got ≡ of) × HasBegunOut expected (from_client n p) × (expected ≡ got → ⊥)
+          (got ≡ of) × HasBegunOut expected (from_client n p)
+          × (HasBegunOut got (from_client n p) → ⊥)
 
       acked_never : {Q : Type 0} (r : Result (Unit {0}) BadAck)
           → ack_row r ≡ Err (refused.Cookie expected got) → Q
@@ -97,7 +101,8 @@ module _ (expected got : Cookie) where
           let mine : cookie ≡ expected = ap (expected_in cookie) f in
           let other : of ≡ got = ap (got_in of) f in
           (sym other, subst (λ (c : Cookie). HasBegunOut c (from_client n p)) mine begun,
-          λ same. other_cookie cookie of e (mine ∙ same ∙ sym other)))
+          λ too. other_cookie cookie of e
+          (one_begun cookie got (from_client n p) once begun too ∙ sym other)))
 
       own_says : (c : Channel) → IsBegun c (from_client n p)
           → Says Mismatched (ack_by (joined c) s received available of)

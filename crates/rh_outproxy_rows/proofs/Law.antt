@@ -1,5 +1,5 @@
 -- an out proxy's request is the last that its moves asked for, and why it refuses what comes
-use Rattle.std.proofs.Common.{◌≡◌, ℕ, ◌&&◌, ◌||◌, Bool, true, false, if◌then◌else◌, List, [], ◌∷◌, Some, None, Ok, Err, refl, ap, ◌∙◌, subst, rules}
+use Rattle.std.proofs.Common.{◌≡◌, ℕ, ◌≤◌, ◌&&◌, ◌||◌, Bool, true, false, if◌then◌else◌, List, [], ◌∷◌, Some, None, Ok, Err, refl, ap, ◌∙◌, subst, rules}
 use Rattle.std.specs.Prelude.{IfSome}
 use Rattle.std.specs.declared.option.Option.{Option}
 use Rattle.rh_rts.specs.declared.command.Cookie.{Cookie}
@@ -13,6 +13,7 @@ use Rattle.rh_shell.specs.declared.answers.Refused.TheVariants as refused
 use Rattle.rh_shell.specs.declared.due.Due.{Due}
 use Rattle.rh_shell.specs.Rules.{Message, Pdu, Packet}
 use Rattle.rh_shell.specs.Moves.{Move, Up, HeadCame, PduCame, PacketCame, Puts, IsDrawn, Marks, Pings, Passage, started, moved, all_moved, taken_by, put_by}
+use Rattle.rh_shell.specs.Wires.{of_leg}
 use Rattle.rh_outproxy.specs.declared.state.Answer.{Answer}
 use Rattle.rh_outproxy.specs.declared.state.OutProxyConfig.{OutProxyConfig}
 use Rattle.rh_outproxy.specs.OutProxy.{OutProxy, joined, new_proxy}
@@ -24,7 +25,10 @@ use Rattle.rh_outproxy.specs.Putting.{Pick, or_else, answer_by, put_answer, wait
 use Rattle.rh_outproxy.specs.Putting.{put as put_of}
 use Rattle.rh_outproxy.specs.Machine.{pdu, packet, on_co, on_os}
 use Rattle.rh_outproxy.specs.Machine.{rules as proxy_rules}
+use Rattle.rh_passages.specs.Passing.{count_of}
 use Rattle.rh_proxy_counts.specs.Counted.{AreCounted}
+use Rattle.rh_proxy_counts.specs.Kinds.{opens_client}
+use Rattle.rh_proxy_counts.specs.OutCounts.{co_leg}
 use Rattle.rh_outproxy_rows.specs.Refusing.{asked_after, last_asked, UnexpectedPdu, RefusesFor}
 use Rattle.rh_outproxy_rows.proofs.Told.{seen, Told}
 use Rattle.rh_outproxy_rows.proofs.MovesKeep.{is_client, is_server, proxy_told}
@@ -154,15 +158,18 @@ pdu_on n p h leg number bytes is_up =
 
 pub refuses : (config : OutProxyConfig) (moves : List Move)
     → AreCounted proxy_rules (started (new_proxy config)) moves
+    → count_of opens_client (of_leg (co_leg config.number)
+    (all_moved proxy_rules (started (new_proxy config)) moves).came) ≤ 1
     → RefusesFor config.number moves (all_moved proxy_rules (started (new_proxy config)) moves)
-refuses config moves counted =
+refuses config moves counted once =
     let p = all_moved proxy_rules (started (new_proxy config)) moves in
     let n = config.number in
     let h : Told n (seen p.role) p.came = proxy_told config moves counted in
     let asks = moves_ask (started (new_proxy config)) moves in record {
       pdu = λ leg number bytes. pdu_on n p h leg number bytes;
       packet = λ leg number m. packet_says n p h moves asks leg number m;
-      cookie = λ leg number m expected got. cookies.packet_says expected got n p h leg number m;
+      cookie = λ leg number m expected got.
+          cookies.packet_says expected got n p h once leg number m;
       pdu_cookie = λ leg number bytes expected got.
           cookies.pdu_never expected got p.role leg number bytes;
     }

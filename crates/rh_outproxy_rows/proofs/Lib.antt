@@ -2,5 +2,6 @@ mod Told
 mod RowsKeep
 mod MovesKeep
 mod Refusals
+mod OneCookie
 mod Cookies
 mod Law

@@ -123,11 +123,12 @@ Unexpected n p moves leg packet = UnexpectedBy n p moves packet leg.kind
 
 -- ---- cookies
 
--- an acknowledgement for this proxy whose cookie isn't the one with which its client began
+-- an acknowledgement for this proxy; its client began with the expected cookie, and with no packet
+-- of the other
 abbrev pub MismatchFromServer : ℕ → Passage OutProxy → Cookie → Cookie → Named → Type 0
 MismatchFromServer n p expected got (AckTo to received available of) =
     (to ≡ out_proxy) × (got ≡ of) × HasBegunOut expected (from_client n p)
-    × (expected ≡ got → ⊥)
+    × (HasBegunOut got (from_client n p) → ⊥)
 MismatchFromServer n p expected got packet = ⊥
 
 abbrev pub MismatchBy : ℕ → Passage OutProxy → Cookie → Cookie → Named → LegKind → Type 0

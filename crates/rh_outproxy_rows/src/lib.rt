@@ -1,5 +1,5 @@
-//! Why an out proxy refuses what comes, by what came to it before. Its function does nothing: its
-//! contract is the law.
+//! Why an out proxy refuses what comes, by what came to it before. The contract of its function is
+//! the law.
 #![tactic(auto)]
 
 pub mod refusing;
