@@ -1,5 +1,5 @@
 -- where an out proxy refuses a packet for its cookie, it is an acknowledgement for the proxy
-use Rattle.std.proofs.Common.{◌≡◌, ℕ, ◌≤◌, ◌==◌, Bool, if◌then◌else◌, List, Some, None, Ok, Err, refl, sym, ap, ◌∙◌, subst, rules}
+use Rattle.std.proofs.Common.{◌≡◌, ℕ, ◌≤◌, ◌==◌, if◌then◌else◌, List, Some, Ok, Err, sym, ap, ◌∙◌, subst, rules}
 use Rattle.std.specs.declared.result.Result.{Result}
 use Rattle.rh_rts.specs.declared.command.Cookie.{Cookie}
 use Rattle.rh_sig.specs.declared.named.Named.{Named}
@@ -17,7 +17,7 @@ use Rattle.rh_outproxy.specs.declared.state.Channel.TheVariants as channels
 use Rattle.rh_outproxy.specs.OutProxy.{OutProxy, joined}
 use Rattle.rh_outproxy.specs.Rows.{Done, is_co, is_os, same_cookie, refuse, unexpected, passed_on}
 use Rattle.rh_outproxy.specs.Opening.{conn_c1_by}
-use Rattle.rh_outproxy.specs.Acknowledging.{out_proxy, on_ack, ack_by, acked, ack_row, on_ack_to, on_pdu}
+use Rattle.rh_outproxy.specs.Acknowledging.{out_proxy, on_ack, ack_by, acked, ack_row, on_ack_to}
 use Rattle.rh_outproxy.specs.Ending.{on_end_b1}
 use Rattle.rh_outproxy.specs.OutReplacement.{on_out_r1_a9}
 use Rattle.rh_outproxy.specs.Machine.{pdu, packet, on_co, on_os}
@@ -25,7 +25,7 @@ use Rattle.rh_passages.specs.Passing.{count_of, HasBegunOut}
 use Rattle.rh_proxy_counts.specs.Kinds.{opens_client}
 use Rattle.rh_outproxy_rows.specs.Refusing.{from_client, MismatchFromServer, Mismatch}
 use Rattle.rh_outproxy_rows.proofs.Told.{seen, Told, IsBegun}
-use Rattle.rh_outproxy_rows.proofs.MovesKeep.{is_client, is_server}
+use Rattle.rh_outproxy_rows.proofs.MovesKeep.{is_server}
 use Rattle.rh_outproxy_rows.proofs.Refusals.{same_number, other_cookie}
 use Rattle.rh_outproxy_rows.proofs.OneCookie.{one_begun}
 
@@ -99,10 +99,12 @@ module _ (expected got : Cookie) where
           (λ e. acked_never (ack_verdict s.window received available))
           (λ e f.
           let mine : cookie ≡ expected = ap (expected_in cookie) f in
-          let other : of ≡ got = ap (got_in of) f in
-          (sym other, subst (λ (c : Cookie). HasBegunOut c (from_client n p)) mine begun,
-          λ too. other_cookie cookie of e
-          (one_begun cookie got (from_client n p) once begun too ∙ sym other)))
+          let other : of ≡ got = ap (got_in of) f in (
+            sym other,
+            subst (λ (c : Cookie). HasBegunOut c (from_client n p)) mine begun,
+            λ too. other_cookie cookie of e
+                (one_begun cookie got (from_client n p) once begun too ∙ sym other),
+          ))
 
       own_says : (c : Channel) → IsBegun c (from_client n p)
           → Says Mismatched (ack_by (joined c) s received available of)

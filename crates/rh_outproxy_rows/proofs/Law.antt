@@ -1,5 +1,5 @@
 -- an out proxy's request is the last that its moves asked for, and why it refuses what comes
-use Rattle.std.proofs.Common.{◌≡◌, ℕ, ◌≤◌, ◌&&◌, ◌||◌, Bool, true, false, if◌then◌else◌, List, [], ◌∷◌, Some, None, Ok, Err, refl, ap, ◌∙◌, subst, rules}
+use Rattle.std.proofs.Common.{◌≡◌, ℕ, ◌≤◌, Bool, true, false, if◌then◌else◌, List, [], ◌∷◌, Some, None, Ok, Err, refl, ap, ◌∙◌, subst, rules}
 use Rattle.std.specs.Prelude.{IfSome}
 use Rattle.std.specs.declared.option.Option.{Option}
 use Rattle.rh_rts.specs.declared.command.Cookie.{Cookie}

@@ -1,5 +1,5 @@
 -- where one packet opens a channel, all begin with its cookie
-use Rattle.std.proofs.Common.{◌≡◌, ℕ, suc, ◌≤◌, Bool, true, false, if◌then◌else◌, List, [], ◌∷◌, inl, inr, refl, sym, ap, ◌∙◌, arith}
+use Rattle.std.proofs.Common.{◌≡◌, ℕ, suc, ◌≤◌, Bool, true, if◌then◌else◌, List, [], ◌∷◌, inl, inr, refl, sym, ap, ◌∙◌, arith}
 use Rattle.rh_rts.specs.declared.command.Cookie.{Cookie}
 use Rattle.rh_sig.specs.declared.named.Named.{Named}
 use Rattle.rh_sig.specs.declared.named.Named.TheVariants as named

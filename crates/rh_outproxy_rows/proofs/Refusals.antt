@@ -1,5 +1,5 @@
 -- why an out proxy's rows refuse, from what its state tells of what came to it
-use Rattle.std.proofs.Common.{◌≡◌, ◌⊎◌, ℕ, ◌+◌, ◌≤◌, ◌==◌, ◌&&◌, ◌||◌, Bool, true, false, true≢false, inl, inr, if◌then◌else◌, List, length, Some, None, Ok, Err, is_some, not, refl, sym, ap, ◌∙◌, subst, arith, rules}
+use Rattle.std.proofs.Common.{◌≡◌, ◌⊎◌, ℕ, ◌≤◌, ◌==◌, ◌&&◌, ◌||◌, Bool, true, false, true≢false, inl, inr, if◌then◌else◌, List, length, None, Ok, Err, is_some, not, refl, sym, ap, ◌∙◌, subst, arith}
 use Rattle.std.specs.declared.option.Option.{Option}
 use Rattle.std.specs.declared.result.Result.{Result}
 use Rattle.std.proofs.lemmas.Bool.Decides.{nat_tests}
@@ -14,15 +14,12 @@ use Rattle.rh_window.specs.Sending.{ack_verdict}
 use Rattle.rh_window.specs.Receiving as windows
 use Rattle.rh_line.specs.declared.leg.Leg.{Leg}
 use Rattle.rh_line.specs.declared.line_fault.LineFault.TheVariants as line_fault
-use Rattle.rh_line.specs.declared.which.Which.TheVariants.{Current}
 use Rattle.rh_line.specs.Lines as lines
 use Rattle.rh_order.proofs.ByNumber.{by_test}
 use Rattle.rh_shell.specs.declared.answers.Count.{Count}
 use Rattle.rh_shell.specs.declared.answers.Count.TheVariants as count
-use Rattle.rh_shell.specs.declared.answers.Refused.{Refused}
 use Rattle.rh_shell.specs.declared.answers.Refused.TheVariants as refused
-use Rattle.rh_shell.specs.Moves.{Move, Passage, started, all_moved}
-use Rattle.rh_shell.specs.Rules.{Row, Message}
+use Rattle.rh_shell.specs.Moves.{Move, Passage}
 use Rattle.rh_shell.specs.Waiting.{Waiting}
 use Rattle.rh_shell.specs.Waiting as waits
 use Rattle.rh_shell.specs.Wires.{of_leg}
@@ -32,13 +29,12 @@ use Rattle.rh_outproxy.specs.OutProxy.{OutProxy, joined, is_successor, has_come,
 use Rattle.rh_outproxy.specs.Rows.{Done, is_co, is_os, is_first, is_second, is_joined, is_carrying, takes_pdus, same_cookie, taken, unexpected, forwarded, forwarded_by, passed_on}
 use Rattle.rh_outproxy.specs.Opening.{was_up, told_length, new_length, successor_length, conn_c1_by}
 use Rattle.rh_outproxy.specs.Acknowledging.{out_proxy, on_ack, ack_by, acked, ack_row, on_ack_to, on_pdu, line_row, admitted}
-use Rattle.rh_outproxy.specs.Machine.{pdu, packet, on_co, on_os}
-use Rattle.rh_passages.specs.Passing.{count_of, HasBegunOut}
+use Rattle.rh_outproxy.specs.Machine.{packet, on_co, on_os}
+use Rattle.rh_passages.specs.Passing.{count_of}
 use Rattle.rh_proxy_counts.specs.Counted.{packets, Tells}
 use Rattle.rh_proxy_counts.specs.Kinds.{is_conn_a1, is_conn_c1, is_out_r1_a3}
-use Rattle.rh_proxy_counts.specs.OutCounts.{co_leg, os_leg}
-use Rattle.rh_outproxy_rows.specs.Refusing.{last_asked, IsNotAsked, from_client, from_server, IsUnjoined, CarriesNone, TakesNone, PassesNone, UnexpectedPdu, UnexpectedFromClient, UnexpectedFromServer, Unexpected, MismatchFromServer, Mismatch, RefusesFor}
-use Rattle.rh_outproxy_rows.proofs.Told.{seen, Told, Counts, IsBegun}
+use Rattle.rh_outproxy_rows.specs.Refusing.{last_asked, IsNotAsked, from_client, from_server, IsUnjoined, CarriesNone, TakesNone, PassesNone, UnexpectedFromClient, UnexpectedFromServer, Unexpected}
+use Rattle.rh_outproxy_rows.proofs.Told.{seen, Told, Counts}
 use Rattle.rh_outproxy_rows.proofs.MovesKeep.{is_client, is_server}
 
 -- ---- answers
@@ -152,10 +148,10 @@ module _ (n : ℕ) (p : Passage OutProxy) (h : Told n (seen p.role) p.came) wher
   c1_says version size timeout (channels.Successor connection predecessor cookie) k =
       λ f. inl k.1
 
-  acked_says : (received available : ℕ) (r : Result (Unit {0}) BadAck) {Q : Type 0}
+  acked_says : {Q : Type 0} (r : Result (Unit {0}) BadAck)
       → ack_row r ≡ Err refused.Unexpected → Q
-  acked_says received available (Ok taken) f = absurd cc
-  acked_says received available (Err bad) f = absurd cc
+  acked_says (Ok taken) f = absurd cc
+  acked_says (Err bad) f = absurd cc
 
   own_ack_says : (received available : ℕ) (of : Cookie) (c : Channel) → Known c
       → Says (IsUnjoined n p) (ack_by (joined c) s received available of)
@@ -164,11 +160,11 @@ module _ (n : ℕ) (p : Passage OutProxy) (h : Told n (seen p.role) p.came) wher
       λ f. unjoined (channels.New connection cookie) k refl
   own_ack_says received available of (channels.Joined connection cookie) k =
       by_test (Says (IsUnjoined n p)) (same_cookie cookie of) (acked s received available) _
-      (λ e. acked_says received available (ack_verdict s.window received available))
+      (λ e. acked_says (ack_verdict s.window received available))
       (λ e f. absurd cc)
   own_ack_says received available of (channels.Successor connection predecessor cookie) k =
       by_test (Says (IsUnjoined n p)) (same_cookie cookie of) (acked s received available) _
-      (λ e. acked_says received available (ack_verdict s.window received available))
+      (λ e. acked_says (ack_verdict s.window received available))
       (λ e f. absurd cc)
 
   ack_says : (to received available : ℕ) (of : Cookie)
@@ -177,10 +173,14 @@ module _ (n : ℕ) (p : Passage OutProxy) (h : Told n (seen p.role) p.came) wher
   ack_says to received available of =
       by_test (Says (UnexpectedFromServer n p (named.AckTo to received available of)))
       (to == out_proxy) (on_ack s received available of) _
-      (λ e f. inl (same_number to out_proxy e,
-      own_ack_says received available of s.channel h.channel f))
-      (λ e f. inr (other_number to out_proxy e,
-      passed_says to (named.AckTo 0 received available of) f))
+      (λ e f. inl (
+        same_number to out_proxy e,
+        own_ack_says received available of s.channel h.channel f,
+      ))
+      (λ e f. inr (
+        other_number to out_proxy e,
+        passed_says to (named.AckTo 0 received available of) f,
+      ))
 
   server_says : (m : Named) → Says (UnexpectedFromServer n p m) (on_os s m)
   server_says (named.ConnC1 version size timeout) =

@@ -1,42 +1,34 @@
 -- the rows of an out proxy keep what its state tells of what came
-use Rattle.std.proofs.Common.{◌≡◌, ◌⊎◌, ℕ, suc, ◌+◌, ◌≤◌, ◌==◌, ◌&&◌, Bool, true, false, true≢false, if◌then◌else◌, List, [], ◌∷◌, ◌++◌, Some, None, Ok, Err, is_some, refl, sym, ap, ◌∙◌, subst, arith, rules}
-use Rattle.std.specs.Prelude.{IfSome}
-use Rattle.std.specs.declared.option.Option.{Option}
+use Rattle.std.proofs.Common.{◌≡◌, ℕ, ◌==◌, ◌&&◌, Bool, true, false, List, [], ◌∷◌, ◌++◌, Ok, Err, is_some, refl, sym, ap, subst, arith}
 use Rattle.std.proofs.lemmas.Bool.{and_parts}
 use Rattle.rh_rts.specs.declared.command.Cookie.{Cookie}
 use Rattle.rh_sig.specs.declared.named.Named.{Named}
 use Rattle.rh_sig.specs.declared.named.Named.TheVariants as named
 use Rattle.rh_line.specs.declared.leg.Leg.{Leg}
-use Rattle.rh_line.specs.Lines.{Line, is_empty}
-use Rattle.rh_line.specs.Lines as lines
 use Rattle.rh_order.proofs.ByNumber.{by_test}
 use Rattle.rh_shell.specs.declared.answers.Count.{Count}
-use Rattle.rh_shell.specs.declared.answers.Count.TheVariants as count
-use Rattle.rh_shell.specs.declared.due.Due.{Due}
 use Rattle.rh_shell.specs.declared.waiting.TheConstants.{FORWARDED_ROOM}
-use Rattle.rh_shell.specs.Rules.{Message, Text, Pdu, Packet}
-use Rattle.rh_shell.specs.Shells.{one_if}
+use Rattle.rh_shell.specs.Rules.{Message, Pdu, Packet}
 use Rattle.rh_shell.specs.Waiting.{Waiting, empty, with_due}
 use Rattle.rh_shell.specs.Waiting as waits
-use Rattle.rh_shell.specs.Moves.{OnLeg, Move, Up, HeadCame, PduCame, PacketCame, Puts, IsDrawn, Marks, Pings, Passage, started, moved, all_moved, taken_by, put_by}
+use Rattle.rh_shell.specs.Moves.{OnLeg}
 use Rattle.rh_shell.specs.Wires.{of_leg}
 use Rattle.rh_outproxy.specs.declared.state.Channel.{Channel}
 use Rattle.rh_outproxy.specs.declared.state.Channel.TheVariants as channels
-use Rattle.rh_outproxy.specs.declared.state.OutProxyConfig.{OutProxyConfig}
-use Rattle.rh_outproxy.specs.OutProxy.{OutProxy, new_proxy, joined, is_successor, has_come, is_due, is_client_marked}
-use Rattle.rh_outproxy.specs.Rows.{Done, is_co, is_os, is_first, is_second, is_joined, is_carrying, takes_pdus, taken, unexpected, forwarded, forwarded_by, passed_on}
-use Rattle.rh_outproxy.specs.Opening.{up, head, told_length, new_length, successor_length, opened, on_out_r2_c1, conn_c1_by}
-use Rattle.rh_outproxy.specs.Acknowledging.{out_proxy, on_ack, on_ack_to, on_pdu, ack_due}
-use Rattle.rh_outproxy.specs.Ending.{drawn, mark, on_end_b1}
+use Rattle.rh_outproxy.specs.OutProxy.{OutProxy, joined, is_successor, is_client_marked}
+use Rattle.rh_outproxy.specs.Rows.{Done, is_first, is_second, is_joined, is_carrying, takes_pdus, taken, unexpected, forwarded, forwarded_by, passed_on}
+use Rattle.rh_outproxy.specs.Opening.{told_length, new_length, successor_length, opened, conn_c1_by}
+use Rattle.rh_outproxy.specs.Acknowledging.{out_proxy, on_ack, on_ack_to, on_pdu}
+use Rattle.rh_outproxy.specs.Ending.{on_end_b1}
 use Rattle.rh_outproxy.specs.OutReplacement.{on_out_r1_a9}
-use Rattle.rh_outproxy.specs.Machine.{pdu, packet, on_co, on_os}
+use Rattle.rh_outproxy.specs.Machine.{on_co, on_os}
 use Rattle.rh_passages.specs.Passing.{count_of, HasBegunOut, BeginsOut}
 use Rattle.rh_passages.proofs.Messages.{last_one_so}
 use Rattle.rh_proxy_counts.specs.Counted.{packets, is_any, Tells}
 use Rattle.rh_proxy_counts.specs.Kinds.{is_conn_a1, is_conn_c1, is_out_r1_a3, is_out_r1_a9, is_end_b1}
 use Rattle.rh_proxy_counts.specs.OutCounts.{co_leg, os_leg}
-use Rattle.rh_proxy_counts.proofs.Counts.{leg_is, here_more, other_more, leg_here, leg_rises}
-use Rattle.rh_outproxy_rows.proofs.Told.{Seen, seen, Same, Told, Counts, IsBegun, same_c1, same_ack, same_pdu, successor_more, begun_more, is_zero}
+use Rattle.rh_proxy_counts.proofs.Counts.{here_more, other_more, leg_here, leg_rises}
+use Rattle.rh_outproxy_rows.proofs.Told.{Seen, seen, Same, Told, Counts, IsBegun, same_ack, same_pdu, successor_more, begun_more, is_zero}
 use Rattle.rh_outproxy_rows.proofs.Told as told
 
 module _ (n : ℕ) where
@@ -92,13 +84,13 @@ module _ (n : ℕ) where
     joined_holds connection cookie version size timeout w e =
         let m : Message = Packet (named.ConnC1 version size timeout) in
         let counts : Counts (channels.New connection cookie) (packets (of_leg co came))
-            (count_of is_conn_a1 (of_leg co came)) (count_of is_out_r1_a3 (of_leg co came))
-            (count_of is_conn_c1 (of_leg os came))
-            = subst (λ (c : Channel). Counts c (packets (of_leg co came))
-            (count_of is_conn_a1 (of_leg co came)) (count_of is_out_r1_a3 (of_leg co came))
-            (count_of is_conn_c1 (of_leg os came))) e h.channel in
+        (count_of is_conn_a1 (of_leg co came)) (count_of is_out_r1_a3 (of_leg co came))
+        (count_of is_conn_c1 (of_leg os came))
+        = subst (λ (c : Channel). Counts c (packets (of_leg co came))
+        (count_of is_conn_a1 (of_leg co came)) (count_of is_out_r1_a3 (of_leg co came))
+        (count_of is_conn_c1 (of_leg os came))) e h.channel in
         let begun : HasBegunOut cookie (of_leg co came)
-            = subst (λ (c : Channel). IsBegun c (of_leg co came)) e h.begun in
+        = subst (λ (c : Channel). IsBegun c (of_leg co came)) e h.begun in
         let same = told.still n came m in
         let all = ap packets same in
         let a3 = ap (count_of is_out_r1_a3) same in
@@ -137,8 +129,10 @@ module _ (n : ℕ) where
       where
         m : Message
         m = Packet (named.ConnC1 version size timeout)
+
         c2 : Named
         c2 = named.ConnC2 version size timeout
+
         t : OutProxy
         t = record s { channel = channels.Joined connection cookie }
     c1_row version size timeout (channels.Joined connection cookie) e = h
@@ -265,6 +259,7 @@ module _ (n : ℕ) where
       where
         m : Named
         m = named.ConnA1 version connection cookie size
+
         first : packets (of_leg co came) ≡ 0
             → Holds (opened s (channels.New connection cookie) size) (came ++ (co, Packet m) ∷ [])
         first nothing =
@@ -272,9 +267,11 @@ module _ (n : ℕ) where
             let all = leg_here is_any co came m in
             let a3 = leg_here is_out_r1_a3 co came m in
             let before = none.2 in
-            opened_holds m (channels.New connection cookie) size
-            (omega (arith, all), omega (arith, a3, before),
-            subst (λ (ms : List Message). count_of is_conn_c1 ms ≡ 0) (beside (Packet m)) none.3)
+            opened_holds m (channels.New connection cookie) size (
+              omega (arith, all),
+              omega (arith, a3, before),
+              subst (λ (ms : List Message). count_of is_conn_c1 ms ≡ 0) (beside (Packet m)) none.3,
+            )
             (last_one_so (BeginsOut cookie) (of_leg co came) m refl) (λ f. h.idle none.0)
     co_row number (named.OutR1A3 version connection predecessor cookie size) tells =
         by_test (Row (co, Packet m) came)
@@ -285,6 +282,7 @@ module _ (n : ℕ) where
       where
         m : Named
         m = named.OutR1A3 version connection predecessor cookie size
+
         first : packets (of_leg co came) ≡ 0
             → Holds (opened s (channels.Successor connection predecessor cookie) size)
             (came ++ (co, Packet m) ∷ [])

@@ -1,24 +1,15 @@
 -- what an out proxy's state tells of what came to it
-use Rattle.std.proofs.Common.{◌≡◌, ◌⊎◌, ℕ, suc, ◌+◌, ◌≤◌, ◌==◌, ◌&&◌, Bool, true, false, true≢false, if◌then◌else◌, List, [], ◌∷◌, ◌++◌, Some, None, Ok, Err, is_some, refl, sym, ap, ◌∙◌, subst, arith, rules}
+use Rattle.std.proofs.Common.{◌≡◌, ℕ, ◌≤◌, Bool, true, false, true≢false, List, [], ◌∷◌, ◌++◌, Ok, Err, is_some, refl, sym, ap, ◌∙◌, subst, arith, rules}
 use Rattle.std.specs.Prelude.{IfSome}
 use Rattle.std.specs.declared.option.Option.{Option}
-use Rattle.std.proofs.lemmas.Bool.{and_parts}
 use Rattle.rh_rts.specs.declared.command.Cookie.{Cookie}
-use Rattle.rh_sig.specs.declared.named.Named.{Named}
-use Rattle.rh_sig.specs.declared.named.Named.TheVariants as named
 use Rattle.rh_window.specs.declared.recv_window.Ack.{Ack}
 use Rattle.rh_line.specs.declared.leg.Leg.{Leg}
-use Rattle.rh_line.specs.Lines.{Line, is_empty}
-use Rattle.rh_line.specs.Lines as lines
-use Rattle.rh_order.proofs.ByNumber.{by_test}
 use Rattle.rh_shell.specs.declared.answers.Count.{Count}
 use Rattle.rh_shell.specs.declared.answers.Count.TheVariants as count
-use Rattle.rh_shell.specs.declared.due.Due.{Due}
 use Rattle.rh_shell.specs.declared.waiting.TheConstants.{FORWARDED_ROOM}
-use Rattle.rh_shell.specs.Rules.{Message, Text, Pdu, Packet}
-use Rattle.rh_shell.specs.Shells.{one_if}
-use Rattle.rh_shell.specs.Waiting.{Waiting, empty, with_due}
-use Rattle.rh_shell.specs.Waiting as waits
+use Rattle.rh_shell.specs.Rules.{Message}
+use Rattle.rh_shell.specs.Waiting.{Waiting, empty}
 use Rattle.rh_shell.specs.Moves.{OnLeg}
 use Rattle.rh_shell.specs.Wires.{of_leg}
 use Rattle.rh_outproxy.specs.declared.state.Answer.{Answer}
@@ -27,20 +18,18 @@ use Rattle.rh_outproxy.specs.declared.state.Channel.TheVariants as channels
 use Rattle.rh_outproxy.specs.declared.state.Mark.{Mark}
 use Rattle.rh_outproxy.specs.declared.state.Mark.TheVariants as marks
 use Rattle.rh_outproxy.specs.declared.state.OutProxyConfig.{OutProxyConfig}
-use Rattle.rh_outproxy.specs.OutProxy.{OutProxy, joined, is_successor, has_come, is_due, is_client_marked}
-use Rattle.rh_outproxy.specs.Rows.{Done, is_first, is_second, is_joined, is_carrying, takes_pdus, taken, unexpected, forwarded, forwarded_by, passed_on}
-use Rattle.rh_outproxy.specs.Opening.{up, head, told_length, new_length, successor_length, opened, on_out_r2_c1, conn_c1_by, first_packet}
-use Rattle.rh_outproxy.specs.Acknowledging.{out_proxy, on_ack, on_ack_to, on_pdu, ack_due}
-use Rattle.rh_outproxy.specs.Ending.{drawn, mark, on_end_b1}
-use Rattle.rh_outproxy.specs.OutReplacement.{on_out_r1_a9}
-use Rattle.rh_outproxy.specs.Putting.{Pick, or_else, answer_by, put_answer, waiting_by, put_waiting, pdu_by, put_pdu, put_end, put_handover, put_mark, put_ping, next_co, first_by, put_first, ack_by, put_ack, next_os}
-use Rattle.rh_outproxy.specs.Machine.{pdu, packet, on_co, on_os}
+use Rattle.rh_outproxy.specs.OutProxy.{OutProxy, joined, is_successor, has_come, is_due}
+use Rattle.rh_outproxy.specs.Rows.{Done, is_first, taken}
+use Rattle.rh_outproxy.specs.Opening.{up, head}
+use Rattle.rh_outproxy.specs.Acknowledging.{on_ack, on_pdu}
+use Rattle.rh_outproxy.specs.Ending.{drawn, mark}
+use Rattle.rh_outproxy.specs.Putting.{Pick, answer_by, put_ping, put_first, ack_by}
 use Rattle.rh_passages.specs.Passing.{count_of, HasBegunOut, BeginsOut}
-use Rattle.rh_passages.proofs.Messages.{count_append, one_more_so, last_one_so}
-use Rattle.rh_proxy_counts.specs.Counted.{packets, Tells}
+use Rattle.rh_passages.proofs.Messages.{count_append, one_more_so}
+use Rattle.rh_proxy_counts.specs.Counted.{packets}
 use Rattle.rh_proxy_counts.specs.Kinds.{is_conn_a1, is_conn_c1, is_out_r1_a3, is_out_r1_a9, is_end_b1}
 use Rattle.rh_proxy_counts.specs.OutCounts.{co_leg, os_leg}
-use Rattle.rh_proxy_counts.proofs.Counts.{here_more, other_more, leg_here, leg_rises}
+use Rattle.rh_proxy_counts.proofs.Counts.{here_more, other_more, leg_rises}
 
 -- what the facts are about
 pub record Seen : Type 0 where
@@ -73,9 +62,6 @@ same_up s leg cookie = search rules
 
 pub same_head : (s : OutProxy) (leg : Leg) (text : List ℕ) → Same s (head s leg text).0
 same_head s leg text = search rules
-
-pub same_c1 : (s : OutProxy) (count : Count) → Same s (on_out_r2_c1 s count).0
-same_c1 s count = search rules
 
 pub same_ack : (s : OutProxy) (received available : ℕ) (cookie : Cookie)
     → Same s (on_ack s received available cookie).0
@@ -132,9 +118,9 @@ pub successor_more : (c : Channel) (all a1 a3 c1 more same other : ℕ) → is_s
     → Counts c all a1 a3 c1 → all ≤ more → same ≡ a1 → Counts c more same other c1
 successor_more (channels.Successor connection predecessor cookie) all a1 a3 c1 more same other e
     h rise is = (
-  (let at = h.0 in omega (arith, at, rise)),
-  is ∙ h.1,
-)
+      (let at = h.0 in omega (arith, at, rise)),
+      is ∙ h.1,
+    )
 successor_more c all a1 a3 c1 more same other e h rise is = absurd cc
 
 pub is_zero : (number : Count) → is_first number ≡ true → number ≡ count.Zero
@@ -151,7 +137,8 @@ due_came m e = absurd cc
 pub record Told (n : ℕ) (x : Seen) (came : List OnLeg) : Type 0 where
   pub is : x.config.number ≡ n
   pub channel : Counts x.channel (packets (of_leg (co_leg n) came))
-      (count_of is_conn_a1 (of_leg (co_leg n) came)) (count_of is_out_r1_a3 (of_leg (co_leg n) came))
+      (count_of is_conn_a1 (of_leg (co_leg n) came))
+      (count_of is_out_r1_a3 (of_leg (co_leg n) came))
       (count_of is_conn_c1 (of_leg (os_leg n) came))
   pub begun : IsBegun x.channel (of_leg (co_leg n) came)
   -- nothing waits before the opening came to its end
@@ -210,7 +197,8 @@ module _ (n : ℕ) where
         subst (λ (ms : List Message). Counts x.channel (packets ms) (count_of is_conn_a1 ms)
         (count_of is_out_r1_a3 ms) k) (still came m) counts
 
-    pub one_more : (m : Message) → count_of is_conn_c1 (m ∷ []) ≡ 0 → Told n x (came ++ (os, m) ∷ [])
+    pub one_more : (m : Message) → count_of is_conn_c1 (m ∷ []) ≡ 0
+        → Told n x (came ++ (os, m) ∷ [])
     one_more m none = record {
       is = h.is;
       channel = counts_at m (count_of is_conn_c1 (of_leg os (came ++ (os, m) ∷ [])))

@@ -1,5 +1,5 @@
-//! Why an out proxy refuses what comes. Its function only calls the law that
-//! it stands on: its contract is the law.
+//! Why an out proxy refuses what comes. The function only calls the law that it stands on: its
+//! contract is the law.
 
 ghost use Rattle.std.specs.Prelude.{List};
 ghost use Rattle.rh_shell.specs.Moves.{Move, all_moved, started};
