@@ -26,7 +26,7 @@ use Rattle.rh_outproxy.specs.Putting.{put as put_of}
 use Rattle.rh_outproxy.specs.Machine.{pdu, packet, on_co, on_os}
 use Rattle.rh_outproxy.specs.Machine.{rules as proxy_rules}
 use Rattle.rh_passages.specs.Passing.{count_of}
-use Rattle.rh_proxy_counts.specs.Counted.{AreCounted}
+use Rattle.rh_passages.specs.Counted.{AreCounted}
 use Rattle.rh_proxy_counts.specs.Kinds.{opens_client}
 use Rattle.rh_proxy_counts.specs.OutCounts.{co_leg}
 use Rattle.rh_outproxy_rows.specs.Refusing.{asked_after, last_asked, UnexpectedPdu, RefusesFor}

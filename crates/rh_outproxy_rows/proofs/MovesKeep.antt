@@ -23,7 +23,7 @@ use Rattle.rh_outproxy.specs.Putting.{Pick, or_else, put_answer, waiting_by, put
 use Rattle.rh_outproxy.specs.Putting.{put as put_of}
 use Rattle.rh_outproxy.specs.Machine.{pdu, packet, on_co, on_os}
 use Rattle.rh_outproxy.specs.Machine.{rules as proxy_rules}
-use Rattle.rh_proxy_counts.specs.Counted.{packets, Tells, IsCounted, AreCounted}
+use Rattle.rh_passages.specs.Counted.{packets, Tells, IsCounted, AreCounted}
 use Rattle.rh_proxy_counts.specs.OutCounts.{co_leg, os_leg}
 use Rattle.rh_proxy_counts.proofs.Counts.{leg_is}
 use Rattle.rh_outproxy_rows.proofs.Told.{Seen, seen, Same, Told, IsQuiet, quiet_answer, quiet_ping, quiet_first, quiet_ack, due_came, same_up, same_head, same_drawn, same_mark}

@@ -31,7 +31,7 @@ use Rattle.rh_outproxy.specs.Opening.{was_up, told_length, new_length, successor
 use Rattle.rh_outproxy.specs.Acknowledging.{out_proxy, on_ack, ack_by, acked, ack_row, on_ack_to, on_pdu, line_row, admitted}
 use Rattle.rh_outproxy.specs.Machine.{packet, on_co, on_os}
 use Rattle.rh_passages.specs.Passing.{count_of}
-use Rattle.rh_proxy_counts.specs.Counted.{packets, Tells}
+use Rattle.rh_passages.specs.Counted.{packets, Tells}
 use Rattle.rh_proxy_counts.specs.Kinds.{is_conn_a1, is_conn_c1, is_out_r1_a3}
 use Rattle.rh_outproxy_rows.specs.Refusing.{last_asked, IsNotAsked, from_client, from_server, IsUnjoined, CarriesNone, TakesNone, PassesNone, UnexpectedFromClient, UnexpectedFromServer, Unexpected}
 use Rattle.rh_outproxy_rows.proofs.Told.{seen, Told, Counts}

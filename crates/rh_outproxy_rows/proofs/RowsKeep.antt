@@ -24,7 +24,7 @@ use Rattle.rh_outproxy.specs.OutReplacement.{on_out_r1_a9}
 use Rattle.rh_outproxy.specs.Machine.{on_co, on_os}
 use Rattle.rh_passages.specs.Passing.{count_of, HasBegunOut, BeginsOut}
 use Rattle.rh_passages.proofs.Messages.{last_one_so}
-use Rattle.rh_proxy_counts.specs.Counted.{packets, is_any, Tells}
+use Rattle.rh_passages.specs.Counted.{packets, is_any, Tells}
 use Rattle.rh_proxy_counts.specs.Kinds.{is_conn_a1, is_conn_c1, is_out_r1_a3, is_out_r1_a9, is_end_b1}
 use Rattle.rh_proxy_counts.specs.OutCounts.{co_leg, os_leg}
 use Rattle.rh_proxy_counts.proofs.Counts.{here_more, other_more, leg_here, leg_rises}

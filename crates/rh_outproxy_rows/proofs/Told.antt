@@ -26,7 +26,7 @@ use Rattle.rh_outproxy.specs.Ending.{drawn, mark}
 use Rattle.rh_outproxy.specs.Putting.{Pick, answer_by, put_ping, put_first, ack_by}
 use Rattle.rh_passages.specs.Passing.{count_of, HasBegunOut, BeginsOut}
 use Rattle.rh_passages.proofs.Messages.{count_append, one_more_so}
-use Rattle.rh_proxy_counts.specs.Counted.{packets}
+use Rattle.rh_passages.specs.Counted.{packets}
 use Rattle.rh_proxy_counts.specs.Kinds.{is_conn_a1, is_conn_c1, is_out_r1_a3, is_out_r1_a9, is_end_b1}
 use Rattle.rh_proxy_counts.specs.OutCounts.{co_leg, os_leg}
 use Rattle.rh_proxy_counts.proofs.Counts.{here_more, other_more, leg_rises}

@@ -22,7 +22,7 @@ use Rattle.rh_outproxy.specs.Opening.{told_length, new_length, successor_length}
 use Rattle.rh_outproxy.specs.Acknowledging.{out_proxy}
 use Rattle.rh_outproxy.specs.Machine.{rules}
 use Rattle.rh_passages.specs.Passing.{count_of, HasBegunOut}
-use Rattle.rh_proxy_counts.specs.Counted.{packets, Tells}
+use Rattle.rh_passages.specs.Counted.{packets, Tells}
 use Rattle.rh_proxy_counts.specs.Kinds.{is_conn_a1, is_conn_c1, is_out_r1_a3, is_out_r1_a9, is_end_b1}
 use Rattle.rh_proxy_counts.specs.OutCounts.{co_leg, os_leg}
 

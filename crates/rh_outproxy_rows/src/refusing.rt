@@ -6,7 +6,7 @@ ghost use Rattle.rh_shell.specs.Moves.{Move, all_moved, started};
 ghost use Rattle.rh_outproxy.specs.declared.state.OutProxyConfig.{OutProxyConfig};
 ghost use Rattle.rh_outproxy.specs.Machine.{rules};
 ghost use Rattle.rh_outproxy.specs.OutProxy.{new_proxy};
-ghost use Rattle.rh_proxy_counts.specs.Counted.{AreCounted};
+ghost use Rattle.rh_passages.specs.Counted.{AreCounted};
 ghost use Rattle.rh_outproxy_rows.specs.Refusing.{RefusesFor};
 
 use rh_proxy_counts::an_out_proxy_is_opened_once;
