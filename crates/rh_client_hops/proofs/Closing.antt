@@ -57,7 +57,7 @@ use Rattle.rh_hops.specs.Refusing.{RefusesMessage}
 use Rattle.rh_hops.proofs.Moment.{Laws, NodeLaws, known}
 use Rattle.rh_hops.proofs.Stopping.{Readings}
 use Rattle.rh_client_hops.specs.Premises.{AreDistinct, HasOneWindow}
-use Rattle.rh_client_hops.proofs.Honest.{RoleLaws, StreamLaws, are_honest, distinct_behind}
+use Rattle.rh_client_hops.proofs.Honest.{RoleLaws, are_honest, distinct_behind}
 use Rattle.rh_client_hops.proofs.Joined.{AreAlone, Reads, put_is_fine}
 use Rattle.rh_client_hops.proofs.Moments.{client_next, flows, in_next, joined, out_next, passages, story, world}
 use Rattle.rh_client_hops.proofs.Refusing.{client_range, client_window, in_range, in_window, out_range, out_range_none, out_window}
@@ -85,8 +85,7 @@ in_number a b e = cc
 out_number : (a b : ℕ) → who.Out a ≡ who.Out b → a ≡ b
 out_number a b e = cc
 
-module _ {K : Type 0} (roles : RoleLaws) (streams : StreamLaws)
-    (nodes : NodesLaws) (reads : Reads) (readings : Readings)
+module _ {K : Type 0} (roles : RoleLaws) (nodes : NodesLaws) (reads : Reads) (readings : Readings)
     (m : Makers K InProxy OutProxy) (w : World K ClientRole Server InProxy OutProxy)
     (ours : AreOurs m w.company w.cast) (ranges : AreInRange (numbers_of ours))
     (one : HasOneWindow (numbers_of ours)) (law : Laws m w ours) (alone : AreAlone m w)
@@ -120,7 +119,7 @@ module _ {K : Type 0} (roles : RoleLaws) (streams : StreamLaws)
 
     honest : AreHonest (ours.in_config 1).window then_moves then_all
     honest =
-        are_honest roles streams reads m w ours ranges then_world then_story then_flows
+        are_honest roles reads m w ours ranges then_world then_story then_flows
         then_joined one apart
 
     -- a message that is the next of what an out proxy put for its client is fine
@@ -262,7 +261,7 @@ module _ {K : Type 0} (roles : RoleLaws) (streams : StreamLaws)
       up there closes in
       in_window v.readers (then_all (ci n) U may next.0) (then_joined (ci n) U may next.0)
       (ours.in_config 1).window (then_moves (ci n) U may next.0)
-          (honest (ci n) U may next.0) k n (in_number (reader_of v.readers n) k here)
+      (honest (ci n) U may next.0) k n (in_number (reader_of v.readers n) k here)
       next.1.message next.1.ahead (record { reached = reached; edge = edge }) next.1.refuses
 
   in_window_fed : (k n reached edge : ℕ)
@@ -282,7 +281,7 @@ module _ {K : Type 0} (roles : RoleLaws) (streams : StreamLaws)
       (who.In k) here nodes.ins k refl node up there closes in
       in_range v.readers (then_all (ci n) U may next.0) (then_joined (ci n) U may next.0)
       (ours.in_config 1).window (then_moves (ci n) U may next.0)
-          (honest (ci n) U may next.0) k n next.1.message command value next.1.refuses
+      (honest (ci n) U may next.0) k n next.1.message command value next.1.refuses
 
   in_range_fed : (k n command value : ℕ)
       → Fed (who.In k) (cause.OutOfRange (ci n) command value)
@@ -304,7 +303,7 @@ module _ {K : Type 0} (roles : RoleLaws) (streams : StreamLaws)
       node up there closes in
       out_window v.readers (then_all (co n) U may next.0) (then_joined (co n) U may next.0)
       (ours.in_config 1).window (then_moves (co n) U may next.0)
-          (honest (co n) U may next.0) k next.1.message
+      (honest (co n) U may next.0) k next.1.message
       (record { reached = reached; edge = edge })
       (subst (λ (j : ℕ). RefusesMessage out_proxy.rules
       ((then_all (co n) U may next.0).outs k).role (co j)

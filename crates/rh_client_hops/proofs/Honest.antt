@@ -50,13 +50,6 @@ use Rattle.rh_client_hops.proofs.Read.{front_count}
 use Rattle.rh_client_hops.proofs.Roles.{AreApart, ClientBegins, ClientReceives, ClientSends, InProxySees, OutProxySees, ServerSees}
 use Rattle.rh_client_hops.proofs.Routes.{AreHonest, AreJoined, Passages}
 
--- ---- a client's stream
-
-abbrev pub ClientStream : ClientConfig → List EndEvent → Type 0
-ClientStream config events =
-    EndStream client.rules client.acts (client_state.first config) client.rooms
-    down.client_reads events
-
 -- ---- the laws that this stands on, over every list of moves
 
 pub record RoleLaws : Type 0 where
@@ -84,17 +77,8 @@ pub record RoleLaws : Type 0 where
       → OutProxySees config.number
       (all_moved out_proxy.rules (started (new_proxy config)) moves)
 
--- a client's stream follows its events: legs came up by its moves with the cookies of the events,
--- and PDUs and packets came only on legs that came up before
-pub record StreamLaws : Type 0 where
-  pub raised : (config : ClientConfig) (events : List EndEvent) (f : ClientStream config events)
-      (leg : Leg) (cookie : Cookie) → HasComeUp f.leads.moves leg cookie
-      → CameUpWith (happened events) leg cookie
-  pub up_first : (config : ClientConfig) (events : List EndEvent)
-      (f : ClientStream config events) → AreUpFirst [] f.leads.moves
-
-module _ {K : Type 0} (law : RoleLaws) (streams : StreamLaws) (reads : Reads)
-    (m : Makers K InProxy OutProxy) (w : World K ClientRole Server InProxy OutProxy)
+module _ {K : Type 0} (law : RoleLaws) (reads : Reads) (m : Makers K InProxy OutProxy)
+    (w : World K ClientRole Server InProxy OutProxy)
     (ours : AreOurs m w.company w.cast) (ranges : AreInRange (numbers_of ours))
     (u : World K ClientRole Server InProxy OutProxy) (g : History)
     (flowing : IsFlowing (numbers_of ours) w u g)
@@ -128,74 +112,75 @@ module _ {K : Type 0} (law : RoleLaws) (streams : StreamLaws) (reads : Reads)
   -- ---- all of them
 
   module _ (one : HasOneWindow (numbers_of ours)) (distinct : AreDistinct (happened g.client))
-      where
-    -- the window of the in proxies
-    abbrev pub window : ℕ
-    window = (ours.in_config 1).window
+    where
+      -- the window of the in proxies
+      abbrev pub window : ℕ
+      window = (ours.in_config 1).window
 
-    abbrev moves : List EndMove
-    moves = flowing.flows.client.leads.moves
+      abbrev moves : List EndMove
+      moves = flowing.flows.client.leads.moves
 
-    client_sends : ClientSends moves passages.client
-    client_sends =
-        let f = flowing.flows.client in
-        subst (λ (p : EndPassage ClientRole). ClientSends moves p.passage) f.leads.reached
-        (law.sends ours.config f.leads.moves f.leads.allowed)
+      client_sends : ClientSends moves passages.client
+      client_sends =
+          let f = flowing.flows.client in
+          subst (λ (p : EndPassage ClientRole). ClientSends moves p.passage) f.leads.reached
+          (law.sends ours.config f.leads.moves f.leads.allowed)
 
-    client_receives : ClientReceives moves passages.client
-    client_receives =
-        let f = flowing.flows.client in
-        subst (λ (p : EndPassage ClientRole). ClientReceives moves p.passage) f.leads.reached
-        (law.receives ours.config f.leads.moves ranges.client.window f.leads.allowed
-        (streams.up_first ours.config g.client f))
+      client_receives : ClientReceives moves passages.client
+      client_receives =
+          let f = flowing.flows.client in
+          subst (λ (p : EndPassage ClientRole). ClientReceives moves p.passage) f.leads.reached
+          (law.receives ours.config f.leads.moves ranges.client.window f.leads.allowed
+          f.up_first)
 
-    client_begins : ClientBegins moves passages.client
-    client_begins =
-        let f = flowing.flows.client in
-        subst (λ (p : EndPassage ClientRole). ClientBegins moves p.passage) f.leads.reached
-        (law.begins ours.config f.leads.moves f.leads.allowed)
+      client_begins : ClientBegins moves passages.client
+      client_begins =
+          let f = flowing.flows.client in
+          subst (λ (p : EndPassage ClientRole). ClientBegins moves p.passage) f.leads.reached
+          (law.begins ours.config f.leads.moves f.leads.allowed)
 
-    came_up : (leg : Leg) (cookie : Cookie) → HasComeUp moves leg cookie
-        → CameUpWith (happened g.client) leg cookie
-    came_up = streams.raised ours.config g.client flowing.flows.client
+      came_up : (leg : Leg) (cookie : Cookie) → HasComeUp moves leg cookie
+          → CameUpWith (happened g.client) leg cookie
+      came_up = flowing.flows.client.raised
 
-    apart : AreApart moves
-    apart = record {
-      ins = λ cookie l n here there.
-          distinct ClientIn l n cookie (came_up (ci l) cookie here) (came_up (ci n) cookie there);
-      outs = λ cookie l n here there.
-          distinct ClientOut l n cookie (came_up (co l) cookie here) (came_up (co n) cookie there);
-    }
+      apart : AreApart moves
+      apart = record {
+        ins = λ cookie l n here there.
+            distinct ClientIn l n cookie (came_up (ci l) cookie here) (came_up (ci n) cookie there);
+        outs = λ cookie l n here there.
+            distinct ClientOut l n cookie (came_up (co l) cookie here)
+            (came_up (co n) cookie there);
+      }
 
-    server_sees : ServerSees passages.server
-    server_sees =
-        let f = flowing.flows.server in
-        subst (λ (p : EndPassage Server). ServerSees p.passage) f.leads.reached
-        (law.servers ours.window f.leads.moves f.leads.allowed)
+      server_sees : ServerSees passages.server
+      server_sees =
+          let f = flowing.flows.server in
+          subst (λ (p : EndPassage Server). ServerSees p.passage) f.leads.reached
+          (law.servers ours.window f.leads.moves f.leads.allowed)
 
-    in_sees : (n : ℕ) → InProxySees window n (passages.ins n)
-    in_sees n =
-        let f = flowing.flows.ins n in
-        subst (λ (p : Passage InProxy). InProxySees window n p) f.leads.reached
-        (subst (λ (k : ℕ). InProxySees window k
-        (all_moved in_proxy.rules (started (in_state.first (ours.in_config n))) f.leads.moves))
-        (ours.in_number n)
-        (subst (λ (k : ℕ). InProxySees k (ours.in_config n).number
-        (all_moved in_proxy.rules (started (in_state.first (ours.in_config n))) f.leads.moves))
-        (one n 1)
-        (law.ins (ours.in_config n) f.leads.moves
-        (subst IsWindow (one 1 n) (ranges.ins 0).window) f.leads.allowed)))
+      in_sees : (n : ℕ) → InProxySees window n (passages.ins n)
+      in_sees n =
+          let f = flowing.flows.ins n in
+          subst (λ (p : Passage InProxy). InProxySees window n p) f.leads.reached
+          (subst (λ (k : ℕ). InProxySees window k
+          (all_moved in_proxy.rules (started (in_state.first (ours.in_config n))) f.leads.moves))
+          (ours.in_number n)
+          (subst (λ (k : ℕ). InProxySees k (ours.in_config n).number
+          (all_moved in_proxy.rules (started (in_state.first (ours.in_config n))) f.leads.moves))
+          (one n 1)
+          (law.ins (ours.in_config n) f.leads.moves
+          (subst IsWindow (one 1 n) (ranges.ins 0).window) f.leads.allowed)))
 
-    pub are_honest : AreHonest window moves passages
-    are_honest = record {
-      sends = client_sends;
-      receives = client_receives;
-      begins = client_begins;
-      apart = apart;
-      server = server_sees;
-      ins = in_sees;
-      outs = out_sees;
-    }
+      pub are_honest : AreHonest window moves passages
+      are_honest = record {
+        sends = client_sends;
+        receives = client_receives;
+        begins = client_begins;
+        apart = apart;
+        server = server_sees;
+        ins = in_sees;
+        outs = out_sees;
+      }
 
 -- ---- a piece that is fed brings no leg up
 

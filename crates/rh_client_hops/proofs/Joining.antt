@@ -1,7 +1,9 @@
 -- the laws of the roles, as the hops of a client need them
-use Rattle.std.proofs.Common.{◌≡◌, ◌⊎◌, ℕ, ◌+◌, Bool, true, false, if◌then◌else◌, List, [], ◌∷◌, length, ◌<◌, Err, inl, inr, refl, sym, ◌∙◌, subst}
+use Rattle.std.proofs.Common.{◌≡◌, ◌≤◌, ◌⊎◌, ℕ, ◌+◌, Bool, true, false, if◌then◌else◌, List, [], ◌∷◌, length, ◌<◌, Err, inl, inr, refl, sym, ◌∙◌, subst, zero, suc, arith, ap}
 use Rattle.std.specs.List.{AllByRecursion}
 use Rattle.rh_rts.specs.declared.command.Cookie.{Cookie}
+use Rattle.rh_http.specs.declared.config.ClientConfig.{ClientConfig}
+use Rattle.rh_http.specs.Texts.{out_request}
 use Rattle.rh_window.specs.declared.fault.WindowExceeded.{WindowExceeded}
 use Rattle.rh_sig.specs.declared.named.Named.{Named}
 use Rattle.rh_sig.specs.declared.named.Named.TheVariants.{AckTo, ConnA1, ConnB2, ConnC1, ConnC2, InR1A2, InR1A3, InR1A4, OutR1A3}
@@ -15,17 +17,20 @@ use Rattle.rh_shell.specs.Shells.{same_leg}
 use Rattle.rh_shell.specs.Wires.{of_leg}
 use Rattle.rh_client.specs.declared.state.ClientRole.{ClientRole}
 use Rattle.rh_client.specs.Client as client
+use Rattle.rh_client.specs.Order.{client_moved}
 use Rattle.rh_client.specs.State.{ci, co}
 use Rattle.rh_inproxy.specs.Machine as in_proxy
 use Rattle.rh_inproxy.specs.State.{InProxy}
 use Rattle.rh_outproxy.specs.OutProxy.{OutProxy}
 use Rattle.rh_server.specs.States.{Server}
-use Rattle.rh_passages.specs.Passing.{pdu_bytes, Has, HasOn, HasOne, HasBegunIn, HasBegunOut}
+use Rattle.rh_passages.specs.Passing.{pdu_bytes, count_of, Has, HasOn, HasOne, HasBegunIn, HasBegunOut}
 use Rattle.rh_passages.specs.Rising.{HasComeUp}
 use Rattle.rh_passages.proofs.Messages.{one_so}
 use Rattle.rh_client_sends.specs.Sends as sends
 use Rattle.rh_client_receives.specs.Receiving as receives
+use Rattle.rh_client_puts.specs.Puts.{Begins, IsBegun, OpenedBefore, OpensOutChannels, OutRest, out_length, out_way}
 use Rattle.rh_out_sends.specs.Sending as out_sends
+use Rattle.rh_out_sends.specs.Sending.{opens}
 use Rattle.rh_acks.specs.Acks.{IsPassedOn, IsTrue, IsTrueOn, PassesOn}
 use Rattle.rh_acks.specs.Receiving.{EndsBehind, ReceivesOn, RefusesOnly}
 use Rattle.rh_acks.specs.Windows.{ByConnB2, ByConnC1, ByConnC2, ByInR1A2, ByInR1A3, ByInR1A4, Tells, TellsFrom, TellsOwn}
@@ -281,18 +286,51 @@ in_proxy_sees window m p receives truth passes connected replaced = record {
 
 -- ---- the client
 
-came_up : (moves : List EndMove) (leg : Leg) (cookie : Cookie)
-    → sends.HasComeUp moves leg cookie → HasComeUp moves leg cookie
-came_up [] leg cookie has = has
-came_up (move ∷ moves) leg cookie (inl is) = inl is
-came_up (move ∷ moves) leg cookie (inr has) = inr (came_up moves leg cookie has)
-
 pub client_begins : (moves : List EndMove) (p : Passage ClientRole)
     → sends.BeginsByCookie moves p.put → ClientBegins moves p
 client_begins moves p law = record {
-  ins = λ n cookie begun. came_up moves (ci n) cookie (law.ins n cookie begun);
-  outs = λ n cookie begun. came_up moves (co n) cookie (law.outs n cookie begun);
+  ins = law.ins;
+  outs = law.outs;
 }
+
+-- it puts at most one packet that opens an OUT channel on the leg of that
+
+rest_none : (n : ℕ) (rest : List Message) → OutRest n rest → count_of opens rest ≡ 0
+rest_none zero rest is = ap (count_of opens) is
+rest_none (suc n) rest (inl is) = ap (count_of opens) is
+rest_none (suc n) rest (inr is) = ap (count_of opens) is
+
+one_first : (m : Message) (rest : List Message) → count_of opens rest ≡ 0
+    → count_of opens (m ∷ rest) ≤ 1
+one_first (Text bytes) rest none = omega (arith, none)
+one_first (Pdu pdu) rest none = omega (arith, none)
+one_first (Packet named) rest none = by (opens named)
+  where
+    by : (t : Bool) → (if t then suc (count_of opens rest) else count_of opens rest) ≤ 1
+    by true = omega (arith, none)
+    by false = omega (arith, none)
+
+begun_once : (n : ℕ) (request : List ℕ) (Begin : Named → Type 0) (ms : List Message)
+    → IsBegun request Begin (OutRest n) ms → count_of opens ms ≤ 1
+begun_once n request Begin [] is = omega arith
+begun_once n request Begin (text ∷ []) is =
+    let none : count_of opens (text ∷ []) ≡ 0 =
+    ap (λ (m : Message). count_of opens (m ∷ [])) is in
+    omega (arith, none)
+begun_once n request Begin (text ∷ first ∷ rest) is =
+    let none : count_of opens (text ∷ first ∷ rest) ≡ count_of opens (first ∷ rest) =
+    ap (λ (m : Message). count_of opens (m ∷ first ∷ rest)) is.0 in
+    let more = one_first first rest (rest_none n rest is.2) in omega (arith, none, more)
+
+pub client_opens_once : (config : ClientConfig) (moves : List EndMove)
+    → OpensOutChannels config moves → (n : ℕ)
+    → count_of opens (of_leg (co n) (client_moved config moves).passage.put) ≤ 1
+client_opens_once config moves law zero =
+    let none = ap (count_of opens) (law zero) in omega (arith, none)
+client_opens_once config moves law (suc n) =
+    begun_once n (out_request config (out_length n))
+    (Begins (out_way config) (HasComeUp moves) (OpenedBefore config moves) n)
+    (of_leg (co (suc n)) (client_moved config moves).passage.put) (law (suc n))
 
 module _ (moves : List EndMove) (p : Passage ClientRole) where
   client_told : (n edge : ℕ) (named : Named)
@@ -342,7 +380,7 @@ module _ (moves : List EndMove) (p : Passage ClientRole) where
     is.1.0,
     subst (λ (k : ℕ). AckTo k received available cookie ≡ AckTo 0 received available cookie)
         (sym is.0) refl,
-    came_up moves (ci is.1.0) cookie is.1.1.is_of_it,
+    is.1.1.is_of_it,
     is.1.1.exceeds,
   )
   client_false named is = search

@@ -221,40 +221,40 @@ module _ (readers : List ℕ) (all : Passages) (joined : AreJoined readers all) 
       (ahead : IsPrefix (of_leg (co k) all.client.came ++ Pdu pdu ∷ [])
       (all_read_of (of_leg (co k) (all.outs k).put))) (count : Count) (why : WindowExceeded)
       (row : (client.rules.pdu all.client.role (co k) count pdu).1 ≡ Err (refused.Window why))
-      where
-    abbrev client_end : ℕ
-    client_end = pdu_bytes (of_leg (co k) all.client.came) + length pdu
+    where
+      abbrev client_end : ℕ
+      client_end = pdu_bytes (of_leg (co k) all.client.came) + length pdu
 
-    client_told : (edge : ℕ) → IsToldOut k (all.outs k).came edge → edge < client_end
-    client_told edge (inl opened) =
-        honest.receives.exceeded k count pdu why row edge
-        (front_one (TellsProxy edge) (of_leg (co k) (all.outs k).came)
-        (of_leg (co k) all.client.put) (joined.front (co k) U) opened)
-    client_told edge (inr acked) =
-        let ack = acked.0 in
-        let came = front_has (AckTo 3 ack.received ack.available ack.cookie)
-        (of_leg (os_leg ack.number) (all.outs k).came) (of_leg (os_leg ack.number) all.server.put)
-        (out_front readers all joined k ack.number) ack.has in
-        let put = client_put readers all joined window moves honest ack.number ack.received
-        ack.available ack.cookie came in
-        let raised = honest.begins.outs k ack.cookie (began_out k ack.cookie acked.1) in
-        subst (λ (n : ℕ). n < client_end) acked.2
-        (honest.receives.exceeded_ack k count pdu why row put.0 ack.received ack.available
-        ack.cookie put.1 raised (λ j other. honest.apart.outs ack.cookie j k other raised))
+      client_told : (edge : ℕ) → IsToldOut k (all.outs k).came edge → edge < client_end
+      client_told edge (inl opened) =
+          honest.receives.exceeded k count pdu why row edge
+          (front_one (TellsProxy edge) (of_leg (co k) (all.outs k).came)
+          (of_leg (co k) all.client.put) (joined.front (co k) U) opened)
+      client_told edge (inr acked) =
+          let ack = acked.0 in
+          let came = front_has (AckTo 3 ack.received ack.available ack.cookie)
+          (of_leg (os_leg ack.number) (all.outs k).came) (of_leg (os_leg ack.number) all.server.put)
+          (out_front readers all joined k ack.number) ack.has in
+          let put = client_put readers all joined window moves honest ack.number ack.received
+          ack.available ack.cookie came in
+          let raised = honest.begins.outs k ack.cookie (began_out k ack.cookie acked.1) in
+          subst (λ (n : ℕ). n < client_end) acked.2
+          (honest.receives.exceeded_ack k count pdu why row put.0 ack.received ack.available
+          ack.cookie put.1 raised (λ j other. honest.apart.outs ack.cookie j k other raised))
 
-    client_pdu : ⊥
-    client_pdu = by (honest.outs k).sends
-      where
-        put : client_end ≤ pdu_bytes (of_leg (co k) (all.outs k).put)
-        put = reached (of_leg (co k) all.client.came) (of_leg (co k) (all.outs k).put) pdu ahead
+      client_pdu : ⊥
+      client_pdu = by (honest.outs k).sends
+        where
+          put : client_end ≤ pdu_bytes (of_leg (co k) (all.outs k).put)
+          put = reached (of_leg (co k) all.client.came) (of_leg (co k) (all.outs k).put) pdu ahead
 
-        by : SendsWithin (IsToldOut k (all.outs k).came)
-            (pdu_bytes (of_leg (co k) (all.outs k).put)) → ⊥
-        by (inl none) =
-            let all_put = put in absurd (omega (arith, none, some, all_put))
-        by (inr so) =
-            let behind = client_told so.0 so.2 in let within = so.1 in
-            let all_put = put in absurd (omega (arith, behind, within, all_put))
+          by : SendsWithin (IsToldOut k (all.outs k).came)
+              (pdu_bytes (of_leg (co k) (all.outs k).put)) → ⊥
+          by (inl none) =
+              let all_put = put in absurd (omega (arith, none, some, all_put))
+          by (inr so) =
+              let behind = client_told so.0 so.2 in let within = so.1 in
+              let all_put = put in absurd (omega (arith, behind, within, all_put))
 
   pub client_window : (k : ℕ) (x : Message) → IsFineMessage x
       → IsPrefix (of_leg (co k) all.client.came ++ x ∷ [])
