@@ -10,7 +10,7 @@ use Rattle.rh_line.specs.declared.leg.Leg.{Leg}
 use Rattle.rh_line.specs.declared.leg.LegKind.TheVariants.{ClientIn, ClientOut}
 use Rattle.rh_record.specs.declared.answer.Who.TheVariants as who
 use Rattle.rh_shell.specs.Moves.{AreAllowed, AreAllowedAtEnd, EndMove, EndPassage, Move, Passage, all_end_moved, all_moved, end_started, started}
-use Rattle.rh_shell.specs.Moving.{EndEvent, Event, Hears, after_end_events}
+use Rattle.rh_shell.specs.Moving.{Event, Hears, after_end_events}
 use Rattle.rh_shell.specs.Shells.{Shell}
 use Rattle.rh_shell.specs.Wires.{of_leg}
 use Rattle.rh_nodes.specs.Opening.{Makers}
@@ -19,9 +19,7 @@ use Rattle.rh_nodes.specs.Wires.{receiver}
 use Rattle.rh_nodes.specs.Halves.{is_same}
 use Rattle.rh_nodes.specs.Legs as legs
 use Rattle.rh_client.specs.declared.state.ClientRole.{ClientRole}
-use Rattle.rh_client.specs.Client as client
 use Rattle.rh_client.specs.Order.{AreAllowedMoves, client_moved}
-use Rattle.rh_client.specs.State as client_state
 use Rattle.rh_client.specs.State.{ci, co}
 use Rattle.rh_inproxy.specs.declared.state.InProxyConfig.{InProxyConfig}
 use Rattle.rh_inproxy.specs.Machine as in_proxy
@@ -36,8 +34,6 @@ use Rattle.rh_history.specs.Carried.{happened}
 use Rattle.rh_history.specs.Changes.{IsFed}
 use Rattle.rh_history.specs.Histories.{History, noted, told_to}
 use Rattle.rh_history.proofs.Appended.{happened_more}
-use Rattle.rh_streams.specs.Streams.{EndStream}
-use Rattle.rh_down.specs.Down as down
 use Rattle.rh_passages.specs.Passing.{count_of}
 use Rattle.rh_passages.specs.Rising.{AreUpFirst, CameUpWith, HasComeUp}
 use Rattle.rh_out_sends.specs.Sending.{opens}
