@@ -1,7 +1,9 @@
 mod Ways
+mod Counts
 mod Staging
 mod Bytes
 pub mod Heads
+mod Frames
 mod Hears
 mod Pieces
 mod Draws
@@ -14,6 +16,7 @@ mod Going
 mod Pings
 mod Events
 mod Runs
+mod Rising
 mod Nodes
 mod EndMoves
 mod AtEnds

@@ -5,6 +5,7 @@ use Rattle.std.specs.declared.option.Option.{Option}
 use Rattle.std.proofs.lemmas.List.{append-nil}
 use mathlib.Core.List.{IsPrefix}
 use Rattle.rh_http.specs.declared.fault.HttpFault.{HttpFault}
+use Rattle.rh_rts.specs.declared.command.Cookie.{Cookie}
 use Rattle.rh_sig.specs.declared.name.Pipe.{Pipe}
 use Rattle.rh_line.specs.declared.leg.Leg.{Leg}
 use Rattle.rh_shell.specs.declared.answers.HeadRefused.TheVariants as head
@@ -23,6 +24,8 @@ use Rattle.rh_history.proofs.Appended.{accepted_append, came_append, drawn_appen
 use Rattle.rh_streams.specs.Streams.{HasPipes, HearsInTurn, IsDrawn, RefusalDrawn, StaysUnused, Stream, is_head_on, is_refused_on, is_up_on}
 use Rattle.rh_streams.specs.Turns.{Stages, AreInTurn, IsInTurn, RefusesInTurn, none_up, stages_after}
 use Rattle.rh_streams.proofs.Staging.{all_stages, all_stages_append, in_turn_append}
+use Rattle.rh_passages.specs.Counted.{AreCounted, IsCounted}
+use Rattle.rh_streams.proofs.Counts.{counted_append}
 use Rattle.rh_streams.proofs.Kept.{FrontOf}
 use Rattle.rh_streams.proofs.Going.{kept_seated}
 use Rattle.rh_streams.proofs.Runs.{IsFit, Ran, ran_as, ran_event, ran_none}
@@ -36,17 +39,22 @@ module _ {S : Type 0} (rules : Rules S) (first : S) (rooms : Rooms) (pipe : Leg 
     pub reached : all_moved rules (started first) ms ≡ p
     pub in_turn : AreInTurn rules first ms
     pub stages : all_stages rules (started first) none_up ms ≡ g
+    pub counted : AreCounted rules (started first) ms
 
   abbrev Sound : Leg → Type 0
   Sound leg = RefusesInTurn rules first pipe leg
+
+  -- nothing is asked of the cookie with which a leg comes up
+  abbrev anyhow : Leg → Cookie → Type 0
+  anyhow leg cookie = Unit {0}
 
   abbrev start : Shell S
   start = begun first rooms
 
   more : (p : Passage S) (ms : List Move) (g : Stages) (move : Move) → IsReached p ms g
-      → MayMove rules p.role move → IsInTurn rules p.role g move
+      → MayMove rules p.role move → IsInTurn rules p.role g move → IsCounted p move
       → IsReached (moved rules p move) (ms ++ move ∷ []) (stages_after rules p.role g move)
-  more p ms g move at may turn = record {
+  more p ms g move at may turn count = record {
     allowed =
         all_allowed_append rules (started first) ms (move ∷ []) at.allowed
         (subst (λ (x : Passage S). MayMove rules x.role move) (sym at.reached) may, tt);
@@ -65,6 +73,9 @@ module _ {S : Type 0} (rules : Rules S) (first : S) (rooms : Rooms) (pipe : Leg 
         ∙ ap (λ (x : Passage S). stages_after rules x.role
         (all_stages rules (started first) none_up ms) move) at.reached
         ∙ ap (λ (f : Stages). stages_after rules p.role f move) at.stages;
+    counted =
+        counted_append rules (started first) ms (move ∷ []) at.counted
+        (subst (λ (x : Passage S). IsCounted x move) (sym at.reached) count, tt);
   }
 
   stays : (p : Passage S) (ms : List Move) (g : Stages) (move : Move) (leg : Leg)
@@ -109,15 +120,15 @@ module _ {S : Type 0} (rules : Rules S) (first : S) (rooms : Rooms) (pipe : Leg 
   -- what is kept behind these events
   abbrev RanTo : Shell S → List Event → Type 0
   RanTo s events =
-      Ran rules pipe Sound (Unit {0}) ⊥ IsReached s (λ leg. heard_on leg events)
+      Ran rules pipe Sound (Unit {0}) anyhow IsReached s (λ leg. heard_on leg events)
       (λ leg. drawn_on rules start leg events) (λ leg. came_up leg events)
 
   ran_one : (events : List Event) (s : Shell S) (event : Event)
       → after_events rules start events ≡ s → RanTo s events
-      → IsFit rules ⊥ s (λ leg. came_up leg events) event
+      → IsFit rules anyhow s (λ leg. came_up leg events) event
       → RanTo (after_event rules s event) (events ++ event ∷ [])
   ran_one events s event is ran fit =
-      ran_as rules pipe Sound (Unit {0}) ⊥ IsReached (after_event rules s event)
+      ran_as rules pipe Sound (Unit {0}) anyhow IsReached (after_event rules s event)
       (λ leg. heard_on leg events ++ heard_in leg event)
       (λ leg. drawn_on rules start leg events ++ drawn_in rules s leg event)
       (λ leg. heard_on leg (events ++ event ∷ []))
@@ -135,8 +146,8 @@ module _ {S : Type 0} (rules : Rules S) (first : S) (rooms : Rooms) (pipe : Leg 
       (λ leg.
       ap (λ b. came_up leg events || b) (sym (or_false (is_up_of leg event)))
       ∙ sym (came_append leg events (event ∷ [])))
-      (ran_event rules pipe Sound (Unit {0}) ⊥ IsReached asked unreached more stays piped s event
-      (λ leg. heard_on leg events) (λ leg. drawn_on rules start leg events)
+      (ran_event rules pipe Sound (Unit {0}) anyhow IsReached asked unreached more stays piped s
+      event (λ leg. heard_on leg events) (λ leg. drawn_on rules start leg events)
       (λ leg. came_up leg events) ran fit)
 
   run : (events later : List Event) (s : Shell S) → after_events rules start events ≡ s
@@ -147,14 +158,14 @@ module _ {S : Type 0} (rules : Rules S) (first : S) (rooms : Rooms) (pipe : Leg 
   run events (event ∷ later) s is before ran accepted turn =
       let next = after_event rules s event in
       let all = append_assoc events (event ∷ []) later in
-      let fit : IsFit rules ⊥ s (λ leg. came_up leg events) event = record {
+      let fit : IsFit rules anyhow s (λ leg. came_up leg events) event = record {
         accepted = accepted.0;
         once = λ leg rose.
             subst (λ (x : Shell S). may_up rules x leg ≡ false) is
             (once.once events leg before rose);
         turn = λ leg piece e.
             turn events later leg piece (ap (λ x. events ++ x ∷ later) e);
-        cookie = λ none. absurd none;
+        raises = λ leg cookie e. tt;
       } in
       subst (RanTo (after_events rules next later)) all
       (run (events ++ event ∷ []) later next
@@ -196,6 +207,7 @@ module _ {S : Type 0} (rules : Rules S) (first : S) (rooms : Rooms) (pipe : Leg 
     passage = ran.passage;
     leads = record { moves = ran.moves; allowed = ran.at.allowed; reached = ran.at.reached };
     in_turn = ran.at.in_turn;
+    counted = ran.at.counted;
     role = ran.role;
     ups = ran.ups;
     read = λ leg. (ran.kept leg).front;
@@ -218,5 +230,11 @@ module _ {S : Type 0} (rules : Rules S) (first : S) (rooms : Rooms) (pipe : Leg 
       ran : RanTo (after_events rules start events) events
       ran =
           run [] events start refl tt
-          (ran_none rules pipe Sound (Unit {0}) ⊥ IsReached first rooms
-          (record { allowed = tt; reached = refl; in_turn = tt; stages = refl })) accepted turn
+          (ran_none rules pipe Sound (Unit {0}) anyhow IsReached first rooms
+          (record {
+            allowed = tt;
+            reached = refl;
+            in_turn = tt;
+            stages = refl;
+            counted = tt;
+          })) accepted turn

@@ -1,0 +1,10 @@
+mod Read
+mod Roles
+mod Routes
+mod Refusing
+mod Joined
+mod Honest
+mod Stops
+mod Moments
+mod Closing
+mod Joining
