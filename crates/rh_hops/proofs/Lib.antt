@@ -9,13 +9,13 @@ mod InProxySends
 mod OutProxyReceives
 mod Numbered
 mod ServerSends
-mod NextRefused
-mod OneByte
+pub mod NextRefused
+pub mod OneByte
 mod Hop
-mod Pieces
-mod Stopping
-mod Fed
-mod Moment
+pub mod Pieces
+pub mod Stopping
+pub mod Fed
+pub mod Moment
 mod Servers
 mod Nodes
 mod HopsKept

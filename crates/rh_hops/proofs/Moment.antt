@@ -85,7 +85,7 @@ closes_at rules law s leg piece why closes =
 
 -- ---- histories
 
-noted_append : {K C S I O : Type 0} (r : Rulebook C S I O) (m : Makers K I O) (d : Deeds C S)
+pub noted_append : {K C S I O : Type 0} (r : Rulebook C S I O) (m : Makers K I O) (d : Deeds C S)
     (w : World K C S I O) (h : History) (changes : List Change) (change : Change)
     → all_noted r m d w h (changes ++ change ∷ [])
     ≡ noted (all_changed r m d w changes) (all_noted r m d w h changes) change

@@ -1,0 +1,9 @@
+mod Read
+mod Roles
+mod Routes
+mod Refusing
+mod Joined
+mod Stops
+mod Moments
+mod Honest
+mod Closing
