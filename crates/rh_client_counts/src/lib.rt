@@ -1,0 +1,10 @@
+//! How many packets of replacements came to a client, and how many it put. These functions do
+//! nothing: their contracts are the laws.
+#![tactic(auto)]
+
+pub mod replacing;
+
+pub use replacing::{
+    a_client_asks_where_a_successor_is_wanted, a_client_replaces_in_channels_one_by_one,
+    a_client_replaces_out_channels_one_by_one,
+};
