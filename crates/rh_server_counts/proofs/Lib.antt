@@ -1,0 +1,9 @@
+mod Logs
+mod Dues
+mod Adding
+mod Stages
+mod Replacing
+mod InLegs
+mod Openings
+mod Announcing
+mod Announced
