@@ -1,6 +1,6 @@
 mod Read
 mod Roles
-mod Routes
+pub mod Routes
 mod Refusing
 mod Joined
 mod Stops

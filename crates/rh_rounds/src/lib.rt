@@ -1,0 +1,2 @@
+//! Replacements, along the way that their packets go.
+#![tactic(auto)]
