@@ -1,79 +1,51 @@
 -- the IN channels that an in proxy reads, and what came on their legs
-use Rattle.std.proofs.Common.{◌≡◌, ℕ, ◌+◌, ◌-◌, ◌≤◌, Bool, true, false, true≢false, ◌&&◌, List, [], ◌∷◌, ◌++◌, length, Some, None, Ok, Err, inl, inr, arith, refl, rules, sym, ap, ◌∙◌, subst}
+use Rattle.std.proofs.Common.{◌≡◌, ℕ, ◌+◌, ◌-◌, ◌≤◌, Bool, true, false, true≢false, ◌&&◌, List, [], ◌∷◌, ◌++◌, length, Some, None, Ok, Err, arith, refl, rules, sym, ap, ◌∙◌, subst}
+use Rattle.std.proofs.lemmas.Bool.{and_parts}
 use Rattle.std.proofs.lemmas.Bool.Decides.{nat_tests}
 use Rattle.std.specs.Prelude.{if◌then◌else◌, IfSome, is_ok, nat_le}
-use Rattle.std.specs.List.{AllByRecursion}
 use Rattle.std.specs.declared.option.Option.{Option}
 use Rattle.std.specs.declared.result.Result.{Result}
 use Rattle.rh_rts.specs.declared.command.Cookie.{Cookie}
-use Rattle.rh_sig.specs.declared.named.Named.{Named}
-use Rattle.rh_sig.specs.declared.named.Named.TheVariants.{AckTo}
 use Rattle.rh_window.specs.Sides.{IsWindow}
 use Rattle.rh_window.specs.Receiving as windows
-use Rattle.rh_window.specs.declared.recv_window.Ack as told
+use Rattle.rh_window.specs.declared.recv_window.Ack.{Ack}
 use Rattle.rh_window.specs.declared.fault.WindowExceeded.{WindowExceeded}
 use Rattle.rh_line.specs.Lines as line
 use Rattle.rh_line.specs.Lines.{Line, Incoming}
 use Rattle.rh_line.specs.Queue.{total}
-use Rattle.rh_line.specs.declared.leg.Leg.{Leg}
-use Rattle.rh_line.specs.declared.leg.LegKind.TheVariants.{ClientIn}
+use Rattle.rh_line.specs.declared.line_fault.LineFault.{LineFault}
 use Rattle.rh_line.specs.declared.line_fault.LineFault.TheVariants.{Over}
-use Rattle.rh_line.proofs.Queues.{total_push}
+use Rattle.rh_line.proofs.Queues.{each_push, total_push}
 use Rattle.rh_order.proofs.ByNumber.{by_test}
 use Rattle.rh_shell.specs.declared.due.Due.{Due}
-use Rattle.rh_shell.specs.Rules.{Message, Text, Pdu, Packet}
-use Rattle.rh_shell.specs.Shells.{same_leg}
+use Rattle.rh_shell.specs.Rules.{Message}
 use Rattle.rh_shell.specs.Moves.{OnLeg}
 use Rattle.rh_shell.specs.Wires.{of_leg}
 use Rattle.rh_inproxy.specs.declared.state.ClientLeg.{ClientLeg}
 use Rattle.rh_inproxy.specs.declared.state.Successor.{Successor}
 use Rattle.rh_inproxy.specs.declared.state.Successor.TheVariants.{Absent, Up, Joined}
 use Rattle.rh_inproxy.specs.State.{is_joined, follows}
-use Rattle.rh_hops.specs.Hops.{pdu_bytes}
-use Rattle.rh_hops.proofs.Counts.{bytes_append, bytes_rise}
-use Rattle.rh_hops.proofs.Legs.{one_more}
-use Rattle.rh_acks.specs.Acks.{Begins, HasBegun, IsTrueOn, IsTrue}
-use Rattle.rh_acks.proofs.Waiting.{EachIs, each_so}
+use Rattle.rh_passages.specs.Passing.{pdu_bytes, HasBegunIn}
+use Rattle.rh_acks.specs.Acks.{ci_leg as ci, OfPacket, IsTrueOn}
+use Rattle.rh_acks.proofs.Legs.{leg_begun, leg_rises}
+use Rattle.rh_acks.proofs.Waiting.{EachIs}
+use Rattle.rh_acks.proofs.InAcks.{IsNextNumber, IsTold, IsAck, AreAcks, IsOther, acks_more, acks_so}
 
--- ---- the messages of a leg
+-- a PDU that is refused changes nothing
+pub refused_same : (c : Incoming) (pdu : List ℕ) (fault : LineFault)
+    → line.channel_verdict c pdu ≡ Err fault → line.admitted c pdu ≡ c
+refused_same c pdu fault e =
+    ap (λ (v : Result (Unit {0}) LineFault).
+    if is_ok v then record c {
+      pdus = c.pdus ++ pdu ∷ [];
+      window = windows.after_admit c.window (length pdu);
+    } else c) e
 
-pub begun_more : (cookie : Cookie) (a b : List Message) → HasBegun cookie a
-    → HasBegun cookie (a ++ b)
-begun_more cookie [] b h = absurd h
-begun_more cookie (Text bytes ∷ a) b h = begun_more cookie a b h
-begun_more cookie (Pdu pdu ∷ a) b h = begun_more cookie a b h
-begun_more cookie (Packet named ∷ a) b (inl is) = inl is
-begun_more cookie (Packet named ∷ a) b (inr rest) = inr (begun_more cookie a b rest)
-
-pub leg_begun : (leg : Leg) (cookie : Cookie) (came : List OnLeg) (one : OnLeg)
-    → HasBegun cookie (of_leg leg came) → HasBegun cookie (of_leg leg (came ++ one ∷ []))
-leg_begun leg cookie came one h =
-    subst (HasBegun cookie) (sym (one_more leg came one))
-    (begun_more cookie (of_leg leg came) (of_leg leg (one ∷ [])) h)
-
-pub leg_rises : (leg : Leg) (came : List OnLeg) (one : OnLeg)
-    → pdu_bytes (of_leg leg came) ≤ pdu_bytes (of_leg leg (came ++ one ∷ []))
-leg_rises leg came one =
-    subst (λ (ms : List Message). pdu_bytes (of_leg leg came) ≤ pdu_bytes ms)
-    (sym (one_more leg came one)) (bytes_rise (of_leg leg came) (of_leg leg (one ∷ [])))
-
-pub leg_counts : (leg other : Leg) (came : List OnLeg) (pdu : List ℕ)
-    → same_leg other leg ≡ true
-    → pdu_bytes (of_leg leg (came ++ (other, Pdu pdu) ∷ []))
-    ≡ pdu_bytes (of_leg leg came) + length pdu
-leg_counts leg other came pdu same =
-    subst (λ (ms : List Message). pdu_bytes ms ≡ pdu_bytes (of_leg leg came) + length pdu)
-    (sym (one_more leg came (other, Pdu pdu)))
-    (subst (λ (b : Bool).
-    pdu_bytes (of_leg leg came ++ (if b then Pdu pdu ∷ [] else []))
-    ≡ pdu_bytes (of_leg leg came) + length pdu)
-    (sym same)
-    (let all = bytes_append (of_leg leg came) (Pdu pdu ∷ []) in omega (arith, all)))
-
--- ---- a channel counts no more than came on its leg
+-- ---- a channel counts no more than came on its leg, and told its window
 
 pub record Counts (window : ℕ) (c : Incoming) (messages : List Message) : Type 0 where
   pub received : c.window.received ≤ pdu_bytes messages
+  pub told : window ≤ c.window.told
   pub counted : c.window.released + total c.pdus ≡ c.window.received
   pub size : c.window.size ≡ window
 
@@ -81,17 +53,10 @@ pub counts_more : (window : ℕ) (c : Incoming) (a b : List Message)
     → pdu_bytes a ≤ pdu_bytes b → Counts window c a → Counts window c b
 counts_more window c a b more h = record {
   received = let before = h.received in omega (arith, before, more);
+  told = h.told;
   counted = h.counted;
   size = h.size;
 }
-
-pub fresh_counts : (window : ℕ) (shut : Bool) (messages : List Message)
-    → Counts window
-    (line.fresh (if shut then windows.shut window else windows.opened window)) messages
-fresh_counts window true messages =
-    record { received = omega arith; counted = refl; size = refl }
-fresh_counts window false messages =
-    record { received = omega arith; counted = refl; size = refl }
 
 pub admitted_counts : (window : ℕ) (c : Incoming) (pdu : List ℕ) (a b : List Message)
     → pdu_bytes b ≡ pdu_bytes a + length pdu → Counts window c a
@@ -128,6 +93,7 @@ admitted_counts window c pdu a b more h =
         let push = total_push c.pdus pdu in
         record {
           received = omega (arith, before, more);
+          told = h.told;
           counted = omega (arith, counted, push);
           size = h.size;
         }
@@ -142,72 +108,91 @@ released_counts window c (pdu ∷ pdus) ms is h =
     h.counted in
     record {
       received = h.received;
+      told = h.told;
       counted = omega (arith, counted);
       size = h.size;
     }
 
--- ---- an acknowledgement that is due is true
+pub admitted_told : (c : Incoming) (pdu : List ℕ)
+    → (line.admitted c pdu).window.told ≡ c.window.told
+admitted_told c pdu = search rules
 
-pub due_true : (window : ℕ) (c : Incoming) (ms : List Message) (cookie : Cookie)
-    → IsWindow window → Counts window c ms → HasBegun cookie ms
-    → IfSome (windows.due c.window)
-    (λ (ack : told.Ack). IsTrueOn ms ack.received ack.available cookie)
-due_true window c ms cookie is h begun =
-    by_test (λ (o : Option told.Ack).
-    IfSome o (λ (ack : told.Ack). IsTrueOn ms ack.received ack.available cookie))
-    (windows.is_due c.window)
+-- another edge is told, which is no lower
+pub told_counts : (window : ℕ) (c : Incoming) (ack : Ack) (ms : List Message)
+    → c.window.told ≤ ack.received + ack.available → Counts window c ms
+    → Counts window (line.with_window c (windows.after_told c.window ack)) ms
+told_counts window c ack ms rises h = record {
+  received = h.received;
+  told = let before = h.told in omega (arith, before, rises);
+  counted = h.counted;
+  size = h.size;
+}
+
+-- ---- an acknowledgement that is due is true, and tells more
+
+abbrev pub IsDue : Incoming → List Message → Cookie → Ack → Type 0
+IsDue c ms cookie ack =
+    IsTrueOn ms ack.received ack.available cookie
+    × (c.window.told ≤ ack.received + ack.available)
+
+pub due_is : (window : ℕ) (c : Incoming) (ms : List Message) (cookie : Cookie)
+    → IsWindow window → Counts window c ms → HasBegunIn cookie ms
+    → IfSome (windows.due c.window) (IsDue c ms cookie)
+due_is window c ms cookie is h begun =
+    by_test (λ (o : Option Ack). IfSome o (IsDue c ms cookie)) (windows.is_due c.window)
     (Some (record {
       received = c.window.received;
       available = windows.edge_of c.window - c.window.received;
     }))
     None
-    (λ e. record {
-      begun = begun;
-      came = h.received;
-      window =
-          let counted = h.counted in
-          let size = h.size in
-          let greatest = is.greatest in
-          omega (arith, counted, size, greatest);
-    })
+    (λ e. (
+      record {
+        begun = begun;
+        came = h.received;
+        window =
+            let counted = h.counted in
+            let size = h.size in
+            let greatest = is.greatest in
+            omega (arith, counted, size, greatest);
+      },
+      grind (arith, nat_tests, e),
+    ))
     (λ e. tt)
 
 -- ---- the channels of an in proxy
 
-abbrev pub ci : ℕ → Leg
-ci n = record { kind = ClientIn; number = n }
-
 abbrev pub IsChannel : ℕ → ClientLeg → Incoming → List OnLeg → Type 0
 IsChannel window leg c came =
     Counts window c (of_leg (ci leg.number) came)
-    × HasBegun leg.cookie (of_leg (ci leg.number) came)
+    × HasBegunIn leg.cookie (of_leg (ci leg.number) came)
 
--- the channel behind the current one; where there is none, nothing came on it
+-- the channel behind the current one, where there is one
 abbrev pub IsBehind : ℕ → Successor → Incoming → List OnLeg → Type 0
 IsBehind window (Joined leg stage) c came = IsChannel window leg c came
-IsBehind window (Up number) c came = (ms : List Message) → Counts window c ms
-IsBehind window Absent c came = (ms : List Message) → Counts window c ms
+IsBehind window (Up number) c came = Unit {0}
+IsBehind window Absent c came = Unit {0}
 
--- no acknowledgement to the client waits
-abbrev pub IsOther : Named → Type 0
-IsOther (AckTo destination received available channel) = destination ≡ 0 → ⊥
-IsOther packet = Unit {0}
+-- what was told of both
+abbrev pub WasTold : Line → ClientLeg → Successor → ℕ → ℕ → Type 0
+WasTold l current z = IsTold current.number l.current.window.told z l.next.window.told
 
 pub record Channels (window : ℕ) (l : Line) (current : ClientLeg) (successor : Successor)
-    (came : List OnLeg) : Type 0 where
+    (came put : List OnLeg) : Type 0 where
   pub size : l.size ≡ window
   pub there : l.has_next ≡ is_joined successor
+  pub finished : l.finished ≡ true → l.has_next ≡ true
+  pub number : IsNextNumber current.number successor
   pub now : Counts window l.current (of_leg (ci current.number) came)
   pub behind : IsBehind window successor l.next came
+  pub acks : AreAcks came (WasTold l current successor) put
 
 -- before the first packet nothing came; behind it the current channel has begun
 pub record Tells (window : ℕ) (opened : Bool) (l : Line) (current : ClientLeg)
     (successor : Successor) (dues : List Due) (came put : List OnLeg) : Type 0 where
-  pub channels : Channels window l current successor came
+  pub channels : Channels window l current successor came put
   pub shut : opened ≡ false → l ≡ line.first_line window
-  pub begun : opened ≡ true → HasBegun current.cookie (of_leg (ci current.number) came)
+  pub begun : opened ≡ true → HasBegunIn current.cookie (of_leg (ci current.number) came)
   pub others : EachIs IsOther dues
-  pub acks : AllByRecursion (IsTrue came) put
 
 -- ---- more came
 
@@ -222,71 +207,48 @@ channel_more window leg c came one h = (
 behind_more : (window : ℕ) (z : Successor) (c : Incoming) (came : List OnLeg) (one : OnLeg)
     → IsBehind window z c came → IsBehind window z c (came ++ one ∷ [])
 behind_more window (Joined leg stage) c came one h = channel_more window leg c came one h
-behind_more window (Up number) c came one h = h
-behind_more window Absent c came one h = h
+behind_more window (Up number) c came one h = tt
+behind_more window Absent c came one h = tt
 
-pub channels_more : (window : ℕ) (l : Line) (current : ClientLeg) (z : Successor)
-    (came : List OnLeg) (one : OnLeg) → Channels window l current z came
-    → Channels window l current z (came ++ one ∷ [])
-channels_more window l current z came one h = record {
+channels_more : (window : ℕ) (l : Line) (current : ClientLeg) (z : Successor)
+    (came put : List OnLeg) (one : OnLeg) → Channels window l current z came put
+    → Channels window l current z (came ++ one ∷ []) put
+channels_more window l current z came put one h = record {
   size = h.size;
   there = h.there;
+  finished = h.finished;
+  number = h.number;
   now = counts_more window l.current (of_leg (ci current.number) came)
       (of_leg (ci current.number) (came ++ one ∷ [])) (leg_rises (ci current.number) came one)
       h.now;
   behind = behind_more window z l.next came one h.behind;
+  acks = acks_more came one (WasTold l current z) put h.acks;
 }
-
-true_more : (came : List OnLeg) (one put : OnLeg) → IsTrue came put
-    → IsTrue (came ++ one ∷ []) put
-true_more came one (leg, Text bytes) h = tt
-true_more came one (leg, Pdu pdu) h = tt
-true_more came one (leg, Packet (AckTo destination received available cookie)) h = λ e.
-    let is = h e in
-    let on = ci is.0 in (
-      is.0,
-      record {
-        begun = leg_begun on cookie came one is.1.begun;
-        came =
-            let before = is.1.came in
-            let rise = leg_rises on came one in omega (arith, before, rise);
-        window = is.1.window;
-      },
-    )
-true_more came one (leg, Packet named) h = search rules
 
 pub tells_more : (window : ℕ) (opened : Bool) (l : Line) (current : ClientLeg) (z : Successor)
     (dues : List Due) (came put : List OnLeg) (one : OnLeg)
     → Tells window opened l current z dues came put
     → Tells window opened l current z dues (came ++ one ∷ []) put
 tells_more window opened l current z dues came put one h = record {
-  channels = channels_more window l current z came one h.channels;
+  channels = channels_more window l current z came put one h.channels;
   shut = h.shut;
   begun = λ e. leg_begun (ci current.number) current.cookie came one (h.begun e);
   others = h.others;
-  acks = each_so (IsTrue came) (IsTrue (came ++ one ∷ [])) (true_more came one) put h.acks;
 }
 
--- a packet begins a channel on its leg
-pub leg_begins : (leg other : Leg) (cookie : Cookie) (came : List OnLeg) (named : Named)
-    → same_leg other leg ≡ true → Begins cookie named
-    → HasBegun cookie (of_leg leg (came ++ (other, Packet named) ∷ []))
-leg_begins leg other cookie came named same begins =
-    subst (HasBegun cookie) (sym (one_more leg came (other, Packet named)))
-    (subst (λ (b : Bool).
-    HasBegun cookie (of_leg leg came ++ (if b then Packet named ∷ [] else []))) (sym same)
-    (last (of_leg leg came)))
-  where
-    last : (ms : List Message) → HasBegun cookie (ms ++ Packet named ∷ [])
-    last [] = inl begins
-    last (Text bytes ∷ ms) = last ms
-    last (Pdu pdu ∷ ms) = last ms
-    last (Packet other_named ∷ ms) = inr (last ms)
-
-pub other_true : (came : List OnLeg) (leg : Leg) (named : Named) → IsOther named
-    → IsTrue came (leg, Packet named)
-other_true came leg (AckTo destination received available cookie) h = λ e. absurd (h e)
-other_true came leg named h = search rules
+-- one more was put
+pub channels_put : (window : ℕ) (l : Line) (current : ClientLeg) (z : Successor)
+    (came put : List OnLeg) (one : OnLeg) → OfPacket (IsAck came (WasTold l current z)) one
+    → Channels window l current z came put → Channels window l current z came (put ++ one ∷ [])
+channels_put window l current z came put one is h = record {
+  size = h.size;
+  there = h.there;
+  finished = h.finished;
+  number = h.number;
+  now = h.now;
+  behind = h.behind;
+  acks = each_push (OfPacket (IsAck came (WasTold l current z))) put one h.acks is;
+}
 
 -- ---- a channel that nobody began
 
@@ -307,40 +269,39 @@ opened_held window false l current z dues came put pdu pdus is h =
     absurd (true≢false (sym (ap line.is_empty (sym is
     ∙ ap (λ (k : Line). k.current.pdus) (h.shut refl)))))
 
-pub first_due : (window : ℕ) (P : told.Ack → Type 0)
+pub first_due : (window : ℕ) (P : Ack → Type 0)
     → IfSome (windows.due (windows.opened window)) P
 first_due window P =
-    by_test (λ (o : Option told.Ack). IfSome o P) (windows.is_due (windows.opened window)) _ None
+    by_test (λ (o : Option Ack). IfSome o P) (windows.is_due (windows.opened window)) _ None
     (λ e. absurd (grind (arith, nat_tests, e))) (λ e. tt)
 
--- what is due for the current channel is true
-pub current_true : (window : ℕ) (opened : Bool) (l : Line) (current : ClientLeg) (z : Successor)
+-- what is due for the current channel is true, and tells more
+pub current_due : (window : ℕ) (opened : Bool) (l : Line) (current : ClientLeg) (z : Successor)
     (dues : List Due) (came put : List OnLeg) → IsWindow window
     → Tells window opened l current z dues came put
     → IfSome (windows.due l.current.window)
-    (λ (ack : told.Ack).
-    IsTrueOn (of_leg (ci current.number) came) ack.received ack.available current.cookie)
-current_true window true l current z dues came put is h =
-    due_true window l.current (of_leg (ci current.number) came) current.cookie is
-    h.channels.now (h.begun refl)
-current_true window false l current z dues came put is h =
-    subst (λ (k : Line). IfSome (windows.due k.current.window) True) (sym (h.shut refl))
-    (first_due window True)
+    (IsDue l.current (of_leg (ci current.number) came) current.cookie)
+current_due window true l current z dues came put is h =
+    due_is window l.current (of_leg (ci current.number) came) current.cookie is h.channels.now
+    (h.begun refl)
+current_due window false l current z dues came put is h =
+    subst (λ (k : Line).
+    IfSome (windows.due k.current.window) (IsDue k.current ms current.cookie)) (sym (h.shut refl))
+    (first_due window (IsDue (line.first_line window).current ms current.cookie))
   where
-    True : told.Ack → Type 0
-    True ack =
-        IsTrueOn (of_leg (ci current.number) came) ack.received ack.available current.cookie
+    ms : List Message
+    ms = of_leg (ci current.number) came
 
 -- ---- the next channel becomes current
 
 -- where it does not, nothing changes
 same_channels : (window : ℕ) (l : Line) (current : ClientLeg) (z : Successor)
-    (came : List OnLeg) → Channels window l current z came
-    → Channels window l (follows l.has_next current z).0 (follows l.has_next current z).1 came
-same_channels window l current z came h = by l.has_next z h.there h
+    (came put : List OnLeg) → Channels window l current z came put
+    → Channels window l (follows l.has_next current z).0 (follows l.has_next current z).1 came put
+same_channels window l current z came put h = by l.has_next z h.there h
   where
-    by : (b : Bool) (y : Successor) → b ≡ is_joined y → Channels window l current y came
-        → Channels window l (follows b current y).0 (follows b current y).1 came
+    by : (b : Bool) (y : Successor) → b ≡ is_joined y → Channels window l current y came put
+        → Channels window l (follows b current y).0 (follows b current y).1 came put
     by true Absent e k = absurd (true≢false e)
     by true (Up number) e k = absurd (true≢false e)
     by true (Joined leg stage) e k = k
@@ -349,41 +310,40 @@ same_channels window l current z came h = by l.has_next z h.there h
     by false (Joined leg stage) e k = absurd (true≢false (sym e))
 
 pub moved_channels : (window : ℕ) (l : Line) (current : ClientLeg) (z : Successor)
-    (came : List OnLeg) → Channels window l current z came
+    (came put : List OnLeg) → Channels window l current z came put
     → Channels window (line.settled l) (follows (line.settled l).has_next current z).0
-    (follows (line.settled l).has_next current z).1 came
-moved_channels window l current z came h =
+    (follows (line.settled l).has_next current z).1 came put
+moved_channels window l current z came put h =
     by_test To (l.finished && line.is_empty l.current.pdus) (line.moved_on l) l
-    (λ e. moves z h) (λ e. same_channels window l current z came h)
+    (λ e. moves z (sym h.there
+    ∙ h.finished (and_parts l.finished (line.is_empty l.current.pdus) e).0) h)
+    (λ e. same_channels window l current z came put h)
   where
     To : Line → Type 0
-    To m = Channels window m (follows m.has_next current z).0 (follows m.has_next current z).1 came
+    To m =
+        Channels window m (follows m.has_next current z).0 (follows m.has_next current z).1 came
+        put
 
-    none : (ms : List Message) → Counts window (line.unopened l.size) ms
-    none ms = record { received = omega arith; counted = refl; size = h.size }
-
-    moves : (y : Successor) → Channels window l current y came
+    moves : (y : Successor) → is_joined y ≡ true → Channels window l current y came put
         → Channels window (line.moved_on l) (follows false current y).0
-        (follows false current y).1 came
-    moves Absent k = record {
+        (follows false current y).1 came put
+    moves Absent e k = absurd (true≢false (sym e))
+    moves (Up number) e k = absurd (true≢false (sym e))
+    moves (Joined leg stage) e k = record {
       size = k.size;
       there = refl;
-      now = k.behind (of_leg (ci current.number) came);
-      behind = none;
+      finished = λ f. absurd (true≢false (sym f));
+      number = tt;
+      now = k.behind.0;
+      behind = tt;
+      acks = acks_so came (WasTold l current (Joined leg stage))
+          (WasTold (line.moved_on l) leg Absent) (λ m edge is. (is.0, is.2)) put k.acks;
     }
-    moves (Up number) k = record {
-      size = k.size;
-      there = refl;
-      now = k.behind (of_leg (ci current.number) came);
-      behind = none;
-    }
-    moves (Joined leg stage) k =
-        record { size = k.size; there = refl; now = k.behind.0; behind = none }
 
 pub moved_begun : (window : ℕ) (b : Bool) (current : ClientLeg) (z : Successor) (c : Incoming)
     (came : List OnLeg) → IsBehind window z c came
-    → HasBegun current.cookie (of_leg (ci current.number) came)
-    → HasBegun (follows b current z).0.cookie (of_leg (ci (follows b current z).0.number) came)
+    → HasBegunIn current.cookie (of_leg (ci current.number) came)
+    → HasBegunIn (follows b current z).0.cookie (of_leg (ci (follows b current z).0.number) came)
 moved_begun window true current z c came behind begun = begun
 moved_begun window false current Absent c came behind begun = begun
 moved_begun window false current (Up number) c came behind begun = begun
@@ -391,18 +351,22 @@ moved_begun window false current (Joined leg stage) c came behind begun = behind
 
 -- the first PDU is taken
 pub taken_channels : (window : ℕ) (l : Line) (current : ClientLeg) (z : Successor)
-    (came : List OnLeg) (pdus : List (List ℕ)) → l.current.pdus ≡ pdus
-    → Channels window l current z came
+    (came put : List OnLeg) (pdus : List (List ℕ)) → l.current.pdus ≡ pdus
+    → Channels window l current z came put
     → Channels window (line.taken pdus l) (follows (line.taken pdus l).has_next current z).0
-    (follows (line.taken pdus l).has_next current z).1 came
-taken_channels window l current z came [] is h = same_channels window l current z came h
-taken_channels window l current z came (pdu ∷ pdus) is h =
+    (follows (line.taken pdus l).has_next current z).1 came put
+taken_channels window l current z came put [] is h =
+    same_channels window l current z came put h
+taken_channels window l current z came put (pdu ∷ pdus) is h =
     moved_channels window (record l { current = line.released (pdu ∷ pdus) l.current }) current z
-    came
+    came put
     (record {
       size = h.size;
       there = h.there;
+      finished = h.finished;
+      number = h.number;
       now = released_counts window l.current (pdu ∷ pdus) (of_leg (ci current.number) came) is
           h.now;
       behind = h.behind;
+      acks = h.acks;
     })

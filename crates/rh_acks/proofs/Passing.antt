@@ -1,5 +1,5 @@
--- what a role passes on: what waits, and what was put
-use Rattle.std.proofs.Common.{◌≡◌, ℕ, Bool, true, false, true≢false, List, [], ◌∷◌, ◌++◌, Some, None, Ok, Err, sym, subst}
+-- what a role passes on: what its state has from what came, and what was put
+use Rattle.std.proofs.Common.{◌≡◌, List, [], ◌∷◌, ◌++◌, Some, None, Ok, Err, sym, subst}
 use Rattle.std.specs.Prelude.{IfSome}
 use Rattle.std.specs.List.{AllByRecursion}
 use Rattle.std.specs.declared.option.Option.{Option}
@@ -7,107 +7,97 @@ use Rattle.rh_sig.specs.declared.named.Named.{Named}
 use Rattle.rh_line.specs.declared.leg.Leg.{Leg}
 use Rattle.rh_line.proofs.Queues.{each_push}
 use Rattle.rh_shell.specs.declared.due.Due.{Due}
-use Rattle.rh_shell.specs.Rules.{Message, Packet, Row}
+use Rattle.rh_shell.specs.Rules.{Message, Text, Pdu, Packet, Row}
 use Rattle.rh_shell.specs.Moves.{OnLeg}
-use Rattle.rh_shell.specs.Waiting.{Waiting, forwarded}
-use Rattle.rh_acks.specs.Acks.{IsPassedOn, IsPassedOnIn}
-use Rattle.rh_acks.proofs.Logs.{RowKeeps, PutKeeps}
-use Rattle.rh_acks.proofs.Waiting.{EachIs, Joins, forwarded_joins, each_so, passed_more, passed_in_more}
+use Rattle.rh_passages.proofs.Logs.{RowKeeps, PutKeeps}
+use Rattle.rh_passages.proofs.Messages.{each_so}
+use Rattle.rh_acks.specs.Acks.{OfPacket}
+use Rattle.rh_acks.proofs.Waiting.{EachIs}
 
--- what waits is passed on, and what was put was
-pub record Passes (to : ℕ) (dues : List Due) (came put : List OnLeg) : Type 0 where
-  pub waits : EachIs (IsPassedOn to came) dues
-  pub puts : AllByRecursion (IsPassedOnIn to came) put
+-- a fact of what came, and of something else
+abbrev pub Of : Type 0 → Type 1
+Of X = List OnLeg → X → Type 0
 
-pub starts : (to : ℕ) → Passes to [] [] []
-starts to = record { waits = tt; puts = tt }
+-- which more that comes leaves
+abbrev pub Stays : {X : Type 0} → Of X → Type 0
+Stays {X} Is =
+    (came : List OnLeg) (one : OnLeg) (x : X) → Is came x → Is (came ++ one ∷ []) x
 
-pub came_one : (to : ℕ) (dues : List Due) (came put : List OnLeg) (one : OnLeg)
-    → Passes to dues came put → Passes to dues (came ++ one ∷ []) put
-came_one to dues came put one h = record {
-  waits = each_so (λ (due : Due). IsPassedOn to came due.packet)
-      (λ (due : Due). IsPassedOn to (came ++ one ∷ []) due.packet)
-      (λ due. passed_more to came (one ∷ []) due.packet) dues h.waits;
-  puts = each_so (IsPassedOnIn to came) (IsPassedOnIn to (came ++ one ∷ []))
-      (passed_in_more to came (one ∷ [])) put h.puts;
-}
+-- each packet that waits is so
+pub each_stays : (Is : Of Named) → Stays Is → (came : List OnLeg) (one : OnLeg)
+    (dues : List Due) → EachIs (Is came) dues → EachIs (Is (came ++ one ∷ [])) dues
+each_stays Is stays came one dues h =
+    each_so (λ (due : Due). Is came due.packet) (λ (due : Due). Is (came ++ one ∷ []) due.packet)
+    (λ due. stays came one due.packet) dues h
 
-pub put_one : (to : ℕ) (dues : List Due) (came put : List OnLeg) (one : OnLeg)
-    → IsPassedOnIn to came one → Passes to dues came put
-    → Passes to dues came (put ++ one ∷ [])
-put_one to dues came put one is h = record {
-  waits = h.waits;
-  puts = each_push (IsPassedOnIn to came) put one h.puts is;
-}
-
--- other packets wait
-pub now_wait : (to : ℕ) (dues others : List Due) (came put : List OnLeg)
-    → (EachIs (IsPassedOn to came) dues → EachIs (IsPassedOn to came) others)
-    → Passes to dues came put → Passes to others came put
-now_wait to dues others came put so h = record { waits = so h.waits; puts = h.puts }
+-- what is so of each packet of a log
+pub packets_so : (P Q : Named → Type 0) → ((named : Named) → P named → Q named)
+    → (log : List OnLeg) → AllByRecursion (OfPacket P) log → AllByRecursion (OfPacket Q) log
+packets_so P Q so log all = each_so (OfPacket P) (OfPacket Q) of_one log all
+  where
+    of_one : (one : OnLeg) → OfPacket P one → OfPacket Q one
+    of_one (leg, Text bytes) is = tt
+    of_one (leg, Pdu pdu) is = tt
+    of_one (leg, Packet named) is = so named is
 
 -- ---- a role
 
-module _ {S : Type 0} (to : ℕ) (waiting : S → Waiting) where
+-- what is seen of a state is sound, and each packet that was put is so
+module _ {S V : Type 0} (seen : S → V) (Is : Of Named) (Sound : Of V) where
   abbrev pub Holds : S → List OnLeg → List OnLeg → Type 0
-  Holds s came put = Passes to (waiting s).due came put
+  Holds s came put = Sound came (seen s) × AllByRecursion (OfPacket (Is came)) put
 
-  -- the same packets wait
   abbrev pub Same : S → S → Type 0
-  Same s t = waiting t ≡ waiting s
+  Same s t = seen t ≡ seen s
+
+  -- where the one is sound, so is the other
+  abbrev pub Keeps : S → S → Type 0
+  Keeps s t = (came : List OnLeg) → Sound came (seen s) → Sound came (seen t)
+
+  pub keeps_same : (s t : S) → Same s t → Keeps s t
+  keeps_same s t same came h = subst (Sound came) (sym same) h
+
+  pub keeps_holds : (s t : S) (came put : List OnLeg) → Keeps s t → Holds s came put
+      → Holds t came put
+  keeps_holds s t came put keeps h = (keeps came h.0, h.1)
 
   pub same_holds : (s t : S) (came put : List OnLeg) → Same s t → Holds s came put
       → Holds t came put
-  same_holds s t came put same h =
-      subst (λ (w : Waiting). Passes to w.due came put) (sym same) h
+  same_holds s t came put same h = keeps_holds s t came put (keeps_same s t same) h
 
-  -- a row that leaves them alone
-  pub same_row : (s : S) (one : OnLeg) (came put : List OnLeg) → Holds s came put
-      → (x : S × Row) → Same s x.0 → RowKeeps Holds one came put x
-  same_row s one came put h (t, Ok taken) same =
-      came_one to (waiting t).due came put one (same_holds s t came put same h)
-  same_row s one came put h (t, Err why) same = same_holds s t came put same h
+  -- ---- rows
 
-  -- a row that has a packet wait, or refuses it
-  abbrev pub Follows : S → Waiting × Bool → S × Row → Type 0
-  Follows s (w, waits) (t, Ok taken) = (waiting t ≡ w) × (waits ≡ true)
-  Follows s (w, waits) (t, Err why) = (w ≡ waiting s → Same s t) × (waits ≡ false)
+  module _ (stays : Stays Is) (sound_stays : Stays Sound) where
+    pub came_one : (s : S) (one : OnLeg) (came put : List OnLeg) → Holds s came put
+        → Holds s (came ++ one ∷ []) put
+    came_one s one came put h = (
+      sound_stays came one (seen s) h.0,
+      packets_so (Is came) (Is (came ++ one ∷ [])) (stays came one) put h.1,
+    )
 
-  pub forward_row : (s : S) (one : OnLeg) (came put : List OnLeg) → Holds s came put
-      → (named : Named) → IsPassedOn to (came ++ one ∷ []) named → (x : S × Row)
-      → Follows s (forwarded (waiting s) named) x → RowKeeps Holds one came put x
-  forward_row s one came put h named is x follows =
-      by x (forwarded (waiting s) named) (forwarded_joins Is (waiting s) named) follows
-    where
-      Is : Named → Type 0
-      Is n = IsPassedOn to (came ++ one ∷ []) n
+    pub keep_row : (s : S) (one : OnLeg) (came put : List OnLeg) → Holds s came put
+        → (x : S × Row) → Keeps s x.0 → RowKeeps Holds one came put x
+    keep_row s one came put h (t, Ok taken) keeps =
+        keeps_holds s t (came ++ one ∷ []) put keeps (came_one s one came put h)
+    keep_row s one came put h (t, Err why) keeps = keeps_holds s t came put keeps h
 
-      by : (y : S × Row) (r : Waiting × Bool) → Joins Is named (waiting s) r → Follows s r y
-          → RowKeeps Holds one came put y
-      by (t, Ok taken) (w, true) joins goes =
-          subst (λ (v : Waiting). Passes to v.due (came ++ one ∷ []) put) (sym goes.0)
-          (now_wait to (waiting s).due w.due (came ++ one ∷ []) put (joins is)
-          (came_one to (waiting s).due came put one h))
-      by (t, Ok taken) (w, false) joins goes = absurd (true≢false (sym goes.1))
-      by (t, Err why) (w, true) joins goes = absurd (true≢false goes.1)
-      by (t, Err why) (w, false) joins goes = same_holds s t came put (goes.0 joins) h
+    pub same_row : (s : S) (one : OnLeg) (came put : List OnLeg) → Holds s came put
+        → (x : S × Row) → Same s x.0 → RowKeeps Holds one came put x
+    same_row s one came put h x same = keep_row s one came put h x (keeps_same s x.0 same)
 
-  -- what is put did not wait
+  -- ---- what is put
+
+  pub put_one : (s : S) (came put : List OnLeg) (one : OnLeg) → OfPacket (Is came) one
+      → Holds s came put → Holds s came (put ++ one ∷ [])
+  put_one s came put one is h = (h.0, each_push (OfPacket (Is came)) put one h.1 is)
+
+  -- it leaves the state alone
   abbrev pub Quiet : List OnLeg → Leg → S → Option (S × Message) → Type 0
   Quiet came leg s pick =
-      IfSome pick (λ (one : S × Message). Same s one.0 × IsPassedOnIn to came (leg, one.1))
+      IfSome pick (λ (one : S × Message). Same s one.0 × OfPacket (Is came) (leg, one.1))
 
   pub quiet_put : (leg : Leg) (came put : List OnLeg) (s : S) (pick : Option (S × Message))
       → Quiet came leg s pick → Holds s came put → PutKeeps Holds leg came put pick
   quiet_put leg came put s None quiet h = tt
   quiet_put leg came put s (Some one) quiet h =
-      put_one to (waiting one.0).due came put (leg, one.1) quiet.1
-      (same_holds s one.0 came put quiet.0 h)
-
-  -- the first of those that wait is put
-  pub first_put : (leg : Leg) (came put : List OnLeg) (due : Due) (dues : List Due)
-      → Passes to (due ∷ dues) came put
-      → Passes to dues came (put ++ (leg, Packet due.packet) ∷ [])
-  first_put leg came put due dues h =
-      put_one to dues came put (leg, Packet due.packet) h.waits.0
-      (now_wait to (due ∷ dues) dues came put (λ all. all.1) h)
+      put_one one.0 came put (leg, one.1) quiet.1 (same_holds s one.0 came put quiet.0 h)

@@ -1,18 +1,13 @@
 -- the packets that wait for a leg, and what each of them is
-use Rattle.std.proofs.Common.{◌≡◌, ℕ, Bool, true, false, nat_lt, List, [], ◌∷◌, ◌++◌, Some, inl, inr, refl, rules}
+use Rattle.std.proofs.Common.{◌≡◌, Bool, true, false, nat_lt, List, [], ◌∷◌, Some, refl}
 use Rattle.std.specs.Prelude.{if◌then◌else◌, IfSome, find}
 use Rattle.std.specs.List.{AllByRecursion, list_any}
 use Rattle.rh_sig.specs.declared.named.Named.{Named}
-use Rattle.rh_sig.specs.declared.named.Named.TheVariants.{AckTo}
-use Rattle.rh_line.specs.declared.leg.Leg.{Leg}
 use Rattle.rh_line.proofs.Queues.{each_push}
 use Rattle.rh_order.proofs.ByNumber.{by_test}
 use Rattle.rh_shell.specs.declared.due.Due.{Due}
 use Rattle.rh_shell.specs.declared.due.Origin.TheVariants.{Forwarded}
-use Rattle.rh_shell.specs.Rules.{Text, Pdu, Packet}
-use Rattle.rh_shell.specs.Moves.{OnLeg}
 use Rattle.rh_shell.specs.Waiting.{Waiting, better, edge_of, merged, takes, with_due, pushed, to_forward, count, forwarded, without_first}
-use Rattle.rh_acks.specs.Acks.{HasCome, IsPassedOn, IsPassedOnIn}
 
 -- ---- what is so of each packet that waits
 
@@ -64,33 +59,3 @@ module _ (P : Named → Type 0) where
   found_is may_go (due ∷ dues) old =
       by_test (λ o. IfSome o (λ (d : Due). P d.packet)) (may_go due) (Some due)
       (find may_go dues) (λ t. old.0) (λ t. found_is may_go dues old.1)
-
-pub each_so : {X : Type 0} (P Q : X → Type 0) → ((x : X) → P x → Q x) → (xs : List X)
-    → AllByRecursion P xs → AllByRecursion Q xs
-each_so P Q so [] h = tt
-each_so P Q so (x ∷ xs) h = (so x h.0, each_so P Q so xs h.1)
-
--- ---- what came, and more
-
-pub come_more : (named : Named) (came more : List OnLeg) → HasCome named came
-    → HasCome named (came ++ more)
-come_more named [] more h = absurd h
-come_more named (one ∷ came) more (inl is) = inl is
-come_more named (one ∷ came) more (inr rest) = inr (come_more named came more rest)
-
-pub comes_last : (named : Named) (came : List OnLeg) (leg : Leg)
-    → HasCome named (came ++ (leg, Packet named) ∷ [])
-comes_last named [] leg = inl refl
-comes_last named (one ∷ came) leg = inr (comes_last named came leg)
-
-pub passed_more : (to : ℕ) (came more : List OnLeg) (named : Named) → IsPassedOn to came named
-    → IsPassedOn to (came ++ more) named
-passed_more to came more (AckTo destination received available channel) h =
-    λ e. come_more (AckTo destination received available channel) came more (h e)
-passed_more to came more named h = search rules
-
-pub passed_in_more : (to : ℕ) (came more : List OnLeg) (one : OnLeg) → IsPassedOnIn to came one
-    → IsPassedOnIn to (came ++ more) one
-passed_in_more to came more (leg, Text bytes) h = tt
-passed_in_more to came more (leg, Pdu pdu) h = tt
-passed_in_more to came more (leg, Packet named) h = passed_more to came more named h

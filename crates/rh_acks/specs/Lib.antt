@@ -1,1 +1,3 @@
 pub mod Acks
+pub mod Windows
+pub mod Receiving

@@ -1,6 +1,6 @@
--- what each step of an end keeps where it is allowed, its allowed moves keep, together with all that
--- came and was put
-use Rattle.std.proofs.Common.{ℕ, ◌≡◌, Bool, ◌&&◌, List, [], ◌∷◌, ◌++◌, Some, None, Ok, Err}
+-- what each allowed step of an end keeps, its allowed moves keep, together with all that came and
+-- was put
+use Rattle.std.proofs.Common.{ℕ, ◌≡◌, List, [], ◌∷◌, Some, None, Ok, Err}
 use Rattle.std.specs.Prelude.{IsTrue}
 use Rattle.std.specs.declared.option.Option.{Option}
 use Rattle.std.specs.declared.result.Result.{Result}

@@ -12,12 +12,12 @@ use Rattle.rh_client.specs.State.{first}
 use Rattle.rh_client.specs.Channels.{is_put}
 use Rattle.rh_client.specs.Client.{acts, rules}
 use Rattle.rh_client.proofs.ClientLogs.{of_kind}
-use Rattle.rh_client_counts.specs.Counting.{is_in_r1_a1, is_in_a4, is_in_r1_a5, total, once_if, StandsOnEach}
+use Rattle.rh_client_counts.specs.Counting.{is_in_r1_a1, is_in_a4, is_in_r1_a5, total, once_if}
 use Rattle.rh_client_counts.specs.Replacing.{in_asked, in_answered, in_handed_over, InIsAt, ReplacesIns}
 use Rattle.rh_client_counts.proofs.Allowed.{allowed_moves_keep}
 use Rattle.rh_client_counts.proofs.Standing.{Stands, passes, stands_none, stands_stays, stands_next, stands_on, total_stays, total_rises, once_at_most}
-use Rattle.rh_client_counts.proofs.Views.{View, Way, way_of, Free, InIsAsked, InIsAnswered, OutIsAsked, OutIsAnswered, OutIsSwitched, OutIsFinished, is_in_way, Marks, marks, unmarked, EventsKeep}
-use Rattle.rh_client_counts.proofs.Rows as keeps
+use Rattle.rh_client_counts.proofs.Views.{View, Way, way_of, Free, InIsAsked, InIsAnswered, OutIsAsked, OutIsAnswered, OutIsSwitched, OutIsFinished, is_in_way, Marks, EventsKeep}
+use Rattle.rh_client_counts.proofs.Replacements as keeps
 use Rattle.rh_client_counts.proofs.Moves.{client_keeps}
 
 -- the counts at each way
@@ -185,6 +185,14 @@ ins = record {
       comes v came put one (ap (λ (m : Marks). m.answers_in) q) h;
   closes = λ v came put o h. h;
   ends = λ v came put e h. h;
+  ups_writing = λ v cookie came put down h. h;
+  ups_in = λ v cookie came put h. h;
+  ups_current = λ v cookie came put down h. h;
+  ups_out = λ v cookie came put h. h;
+  begins_writing = λ v came put one q greets of is k at h.
+      goes v came put one (ap (λ (m : Marks). m.asks_in) q) (ap (λ (m : Marks). m.hands_over) q) h;
+  begins_current = λ v came put one q greets of is k at h.
+      goes v came put one (ap (λ (m : Marks). m.asks_in) q) (ap (λ (m : Marks). m.hands_over) q) h;
   wants_in = λ v came put o l h. h;
   wants_out = λ v came put one q k o w l h.
       comes v came put one (ap (λ (m : Marks). m.answers_in) q) h;
@@ -194,22 +202,22 @@ ins = record {
   begins_out = λ v came put w l h. turns v Free OutIsAsked came put (λ a1 a4 a5 at. at) h;
   drops_in = λ v came put w l h. h;
   drops_out = λ v came put w l h. h;
-  asks_in = λ v came put one q k on at h.
+  asks_in = λ v came put one q is k on at h.
       asks v.writing v.in_successor v.way came put one (ap (λ (m : Marks). m.asks_in) q)
       (ap (λ (m : Marks). m.hands_over) q) k on at h;
   answers_in = λ v came put one q k asked h.
       answers v.writing v.in_successor v.in_asked came put one
       (ap (λ (m : Marks). m.answers_in) q) k asked h;
-  hands_over = λ v w e came put one q k on h.
+  hands_over = λ v w e came put one q is k on h.
       hands_over v.writing v.in_successor v.in_asked came put one
       (ap (λ (m : Marks). m.asks_in) q) (ap (λ (m : Marks). m.hands_over) q) k on h;
-  asks_out = λ v came put one q k on at h.
+  asks_out = λ v window came put one q is k on at h.
       goes v came put one (ap (λ (m : Marks). m.asks_in) q) (ap (λ (m : Marks). m.hands_over) q) h;
   answers_out = λ v came put one q k on asked h.
       comes (record v { way = OutIsAnswered }) came put one
       (ap (λ (m : Marks). m.answers_in) q)
       (turns v OutIsAsked OutIsAnswered came put (λ a1 a4 a5 at. at) h);
-  switches = λ v came put one q k h.
+  switches = λ v came put one q is k h.
       goes (record v { way = OutIsSwitched }) came put one (ap (λ (m : Marks). m.asks_in) q)
       (ap (λ (m : Marks). m.hands_over) q)
       (turns v OutIsAnswered OutIsSwitched came put (λ a1 a4 a5 at. at) h);

@@ -1,9 +1,16 @@
 pub mod Allowed
 pub mod Standing
-pub mod Views
-pub mod Rows
-pub mod Puts
-pub mod Moves
-pub mod InCounts
-pub mod OutCounts
-pub mod Wishes
+mod Views
+mod Replacements
+mod Rows
+mod Puts
+mod Moves
+mod InCounts
+mod OutCounts
+mod Wishes
+mod Opens
+pub mod Behind
+mod Began
+pub mod OneCookie
+mod InNames
+mod OutNames

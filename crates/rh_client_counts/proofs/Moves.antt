@@ -1,14 +1,13 @@
 -- each allowed step of a client keeps what its events keep
-use Rattle.std.proofs.Common.{◌≡◌, ℕ, List, [], ◌∷◌, ◌++◌, refl}
-use Rattle.rh_line.specs.declared.leg.Leg.{Leg}
+use Rattle.std.proofs.Common.{List, refl}
 use Rattle.rh_shell.specs.Moves.{OnLeg}
-use Rattle.rh_client.specs.declared.state.ClientRole.{ClientRole}
 use Rattle.rh_client.specs.Ending.{give, drawn}
 use Rattle.rh_client.specs.Time.{ping}
 use Rattle.rh_client.specs.Client.{acts, rules}
 use Rattle.rh_client_counts.proofs.Allowed.{AllowedKeep}
 use Rattle.rh_client_counts.proofs.Views.{View, EventsKeep}
-use Rattle.rh_client_counts.proofs.Rows.{Holds, same_holds, up_holds, pdu_row, packet_row, same_drawn, same_ping, same_give, take_holds, recycled}
+use Rattle.rh_client_counts.proofs.Replacements.{Holds, same_holds, take_holds, recycled}
+use Rattle.rh_client_counts.proofs.Rows.{up_holds, pdu_row, packet_row, same_drawn, same_ping, same_give}
 use Rattle.rh_client_counts.proofs.Puts.{puts_by}
 
 pub client_keeps : (P : View → List OnLeg → List OnLeg → Type 0) (events : EventsKeep P)

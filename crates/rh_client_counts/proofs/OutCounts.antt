@@ -1,5 +1,5 @@
 -- a client replaces its OUT channels one by one
-use Rattle.std.proofs.Common.{◌≡◌, ℕ, ◌+◌, ◌≤◌, Bool, true, false, true≢false, List, [], ◌∷◌, ◌++◌, arith, refl, sym, ap, ◌∙◌, subst}
+use Rattle.std.proofs.Common.{◌≡◌, ℕ, ◌+◌, ◌≤◌, Bool, true, false, true≢false, List, [], ◌∷◌, ◌++◌, arith, refl, sym, ap, subst}
 use Rattle.rh_http.specs.declared.config.ClientConfig.{ClientConfig}
 use Rattle.rh_line.specs.declared.leg.LegKind.TheVariants.{ClientOut, ClientIn}
 use Rattle.rh_shell.specs.Moves.{OnLeg, Passage, EndMove, end_started, all_end_moved, AreAllowedAtEnd}
@@ -13,11 +13,11 @@ use Rattle.rh_client.specs.Channels.{is_asked}
 use Rattle.rh_client.specs.Client.{acts, rules}
 use Rattle.rh_client.proofs.ClientLogs.{of_kind}
 use Rattle.rh_client_counts.specs.Counting.{is_out_r1_a3, is_out_r1_a6, is_out_r1_a7, is_out_r1_a10, total, once_if}
-use Rattle.rh_client_counts.specs.Replacing.{out_asked, out_answered, out_switched, out_finished, OutStands, OutIsAt, ReplacesOuts}
+use Rattle.rh_client_counts.specs.Replacing.{OutStands, OutIsAt, ReplacesOuts}
 use Rattle.rh_client_counts.proofs.Allowed.{allowed_moves_keep}
 use Rattle.rh_client_counts.proofs.Standing.{Stands, passes, stands_none, stands_stays, stands_next, stands_on, total_stays, total_rises, once_at_most}
-use Rattle.rh_client_counts.proofs.Views.{View, Way, way_of, Free, InIsAsked, InIsAnswered, OutIsAsked, OutIsAnswered, OutIsSwitched, OutIsFinished, is_out_way, Marks, marks, unmarked, EventsKeep}
-use Rattle.rh_client_counts.proofs.Rows as keeps
+use Rattle.rh_client_counts.proofs.Views.{View, Way, way_of, Free, InIsAsked, InIsAnswered, OutIsAsked, OutIsAnswered, OutIsSwitched, OutIsFinished, is_out_way, Marks, EventsKeep}
+use Rattle.rh_client_counts.proofs.Replacements as keeps
 use Rattle.rh_client_counts.proofs.Moves.{client_keeps}
 
 record At (current more_asked more_answered more_switched more o3 o6 o7 o10 : ℕ) : Type 0 where
@@ -261,6 +261,14 @@ outs = record {
       h;
   closes = λ v came put o h. h;
   ends = λ v came put e h. h;
+  ups_writing = λ v cookie came put down h. h;
+  ups_in = λ v cookie came put h. h;
+  ups_current = λ v cookie came put down h. h;
+  ups_out = λ v cookie came put h. h;
+  begins_writing = λ v came put one q greets of is k at h.
+      goes v came put one (ap (λ (m : Marks). m.asks_out) q) (ap (λ (m : Marks). m.switches) q) h;
+  begins_current = λ v came put one q greets of is k at h.
+      goes v came put one (ap (λ (m : Marks). m.asks_out) q) (ap (λ (m : Marks). m.switches) q) h;
   wants_in = λ v came put o l h. h;
   wants_out = λ v came put one q k o w l h.
       comes v came put one (ap (λ (m : Marks). m.answers_out) q) (ap (λ (m : Marks). m.finishes) q)
@@ -272,23 +280,23 @@ outs = record {
       came put (λ o3 o6 o7 o10 at. (at, refl)) h;
   drops_in = λ v came put w l h. h;
   drops_out = λ v came put w l h. h;
-  asks_in = λ v came put one q k on at h.
+  asks_in = λ v came put one q is k on at h.
       goes v came put one (ap (λ (m : Marks). m.asks_out) q) (ap (λ (m : Marks). m.switches) q) h;
   answers_in = λ v came put one q k asked h.
       comes (record v { way = InIsAnswered }) came put one
       (ap (λ (m : Marks). m.answers_out) q) (ap (λ (m : Marks). m.finishes) q)
       (turns v InIsAsked InIsAnswered came put (λ o3 o6 o7 o10 at. at) h);
-  hands_over = λ v w e came put one q k on h.
+  hands_over = λ v w e came put one q is k on h.
       goes (record v { way = Free }) came put one
       (ap (λ (m : Marks). m.asks_out) q) (ap (λ (m : Marks). m.switches) q)
       (turns v InIsAnswered Free came put (λ o3 o6 o7 o10 at. at) h);
-  asks_out = λ v came put one q k on at h.
+  asks_out = λ v window came put one q is k on at h.
       asks v.current v.out_successor v.way came put one (ap (λ (m : Marks). m.asks_out) q)
       (ap (λ (m : Marks). m.switches) q) k on at h;
   answers_out = λ v came put one q k on asked h.
       answers v.current v.out_successor v.out_asked came put one
       (ap (λ (m : Marks). m.answers_out) q) (ap (λ (m : Marks). m.finishes) q) k on asked h;
-  switches = λ v came put one q k h.
+  switches = λ v came put one q is k h.
       switches v.current v.out_successor v.out_asked came put one
       (ap (λ (m : Marks). m.asks_out) q) (ap (λ (m : Marks). m.switches) q) k h;
   finishes = λ v came put one q k on h.

@@ -1,5 +1,5 @@
 -- what a client puts are events of its replacements
-use Rattle.std.proofs.Common.{◌≡◌, ℕ, ◌==◌, Bool, true, false, true≢false, not, ◌&&◌, if◌then◌else◌, List, [], ◌∷◌, ◌++◌, Some, None, rules, refl, sym, ap, ◌∙◌, subst}
+use Rattle.std.proofs.Common.{◌≡◌, inl, ℕ, ◌==◌, Bool, true, false, true≢false, not, ◌&&◌, if◌then◌else◌, List, [], ◌∷◌, ◌++◌, Some, None, refl, sym, ◌∙◌, subst}
 use Rattle.std.proofs.lemmas.Bool.{and_parts}
 use Rattle.std.specs.Prelude.{IfSome}
 use Rattle.std.specs.declared.option.Option.{Option}
@@ -18,7 +18,6 @@ use Rattle.rh_order.proofs.ByNumber.{by_test, same_number}
 use Rattle.rh_shell.specs.declared.answers.Phase.{Phase}
 use Rattle.rh_shell.specs.declared.answers.Phase.TheVariants as phase
 use Rattle.rh_shell.specs.Rules.{Message, Text, Packet}
-use Rattle.rh_shell.specs.Shells.{is_of}
 use Rattle.rh_shell.specs.Moves.{OnLeg}
 use Rattle.rh_passages.proofs.Logs.{PutKeeps}
 use Rattle.rh_client.specs.declared.channels.Opening.{Opening}
@@ -35,26 +34,13 @@ use Rattle.rh_client.specs.Replacements.{is_in, is_out}
 use Rattle.rh_client.specs.State.{is_open, is_opening, is_writing, is_in_successor, is_current, is_out_successor}
 use Rattle.rh_client.specs.Acknowledging.{may_ack, ack_due, cookie_of}
 use Rattle.rh_client.specs.InReplacement.{handed_over}
-use Rattle.rh_client.specs.Putting.{Pick, or_else, in_r1_a1, out_r1_a3, begun_in, begun_out, with_end_put, put_in_r1_a5, put_out_r1_a7, put_by, put_conn_b1, put_in_r1_a1, put_current, put_out_successor, put_out, due_by, put_due, ack_by, put_ack_of, put_ack, lets_pdu, pdu_by, put_pdu, is_end_due, put_end, put_ping, put_successor_ping, put_next, put_writing, put_in_successor, put_in, settled_pick}
-use Rattle.rh_client_counts.proofs.Views.{View, view, view_by, Way, Free, way_of, in_way, out_way, is_in_way, is_out_way, out_if, marks, Marks, unmarked, IsGreeting, IsDue, EventsKeep}
+use Rattle.rh_client.specs.Putting.{Pick, or_else, conn_b1, conn_a1, in_r1_a1, out_r1_a3, begun_in, with_end_put, put_in_r1_a5, put_out_r1_a7, put_by, put_conn_b1, put_in_r1_a1, put_current, put_out_successor, put_out, due_by, put_due, ack_by, put_ack_of, put_ack, lets_pdu, pdu_by, put_pdu, is_end_due, put_end, put_ping, put_successor_ping, put_next, put_writing, put_in_successor, put_in, settled_pick}
+use Rattle.rh_client_counts.proofs.Views.{View, view, view_by, marks, unmarked, IsGreeting, IsDue, EventsKeep}
 use Rattle.rh_client.proofs.ClientLogs.{of_other}
+use Rattle.rh_client_counts.proofs.Replacements as replacements
 use Rattle.rh_client_counts.proofs.Rows as rows
 
-in_way_of : (r : Replacement) → is_in r ≡ true → is_in_way (way_of r) ≡ true
-in_way_of NoneUnderWay e = absurd (cc)
-in_way_of (In in_stage.Asked w) e = refl
-in_way_of (In in_stage.Answered w) e = refl
-in_way_of (Out stage w) e = absurd (cc)
-
-out_way_of : (r : Replacement) → is_out r ≡ true → is_out_way (way_of r) ≡ true
-out_way_of NoneUnderWay e = absurd (cc)
-out_way_of (In stage w) e = absurd (cc)
-out_way_of (Out out_stage.Asked w) e = refl
-out_way_of (Out out_stage.Answered w) e = refl
-out_way_of (Out out_stage.Switched w) e = refl
-out_way_of (Out out_stage.Finished w) e = refl
-
-not_both : (p : Phase) → is_open p ≡ true → is_opening p ≡ true → ⊥
+pub not_both : (p : Phase) → is_open p ≡ true → is_opening p ≡ true → ⊥
 not_both phase.Opening e o = absurd (cc)
 not_both phase.Open e o = absurd (cc)
 not_both phase.Ended e o = absurd (cc)
@@ -77,7 +63,7 @@ is_due s Next ack e = by s.line.has_next (not s.line.next.ended) e
 module _ (P : View → List OnLeg → List OnLeg → Type 0) (events : EventsKeep P) (leg : Leg)
     (came put : List OnLeg) where
   abbrev Holds : ClientRole → List OnLeg → List OnLeg → Type 0
-  Holds = rows.Holds P events
+  Holds = replacements.Holds P events
 
   abbrev pub Puts : Pick → Type 0
   Puts pick = PutKeeps Holds leg came put pick
@@ -92,7 +78,7 @@ module _ (P : View → List OnLeg → List OnLeg → Type 0) (events : EventsKee
   quiet_put : (s : ClientRole) (pick : Pick) → Quiet s pick → Holds s came put → Puts pick
   quiet_put s None quiet h = tt
   quiet_put s (Some one) quiet h =
-      rows.same_holds P events s one.0 came (put ++ (leg, one.1) ∷ []) quiet.0
+      replacements.same_holds P events s one.0 came (put ++ (leg, one.1) ∷ []) quiet.0
       (events.goes (view s) came put (leg, one.1) quiet.1 quiet.2 h)
 
   or_put : (a b : Pick) → Puts a → Puts b → Puts (or_else a b)
@@ -106,13 +92,13 @@ module _ (P : View → List OnLeg → List OnLeg → Type 0) (events : EventsKee
   a5_put s w k at h =
       by_test Puts (fits s.writing.meter IN_R1_A5_LEN)
       (Some (handed_over s w, Packet (named.InR1A5 s.in_successor.cookie))) None
-      (λ e. rows.after_in_holds P events (record s {
+      (λ e. replacements.after_in_holds P events (record s {
         leaving = s.writing;
         writing = s.in_successor;
         in_successor = unopened_in 0 s.config.lifetime;
       }) w came (put ++ (leg, Packet (named.InR1A5 s.in_successor.cookie)) ∷ [])
       (events.hands_over (view_by s (In in_stage.Answered w)) w s.in_successor.is_end_put came put
-      (leg, Packet (named.InR1A5 s.in_successor.cookie)) refl k at h))
+      (leg, Packet (named.InR1A5 s.in_successor.cookie)) refl refl k at h))
       (λ e. tt)
 
   a7_put : (s : ClientRole) (w : Waits) → leg.kind ≡ ClientIn
@@ -127,7 +113,7 @@ module _ (P : View → List OnLeg → List OnLeg → Type 0) (events : EventsKee
         Packet (named.OutR1A7 2 s.out_successor.cookie),
       )) None
       (λ e. events.switches (view_by s (Out out_stage.Answered w)) came put
-      (leg, Packet (named.OutR1A7 2 s.out_successor.cookie)) refl k h)
+      (leg, Packet (named.OutR1A7 2 s.out_successor.cookie)) refl refl k h)
       (λ e. tt)
 
   due_put : (s : ClientRole) (r : Replacement) → s.replacement ≡ r → leg.kind ≡ ClientIn
@@ -135,10 +121,10 @@ module _ (P : View → List OnLeg → List OnLeg → Type 0) (events : EventsKee
   due_put s NoneUnderWay e k at h = tt
   due_put s (In in_stage.Asked w) e k at h = tt
   due_put s (In in_stage.Answered w) e k at h =
-      a5_put s w k at (rows.at_replacement P events s (In in_stage.Answered w) came put e h)
+      a5_put s w k at (replacements.at_replacement P events s (In in_stage.Answered w) came put e h)
   due_put s (Out out_stage.Asked w) e k at h = tt
   due_put s (Out out_stage.Answered w) e k at h =
-      a7_put s w k (rows.at_replacement P events s (Out out_stage.Answered w) came put e h)
+      a7_put s w k (replacements.at_replacement P events s (Out out_stage.Answered w) came put e h)
   due_put s (Out out_stage.Switched w) e k at h = tt
   due_put s (Out out_stage.Finished w) e k at h = tt
 
@@ -156,20 +142,18 @@ module _ (P : View → List OnLeg → List OnLeg → Type 0) (events : EventsKee
   quiet_pdu s None = tt
   quiet_pdu s (Some len) =
       by_test (Quiet s) (lets_pdu s len) _ None
-      (λ e. (refl, refl, λ opening.
-      absurd (not_both s.phase (and_parts (is_open s.phase) _ e).0 opening)))
+      (λ e. (
+        refl,
+        refl,
+        λ opening.
+            absurd (not_both s.phase (and_parts (is_open s.phase) _ e).0 opening),
+      ))
       (λ e. tt)
 
   quiet_ping : (s : ClientRole) → Quiet s (put_ping s)
   unfolding put_ping
   quiet_ping s =
       by_test (Quiet s) (s.writing.is_ping_due && may_put s.writing.meter PING_LEN) _ None
-      (λ e. (refl, refl, λ opening on. refl)) (λ e. tt)
-
-  quiet_conn_b1 : (s : ClientRole) → Quiet s (put_conn_b1 s)
-  unfolding put_conn_b1
-  quiet_conn_b1 s =
-      by_test (Quiet s) (may_put s.writing.meter CONN_B1_LEN) _ None
       (λ e. (refl, refl, λ opening on. refl)) (λ e. tt)
 
   end_put : (s : ClientRole) → Holds s came put → Puts (put_end s)
@@ -202,19 +186,33 @@ module _ (P : View → List OnLeg → List OnLeg → Type 0) (events : EventsKee
       (or_put (put_end s) (put_ping s) (end_put s h)
       (quiet_put s (put_ping s) (quiet_ping s) h))))
 
-  writing_put : (s : ClientRole) (o : Opening) → leg.kind ≡ ClientIn
+  -- where so much was put of what its leg begins with
+  writing_begun : (s : ClientRole) (o : Opening) → s.writing.opening ≡ o → Holds s came put
+      → P (record (view s) { writing_begun = is_put o }) came put
+  writing_begun s o e h =
+      subst (λ (x : Opening). P (record (view s) { writing_begun = is_put x }) came put) e h
+
+  writing_put : (s : ClientRole) (o : Opening) → s.writing.opening ≡ o → leg.kind ≡ ClientIn
       → leg.number ≡ s.writing.number → Holds s came put → Puts (put_writing s o)
-  unfolding put_writing
-  writing_put s NotUp k at h = tt
-  writing_put s Request k at h =
-      events.goes (view s) came put (leg, Text (in_request s.config)) refl (λ opening on. refl) h
-  writing_put s First k at h = quiet_put s (put_conn_b1 s) (quiet_conn_b1 s) h
-  writing_put s Second k at h = tt
-  writing_put s Put k at h = next_put s k at h
+  unfolding put_writing put_conn_b1
+  writing_put s NotUp e k at h = tt
+  writing_put s Request e k at h =
+      events.goes (record (view s) { writing_begun = false }) came put
+      (leg, Text (in_request s.config)) refl (λ opening on. refl) (writing_begun s Request e h)
+  writing_put s First e k at h =
+      by_test Puts (may_put s.writing.meter CONN_B1_LEN)
+      (Some (
+        record s { writing = begun_in (metered s.writing CONN_B1_LEN) Put },
+        Packet (conn_b1 s),
+      )) None
+      (λ t. events.begins_writing (view s) came put (leg, Packet (conn_b1 s)) refl (λ on. refl)
+      refl (inl refl) k at (writing_begun s First e h))
+      (λ t. tt)
+  writing_put s Second e k at h = tt
+  writing_put s Put e k at h = next_put s k at h
 
   -- ---- on its successor
 
-  -- where so much was put of what its leg begins with
   in_begun : (s : ClientRole) (o : Opening) → s.in_successor.opening ≡ o → Holds s came put
       → P (record (view s) { in_asked = is_put o }) came put
   in_begun s o e h =
@@ -234,8 +232,8 @@ module _ (P : View → List OnLeg → List OnLeg → Type 0) (events : EventsKee
         record s { in_successor = begun_in (metered s.in_successor IN_R1_A1_LEN) Put },
         Packet (in_r1_a1 s),
       )) None
-      (λ t. events.asks_in (view s) came put (leg, Packet (in_r1_a1 s)) refl k at
-      (in_way_of s.replacement is) (in_begun s First e h))
+      (λ t. events.asks_in (view s) came put (leg, Packet (in_r1_a1 s)) refl refl k at
+      (rows.in_way_of s.replacement is) (in_begun s First e h))
       (λ t. tt)
   in_successor_put s Second e k at is h = tt
   in_successor_put s Put e k at is h =
@@ -249,7 +247,7 @@ module _ (P : View → List OnLeg → List OnLeg → Type 0) (events : EventsKee
   in_put s k h =
       by_test Puts (is_writing s leg.number) (put_writing s s.writing.opening)
       (if is_in_successor s leg.number then put_in_successor s s.in_successor.opening else None)
-      (λ e. writing_put s s.writing.opening k (same_number leg.number s.writing.number e) h)
+      (λ e. writing_put s s.writing.opening refl k (same_number leg.number s.writing.number e) h)
       (λ e. by_test Puts (is_in_successor s leg.number)
       (put_in_successor s s.in_successor.opening) None
       (λ t. let parts = and_parts (is_in s.replacement) (leg.number == s.in_successor.number) t in
@@ -259,14 +257,27 @@ module _ (P : View → List OnLeg → List OnLeg → Type 0) (events : EventsKee
 
   -- ---- on OUT channels
 
-  quiet_current : (s : ClientRole) (o : Opening) → is_of ClientIn leg ≡ false
-      → Quiet s (put_current s o)
+  not_in : leg.kind ≡ ClientOut → (m : Message) → IsGreeting (leg, m)
+  not_in k m on = absurd (true≢false (sym on ∙ of_other ClientIn ClientOut leg k refl))
+
+  current_begun : (s : ClientRole) (o : Opening) → s.current.opening ≡ o → Holds s came put
+      → P (record (view s) { current_begun = is_asked o }) came put
+  current_begun s o e h =
+      subst (λ (x : Opening). P (record (view s) { current_begun = is_asked x }) came put) e h
+
+  current_put : (s : ClientRole) (o : Opening) → s.current.opening ≡ o → leg.kind ≡ ClientOut
+      → leg.number ≡ s.current.number → Holds s came put → Puts (put_current s o)
   unfolding put_current
-  quiet_current s NotUp other = tt
-  quiet_current s Request other = (refl, refl, λ opening on. absurd (true≢false (sym on ∙ other)))
-  quiet_current s First other = (refl, refl, λ opening on. absurd (true≢false (sym on ∙ other)))
-  quiet_current s Second other = tt
-  quiet_current s Put other = tt
+  current_put s NotUp e k at h = tt
+  current_put s Request e k at h =
+      let m : Message = Text (out_request s.config CONN_A1_LEN) in
+      events.goes (record (view s) { current_begun = false }) came put (leg, m) refl
+      (λ opening. not_in k m) (current_begun s Request e h)
+  current_put s First e k at h =
+      events.begins_current (view s) came put (leg, Packet (conn_a1 s)) refl
+      (not_in k (Packet (conn_a1 s))) refl (inl refl) k at (current_begun s First e h)
+  current_put s Second e k at h = tt
+  current_put s Put e k at h = tt
 
   out_begun : (s : ClientRole) (o : Opening) → s.out_successor.opening ≡ o → Holds s came put
       → P (record (view s) { out_asked = is_asked o }) came put
@@ -281,16 +292,15 @@ module _ (P : View → List OnLeg → List OnLeg → Type 0) (events : EventsKee
   out_successor_put s Request e k at is h =
       events.goes (record (view s) { out_asked = false }) came put
       (leg, Text (out_request s.config OUT_R1_A3_C1_LEN)) refl
-      (λ opening on. absurd (true≢false (sym on ∙ of_other ClientIn ClientOut leg k refl)))
+      (λ opening. not_in k (Text (out_request s.config OUT_R1_A3_C1_LEN)))
       (out_begun s Request e h)
   out_successor_put s First e k at is h =
-      events.asks_out (view s) came put (leg, Packet (out_r1_a3 s)) refl k at
-      (out_way_of s.replacement is) (out_begun s First e h)
+      events.asks_out (view s) s.config.window came put (leg, Packet (out_r1_a3 s)) refl refl k at
+      (rows.is_past s.replacement is) (out_begun s First e h)
   out_successor_put s Second e k at is h =
       events.goes (record (view s) { out_asked = true }) came put
       (leg, Packet named.OutR2C1) refl
-      (λ opening on. absurd (true≢false (sym on ∙ of_other ClientIn ClientOut leg k refl)))
-      (out_begun s Second e h)
+      (λ opening. not_in k (Packet named.OutR2C1)) (out_begun s Second e h)
   out_successor_put s Put e k at is h = tt
 
   out_put : (s : ClientRole) → leg.kind ≡ ClientOut → Holds s came put
@@ -299,8 +309,7 @@ module _ (P : View → List OnLeg → List OnLeg → Type 0) (events : EventsKee
   out_put s k h =
       by_test Puts (is_current s leg.number) (put_current s s.current.opening)
       (if is_out_successor s leg.number then put_out_successor s s.out_successor.opening else None)
-      (λ e. quiet_put s (put_current s s.current.opening)
-      (quiet_current s s.current.opening (of_other ClientIn ClientOut leg k refl)) h)
+      (λ e. current_put s s.current.opening refl k (same_number leg.number s.current.number e) h)
       (λ e. by_test Puts (is_out_successor s leg.number)
       (put_out_successor s s.out_successor.opening) None
       (λ t. let parts = and_parts (is_out s.replacement) (leg.number == s.out_successor.number) t in
@@ -313,7 +322,7 @@ module _ (P : View → List OnLeg → List OnLeg → Type 0) (events : EventsKee
   settled_put : (pick : Pick) → Puts pick → Puts (settled_pick pick)
   settled_put None h = tt
   settled_put (Some pick) h =
-      rows.settled_or_wished_holds P events pick.0 came (put ++ (leg, pick.1) ∷ []) h
+      replacements.settled_or_wished_holds P events pick.0 came (put ++ (leg, pick.1) ∷ []) h
 
   pub puts_by : (s : ClientRole) (k : LegKind) → leg.kind ≡ k → Holds s came put
       → Puts (settled_pick (put_by s leg.number k))

@@ -1,13 +1,12 @@
--- what comes to a client, and what its caller does, are events of its replacements
-use Rattle.std.proofs.Common.{◌≡◌, inl, inr, ℕ, ◌+◌, ◌==◌, Bool, true, false, not, ◌&&◌, ◌||◌, nat_lt, if◌then◌else◌, List, [], ◌∷◌, ◌++◌, Some, None, Ok, Err, rules, refl, sym, ap, ◌∙◌, subst}
+-- what comes to a client, its legs and what it is given, are events of its replacements
+use Rattle.std.proofs.Common.{◌≡◌, ◌⊎◌, inl, inr, ℕ, ◌==◌, Bool, true, false, not, ◌&&◌, ◌||◌, nat_lt, if◌then◌else◌, List, [], ◌∷◌, ◌++◌, Some, None, Ok, Err, rules, refl, sym, ap, ◌∙◌, subst}
 use Rattle.std.proofs.lemmas.Bool.{and_parts}
 use Rattle.std.specs.Option.{is_some}
 use Rattle.std.specs.declared.option.Option.{Option}
-use Rattle.std.specs.declared.result.Result.{Result}
 use Rattle.rh_rts.specs.declared.command.Cookie.{Cookie}
 use Rattle.rh_sig.specs.declared.named.Named.{Named}
 use Rattle.rh_sig.specs.declared.named.Named.TheVariants as named
-use Rattle.rh_line.specs.Lines.{admit_verdict, after_admit, after_end, after_finish, after_take, channel_of}
+use Rattle.rh_line.specs.Lines.{admit_verdict, after_admit, after_end, after_finish, channel_of}
 use Rattle.rh_line.specs.declared.leg.Leg.{Leg}
 use Rattle.rh_line.specs.declared.leg.LegKind.{LegKind}
 use Rattle.rh_line.specs.declared.leg.LegKind.TheVariants.{ClientOut, OutServer, ClientIn, InServer}
@@ -15,8 +14,6 @@ use Rattle.rh_line.specs.declared.which.Which.{Which}
 use Rattle.rh_order.proofs.ByNumber.{by_test, same_number}
 use Rattle.rh_shell.specs.declared.answers.Count.{Count}
 use Rattle.rh_shell.specs.declared.answers.Phase.TheVariants as phase
-use Rattle.rh_shell.specs.declared.end_role.RecycleRefused.{RecycleRefused}
-use Rattle.rh_shell.specs.declared.end_role.RecycleRefused.TheVariants.{Last}
 use Rattle.rh_shell.specs.Rules.{Row, Pdu, Packet}
 use Rattle.rh_shell.specs.Moves.{OnLeg}
 use Rattle.rh_passages.proofs.Logs.{Fact, RowKeeps}
@@ -28,27 +25,22 @@ use Rattle.rh_client.specs.declared.replacement.Replacement.TheVariants.{NoneUnd
 use Rattle.rh_client.specs.declared.replacement.InStage.TheVariants as in_stage
 use Rattle.rh_client.specs.declared.replacement.OutStage.{OutStage}
 use Rattle.rh_client.specs.declared.replacement.OutStage.TheVariants as out_stage
-use Rattle.rh_client.specs.declared.replacement.Waits.{Waits}
 use Rattle.rh_client.specs.declared.replacement.Waits.TheVariants as waits
 use Rattle.rh_client.specs.declared.state.ClientRole.{ClientRole}
-use Rattle.rh_client.specs.Channels.{unopened_in, unopened_out, is_up, is_put, is_asked, told_in, is_named, in_up, out_up}
-use Rattle.rh_client.specs.Replacements.{is_none, is_out, has_out, with_in, with_out}
-use Rattle.rh_client.specs.State.{Done, taken, unexpected, settled, is_open, is_opening, is_writing, is_in_successor, is_current, is_out_successor, is_over, begin_in, begin_out, after_in, after_out}
+use Rattle.rh_client.specs.Channels.{is_up, is_put, is_asked, told_in, is_named, in_up, out_up}
+use Rattle.rh_client.specs.Replacements.{is_in, is_out, has_out, with_out}
+use Rattle.rh_client.specs.State.{Done, taken, unexpected, settled, is_open, is_opening, is_writing, is_in_successor, is_current, is_out_successor}
 use Rattle.rh_client.specs.Opening.{up_by, wants_by, on_conn_a3, on_conn_c2, with_next}
 use Rattle.rh_client.specs.Acknowledging.{pdu_on, admit_row, on_ack_to, ack_named, acked, ack_row}
-use Rattle.rh_client.specs.InReplacement.{on_in_r1_a4, on_in_r2_a4, answer_by, recycle_by, wish_by, wished, wants_successor}
-use Rattle.rh_client.specs.OutReplacement.{succeeded, ended_or, pass_by, passed, a2_by, a6_by, a10_by, on_out_r1_a2, on_out_r1_a6}
-use Rattle.rh_client.specs.Ending.{Given, give, take, drawn_by, on_end_b2, end_on, end_channel}
+use Rattle.rh_client.specs.InReplacement.{answer_by}
+use Rattle.rh_client.specs.OutReplacement.{passed, a2_by, a6_by, a10_by, on_out_r1_a2, on_out_r1_a6}
+use Rattle.rh_client.specs.Ending.{give, drawn_by, on_end_b2, end_on, end_channel}
 use Rattle.rh_client.specs.Time.{ping_by}
-use Rattle.rh_client.specs.Putting.{settled_or_wished}
 use Rattle.rh_client.specs.Client as client
 use Rattle.rh_client.specs.Client.{on_packet, packet_by}
-use Rattle.rh_client_counts.proofs.Views.{View, view, view_by, Way, way_of, Free, InIsAsked, OutIsAsked, out_way, is_out_way, out_if, has_in, behind_out, newest_out, marks, Marks, unmarked, EventsKeep}
-
-free : (r : Replacement) → is_none r ≡ true → r ≡ NoneUnderWay
-free NoneUnderWay e = refl
-free (In stage w) e = absurd (cc)
-free (Out stage w) e = absurd (cc)
+use Rattle.rh_client_counts.proofs.Views.{View, view, view_by, way_of, out_way, is_in_way, is_out_way, newest_out, marks, unmarked, EventsKeep}
+use Rattle.rh_client_counts.proofs.Replacements as replacements
+use Rattle.rh_client_counts.proofs.Replacements.{at_replacement, same_holds, begin_out_holds, settled_holds, passed_holds}
 
 first_of : (a b c : Bool) → a || (b && c) ≡ true → b ≡ false → a ≡ true
 first_of true b c e o = refl
@@ -66,11 +58,24 @@ not_true : (b : Bool) → not b ≡ true → b ≡ false
 not_true true e = absurd (cc)
 not_true false e = refl
 
+either_of : (a b c d : Bool) → (a && not b) || (c && not d) ≡ true → (b ≡ false) ⊎ (c ≡ true)
+either_of true false c d e = inl refl
+either_of true true true d e = inr refl
+either_of true true false d e = absurd (cc)
+either_of false b true d e = inr refl
+either_of false b false d e = absurd (cc)
+
 not_false : (b : Bool) → not b ≡ false → b ≡ true
 not_false true e = refl
 not_false false e = absurd (cc)
 
-is_past : (r : Replacement) → is_out r ≡ true → is_out_way (way_of r) ≡ true
+pub in_way_of : (r : Replacement) → is_in r ≡ true → is_in_way (way_of r) ≡ true
+in_way_of NoneUnderWay e = absurd (cc)
+in_way_of (In in_stage.Asked w) e = refl
+in_way_of (In in_stage.Answered w) e = refl
+in_way_of (Out stage w) e = absurd (cc)
+
+pub is_past : (r : Replacement) → is_out r ≡ true → is_out_way (way_of r) ≡ true
 is_past NoneUnderWay e = absurd (cc)
 is_past (In stage w) e = absurd (cc)
 is_past (Out out_stage.Asked w) e = refl
@@ -85,169 +90,8 @@ newest_is out_stage.Switched a b = refl
 newest_is out_stage.Finished a b = refl
 
 module _ (P : Fact View) (events : EventsKeep P) where
-  abbrev pub Holds : Fact ClientRole
-  Holds s came put = P (view s) came put
-
-  pub at_replacement : (s : ClientRole) (r : Replacement) (came put : List OnLeg)
-      → s.replacement ≡ r → Holds s came put → P (view_by s r) came put
-  at_replacement s r came put e h = subst (λ (x : Replacement). P (view_by s x) came put) e h
-
-  pub same_holds : (s t : ClientRole) (came put : List OnLeg) → view t ≡ view s
-      → Holds s came put → Holds t came put
-  same_holds s t came put same h = subst (λ (v : View). P v came put) (sym same) h
-
-  -- ---- a replacement begins
-
-  begin_in_holds : (s : ClientRole) (w : Waits) (came put : List OnLeg) → has_in w ≡ true
-      → P (record (view s) { way = Free; waiting = w }) came put
-      → Holds (begin_in s (has_out w)) came put
-  begin_in_holds s w came put is h =
-      by_test (λ (t : ClientRole). Holds t came put) (nat_lt s.writing.number LAST_NUMBER)
-      (record s {
-        in_successor = unopened_in (s.writing.number + 1) s.config.lifetime;
-        replacement = In in_stage.Asked (has_out w);
-      })
-      (record s { replacement = NoneUnderWay })
-      (λ e. events.begins_in (record (view s) { waiting = w }) came put is e h)
-      (λ e. events.drops_in (record (view s) { waiting = w }) came put is e h)
-
-  begin_out_holds : (s : ClientRole) (w : Waits) (came put : List OnLeg) → has_out w ≡ true
-      → P (record (view s) { way = Free; waiting = w }) came put
-      → Holds (begin_out s (behind_out w)) came put
-  begin_out_holds s w came put is h =
-      by_test (λ (t : ClientRole). Holds t came put) (nat_lt s.current.number LAST_NUMBER)
-      (record s {
-        out_successor = unopened_out (s.current.number + 1);
-        replacement = Out out_stage.Asked (behind_out w);
-      })
-      (record s { replacement = NoneUnderWay })
-      (λ e. events.begins_out (record (view s) { waiting = w }) came put is e h)
-      (λ e. events.drops_out (record (view s) { waiting = w }) came put is e h)
-
-  pub after_in_holds : (s : ClientRole) (b : Bool) (came put : List OnLeg)
-      → P (record (view s) { way = Free; waiting = out_if b }) came put
-      → Holds (after_in s b) came put
-  after_in_holds s true came put h = begin_out_holds s waits.Out came put refl h
-  after_in_holds s false came put h = h
-
-  after_out_holds : (s : ClientRole) (w : Waits) (came put : List OnLeg)
-      → P (record (view s) { way = Free; waiting = w }) came put
-      → Holds (after_out s w) came put
-  after_out_holds s waits.Nothing came put h = h
-  after_out_holds s waits.In came put h = begin_in_holds s waits.In came put refl h
-  after_out_holds s waits.Out came put h = begin_out_holds s waits.Out came put refl h
-  after_out_holds s waits.InThenOut came put h =
-      begin_in_holds s waits.InThenOut came put refl h
-  after_out_holds s waits.OutThenIn came put h =
-      begin_out_holds s waits.OutThenIn came put refl h
-
-  -- where the client is open, and the writing channel has not the last number
-  wish_holds : (s : ClientRole) (r : Replacement) (came put : List OnLeg) → s.replacement ≡ r
-      → is_open s.phase ≡ true → nat_lt s.writing.number LAST_NUMBER ≡ true
-      → Holds s came put → Holds (wish_by s r) came put
-  wish_holds s NoneUnderWay came put e open' lower h =
-      begin_in_holds s waits.In came put refl
-      (events.wants_in (view_by s NoneUnderWay) came put open' lower
-      (at_replacement s NoneUnderWay came put e h))
-  wish_holds s (In stage w) came put e open' lower h = h
-  wish_holds s (Out stage w) came put e open' lower h =
-      events.wants_in (view_by s (Out stage w)) came put open' lower
-      (at_replacement s (Out stage w) came put e h)
-
-  recycle_holds : (s : ClientRole) (r : Replacement) (came put : List OnLeg)
-      → s.replacement ≡ r → is_open s.phase ≡ true → Holds s came put
-      → Holds (recycle_by s r).0 came put
-  recycle_holds s NoneUnderWay came put e open' h =
-      by_test (λ (x : ClientRole × Result (Unit {0}) RecycleRefused). Holds x.0 came put)
-      (nat_lt s.writing.number LAST_NUMBER) (begin_in s false, Ok tt) (s, Err Last)
-      (λ lower. wish_holds s NoneUnderWay came put e open' lower h) (λ o. h)
-  recycle_holds s (In stage w) came put e open' h = h
-  recycle_holds s (Out stage w) came put e open' h = h
-
-  pub recycled : (s : ClientRole) (came put : List OnLeg) → s.phase ≡ phase.Open
-      → Holds s came put → Holds (recycle_by s s.replacement).0 came put
-  recycled s came put e h = recycle_holds s s.replacement came put refl (ap is_open e) h
-
-  -- ---- the work is done
-
-  over_holds : (s : ClientRole) (w : Waits) (came put : List OnLeg) → is_over s ≡ true
-      → P (record (view s) { way = Free; waiting = w }) came put
-      → Holds (record s { phase = phase.Ended }) came put
-  over_holds s w came put e h =
-      let parts =
-      and_parts (s.is_closing && s.writing.is_end_put)
-      (s.line.current.ended && is_none s.replacement) e in
-      let end_put = (and_parts s.is_closing s.writing.is_end_put parts.0).1 in
-      let none =
-      free s.replacement (and_parts s.line.current.ended (is_none s.replacement) parts.1).1 in
-      subst (λ (x : Replacement). P (record (view_by s x) { phase = phase.Ended }) came put)
-      (sym none) (events.ends (record (view s) { waiting = w }) came put end_put h)
-
-  over_now : (s : ClientRole) (came put : List OnLeg) → is_over s ≡ true → Holds s came put
-      → Holds (record s { phase = phase.Ended }) came put
-  over_now s came put e h =
-      let parts =
-      and_parts (s.is_closing && s.writing.is_end_put)
-      (s.line.current.ended && is_none s.replacement) e in
-      let none =
-      free s.replacement (and_parts s.line.current.ended (is_none s.replacement) parts.1).1 in
-      over_holds s waits.Nothing came put e (at_replacement s NoneUnderWay came put none h)
-
-  settled_holds : (s : ClientRole) (came put : List OnLeg) → Holds s came put
-      → Holds (settled s) came put
-  settled_holds s came put h =
-      by_test (λ (t : ClientRole). Holds t came put) (is_over s)
-      (record s { phase = phase.Ended }) s (λ e. over_now s came put e h) (λ e. h)
-
-  wished_holds : (s : ClientRole) (came put : List OnLeg) → Holds s came put
-      → Holds (wished s) came put
-  wished_holds s came put h =
-      by_test (λ (t : ClientRole). Holds t came put) (wants_successor s)
-      (wish_by s s.replacement) s
-      (λ e. let parts = and_parts (is_open s.phase) _ e in
-      wish_holds s s.replacement came put refl parts.0 (and_parts _ _ parts.1).1 h)
-      (λ e. h)
-
-  pub settled_or_wished_holds : (s : ClientRole) (came put : List OnLeg) → Holds s came put
-      → Holds (settled_or_wished s) came put
-  settled_or_wished_holds s came put h =
-      by_test (λ (t : ClientRole). Holds t came put) (is_over s)
-      (record s { phase = phase.Ended }) (wished s) (λ e. over_now s came put e h)
-      (λ e. wished_holds s came put h)
-
-  -- ---- the successor of an OUT channel is the current one
-
-  ended_or_holds : (s : ClientRole) (w : Waits) (came put : List OnLeg)
-      → P (record (view s) { way = Free; waiting = w }) came put
-      → Holds (ended_or s w) came put
-  ended_or_holds s w came put h =
-      by_test (λ (t : ClientRole). Holds t came put) (is_over s)
-      (record s { phase = phase.Ended }) (after_out s w)
-      (λ e. over_holds s w came put e h) (λ e. after_out_holds s w came put h)
-
-  pass_holds : (s : ClientRole) (r : Replacement) (came put : List OnLeg)
-      → s.replacement ≡ r → Holds s came put → Holds (pass_by s r) came put
-  pass_holds s NoneUnderWay came put e h = h
-  pass_holds s (In stage w) came put e h = h
-  pass_holds s (Out out_stage.Asked w) came put e h = h
-  pass_holds s (Out out_stage.Answered w) came put e h = h
-  pass_holds s (Out out_stage.Switched w) came put e h = h
-  pass_holds s (Out out_stage.Finished w) came put e h =
-      by_test (λ (t : ClientRole). Holds t came put) s.line.has_next s
-      (ended_or (succeeded s) w) (λ o. h)
-      (λ o. ended_or_holds (succeeded s) w came put
-      (events.succeeds (view_by s (Out out_stage.Finished w)) came put
-      (at_replacement s (Out out_stage.Finished w) came put e h)))
-
-  pub take_holds : (s : ClientRole) (came put : List OnLeg) → Holds s came put
-      → Holds (take s) came put
-  take_holds s came put h =
-      pass_holds (record s { line = after_take s.line }) s.replacement came put refl
-      (events.takes (view s) came put h)
-
-  passed_holds : (s : ClientRole) (came put : List OnLeg) → Holds s came put
-      → Holds (passed s) came put
-  passed_holds s came put h = pass_holds s s.replacement came put refl h
+  abbrev Holds : Fact ClientRole
+  Holds = replacements.Holds P events
 
   -- ---- rows
 
@@ -255,8 +99,8 @@ module _ (P : Fact View) (events : EventsKeep P) where
       → marks one.1 ≡ unmarked → Holds s came put → (x : Done) → view x.0 ≡ view s
       → RowKeeps Holds one came put x
   quiet_row s one came put other h (t, Ok took) same =
-      events.comes (view t) came put one other (same_holds s t came put same h)
-  quiet_row s one came put other h (t, Err refused) same = same_holds s t came put same h
+      events.comes (view t) came put one other (same_holds P events s t came put same h)
+  quiet_row s one came put other h (t, Err refused) same = same_holds P events s t came put same h
 
   c2_row : (s : ClientRole) (leg : Leg) (v window timeout : ℕ) (came put : List OnLeg)
       → leg.kind ≡ ClientOut → Holds s came put
@@ -286,7 +130,7 @@ module _ (P : Fact View) (events : EventsKeep P) where
       }))
       (unexpected s)
       (λ asked. events.answers_in (view_by s (In in_stage.Asked w)) came put (leg, Packet m) is k
-      asked (at_replacement s (In in_stage.Asked w) came put e h))
+      asked (at_replacement P events s (In in_stage.Asked w) came put e h))
       (λ o. h)
   answer_row s leg m window timeout (In in_stage.Answered w) came put e is k h = h
   answer_row s leg m window timeout (Out stage w) came put e is k h = h
@@ -321,20 +165,20 @@ module _ (P : Fact View) (events : EventsKeep P) where
       → RowKeeps Holds (leg, Packet (named.OutR1A2 to)) came put (a2_by s leg.number r)
   a2_row s leg to NoneUnderWay came put e k there open' lower h =
       let one : OnLeg = (leg, Packet (named.OutR1A2 to)) in
-      begin_out_holds s waits.Out (came ++ one ∷ []) put refl
+      begin_out_holds P events s waits.Out (came ++ one ∷ []) put refl
       (events.wants_out (view_by s NoneUnderWay) came put one refl k open' refl
       (a2_now s leg to NoneUnderWay came put e refl k there lower)
-      (at_replacement s NoneUnderWay came put e h))
+      (at_replacement P events s NoneUnderWay came put e h))
   a2_row s leg to (In in_stage.Asked false) came put e k there open' lower h =
       events.wants_out (view_by s (In in_stage.Asked false)) came put
       (leg, Packet (named.OutR1A2 to)) refl k open' refl
       (a2_now s leg to (In in_stage.Asked false) came put e refl k there lower)
-      (at_replacement s (In in_stage.Asked false) came put e h)
+      (at_replacement P events s (In in_stage.Asked false) came put e h)
   a2_row s leg to (In in_stage.Answered false) came put e k there open' lower h =
       events.wants_out (view_by s (In in_stage.Answered false)) came put
       (leg, Packet (named.OutR1A2 to)) refl k open' refl
       (a2_now s leg to (In in_stage.Answered false) came put e refl k there lower)
-      (at_replacement s (In in_stage.Answered false) came put e h)
+      (at_replacement P events s (In in_stage.Answered false) came put e h)
   a2_row s leg to (In stage true) came put e k there open' lower h = h
   a2_row s leg to (Out stage w) came put e k there open' lower h =
       by_test (RowKeeps Holds (leg, Packet (named.OutR1A2 to)) came put)
@@ -348,7 +192,8 @@ module _ (P : Fact View) (events : EventsKeep P) where
       subst (λ (n : ℕ). nat_lt n LAST_NUMBER ≡ true)
       (number ∙ sym (newest_is stage s.out_successor.number s.current.number)) lower in
       events.wants_out (view_by s (Out stage w)) came put (leg, Packet (named.OutR1A2 to)) refl k
-      open' (not_true (has_out w) parts.1) newest (at_replacement s (Out stage w) came put e h))
+      open' (not_true (has_out w) parts.1) newest
+      (at_replacement P events s (Out stage w) came put e h))
       (λ t. h)
 
   a2_if : (s : ClientRole) (leg : Leg) (to : ℕ) (came put : List OnLeg) → leg.kind ≡ ClientOut
@@ -378,7 +223,7 @@ module _ (P : Fact View) (events : EventsKeep P) where
       (unexpected s)
       (λ asked. events.answers_out (view_by s (Out out_stage.Asked w)) came put
       (leg, Packet (named.OutR1A6 to v timeout)) refl k at asked
-      (at_replacement s (Out out_stage.Asked w) came put e h))
+      (at_replacement P events s (Out out_stage.Asked w) came put e h))
       (λ o. h)
   a6_row s leg to v timeout (Out out_stage.Answered w) came put e k at h = h
   a6_row s leg to v timeout (Out out_stage.Switched w) came put e k at h = h
@@ -410,12 +255,12 @@ module _ (P : Fact View) (events : EventsKeep P) where
       let one : OnLeg = (leg, Packet named.OutR1A10) in
       by_test (RowKeeps Holds one came put) (s.line.has_next && is_current s leg.number)
       (taken (passed f)) (unexpected s)
-      (λ t. passed_holds f (came ++ one ∷ []) put
+      (λ t. passed_holds P events f (came ++ one ∷ []) put
       (events.finishes (view_by (record s { line = after_finish s.line })
       (Out out_stage.Switched w)) came put one refl k
       (same_number leg.number s.current.number (and_parts _ _ t).1)
       (events.fills (view_by s (Out out_stage.Switched w)) (after_finish s.line) came put
-      (inr refl) (at_replacement s (Out out_stage.Switched w) came put e h))))
+      (inr refl) (at_replacement P events s (Out out_stage.Switched w) came put e h))))
       (λ t. h)
   a10_row s leg (Out out_stage.Finished w) came put e k h = h
 
@@ -428,7 +273,8 @@ module _ (P : Fact View) (events : EventsKeep P) where
       by_test (RowKeeps Holds one came put) (channel_of s.line which).ended (unexpected s)
       (taken (settled (record s { line = after_end s.line which })))
       (λ e. h)
-      (λ e. settled_holds (record s { line = after_end s.line which }) (came ++ one ∷ []) put
+      (λ e. settled_holds P events (record s { line = after_end s.line which })
+      (came ++ one ∷ []) put
       (events.fills (view s) (after_end s.line which) (came ++ one ∷ []) put (inl open')
       (events.comes (view s) came put one refl h)))
 
@@ -550,25 +396,70 @@ module _ (P : Fact View) (events : EventsKeep P) where
       by_test (λ (t : ClientRole). Holds t came put) (is_current s n)
       (record s { current = out_up s.current cookie })
       (record s { out_successor = out_up s.out_successor cookie; line = with_next s.line })
-      (λ e. h)
+      (λ e. events.ups_current (view s) cookie came put (current e) h)
       (λ e. let parts =
       second_of (is_current s n) (is_up s.current.opening) (is_out_successor s n)
       (is_up s.out_successor.opening) wanted e in
-      events.fills (record (view s) { out_asked = false }) (with_next s.line) came put
+      events.fills (record (view s) { out_asked = false; out_cookie = cookie })
+      (with_next s.line) came put
       (inr (is_past s.replacement
       (and_parts (is_out s.replacement) (n == s.out_successor.number) parts.0).0))
+      (events.ups_out (view s) cookie came put
       (subst (λ (b : Bool). P (record (view s) { out_asked = b }) came put)
-      (not_asked_out s.out_successor.opening parts.1) h))
+      (not_asked_out s.out_successor.opening parts.1) h)))
+    where
+      current : is_current s n ≡ true
+          → (is_asked s.current.opening ≡ false)
+          ⊎ ((is_out_way (way_of s.replacement) ≡ true)
+          × (s.out_successor.number ≡ s.current.number))
+      current e =
+          by (either_of (is_current s n) (is_up s.current.opening) (is_out_successor s n)
+          (is_up s.out_successor.opening) wanted)
+        where
+          by : (is_up s.current.opening ≡ false) ⊎ (is_out_successor s n ≡ true)
+              → (is_asked s.current.opening ≡ false)
+              ⊎ ((is_out_way (way_of s.replacement) ≡ true)
+              × (s.out_successor.number ≡ s.current.number))
+          by (inl down) = inl (not_asked_out s.current.opening down)
+          by (inr is) =
+              let parts = and_parts (is_out s.replacement) (n == s.out_successor.number) is in
+              inr (
+                is_past s.replacement parts.0,
+                sym (same_number n s.out_successor.number parts.1)
+                    ∙ same_number n s.current.number e,
+              )
   up_holds s n cookie ClientIn came put wanted h =
       by_test (λ (t : ClientRole). Holds t came put) (is_writing s n)
       (record s { writing = in_up s.writing cookie })
       (record s { in_successor = in_up s.in_successor cookie })
-      (λ e. h)
-      (λ e. subst (λ (b : Bool). P (record (view s) { in_asked = b }) came put)
+      (λ e. events.ups_writing (view s) cookie came put (writing e) h)
+      (λ e. events.ups_in (view s) cookie came put
+      (subst (λ (b : Bool). P (record (view s) { in_asked = b }) came put)
       (not_asked_in s.in_successor.opening
       (second_of (is_writing s n) (is_up s.writing.opening) (is_in_successor s n)
       (is_up s.in_successor.opening) wanted e).1)
-      h)
+      h))
+    where
+      writing : is_writing s n ≡ true
+          → (is_put s.writing.opening ≡ false)
+          ⊎ ((is_in_way (way_of s.replacement) ≡ true)
+          × (s.in_successor.number ≡ s.writing.number))
+      writing e =
+          by (either_of (is_writing s n) (is_up s.writing.opening) (is_in_successor s n)
+          (is_up s.in_successor.opening) wanted)
+        where
+          by : (is_up s.writing.opening ≡ false) ⊎ (is_in_successor s n ≡ true)
+              → (is_put s.writing.opening ≡ false)
+              ⊎ ((is_in_way (way_of s.replacement) ≡ true)
+              × (s.in_successor.number ≡ s.writing.number))
+          by (inl down) = inl (not_asked_in s.writing.opening down)
+          by (inr is) =
+              let parts = and_parts (is_in s.replacement) (n == s.in_successor.number) is in
+              inr (
+                in_way_of s.replacement parts.0,
+                sym (same_number n s.in_successor.number parts.1)
+                    ∙ same_number n s.writing.number e,
+              )
   up_holds s n cookie OutServer came put wanted h = h
   up_holds s n cookie InServer came put wanted h = h
 

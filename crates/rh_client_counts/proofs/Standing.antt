@@ -1,5 +1,5 @@
 -- one more message in a log, and the packets that are counted there
-use Rattle.std.proofs.Common.{◌≡◌, ℕ, suc, ◌+◌, ◌≤◌, ◌==◌, ◌&&◌, nat_lt, nat_le, Bool, true, false, if◌then◌else◌, List, [], ◌∷◌, ◌++◌, arith, refl, sym, ap, ◌∙◌, subst}
+use Rattle.std.proofs.Common.{◌≡◌, ℕ, ◌+◌, ◌≤◌, ◌==◌, ◌&&◌, Bool, true, false, if◌then◌else◌, List, [], ◌∷◌, ◌++◌, arith, refl, sym, ap, ◌∙◌, subst}
 use Rattle.std.proofs.lemmas.Bool.Decides.{nat_tests}
 use Rattle.rh_sig.specs.declared.named.Named.{Named}
 use Rattle.rh_line.specs.declared.leg.Leg.{Leg}
@@ -59,7 +59,7 @@ total_stays test kind n log (leg, m) e h =
     let more = total_more test kind log leg m in
     let b = is_of kind leg in
     let none : once_if (b && passes test m) ≡ 0 =
-        subst (λ (p : Bool). once_if (b && p) ≡ 0) (sym e) (never b) in
+    subst (λ (p : Bool). once_if (b && p) ≡ 0) (sym e) (never b) in
     omega (arith, more, none, h)
 
 pub total_rises : (test : Named → Bool) (kind : LegKind) (n : ℕ) (log : List OnLeg)
@@ -68,8 +68,8 @@ pub total_rises : (test : Named → Bool) (kind : LegKind) (n : ℕ) (log : List
 total_rises test kind n log (leg, m) e k h =
     let more = total_more test kind log leg m in
     let one : once_if (is_of kind leg && passes test m) ≡ 1 =
-        subst (λ (p : Bool). once_if (is_of kind leg && p) ≡ 1) (sym e)
-        (subst (λ (b : Bool). once_if (b && true) ≡ 1) (sym k) refl) in
+    subst (λ (p : Bool). once_if (is_of kind leg && p) ≡ 1) (sym e)
+    (subst (λ (b : Bool). once_if (b && true) ≡ 1) (sym k) refl) in
     omega (arith, more, one, h)
 
 -- ---- one on each of so many legs
@@ -89,7 +89,7 @@ stands_stays test kind first count log (leg, m) e h = record {
       let more = leg_count test at log leg m in
       let b = same_leg leg at in
       let none : once_if (b && passes test m) ≡ 0 =
-          subst (λ (p : Bool). once_if (b && p) ≡ 0) (sym e) (never b) in
+      subst (λ (p : Bool). once_if (b && p) ≡ 0) (sym e) (never b) in
       let before = h.each at in
       omega (arith, more, none, before);
 }
@@ -109,12 +109,12 @@ stands_next test kind first count log (leg, m) e k n h = record {
   each = λ at.
       let more = leg_count test at log leg m in
       let one : once_if (same_leg leg at && passes test m) ≡ once_if (same_leg leg at) =
-          subst (λ (p : Bool). once_if (same_leg leg at && p) ≡ once_if (same_leg leg at)) (sym e)
-          (always (same_leg leg at)) in
+      subst (λ (p : Bool). once_if (same_leg leg at && p) ≡ once_if (same_leg leg at)) (sym e)
+      (always (same_leg leg at)) in
       let before = h.each at in
       let next =
-          next_among (kind_number kind) (kind_number leg.kind) (kind_number at.kind) first count
-          leg.number at.number k n in
+      next_among (kind_number kind) (kind_number leg.kind) (kind_number at.kind) first count
+      leg.number at.number k n in
       omega (arith, more, one, before, next);
 }
 

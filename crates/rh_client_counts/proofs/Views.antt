@@ -1,5 +1,8 @@
 -- what the replacements at a client read and change, and what may happen to it
 use Rattle.std.proofs.Common.{◌≡◌, ◌⊎◌, Some, ℕ, ◌+◌, nat_lt, Bool, true, false, if◌then◌else◌, List, [], ◌∷◌, ◌++◌}
+use Rattle.rh_rts.specs.declared.command.Cookie.{Cookie}
+use Rattle.rh_sig.specs.declared.named.Named.TheVariants.{ConnA1, ConnB1, InR1A1, InR1A5, OutR1A3, OutR1A7}
+use Rattle.rh_sig.specs.declared.ranges.TheConstants.{PROTOCOL_VERSION}
 use Rattle.rh_window.specs.declared.recv_window.Ack.{Ack}
 use Rattle.rh_line.specs.Lines.{Line, due, after_take, after_told}
 use Rattle.rh_line.specs.declared.leg.LegKind.TheVariants.{ClientOut, ClientIn}
@@ -7,9 +10,10 @@ use Rattle.rh_line.specs.declared.which.Which.{Which}
 use Rattle.rh_line.specs.declared.which.Which.TheVariants.{Current, Next}
 use Rattle.rh_shell.specs.declared.answers.Phase.{Phase}
 use Rattle.rh_shell.specs.declared.answers.Phase.TheVariants as phase
-use Rattle.rh_shell.specs.Rules.{Message}
+use Rattle.rh_shell.specs.Rules.{Message, Packet}
 use Rattle.rh_shell.specs.Moves.{OnLeg}
 use Rattle.rh_shell.specs.Shells.{is_of}
+use Rattle.rh_passages.specs.Passing.{HasBegunIn, HasBegunOut}
 use Rattle.rh_passages.proofs.Logs.{Fact}
 use Rattle.rh_client.specs.declared.channels.TheConstants.{LAST_NUMBER}
 use Rattle.rh_client.specs.declared.replacement.Replacement.{Replacement}
@@ -21,10 +25,10 @@ use Rattle.rh_client.specs.declared.replacement.OutStage.TheVariants as out_stag
 use Rattle.rh_client.specs.declared.replacement.Waits.{Waits}
 use Rattle.rh_client.specs.declared.replacement.Waits.TheVariants as waits
 use Rattle.rh_client.specs.declared.state.ClientRole.{ClientRole}
-use Rattle.rh_client.specs.Channels.{is_put, is_asked}
+use Rattle.rh_client.specs.Channels.{no_cookie, is_put, is_asked}
 use Rattle.rh_client.specs.Replacements.{has_out, with_in, with_out}
 use Rattle.rh_client.specs.State.{is_opening, is_open}
-use Rattle.rh_client_counts.specs.Counting.{is_conn_c2, is_in_r1_a1, is_in_a4, is_in_r1_a5, is_out_r1_a2, is_out_r1_a3, is_out_r1_a6, is_out_r1_a7, is_out_r1_a10, is_greeting}
+use Rattle.rh_client_counts.specs.Counting.{is_conn_a1, is_conn_b1, is_conn_c2, is_in_r1_a1, is_in_a4, is_in_r1_a5, is_out_r1_a2, is_out_r1_a3, is_out_r1_a6, is_out_r1_a7, is_out_r1_a10, is_greeting}
 use Rattle.rh_client_counts.proofs.Standing.{passes}
 
 -- ---- how far a replacement is
@@ -109,6 +113,15 @@ pub record View : Type 0 where
   pub end_put : Bool
   -- what came, and is not taken
   pub line : Line
+  -- the cookies of the four channels; the first packet of the writing and of the current one was
+  -- put
+  pub connection : Cookie
+  pub writing_cookie : Cookie
+  pub writing_begun : Bool
+  pub in_cookie : Cookie
+  pub current_cookie : Cookie
+  pub current_begun : Bool
+  pub out_cookie : Cookie
 
 abbrev pub view_by : ClientRole → Replacement → View
 view_by s r = record {
@@ -123,6 +136,13 @@ view_by s r = record {
   waiting = waits_of r;
   end_put = s.writing.is_end_put;
   line = s.line;
+  connection = s.config.connection;
+  writing_cookie = s.writing.cookie;
+  writing_begun = is_put s.writing.opening;
+  in_cookie = s.in_successor.cookie;
+  current_cookie = s.current.cookie;
+  current_begun = is_asked s.current.opening;
+  out_cookie = s.out_successor.cookie;
 }
 
 abbrev pub view : ClientRole → View
@@ -135,6 +155,8 @@ newest_out v = if is_out_way v.way then v.out_successor else v.current
 -- ---- which packet of a replacement a message is
 
 pub record Marks : Type 0 where
+  pub begins_in : Bool
+  pub begins_out : Bool
   pub opens : Bool
   pub asks_in : Bool
   pub answers_in : Bool
@@ -147,6 +169,8 @@ pub record Marks : Type 0 where
 
 abbrev pub marks : Message → Marks
 marks m = record {
+  begins_in = passes is_conn_b1 m;
+  begins_out = passes is_conn_a1 m;
   opens = passes is_conn_c2 m;
   asks_in = passes is_in_r1_a1 m;
   answers_in = passes is_in_a4 m;
@@ -161,6 +185,8 @@ marks m = record {
 -- it is none of them
 abbrev pub unmarked : Marks
 unmarked = record {
+  begins_in = false;
+  begins_out = false;
   opens = false;
   asks_in = false;
   answers_in = false;
@@ -176,6 +202,12 @@ unmarked = record {
 
 abbrev pub IsGreeting : OnLeg → Type 0
 IsGreeting (leg, m) = is_of ClientIn leg ≡ true → is_greeting m ≡ true
+
+-- CONN/A1 and CONN/B1 are of the connection
+abbrev pub Names : Cookie → Message → Type 0
+Names connection (Packet (ConnA1 version of channel window)) = of ≡ connection
+Names connection (Packet (ConnB1 version of channel lifetime keepalive group)) = of ≡ connection
+Names connection message = Unit {0}
 
 -- the client is open, or replaces an OUT channel
 abbrev pub IsPast : View → Type 0
@@ -211,6 +243,34 @@ pub record EventsKeep (P : Fact View) : Type 0 where
   pub ends : (v : View) (came put : List OnLeg) → v.end_put ≡ true
       → P (record v { way = Free }) came put
       → P (record v { phase = phase.Ended; way = Free; waiting = waits.Nothing }) came put
+  -- a leg is up: there is one successor at most, and it has another number
+  pub ups_writing : (v : View) (cookie : Cookie) (came put : List OnLeg)
+      → (v.writing_begun ≡ false) ⊎ ((is_in_way v.way ≡ true) × (v.in_successor ≡ v.writing))
+      → P v came put
+      → P (record v { writing_begun = false; writing_cookie = cookie }) came put
+  pub ups_in : (v : View) (cookie : Cookie) (came put : List OnLeg)
+      → P (record v { in_asked = false }) came put
+      → P (record v { in_asked = false; in_cookie = cookie }) came put
+  pub ups_current : (v : View) (cookie : Cookie) (came put : List OnLeg)
+      → (v.current_begun ≡ false) ⊎ ((is_out_way v.way ≡ true) × (v.out_successor ≡ v.current))
+      → P v came put
+      → P (record v { current_begun = false; current_cookie = cookie }) came put
+  pub ups_out : (v : View) (cookie : Cookie) (came put : List OnLeg)
+      → P (record v { out_asked = false }) came put
+      → P (record v { out_asked = false; out_cookie = cookie }) came put
+  -- its first packet is put: CONN/B1, CONN/A1
+  pub begins_writing : (v : View) (came put : List OnLeg) (one : OnLeg)
+      → marks one.1 ≡ record unmarked { begins_in = true } → IsGreeting one
+      → Names v.connection one.1 → HasBegunIn v.writing_cookie (one.1 ∷ [])
+      → one.0.kind ≡ ClientIn → one.0.number ≡ v.writing
+      → P (record v { writing_begun = false }) came put
+      → P (record v { writing_begun = true }) came (put ++ one ∷ [])
+  pub begins_current : (v : View) (came put : List OnLeg) (one : OnLeg)
+      → marks one.1 ≡ record unmarked { begins_out = true } → IsGreeting one
+      → Names v.connection one.1 → HasBegunOut v.current_cookie (one.1 ∷ [])
+      → one.0.kind ≡ ClientOut → one.0.number ≡ v.current
+      → P (record v { current_begun = false }) came put
+      → P (record v { current_begun = true }) came (put ++ one ∷ [])
   -- a replacement is wanted
   pub wants_in : (v : View) (came put : List OnLeg) → is_open v.phase ≡ true
       → nat_lt v.writing LAST_NUMBER ≡ true → P v came put
@@ -226,6 +286,7 @@ pub record EventsKeep (P : Fact View) : Type 0 where
       → P (record v {
         in_successor = v.writing + 1;
         in_asked = false;
+        in_cookie = no_cookie;
         way = InIsAsked;
         waiting = out_if (has_out v.waiting);
       }) came put
@@ -234,6 +295,7 @@ pub record EventsKeep (P : Fact View) : Type 0 where
       → P (record v {
         out_successor = v.current + 1;
         out_asked = false;
+        out_cookie = no_cookie;
         way = OutIsAsked;
         waiting = behind_out v.waiting;
       }) came put
@@ -245,7 +307,9 @@ pub record EventsKeep (P : Fact View) : Type 0 where
       → P (record v { way = Free; waiting = waits.Nothing }) came put
   -- an IN channel is replaced
   pub asks_in : (v : View) (came put : List OnLeg) (one : OnLeg)
-      → marks one.1 ≡ record unmarked { asks_in = true } → one.0.kind ≡ ClientIn
+      → marks one.1 ≡ record unmarked { asks_in = true }
+      → one.1 ≡ Packet (InR1A1 PROTOCOL_VERSION v.connection v.writing_cookie v.in_cookie)
+      → one.0.kind ≡ ClientIn
       → one.0.number ≡ v.in_successor → is_in_way v.way ≡ true
       → P (record v { in_asked = false }) came put
       → P (record v { in_asked = true }) came (put ++ one ∷ [])
@@ -254,20 +318,27 @@ pub record EventsKeep (P : Fact View) : Type 0 where
       → v.in_asked ≡ true → P (record v { way = InIsAsked }) came put
       → P (record v { way = InIsAnswered }) (came ++ one ∷ []) put
   pub hands_over : (v : View) (out_waits end_put : Bool) (came put : List OnLeg) (one : OnLeg)
-      → marks one.1 ≡ record unmarked { hands_over = true } → one.0.kind ≡ ClientIn
+      → marks one.1 ≡ record unmarked { hands_over = true }
+      → one.1 ≡ Packet (InR1A5 v.in_cookie) → one.0.kind ≡ ClientIn
       → one.0.number ≡ v.writing
       → P (record v { way = InIsAnswered; waiting = out_if out_waits }) came put
       → P (record v {
         writing = v.in_successor;
+        writing_cookie = v.in_cookie;
+        writing_begun = v.in_asked;
         in_successor = 0;
         in_asked = false;
+        in_cookie = no_cookie;
         way = Free;
         waiting = out_if out_waits;
         end_put = end_put;
       }) came (put ++ one ∷ [])
   -- an OUT channel is
-  pub asks_out : (v : View) (came put : List OnLeg) (one : OnLeg)
-      → marks one.1 ≡ record unmarked { asks_out = true } → one.0.kind ≡ ClientOut
+  pub asks_out : (v : View) (window : ℕ) (came put : List OnLeg) (one : OnLeg)
+      → marks one.1 ≡ record unmarked { asks_out = true }
+      → one.1
+      ≡ Packet (OutR1A3 PROTOCOL_VERSION v.connection v.current_cookie v.out_cookie window)
+      → one.0.kind ≡ ClientOut
       → one.0.number ≡ v.out_successor → is_out_way v.way ≡ true
       → P (record v { out_asked = false }) came put
       → P (record v { out_asked = true }) came (put ++ one ∷ [])
@@ -277,7 +348,8 @@ pub record EventsKeep (P : Fact View) : Type 0 where
       → P (record v { way = OutIsAsked }) came put
       → P (record v { way = OutIsAnswered }) (came ++ one ∷ []) put
   pub switches : (v : View) (came put : List OnLeg) (one : OnLeg)
-      → marks one.1 ≡ record unmarked { switches = true } → one.0.kind ≡ ClientIn
+      → marks one.1 ≡ record unmarked { switches = true }
+      → one.1 ≡ Packet (OutR1A7 2 v.out_cookie) → one.0.kind ≡ ClientIn
       → P (record v { way = OutIsAnswered }) came put
       → P (record v { way = OutIsSwitched }) came (put ++ one ∷ [])
   pub finishes : (v : View) (came put : List OnLeg) (one : OnLeg)
@@ -288,7 +360,10 @@ pub record EventsKeep (P : Fact View) : Type 0 where
       → P (record v { way = OutIsFinished }) came put
       → P (record v {
         current = v.out_successor;
+        current_cookie = v.out_cookie;
+        current_begun = v.out_asked;
         out_successor = 0;
         out_asked = false;
+        out_cookie = no_cookie;
         way = Free;
       }) came put

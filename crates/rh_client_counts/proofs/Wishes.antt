@@ -1,5 +1,5 @@
 -- a client asks for a successor of an OUT channel where one is wanted
-use Rattle.std.proofs.Common.{◌≡◌, ℕ, ◌+◌, ◌≤◌, Bool, true, false, true≢false, not, nat_lt, if◌then◌else◌, List, [], ◌∷◌, ◌++◌, arith, refl, sym, ap, ◌∙◌, subst}
+use Rattle.std.proofs.Common.{◌≡◌, ℕ, ◌+◌, ◌≤◌, Bool, true, false, true≢false, not, nat_lt, List, [], ◌∷◌, ◌++◌, arith, refl, sym, ap, ◌∙◌, subst}
 use Rattle.rh_http.specs.declared.config.ClientConfig.{ClientConfig}
 use Rattle.rh_line.specs.declared.leg.LegKind.TheVariants.{ClientOut}
 use Rattle.rh_shell.specs.declared.answers.Phase.{Phase}
@@ -23,8 +23,8 @@ use Rattle.rh_client_counts.specs.Counting.{is_out_r1_a2, is_out_r1_a3, total, o
 use Rattle.rh_client_counts.specs.Replacing.{is_to_ask, out_waits, AsksWhereWanted}
 use Rattle.rh_client_counts.proofs.Allowed.{allowed_moves_keep}
 use Rattle.rh_client_counts.proofs.Standing.{passes, total_stays, total_rises}
-use Rattle.rh_client_counts.proofs.Views.{View, view, Way, way_of, waits_of, Free, InIsAsked, InIsAnswered, OutIsAsked, OutIsAnswered, OutIsSwitched, OutIsFinished, is_out_way, out_if, has_in, behind_out, newest_out, Marks, marks, unmarked, EventsKeep}
-use Rattle.rh_client_counts.proofs.Rows as keeps
+use Rattle.rh_client_counts.proofs.Views.{View, view, Way, way_of, waits_of, Free, InIsAsked, InIsAnswered, OutIsAsked, OutIsAnswered, OutIsSwitched, OutIsFinished, is_out_way, out_if, has_in, behind_out, newest_out, Marks, EventsKeep}
+use Rattle.rh_client_counts.proofs.Replacements as keeps
 use Rattle.rh_client_counts.proofs.Moves.{client_keeps}
 
 abbrev to_ask : Bool → Way → Bool
@@ -255,6 +255,14 @@ wishes = record {
   ends = λ v came put e h.
       ends (is_ended v.phase) v.writing v.current (total is_out_r1_a2 ClientOut came)
       (total is_out_r1_a3 ClientOut put) v.out_asked v.waiting h;
+  ups_writing = λ v cookie came put down h. h;
+  ups_in = λ v cookie came put h. h;
+  ups_current = λ v cookie came put down h. h;
+  ups_out = λ v cookie came put h. h;
+  begins_writing = λ v came put one q greets of is k at h.
+      goes v came put one (ap (λ (m : Marks). m.asks_out) q) h;
+  begins_current = λ v came put one q greets of is k at h.
+      goes v came put one (ap (λ (m : Marks). m.asks_out) q) h;
   wants_in = λ v came put o l h.
       wants_in (is_ended v.phase) v.writing (newest_out v) (total is_out_r1_a2 ClientOut came)
       (total is_out_r1_a3 ClientOut put) v.out_asked v.way v.waiting l h;
@@ -273,14 +281,14 @@ wishes = record {
       w h;
   drops_in = λ v came put w l h. absurd (true≢false (sym (h.ins w) ∙ l));
   drops_out = λ v came put w l h. absurd (true≢false (sym (h.outs w) ∙ l));
-  asks_in = λ v came put one q k on at h.
+  asks_in = λ v came put one q is k on at h.
       goes v came put one (ap (λ (m : Marks). m.asks_out) q) h;
   answers_in = λ v came put one q k asked h.
       comes (record v { way = InIsAnswered }) came put one (ap (λ (m : Marks). m.wants_out) q)
       (turned (is_ended v.phase) v.writing v.writing v.current v.out_asked v.out_asked InIsAsked
       InIsAnswered v.waiting (total is_out_r1_a2 ClientOut came) (total is_out_r1_a3 ClientOut put)
       refl tt h.ins h);
-  hands_over = λ v w e came put one q k on h.
+  hands_over = λ v w e came put one q is k on h.
       goes (record v {
         writing = v.in_successor;
         in_successor = 0;
@@ -292,7 +300,7 @@ wishes = record {
       (turned (is_ended v.phase) v.writing v.in_successor v.current v.out_asked v.out_asked
       InIsAnswered Free (out_if w) (total is_out_r1_a2 ClientOut came)
       (total is_out_r1_a3 ClientOut put) refl tt (λ o. absurd (out_if_in w o)) h);
-  asks_out = λ v came put one q k on at h.
+  asks_out = λ v window came put one q is k on at h.
       asks (is_ended v.phase) v.writing (newest_out v) (total is_out_r1_a2 ClientOut came)
       (total is_out_r1_a3 ClientOut put) (total is_out_r1_a3 ClientOut (put ++ one ∷ [])) v.way
       v.waiting at
@@ -303,7 +311,7 @@ wishes = record {
       (turned (is_ended v.phase) v.writing v.writing v.out_successor v.out_asked v.out_asked
       OutIsAsked OutIsAnswered v.waiting (total is_out_r1_a2 ClientOut came)
       (total is_out_r1_a3 ClientOut put) (sym (ap not asked)) asked h.ins h);
-  switches = λ v came put one q k h.
+  switches = λ v came put one q is k h.
       goes (record v { way = OutIsSwitched }) came put one (ap (λ (m : Marks). m.asks_out) q)
       (turned (is_ended v.phase) v.writing v.writing v.out_successor v.out_asked v.out_asked
       OutIsAnswered OutIsSwitched v.waiting (total is_out_r1_a2 ClientOut came)

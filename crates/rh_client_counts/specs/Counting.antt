@@ -2,7 +2,7 @@
 -- profile's; the packets are of MS-RPCH 2.2.4)
 use Rattle.std.specs.Prelude.{ℕ, ◌≡◌, ◌+◌, ◌&&◌, Bool, true, false, nat_le, nat_lt, List, if◌then◌else◌}
 use Rattle.rh_sig.specs.declared.named.Named.{Named}
-use Rattle.rh_sig.specs.declared.named.Named.TheVariants.{ConnB1, ConnC2, InR1A1, InR1A4, InR1A5, InR2A4, Ping}
+use Rattle.rh_sig.specs.declared.named.Named.TheVariants.{ConnA1, ConnB1, ConnC2, InR1A1, InR1A4, InR1A5, InR2A4, Ping}
 use Rattle.rh_sig.specs.declared.named.Named.TheVariants.{OutR1A2, OutR1A3, OutR1A6, OutR1A7, OutR1A10}
 use Rattle.rh_line.specs.declared.leg.Leg.{Leg}
 use Rattle.rh_line.specs.declared.leg.LegKind.{LegKind}
@@ -13,6 +13,14 @@ use Rattle.rh_shell.specs.Wires.{of_leg}
 use Rattle.rh_passages.specs.Passing.{count_of, of_kind}
 
 -- ---- the packets
+
+abbrev pub is_conn_a1 : Named → Bool
+is_conn_a1 (ConnA1 version connection channel window) = true
+is_conn_a1 packet = false
+
+abbrev pub is_conn_b1 : Named → Bool
+is_conn_b1 (ConnB1 version connection channel lifetime keepalive group) = true
+is_conn_b1 packet = false
 
 abbrev pub is_conn_c2 : Named → Bool
 is_conn_c2 (ConnC2 version window timeout) = true

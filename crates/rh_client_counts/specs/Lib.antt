@@ -1,2 +1,4 @@
 pub mod Counting
 pub mod Replacing
+pub mod Opening
+pub mod Naming

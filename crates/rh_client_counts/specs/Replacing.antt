@@ -1,5 +1,5 @@
--- how many replacements a client asked for, and how far they have come, by what came and what it put
--- (profile)
+-- how many replacements a client asked for, and how far they have come, by what came and what it
+-- put (profile)
 use Rattle.std.specs.Prelude.{ℕ, ◌≡◌, ◌+◌, ◌≤◌, Bool, false, not}
 use Rattle.rh_line.specs.declared.leg.LegKind.TheVariants.{ClientIn, ClientOut}
 use Rattle.rh_shell.specs.Moves.{Passage}

@@ -24,8 +24,8 @@ pub fn a_client_replaces_in_channels_one_by_one()
 /// OUT_R1/A7 that it put, each of these an OUT_R1/A6 that came, and each of these an OUT_R1/A3 that
 /// it put; of these at most one more was put than OUT_R1/A10 came. The number of the current
 /// channel, and how far a replacement has come, are told by these counts. OUT_R1/A3 stands once on
-/// each OUT channel from the second one on, and OUT_R1/A6 and OUT_R1/A10 once on each from the first
-/// one on.
+/// each OUT channel from the second one on, and OUT_R1/A6 and OUT_R1/A10 once on each from the
+/// first one on.
 pub fn a_client_replaces_out_channels_one_by_one()
     ensures { (config : ClientConfig) (moves : List EndMove)
         → AreAllowedAtEnd rules acts (end_started (first config)) moves

@@ -1,7 +1,8 @@
 -- which packets the steps of a server add to those that wait
-use Rattle.std.proofs.Common.{◌≡◌, ℕ, ◌==◌, Bool, true, false, not, ◌&&◌, ◌||◌, List, [], ◌∷◌, Some, None, Ok, Err, refl, rules, sym, subst}
+use Rattle.std.proofs.Common.{◌≡◌, ℕ, ◌+◌, ◌==◌, Bool, true, false, not, ◌&&◌, ◌||◌, Some, None, Ok, Err, refl, rules, sym, subst}
 use Rattle.std.specs.Prelude.{if◌then◌else◌, nat_lt}
 use Rattle.std.specs.declared.option.Option.{Option}
+use Rattle.std.specs.declared.result.Result.{Result}
 use Rattle.rh_rts.specs.declared.command.Cookie.{Cookie}
 use Rattle.rh_sig.specs.declared.named.Named.{Named}
 use Rattle.rh_sig.specs.declared.named.Named.TheVariants as named
@@ -10,7 +11,9 @@ use Rattle.rh_line.specs.Lines.{after_finish, after_take}
 use Rattle.rh_order.proofs.ByNumber.{by_test}
 use Rattle.rh_shell.specs.declared.answers.Count.{Count}
 use Rattle.rh_shell.specs.declared.answers.Refused.TheVariants as refused
-use Rattle.rh_shell.specs.Waiting.{Waiting, own, takes, forwarded}
+use Rattle.rh_shell.specs.declared.end_role.RecycleRefused.{RecycleRefused}
+use Rattle.rh_shell.specs.declared.end_role.RecycleRefused.TheVariants.{Busy, Last}
+use Rattle.rh_shell.specs.Waiting.{Waiting, takes, forwarded}
 use Rattle.rh_server.specs.declared.state.Stage.{Stage}
 use Rattle.rh_server.specs.declared.state.Stage.TheVariants as stage
 use Rattle.rh_server.specs.declared.state.Edge.TheVariants.{Shut}
@@ -18,12 +21,16 @@ use Rattle.rh_server.specs.declared.state.InStage.{InStage}
 use Rattle.rh_server.specs.declared.state.InStage.TheVariants as in_stage
 use Rattle.rh_server.specs.declared.state.InLeg.{InLeg}
 use Rattle.rh_server.specs.declared.out_line.Kind.TheVariants as kind
-use Rattle.rh_server.specs.OutLines.{has, is_ack, waits}
-use Rattle.rh_server.specs.States.{Server, is_open, is_fresh, same_cookie, in_leg, with_in, out_cookie}
+use Rattle.rh_server.specs.declared.state.OutLeg.{OutLeg}
+use Rattle.rh_server.specs.declared.state.Replacement.{Replacement}
+use Rattle.rh_server.specs.declared.state.Replacement.TheVariants.{Steady, Asked, Answered, Confirmed}
+use Rattle.rh_server.specs.OutLines.{has, is_ack, is_kind, waits}
+use Rattle.rh_server.specs.States.{Server, is_open, is_fresh, same_cookie, in_leg, with_in, out_at, out_place, out_cookie}
 use Rattle.rh_server.specs.Opening.{Done, took, refuse, unexpected, is_first, opens, with_first_out, conn_a2_at, on_conn_a2, with_first_in, conn_b2_at, on_conn_b2}
 use Rattle.rh_server.specs.Acknowledging.{channel_at, forward_by, forwards, forwards_writing, forwards_to, channel_leg, is_full, out_server, on_ack_to}
 use Rattle.rh_server.specs.InReplacement.{opens_next, opens_leg, first_waiting, next_opened, becomes_current, moved_if, take, announced, in_r1_a2_by, in_r1_a2_at, on_in_r1_a2, has_fresh_below, leaves, hands_over, on_in_r1_a6, in_r2_a2_on, on_in_r2_a2}
-use Rattle.rh_server.specs.Ending.{without_ack_of, with_ack_dropped}
+use Rattle.rh_server.specs.OutReplacement.{asks, recycle, is_under_way, last_number, wishes, wished, answered_by, answered_on, out_r1_a4_by, out_r1_a4_at, may_answer, on_out_r1_a4, confirms, out_r1_a8_at, on_out_r1_a8}
+use Rattle.rh_server.specs.Ending.{completed, settled, without_ack_of, with_ack_dropped}
 use Rattle.rh_server_counts.specs.Counting.{is_conn_c1, is_in_r1_a3, is_in_r2_a3}
 use Rattle.rh_server_counts.proofs.Dues.{Adds, adds_none, adds_own, adds_forwarded, adds_dropped}
 
@@ -123,13 +130,13 @@ opens_leg_adds : (s : Server) (o : Option InLeg) → MayAdd is_in_r1_a3 s (opens
 opens_leg_adds s None = nothing is_in_r1_a3 s
 opens_leg_adds s (Some leg) = opens_next_adds s leg leg.stage
 
-next_adds : (s : Server) → MayAdd is_in_r1_a3 s (next_opened s)
+pub next_adds : (s : Server) → MayAdd is_in_r1_a3 s (next_opened s)
 next_adds s =
     either_state is_in_r1_a3 s (s.line.has_next || waits kind.InR1A3 s.waiting) s
     (opens_leg s (first_waiting s.ins)) (nothing is_in_r1_a3 s)
     (opens_leg_adds s (first_waiting s.ins))
 
-moved_adds : (had_next : Bool) (s : Server) → MayAdd is_in_r1_a3 s (moved_if had_next s)
+pub moved_adds : (had_next : Bool) (s : Server) → MayAdd is_in_r1_a3 s (moved_if had_next s)
 moved_adds had_next s =
     either_state is_in_r1_a3 s (had_next && not s.line.has_next) (becomes_current s) s
     (next_adds (record s { current = s.next; edge = Shut })) (nothing is_in_r1_a3 s)
@@ -272,3 +279,97 @@ dropped_adds s n = by (out_cookie n s.outs)
     by : (o : Option Cookie) → Adds is_ack s.waiting.due (without_ack_of s.waiting o).due
     by None = nothing is_ack s
     by (Some cookie) = adds_dropped cookie s.waiting
+
+-- ---- OUT_R1/A1, OUT_R1/A5 and OUT_R1/A9
+
+abbrev pub of_out : Named → Bool
+of_out packet = is_kind kind.OutR1 packet
+
+wished_adds : (s : Server) → MayAdd of_out s (wished s)
+wished_adds s =
+    either_state of_out s (wishes s) (asks s) s
+    (adds_own of_out (named.OutR1A1 0) refl s.waiting.due) (nothing of_out s)
+
+completed_same : (s : Server) → (completed s).waiting ≡ s.waiting
+completed_same s = search rules
+
+pub settled_adds : (s : Server) → MayAdd of_out s (settled s)
+settled_adds s =
+    subst (λ (w : Waiting). Adds of_out w.due (settled s).waiting.due) (completed_same s)
+    (wished_adds (completed s))
+
+pub recycle_adds : (s : Server) → MayAdd of_out s (recycle s).0
+recycle_adds s =
+    by_test Recycles (s.writing == last_number) (s, Err Last) other (λ e. nothing of_out s)
+    (λ e. by_test Recycles (is_under_way s) (s, Err (Busy (out_server (s.writing + 1))))
+    (asks s, Ok tt) (λ f. nothing of_out s)
+    (λ f. adds_own of_out (named.OutR1A1 0) refl s.waiting.due))
+  where
+    Recycles : Server × Result (Unit {0}) RecycleRefused → Type 0
+    Recycles x = MayAdd of_out s x.0
+
+    other : Server × Result (Unit {0}) RecycleRefused
+    other =
+        if is_under_way s then (s, Err (Busy (out_server (s.writing + 1)))) else (asks s, Ok tt)
+
+answered_adds : (s : Server) (successor : Cookie) (lifetime window timeout : ℕ)
+    (place : Option ℕ) (leg : Option OutLeg)
+    → MayAdd of_out s (answered_by s successor lifetime window timeout place leg).0
+answered_adds s successor lifetime window timeout (Some place) (Some leg) =
+    adds_own of_out (named.OutR1A5 0 1 timeout) refl s.waiting.due
+answered_adds s successor lifetime window timeout (Some place) None = nothing of_out s
+answered_adds s successor lifetime window timeout None leg = nothing of_out s
+
+a4_by_adds : (s : Server) (n : ℕ) (known connection predecessor successor : Cookie)
+    (lifetime window timeout : ℕ) (o : Option Cookie) → MayAdd of_out s
+    (out_r1_a4_by s n known connection predecessor successor lifetime window timeout o).0
+a4_by_adds s n known connection predecessor successor lifetime window timeout None =
+    nothing of_out s
+a4_by_adds s n known connection predecessor successor lifetime window timeout (Some writing) =
+    either of_out s (not (same_cookie known connection))
+    (refuse s (refused.Cookie known connection))
+    (if not (same_cookie writing predecessor) then refuse s (refused.Cookie writing predecessor)
+    else answered_on s n successor lifetime window timeout)
+    (nothing of_out s)
+    (either of_out s (not (same_cookie writing predecessor))
+    (refuse s (refused.Cookie writing predecessor))
+    (answered_on s n successor lifetime window timeout) (nothing of_out s)
+    (answered_adds s successor lifetime window timeout (out_place n s.outs)
+    (out_at s.outs (out_place n s.outs))))
+
+a4_at_adds : (s : Server) (at : Stage) (n : ℕ) (connection predecessor successor : Cookie)
+    (lifetime window timeout : ℕ) → MayAdd of_out s
+    (out_r1_a4_at s at n connection predecessor successor lifetime window timeout).0
+a4_at_adds s (stage.Open known) n connection predecessor successor lifetime window timeout =
+    a4_by_adds s n known connection predecessor successor lifetime window timeout
+    (out_cookie s.writing s.outs)
+a4_at_adds s opening n connection predecessor successor lifetime window timeout =
+    nothing of_out s
+
+pub out_r1_a4_adds : (s : Server) (n : ℕ) (count : Count)
+    (connection predecessor successor : Cookie) (lifetime window timeout : ℕ) → MayAdd of_out s
+    (on_out_r1_a4 s n count connection predecessor successor lifetime window timeout).0
+out_r1_a4_adds s n count connection predecessor successor lifetime window timeout =
+    either of_out s (may_answer s n count)
+    (out_r1_a4_at s s.stage n connection predecessor successor lifetime window timeout)
+    (unexpected s)
+    (a4_at_adds s s.stage n connection predecessor successor lifetime window timeout)
+    (nothing of_out s)
+
+a8_at_adds : (s : Server) (successor : Cookie) (at : Replacement)
+    → MayAdd of_out s (out_r1_a8_at s successor at).0
+a8_at_adds s successor (Answered cookie) =
+    either of_out s (same_cookie cookie successor) (took (confirms s))
+    (refuse s (refused.Cookie cookie successor))
+    (adds_own of_out named.OutR1A9 refl s.waiting.due) (nothing of_out s)
+a8_at_adds s successor Steady = nothing of_out s
+a8_at_adds s successor Asked = nothing of_out s
+a8_at_adds s successor Confirmed = nothing of_out s
+
+pub out_r1_a8_adds : (s : Server) (count : Count) (destination : ℕ) (successor : Cookie)
+    → MayAdd of_out s (on_out_r1_a8 s count destination successor).0
+out_r1_a8_adds s count destination successor =
+    either of_out s (not (is_first count) && ((destination == 2)
+    && not (waits kind.OutR1 s.waiting)))
+    (out_r1_a8_at s successor s.replacement) (unexpected s)
+    (a8_at_adds s successor s.replacement) (nothing of_out s)

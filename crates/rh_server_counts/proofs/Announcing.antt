@@ -1,18 +1,16 @@
 -- how IN channels are announced and answered, by what came, what was put, and what waits
-use Rattle.std.proofs.Common.{◌≡◌, ◌≢◌, ◌⊎◌, inl, inr, ℕ, suc, ◌+◌, ◌≤◌, ◌<◌, ◌==◌, ◌&&◌, ◌||◌, not, Bool, true, false, true≢false, if◌then◌else◌, List, [], ◌∷◌, ◌++◌, Some, None, arith, refl, sym, ap, ◌∙◌, subst}
+use Rattle.std.proofs.Common.{◌≡◌, ◌⊎◌, inl, inr, ℕ, suc, ◌+◌, ◌≤◌, ◌<◌, ◌&&◌, ◌||◌, not, Bool, true, false, true≢false, if◌then◌else◌, List, [], ◌∷◌, ◌++◌, Some, None, arith, refl, sym, ap, ◌∙◌, subst}
 use Rattle.std.proofs.lemmas.Bool.{false≢true, and_parts}
 use Rattle.std.specs.List.{AllByRecursion}
 use Rattle.std.specs.declared.option.Option.{Option}
-use Rattle.rh_rts.specs.declared.command.Cookie.{Cookie}
 use Rattle.rh_sig.specs.declared.named.Named.{Named}
 use Rattle.rh_sig.specs.declared.named.Named.TheVariants as named
 use Rattle.rh_line.proofs.Queues.{each_push}
-use Rattle.rh_line.specs.Lines.{Line, after_take, after_finish, after_open_next, is_empty, released, moved_on}
+use Rattle.rh_line.specs.Lines.{Line, after_take, after_finish, is_empty, released, moved_on}
 use Rattle.rh_line.specs.Lines.{settled as line_settled, taken as line_taken}
 use Rattle.rh_line.specs.declared.leg.LegKind.TheVariants.{OutServer, InServer}
-use Rattle.rh_order.proofs.ByNumber.{by_test, same_number}
+use Rattle.rh_order.proofs.ByNumber.{by_test}
 use Rattle.rh_shell.specs.declared.due.Due.{Due}
-use Rattle.rh_shell.specs.Rules.{Packet}
 use Rattle.rh_shell.specs.Moves.{OnLeg}
 use Rattle.rh_shell.specs.Waiting.{own}
 use Rattle.rh_server.specs.declared.state.Edge.TheVariants.{Shut}
@@ -22,13 +20,12 @@ use Rattle.rh_server.specs.declared.state.Tells.TheVariants as tells
 use Rattle.rh_server.specs.declared.state.InLeg.{InLeg}
 use Rattle.rh_server.specs.declared.out_line.Kind.TheVariants as kind
 use Rattle.rh_server.specs.OutLines.{is_ack, is_kind, waits}
-use Rattle.rh_server.specs.States.{Server, is_fresh, is_waiting, stays, in_place, in_at, set_at}
-use Rattle.rh_server.specs.InReplacement.{ended_if, opens_next, opens_leg, waiting_place, first_waiting, next_opened, becomes_current, moved_if, has_fresh_below}
-use Rattle.rh_server_counts.specs.Counting.{is_in_r1_a2, is_in_r1_a3, is_in_r2_a2, is_in_r2_a3, often, often_at, leg_at, waiting_of}
+use Rattle.rh_server.specs.States.{Server, is_fresh, is_waiting, stays, in_place, set_at}
+use Rattle.rh_server.specs.InReplacement.{opens_next, opens_leg, first_waiting, next_opened, becomes_current, moved_if}
+use Rattle.rh_server_counts.specs.Counting.{is_in_r1_a2, is_in_r1_a3, is_in_r2_a2, is_in_r2_a3, often, often_at, waiting_of}
 use Rattle.rh_server_counts.specs.Answering.{how_many, waits_on}
-use Rattle.rh_server_counts.proofs.Logs.{often_more, often_at_more, at_most_often, at_here, at_other}
-use Rattle.rh_server_counts.proofs.Dues.{Apart, Adds, IsOfKind, HaveOrigins, HasOrigin, push_waits, one_waits, none_found}
-use Rattle.rh_server_counts.proofs.InLegs.{IsFound, IsFoundAs, found, Ascends, ascends_low, ascends_higher, ascends_push, ascends_set, ascends_removed, ascends_within, below_it, above_it, set_by_number, all_of, all_joined, all_removed, each_of, both_so, one_leg, many_joined, IsNoWaiting, IsNoFresh, AreOrdered, none_before, ordered_set, ordered_waits, ordered_removed, ordered_push, none_fresh_below}
+use Rattle.rh_server_counts.proofs.Dues.{Apart, IsOfKind, HaveOrigins, HasOrigin, push_waits, none_found}
+use Rattle.rh_server_counts.proofs.InLegs.{IsFound, IsFoundAs, found, Ascends, ascends_set, ascends_within, above_it, set_by_number, all_of, all_joined, each_of, both_so, one_leg, many_joined, IsNoWaiting, IsNoFresh, AreOrdered, none_before, ordered_set}
 
 -- ---- what the facts are about
 
@@ -297,7 +294,7 @@ next_opens s came put h =
 -- ---- the next channel becomes current
 
 -- a line goes on, or has no next channel any more
-abbrev LineStep : Line → Line → Type 0
+abbrev pub LineStep : Line → Line → Type 0
 LineStep line new =
     ((new.has_next ≡ line.has_next) × (new.finished ≡ line.finished))
     ⊎ ((line.finished ≡ true) × (new.has_next ≡ false) × (new.finished ≡ false))
@@ -308,7 +305,7 @@ settled_step line =
     (λ e. inr ((and_parts line.finished (is_empty line.current.pdus) e).0, refl, refl))
     (λ e. inl (refl, refl))
 
-take_step : (line : Line) → LineStep line (after_take line)
+pub take_step : (line : Line) → LineStep line (after_take line)
 take_step line = by line.current.pdus
   where
     by : (pdus : List (List ℕ)) → LineStep line (line_taken pdus line)

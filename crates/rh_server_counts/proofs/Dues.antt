@@ -1,6 +1,6 @@
 -- the packets that wait, and how many of a kind they are
-use Rattle.std.proofs.Common.{◌≡◌, ℕ, suc, ◌+◌, ◌||◌, ◌&&◌, Bool, true, false, true≢false, nat_lt, cond, if◌then◌else◌, List, [], ◌∷◌, ◌++◌, Some, None, arith, refl, sym, ap, ◌∙◌, subst}
-use Rattle.std.proofs.lemmas.Bool.{false≢true}
+use Rattle.std.proofs.Common.{◌≡◌, ◌⊎◌, inl, inr, subst, ◌==◌, ℕ, suc, ◌+◌, ◌||◌, ◌&&◌, Bool, true, false, true≢false, nat_lt, if◌then◌else◌, List, [], ◌∷◌, ◌++◌, Some, None, arith, refl, sym, ap, ◌∙◌}
+use Rattle.std.proofs.lemmas.Bool.{false≢true, and_parts}
 use Rattle.std.specs.Prelude.{IfSome, find}
 use Rattle.std.specs.List.{AllByRecursion, list_any}
 use Rattle.std.specs.declared.option.Option.{Option}
@@ -8,14 +8,14 @@ use Rattle.rh_rts.specs.declared.command.Cookie.{Cookie}
 use Rattle.rh_sig.specs.declared.named.Named.{Named}
 use Rattle.rh_sig.specs.declared.named.Named.TheVariants as named
 use Rattle.rh_line.proofs.Queues.{each_push}
-use Rattle.rh_order.proofs.ByNumber.{by_test}
+use Rattle.rh_order.proofs.ByNumber.{by_test, same_number}
 use Rattle.rh_shell.specs.declared.due.Due.{Due}
 use Rattle.rh_shell.specs.declared.due.Origin.TheVariants.{Own, Forwarded}
-use Rattle.rh_shell.specs.Waiting.{Waiting, is_of, own, to_forward, takes, edge_of, better, merged, with_due, pushed, count, forwarded, without_first, taken}
+use Rattle.rh_shell.specs.Waiting.{Waiting, key_of, are_one, is_of, own, to_forward, takes, edge_of, better, merged, with_due, pushed, count, forwarded, without_first, taken}
 use Rattle.rh_server.specs.declared.out_line.Kind.{Kind}
-use Rattle.rh_server.specs.OutLines.{is_ack, is_ack_of, is_kind, is_own, has, waits}
+use Rattle.rh_server.specs.OutLines.{is_ack, is_ack_of, is_kind, is_own, has}
 use Rattle.rh_server.specs.States.{is_some}
-use Rattle.rh_server_counts.specs.Counting.{waiting_of}
+use Rattle.rh_server_counts.specs.Counting.{is_ack_to, is_conn_c1, waiting_of}
 
 -- no packet passes both tests
 abbrev pub Apart : (Named → Bool) → (Named → Bool) → Type 0
@@ -42,7 +42,8 @@ push_waits test (first ∷ dues) due = by (test first.packet) (push_waits test d
   where
     by : (b : Bool)
         → waiting_of test (dues ++ due ∷ []) ≡ waiting_of test dues + one_waits test due.packet
-        → (if b then suc (waiting_of test (dues ++ due ∷ [])) else waiting_of test (dues ++ due ∷ []))
+        → (if b then suc (waiting_of test (dues ++ due ∷ []))
+        else waiting_of test (dues ++ due ∷ []))
         ≡ (if b then suc (waiting_of test dues) else waiting_of test dues)
         + one_waits test due.packet
     by true rest = omega (arith, rest)
@@ -141,7 +142,8 @@ none_waits kind test of (due ∷ dues) all none =
     by : (o t : Bool) → test due.packet ≡ t → o || is_ack due.packet ≡ true
         → (test due.packet ≡ true → is_kind kind due.packet ≡ true)
         → (is_ack due.packet ≡ true → test due.packet ≡ false) → Rest
-        → is_some (if o && is_kind kind due.packet then Some due else find (is_own kind) dues) ≡ false
+        → is_some (if o && is_kind kind due.packet then Some due else find (is_own kind) dues)
+        ≡ false
         → (if t then suc (waiting_of test dues) else waiting_of test dues) ≡ 0
     by true t is has kinds acks rest e =
         mine (is_kind kind due.packet) t (λ f. kinds (is ∙ f)) rest e
@@ -182,6 +184,67 @@ none_found kind test all (due ∷ dues) none =
         less true g = absurd (omega (arith, g))
         less false g = g
 
+-- ---- CONN/C1 is the first but for acknowledgements to out proxies
+
+abbrev pub FirstIsC1 : List Due → Type 0
+FirstIsC1 [] = ⊥
+FirstIsC1 (due ∷ dues) = (is_conn_c1 due.packet ≡ true)
+    ⊎ ((is_ack_to 3 due.packet ≡ true) × FirstIsC1 dues)
+
+pub no_both : (packet : Named) → is_conn_c1 packet ≡ true → is_ack packet ≡ true → ⊥
+no_both (named.ConnC1 a b c) e f = false≢true f
+no_both packet e f = false≢true e
+
+first_push : (dues : List Due) (due : Due) → FirstIsC1 dues → FirstIsC1 (dues ++ due ∷ [])
+first_push [] due is = absurd is
+first_push (first ∷ dues) due (inl c1) = inl c1
+first_push (first ∷ dues) due (inr is) = inr (is.0, first_push dues due is.1)
+
+first_behind : (due : Due) (dues new : List Due) → (FirstIsC1 dues → FirstIsC1 new)
+    → FirstIsC1 (due ∷ dues) → FirstIsC1 (due ∷ new)
+first_behind due dues new rest (inl c1) = inl c1
+first_behind due dues new rest (inr is) = inr (is.0, rest is.1)
+
+pub first_left : (may_go : Due → Bool)
+    → ((due : Due) → is_conn_c1 due.packet ≡ true → may_go due ≡ false) → (dues : List Due)
+    → FirstIsC1 dues → FirstIsC1 (without_first may_go dues)
+first_left may_go stays [] is = absurd is
+first_left may_go stays (due ∷ dues) (inl c1) =
+    by_test FirstIsC1 (may_go due) dues (due ∷ without_first may_go dues)
+    (λ t. absurd (true≢false (sym t ∙ stays due c1))) (λ t. inl c1)
+first_left may_go stays (due ∷ dues) (inr is) =
+    by_test FirstIsC1 (may_go due) dues (due ∷ without_first may_go dues) (λ t. is.1)
+    (λ t. inr (is.0, first_left may_go stays dues is.1))
+
+-- where CONN/C1 may go, it goes, or an acknowledgement to an out proxy
+abbrev pub C1Goes : Option Due → List Due → Type 0
+C1Goes None left = ⊥
+C1Goes (Some due) left = (is_conn_c1 due.packet ≡ true)
+    ⊎ ((is_ack_to 3 due.packet ≡ true) × FirstIsC1 left)
+
+pub first_goes_c1 : (may_go : Due → Bool)
+    → ((due : Due) → is_conn_c1 due.packet ≡ true → may_go due ≡ true) → (dues : List Due)
+    → FirstIsC1 dues → C1Goes (find may_go dues) (without_first may_go dues)
+first_goes_c1 may_go goes [] is = absurd is
+first_goes_c1 may_go goes (due ∷ dues) is =
+    by (may_go due) refl is (λ rest. first_goes_c1 may_go goes dues rest)
+  where
+    later : (x : Option Due) (left : List Due) → is_ack_to 3 due.packet ≡ true → C1Goes x left
+        → C1Goes x (due ∷ left)
+    later None left ack none = none
+    later (Some found) left ack (inl c1) = inl c1
+    later (Some found) left ack (inr rest) = inr (rest.0, inr (ack, rest.1))
+
+    by : (b : Bool) → may_go due ≡ b → FirstIsC1 (due ∷ dues)
+        → (FirstIsC1 dues → C1Goes (find may_go dues) (without_first may_go dues))
+        → C1Goes (if b then Some due else find may_go dues)
+        (if b then dues else due ∷ without_first may_go dues)
+    by true e (inl c1) rest = inl c1
+    by true e (inr ack) rest = inr ack
+    by false e (inl c1) rest = absurd (true≢false (sym (goes due c1) ∙ e))
+    by false e (inr ack) rest =
+        later (find may_go dues) (without_first may_go dues) ack.0 (rest ack.1)
+
 -- ---- what is added
 
 -- packets of a kind may be added, or acknowledgements merged or dropped; all else stays
@@ -189,9 +252,14 @@ pub record Adds (kind : Named → Bool) (dues new : List Due) : Type 0 where
   pub counts : (test : Named → Bool) → Apart kind test
       → waiting_of test new ≡ waiting_of test dues
   pub origins : HaveOrigins dues → HaveOrigins new
+  pub firsts : FirstIsC1 dues → FirstIsC1 new
 
 pub adds_none : (kind : Named → Bool) (dues : List Due) → Adds kind dues dues
-adds_none kind dues = record { counts = λ test apart. refl; origins = λ all. all }
+adds_none kind dues = record {
+  counts = λ test apart. refl;
+  origins = λ all. all;
+  firsts = λ is. is;
+}
 
 pub adds_own : (kind : Named → Bool) (packet : Named) → kind packet ≡ true → (dues : List Due)
     → Adds kind dues (dues ++ own packet ∷ [])
@@ -200,6 +268,7 @@ adds_own kind packet is dues = record {
       let none = alone_none test packet (apart packet is) in
       let more = push_waits test dues (own packet) in omega (arith, none, more);
   origins = λ all. each_push HasOrigin dues (own packet) all refl;
+  firsts = first_push dues (own packet);
 }
 
 -- ---- acknowledgements
@@ -227,6 +296,26 @@ better_is packet due is was =
     has true p e = refl
     has false p e = e
 
+-- both go to the same
+same_to : (packet other : Named) → are_one (key_of other) (key_of packet) ≡ true
+    → is_ack_to 3 other ≡ true → is_ack_to 3 packet ≡ true
+same_to (named.AckTo a b c d) (named.AckTo i j k l) one is =
+    let same = same_number i a (and_parts (i == a) _ one).0 in
+    subst (λ (n : ℕ). n == 3 ≡ true) same is
+same_to packet (named.AckTo i j k l) one is = absurd (false≢true one)
+same_to packet other one is = absurd (false≢true is)
+
+first_merged : (packet : Named) → is_ack packet ≡ true → (due : Due) (dues : List Due)
+    → takes packet due ≡ true → FirstIsC1 (due ∷ dues)
+    → FirstIsC1 (better due packet ∷ dues)
+first_merged packet ack due dues takes_it (inl c1) =
+    absurd (no_both due.packet c1 (takes_acks packet due takes_it))
+first_merged packet ack due dues takes_it (inr is) =
+    by_test (λ (d : Due). FirstIsC1 (d ∷ dues))
+    (nat_lt (edge_of packet) (edge_of due.packet)) due
+    (record { packet = packet; origin = due.origin }) (λ t. inr is)
+    (λ t. inr (same_to packet due.packet takes_it is.0, is.1))
+
 adds_merged : (packet : Named) → is_ack packet ≡ true → (dues : List Due)
     → Adds is_ack dues (merged dues packet)
 adds_merged packet is [] = adds_none is_ack []
@@ -240,11 +329,13 @@ adds_merged packet is (due ∷ dues) =
           same test (test due.packet) (test (better due packet).packet) (apart due.packet was)
           (apart (better due packet).packet now.0);
       origins = λ all. (now.1, all.1);
+      firsts = first_merged packet is due dues t;
     })
     (λ t.
     let rest = adds_merged packet is dues in record {
       counts = λ test apart. more test (test due.packet) (rest.counts test apart);
       origins = λ all. (all.0, rest.origins all.1);
+      firsts = first_behind due dues (merged dues packet) rest.firsts;
     })
   where
     same : (test : Named → Bool) (a b : Bool) → a ≡ false → b ≡ false
@@ -277,6 +368,7 @@ adds_forwarded packet is w =
           let none = alone_none test packet (apart packet is) in
           let more = push_waits test w.due (to_forward packet) in omega (arith, none, more);
       origins = λ all. each_push HasOrigin w.due (to_forward packet) all is;
+      firsts = first_push w.due (to_forward packet);
     })
     (λ u. adds_none is_ack w.due))
   where
@@ -291,10 +383,18 @@ adds_dropped cookie w = record {
       by test apart (find (is_ack_of cookie) w.due)
       (found_ack w.due) (first_goes test (is_ack_of cookie) w.due);
   origins = others_have (is_ack_of cookie) w.due;
+  firsts = first_left (is_ack_of cookie)
+      (λ due c1. no_ack due (is_ack_of cookie due) refl c1) w.due;
 }
   where
     left : List Due
     left = without_first (is_ack_of cookie) w.due
+
+    no_ack : (due : Due) (b : Bool) → is_ack_of cookie due ≡ b → is_conn_c1 due.packet ≡ true
+        → is_ack_of cookie due ≡ false
+    no_ack due false e c1 = e
+    no_ack due true e c1 =
+        absurd (no_both due.packet c1 (takes_acks (named.AckTo 3 0 0 cookie) due e))
 
     found_ack : (dues : List Due)
         → IfSome (find (is_ack_of cookie) dues) (λ (due : Due). is_ack due.packet ≡ true)

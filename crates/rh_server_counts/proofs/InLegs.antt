@@ -1,13 +1,13 @@
 -- the is legs that a server keeps: one of them changes or is gone
-use Rattle.std.proofs.Common.{◌≡◌, ℕ, suc, ◌+◌, ◌<◌, ◌≤◌, ◌==◌, ◌&&◌, ◌||◌, cond, nat_lt, Bool, true, false, true≢false, not, if◌then◌else◌, List, [], ◌∷◌, ◌++◌, length, Some, None, arith, refl, sym, ap, ◌∙◌, subst}
-use Rattle.std.proofs.lemmas.Bool.{false≢true, or_parts}
+use Rattle.std.proofs.Common.{◌≡◌, ℕ, suc, ◌+◌, ◌<◌, ◌≤◌, ◌==◌, ◌&&◌, cond, nat_lt, Bool, true, false, true≢false, not, if◌then◌else◌, List, [], ◌∷◌, ◌++◌, length, Some, None, arith, refl, sym, ap, ◌∙◌, subst}
+use Rattle.std.proofs.lemmas.Bool.{or_parts}
 use Rattle.std.proofs.lemmas.Bool.Decides.{nat_tests}
-use Rattle.std.specs.Prelude.{position, slice_get}
-use Rattle.std.specs.List.{AllByRecursion, list_any, position_or_len}
+use Rattle.std.specs.Prelude.{position}
+use Rattle.std.specs.List.{AllByRecursion, position_or_len}
 use Rattle.std.specs.declared.option.Option.{Option}
 use Rattle.rh_order.proofs.ByNumber.{test_same, test_other}
 use Rattle.rh_server.specs.declared.state.InLeg.{InLeg}
-use Rattle.rh_server.specs.States.{is_fresh, is_waiting, in_place, in_at, in_leg, set_at, removed_at}
+use Rattle.rh_server.specs.States.{is_fresh, is_waiting, in_place, in_at, set_at, removed_at}
 use Rattle.rh_server.specs.InReplacement.{is_fresh_below, has_fresh_below}
 use Rattle.rh_server_counts.specs.Answering.{how_many}
 
@@ -87,8 +87,8 @@ found test (leg ∷ legs) =
     here : test leg ≡ true → IsFound test (leg ∷ legs) leg
     here e =
         let place : all ≡ Some 0 =
-            place_step test leg legs
-            ∙ ap (λ (b : Bool). cond b (Some 0) (next_place (position test legs))) e in record {
+        place_step test leg legs
+        ∙ ap (λ (b : Bool). cond b (Some 0) (next_place (position test legs))) e in record {
           before = [];
           behind = legs;
           joined = refl;

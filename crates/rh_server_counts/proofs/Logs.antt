@@ -1,5 +1,5 @@
 -- a message more, and how often packets passed
-use Rattle.std.proofs.Common.{◌≡◌, ◌≢◌, ℕ, suc, ◌+◌, ◌≤◌, ◌<◌, ◌==◌, ◌&&◌, Bool, true, false, true≢false, if◌then◌else◌, List, [], ◌∷◌, ◌++◌, arith, refl, sym, ap, ◌∙◌, subst}
+use Rattle.std.proofs.Common.{◌≡◌, ℕ, suc, ◌+◌, ◌≤◌, ◌<◌, ◌==◌, Bool, true, false, true≢false, if◌then◌else◌, List, [], ◌∷◌, ◌++◌, arith, refl, sym, ap, ◌∙◌, subst}
 use Rattle.std.proofs.lemmas.Bool.Decides.{nat_tests}
 use Rattle.rh_sig.specs.declared.named.Named.{Named}
 use Rattle.rh_line.specs.declared.leg.Leg.{Leg}
@@ -44,6 +44,34 @@ at_most_often test kind n one =
     by true true so = omega arith
     by true false so = absurd (true≢false (sym (so refl)))
     by false c so = omega arith
+
+-- nor are more on one leg than on all of its kind
+pub at_most_in : (test : Named → Bool) (kind : LegKind) (n : ℕ) (log : List OnLeg)
+    → often_at test kind n log ≤ often test kind log
+at_most_in test kind n [] = omega arith
+at_most_in test kind n (one ∷ log) =
+    by (same_leg one.0 (leg_at kind n)) (is_of kind one.0) (of_its_kind one.0 kind n)
+    (at_most_in test kind n log)
+  where
+    leg : List Message
+    leg = of_leg (leg_at kind n) log
+
+    all : List Message
+    all = of_kind kind log
+
+    by : (b c : Bool) → (b ≡ true → c ≡ true) → count_of test leg ≤ count_of test all
+        → count_of test (if b then one.1 ∷ leg else leg)
+        ≤ count_of test (if c then one.1 ∷ all else all)
+    by true true so rest =
+        let here : count_of test (one.1 ∷ leg) ≡ count_of test (one.1 ∷ []) + count_of test leg =
+        count_append test (one.1 ∷ []) leg in
+        let there : count_of test (one.1 ∷ all) ≡ count_of test (one.1 ∷ []) + count_of test all =
+        count_append test (one.1 ∷ []) all in omega (arith, here, there, rest)
+    by true false so rest = absurd (true≢false (sym (so refl)))
+    by false true so rest =
+        let there : count_of test (one.1 ∷ all) ≡ count_of test (one.1 ∷ []) + count_of test all =
+        count_append test (one.1 ∷ []) all in omega (arith, there, rest)
+    by false false so rest = rest
 
 numbered : (kind : LegKind) (k n : ℕ) → same_leg (leg_at kind k) (leg_at kind n) ≡ (k == n)
 numbered ClientOut k n = refl

@@ -1,5 +1,5 @@
 -- how far the replacement of OUT channels is, by what came, what was put, and what waits
-use Rattle.std.proofs.Common.{◌≡◌, ℕ, suc, ◌+◌, ◌≤◌, Bool, true, false, ◌&&◌, if◌then◌else◌, List, [], ◌∷◌, ◌++◌, arith, refl, sym, ap, ◌∙◌, subst}
+use Rattle.std.proofs.Common.{◌≡◌, ℕ, suc, ◌+◌, ◌≤◌, Bool, true, ◌&&◌, List, [], ◌∷◌, ◌++◌, arith, refl, ◌∙◌}
 use Rattle.std.proofs.lemmas.Bool.{false≢true, and_parts}
 use Rattle.rh_rts.specs.declared.command.Cookie.{Cookie}
 use Rattle.rh_sig.specs.declared.named.Named.{Named}
@@ -13,104 +13,14 @@ use Rattle.rh_shell.specs.Moves.{OnLeg}
 use Rattle.rh_shell.specs.Waiting.{own}
 use Rattle.rh_server.specs.declared.state.Replacement.{Replacement}
 use Rattle.rh_server.specs.declared.state.Replacement.TheVariants.{Steady, Asked, Answered, Confirmed}
-use Rattle.rh_server.specs.declared.out_line.Kind.TheVariants as kind
-use Rattle.rh_server.specs.OutLines.{Gate, lets_packet, lets_by_meter, is_ack, is_kind}
+use Rattle.rh_server.specs.OutLines.{Gate, lets_packet}
 use Rattle.rh_server.specs.States.{is_steady}
 use Rattle.rh_server.specs.OutReplacement.{is_asked}
-use Rattle.rh_server_counts.specs.Counting.{is_conn_c1, is_in_r1_a3, is_in_r2_a3, is_out_r1_a1, is_out_r1_a4, is_out_r1_a5, is_out_r1_a8, is_out_r1_a9, often, leg_at, IsOnEachFrom, waiting_of}
+use Rattle.rh_server_counts.specs.Counting.{is_out_r1_a1, is_out_r1_a4, is_out_r1_a5, is_out_r1_a8, is_out_r1_a9, often, leg_at, IsOnEachFrom, waiting_of}
 use Rattle.rh_server_counts.specs.Replacing.{since_asked, since_answered, since_confirmed}
 use Rattle.rh_server_counts.proofs.Logs.{often_more, on_none, on_other, on_next}
-use Rattle.rh_server_counts.proofs.Dues.{Apart, Adds, IsOfKind, HaveOrigins, HasOrigin, push_waits, one_waits}
-
--- ---- packets
-
-pub a1_kind : IsOfKind kind.OutR1 is_out_r1_a1
-a1_kind = record { kinds = kinds; acks = acks }
-  where
-    kinds : (p : Named) → is_out_r1_a1 p ≡ true → is_kind kind.OutR1 p ≡ true
-    kinds (named.OutR1A1 a) e = refl
-    kinds p e = absurd (false≢true e)
-
-    acks : Apart is_ack is_out_r1_a1
-    acks (named.AckTo a b c d) e = refl
-    acks p e = absurd (false≢true e)
-
-pub a5_kind : IsOfKind kind.OutR1 is_out_r1_a5
-a5_kind = record { kinds = kinds; acks = acks }
-  where
-    kinds : (p : Named) → is_out_r1_a5 p ≡ true → is_kind kind.OutR1 p ≡ true
-    kinds (named.OutR1A5 a b c) e = refl
-    kinds p e = absurd (false≢true e)
-
-    acks : Apart is_ack is_out_r1_a5
-    acks (named.AckTo a b c d) e = refl
-    acks p e = absurd (false≢true e)
-
--- packets of this kind are none of a replacement
-pub record LeavesAlone (kind : Named → Bool) : Type 0 where
-  pub a1 : Apart kind is_out_r1_a1
-  pub a5 : Apart kind is_out_r1_a5
-  pub a9 : Apart kind is_out_r1_a9
-
-pub c1_apart : LeavesAlone is_conn_c1
-c1_apart = record { a1 = a1; a5 = a5; a9 = a9 }
-  where
-    a1 : Apart is_conn_c1 is_out_r1_a1
-    a1 (named.ConnC1 a b c) e = refl
-    a1 p e = absurd (false≢true e)
-
-    a5 : Apart is_conn_c1 is_out_r1_a5
-    a5 (named.ConnC1 a b c) e = refl
-    a5 p e = absurd (false≢true e)
-
-    a9 : Apart is_conn_c1 is_out_r1_a9
-    a9 (named.ConnC1 a b c) e = refl
-    a9 p e = absurd (false≢true e)
-
-pub r1_apart : LeavesAlone is_in_r1_a3
-r1_apart = record { a1 = a1; a5 = a5; a9 = a9 }
-  where
-    a1 : Apart is_in_r1_a3 is_out_r1_a1
-    a1 (named.InR1A3 a b c d) e = refl
-    a1 p e = absurd (false≢true e)
-
-    a5 : Apart is_in_r1_a3 is_out_r1_a5
-    a5 (named.InR1A3 a b c d) e = refl
-    a5 p e = absurd (false≢true e)
-
-    a9 : Apart is_in_r1_a3 is_out_r1_a9
-    a9 (named.InR1A3 a b c d) e = refl
-    a9 p e = absurd (false≢true e)
-
-pub r2_apart : LeavesAlone is_in_r2_a3
-r2_apart = record { a1 = a1; a5 = a5; a9 = a9 }
-  where
-    a1 : Apart is_in_r2_a3 is_out_r1_a1
-    a1 (named.InR2A3 a) e = refl
-    a1 p e = absurd (false≢true e)
-
-    a5 : Apart is_in_r2_a3 is_out_r1_a5
-    a5 (named.InR2A3 a) e = refl
-    a5 p e = absurd (false≢true e)
-
-    a9 : Apart is_in_r2_a3 is_out_r1_a9
-    a9 (named.InR2A3 a) e = refl
-    a9 p e = absurd (false≢true e)
-
-pub ack_apart : LeavesAlone is_ack
-ack_apart = record { a1 = a1; a5 = a5; a9 = a9 }
-  where
-    a1 : Apart is_ack is_out_r1_a1
-    a1 (named.AckTo a b c d) e = refl
-    a1 p e = absurd (false≢true e)
-
-    a5 : Apart is_ack is_out_r1_a5
-    a5 (named.AckTo a b c d) e = refl
-    a5 p e = absurd (false≢true e)
-
-    a9 : Apart is_ack is_out_r1_a9
-    a9 (named.AckTo a b c d) e = refl
-    a9 p e = absurd (false≢true e)
+use Rattle.rh_server_counts.proofs.Dues.{Adds, HaveOrigins, HasOrigin, push_waits, one_waits}
+use Rattle.rh_server_counts.proofs.Packets.{LeavesAlone}
 
 -- ---- what is kept
 
@@ -152,6 +62,53 @@ starts = record {
   a9_legs = on_none 1 is_out_r1_a9 OutServer;
 }
 
+-- ---- one more in the counts
+
+-- a message was put
+record Sent (put : List OnLeg) (one : OnLeg) : Type 0 where
+  a1 : often is_out_r1_a1 OutServer (put ++ one ∷ [])
+      ≡ often is_out_r1_a1 OutServer put + often is_out_r1_a1 OutServer (one ∷ [])
+  a5 : often is_out_r1_a5 OutServer (put ++ one ∷ [])
+      ≡ often is_out_r1_a5 OutServer put + often is_out_r1_a5 OutServer (one ∷ [])
+  a9 : often is_out_r1_a9 OutServer (put ++ one ∷ [])
+      ≡ often is_out_r1_a9 OutServer put + often is_out_r1_a9 OutServer (one ∷ [])
+
+sent_more : (put : List OnLeg) (one : OnLeg) → Sent put one
+sent_more put one = record {
+  a1 = often_more is_out_r1_a1 OutServer put one;
+  a5 = often_more is_out_r1_a5 OutServer put one;
+  a9 = often_more is_out_r1_a9 OutServer put one;
+}
+
+-- it came
+record Heard (came : List OnLeg) (one : OnLeg) : Type 0 where
+  a4 : often is_out_r1_a4 OutServer (came ++ one ∷ [])
+      ≡ often is_out_r1_a4 OutServer came + often is_out_r1_a4 OutServer (one ∷ [])
+  a8 : often is_out_r1_a8 InServer (came ++ one ∷ [])
+      ≡ often is_out_r1_a8 InServer came + often is_out_r1_a8 InServer (one ∷ [])
+
+heard_more : (came : List OnLeg) (one : OnLeg) → Heard came one
+heard_more came one = record {
+  a4 = often_more is_out_r1_a4 OutServer came one;
+  a8 = often_more is_out_r1_a8 InServer came one;
+}
+
+-- a packet of the server's own is due
+record Pushed (dues : List Due) (packet : Named) : Type 0 where
+  a1 : waiting_of is_out_r1_a1 (dues ++ own packet ∷ [])
+      ≡ waiting_of is_out_r1_a1 dues + one_waits is_out_r1_a1 packet
+  a5 : waiting_of is_out_r1_a5 (dues ++ own packet ∷ [])
+      ≡ waiting_of is_out_r1_a5 dues + one_waits is_out_r1_a5 packet
+  a9 : waiting_of is_out_r1_a9 (dues ++ own packet ∷ [])
+      ≡ waiting_of is_out_r1_a9 dues + one_waits is_out_r1_a9 packet
+
+pushed_more : (dues : List Due) (packet : Named) → Pushed dues packet
+pushed_more dues packet = record {
+  a1 = push_waits is_out_r1_a1 dues (own packet);
+  a5 = push_waits is_out_r1_a5 dues (own packet);
+  a9 = push_waits is_out_r1_a9 dues (own packet);
+}
+
 -- what came is none of a replacement
 abbrev pub IsQuiet : OnLeg → Type 0
 IsQuiet one = (often is_out_r1_a4 OutServer (one ∷ []) ≡ 0)
@@ -164,13 +121,9 @@ came_quiet at writing dues came put one quiet h = record {
   origins = h.origins;
   writes = h.writes;
   asked = h.asked;
-  began =
-      let more = often_more is_out_r1_a4 OutServer came one in
-      omega (arith, more, quiet.0, h.began);
+  began = omega (arith, heard.a4, quiet.0, h.began);
   answered = h.answered;
-  confirmed =
-      let more = often_more is_out_r1_a8 InServer came one in
-      omega (arith, more, quiet.1, h.confirmed);
+  confirmed = omega (arith, heard.a8, quiet.1, h.confirmed);
   a1_waits = h.a1_waits;
   a5_waits = h.a5_waits;
   a9_waits = h.a9_waits;
@@ -179,6 +132,9 @@ came_quiet at writing dues came put one quiet h = record {
   a5_legs = h.a5_legs;
   a9_legs = h.a9_legs;
 }
+  where
+    heard : Heard came one
+    heard = heard_more came one
 
 -- nor is what was put
 abbrev pub IsQuietPut : OnLeg → Type 0
@@ -191,11 +147,11 @@ pub put_quiet : (at : Replacement) (writing : ℕ) (dues : List Due) (came put :
     → Kept at writing dues came (put ++ one ∷ [])
 put_quiet at writing dues came put one quiet h = record {
   origins = h.origins;
-  writes = omega (arith, more9, quiet.2, h.writes);
-  asked = omega (arith, more1, more9, quiet.0, quiet.2, h.asked);
-  began = omega (arith, more9, quiet.2, h.began);
-  answered = omega (arith, more5, more9, quiet.1, quiet.2, h.answered);
-  confirmed = omega (arith, more9, quiet.2, h.confirmed);
+  writes = omega (arith, sent.a9, quiet.2, h.writes);
+  asked = omega (arith, sent.a1, sent.a9, quiet.0, quiet.2, h.asked);
+  began = omega (arith, sent.a9, quiet.2, h.began);
+  answered = omega (arith, sent.a5, sent.a9, quiet.1, quiet.2, h.answered);
+  confirmed = omega (arith, sent.a9, quiet.2, h.confirmed);
   a1_waits = h.a1_waits;
   a5_waits = h.a5_waits;
   a9_waits = h.a9_waits;
@@ -205,17 +161,8 @@ put_quiet at writing dues came put one quiet h = record {
   a9_legs = on_other 1 is_out_r1_a9 OutServer put one quiet.2 h.a9_legs;
 }
   where
-    more1 : often is_out_r1_a1 OutServer (put ++ one ∷ [])
-        ≡ often is_out_r1_a1 OutServer put + often is_out_r1_a1 OutServer (one ∷ [])
-    more1 = often_more is_out_r1_a1 OutServer put one
-
-    more5 : often is_out_r1_a5 OutServer (put ++ one ∷ [])
-        ≡ often is_out_r1_a5 OutServer put + often is_out_r1_a5 OutServer (one ∷ [])
-    more5 = often_more is_out_r1_a5 OutServer put one
-
-    more9 : often is_out_r1_a9 OutServer (put ++ one ∷ [])
-        ≡ often is_out_r1_a9 OutServer put + often is_out_r1_a9 OutServer (one ∷ [])
-    more9 = often_more is_out_r1_a9 OutServer put one
+    sent : Sent put one
+    sent = sent_more put one
 
 -- as many of these wait
 same_waits : (at : Replacement) (writing : ℕ) (dues new : List Due) (came put : List OnLeg)
@@ -264,30 +211,21 @@ asks_kept Confirmed writing dues came put steady h = absurd (false≢true steady
 asks_kept Steady writing dues came put steady h = record {
   origins = origins_push dues (named.OutR1A1 0) h.origins;
   writes = h.writes;
-  asked = omega (arith, h.asked, more1);
+  asked = omega (arith, h.asked, pushed.a1);
   began = h.began;
-  answered = omega (arith, h.answered, more5);
+  answered = omega (arith, h.answered, pushed.a5);
   confirmed = h.confirmed;
-  a1_waits = omega (arith, h.a1_waits, more1);
-  a5_waits = omega (arith, h.a5_waits, more5);
-  a9_waits = omega (arith, h.a9_waits, more9);
+  a1_waits = omega (arith, h.a1_waits, pushed.a1);
+  a5_waits = omega (arith, h.a5_waits, pushed.a5);
+  a9_waits = omega (arith, h.a9_waits, pushed.a9);
   a1_legs = h.a1_legs;
   a4_legs = h.a4_legs;
   a5_legs = h.a5_legs;
   a9_legs = h.a9_legs;
 }
   where
-    more1 : waiting_of is_out_r1_a1 (dues ++ own (named.OutR1A1 0) ∷ [])
-        ≡ waiting_of is_out_r1_a1 dues + 1
-    more1 = push_waits is_out_r1_a1 dues (own (named.OutR1A1 0))
-
-    more5 : waiting_of is_out_r1_a5 (dues ++ own (named.OutR1A1 0) ∷ [])
-        ≡ waiting_of is_out_r1_a5 dues + 0
-    more5 = push_waits is_out_r1_a5 dues (own (named.OutR1A1 0))
-
-    more9 : waiting_of is_out_r1_a9 (dues ++ own (named.OutR1A1 0) ∷ [])
-        ≡ waiting_of is_out_r1_a9 dues + 0
-    more9 = push_waits is_out_r1_a9 dues (own (named.OutR1A1 0))
+    pushed : Pushed dues (named.OutR1A1 0)
+    pushed = pushed_more dues (named.OutR1A1 0)
 
 -- OUT_R1/A4 came on the leg behind, where OUT_R1/A1 doesn't wait
 pub begins_kept : (at : Replacement) (writing : ℕ) (dues : List Due) (came put : List OnLeg) (n : ℕ)
@@ -309,13 +247,13 @@ begins_kept Confirmed writing dues came put n v a b c d e f asked gone next h =
 begins_kept Asked writing dues came put n v a b c d e f asked gone next h = record {
   origins = origins_push dues (named.OutR1A5 0 1 f) h.origins;
   writes = h.writes;
-  asked = omega (arith, h.asked, more1);
-  began = omega (arith, h.began, came4);
-  answered = omega (arith, h.answered, more5);
-  confirmed = omega (arith, h.confirmed, came8);
-  a1_waits = omega (arith, gone, more1);
-  a5_waits = omega (arith, h.a5_waits, more5);
-  a9_waits = omega (arith, h.a9_waits, more9);
+  asked = omega (arith, h.asked, pushed.a1);
+  began = omega (arith, h.began, heard.a4);
+  answered = omega (arith, h.answered, pushed.a5);
+  confirmed = omega (arith, h.confirmed, heard.a8);
+  a1_waits = omega (arith, gone, pushed.a1);
+  a5_waits = omega (arith, h.a5_waits, pushed.a5);
+  a9_waits = omega (arith, h.a9_waits, pushed.a9);
   a1_legs = h.a1_legs;
   a4_legs = on_next 2 n is_out_r1_a4 OutServer came (Packet (named.OutR1A4 v a b c d e f)) refl
       (omega (arith, next, h.writes, h.began)) h.a4_legs;
@@ -323,28 +261,11 @@ begins_kept Asked writing dues came put n v a b c d e f asked gone next h = reco
   a9_legs = h.a9_legs;
 }
   where
-    one : OnLeg
-    one = (leg_at OutServer n, Packet (named.OutR1A4 v a b c d e f))
+    pushed : Pushed dues (named.OutR1A5 0 1 f)
+    pushed = pushed_more dues (named.OutR1A5 0 1 f)
 
-    more1 : waiting_of is_out_r1_a1 (dues ++ own (named.OutR1A5 0 1 f) ∷ [])
-        ≡ waiting_of is_out_r1_a1 dues + 0
-    more1 = push_waits is_out_r1_a1 dues (own (named.OutR1A5 0 1 f))
-
-    more5 : waiting_of is_out_r1_a5 (dues ++ own (named.OutR1A5 0 1 f) ∷ [])
-        ≡ waiting_of is_out_r1_a5 dues + 1
-    more5 = push_waits is_out_r1_a5 dues (own (named.OutR1A5 0 1 f))
-
-    more9 : waiting_of is_out_r1_a9 (dues ++ own (named.OutR1A5 0 1 f) ∷ [])
-        ≡ waiting_of is_out_r1_a9 dues + 0
-    more9 = push_waits is_out_r1_a9 dues (own (named.OutR1A5 0 1 f))
-
-    came4 : often is_out_r1_a4 OutServer (came ++ one ∷ [])
-        ≡ often is_out_r1_a4 OutServer came + 1
-    came4 = often_more is_out_r1_a4 OutServer came one
-
-    came8 : often is_out_r1_a8 InServer (came ++ one ∷ [])
-        ≡ often is_out_r1_a8 InServer came + 0
-    came8 = often_more is_out_r1_a8 InServer came one
+    heard : Heard came (leg_at OutServer n, Packet (named.OutR1A4 v a b c d e f))
+    heard = heard_more came (leg_at OutServer n, Packet (named.OutR1A4 v a b c d e f))
 
 -- OUT_R1/A8 came, where OUT_R1/A5 doesn't wait
 pub confirms_kept : (cookie : Cookie) (writing : ℕ) (dues : List Due) (came put : List OnLeg)
@@ -355,41 +276,27 @@ pub confirms_kept : (cookie : Cookie) (writing : ℕ) (dues : List Due) (came pu
 confirms_kept cookie writing dues came put n destination successor gone h = record {
   origins = origins_push dues named.OutR1A9 h.origins;
   writes = h.writes;
-  asked = omega (arith, h.asked, more1);
-  began = omega (arith, h.began, came4);
-  answered = omega (arith, h.answered, more5);
-  confirmed = omega (arith, h.confirmed, came8);
-  a1_waits = omega (arith, h.a1_waits, more1);
-  a5_waits = omega (arith, gone, more5);
-  a9_waits = omega (arith, h.a9_waits, more9);
+  asked = omega (arith, h.asked, pushed.a1);
+  began = omega (arith, h.began, heard.a4);
+  answered = omega (arith, h.answered, pushed.a5);
+  confirmed = omega (arith, h.confirmed, heard.a8);
+  a1_waits = omega (arith, h.a1_waits, pushed.a1);
+  a5_waits = omega (arith, gone, pushed.a5);
+  a9_waits = omega (arith, h.a9_waits, pushed.a9);
   a1_legs = h.a1_legs;
   a4_legs = on_other 2 is_out_r1_a4 OutServer came one refl h.a4_legs;
   a5_legs = h.a5_legs;
   a9_legs = h.a9_legs;
 }
   where
+    pushed : Pushed dues named.OutR1A9
+    pushed = pushed_more dues named.OutR1A9
+
+    heard : Heard came (leg_at InServer n, Packet (named.OutR1A8 destination successor))
+    heard = heard_more came (leg_at InServer n, Packet (named.OutR1A8 destination successor))
+
     one : OnLeg
     one = (leg_at InServer n, Packet (named.OutR1A8 destination successor))
-
-    more1 : waiting_of is_out_r1_a1 (dues ++ own named.OutR1A9 ∷ [])
-        ≡ waiting_of is_out_r1_a1 dues + 0
-    more1 = push_waits is_out_r1_a1 dues (own named.OutR1A9)
-
-    more5 : waiting_of is_out_r1_a5 (dues ++ own named.OutR1A9 ∷ [])
-        ≡ waiting_of is_out_r1_a5 dues + 0
-    more5 = push_waits is_out_r1_a5 dues (own named.OutR1A9)
-
-    more9 : waiting_of is_out_r1_a9 (dues ++ own named.OutR1A9 ∷ [])
-        ≡ waiting_of is_out_r1_a9 dues + 1
-    more9 = push_waits is_out_r1_a9 dues (own named.OutR1A9)
-
-    came4 : often is_out_r1_a4 OutServer (came ++ one ∷ [])
-        ≡ often is_out_r1_a4 OutServer came + 0
-    came4 = often_more is_out_r1_a4 OutServer came one
-
-    came8 : often is_out_r1_a8 InServer (came ++ one ∷ [])
-        ≡ often is_out_r1_a8 InServer came + 1
-    came8 = often_more is_out_r1_a8 InServer came one
 
 -- ---- a packet that waited is put
 
@@ -433,11 +340,11 @@ module _ (writing : ℕ) (dues left : List Due) (came put : List OnLeg) (n : ℕ
   a9_goes (Answered successor) goes here h = absurd (omega (arith, goes.a9, h.a9_waits))
   a9_goes Confirmed goes here h = record {
     origins = goes.origins;
-    writes = omega (arith, h.writes, more9);
-    asked = omega (arith, h.asked, goes.a1, more1, more9);
-    began = omega (arith, h.began, more9);
-    answered = omega (arith, h.answered, goes.a5, more5, more9);
-    confirmed = omega (arith, h.confirmed, more9);
+    writes = omega (arith, h.writes, sent.a9);
+    asked = omega (arith, h.asked, goes.a1, sent.a1, sent.a9);
+    began = omega (arith, h.began, sent.a9);
+    answered = omega (arith, h.answered, goes.a5, sent.a5, sent.a9);
+    confirmed = omega (arith, h.confirmed, sent.a9);
     a1_waits = omega (arith, h.a1_waits, goes.a1);
     a5_waits = omega (arith, h.a5_waits, goes.a5);
     a9_waits = omega (arith, h.a9_waits, goes.a9);
@@ -448,31 +355,22 @@ module _ (writing : ℕ) (dues left : List Due) (came put : List OnLeg) (n : ℕ
         (omega (arith, here, h.writes)) h.a9_legs;
   }
     where
+      sent : Sent put (leg_at OutServer n, Packet named.OutR1A9)
+      sent = sent_more put (leg_at OutServer n, Packet named.OutR1A9)
+
       one : OnLeg
       one = (leg_at OutServer n, Packet named.OutR1A9)
-
-      more1 : often is_out_r1_a1 OutServer (put ++ one ∷ [])
-          ≡ often is_out_r1_a1 OutServer put + 0
-      more1 = often_more is_out_r1_a1 OutServer put one
-
-      more5 : often is_out_r1_a5 OutServer (put ++ one ∷ [])
-          ≡ often is_out_r1_a5 OutServer put + 0
-      more5 = often_more is_out_r1_a5 OutServer put one
-
-      more9 : often is_out_r1_a9 OutServer (put ++ one ∷ [])
-          ≡ often is_out_r1_a9 OutServer put + 1
-      more9 = often_more is_out_r1_a9 OutServer put one
 
   a1_goes : (at : Replacement) (to : ℕ) → Goes (named.OutR1A1 to) dues left → n ≡ writing
       → Kept at writing dues came put
       → Kept at writing left came (put ++ (leg_at OutServer n, Packet (named.OutR1A1 to)) ∷ [])
   a1_goes at to goes here h = record {
     origins = goes.origins;
-    writes = omega (arith, h.writes, more9);
-    asked = omega (arith, h.asked, goes.a1, more1, more9);
-    began = omega (arith, h.began, more9);
-    answered = omega (arith, h.answered, goes.a5, more5, more9);
-    confirmed = omega (arith, h.confirmed, more9);
+    writes = omega (arith, h.writes, sent.a9);
+    asked = omega (arith, h.asked, goes.a1, sent.a1, sent.a9);
+    began = omega (arith, h.began, sent.a9);
+    answered = omega (arith, h.answered, goes.a5, sent.a5, sent.a9);
+    confirmed = omega (arith, h.confirmed, sent.a9);
     a1_waits = omega (arith, h.a1_waits, goes.a1);
     a5_waits = omega (arith, h.a5_waits, goes.a5);
     a9_waits = omega (arith, h.a9_waits, goes.a9);
@@ -485,20 +383,11 @@ module _ (writing : ℕ) (dues left : List Due) (came put : List OnLeg) (n : ℕ
     a9_legs = on_other 1 is_out_r1_a9 OutServer put one refl h.a9_legs;
   }
     where
+      sent : Sent put (leg_at OutServer n, Packet (named.OutR1A1 to))
+      sent = sent_more put (leg_at OutServer n, Packet (named.OutR1A1 to))
+
       one : OnLeg
       one = (leg_at OutServer n, Packet (named.OutR1A1 to))
-
-      more1 : often is_out_r1_a1 OutServer (put ++ one ∷ [])
-          ≡ often is_out_r1_a1 OutServer put + 1
-      more1 = often_more is_out_r1_a1 OutServer put one
-
-      more5 : often is_out_r1_a5 OutServer (put ++ one ∷ [])
-          ≡ often is_out_r1_a5 OutServer put + 0
-      more5 = often_more is_out_r1_a5 OutServer put one
-
-      more9 : often is_out_r1_a9 OutServer (put ++ one ∷ [])
-          ≡ often is_out_r1_a9 OutServer put + 0
-      more9 = often_more is_out_r1_a9 OutServer put one
 
   a5_goes : (at : Replacement) (to version timeout : ℕ)
       → Goes (named.OutR1A5 to version timeout) dues left → n ≡ writing
@@ -507,11 +396,11 @@ module _ (writing : ℕ) (dues left : List Due) (came put : List OnLeg) (n : ℕ
       (put ++ (leg_at OutServer n, Packet (named.OutR1A5 to version timeout)) ∷ [])
   a5_goes at to version timeout goes here h = record {
     origins = goes.origins;
-    writes = omega (arith, h.writes, more9);
-    asked = omega (arith, h.asked, goes.a1, more1, more9);
-    began = omega (arith, h.began, more9);
-    answered = omega (arith, h.answered, goes.a5, more5, more9);
-    confirmed = omega (arith, h.confirmed, more9);
+    writes = omega (arith, h.writes, sent.a9);
+    asked = omega (arith, h.asked, goes.a1, sent.a1, sent.a9);
+    began = omega (arith, h.began, sent.a9);
+    answered = omega (arith, h.answered, goes.a5, sent.a5, sent.a9);
+    confirmed = omega (arith, h.confirmed, sent.a9);
     a1_waits = omega (arith, h.a1_waits, goes.a1);
     a5_waits = omega (arith, h.a5_waits, goes.a5);
     a9_waits = omega (arith, h.a9_waits, goes.a9);
@@ -524,20 +413,11 @@ module _ (writing : ℕ) (dues left : List Due) (came put : List OnLeg) (n : ℕ
     a9_legs = on_other 1 is_out_r1_a9 OutServer put one refl h.a9_legs;
   }
     where
+      sent : Sent put (leg_at OutServer n, Packet (named.OutR1A5 to version timeout))
+      sent = sent_more put (leg_at OutServer n, Packet (named.OutR1A5 to version timeout))
+
       one : OnLeg
       one = (leg_at OutServer n, Packet (named.OutR1A5 to version timeout))
-
-      more1 : often is_out_r1_a1 OutServer (put ++ one ∷ [])
-          ≡ often is_out_r1_a1 OutServer put + 0
-      more1 = often_more is_out_r1_a1 OutServer put one
-
-      more5 : often is_out_r1_a5 OutServer (put ++ one ∷ [])
-          ≡ often is_out_r1_a5 OutServer put + 1
-      more5 = often_more is_out_r1_a5 OutServer put one
-
-      more9 : often is_out_r1_a9 OutServer (put ++ one ∷ [])
-          ≡ often is_out_r1_a9 OutServer put + 0
-      more9 = often_more is_out_r1_a9 OutServer put one
 
   -- each goes on the writing channel
   pub goes_kept : (at : Replacement) (g : Gate) (packet : Named) → lets_packet g packet ≡ true

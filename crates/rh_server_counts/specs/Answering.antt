@@ -4,7 +4,7 @@ use Rattle.rh_line.specs.declared.leg.LegKind.TheVariants.{InServer}
 use Rattle.rh_shell.specs.Moves.{Passage}
 use Rattle.rh_server.specs.declared.state.InLeg.{InLeg}
 use Rattle.rh_server.specs.States.{Server, is_waiting}
-use Rattle.rh_server_counts.specs.Counting.{is_conn_b2, is_in_r1_a2, is_in_r1_a3, is_in_r2_a2, is_in_r2_a3, in_came, out_put, often_at, waits_for}
+use Rattle.rh_server_counts.specs.Counting.{is_conn_b2, is_end_a2, is_in_r1_a2, is_in_r1_a3, is_in_r1_a6, is_in_r2_a2, is_in_r2_a3, in_came, out_put, often_at, waits_for}
 
 -- how many is legs pass a test
 abbrev pub how_many : (InLeg → Bool) → List InLeg → ℕ
@@ -28,3 +28,8 @@ pub record AreAnswered (p : Passage Server) : Type 0 where
 pub record BeginOnce (p : Passage Server) : Type 0 where
   pub conn_b2 : (n : ℕ) → often_at is_conn_b2 InServer n p.came ≤ 1
   pub in_r1_a2 : (n : ℕ) → often_at is_in_r1_a2 InServer n p.came ≤ 1
+
+-- so do IN_R1/A6 and END/A2
+pub record EndOnce (p : Passage Server) : Type 0 where
+  pub in_r1_a6 : (n : ℕ) → often_at is_in_r1_a6 InServer n p.came ≤ 1
+  pub end_a2 : (n : ℕ) → often_at is_end_a2 InServer n p.came ≤ 1

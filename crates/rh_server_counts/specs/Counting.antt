@@ -1,7 +1,7 @@
 -- how often packets passed on legs of a kind, and how many wait (MS-RPCH 2.2.4)
-use Rattle.std.specs.Prelude.{ℕ, suc, ◌≡◌, ◌+◌, ◌<◌, ◌≤◌, List, [], ◌∷◌, Bool, true, false, if◌then◌else◌}
+use Rattle.std.specs.Prelude.{ℕ, suc, ◌≡◌, ◌+◌, ◌<◌, ◌≤◌, ◌==◌, List, [], ◌∷◌, Bool, true, false, if◌then◌else◌}
 use Rattle.rh_sig.specs.declared.named.Named.{Named}
-use Rattle.rh_sig.specs.declared.named.Named.TheVariants.{ConnA2, ConnB2, ConnB3, ConnC1, InR1A2, InR1A3, InR1A6, InR2A2, InR2A3, OutR1A1, OutR1A4, OutR1A5, OutR1A8, OutR1A9}
+use Rattle.rh_sig.specs.declared.named.Named.TheVariants.{ConnA2, ConnB2, ConnB3, ConnC1, InR1A2, InR1A3, InR1A6, InR2A2, InR2A3, OutR1A1, OutR1A4, OutR1A5, OutR1A8, OutR1A9, EndA2, AckTo}
 use Rattle.rh_line.specs.declared.leg.Leg.{Leg}
 use Rattle.rh_line.specs.declared.leg.LegKind.{LegKind}
 use Rattle.rh_line.specs.declared.leg.LegKind.TheVariants.{OutServer, InServer}
@@ -68,6 +68,15 @@ is_out_r1_a8 packet = false
 abbrev pub is_out_r1_a9 : Named → Bool
 is_out_r1_a9 OutR1A9 = true
 is_out_r1_a9 packet = false
+
+abbrev pub is_end_a2 : Named → Bool
+is_end_a2 EndA2 = true
+is_end_a2 packet = false
+
+-- an acknowledgement to this destination
+abbrev pub is_ack_to : ℕ → Named → Bool
+is_ack_to to (AckTo destination received window cookie) = destination == to
+is_ack_to to packet = false
 
 -- ---- how often
 

@@ -1,5 +1,5 @@
 -- a connection is opened once (MS-RPCH 3.2.5; profile)
-use Rattle.std.specs.Prelude.{ℕ, ◌≡◌, ◌+◌, ◌≤◌, Bool, true, false}
+use Rattle.std.specs.Prelude.{ℕ, ◌≡◌, ◌+◌, ◌≤◌}
 use Rattle.std.specs.List.{AllByRecursion}
 use Rattle.rh_line.specs.declared.leg.LegKind.TheVariants.{OutServer}
 use Rattle.rh_shell.specs.declared.answers.Phase.TheVariants as phase

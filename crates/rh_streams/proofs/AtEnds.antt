@@ -6,6 +6,7 @@ use Rattle.std.proofs.lemmas.List.{append-nil}
 use Rattle.std.proofs.lemmas.List.Folds.{list_any-append}
 use mathlib.Core.List.{IsPrefix}
 use Rattle.rh_http.specs.declared.fault.HttpFault.{HttpFault}
+use Rattle.rh_rts.specs.declared.command.Cookie.{Cookie}
 use Rattle.rh_sig.specs.declared.name.Pipe.{Pipe}
 use Rattle.rh_line.specs.declared.cause.Cause.{Cause}
 use Rattle.rh_line.specs.declared.leg.Leg.{Leg}
@@ -28,16 +29,18 @@ use Rattle.rh_history.specs.Carried.{AreAcceptedAtEnd, ComesUpOnceAtEnd, IsAccep
 use Rattle.rh_reading.specs.Reading.{messages_read}
 use Rattle.rh_history.proofs.Appended.{came_append, end_drawn_append, heard_append, happened_append, end_accepted_append}
 use Rattle.rh_streams.specs.Streams as streams
-use Rattle.rh_streams.specs.Streams.{ComesUpWith, EndStream, IsCookie, RisesWith, HearsInTurn, NeverRefuses, Seated, StaysUnusedAtEnd, all_given, all_taken, is_end_up_on, is_up_on, taken_by}
+use Rattle.rh_streams.specs.Streams.{EndStream, HearsInTurn, NeverRefuses, Seated, StaysUnusedAtEnd, all_given, all_taken, is_end_up_on, is_up_on, taken_by}
 use Rattle.rh_streams.specs.Turns.{Stages, IsInTurn, stages_after}
 use Rattle.rh_streams.proofs.EndMoves.{Did, did_close, did_give, did_recycle, did_take, leads_one}
 use Rattle.rh_streams.proofs.Seats.{left_self, seat, silent_none, staged_on}
 use Rattle.rh_streams.proofs.Kept.{FrontOf}
 use Rattle.rh_streams.proofs.Going.{kept_seated}
+use Rattle.rh_streams.proofs.Rising.{AreKnown, IsLifted, came_of, comes_here, first_more, has_cookies, is_up_first, known_more, lifted_with, up_more}
 use Rattle.rh_streams.proofs.Runs.{IsFit, Ran, ran_as, ran_by, ran_event, ran_none}
 use Rattle.rh_streams.proofs.Turns.{Passes}
 use Rattle.rh_streams.proofs.Ways.{Lifts, each_joined, each_of, or_false}
 use Rattle.rh_history.proofs.Runs.{end_events_append}
+use Rattle.rh_passages.specs.Rising.{AreUpFirst, CameUpWith, HasComeUp, IsUpFirst}
 use Rattle.rh_order.proofs.ItemLists.{neither}
 
 is_open : (c : Course) (f : Phase) → state_by c f ≡ state.Open → f ≡ phase.Open
@@ -57,9 +60,9 @@ module _ {S : Type 0} (rules : Rules S) (acts : Acts S) (first : S) (rooms : Roo
   abbrev Sound : Leg → Type 0
   Sound leg = Unit {0}
 
-  -- the legs come up with cookies by events
-  abbrev HaveCookies : List EndEvent → Type 0
-  HaveCookies events = AllByRecursion (ComesUpWith IsCookie) (happened events)
+  -- the leg came up so by an event
+  abbrev CameUp : Leg → Cookie → Type 0
+  CameUp leg cookie = CameUpWith (happened all) leg cookie
 
   -- moves of the end lead to it, by which these PDUs were given and taken
   pub record IsReached (given taken : List (List ℕ)) (p : Passage S) (ms : List Move)
@@ -69,7 +72,9 @@ module _ {S : Type 0} (rules : Rules S) (acts : Acts S) (first : S) (rooms : Roo
     pub is : end.passage ≡ p
     pub ups : (leg : Leg)
         → list_any (is_end_up_on leg) leads.moves ≡ list_any (is_up_on leg) ms
-    pub cookies : AllByRecursion Lifts ms → AllByRecursion (RisesWith IsCookie) leads.moves
+    pub lifted : AllByRecursion (Lifts CameUp) ms → AllByRecursion (IsLifted CameUp) leads.moves
+    pub up_first : AreUpFirst [] leads.moves
+    pub known : AreKnown leads.moves g
     pub given_is : end.given ≡ given
     pub taken_is : end.taken ≡ taken
 
@@ -99,7 +104,7 @@ module _ {S : Type 0} (rules : Rules S) (acts : Acts S) (first : S) (rooms : Roo
   abbrev RanBy : List (List ℕ) → List (List ℕ) → Shell S → (Leg → List ℕ) → (Leg → List ℕ)
       → (Leg → Bool) → Type 0
   RanBy given taken s heard drawn up =
-      Ran rules pipe Sound ⊥ (HaveCookies all) (IsReached given taken) s heard drawn up
+      Ran rules pipe Sound ⊥ CameUp (IsReached given taken) s heard drawn up
 
   module _ (given taken : List (List ℕ)) where
     more : (p : Passage S) (ms : List Move) (g : Stages) (move : Move)
@@ -116,10 +121,14 @@ module _ {S : Type 0} (rules : Rules S) (acts : Acts S) (first : S) (rooms : Roo
           list_any-append (is_end_up_on leg) at.leads.moves (Moves move ∷ [])
           ∙ ap (λ b. b || (is_up_on leg move || false)) (at.ups leg)
           ∙ sym (list_any-append (is_up_on leg) ms (move ∷ []));
-      cookies = λ have.
-          let two = each_of Lifts ms (move ∷ []) have in
-          each_joined (RisesWith IsCookie) at.leads.moves (Moves move ∷ []) (at.cookies two.0)
+      lifted = λ have.
+          let two = each_of (Lifts CameUp) ms (move ∷ []) have in
+          each_joined (IsLifted CameUp) at.leads.moves (Moves move ∷ []) (at.lifted two.0)
           two.1;
+      up_first =
+          first_more [] at.leads.moves (Moves move) at.up_first
+          (is_up_first rules p.role g at.leads.moves move at.known turn);
+      known = known_more rules p.role g at.leads.moves move at.known turn;
       given_is = at.given_is;
       taken_is = at.taken_is;
     }
@@ -148,7 +157,7 @@ module _ {S : Type 0} (rules : Rules S) (acts : Acts S) (first : S) (rooms : Roo
           → is_in_use rules q.role leg ≡ false)
           → After next out (with_role s role)
       aside next out role q at role_is came put unused_on =
-          ran_by rules pipe Sound ⊥ (HaveCookies all) (IsReached given taken)
+          ran_by rules pipe Sound ⊥ CameUp (IsReached given taken)
           (λ leg p ms g text fault sound at top headless refuses. asked leg p text fault refuses)
           (λ leg p ms g wanted sound at answers wants. unreached leg p answers)
           (IsReached (given ++ next) (taken ++ out)) s (with_role s role) heard drawn (λ leg. [])
@@ -167,7 +176,7 @@ module _ {S : Type 0} (rules : Rules S) (acts : Acts S) (first : S) (rooms : Roo
           (λ leg.
           staged_on (ran.stages leg) (ran.stages leg) (seat leg s) (seat leg s) (up leg) refl
           (λ on. on) (ran.staged leg))
-          (λ leg. refl) (λ have. tt) (λ leg rose. unused_on leg)
+          (λ leg. refl) tt (λ leg rose. unused_on leg)
           (λ leg e. (neither (up leg) false e).0) (λ leg e. refl)
 
       -- no act
@@ -179,8 +188,10 @@ module _ {S : Type 0} (rules : Rules S) (acts : Acts S) (first : S) (rooms : Roo
             is = ran.at.is;
             ups = λ leg.
                 ran.at.ups leg ∙ ap (list_any (is_up_on leg)) (sym (append-nil ran.moves));
-            cookies = λ have.
-                ran.at.cookies (subst (AllByRecursion Lifts) (append-nil ran.moves) have);
+            lifted = λ have.
+                ran.at.lifted (subst (AllByRecursion (Lifts CameUp)) (append-nil ran.moves) have);
+            up_first = ran.at.up_first;
+            known = ran.at.known;
             given_is = ran.at.given_is ∙ sym (append-nil given);
             taken_is = ran.at.taken_is ∙ sym (append-nil taken);
           }) ran.role refl refl (λ leg e. e)
@@ -190,10 +201,10 @@ module _ {S : Type 0} (rules : Rules S) (acts : Acts S) (first : S) (rooms : Roo
 
       act : (move : EndMove) (role : S) (next out : List (List ℕ))
           → MayEndMove rules s.role move → ((leg : Leg) → is_end_up_on leg move ≡ false)
-          → RisesWith IsCookie move
+          → IsLifted CameUp move → ((before : List EndMove) → IsUpFirst before move)
           → Did ran.at.end (end_moved rules acts ran.at.end move) role next out
           → After next out (with_role s role)
-      act move role next out may up_none with did =
+      act move role next out may up_none with plain did =
           let at = ran.at in
           let moves_on = subst (λ (r : S). MayEndMove rules r move) (sym role_is) may in
           let q = end_moved rules acts at.end move in
@@ -207,9 +218,12 @@ module _ {S : Type 0} (rules : Rules S) (acts : Acts S) (first : S) (rooms : Roo
                 (up_none leg)
                 ∙ or_false (list_any (is_end_up_on leg) at.leads.moves) ∙ at.ups leg
                 ∙ ap (list_any (is_up_on leg)) (sym (append-nil ran.moves));
-            cookies = λ have.
-                each_joined (RisesWith IsCookie) at.leads.moves (move ∷ [])
-                (at.cookies (subst (AllByRecursion Lifts) (append-nil ran.moves) have)) (with, tt);
+            lifted = λ have.
+                each_joined (IsLifted CameUp) at.leads.moves (move ∷ [])
+                (at.lifted (subst (AllByRecursion (Lifts CameUp)) (append-nil ran.moves) have))
+                (with, tt);
+            up_first = first_more [] at.leads.moves move at.up_first (plain at.leads.moves);
+            known = λ leg stage is. up_more at.leads.moves (move ∷ []) leg (at.known leg stage is);
             given_is = did.given ∙ ap (λ x. x ++ next) at.given_is;
             taken_is = did.taken ∙ ap (λ x. x ++ out) at.taken_is;
           }) did.role
@@ -224,26 +238,26 @@ module _ {S : Type 0} (rules : Rules S) (acts : Acts S) (first : S) (rooms : Roo
       gives pdu (Some why) = idle
       gives pdu None =
           act (Gives pdu) (acts.give s.role pdu).0
-          (accepted pdu (told_of (acts.give s.role pdu).1)) [] tt (λ leg. refl) tt
+          (accepted pdu (told_of (acts.give s.role pdu).1)) [] tt (λ leg. refl) tt (λ before. tt)
           (did_give rules acts ran.at.end pdu (acts.give s.role pdu)
           (ap (λ (r : S). acts.give r pdu) role_is))
 
       takes : (o : Option Cause) → After [] (handed_by acts s o) (take_where acts s o)
       takes (Some why) = idle
       takes None =
-          act Takes (acts.take s.role) [] (handed_by acts s None) tt (λ leg. refl) tt
+          act Takes (acts.take s.role) [] (handed_by acts s None) tt (λ leg. refl) tt (λ before. tt)
           (did_take rules acts ran.at.end s.role role_is)
 
       closes : (o : Option Cause) → After [] [] (close_where acts s o)
       closes (Some why) = idle
       closes None =
-          act Closes (acts.close s.role) [] [] tt (λ leg. refl) tt
+          act Closes (acts.close s.role) [] [] tt (λ leg. refl) tt (λ before. tt)
           (did_close rules acts ran.at.end s.role role_is)
 
       recycles : (x : State) → state_of rules s ≡ x → After [] [] (recycle_where acts s x).0
       recycles state.Open e =
           act Recycles (acts.recycle s.role).0 [] [] (is_open s.course (rules.phase s.role) e)
-          (λ leg. refl) tt (did_recycle rules acts ran.at.end s.role role_is)
+          (λ leg. refl) tt (λ before. tt) (did_recycle rules acts ran.at.end s.role role_is)
       recycles state.Opening e = idle
       recycles state.Ended e = idle
       recycles (state.Closed why) e = idle
@@ -266,12 +280,12 @@ module _ {S : Type 0} (rules : Rules S) (acts : Acts S) (first : S) (rooms : Roo
 
   abbrev FitsEnd : Shell S → List EndEvent → EndEvent → Type 0
   FitsEnd s events (Happens event) =
-      IsFit rules (HaveCookies all) s (λ leg. came_up leg (happened events)) event
+      IsFit rules CameUp s (λ leg. came_up leg (happened events)) event
   FitsEnd s events act = Unit {0}
 
   happens : (given taken : List (List ℕ)) (s : Shell S) (events : List EndEvent) (event : Event)
       → RanTo given taken s events
-      → IsFit rules (HaveCookies all) s (λ leg. came_up leg (happened events)) event
+      → IsFit rules CameUp s (λ leg. came_up leg (happened events)) event
       → Next given taken s events (Happens event)
   happens given taken s events event ran fit =
       subst (λ x. RanBy x (taken ++ []) (after_event rules s event)
@@ -284,7 +298,7 @@ module _ {S : Type 0} (rules : Rules S) (acts : Acts S) (first : S) (rooms : Roo
       (λ leg. end_drawn_on rules acts start leg events ++ drawn_in rules s leg event)
       (λ leg. came_up leg (happened events) || (is_up_of leg event || false)))
       (sym (append-nil taken))
-      (ran_as rules pipe Sound ⊥ (HaveCookies all) (IsReached given taken)
+      (ran_as rules pipe Sound ⊥ CameUp (IsReached given taken)
       (after_event rules s event)
       (λ leg. heard_on leg (happened events) ++ heard_in leg event)
       (λ leg. end_drawn_on rules acts start leg events ++ drawn_in rules s leg event)
@@ -297,7 +311,7 @@ module _ {S : Type 0} (rules : Rules S) (acts : Acts S) (first : S) (rooms : Roo
       (λ leg. refl)
       (λ leg.
       ap (λ b. came_up leg (happened events) || b) (sym (or_false (is_up_of leg event))))
-      (ran_event rules pipe Sound ⊥ (HaveCookies all) (IsReached given taken)
+      (ran_event rules pipe Sound ⊥ CameUp (IsReached given taken)
       (λ leg p ms g text fault sound at top headless refuses. asked leg p text fault refuses)
       (λ leg p ms g wanted sound at answers wants. unreached leg p answers)
       (more given taken) (stays given taken) (λ p ms g leg at. piped p.role leg) s event
@@ -332,7 +346,7 @@ module _ {S : Type 0} (rules : Rules S) (acts : Acts S) (first : S) (rooms : Roo
       → RanTo (given ++ streams.given_by acts s event) (taken ++ taken_by acts s event)
       (after_end_event rules acts s event) (events ++ event ∷ [])
   one_more given taken s events event is next =
-      ran_as rules pipe Sound ⊥ (HaveCookies all)
+      ran_as rules pipe Sound ⊥ CameUp
       (IsReached (given ++ streams.given_by acts s event) (taken ++ taken_by acts s event))
       (after_end_event rules acts s event)
       (λ leg. heard_on leg (happened events) ++ heard_on leg (happened (event ∷ [])))
@@ -359,8 +373,8 @@ module _ {S : Type 0} (rules : Rules S) (acts : Acts S) (first : S) (rooms : Roo
       → after_end_events rules acts start events ≡ s
       → AreAcceptedAtEnd rules acts start events → IsAcceptedAtEnd rules s event
       → HearsInTurn (happened (events ++ event ∷ later))
-      → (HaveCookies all → HaveCookies (events ++ event ∷ later)) → FitsEnd s events event
-  fits s events later (Happens event) is before accepted turn have = record {
+      → events ++ event ∷ later ≡ all → FitsEnd s events event
+  fits s events later (Happens event) is before accepted turn whole = record {
     accepted = accepted;
     once = λ leg rose.
         subst (λ (x : Shell S). may_up rules x leg ≡ false) is (once.once events leg before rose);
@@ -368,27 +382,28 @@ module _ {S : Type 0} (rules : Rules S) (acts : Acts S) (first : S) (rooms : Roo
         turn (happened events) (happened later) leg piece
         (happened_append events (Happens event ∷ later)
         ∙ ap (λ x. happened events ++ x ∷ happened later) e);
-    cookie = λ known.
-        (each_of (ComesUpWith IsCookie) (happened events) (event ∷ happened later)
-        (subst (AllByRecursion (ComesUpWith IsCookie))
-        (happened_append events (Happens event ∷ later)) (have known))).1.0;
+    raises = λ leg cookie e.
+        subst (λ x. CameUpWith (happened x) leg cookie) whole
+        (subst (λ x. CameUpWith x leg cookie)
+        (sym (happened_append events (Happens event ∷ later)))
+        (comes_here (happened events) (happened later) event leg cookie e));
   }
-  fits s events later (IsGiven pdu) is before accepted turn have = tt
-  fits s events later IsTaken is before accepted turn have = tt
-  fits s events later IsClosed is before accepted turn have = tt
-  fits s events later IsRecycled is before accepted turn have = tt
+  fits s events later (IsGiven pdu) is before accepted turn whole = tt
+  fits s events later IsTaken is before accepted turn whole = tt
+  fits s events later IsClosed is before accepted turn whole = tt
+  fits s events later IsRecycled is before accepted turn whole = tt
 
   run : (given taken : List (List ℕ)) (events later : List EndEvent) (s : Shell S)
       → after_end_events rules acts start events ≡ s → AreAcceptedAtEnd rules acts start events
       → RanTo given taken s events → AreAcceptedAtEnd rules acts s later
-      → HearsInTurn (happened (events ++ later)) → (HaveCookies all → HaveCookies (events ++ later))
+      → HearsInTurn (happened (events ++ later)) → events ++ later ≡ all
       → RanTo (given ++ all_given rules acts s later) (taken ++ all_taken rules acts s later)
       (after_end_events rules acts s later) (events ++ later)
-  run given taken events [] s is before ran accepted turn have =
+  run given taken events [] s is before ran accepted turn whole =
       subst (λ x. RanTo x (taken ++ []) s (events ++ [])) (sym (append-nil given))
       (subst (λ x. RanTo given x s (events ++ [])) (sym (append-nil taken))
       (subst (RanTo given taken s) (sym (append-nil events)) ran))
-  run given taken events (event ∷ later) s is before ran accepted turn have =
+  run given taken events (event ∷ later) s is before ran accepted turn whole =
       let next = after_end_event rules acts s event in
       let end = after_end_events rules acts next later in
       let same = append_assoc events (event ∷ []) later in
@@ -407,10 +422,9 @@ module _ {S : Type 0} (rules : Rules S) (acts : Acts S) (first : S) (rooms : Roo
       (subst (λ (x : Shell S). IsAcceptedAtEnd rules x event) (sym is) accepted.0, tt))
       (one_more given taken s events event is
       (next_of given taken s events event ran
-      (fits s events later event is before accepted.0 turn have)))
+      (fits s events later event is before accepted.0 turn whole)))
       accepted.1
-      (subst (λ x. HearsInTurn (happened x)) (sym same) turn)
-      (λ known. subst HaveCookies (sym same) (have known)))))
+      (subst (λ x. HearsInTurn (happened x)) (sym same) turn) (same ∙ whole))))
 
   drawn_is : (leg : Leg) (p : Passage S) (heard bytes : List ℕ)
       → IsPrefix bytes (spelled (of_leg leg p.put))
@@ -428,7 +442,11 @@ module _ {S : Type 0} (rules : Rules S) (acts : Acts S) (first : S) (rooms : Roo
     given = ran.at.given_is;
     taken = ran.at.taken_is;
     ups = λ leg. ran.at.ups leg ∙ ran.ups leg;
-    cookies = λ have. ran.at.cookies (ran.cookies have);
+    cookies = λ have.
+        has_cookies ran.at.leads.moves (λ leg cookie rose.
+        came_of (happened all) leg cookie have (raised leg cookie rose));
+    raised = raised;
+    up_first = ran.at.up_first;
     read = λ leg.
         subst (λ (x : Passage S). IsPrefix (of_leg leg x.came)
         (messages_read (pipe leg) (heard_on leg (happened all)))) (sym ran.at.is)
@@ -456,12 +474,19 @@ module _ {S : Type 0} (rules : Rules S) (acts : Acts S) (first : S) (rooms : Roo
           (after_end_events rules acts start all) all
       ran =
           run [] [] [] all start refl tt
-          (ran_none rules pipe Sound ⊥ (HaveCookies all) (IsReached [] []) first rooms (record {
+          (ran_none rules pipe Sound ⊥ CameUp (IsReached [] []) first rooms (record {
             end = end_started first;
             leads = record { moves = []; allowed = tt; reached = refl };
             is = refl;
             ups = λ leg. refl;
-            cookies = λ have. tt;
+            lifted = λ have. tt;
+            up_first = tt;
+            known = λ leg stage is. absurd cc;
             given_is = refl;
             taken_is = refl;
-          })) accepted turn (λ known. known)
+          })) accepted turn refl
+
+      raised : (leg : Leg) (cookie : Cookie) → HasComeUp ran.at.leads.moves leg cookie
+          → CameUp leg cookie
+      raised leg cookie =
+          lifted_with CameUp ran.at.leads.moves leg cookie (ran.at.lifted ran.lifted)

@@ -32,42 +32,45 @@ use Rattle.rh_streams.proofs.Ends.{AreApart, end_has, end_is, end_leg, end_of, l
 use Rattle.rh_streams.proofs.Hears.{Heard, nothing_held}
 use Rattle.rh_streams.proofs.Pings.{pings}
 use Rattle.rh_streams.proofs.Pieces.{piece_heard}
-use Rattle.rh_streams.specs.Streams.{ComesUpWith, IsCookie, is_up_on}
+use Rattle.rh_streams.specs.Streams.{is_up_on}
 use Rattle.rh_streams.specs.Turns.{Stages, AreInTurnFrom}
 use Rattle.rh_streams.proofs.Staging.{IsNext, LeavesStages, all_stages, anything, leaves_none, next_itself, stage_none, stage_other}
 use Rattle.rh_streams.proofs.Seats.{StopKeeps, at_work, on_answers, on_left, on_stopped, staged_on, beside_seat, here_seat, left_as, left_of, left_self, marked_left, seat, seated_held, silent_closed, silent_none, stop_here, stop_keeps, stop_there, was_seat}
 use Rattle.rh_streams.proofs.Turns as turns
 use Rattle.rh_streams.proofs.Turns.{Nowhere, Sits, Answers, IsOn, IsStaged, IsLeft, IsQuiet, IsSilent, Turns, Passes, Tells, Comes, Fails, more_there, seat_by}
-use Rattle.rh_streams.proofs.Ways.{Way, Lifts, nowhere, or_false, way_none, way_one}
+use Rattle.rh_streams.proofs.Ways.{Way, IsRaised, Lifts, nowhere, or_false, way_none, way_one}
 use Rattle.rh_history.proofs.Wired.{same_itself}
 use Rattle.std.proofs.lemmas.Bool.{and_parts}
 use Rattle.rh_order.proofs.ItemLists.{neither}
 
-no_lift : (move : Move) → ((leg : Leg) → is_up_on leg move ≡ false) → Lifts move
-no_lift (Up leg cookie) none =
+no_lift : (With : Leg → Cookie → Type 0) (move : Move)
+    → ((leg : Leg) → is_up_on leg move ≡ false) → Lifts With move
+no_lift With (Up leg cookie) none =
     absurd (let bad : true ≡ false = sym (same_itself leg) ∙ none leg in cc)
-no_lift (HeadCame leg text) none = tt
-no_lift (PduCame leg count pdu) none = tt
-no_lift (PacketCame leg count named) none = tt
-no_lift (Puts leg) none = tt
-no_lift (IsDrawn leg) none = tt
-no_lift (Marks leg) none = tt
-no_lift (Pings leg) none = tt
+no_lift With (HeadCame leg text) none = tt
+no_lift With (PduCame leg count pdu) none = tt
+no_lift With (PacketCame leg count named) none = tt
+no_lift With (Puts leg) none = tt
+no_lift With (IsDrawn leg) none = tt
+no_lift With (Marks leg) none = tt
+no_lift With (Pings leg) none = tt
 
--- where no leg comes up, none does without a cookie
-no_lifts : (moves : List Move) → ((leg : Leg) → list_any (is_up_on leg) moves ≡ false)
-    → AllByRecursion Lifts moves
-no_lifts [] none = tt
-no_lifts (move ∷ moves) none = (
-  no_lift move (λ leg. (neither (is_up_on leg move) (list_any (is_up_on leg) moves) (none leg)).0),
-  no_lifts moves
+-- where no leg comes up, each that does has it
+no_lifts : (With : Leg → Cookie → Type 0) (moves : List Move)
+    → ((leg : Leg) → list_any (is_up_on leg) moves ≡ false) → AllByRecursion (Lifts With) moves
+no_lifts With [] none = tt
+no_lifts With (move ∷ moves) none = (
+  no_lift With move
+      (λ leg. (neither (is_up_on leg move) (list_any (is_up_on leg) moves) (none leg)).0),
+  no_lifts With moves
       (λ leg. (neither (is_up_on leg move) (list_any (is_up_on leg) moves) (none leg)).1),
 )
 
-module _ {S : Type 0} (rules : Rules S) (pipes : Leg → Option Pipe) (rose : Leg → Bool) where
-  -- moves lead to a passage whose role is the node's, and each leg turns so; those that come up do
-  -- with a cookie, if the event has one
-  pub record Steps (p : Passage S) (s t : Shell S) (ups : Leg → Bool) (HasCookie : Type 0)
+module _ {S : Type 0} (rules : Rules S) (pipes : Leg → Option Pipe) (rose : Leg → Bool)
+    (With : Leg → Cookie → Type 0) where
+  -- moves lead to a passage whose role is the node's, and each leg turns so; those that come up
+  -- have this with their cookies, if the event has it
+  pub record Steps (p : Passage S) (s t : Shell S) (ups : Leg → Bool) (HasIt : Type 0)
       (bytes out : Leg → List ℕ) (later : Leg → Bool) : Type 0 where
     pub heads : Leg → Bool
     pub passage : Passage S
@@ -75,7 +78,7 @@ module _ {S : Type 0} (rules : Rules S) (pipes : Leg → Option Pipe) (rose : Le
     pub role : passage.role ≡ t.role
     pub held : AreHeld t
     pub apart : AreApart t.legs
-    pub cookies : HasCookie → AllByRecursion Lifts way.moves
+    pub lifted : HasIt → AllByRecursion (Lifts With) way.moves
     pub turned : (leg : Leg) → Turns rules (pipes leg) leg p passage way.moves (seat leg s)
         (seat leg t) (bytes leg) (out leg) (rose leg) (later leg)
     pub staged : (g : Stages)
@@ -101,7 +104,7 @@ module _ {S : Type 0} (rules : Rules S) (pipes : Leg → Option Pipe) (rose : Le
       role = role;
       held = held_t;
       apart = apart_t;
-      cookies = λ has. no_lifts way.moves way.raised;
+      lifted = λ has. no_lifts With way.moves way.raised;
       turned = λ leg. Passes (record {
         quiet = record {
           came = ap (of_leg leg) came;
@@ -230,7 +233,7 @@ module _ {S : Type 0} (rules : Rules S) (pipes : Leg → Option Pipe) (rose : Le
       role = is;
       held = held;
       apart = apart;
-      cookies = λ has. tt;
+      lifted = λ has. tt;
       turned = λ leg. by leg (same_leg client leg) refl;
       staged = λ g. λ all. (
         tt,
@@ -340,7 +343,7 @@ module _ {S : Type 0} (rules : Rules S) (pipes : Leg → Option Pipe) (rose : Le
       apart =
           subst AreApart (sym keeps.legs)
           (same_apart k s.legs end t.end at h.same.leg apart);
-      cookies = λ has. no_lifts h.way.moves h.way.raised;
+      lifted = λ has. no_lifts With h.way.moves h.way.raised;
       turned = λ leg. by leg (same_leg k leg) refl;
       staged = λ g. λ all.
           let both = h.turns g (next g all) in
@@ -475,7 +478,7 @@ module _ {S : Type 0} (rules : Rules S) (pipes : Leg → Option Pipe) (rose : Le
       role = w.role;
       held = All-set IsHeld s.legs (place k s.legs) d.end still_held held;
       apart = same_apart k s.legs end d.end at w.beside.leg apart;
-      cookies = λ has. no_lifts w.way.moves w.way.raised;
+      lifted = λ has. no_lifts With w.way.moves w.way.raised;
       turned = λ leg. by leg (same_leg k leg) refl;
       staged = λ g. λ all. (
         w.leaves.in_turn g tt,
@@ -550,7 +553,7 @@ module _ {S : Type 0} (rules : Rules S) (pipes : Leg → Option Pipe) (rose : Le
       role = is;
       held = held;
       apart = apart;
-      cookies = λ has. tt;
+      lifted = λ has. tt;
       turned = λ leg.
           subst (λ x. Turns rules (pipes leg) leg p p [] x
           (cond (same_leg client leg) (Answers (drop room rest)) Nowhere) []
@@ -622,11 +625,11 @@ module _ {S : Type 0} (rules : Rules S) (pipes : Leg → Option Pipe) (rose : Le
     comes_up : (k : Leg) (cookie : Cookie) → may_up rules s k ≡ true
         → rules.pipe s.role k ≡ pipes k → rose k ≡ false
         → ((end : NearEnd) → seat k s ≡ Sits end → ⊥)
-        → Steps p s (up rules s k cookie) (same_leg k) (IsCookie cookie) (λ leg. []) (λ leg. [])
+        → Steps p s (up rules s k cookie) (same_leg k) (With k cookie) (λ leg. []) (λ leg. [])
         (λ leg. rose leg || same_leg k leg)
     comes_up k cookie may pipe down empty =
         subst (λ t. Steps p s (cond t (with_leg rules s k cookie) s) (same_leg k)
-        (IsCookie cookie) (λ leg. []) (λ leg. []) (λ leg. rose leg || same_leg k leg)) (sym may)
+        (With k cookie) (λ leg. []) (λ leg. []) (λ leg. rose leg || same_leg k leg)) (sym may)
         (record {
           heads = nowhere;
           passage = moved rules p (Up k cookie);
@@ -636,7 +639,7 @@ module _ {S : Type 0} (rules : Rules S) (pipes : Leg → Option Pipe) (rose : Le
           role = ap (λ (r : S). rules.up r k cookie) is;
           held = seated_held s.legs at new held (λ fr. nothing_held new.intake.held refl);
           apart = seated_apart s.legs at new absent apart;
-          cookies = λ has. (has, tt);
+          lifted = λ has. (has, tt);
           turned = λ leg. by leg (same_leg k leg) refl;
           staged = λ g. λ all. (
             ((all k).none down, tt),
@@ -766,7 +769,7 @@ module _ {S : Type 0} (rules : Rules S) (pipes : Leg → Option Pipe) (rose : Le
 
   pub event_steps : (p : Passage S) (s : Shell S) (event : Event) → p.role ≡ s.role → AreHeld s
       → AreApart s.legs → IsFresh s event
-      → Steps p s (after_event rules s event) (ups_of event) (ComesUpWith IsCookie event)
+      → Steps p s (after_event rules s event) (ups_of event) (IsRaised With event)
       (λ leg. heard_in leg event) (λ leg. drawn_in rules s leg event)
       (λ leg. rose leg || is_up_of leg event)
   event_steps p s (ComesUp k cookie) is held apart new =

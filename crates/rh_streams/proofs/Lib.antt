@@ -14,6 +14,7 @@ mod Going
 mod Pings
 mod Events
 mod Runs
+mod Rising
 mod Nodes
 mod EndMoves
 mod AtEnds

@@ -5,6 +5,7 @@ use Rattle.std.specs.declared.option.Option.{Option}
 use Rattle.std.proofs.lemmas.List.{append-nil}
 use mathlib.Core.List.{IsPrefix}
 use Rattle.rh_http.specs.declared.fault.HttpFault.{HttpFault}
+use Rattle.rh_rts.specs.declared.command.Cookie.{Cookie}
 use Rattle.rh_sig.specs.declared.name.Pipe.{Pipe}
 use Rattle.rh_line.specs.declared.leg.Leg.{Leg}
 use Rattle.rh_shell.specs.declared.answers.HeadRefused.TheVariants as head
@@ -39,6 +40,10 @@ module _ {S : Type 0} (rules : Rules S) (first : S) (rooms : Rooms) (pipe : Leg 
 
   abbrev Sound : Leg → Type 0
   Sound leg = RefusesInTurn rules first pipe leg
+
+  -- nothing is asked of the cookie with which a leg comes up
+  abbrev anyhow : Leg → Cookie → Type 0
+  anyhow leg cookie = Unit {0}
 
   abbrev start : Shell S
   start = begun first rooms
@@ -109,15 +114,15 @@ module _ {S : Type 0} (rules : Rules S) (first : S) (rooms : Rooms) (pipe : Leg 
   -- what is kept behind these events
   abbrev RanTo : Shell S → List Event → Type 0
   RanTo s events =
-      Ran rules pipe Sound (Unit {0}) ⊥ IsReached s (λ leg. heard_on leg events)
+      Ran rules pipe Sound (Unit {0}) anyhow IsReached s (λ leg. heard_on leg events)
       (λ leg. drawn_on rules start leg events) (λ leg. came_up leg events)
 
   ran_one : (events : List Event) (s : Shell S) (event : Event)
       → after_events rules start events ≡ s → RanTo s events
-      → IsFit rules ⊥ s (λ leg. came_up leg events) event
+      → IsFit rules anyhow s (λ leg. came_up leg events) event
       → RanTo (after_event rules s event) (events ++ event ∷ [])
   ran_one events s event is ran fit =
-      ran_as rules pipe Sound (Unit {0}) ⊥ IsReached (after_event rules s event)
+      ran_as rules pipe Sound (Unit {0}) anyhow IsReached (after_event rules s event)
       (λ leg. heard_on leg events ++ heard_in leg event)
       (λ leg. drawn_on rules start leg events ++ drawn_in rules s leg event)
       (λ leg. heard_on leg (events ++ event ∷ []))
@@ -135,8 +140,8 @@ module _ {S : Type 0} (rules : Rules S) (first : S) (rooms : Rooms) (pipe : Leg 
       (λ leg.
       ap (λ b. came_up leg events || b) (sym (or_false (is_up_of leg event)))
       ∙ sym (came_append leg events (event ∷ [])))
-      (ran_event rules pipe Sound (Unit {0}) ⊥ IsReached asked unreached more stays piped s event
-      (λ leg. heard_on leg events) (λ leg. drawn_on rules start leg events)
+      (ran_event rules pipe Sound (Unit {0}) anyhow IsReached asked unreached more stays piped s
+      event (λ leg. heard_on leg events) (λ leg. drawn_on rules start leg events)
       (λ leg. came_up leg events) ran fit)
 
   run : (events later : List Event) (s : Shell S) → after_events rules start events ≡ s
@@ -147,14 +152,14 @@ module _ {S : Type 0} (rules : Rules S) (first : S) (rooms : Rooms) (pipe : Leg 
   run events (event ∷ later) s is before ran accepted turn =
       let next = after_event rules s event in
       let all = append_assoc events (event ∷ []) later in
-      let fit : IsFit rules ⊥ s (λ leg. came_up leg events) event = record {
+      let fit : IsFit rules anyhow s (λ leg. came_up leg events) event = record {
         accepted = accepted.0;
         once = λ leg rose.
             subst (λ (x : Shell S). may_up rules x leg ≡ false) is
             (once.once events leg before rose);
         turn = λ leg piece e.
             turn events later leg piece (ap (λ x. events ++ x ∷ later) e);
-        cookie = λ none. absurd none;
+        raises = λ leg cookie e. tt;
       } in
       subst (RanTo (after_events rules next later)) all
       (run (events ++ event ∷ []) later next
@@ -218,5 +223,5 @@ module _ {S : Type 0} (rules : Rules S) (first : S) (rooms : Rooms) (pipe : Leg 
       ran : RanTo (after_events rules start events) events
       ran =
           run [] events start refl tt
-          (ran_none rules pipe Sound (Unit {0}) ⊥ IsReached first rooms
+          (ran_none rules pipe Sound (Unit {0}) anyhow IsReached first rooms
           (record { allowed = tt; reached = refl; in_turn = tt; stages = refl })) accepted turn

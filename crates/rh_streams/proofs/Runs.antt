@@ -6,6 +6,7 @@ use Rattle.std.proofs.lemmas.List.Elements.{All-nil}
 use Rattle.std.proofs.lemmas.List.Folds.{list_any-append}
 use mathlib.Core.List.{IsPrefix}
 use Rattle.rh_http.specs.declared.fault.HttpFault.{HttpFault}
+use Rattle.rh_rts.specs.declared.command.Cookie.{Cookie}
 use Rattle.rh_sig.specs.declared.name.Pipe.{Pipe}
 use Rattle.rh_line.specs.declared.leg.Leg.{Leg}
 use Rattle.rh_shell.specs.declared.answers.HeadRefused.TheVariants as head
@@ -19,7 +20,7 @@ use Rattle.rh_shell.specs.Rules.{Rules}
 use Rattle.rh_shell.specs.Shells.{Shell, begun, may_up, same_leg}
 use Rattle.rh_shell.specs.Wires.{of_leg}
 use Rattle.rh_history.specs.Carried.{IsAccepted, drawn_in, heard_in, is_up_of}
-use Rattle.rh_streams.specs.Streams.{ComesUpWith, IsCookie, is_head_on, is_refused_on, is_up_on}
+use Rattle.rh_streams.specs.Streams.{is_head_on, is_refused_on, is_up_on}
 use Rattle.rh_streams.specs.Turns.{Stages, AreInTurnFrom, IsInTurn, none_up, stages_after}
 use Rattle.rh_streams.proofs.Staging.{all_stages, way_reached, way_stays}
 use Rattle.rh_streams.proofs.Ends.{AreApart, leg_is}
@@ -28,14 +29,15 @@ use Rattle.rh_streams.proofs.Seats.{seat}
 use Rattle.rh_streams.proofs.Kept.{Kept, turns_keep}
 use Rattle.rh_streams.proofs.Going.{free_before, goes_keep}
 use Rattle.rh_streams.proofs.Turns.{Nowhere, Sits, IsStaged, Turns}
-use Rattle.rh_streams.proofs.Ways.{Lifts, each_joined}
+use Rattle.rh_streams.proofs.Ways.{IsRaised, Lifts, each_joined}
 use Rattle.rh_order.proofs.ItemLists.{neither}
 
--- a passage with the node's role, which was reached, and what is kept of each leg; with cookies
--- alone, if the events have them; and what was drawn where the node refuses nobody
+-- a passage with the node's role, which was reached, and what is kept of each leg; what each leg
+-- that came up has with its cookie; and what was drawn where the node refuses nobody
 pub record Ran {S : Type 0} (rules : Rules S) (pipes : Leg → Option Pipe) (Sound : Leg → Type 0)
-    (MayRefuse HaveCookies : Type 0) (At : Passage S → List Move → Stages → Type 0) (s : Shell S)
-    (heard drawn : Leg → List ℕ) (up : Leg → Bool) : Type 0 where
+    (MayRefuse : Type 0) (With : Leg → Cookie → Type 0)
+    (At : Passage S → List Move → Stages → Type 0) (s : Shell S) (heard drawn : Leg → List ℕ)
+    (up : Leg → Bool) : Type 0 where
   pub passage : Passage S
   pub moves : List Move
   pub stages : Stages
@@ -44,27 +46,27 @@ pub record Ran {S : Type 0} (rules : Rules S) (pipes : Leg → Option Pipe) (Sou
   pub held : AreHeld s
   pub apart : AreApart s.legs
   pub ups : (leg : Leg) → list_any (is_up_on leg) moves ≡ up leg
-  pub cookies : HaveCookies → AllByRecursion Lifts moves
+  pub lifted : AllByRecursion (Lifts With) moves
   pub staged : (leg : Leg) → IsStaged (stages leg) (seat leg s) (up leg)
   pub kept : (leg : Leg) → Kept rules (pipes leg) leg (Sound leg) MayRefuse passage moves
       (seat leg s) (heard leg) (drawn leg) (up leg)
   pub unrefused : (leg : Leg) → is_refused_on leg s.course ≡ false
       → IsPrefix (drawn leg) (spelled (of_leg leg passage.put))
 
--- what an event asks of the legs that came up before
-pub record IsFit {S : Type 0} (rules : Rules S) (HaveCookies : Type 0) (s : Shell S)
+-- what an event asks of the legs that came up before, and of one that comes up
+pub record IsFit {S : Type 0} (rules : Rules S) (With : Leg → Cookie → Type 0) (s : Shell S)
     (up : Leg → Bool) (event : Event) : Type 0 where
   pub accepted : IsAccepted rules s event
   pub once : (leg : Leg) → up leg ≡ true → may_up rules s leg ≡ false
   pub turn : (leg : Leg) (piece : List ℕ) → event ≡ Hears leg piece → up leg ≡ true
-  pub cookie : HaveCookies → ComesUpWith IsCookie event
+  pub raises : (leg : Leg) (cookie : Cookie) → event ≡ ComesUp leg cookie → With leg cookie
 
 module _ {S : Type 0} (rules : Rules S) (pipes : Leg → Option Pipe) (Sound : Leg → Type 0)
-    (MayRefuse HaveCookies : Type 0) where
+    (MayRefuse : Type 0) (With : Leg → Cookie → Type 0) where
   -- before any event
   pub ran_none : (At : Passage S → List Move → Stages → Type 0) (first : S) (rooms : Rooms)
       → At (started first) [] none_up
-      → Ran rules pipes Sound MayRefuse HaveCookies At (begun first rooms) (λ leg. []) (λ leg. [])
+      → Ran rules pipes Sound MayRefuse With At (begun first rooms) (λ leg. []) (λ leg. [])
       (λ leg. false)
   ran_none At first rooms at = record {
     passage = started first;
@@ -75,7 +77,7 @@ module _ {S : Type 0} (rules : Rules S) (pipes : Leg → Option Pipe) (Sound : L
     held = All-nil IsHeld;
     apart = tt;
     ups = λ leg. refl;
-    cookies = λ have. tt;
+    lifted = tt;
     staged = λ leg. record { on = tt; none = λ e. refl };
     kept = λ leg. record {
       front = ([], refl);
@@ -98,8 +100,8 @@ module _ {S : Type 0} (rules : Rules S) (pipes : Leg → Option Pipe) (Sound : L
       (heard drawn more_heard more_drawn : Leg → List ℕ) (up later : Leg → Bool)
       → ((leg : Leg) → heard leg ≡ more_heard leg) → ((leg : Leg) → drawn leg ≡ more_drawn leg)
       → ((leg : Leg) → up leg ≡ later leg)
-      → Ran rules pipes Sound MayRefuse HaveCookies At s heard drawn up
-      → Ran rules pipes Sound MayRefuse HaveCookies At s more_heard more_drawn later
+      → Ran rules pipes Sound MayRefuse With At s heard drawn up
+      → Ran rules pipes Sound MayRefuse With At s more_heard more_drawn later
   ran_as At s heard drawn more_heard more_drawn up later e f g ran = record {
     passage = ran.passage;
     moves = ran.moves;
@@ -109,7 +111,7 @@ module _ {S : Type 0} (rules : Rules S) (pipes : Leg → Option Pipe) (Sound : L
     held = ran.held;
     apart = ran.apart;
     ups = λ leg. ran.ups leg ∙ g leg;
-    cookies = ran.cookies;
+    lifted = ran.lifted;
     staged = λ leg.
         subst (λ b. IsStaged (ran.stages leg) (seat leg s) b) (g leg) (ran.staged leg);
     kept = λ leg.
@@ -136,7 +138,7 @@ module _ {S : Type 0} (rules : Rules S) (pipes : Leg → Option Pipe) (Sound : L
     -- one thing more
     pub ran_by : (Next : Passage S → List Move → Stages → Type 0) (s t : Shell S)
         (heard drawn bytes out : Leg → List ℕ) (up later : Leg → Bool)
-        → (ran : Ran rules pipes Sound MayRefuse HaveCookies At s heard drawn up)
+        → (ran : Ran rules pipes Sound MayRefuse With At s heard drawn up)
         → (q : Passage S) (ns : List Move) (next : Stages) → Next q (ran.moves ++ ns) next
         → q.role ≡ t.role
         → ((leg : Leg) → is_refused_on leg t.course ≡ false
@@ -146,12 +148,12 @@ module _ {S : Type 0} (rules : Rules S) (pipes : Leg → Option Pipe) (Sound : L
         (bytes leg) (out leg) (up leg) (later leg))
         → ((leg : Leg) → IsStaged (next leg) (seat leg t) (later leg))
         → ((leg : Leg) → (up leg || list_any (is_up_on leg) ns) ≡ later leg)
-        → (HaveCookies → AllByRecursion Lifts ns)
+        → AllByRecursion (Lifts With) ns
         → ((leg : Leg) → up leg ≡ true → is_in_use rules ran.passage.role leg ≡ false
         → is_in_use rules q.role leg ≡ false)
         → ((leg : Leg) → later leg ≡ false → up leg ≡ false)
         → ((leg : Leg) → later leg ≡ false → bytes leg ≡ [])
-        → Ran rules pipes Sound MayRefuse HaveCookies Next t (λ leg. heard leg ++ bytes leg)
+        → Ran rules pipes Sound MayRefuse With Next t (λ leg. heard leg ++ bytes leg)
         (λ leg. drawn leg ++ out leg) later
     ran_by Next s t heard drawn bytes out up later ran q ns next at role free held apart turned
         staged raised with stays was none = record {
@@ -166,7 +168,7 @@ module _ {S : Type 0} (rules : Rules S) (pipes : Leg → Option Pipe) (Sound : L
           ups = λ leg.
               list_any-append (is_up_on leg) ran.moves ns
               ∙ ap (λ b. b || list_any (is_up_on leg) ns) (ran.ups leg) ∙ raised leg;
-          cookies = λ have. each_joined Lifts ran.moves ns (ran.cookies have) (with have);
+          lifted = each_joined (Lifts With) ran.moves ns ran.lifted with;
           kept = kept;
           unrefused = λ leg is.
               goes_keep rules (pipes leg) leg (Sound leg) MayRefuse ran.passage q (ran.moves ++ ns)
@@ -198,22 +200,22 @@ module _ {S : Type 0} (rules : Rules S) (pipes : Leg → Option Pipe) (Sound : L
         (piped : (p : Passage S) (ms : List Move) (g : Stages) (leg : Leg) → At p ms g
         → rules.pipe p.role leg ≡ pipes leg) where
       pub ran_event : (s : Shell S) (event : Event) (heard drawn : Leg → List ℕ)
-          (up : Leg → Bool) → Ran rules pipes Sound MayRefuse HaveCookies At s heard drawn up
-          → IsFit rules HaveCookies s up event
-          → Ran rules pipes Sound MayRefuse HaveCookies At (after_event rules s event)
+          (up : Leg → Bool) → Ran rules pipes Sound MayRefuse With At s heard drawn up
+          → IsFit rules With s up event
+          → Ran rules pipes Sound MayRefuse With At (after_event rules s event)
           (λ leg. heard leg ++ heard_in leg event) (λ leg. drawn leg ++ drawn_in rules s leg event)
           (λ leg. up leg || is_up_of leg event)
       ran_event s event heard drawn up ran fit =
           ran_by At s (after_event rules s event) heard drawn (λ leg. heard_in leg event)
           (λ leg. drawn_in rules s leg event) up (λ leg. up leg || is_up_of leg event) ran
           step.passage step.way.moves (all_stages rules ran.passage ran.stages step.way.moves)
-          (way_reached rules At more stays step.heads (ups_of rules pipes up event) ran.passage
+          (way_reached rules At more stays step.heads (ups_of rules pipes up With event) ran.passage
           step.passage ran.moves ran.stages step.way staged.0 ran.at)
           step.role (λ leg. free_before rules leg s event) step.held step.apart step.turned staged.1
           (λ leg. ap (λ b. up leg || b) (step.way.raised leg ∙ comes event leg))
-          (λ have. step.cookies (fit.cookie have))
+          (step.lifted (raises event fit))
           (λ leg rose.
-          way_stays rules At more stays step.heads (ups_of rules pipes up event) ran.passage
+          way_stays rules At more stays step.heads (ups_of rules pipes up With event) ran.passage
           step.passage ran.moves ran.stages leg step.way staged.0 ran.at
           (others event fit leg rose))
           (λ leg e. (neither (up leg) (is_up_of leg event) e).0)
@@ -228,7 +230,7 @@ module _ {S : Type 0} (rules : Rules S) (pipes : Leg → Option Pipe) (Sound : L
               by true e = absurd (let bad : true ≡ false = sym may ∙ once k e in cc)
               by false e = refl
 
-          fresh : (e : Event) → IsFit rules HaveCookies s up e → IsFresh rules pipes up s e
+          fresh : (e : Event) → IsFit rules With s up e → IsFresh rules pipes up With s e
           fresh (ComesUp k cookie) f =
               let first = down k f.accepted f.once in (
                 f.accepted,
@@ -245,7 +247,15 @@ module _ {S : Type 0} (rules : Rules S) (pipes : Leg → Option Pipe) (Sound : L
           fresh (Draws k room) f = tt
           fresh (Ticks now) f = tt
 
-          comes : (e : Event) (leg : Leg) → ups_of rules pipes up e leg ≡ is_up_of leg e
+          raises : (e : Event) → IsFit rules With s up e → IsRaised With e
+          raises (ComesUp k cookie) f = f.raises k cookie refl
+          raises (Hears k piece) f = tt
+          raises (Ends k) f = tt
+          raises (Breaks k) f = tt
+          raises (Draws k room) f = tt
+          raises (Ticks now) f = tt
+
+          comes : (e : Event) (leg : Leg) → ups_of rules pipes up With e leg ≡ is_up_of leg e
           comes (ComesUp k cookie) leg = refl
           comes (Hears k piece) leg = refl
           comes (Ends k) leg = refl
@@ -253,8 +263,8 @@ module _ {S : Type 0} (rules : Rules S) (pipes : Leg → Option Pipe) (Sound : L
           comes (Draws k room) leg = refl
           comes (Ticks now) leg = refl
 
-          others : (e : Event) → IsFit rules HaveCookies s up e → (leg : Leg) → up leg ≡ true
-              → ups_of rules pipes up e leg ≡ false
+          others : (e : Event) → IsFit rules With s up e → (leg : Leg) → up leg ≡ true
+              → ups_of rules pipes up With e leg ≡ false
           others (ComesUp k cookie) f leg rose = by (same_leg k leg) refl
             where
               by : (b : Bool) → same_leg k leg ≡ b → b ≡ false
@@ -268,7 +278,7 @@ module _ {S : Type 0} (rules : Rules S) (pipes : Leg → Option Pipe) (Sound : L
           others (Draws k room) f leg rose = refl
           others (Ticks now) f leg rose = refl
 
-          silent : (e : Event) → IsFit rules HaveCookies s up e → (leg : Leg) → up leg ≡ false
+          silent : (e : Event) → IsFit rules With s up e → (leg : Leg) → up leg ≡ false
               → heard_in leg e ≡ []
           silent (ComesUp k cookie) f leg none = refl
           silent (Hears k piece) f leg none = by (same_leg k leg) refl
@@ -283,12 +293,12 @@ module _ {S : Type 0} (rules : Rules S) (pipes : Leg → Option Pipe) (Sound : L
           silent (Draws k room) f leg none = refl
           silent (Ticks now) f leg none = refl
 
-          step : Steps rules pipes up ran.passage s (after_event rules s event)
-              (ups_of rules pipes up event) (ComesUpWith IsCookie event)
+          step : Steps rules pipes up With ran.passage s (after_event rules s event)
+              (ups_of rules pipes up With event) (IsRaised With event)
               (λ leg. heard_in leg event) (λ leg. drawn_in rules s leg event)
               (λ leg. up leg || is_up_of leg event)
           step =
-              event_steps rules pipes up ran.passage s event ran.role ran.held ran.apart
+              event_steps rules pipes up With ran.passage s event ran.role ran.held ran.apart
               (fresh event fit)
 
           staged : AreInTurnFrom rules ran.passage ran.stages step.way.moves

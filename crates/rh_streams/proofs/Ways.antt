@@ -2,10 +2,12 @@
 use Rattle.std.proofs.Common.{◌≡◌, List, [], ◌∷◌, ◌++◌, Bool, true, false, ◌||◌, refl, sym, ap, ◌∙◌, subst}
 use Rattle.std.specs.List.{AllByRecursion, list_any}
 use Rattle.std.proofs.lemmas.List.Folds.{list_any-append}
+use Rattle.rh_rts.specs.declared.command.Cookie.{Cookie}
 use Rattle.rh_line.specs.declared.leg.Leg.{Leg}
 use Rattle.rh_shell.specs.Rules.{Rules}
-use Rattle.rh_shell.specs.Moves.{Move, Moves, Passage, MayMove, AreAllowed, moved, all_moved}
-use Rattle.rh_streams.specs.Streams.{IsCookie, RisesWith, is_head_on, is_up_on}
+use Rattle.rh_shell.specs.Moves.{Move, Up, Passage, MayMove, AreAllowed, moved, all_moved}
+use Rattle.rh_shell.specs.Moving.{Event, ComesUp}
+use Rattle.rh_streams.specs.Streams.{is_head_on, is_up_on}
 
 -- heads came on these legs alone, and these alone came up
 pub record Way {S : Type 0} (rules : Rules S) (heads ups : Leg → Bool) (p q : Passage S)
@@ -16,9 +18,15 @@ pub record Way {S : Type 0} (rules : Rules S) (heads ups : Leg → Bool) (p q : 
   pub headless : (leg : Leg) → heads leg ≡ false → list_any (is_head_on leg) moves ≡ false
   pub raised : (leg : Leg) → list_any (is_up_on leg) moves ≡ ups leg
 
--- a leg comes up with a cookie, if one does
-abbrev pub Lifts : Move → Type 0
-Lifts move = RisesWith IsCookie (Moves move)
+-- if a leg comes up, it and its cookie have this
+abbrev pub Lifts : (Leg → Cookie → Type 0) → Move → Type 0
+Lifts With (Up leg cookie) = With leg cookie
+Lifts With move = Unit {0}
+
+-- and if it comes up by an event
+abbrev pub IsRaised : (Leg → Cookie → Type 0) → Event → Type 0
+IsRaised With (ComesUp leg cookie) = With leg cookie
+IsRaised With event = Unit {0}
 
 abbrev pub nowhere : Leg → Bool
 nowhere leg = false

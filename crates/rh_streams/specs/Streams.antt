@@ -28,6 +28,7 @@ use Rattle.rh_shell.specs.Rules.{Rules, Acts, Message}
 use Rattle.rh_shell.specs.Shells.{Shell, begun, end_at, same_leg}
 use Rattle.rh_shell.specs.Wires.{of_leg}
 use Rattle.rh_reading.specs.Reading.{IsWholeText, begin, messages_read, reading, reading_after}
+use Rattle.rh_passages.specs.Rising.{AreUpFirst, CameUpWith, HasComeUp}
 use Rattle.rh_history.specs.Carried.{heard_on, drawn_on, end_drawn_on, came_up, happened}
 use Rattle.rh_streams.specs.Turns.{AreInTurn, RefusesInTurn}
 pub use Rattle.rh_streams.specs.Turns.{is_head_on}
@@ -255,6 +256,11 @@ pub record EndStream {S : Type 0} (rules : Rules S) (acts : Acts S) (first : S) 
   -- and with cookies by the moves, if they all came up with cookies by the events
   pub cookies : AllByRecursion (ComesUpWith IsCookie) (happened events)
       → AllByRecursion (RisesWith IsCookie) leads.moves
+  -- and each with a cookie with which it came up by an event
+  pub raised : (leg : Leg) (cookie : Cookie) → HasComeUp leads.moves leg cookie
+      → CameUpWith (happened events) leg cookie
+  -- PDUs and packets come on legs that came up before
+  pub up_first : AreUpFirst [] leads.moves
   pub read : (leg : Leg)
       → IsPrefix (of_leg leg passage.passage.came)
       (messages_read (pipe leg) (heard_on leg (happened events)))

@@ -35,8 +35,9 @@ pub fn a_nodes_stream<R: Role>()
 {}
 
 /// The same at an end, which refuses no client: what was drawn is a front of what its role put. The
-/// PDUs that were given and taken are those that the end accepted, and those that it handed out.
-/// Where the legs came up by events with cookies of 16 bytes alone, so they did by the moves. While
+/// PDUs that were given and taken are those that the end accepted, and those that it handed out. A
+/// leg that came up by the moves with a cookie came up so by an event; where all cookies by events
+/// have 16 bytes, those by the moves have. PDUs and packets came on legs that came up before. While
 /// it goes on, what is held on a leg is what is left of all bytes that it heard there.
 pub fn an_ends_stream<R: EndRole>()
     ensures { (first : R) (rooms : Rooms) (pipe : Leg → Option Pipe) (events : List EndEvent)

@@ -1,0 +1,23 @@
+-- what holds of all of a list holds of one that is found, and of all behind a change
+use Rattle.std.proofs.Common.{ℕ, zero, suc, List, [], ◌∷◌}
+use Rattle.std.specs.Prelude.{slice_get, slice_set, remove, IfSome}
+use Rattle.std.specs.List.{AllByRecursion}
+
+module _ {X : Type 0} (P : X → Type 0) where
+  pub all_at : (xs : List X) (place : ℕ) → AllByRecursion P xs → IfSome (slice_get xs place) P
+  all_at [] place all = tt
+  all_at (x ∷ xs) zero all = all.0
+  all_at (x ∷ xs) (suc place) all = all_at xs place all.1
+
+  pub all_set : (xs : List X) (place : ℕ) (x : X) → P x → AllByRecursion P xs
+      → AllByRecursion P (slice_set xs place x)
+  all_set [] place x here all = tt
+  all_set (y ∷ xs) zero x here all = (here, all.1)
+  all_set (y ∷ xs) (suc place) x here all = (all.0, all_set xs place x here all.1)
+
+  pub all_removed : (xs : List X) (place : ℕ) → AllByRecursion P xs
+      → AllByRecursion P (remove xs place)
+  all_removed [] zero all = tt
+  all_removed [] (suc place) all = tt
+  all_removed (x ∷ xs) zero all = all.1
+  all_removed (x ∷ xs) (suc place) all = (all.0, all_removed xs place all.1)

@@ -1,0 +1,10 @@
+mod Allowed
+mod OutProxyPassed
+mod InProxyKept
+mod InProxyPuts
+mod InProxyPassed
+mod ServerLegs
+mod ServerKept
+mod ServerCame
+mod ServerPuts
+mod ServerPassed

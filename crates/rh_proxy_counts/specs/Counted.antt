@@ -1,0 +1,31 @@
+-- moves that are counted as a node counts them: with each packet how many came on its leg before,
+-- up to two (profile)
+use Rattle.std.specs.Prelude.{◌≡◌, ◌≤◌, ℕ, List, [], ◌∷◌, Bool, true}
+use Rattle.rh_sig.specs.declared.named.Named.{Named}
+use Rattle.rh_shell.specs.declared.answers.Count.{Count}
+use Rattle.rh_shell.specs.declared.answers.Count.TheVariants as count
+use Rattle.rh_shell.specs.Moves.{Move, PacketCame, Passage, moved}
+use Rattle.rh_shell.specs.Rules.{Message, Rules}
+use Rattle.rh_shell.specs.Wires.{of_leg}
+use Rattle.rh_passages.specs.Passing.{count_of}
+
+abbrev pub is_any : Named → Bool
+is_any named = true
+
+-- so many packets
+abbrev pub packets : List Message → ℕ
+packets messages = count_of is_any messages
+
+abbrev pub Tells : Count → ℕ → Type 0
+Tells count.Zero n = n ≡ 0
+Tells count.One n = n ≡ 1
+Tells count.More n = 2 ≤ n
+
+abbrev pub IsCounted : {S : Type 0} → Passage S → Move → Type 0
+IsCounted p (PacketCame leg count named) = Tells count (packets (of_leg leg p.came))
+IsCounted p move = Unit {0}
+
+abbrev pub AreCounted : {S : Type 0} → Rules S → Passage S → List Move → Type 0
+AreCounted rules p [] = Unit {0}
+AreCounted rules p (move ∷ moves) =
+    IsCounted p move × AreCounted rules (moved rules p move) moves

@@ -1,0 +1,4 @@
+pub mod Kinds
+pub mod InCounts
+pub mod OutCounts
+pub mod Counted

@@ -1,0 +1,3 @@
+mod Uses
+mod Receivers
+mod Ways
