@@ -5,10 +5,10 @@ mod Replacements
 mod Rows
 mod Puts
 mod Moves
-mod InCounts
-mod OutCounts
-mod Wishes
-mod Opens
+pub mod InCounts
+pub mod OutCounts
+pub mod Wishes
+pub mod Opens
 pub mod Behind
 mod Began
 pub mod OneCookie

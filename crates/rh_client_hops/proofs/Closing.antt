@@ -13,6 +13,7 @@ use Rattle.rh_line.specs.declared.leg.LegKind.TheVariants.{ClientOut, OutServer,
 use Rattle.rh_record.specs.declared.answer.Who.{Who}
 use Rattle.rh_record.specs.declared.answer.Who.TheVariants as who
 use Rattle.rh_shell.specs.declared.answers.Refused.TheVariants as refused
+use Rattle.rh_shell.specs.Moves.{EndMove}
 use Rattle.rh_shell.specs.Rules.{Message, Rules}
 use Rattle.rh_legible.specs.Legible.{IsFineMessage}
 use Rattle.rh_shell.specs.Shells.{Shell}
@@ -44,7 +45,6 @@ use Rattle.rh_history.specs.Closes.{ClosesNode}
 use Rattle.rh_history.specs.Histories.{History, in_place, out_place}
 use Rattle.rh_history.proofs.Numbers.{answered}
 use Rattle.rh_reading.specs.Reading.{all_read_of}
-use Rattle.rh_passages.specs.Passing.{HasBegunIn, HasBegunOut}
 use Rattle.rh_traced.specs.Cookies.{ByChanges}
 use Rattle.rh_traced.specs.Ours.{AreOurs, deeds, rules}
 use Rattle.rh_ordered.specs.Premises.{history_at}
@@ -57,11 +57,10 @@ use Rattle.rh_hops.specs.Refusing.{RefusesMessage}
 use Rattle.rh_hops.proofs.Moment.{Laws, NodeLaws, known}
 use Rattle.rh_hops.proofs.Stopping.{Readings}
 use Rattle.rh_client_hops.specs.Premises.{AreDistinct, HasOneWindow}
-use Rattle.rh_client_hops.proofs.Honest.{RoleLaws, are_honest, distinct_behind, ins_apart, outs_apart}
-use Rattle.rh_client_hops.proofs.Joined.{Reads, put_is_fine}
-use Rattle.rh_client_hops.proofs.Moments.{AreAlone, client_next, flows, in_next, joined, out_next, passages, story, world}
+use Rattle.rh_client_hops.proofs.Honest.{RoleLaws, are_honest, distinct_behind}
+use Rattle.rh_client_hops.proofs.Joined.{AreAlone, Reads, put_is_fine}
+use Rattle.rh_client_hops.proofs.Moments.{client_next, flows, in_next, joined, out_next, passages, story, world}
 use Rattle.rh_client_hops.proofs.Refusing.{client_range, client_window, in_range, in_window, out_range, out_range_none, out_window}
-use Rattle.rh_client_hops.proofs.Roles.{BeginApart}
 use Rattle.rh_client_hops.proofs.Routes.{AreHonest, AreJoined, Passages}
 
 -- ---- the laws that this stands on
@@ -110,21 +109,18 @@ module _ {K : Type 0} (roles : RoleLaws) (nodes : NodesLaws) (reads : Reads) (re
     then_joined : AreJoined v.readers then_all
     then_joined = joined reads readings m w v ours law alone by leg dir (λ k. may) count
 
-    honest : AreHonest (ours.in_config 1).window then_all
-    honest = are_honest roles reads m w ours ranges one then_world then_story then_flows
+    abbrev then_moves : List EndMove
+    then_moves = then_flows.flows.client.leads.moves
 
     apart : AreDistinct (happened then_story.client)
     apart =
         distinct_behind w.company.client v (history_at m w v by.leads) leg dir count
         (known m w v ours law by leg dir (λ k. may)).traced.runs.client distinct
 
-    apart_in : BeginApart ci HasBegunIn then_all.client.put
-    apart_in =
-        ins_apart roles reads m w ours ranges one then_world then_story then_flows apart
-
-    apart_out : BeginApart co HasBegunOut then_all.client.put
-    apart_out =
-        outs_apart roles reads m w ours ranges one then_world then_story then_flows apart
+    honest : AreHonest (ours.in_config 1).window then_moves then_all
+    honest =
+        are_honest roles reads m w ours ranges then_world then_story then_flows
+        then_joined one apart
 
     -- a message that is the next of what an out proxy put for its client is fine
     next_fine : (k : ℕ) (came : List Message) (x : Message)
@@ -177,8 +173,8 @@ module _ {K : Type 0} (roles : RoleLaws) (nodes : NodesLaws) (reads : Reads) (re
           (refused.OutOfRange command value) (cause.OutOfRange (co n) command value) refl count
           who.Client refl nodes.client refl closes in
           client_range v.readers (then_all (co n) D may next.0) (then_joined (co n) D may next.0)
-          (ours.in_config 1).window (honest (co n) D may next.0) (apart_in (co n) D may next.0)
-          (apart_out (co n) D may next.0) n next.1.message next.1.ahead command value
+          (ours.in_config 1).window (then_moves (co n) D may next.0)
+          (honest (co n) D may next.0) n next.1.message next.1.ahead command value
           next.1.refuses
 
   client_window_fed : (n reached edge : ℕ)
@@ -203,8 +199,8 @@ module _ {K : Type 0} (roles : RoleLaws) (nodes : NodesLaws) (reads : Reads) (re
           closes in
           client_window v.readers (then_all (co n) D may next.0)
           (then_joined (co n) D may next.0) (ours.in_config 1).window
-          (honest (co n) D may next.0) (apart_in (co n) D may next.0)
-          (apart_out (co n) D may next.0) n next.1.message
+          (then_moves (co n) D may next.0)
+          (honest (co n) D may next.0) n next.1.message
           (next_fine (co n) D may next.0 n
           (of_leg (co n) (then_all (co n) D may next.0).client.came) next.1.message next.1.ahead)
           next.1.ahead (record { reached = reached; edge = edge }) next.1.refuses
@@ -264,8 +260,8 @@ module _ {K : Type 0} (roles : RoleLaws) (nodes : NodesLaws) (reads : Reads) (re
       (cause.WindowExceeded (ci n) reached edge) refl count (who.In k) here nodes.ins k refl node
       up there closes in
       in_window v.readers (then_all (ci n) U may next.0) (then_joined (ci n) U may next.0)
-      (ours.in_config 1).window (honest (ci n) U may next.0) (apart_in (ci n) U may next.0)
-      (apart_out (ci n) U may next.0) k n (in_number (reader_of v.readers n) k here)
+      (ours.in_config 1).window (then_moves (ci n) U may next.0)
+      (honest (ci n) U may next.0) k n (in_number (reader_of v.readers n) k here)
       next.1.message next.1.ahead (record { reached = reached; edge = edge }) next.1.refuses
 
   in_window_fed : (k n reached edge : ℕ)
@@ -284,8 +280,8 @@ module _ {K : Type 0} (roles : RoleLaws) (nodes : NodesLaws) (reads : Reads) (re
       (refused.OutOfRange command value) (cause.OutOfRange (ci n) command value) refl count
       (who.In k) here nodes.ins k refl node up there closes in
       in_range v.readers (then_all (ci n) U may next.0) (then_joined (ci n) U may next.0)
-      (ours.in_config 1).window (honest (ci n) U may next.0) (apart_in (ci n) U may next.0)
-      (apart_out (ci n) U may next.0) k n next.1.message command value next.1.refuses
+      (ours.in_config 1).window (then_moves (ci n) U may next.0)
+      (honest (ci n) U may next.0) k n next.1.message command value next.1.refuses
 
   in_range_fed : (k n command value : ℕ)
       → Fed (who.In k) (cause.OutOfRange (ci n) command value)
@@ -306,8 +302,8 @@ module _ {K : Type 0} (roles : RoleLaws) (nodes : NodesLaws) (reads : Reads) (re
       (cause.WindowExceeded (co n) reached edge) refl count (who.Out k) here nodes.outs k refl
       node up there closes in
       out_window v.readers (then_all (co n) U may next.0) (then_joined (co n) U may next.0)
-      (ours.in_config 1).window (honest (co n) U may next.0) (apart_in (co n) U may next.0)
-      (apart_out (co n) U may next.0) k next.1.message
+      (ours.in_config 1).window (then_moves (co n) U may next.0)
+      (honest (co n) U may next.0) k next.1.message
       (record { reached = reached; edge = edge })
       (subst (λ (j : ℕ). RefusesMessage out_proxy.rules
       ((then_all (co n) U may next.0).outs k).role (co j)
@@ -341,8 +337,8 @@ module _ {K : Type 0} (roles : RoleLaws) (nodes : NodesLaws) (reads : Reads) (re
           (who.Out k) here nodes.outs k refl node up there closes in
           out_range_none v.readers (then_all (co n) U may next.0)
           (then_joined (co n) U may next.0) (ours.in_config 1).window
-          (honest (co n) U may next.0) (apart_in (co n) U may next.0)
-          (apart_out (co n) U may next.0) k next.1.message command value
+          (then_moves (co n) U may next.0)
+          (honest (co n) U may next.0) k next.1.message command value
           (subst (λ (j : ℕ). RefusesMessage out_proxy.rules
           ((then_all (co n) U may next.0).outs k).role (co j)
           (refused.OutOfRange command value) next.1.message) (out_number n k here)
@@ -359,8 +355,8 @@ module _ {K : Type 0} (roles : RoleLaws) (nodes : NodesLaws) (reads : Reads) (re
           (refused.OutOfRange command value) next.1.message) (out_number n k here)
           (next.1.ahead, next.1.refuses) in
           out_range v.readers all (then_joined (os_leg n) D may next.0)
-          (ours.in_config 1).window (honest (os_leg n) D may next.0)
-          (apart_in (os_leg n) D may next.0) (apart_out (os_leg n) D may next.0) k
+          (ours.in_config 1).window (then_moves (os_leg n) D may next.0)
+          (honest (os_leg n) D may next.0) k
           next.1.message both.0 command value both.1
 
   out_range_fed : (k : ℕ) (l : Leg) (command value : ℕ)

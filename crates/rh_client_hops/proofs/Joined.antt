@@ -1,6 +1,5 @@
 -- what came at each node of a world of roles is of what was put at the other end of its leg
-use Rattle.std.proofs.Common.{◌≡◌, ℕ, List, [], ◌∷◌, ◌++◌, inl, inr, refl, sym, ap, ◌∙◌, subst}
-use Rattle.std.specs.Prelude.{Some, None}
+use Rattle.std.proofs.Common.{◌≡◌, ℕ, List, [], ◌∷◌, ◌++◌, inl, inr, sym, ap, ◌∙◌, subst}
 use Rattle.std.specs.List.{AllByRecursion}
 use Rattle.std.specs.declared.option.Option.{Option}
 use mathlib.Core.List.{IsPrefix}
@@ -10,7 +9,6 @@ use Rattle.rh_text.specs.declared.ends.Side.{Side}
 use Rattle.rh_http.specs.declared.refusal.Refusal.{Refusal}
 use Rattle.rh_http.specs.Texts.{refusal_text}
 use Rattle.rh_sig.specs.declared.name.Pipe.{Pipe}
-use Rattle.rh_sig.specs.declared.name.Pipe.TheVariants.{CiU, CoU, CoD, IsU, IsD, OsU, OsD}
 use Rattle.rh_line.specs.declared.leg.Leg.{Leg}
 use Rattle.rh_line.specs.declared.leg.LegKind.{LegKind}
 use Rattle.rh_line.specs.declared.leg.LegKind.TheVariants.{ClientOut, OutServer, ClientIn, InServer}
@@ -41,7 +39,7 @@ use Rattle.rh_outproxy.specs.OutProxy.{OutProxy, new_proxy}
 use Rattle.rh_server.specs.Legible as server_legible
 use Rattle.rh_server.specs.Servers as server
 use Rattle.rh_server.specs.States.{Server}
-use Rattle.rh_history.specs.Carried.{drawn_by, drawn_on, end_drawn_on, end_node, events_of, heard_on}
+use Rattle.rh_history.specs.Carried.{IsTraced, drawn_by, drawn_on, end_drawn_on, end_node, events_of, heard_on}
 use Rattle.rh_history.specs.Histories.{History}
 use Rattle.rh_reading.specs.Reading.{Begins, ReadsNothing, all_read_of, messages_read}
 use Rattle.rh_streams.specs.Streams.{IsDrawn}
@@ -51,6 +49,7 @@ use Rattle.rh_fifo.proofs.Fine.{Source, on_leg, sourced}
 use Rattle.rh_fifo.proofs.Heard.{from_client, from_in, from_out, from_server}
 use Rattle.rh_honest.specs.Honest.{read_on}
 use Rattle.rh_honest.proofs.Fed.{node_reads, reads_on}
+use Rattle.rh_hops.proofs.Moment.{Laws}
 use Rattle.rh_client_hops.proofs.Routes.{AreJoined, Passages, came_to, nothing_front, put_by}
 
 -- the laws of reading that this stands on
@@ -236,3 +235,27 @@ module _ {K : Type 0} (law : Reads) (m : Makers K InProxy OutProxy)
 
     pub are_joined : AreJoined readers all
     are_joined = record { front = front; elsewhere = elsewhere }
+
+-- ---- by the history
+
+-- a node that stands at no end of a leg heard nothing there
+abbrev pub AreAlone : {K : Type 0} → Makers K InProxy OutProxy
+    → World K ClientRole Server InProxy OutProxy → Type 0
+AreAlone {K} m w =
+    (u : World K ClientRole Server InProxy OutProxy) (h : History)
+    → IsTraced rules m deeds w.company u h → (node : Who) (leg : Leg)
+    → ((end : Side) → end_node u.readers leg end ≡ node → ⊥)
+    → heard_on leg (events_of h node) ≡ []
+
+pub joined_at : {K : Type 0} (reads : Reads) (m : Makers K InProxy OutProxy)
+    (w : World K ClientRole Server InProxy OutProxy) (ours : AreOurs m w.company w.cast)
+    → Laws m w ours → AreAlone m w → (u : World K ClientRole Server InProxy OutProxy)
+    (g : History) (flowing : IsFlowing (numbers_of ours) w u g)
+    → IsTraced rules m deeds w.company u g
+    → AreJoined u.readers (all reads m w u ours g flowing)
+joined_at {K} reads m w ours law alone u g flowing traced =
+    are_joined reads m w u ours g flowing u.readers (λ leg dir.
+    subst (λ (k : K).
+    IsPrefix (heard_on leg (events_of g (end_node u.readers leg (receiver dir))))
+    (drawn_by rules m deeds w.company k g (end_node u.readers leg (sender dir)) leg)) flowing.cast
+    (law.drawn u g traced leg dir)) (alone u g traced)

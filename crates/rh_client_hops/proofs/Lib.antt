@@ -3,7 +3,8 @@ mod Roles
 pub mod Routes
 mod Refusing
 mod Joined
+mod Honest
 mod Stops
 mod Moments
-mod Honest
 mod Closing
+mod Joining

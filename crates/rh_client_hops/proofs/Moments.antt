@@ -1,13 +1,8 @@
 -- the moment before the byte of a fed piece that closes a node, at which all is joined
 use Rattle.std.proofs.Common.{◌≡◌, ℕ, ◌+◌, List, [], ◌∷◌, ◌++◌, length, map, refl, sym, ap, ◌∙◌, subst}
-use Rattle.std.specs.Prelude.{Some, None}
-use Rattle.std.specs.declared.option.Option.{Option}
-use Rattle.std.proofs.lemmas.List.{append-nil}
+use Rattle.std.specs.Prelude.{Some}
 use mathlib.Core.List.{IsPrefix}
 use Rattle.rh_text.specs.declared.ends.Dir.{Dir}
-use Rattle.rh_text.specs.declared.ends.Side.{Side}
-use Rattle.rh_text.specs.declared.ends.Side.TheVariants as side
-use Rattle.rh_sig.specs.declared.name.Pipe.{Pipe}
 use Rattle.rh_line.specs.declared.cause.Cause.{Cause}
 use Rattle.rh_line.specs.declared.leg.Leg.{Leg}
 use Rattle.rh_order.proofs.Prefixes.{prefix_trans}
@@ -39,7 +34,7 @@ use Rattle.rh_server.specs.States.{Server}
 use Rattle.rh_causes.specs.Closings.{ClosesWith}
 use Rattle.rh_history.specs.Carried.{IsTraced, drawn_by, end_node, events_of, happened, heard_on}
 use Rattle.rh_history.specs.Changes.{Change, IsFed, MayChange, changed}
-use Rattle.rh_history.specs.Histories.{History, IsRun, in_place, noted, nothing, out_place, told_to}
+use Rattle.rh_history.specs.Histories.{History, IsRun, in_place, noted, nothing, out_place}
 use Rattle.rh_history.proofs.Appended.{drawn_append, end_drawn_append, happened_append}
 use Rattle.rh_history.proofs.Working.{works_more}
 use Rattle.rh_proxies_begin.specs.Pipes as pipes
@@ -47,7 +42,6 @@ use Rattle.rh_down.specs.Down as down
 use Rattle.rh_reading.specs.Reading.{all_read_of, messages_read}
 use Rattle.rh_traced.specs.Cookies.{ByChanges}
 use Rattle.rh_traced.specs.Ours.{AreOurs, deeds, rules}
-use Rattle.rh_ordered.specs.Premises.{history_at}
 use Rattle.rh_fifo.specs.Flows.{IsFlowing, numbers_of}
 use Rattle.rh_honest.specs.Honest.{read_on, well_on}
 use Rattle.rh_honest.proofs.Fed.{node_reads, reads_on, strict_on}
@@ -57,18 +51,9 @@ use Rattle.rh_hops.proofs.Moment.{Laws, NodeLaws, behind, closes_at, drawn_befor
 use Rattle.rh_hops.proofs.OneByte.{AtByte}
 use Rattle.rh_hops.proofs.Pieces.{FedFronts, fed_fronts}
 use Rattle.rh_hops.proofs.Stopping.{Readings}
-use Rattle.rh_client_hops.proofs.Joined.{Reads, all, are_joined, reads_put}
+use Rattle.rh_client_hops.proofs.Joined.{AreAlone, Reads, all, joined_at, reads_put}
 use Rattle.rh_client_hops.proofs.Routes.{AreJoined, Passages, put_by}
 use Rattle.rh_client_hops.proofs.Stops.{IsNext, end_next, stream_next}
-
--- a node that stands at no end of a leg heard nothing there
-abbrev pub AreAlone : {K : Type 0} → Makers K InProxy OutProxy
-    → World K ClientRole Server InProxy OutProxy → Type 0
-AreAlone {K} m w =
-    (u : World K ClientRole Server InProxy OutProxy) (h : History)
-    → IsTraced rules m deeds w.company u h → (node : Who) (leg : Leg)
-    → ((end : Side) → end_node u.readers leg end ≡ node → ⊥)
-    → heard_on leg (events_of h node) ≡ []
 
 -- what a node drew it has drawn whatever changes
 drawn_more : {K : Type 0} (m : Makers K InProxy OutProxy)
@@ -113,20 +98,8 @@ module _ {K : Type 0} (law_reads : Reads) (readings : Readings) (m : Makers K In
         noted x (now m w v ours law by leg dir may) (IsFed leg dir count)) by.leads.reached)
         (law.known world by_then.leads).traced
 
-    drew : (other : Leg) (way : Dir)
-        → IsPrefix (heard_on other (events_of story (end_node v.readers other (receiver way))))
-        (drawn_by rules m deeds w.company w.cast story
-        (end_node v.readers other (sender way)) other)
-    drew other way =
-        subst (λ (k : K). IsPrefix
-        (heard_on other (events_of story (end_node v.readers other (receiver way))))
-        (drawn_by rules m deeds w.company k story (end_node v.readers other (sender way)) other))
-        flows.cast (law.drawn world story traced other way)
-
     pub joined : AreJoined v.readers passages
-    joined =
-        are_joined law_reads m w world ours story flows v.readers drew
-        (λ node other away. alone world story traced node other away)
+    joined = joined_at law_reads m w ours law alone world story flows traced
 
     -- the messages that were put at the other end of the leg
     abbrev pub all_put : List Message

@@ -1,12 +1,12 @@
 -- what is among the messages that are read of what was put, and in a front of them
-use Rattle.std.proofs.Common.{◌≡◌, ℕ, ◌+◌, ◌≤◌, Bool, true, false, if◌then◌else◌, List, [], ◌∷◌, ◌++◌, length, inl, inr, arith, refl, ap, subst}
+use Rattle.std.proofs.Common.{◌≡◌, ℕ, suc, ◌+◌, ◌≤◌, Bool, true, false, if◌then◌else◌, List, [], ◌∷◌, ◌++◌, length, inl, inr, arith, refl, ap, subst}
 use mathlib.Core.List.{IsPrefix}
 use Rattle.rh_sig.specs.declared.named.Named.{Named}
 use Rattle.rh_shell.specs.Hearing.{is_ping}
 use Rattle.rh_shell.specs.Rules.{Message, Text, Pdu, Packet}
 use Rattle.rh_reading.specs.Reading.{all_read_of}
-use Rattle.rh_passages.specs.Passing.{pdu_bytes, Has, HasOne}
-use Rattle.rh_passages.proofs.Messages.{bytes_rise, has_more, one_more_so}
+use Rattle.rh_passages.specs.Passing.{pdu_bytes, count_of, Has, HasOne}
+use Rattle.rh_passages.proofs.Messages.{bytes_rise, count_rises, has_more, one_more_so}
 
 -- ---- what is read of them
 
@@ -50,7 +50,40 @@ module _ (P : Named → Type 0) where
       by false rest (inl is) = inl is
       by false rest (inr has) = inr (rest has)
 
+-- if one more counts
+one_over : (t : Bool) (a b : ℕ) → a ≤ b → a ≤ (if t then suc b else b)
+one_over true a b h = omega (arith, h)
+one_over false a b h = h
+
+both_over : (t : Bool) (a b : ℕ) → a ≤ b
+    → (if t then suc a else a) ≤ (if t then suc b else b)
+both_over true a b h = omega (arith, h)
+both_over false a b h = h
+
+module _ (test : Named → Bool) where
+  read_count : (put : List Message) → count_of test (all_read_of put) ≤ count_of test put
+  read_count [] = omega arith
+  read_count (Text bytes ∷ put) = read_count put
+  read_count (Pdu pdu ∷ put) = read_count put
+  read_count (Packet other ∷ put) = by (is_ping other) (read_count put)
+    where
+      by : (t : Bool) → count_of test (all_read_of put) ≤ count_of test put
+          → count_of test ((if t then [] else Packet other ∷ []) ++ all_read_of put)
+          ≤ count_of test (Packet other ∷ put)
+      by true rest =
+          one_over (test other) (count_of test (all_read_of put)) (count_of test put) rest
+      by false rest =
+          both_over (test other) (count_of test (all_read_of put)) (count_of test put) rest
+
 -- ---- what came is a front of that
+
+pub front_count : (test : Named → Bool) (came put : List Message)
+    → IsPrefix came (all_read_of put) → count_of test came ≤ count_of test put
+front_count test came put p =
+    let front : count_of test came ≤ count_of test (all_read_of put) =
+    subst (λ (all : List Message). count_of test came ≤ count_of test all) p.1
+    (count_rises test came p.0) in
+    let read = read_count test put in omega (arith, front, read)
 
 pub front_bytes : (came put : List Message) → IsPrefix came (all_read_of put)
     → pdu_bytes came ≤ pdu_bytes put

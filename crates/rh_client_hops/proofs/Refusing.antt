@@ -1,5 +1,5 @@
 -- what a row on a hop of a client refuses cannot come from the other end (MS-RPCH 3.2, 3.2.1)
-use Rattle.std.proofs.Common.{◌≡◌, ◌⊎◌, ℕ, ◌+◌, ◌≤◌, ◌<◌, List, [], ◌∷◌, ◌++◌, length, Err, arith, inl, inr, sym, ◌∙◌, subst}
+use Rattle.std.proofs.Common.{◌≡◌, ℕ, ◌+◌, ◌≤◌, ◌<◌, List, [], ◌∷◌, ◌++◌, length, Err, arith, inl, inr, sym, ◌∙◌, subst}
 use mathlib.Core.List.{IsPrefix}
 use Rattle.rh_text.specs.declared.ends.Dir.TheVariants.{U, D}
 use Rattle.rh_rts.specs.declared.command.Cookie.{Cookie}
@@ -10,6 +10,7 @@ use Rattle.rh_sig.specs.declared.named.Named.{Named}
 use Rattle.rh_sig.specs.declared.named.Named.TheVariants.{AckTo}
 use Rattle.rh_shell.specs.declared.answers.Count.{Count}
 use Rattle.rh_shell.specs.declared.answers.Refused.TheVariants as refused
+use Rattle.rh_shell.specs.Moves.{EndMove}
 use Rattle.rh_shell.specs.Rules.{Message, Text, Pdu, Packet}
 use Rattle.rh_shell.specs.Wires.{of_leg}
 use Rattle.rh_nodes.specs.Readers.{reader_of}
@@ -19,12 +20,13 @@ use Rattle.rh_inproxy.specs.Machine as in_proxy
 use Rattle.rh_outproxy.specs.Machine as out_proxy
 use Rattle.rh_legible.specs.Legible.{IsFineMessage}
 use Rattle.rh_reading.specs.Reading.{all_read_of}
-use Rattle.rh_passages.specs.Passing.{pdu_bytes, Has, HasOne, BeginsIn, BeginsOut, HasBegunIn, HasBegunOut}
+use Rattle.rh_passages.specs.Passing.{pdu_bytes, Has, BeginsIn, BeginsOut, HasBegunIn, HasBegunOut}
+use Rattle.rh_passages.specs.Rising.{HasComeUp}
 use Rattle.rh_passages.proofs.Messages.{bytes_append, has_last}
 use Rattle.rh_hops.specs.Hops.{is_leg, os_leg}
 use Rattle.rh_hops.specs.Refusing.{RefusesMessage}
 use Rattle.rh_client_hops.proofs.Read.{front_bytes, front_has, front_one}
-use Rattle.rh_client_hops.proofs.Roles.{Acks, AcksRoom, BeginApart, IsFalse, IsToldIn, IsToldOut, SendsWithin, TellsProxy}
+use Rattle.rh_client_hops.proofs.Roles.{Acks, AcksRoom, IsFalse, IsToldIn, IsToldOut, SendsWithin, TellsProxy}
 use Rattle.rh_client_hops.proofs.Routes.{AreHonest, AreJoined, Passages, client_put, from_client, from_out, in_front, in_reads, out_front, window_is}
 
 -- the bytes that came with the next PDU are of what was put
@@ -54,8 +56,7 @@ pdu_long : (pdu : List ℕ) → IsPdu pdu → 0 < length pdu
 pdu_long pdu is = let long : 16 ≤ length pdu = is.frame.long in omega (arith, long)
 
 module _ (readers : List ℕ) (all : Passages) (joined : AreJoined readers all) (window : ℕ)
-    (honest : AreHonest window all) (apart_in : BeginApart ci HasBegunIn all.client.put)
-    (apart_out : BeginApart co HasBegunOut all.client.put) where
+    (moves : List EndMove) (honest : AreHonest window moves all) where
   -- ---- what is known of an acknowledgement
 
   -- one to the client that an in proxy put: of the IN channel of its cookie
@@ -64,11 +65,18 @@ module _ (readers : List ℕ) (all : Passages) (joined : AreJoined readers all) 
     came : received ≤ pdu_bytes (of_leg (ci n) (all.ins m).came)
     small : available ≤ GREATEST_WINDOW
 
+  -- a channel that began there came up under the cookie
+  came_in : (m n : ℕ) (cookie : Cookie) → HasBegunIn cookie (of_leg (ci n) (all.ins m).came)
+      → HasComeUp moves (ci n) cookie
+  came_in m n cookie begun =
+      honest.begins.ins n cookie
+      (front_one (BeginsIn cookie) (of_leg (ci n) (all.ins m).came) (of_leg (ci n) all.client.put)
+      (in_front readers all joined m n) begun)
+
   of_in : (m n received available : ℕ) (cookie : Cookie)
       → Has (AckTo 0 received available cookie) (of_leg (is_leg m) (all.ins m).put)
-      → HasBegunIn cookie (of_leg (ci n) all.client.put)
-      → IsOfIn n received available cookie m
-  of_in m n received available cookie has begun =
+      → HasComeUp moves (ci n) cookie → IsOfIn n received available cookie m
+  of_in m n received available cookie has raised =
       let ack : Acks 0 is_leg (all.ins m).put = record {
         number = m;
         received = received;
@@ -77,10 +85,7 @@ module _ (readers : List ℕ) (all : Passages) (joined : AreJoined readers all) 
         has = has;
       } in
       let is = (honest.ins m).acks ack in
-      let same = apart_in cookie is.number n
-      (front_one (BeginsIn cookie) (of_leg (ci is.number) (all.ins m).came)
-      (of_leg (ci is.number) all.client.put) (in_front readers all joined m is.number) is.begun)
-      begun in
+      let same = honest.apart.ins cookie is.number n (came_in m is.number cookie is.begun) raised in
       subst (λ (k : ℕ). IsOfIn k received available cookie m) same
       (record { begun = is.begun; came = is.came; small = is.window })
 
@@ -100,9 +105,9 @@ module _ (readers : List ℕ) (all : Passages) (joined : AreJoined readers all) 
         cookie = cookie;
         has = has;
       } in
-      let is = honest.client.acks ack in
+      let is = honest.receives.acks ack in
       subst (λ (k : ℕ). IsOfClient k received available)
-      (apart_out cookie is.number n is.begun begun)
+      (honest.apart.outs cookie is.number n is.begun (honest.begins.outs n cookie begun))
       (record { came = is.came; small = is.window })
 
   began_out : (n : ℕ) (cookie : Cookie) → HasBegunOut cookie (of_leg (co n) (all.outs n).came)
@@ -126,9 +131,10 @@ module _ (readers : List ℕ) (all : Passages) (joined : AreJoined readers all) 
         all.client.came edge → edge < in_end
     in_acked edge room =
         let ack = room.ack in
-        let put = from_client readers all joined window honest 0 ack.received ack.available
+        let put = from_client readers all joined window moves honest 0 ack.received ack.available
         ack.cookie ack.number ack.has in
-        let is = of_in put.0 n ack.received ack.available ack.cookie put.1 room.begun in
+        let raised = honest.begins.ins n ack.cookie room.begun in
+        let is = of_in put.0 n ack.received ack.available ack.cookie put.1 raised in
         let same : put.0 ≡ m =
         sym (in_reads readers all joined (BeginsIn ack.cookie) put.0 n is.begun) ∙ reads in
         let here = subst (λ (k : ℕ).
@@ -137,20 +143,18 @@ module _ (readers : List ℕ) (all : Passages) (joined : AreJoined readers all) 
         subst (λ (k : ℕ). k < in_end) room.is
         ((honest.ins m).exceeded_ack n count pdu why row ack.received ack.available ack.cookie
         here.0 here.1 (λ l began.
-        apart_in ack.cookie l n
-        (front_one (BeginsIn ack.cookie) (of_leg (ci l) (all.ins m).came)
-        (of_leg (ci l) all.client.put) (in_front readers all joined m l) began) room.begun))
+        honest.apart.ins ack.cookie l n (came_in m l ack.cookie began) raised))
 
     in_told : (edge : ℕ) → IsToldIn (of_leg (ci n) all.client.put) all.client.came edge
         → edge < in_end
     in_told edge (inl opened) =
         subst (λ (k : ℕ). k < in_end)
-        (window_is readers all joined window honest edge opened.0 opened.1)
+        (window_is readers all joined window moves honest edge opened.0 opened.1)
         ((honest.ins m).exceeded n count pdu why row)
     in_told edge (inr room) = in_acked edge room
 
     in_pdu : ⊥
-    in_pdu = by (honest.client.sends n)
+    in_pdu = by (honest.sends.sends n)
       where
         put : in_end ≤ pdu_bytes (of_leg (ci n) all.client.put)
         put = reached (of_leg (ci n) (all.ins m).came) (of_leg (ci n) all.client.put) pdu ahead
@@ -189,13 +193,13 @@ module _ (readers : List ℕ) (all : Passages) (joined : AreJoined readers all) 
       (all_read_of (of_leg (co k) (all.outs k).put))
       → (n received available : ℕ) (cookie : Cookie)
       → named ≡ AckTo 0 received available cookie
-      → HasBegunIn cookie (of_leg (ci n) all.client.put)
+      → HasComeUp moves (ci n) cookie
       → IsFalse (pdu_bytes (of_leg (ci n) all.client.put)) received available → ⊥
-  client_ack k named ahead n received available cookie is begun false_one =
-      let put = from_out readers all joined window honest 0 received available cookie k
+  client_ack k named ahead n received available cookie is raised false_one =
+      let put = from_out readers all joined window moves honest 0 received available cookie k
       (subst (λ (x : Named). Has x (of_leg (co k) (all.outs k).put)) is
       (next_has (of_leg (co k) all.client.came) (of_leg (co k) (all.outs k).put) named ahead)) in
-      let one = of_in put.0 n received available cookie put.1 begun in
+      let one = of_in put.0 n received available cookie put.1 raised in
       true_false (pdu_bytes (of_leg (ci n) all.client.put))
       (pdu_bytes (of_leg (ci n) (all.ins put.0).came)) received available
       (front_bytes (of_leg (ci n) (all.ins put.0).came) (of_leg (ci n) all.client.put)
@@ -208,49 +212,49 @@ module _ (readers : List ℕ) (all : Passages) (joined : AreJoined readers all) 
       → ⊥
   client_range k (Text bytes) ahead command value row = row
   client_range k (Pdu pdu) ahead command value row =
-      honest.client.refuses_none k row.0 pdu command value row.1
+      honest.sends.refuses_none k row.0 pdu command value row.1
   client_range k (Packet named) ahead command value row =
-      let is = honest.client.refuses k row.0 named command value row.1 in
+      let is = honest.sends.refuses k row.0 named command value row.1 in
       client_ack k named ahead is.3 is.0 is.1 is.2 is.4 is.5 is.6
 
   module _ (k : ℕ) (pdu : List ℕ) (some : 0 < length pdu)
       (ahead : IsPrefix (of_leg (co k) all.client.came ++ Pdu pdu ∷ [])
       (all_read_of (of_leg (co k) (all.outs k).put))) (count : Count) (why : WindowExceeded)
       (row : (client.rules.pdu all.client.role (co k) count pdu).1 ≡ Err (refused.Window why))
-      where
-    abbrev client_end : ℕ
-    client_end = pdu_bytes (of_leg (co k) all.client.came) + length pdu
+    where
+      abbrev client_end : ℕ
+      client_end = pdu_bytes (of_leg (co k) all.client.came) + length pdu
 
-    client_told : (edge : ℕ) → IsToldOut k (all.outs k).came edge → edge < client_end
-    client_told edge (inl opened) =
-        honest.client.exceeded k count pdu why row edge
-        (front_one (TellsProxy edge) (of_leg (co k) (all.outs k).came)
-        (of_leg (co k) all.client.put) (joined.front (co k) U) opened)
-    client_told edge (inr acked) =
-        let ack = acked.0 in
-        let came = front_has (AckTo 3 ack.received ack.available ack.cookie)
-        (of_leg (os_leg ack.number) (all.outs k).came) (of_leg (os_leg ack.number) all.server.put)
-        (out_front readers all joined k ack.number) ack.has in
-        let put = client_put readers all joined window honest ack.number ack.received
-        ack.available ack.cookie came in
-        let begun = began_out k ack.cookie acked.1 in
-        subst (λ (n : ℕ). n < client_end) acked.2
-        (honest.client.exceeded_ack k count pdu why row put.0 ack.received ack.available
-        ack.cookie put.1 begun (λ j other. apart_out ack.cookie j k other begun))
+      client_told : (edge : ℕ) → IsToldOut k (all.outs k).came edge → edge < client_end
+      client_told edge (inl opened) =
+          honest.receives.exceeded k count pdu why row edge
+          (front_one (TellsProxy edge) (of_leg (co k) (all.outs k).came)
+          (of_leg (co k) all.client.put) (joined.front (co k) U) opened)
+      client_told edge (inr acked) =
+          let ack = acked.0 in
+          let came = front_has (AckTo 3 ack.received ack.available ack.cookie)
+          (of_leg (os_leg ack.number) (all.outs k).came) (of_leg (os_leg ack.number) all.server.put)
+          (out_front readers all joined k ack.number) ack.has in
+          let put = client_put readers all joined window moves honest ack.number ack.received
+          ack.available ack.cookie came in
+          let raised = honest.begins.outs k ack.cookie (began_out k ack.cookie acked.1) in
+          subst (λ (n : ℕ). n < client_end) acked.2
+          (honest.receives.exceeded_ack k count pdu why row put.0 ack.received ack.available
+          ack.cookie put.1 raised (λ j other. honest.apart.outs ack.cookie j k other raised))
 
-    client_pdu : ⊥
-    client_pdu = by (honest.outs k).sends
-      where
-        put : client_end ≤ pdu_bytes (of_leg (co k) (all.outs k).put)
-        put = reached (of_leg (co k) all.client.came) (of_leg (co k) (all.outs k).put) pdu ahead
+      client_pdu : ⊥
+      client_pdu = by (honest.outs k).sends
+        where
+          put : client_end ≤ pdu_bytes (of_leg (co k) (all.outs k).put)
+          put = reached (of_leg (co k) all.client.came) (of_leg (co k) (all.outs k).put) pdu ahead
 
-        by : SendsWithin (IsToldOut k (all.outs k).came)
-            (pdu_bytes (of_leg (co k) (all.outs k).put)) → ⊥
-        by (inl none) =
-            let all_put = put in absurd (omega (arith, none, some, all_put))
-        by (inr so) =
-            let behind = client_told so.0 so.2 in let within = so.1 in
-            let all_put = put in absurd (omega (arith, behind, within, all_put))
+          by : SendsWithin (IsToldOut k (all.outs k).came)
+              (pdu_bytes (of_leg (co k) (all.outs k).put)) → ⊥
+          by (inl none) =
+              let all_put = put in absurd (omega (arith, none, some, all_put))
+          by (inr so) =
+              let behind = client_told so.0 so.2 in let within = so.1 in
+              let all_put = put in absurd (omega (arith, behind, within, all_put))
 
   pub client_window : (k : ℕ) (x : Message) → IsFineMessage x
       → IsPrefix (of_leg (co k) all.client.came ++ x ∷ [])
@@ -260,7 +264,7 @@ module _ (readers : List ℕ) (all : Passages) (joined : AreJoined readers all) 
   client_window k (Pdu pdu) fine ahead why row =
       client_pdu k pdu (pdu_long pdu fine) ahead row.0 why row.1
   client_window k (Packet named) fine ahead why row =
-      honest.client.exceeded_none k row.0 named why row.1
+      honest.receives.exceeded_none k row.0 named why row.1
 
   -- ---- an out proxy
 
@@ -271,7 +275,7 @@ module _ (readers : List ℕ) (all : Passages) (joined : AreJoined readers all) 
       → HasBegunOut cookie (of_leg (co n) (all.outs n).came)
       → IsFalse (pdu_bytes (of_leg (co n) (all.outs n).put)) received available → ⊥
   out_ack n named ahead received available cookie is begun false_one =
-      let put = client_put readers all joined window honest n received available cookie
+      let put = client_put readers all joined window moves honest n received available cookie
       (subst (λ (x : Named). Has x (of_leg (os_leg n) all.server.put)) is
       (next_has (of_leg (os_leg n) (all.outs n).came) (of_leg (os_leg n) all.server.put) named
       ahead)) in

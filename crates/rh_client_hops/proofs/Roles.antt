@@ -4,13 +4,13 @@ use Rattle.rh_rts.specs.declared.command.Cookie.{Cookie}
 use Rattle.rh_window.specs.declared.fault.WindowExceeded.{WindowExceeded}
 use Rattle.rh_window.specs.declared.range.TheConstants.{GREATEST_WINDOW}
 use Rattle.rh_sig.specs.declared.named.Named.{Named}
-use Rattle.rh_sig.specs.declared.named.Named.TheVariants.{AckTo, ConnA1, ConnB2, ConnC1, ConnC2, InR1A2, InR1A3, InR1A4, OutR1A3}
+use Rattle.rh_sig.specs.declared.named.Named.TheVariants.{AckTo, ConnB2, ConnC1, ConnC2, InR1A2, InR1A3, InR1A4}
 use Rattle.rh_line.specs.declared.leg.Leg.{Leg}
 use Rattle.rh_line.specs.declared.leg.LegKind.TheVariants.{ClientIn, InServer, OutServer}
 use Rattle.rh_shell.specs.declared.answers.Count.{Count}
 use Rattle.rh_shell.specs.declared.answers.Refused.TheVariants as refused
 use Rattle.rh_shell.specs.Moves.{EndMove, OnLeg, Passage}
-use Rattle.rh_shell.specs.Rules.{Message, Rules}
+use Rattle.rh_shell.specs.Rules.{Message}
 use Rattle.rh_shell.specs.Wires.{of_leg}
 use Rattle.rh_client.specs.declared.state.ClientRole.{ClientRole}
 use Rattle.rh_client.specs.Client as client
@@ -21,8 +21,9 @@ use Rattle.rh_outproxy.specs.Machine as out_proxy
 use Rattle.rh_outproxy.specs.OutProxy.{OutProxy}
 use Rattle.rh_server.specs.States.{Server}
 use Rattle.rh_passages.specs.Passing.{pdu_bytes, Has, HasOn, HasOne, HasBegunIn, HasBegunOut}
+use Rattle.rh_passages.specs.Rising.{HasComeUp}
+use Rattle.rh_out_sends.specs.Sending.{TellsWindow}
 use Rattle.rh_hops.specs.Hops.{is_leg, os_leg}
-use Rattle.rh_client_hops.specs.Premises.{WasRaisedWith}
 
 -- ---- packets that tell a window
 
@@ -45,9 +46,7 @@ TellsClient edge packet = ⊥
 
 -- and the client's window, which opens an OUT channel
 abbrev pub TellsProxy : ℕ → Named → Type 0
-TellsProxy edge (ConnA1 version connection channel window) = window ≡ edge
-TellsProxy edge (OutR1A3 version connection predecessor channel window) = window ≡ edge
-TellsProxy edge packet = ⊥
+TellsProxy edge packet = TellsWindow packet edge
 
 -- ---- acknowledgements with a destination
 
@@ -97,25 +96,23 @@ pub record IsTrue (leg_of : ℕ → Leg) (Begun : ℕ → Type 0) (log : List On
 
 -- ---- the client
 
--- no two of its channels of one direction began under one cookie
-abbrev pub BeginApart : (ℕ → Leg) → (Cookie → List Message → Type 0) → List OnLeg → Type 0
-BeginApart leg_of Begun put =
-    (cookie : Cookie) (l n : ℕ) → Begun cookie (of_leg (leg_of l) put)
-    → Begun cookie (of_leg (leg_of n) put) → l ≡ n
-
-pub record ClientSees (p : Passage ClientRole) : Type 0 where
-  -- it sends on an IN channel as it was told, and refuses only false acknowledgements of it
+-- it sends on an IN channel as it was told, and refuses only false acknowledgements of one that
+-- came up under their cookie
+pub record ClientSends (moves : List EndMove) (p : Passage ClientRole) : Type 0 where
   pub sends : (n : ℕ)
       → SendsWithin (IsToldIn (of_leg (ci n) p.put) p.came) (pdu_bytes (of_leg (ci n) p.put))
   pub refuses : (k : ℕ) (count : Count) (named : Named) (command value : ℕ)
-      → (client.rules.packet p.role (co k) count named).1 ≡ Err (refused.OutOfRange command value)
+      → (client.rules.packet p.role (co k) count named).1
+      ≡ Err (refused.OutOfRange command value)
       → (received : ℕ) × (available : ℕ) × (cookie : Cookie) × (n : ℕ)
-      × (named ≡ AckTo 0 received available cookie)
-      × HasBegunIn cookie (of_leg (ci n) p.put)
+      × (named ≡ AckTo 0 received available cookie) × HasComeUp moves (ci n) cookie
       × IsFalse (pdu_bytes (of_leg (ci n) p.put)) received available
   pub refuses_none : (k : ℕ) (count : Count) (pdu : List ℕ) (command value : ℕ)
       → (client.rules.pdu p.role (co k) count pdu).1 ≡ Err (refused.OutOfRange command value) → ⊥
-  -- it refuses a PDU of an OUT channel only where that ends behind all that it told
+
+-- it refuses a PDU of an OUT channel only where that ends behind all that it told, and acknowledges
+-- what came
+pub record ClientReceives (moves : List EndMove) (p : Passage ClientRole) : Type 0 where
   pub exceeded : (k : ℕ) (count : Count) (pdu : List ℕ) (exceeded : WindowExceeded)
       → (client.rules.pdu p.role (co k) count pdu).1 ≡ Err (refused.Window exceeded)
       → (edge : ℕ) → HasOne (TellsProxy edge) (of_leg (co k) p.put)
@@ -124,22 +121,27 @@ pub record ClientSees (p : Passage ClientRole) : Type 0 where
       → (client.rules.pdu p.role (co k) count pdu).1 ≡ Err (refused.Window exceeded)
       → (l received available : ℕ) (cookie : Cookie)
       → Has (AckTo 3 received available cookie) (of_leg (ci l) p.put)
-      → HasBegunOut cookie (of_leg (co k) p.put)
-      → ((j : ℕ) → HasBegunOut cookie (of_leg (co j) p.put) → j ≡ k)
+      → HasComeUp moves (co k) cookie → ((j : ℕ) → HasComeUp moves (co j) cookie → j ≡ k)
       → received + available < pdu_bytes (of_leg (co k) p.came) + length pdu
   pub exceeded_none : (k : ℕ) (count : Count) (named : Named) (exceeded : WindowExceeded)
       → (client.rules.packet p.role (co k) count named).1 ≡ Err (refused.Window exceeded) → ⊥
-  -- it acknowledges what came
   pub acks : (ack : Acks 3 ci p.put)
-      → IsTrue co (λ k. HasBegunOut ack.cookie (of_leg (co k) p.put)) p.came ack.received
+      → IsTrue co (λ k. HasComeUp moves (co k) ack.cookie) p.came ack.received
       ack.available
 
 -- what begins on a leg has the cookie with which that came up
 pub record ClientBegins (moves : List EndMove) (p : Passage ClientRole) : Type 0 where
   pub ins : (n : ℕ) (cookie : Cookie) → HasBegunIn cookie (of_leg (ci n) p.put)
-      → WasRaisedWith (ci n) cookie moves
+      → HasComeUp moves (ci n) cookie
   pub outs : (n : ℕ) (cookie : Cookie) → HasBegunOut cookie (of_leg (co n) p.put)
-      → WasRaisedWith (co n) cookie moves
+      → HasComeUp moves (co n) cookie
+
+-- no two legs of one direction came up under one cookie
+pub record AreApart (moves : List EndMove) : Type 0 where
+  pub ins : (cookie : Cookie) (l n : ℕ) → HasComeUp moves (ci l) cookie
+      → HasComeUp moves (ci n) cookie → l ≡ n
+  pub outs : (cookie : Cookie) (l n : ℕ) → HasComeUp moves (co l) cookie
+      → HasComeUp moves (co n) cookie → l ≡ n
 
 -- ---- an in proxy of this window and number
 

@@ -13,7 +13,7 @@ use Rattle.rh_sig.specs.declared.named.Named.TheVariants.{AckTo}
 use Rattle.rh_line.specs.declared.leg.Leg.{Leg}
 use Rattle.rh_record.specs.declared.answer.Who.{Who}
 use Rattle.rh_record.specs.declared.answer.Who.TheVariants as who
-use Rattle.rh_shell.specs.Moves.{OnLeg, Passage}
+use Rattle.rh_shell.specs.Moves.{EndMove, OnLeg, Passage}
 use Rattle.rh_shell.specs.Rules.{Message}
 use Rattle.rh_shell.specs.Wires.{of_leg}
 use Rattle.rh_nodes.specs.Readers.{reader_of}
@@ -28,7 +28,7 @@ use Rattle.rh_reading.specs.Reading.{all_read_of}
 use Rattle.rh_passages.specs.Passing.{Has, HasOne}
 use Rattle.rh_hops.specs.Hops.{is_leg, os_leg}
 use Rattle.rh_client_hops.proofs.Read.{front_has, front_one}
-use Rattle.rh_client_hops.proofs.Roles.{Acks, ClientSees, InProxySees, OutProxySees, ServerSees, TellsClient, TellsOutProxy, TellsServer}
+use Rattle.rh_client_hops.proofs.Roles.{AreApart, ClientBegins, ClientReceives, ClientSends, InProxySees, OutProxySees, ServerSees, TellsClient, TellsOutProxy, TellsServer}
 
 -- what passed the nodes
 pub record Passages : Type 0 where
@@ -59,9 +59,12 @@ pub record AreJoined (readers : List ℕ) (all : Passages) : Type 0 where
       → ((end : Side) → end_node readers leg end ≡ node → ⊥)
       → of_leg leg (came_to all node) ≡ []
 
--- and each role sees to its part; the in proxies have one window
-pub record AreHonest (window : ℕ) (all : Passages) : Type 0 where
-  pub client : ClientSees all.client
+-- and each role sees to its part, the client behind these moves; the in proxies have one window
+pub record AreHonest (window : ℕ) (moves : List EndMove) (all : Passages) : Type 0 where
+  pub sends : ClientSends moves all.client
+  pub receives : ClientReceives moves all.client
+  pub begins : ClientBegins moves all.client
+  pub apart : AreApart moves
   pub server : ServerSees all.server
   pub ins : (m : ℕ) → InProxySees window m (all.ins m)
   pub outs : (n : ℕ) → OutProxySees n (all.outs n)
@@ -126,7 +129,7 @@ module _ (readers : List ℕ) (all : Passages) (joined : AreJoined readers all) 
           nothing_front (of_leg (os_leg n) (all.outs j).came) _
           (joined.elsewhere (who.Out j) (os_leg n) (at apart))
 
-  module _ (window : ℕ) (honest : AreHonest window all) where
+  module _ (window : ℕ) (moves : List EndMove) (honest : AreHonest window moves all) where
     -- ---- acknowledgements
 
     module _ (to received available : ℕ) (cookie : Cookie) where

@@ -1,2 +1,7 @@
-//! The hops between a client and its proxies, whose acknowledgements pass other nodes.
+//! The hops between a client and its proxies, whose acknowledgements pass other nodes. Its function
+//! does nothing: its contract is the law.
 #![tactic(auto)]
+
+pub mod worlds;
+
+pub use worlds::no_hop_of_a_client_closes_a_node;

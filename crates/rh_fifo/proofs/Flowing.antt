@@ -96,6 +96,7 @@ still rules first rooms pipe events none = record {
   leads = record { moves = []; allowed = tt; reached = refl };
   role = ap (λ (e : List Event). (after_events rules (begun first rooms) e).role) (sym none);
   in_turn = tt;
+  counted = tt;
   ups = λ leg. ap (came_up leg) (sym none);
   read = λ leg. (messages_read (pipe leg) (heard_on leg events), refl);
   drawn = λ leg refuses.

@@ -20,7 +20,7 @@ use Rattle.rh_outproxy.specs.Machine.{rules as proxy_rules}
 use Rattle.rh_outproxy.specs.Putting.{Pick}
 use Rattle.rh_outproxy.specs.Putting.{put as put_of}
 use Rattle.rh_passages.specs.Passing.{count_of}
-use Rattle.rh_proxy_counts.specs.Counted.{Tells, IsCounted, AreCounted, packets}
+use Rattle.rh_passages.specs.Counted.{Tells, IsCounted, AreCounted, packets}
 use Rattle.rh_proxy_counts.specs.Kinds.{opens_client}
 use Rattle.rh_proxy_counts.proofs.Counts.{leg_is, one_counts, leg_at_most, leg_beside}
 

@@ -1,4 +1,3 @@
 pub mod Kinds
 pub mod InCounts
 pub mod OutCounts
-pub mod Counted

@@ -8,7 +8,7 @@ ghost use Rattle.rh_outproxy.specs.declared.state.OutProxyConfig.{OutProxyConfig
 ghost use Rattle.rh_outproxy.specs.Machine.{rules};
 ghost use Rattle.rh_outproxy.specs.OutProxy.{new_proxy};
 ghost use Rattle.rh_passages.specs.Passing.{count_of};
-ghost use Rattle.rh_proxy_counts.specs.Counted.{AreCounted};
+ghost use Rattle.rh_passages.specs.Counted.{AreCounted};
 ghost use Rattle.rh_proxy_counts.specs.Kinds.{opens_client};
 ghost use Rattle.rh_proxy_counts.specs.OutCounts.{ForwardsWhatCame, OpensAsAsked};
 ghost use Rattle.rh_proxy_counts.specs.OutCounts.{OpensWhatCame};

@@ -20,7 +20,7 @@ use Rattle.rh_shell.specs.declared.course.Course.TheVariants.{Going, Closed, Ref
 use Rattle.rh_shell.specs.declared.rooms.Rooms.{Rooms}
 use Rattle.rh_shell.specs.Carrying.{accepted, handed_by, spelled}
 use Rattle.rh_shell.specs.Ends.{cause_of, give_where, given_by as told_of, take_where, close_where, recycle_where, with_role}
-use Rattle.rh_shell.specs.Moves.{Move, Moves, EndMove, EndPassage, Gives, Takes, Closes, Recycles, Passage, MayEndMove, MayMove, end_moved, end_started, is_in_use, moved}
+use Rattle.rh_shell.specs.Moves.{Move, Moves, EndMove, EndPassage, Gives, Takes, Closes, Recycles, Passage, MayEndMove, MayMove, all_end_moved, end_moved, end_started, is_in_use, moved}
 use Rattle.rh_shell.specs.Moving.{EndEvent, EndLeads, Event, Happens, IsClosed, IsGiven, IsRecycled, IsTaken, after_end_event, after_end_events, after_event}
 use Rattle.rh_shell.specs.Rules.{Rules, Acts}
 use Rattle.rh_shell.specs.Shells.{Shell, begun, may_up, state_by, state_of}
@@ -33,6 +33,8 @@ use Rattle.rh_streams.specs.Streams.{EndStream, HearsInTurn, NeverRefuses, Seate
 use Rattle.rh_streams.specs.Turns.{Stages, IsInTurn, stages_after}
 use Rattle.rh_streams.proofs.EndMoves.{Did, did_close, did_give, did_recycle, did_take, leads_one}
 use Rattle.rh_streams.proofs.Seats.{left_self, seat, silent_none, staged_on}
+use Rattle.rh_passages.specs.Counted.{AreCountedAtEnd, IsCounted, IsCountedAtEnd}
+use Rattle.rh_streams.proofs.Counts.{end_counted_append}
 use Rattle.rh_streams.proofs.Kept.{FrontOf}
 use Rattle.rh_streams.proofs.Going.{kept_seated}
 use Rattle.rh_streams.proofs.Rising.{AreKnown, IsLifted, came_of, comes_here, first_more, has_cookies, is_up_first, known_more, lifted_with, up_more}
@@ -75,6 +77,7 @@ module _ {S : Type 0} (rules : Rules S) (acts : Acts S) (first : S) (rooms : Roo
     pub lifted : AllByRecursion (Lifts CameUp) ms → AllByRecursion (IsLifted CameUp) leads.moves
     pub up_first : AreUpFirst [] leads.moves
     pub known : AreKnown leads.moves g
+    pub counted : AreCountedAtEnd rules acts (end_started first) leads.moves
     pub given_is : end.given ≡ given
     pub taken_is : end.taken ≡ taken
 
@@ -109,10 +112,10 @@ module _ {S : Type 0} (rules : Rules S) (acts : Acts S) (first : S) (rooms : Roo
   module _ (given taken : List (List ℕ)) where
     more : (p : Passage S) (ms : List Move) (g : Stages) (move : Move)
         → IsReached given taken p ms g → MayMove rules p.role move
-        → IsInTurn rules p.role g move
+        → IsInTurn rules p.role g move → IsCounted p move
         → IsReached given taken (moved rules p move) (ms ++ move ∷ [])
         (stages_after rules p.role g move)
-    more p ms g move at may turn = record {
+    more p ms g move at may turn count = record {
       end = end_moved rules acts at.end (Moves move);
       leads = leads_one rules acts (end_started first) at.end (Moves move) at.leads
           (subst (λ (x : Passage S). MayMove rules x.role move) (sym at.is) may);
@@ -129,6 +132,13 @@ module _ {S : Type 0} (rules : Rules S) (acts : Acts S) (first : S) (rooms : Roo
           first_more [] at.leads.moves (Moves move) at.up_first
           (is_up_first rules p.role g at.leads.moves move at.known turn);
       known = known_more rules p.role g at.leads.moves move at.known turn;
+      counted =
+          end_counted_append rules acts (end_started first) at.leads.moves (Moves move ∷ [])
+          at.counted (
+            subst (λ (x : EndPassage S). IsCountedAtEnd x (Moves move)) (sym at.leads.reached)
+                (subst (λ (x : Passage S). IsCounted x move) (sym at.is) count),
+            tt,
+          );
       given_is = at.given_is;
       taken_is = at.taken_is;
     }
@@ -192,6 +202,7 @@ module _ {S : Type 0} (rules : Rules S) (acts : Acts S) (first : S) (rooms : Roo
                 ran.at.lifted (subst (AllByRecursion (Lifts CameUp)) (append-nil ran.moves) have);
             up_first = ran.at.up_first;
             known = ran.at.known;
+            counted = ran.at.counted;
             given_is = ran.at.given_is ∙ sym (append-nil given);
             taken_is = ran.at.taken_is ∙ sym (append-nil taken);
           }) ran.role refl refl (λ leg e. e)
@@ -202,9 +213,10 @@ module _ {S : Type 0} (rules : Rules S) (acts : Acts S) (first : S) (rooms : Roo
       act : (move : EndMove) (role : S) (next out : List (List ℕ))
           → MayEndMove rules s.role move → ((leg : Leg) → is_end_up_on leg move ≡ false)
           → IsLifted CameUp move → ((before : List EndMove) → IsUpFirst before move)
+          → ((x : EndPassage S) → IsCountedAtEnd x move)
           → Did ran.at.end (end_moved rules acts ran.at.end move) role next out
           → After next out (with_role s role)
-      act move role next out may up_none with plain did =
+      act move role next out may up_none with plain uncounted did =
           let at = ran.at in
           let moves_on = subst (λ (r : S). MayEndMove rules r move) (sym role_is) may in
           let q = end_moved rules acts at.end move in
@@ -224,6 +236,10 @@ module _ {S : Type 0} (rules : Rules S) (acts : Acts S) (first : S) (rooms : Roo
                 (with, tt);
             up_first = first_more [] at.leads.moves move at.up_first (plain at.leads.moves);
             known = λ leg stage is. up_more at.leads.moves (move ∷ []) leg (at.known leg stage is);
+            counted =
+                end_counted_append rules acts (end_started first) at.leads.moves (move ∷ [])
+                at.counted
+                (uncounted (all_end_moved rules acts (end_started first) at.leads.moves), tt);
             given_is = did.given ∙ ap (λ x. x ++ next) at.given_is;
             taken_is = did.taken ∙ ap (λ x. x ++ out) at.taken_is;
           }) did.role
@@ -239,6 +255,7 @@ module _ {S : Type 0} (rules : Rules S) (acts : Acts S) (first : S) (rooms : Roo
       gives pdu None =
           act (Gives pdu) (acts.give s.role pdu).0
           (accepted pdu (told_of (acts.give s.role pdu).1)) [] tt (λ leg. refl) tt (λ before. tt)
+          (λ x. tt)
           (did_give rules acts ran.at.end pdu (acts.give s.role pdu)
           (ap (λ (r : S). acts.give r pdu) role_is))
 
@@ -246,18 +263,21 @@ module _ {S : Type 0} (rules : Rules S) (acts : Acts S) (first : S) (rooms : Roo
       takes (Some why) = idle
       takes None =
           act Takes (acts.take s.role) [] (handed_by acts s None) tt (λ leg. refl) tt (λ before. tt)
+          (λ x. tt)
           (did_take rules acts ran.at.end s.role role_is)
 
       closes : (o : Option Cause) → After [] [] (close_where acts s o)
       closes (Some why) = idle
       closes None =
           act Closes (acts.close s.role) [] [] tt (λ leg. refl) tt (λ before. tt)
+          (λ x. tt)
           (did_close rules acts ran.at.end s.role role_is)
 
       recycles : (x : State) → state_of rules s ≡ x → After [] [] (recycle_where acts s x).0
       recycles state.Open e =
           act Recycles (acts.recycle s.role).0 [] [] (is_open s.course (rules.phase s.role) e)
-          (λ leg. refl) tt (λ before. tt) (did_recycle rules acts ran.at.end s.role role_is)
+          (λ leg. refl) tt (λ before. tt) (λ x. tt)
+          (did_recycle rules acts ran.at.end s.role role_is)
       recycles state.Opening e = idle
       recycles state.Ended e = idle
       recycles (state.Closed why) e = idle
@@ -447,6 +467,7 @@ module _ {S : Type 0} (rules : Rules S) (acts : Acts S) (first : S) (rooms : Roo
         came_of (happened all) leg cookie have (raised leg cookie rose));
     raised = raised;
     up_first = ran.at.up_first;
+    counted = ran.at.counted;
     read = λ leg.
         subst (λ (x : Passage S). IsPrefix (of_leg leg x.came)
         (messages_read (pipe leg) (heard_on leg (happened all)))) (sym ran.at.is)
@@ -482,6 +503,7 @@ module _ {S : Type 0} (rules : Rules S) (acts : Acts S) (first : S) (rooms : Roo
             lifted = λ have. tt;
             up_first = tt;
             known = λ leg stage is. absurd cc;
+            counted = tt;
             given_is = refl;
             taken_is = refl;
           })) accepted turn refl

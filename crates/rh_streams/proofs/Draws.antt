@@ -20,9 +20,16 @@ pub record IsBeside (a b : NearEnd) : Type 0 where
   pub pipe : b.pipe ≡ a.pipe
   pub intake : b.intake ≡ a.intake
   pub standing : b.standing ≡ a.standing
+  pub count : b.count ≡ a.count
 
 beside_itself : (a : NearEnd) → IsBeside a a
-beside_itself a = record { leg = refl; pipe = refl; intake = refl; standing = refl }
+beside_itself a = record {
+  leg = refl;
+  pipe = refl;
+  intake = refl;
+  standing = refl;
+  count = refl;
+}
 
 -- moves put these messages on the leg, and take none
 pub record Drew {S : Type 0} (rules : Rules S) (p : Passage S) (end : NearEnd) (d : Drawn S)
@@ -101,7 +108,13 @@ module _ {S : Type 0} (rules : Rules S) where
         came = refl;
         spells =
             ap (λ (x : List ℕ). x ++ (spell put.1 ++ [])) empty ∙ append-nil (spell put.1) ∙ e;
-        beside = record { leg = refl; pipe = refl; intake = refl; standing = refl };
+        beside = record {
+          leg = refl;
+          pipe = refl;
+          intake = refl;
+          standing = refl;
+          count = refl;
+        };
         leaves = leaves;
       }
 
@@ -117,7 +130,11 @@ module _ {S : Type 0} (rules : Rules S) where
           put_drew now p end (rules.put p.role end.leg)
           (way_one rules nowhere nowhere p (Puts end.leg) (in_use rules end p.role two.1)
           (λ leg. λ h. refl) (λ leg. refl))
-          (record { in_turn = λ g. λ a. (tt, tt); stays = λ g. refl })
+          (record {
+            in_turn = λ g. λ a. (tt, tt);
+            stays = λ g. refl;
+            counted = λ a. (tt, tt);
+          })
           (empty_is end.begun two.0)
       by false e = drew_self p end
 
@@ -151,6 +168,7 @@ module _ {S : Type 0} (rules : Rules S) where
       pipe = next.beside.pipe ∙ first.beside.pipe;
       intake = next.beside.intake ∙ first.beside.intake;
       standing = next.beside.standing ∙ first.beside.standing;
+      count = next.beside.count ∙ first.beside.count;
     };
     leaves =
         leaves_then rules anything p first.passage first.way.moves next.way.moves
@@ -164,12 +182,17 @@ module _ {S : Type 0} (rules : Rules S) where
   drew_byte p end b [] is =
       drew_none p (moved rules p (IsDrawn end.leg)) end _
       (way_one rules nowhere nowhere p (IsDrawn end.leg) tt (λ leg. λ h. refl)
-      (λ leg. refl)) (record { in_turn = λ g. λ a. (tt, tt); stays = λ g. refl }) refl refl refl is
-      (record { leg = refl; pipe = refl; intake = refl; standing = refl })
+      (λ leg. refl))
+      (record {
+        in_turn = λ g. λ a. (tt, tt);
+        stays = λ g. refl;
+        counted = λ a. (tt, tt);
+      }) refl refl refl is
+      (record { leg = refl; pipe = refl; intake = refl; standing = refl; count = refl })
   drew_byte p end b (c ∷ cs) is =
       drew_none p p end _ (way_none rules nowhere p) (leaves_none rules anything p)
       refl refl refl is
-      (record { leg = refl; pipe = refl; intake = refl; standing = refl })
+      (record { leg = refl; pipe = refl; intake = refl; standing = refl; count = refl })
 
   as_role : (p : Passage S) (end : NearEnd) (role : S) (d : S → Drawn S) → p.role ≡ role
       → Drew rules p end (d p.role) → Drew rules p end (d role)

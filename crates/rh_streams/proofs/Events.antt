@@ -27,6 +27,8 @@ use Rattle.rh_shell.specs.Rules.{Rules}
 use Rattle.rh_shell.specs.Shells.{Shell, end_at, with_end, place, close, refuse, stopped, bytes_at, bytes_by, bytes, may_up, has_room, with_leg, seated_at, free_place, up, lose, lost, ended_at, ended_by, ended, wants, is_heard, unreached_by, unreached, broken_at, broken_by, broken, put_back, drawn_at, drawn_by, drawn, same_leg, first_silent, passed_by, passed, tick, is_working}
 use Rattle.rh_shell.specs.Wires.{of_leg}
 use Rattle.rh_history.specs.Carried.{drawn_in, heard_in, is_up_of}
+use Rattle.rh_passages.specs.Counted.{AreCounted}
+use Rattle.rh_streams.proofs.Counts.{TellsOn}
 use Rattle.rh_streams.proofs.Draws.{Drew, draw_drew}
 use Rattle.rh_streams.proofs.Ends.{AreApart, end_has, end_is, end_leg, end_of, leg_is, same_apart, seated_apart, seated_new, seated_other}
 use Rattle.rh_streams.proofs.Hears.{Heard, nothing_held}
@@ -86,6 +88,8 @@ module _ {S : Type 0} (rules : Rules S) (pipes : Leg → Option Pipe) (rose : Le
         → AreInTurnFrom rules p g way.moves
         × ((leg : Leg)
         → IsStaged (all_stages rules p g way.moves leg) (seat leg t) (later leg))
+    pub counted : ((leg : Leg) (end : NearEnd) → seat leg s ≡ Sits end
+        → TellsOn p leg end.count) → AreCounted rules p way.moves
 
   module _ (p : Passage S) (s : Shell S) (is : p.role ≡ s.role) (held : AreHeld s)
       (apart : AreApart s.legs) where
@@ -122,6 +126,7 @@ module _ {S : Type 0} (rules : Rules S) (pipes : Leg → Option Pipe) (rose : Le
             (rose leg) (ap (λ (f : Stages). f leg) (leaves.stays g))
             (on_left (g leg) (seat leg s) (seat leg t) (left leg)) (all leg),
       );
+      counted = λ all. leaves.counted (λ g. tt);
     }
 
     -- the node is as it was
@@ -189,7 +194,11 @@ module _ {S : Type 0} (rules : Rules S) (pipes : Leg → Option Pipe) (rose : Le
             (way_one rules nowhere nowhere p (Marks k)
             (subst (λ (r : S). MayMove rules r (Marks k)) (sym is) (work, e))
             (λ leg. λ h. refl) (λ leg. refl))
-            (record { in_turn = λ g. λ a. (tt, tt); stays = λ g. refl })
+            (record {
+              in_turn = λ g. λ a. (tt, tt);
+              stays = λ g. refl;
+              counted = λ a. (tt, tt);
+            })
             (ap (λ (r : S). rules.mark r k) is) refl refl
         by_marks false e work = closes why
 
@@ -243,6 +252,7 @@ module _ {S : Type 0} (rules : Rules S) (pipes : Leg → Option Pipe) (rose : Le
             refl (λ on. on_answers (g leg) (same_leg client leg) (refusal_text Unavailable))
             (all leg),
       );
+      counted = λ all. tt;
     }
       where
         quiet : (leg : Leg) → IsQuiet rules (pipes leg) leg p p [] []
@@ -348,6 +358,9 @@ module _ {S : Type 0} (rules : Rules S) (pipes : Leg → Option Pipe) (rose : Le
       staged = λ g. λ all.
           let both = h.turns g (next g all) in
           (both.0, λ leg. next_by g leg both.0 both.1 (all leg) (same_leg k leg) refl);
+      counted = λ all.
+          (h.counted (all end.leg end (was_seat s k end.leg end at
+          (ap (same_leg k) on_leg ∙ same_itself k) going))).0;
     }
       where
         t : Turn S
@@ -488,6 +501,7 @@ module _ {S : Type 0} (rules : Rules S) (pipes : Leg → Option Pipe) (rose : Le
             (ap (λ (f : Stages). f leg) (w.leaves.stays g))
             (next_by (g leg) leg (same_leg k leg) refl) (all leg),
       );
+      counted = λ all. w.leaves.counted (λ g. tt);
     }
       where
         d : Drawn S
@@ -571,6 +585,7 @@ module _ {S : Type 0} (rules : Rules S) (pipes : Leg → Option Pipe) (rose : Le
             (cond (same_leg client leg) (Answers (drop room rest)) Nowhere) (rose leg) refl
             (λ on. on_answers (g leg) (same_leg client leg) (drop room rest)) (all leg),
       );
+      counted = λ all. tt;
     }
       where
         by : (leg : Leg) (b : Bool)
@@ -645,6 +660,7 @@ module _ {S : Type 0} (rules : Rules S) (pipes : Leg → Option Pipe) (rose : Le
             ((all k).none down, tt),
             λ leg. next_by (g leg) leg (all leg) (same_leg k leg) refl,
           );
+          counted = λ all. (tt, tt);
         })
       where
         first : (is_working rules s ≡ true)

@@ -1,18 +1,15 @@
 -- a piece that a node hears: what its role takes is what is read there
-use Rattle.std.proofs.Common.{◌≡◌, ◌≢◌, ◌⊎◌, inr, ℕ, List, [], ◌∷◌, ◌++◌, length, cond, Bool, true, false, ◌||◌, Some, None, Ok, Err, arith, refl, sym, ap, ◌∙◌, subst}
-use Rattle.std.specs.Prelude.{◌==◌, ◌&&◌, not, IsTrue, slice_index}
+use Rattle.std.proofs.Common.{◌≡◌, ◌⊎◌, inr, ℕ, List, [], ◌∷◌, ◌++◌, length, cond, Bool, true, false, ◌||◌, Some, None, Ok, Err, arith, refl, sym, ap, ◌∙◌, subst}
+use Rattle.std.specs.Prelude.{◌&&◌, not, IsTrue}
 use Rattle.std.specs.List.{AllByRecursion}
 use Rattle.std.specs.declared.option.Option.{Option}
 use Rattle.std.specs.declared.result.Result.{Result}
 use Rattle.std.proofs.lemmas.List.{append-nil}
-use Rattle.std.proofs.lemmas.Bool.Decides.{nat_tests}
 use mathlib.Core.List.{IsPrefix}
 use Rattle.rh_http.specs.declared.fault.HttpFault.{HttpFault}
 use Rattle.rh_http.specs.declared.refusal.Refusal.{Refusal}
-use Rattle.rh_pdu.specs.Header.{rts}
-use Rattle.rh_pdu.specs.Frames.{IsFrame, IsUnfinished}
+use Rattle.rh_pdu.specs.Frames.{IsUnfinished}
 use Rattle.rh_sig.specs.declared.name.Pipe.{Pipe}
-use Rattle.rh_sig.specs.declared.named.Named.{Named}
 use Rattle.rh_line.specs.declared.cause.Cause.{Cause}
 use Rattle.rh_line.specs.declared.leg.Leg.{Leg}
 use Rattle.rh_shell.specs.declared.answers.Behind.{Behind}
@@ -21,29 +18,30 @@ use Rattle.rh_shell.specs.declared.answers.Count.{Count}
 use Rattle.rh_shell.specs.declared.answers.HeadRefused.{HeadRefused}
 use Rattle.rh_shell.specs.declared.answers.HeadRefused.TheVariants as head
 use Rattle.rh_shell.specs.declared.answers.HeadTaken.{HeadTaken}
-use Rattle.rh_shell.specs.declared.heading.Heading.{Heading}
-use Rattle.rh_shell.specs.declared.reading.PacketFault.{PacketFault}
 use Rattle.rh_shell.specs.declared.stage.Stage.{Stage}
 use Rattle.rh_shell.specs.declared.stage.Stage.TheVariants as stage
 use Rattle.rh_shell.specs.declared.stop.Stop.{Stop}
-use Rattle.rh_shell.specs.Carrying.{on_leg, message_in, named_messages, is_deaf}
-use Rattle.rh_shell.specs.Hearing.{Turn, goes, stops, stop_head, with_intake, touched, heading, take, take_next, take_frame, take_packet, take_ping, head_row, behind_head, behind_frame, begun_body, stage_of, close_row, is_ping, is_greeting, is_stopped, one_more, is_zero, is_upward}
+use Rattle.rh_shell.specs.Carrying.{on_leg, message_in, is_deaf}
+use Rattle.rh_shell.specs.Hearing.{Turn, goes, stops, stop_head, with_intake, touched, heading, take, take_next, take_frame, head_row, behind_head, behind_frame, begun_body, stage_of, is_greeting, is_stopped}
 use Rattle.rh_shell.specs.Intakes.{Intake, Came, Nothing, Head, Greeting, Frame, Fault, Over, on_byte}
-use Rattle.rh_shell.specs.Moves.{Passage, OnLeg, HeadCame, PduCame, PacketCame, moved, taken_by, is_in_use}
+use Rattle.rh_shell.specs.Moves.{Passage, OnLeg, HeadCame, moved, is_in_use}
 use Rattle.rh_shell.specs.Moving.{IsHeld}
 use Rattle.rh_shell.specs.NearEnds.{NearEnd, is_over, is_ended, is_marked}
-use Rattle.rh_shell.specs.Readings.{packet_of}
-use Rattle.rh_shell.specs.Rules.{Rules, Row, Message, Pdu, Packet}
+use Rattle.rh_shell.specs.Rules.{Rules, Message}
 use Rattle.rh_shell.specs.Shells.{same_leg}
+use Rattle.rh_shell.specs.Wires.{of_leg}
+use Rattle.rh_passages.specs.Counted.{Tells, AreCounted, packets}
 use Rattle.rh_reading.specs.Reading.{Reading, reading, read_byte, reading_after, messages_from}
 use Rattle.rh_streams.specs.Streams.{is_live}
+use Rattle.rh_streams.proofs.Counts.{TellsOn}
 use Rattle.rh_streams.proofs.Bytes.{ByteIs, byte_is}
 use Rattle.rh_streams.specs.Turns as turn
 use Rattle.rh_streams.specs.Turns.{Stages, AreInTurnFrom, takes_frames}
 use Rattle.rh_streams.proofs.Heads.{HeadBy, HeadIn, IsHead, head_whole, no_heads}
-use Rattle.rh_streams.proofs.Staging.{IsNext, LeavesStages, all_stages, leaves_none}
+use Rattle.rh_streams.proofs.Staging.{IsNext, all_stages}
 use Rattle.rh_streams.proofs.Ways.{Way, nowhere, way_as, way_none, way_one}
 use Rattle.rh_history.proofs.Wired.{same_itself}
+use Rattle.rh_streams.proofs.Frames.{FrameIs, frame_taken}
 
 pub on_leg_append : (leg : Leg) (xs ys : List Message)
     → on_leg leg (xs ++ ys) ≡ on_leg leg xs ++ on_leg leg ys
@@ -106,110 +104,19 @@ module _ {S : Type 0} (rules : Rules S) where
         → AreInTurnFrom rules p g way.moves
         × (is_stopped u.stop ≡ false
         → IsNext (all_stages rules p g way.moves end.leg) u.end.intake.stage)
+    pub counted : TellsOn p end.leg end.count
+        → AreCounted rules p way.moves
+        × (is_stopped u.stop ≡ false → TellsOn passage end.leg u.end.count)
     pub on : ((messages ≡ []) × (is_deaf rules u ≡ true)) ⊎ (is_over rules end p.role ≡ false)
     pub same : IsSame end u.end
     pub held : IsHeld u.end
 
--- ---- a frame is a packet or a PDU
-
--- what a row took
-abbrev pub logged : List Message → Result Count Cause → List Message
-logged messages (Ok next) = messages
-logged messages (Err why) = []
+-- ---- a byte
 
 pub nothing_held : (held : List ℕ) → held ≡ [] → IsUnfinished held
 nothing_held held none long =
     absurd (let size : length held ≡ 0 = ap (λ (x : List ℕ). length x) none in
     omega (arith, size, long))
-
-module _ {S : Type 0} (rules : Rules S) (heads : Leg → Bool) (p : Passage S) (at : Heading)
-    (may : IsTrue (is_in_use rules p.role at.leg)) where
-  -- a frame may come
-  abbrev framed : Stages → Type 0
-  framed g = takes_frames (g at.leg) ≡ true
-
-  pub record FrameIs (frame : List ℕ) (x : S × Result Count Cause) : Type 0 where
-    pub passage : Passage S
-    pub way : Way rules heads nowhere p passage
-    pub role : passage.role ≡ x.0
-    pub put : passage.put ≡ p.put
-    pub came : passage.came ≡ p.came ++ on_leg at.leg (logged (message_in at.pipe frame) x.1)
-    pub leaves : LeavesStages rules framed p way.moves
-
-  -- no move is made
-  none_is : (frame : List ℕ) (r : Result Count Cause)
-      → logged (message_in at.pipe frame) r ≡ [] → FrameIs frame (p.role, r)
-  none_is frame r none = record {
-    passage = p;
-    way = way_none rules heads p;
-    role = refl;
-    put = refl;
-    came = rw none (sym (append-nil p.came));
-    leaves = leaves_none rules framed p;
-  }
-
-  ping_is : (frame : List ℕ) (t : Bool) (why : Cause) → message_in at.pipe frame ≡ []
-      → FrameIs frame (p.role, cond {A = Result Count Cause} t (Err why) (Ok at.count))
-  ping_is frame true why none = none_is frame (Err why) refl
-  ping_is frame false why none = none_is frame (Ok at.count) none
-
-  -- a row takes the message, or refuses it
-  row_is : (frame : List ℕ) (message : Message) (next : Count) (x : S × Row)
-      → (way : Way rules heads nowhere p (taken_by p at.leg message x))
-      → LeavesStages rules framed p way.moves → message_in at.pipe frame ≡ message ∷ []
-      → FrameIs frame (close_row at next x)
-  row_is frame message next (role, Ok taken) way leaves is = record {
-    passage = taken_by p at.leg message (role, Ok taken);
-    way = way;
-    role = refl;
-    put = refl;
-    came = rw is refl;
-    leaves = leaves;
-  }
-  row_is frame message next (role, Err why) way leaves is = record {
-    passage = taken_by p at.leg message (role, Err why);
-    way = way;
-    role = refl;
-    put = refl;
-    came = sym (append-nil p.came);
-    leaves = leaves;
-  }
-
-  named_is : (frame : List ℕ) (named : Named) (t : Bool)
-      → message_in at.pipe frame ≡ cond t [] (Packet named ∷ [])
-      → FrameIs frame (cond {A = S × Result Count Cause} t (p.role, take_ping at)
-      (close_row at (one_more at.count) (rules.packet p.role at.leg at.count named)))
-  named_is frame named true is =
-      ping_is frame (is_zero at.count && is_upward at.pipe) _ is
-  named_is frame named false is =
-      row_is frame (Packet named) (one_more at.count) (rules.packet p.role at.leg at.count named)
-      (way_one rules heads nowhere p (PacketCame at.leg at.count named) may
-      (λ leg. λ h. refl) (λ leg. refl))
-      (record { in_turn = λ g. λ a. (a, tt); stays = λ g. refl }) is
-
-  packet_is : (frame : List ℕ) (r : Result Named PacketFault)
-      → message_in at.pipe frame ≡ named_messages r → FrameIs frame (take_packet rules at p.role r)
-  packet_is frame (Ok named) is = named_is frame named (is_ping named) is
-  packet_is frame (Err fault) is = none_is frame _ refl
-
-  kind_is : (frame : List ℕ) (t : Bool) → (slice_index frame 2 == rts) ≡ t → IsFrame frame
-      → FrameIs frame (cond {A = S × Result Count Cause} t
-      (take_packet rules at p.role (packet_of frame at.pipe))
-      (close_row at at.count (rules.pdu p.role at.leg at.count frame)))
-  kind_is frame true is whole = packet_is frame (packet_of frame at.pipe) (rw is refl)
-  kind_is frame false is whole =
-      let apart : slice_index frame 2 ≢ rts = λ e. absurd (grind (arith, nat_tests)) in
-      row_is frame (Pdu frame) at.count (rules.pdu p.role at.leg at.count frame)
-      (way_one rules heads nowhere p (PduCame at.leg at.count frame)
-      (may, record { frame = whole; not_rts = apart }) (λ leg. λ h. refl) (λ leg. refl))
-      (record { in_turn = λ g. λ a. (a, tt); stays = λ g. refl }) (rw is refl)
-
-  pub frame_taken : (frame : List ℕ) → IsFrame frame
-      → FrameIs frame (take_frame rules at p.role frame)
-  unfolding take_frame
-  frame_taken frame whole = kind_is frame (slice_index frame 2 == rts) refl whole
-
--- ---- a byte
 
 -- a leg that is heard is in use
 pub in_use : {S : Type 0} (rules : Rules S) (end : NearEnd) (role : S)
@@ -249,8 +156,9 @@ module _ {S : Type 0} (rules : Rules S) (moment : ℕ) (p : Passage S) (end : Ne
       → (IsRefused (Some why)
       → (end.intake.stage ≡ stage.Head) × Refuses rules p end (b ∷ []))
       → AllByRecursion (HeadBy (Judges rules p end (b ∷ []))) way.moves
+      → (TellsOn p end.leg end.count → AreCounted rules p way.moves)
       → Heard rules p end (stops (now j) role why) (b ∷ [])
-  stops_here q j role why way turns is put came held refused texts = record {
+  stops_here q j role why way turns is put came held refused texts counts = record {
     passage = q;
     way = way;
     role = is;
@@ -263,6 +171,7 @@ module _ {S : Type 0} (rules : Rules S) (moment : ℕ) (p : Passage S) (end : Ne
     refused = refused;
     texts = texts;
     turns = λ g. λ n. (turns g n, λ h. absurd cc);
+    counted = λ h. (counts h, λ go. absurd cc);
     on = inr on;
     same = record { leg = refl; pipe = refl; begun = refl; standing = refl };
     held = held;
@@ -279,8 +188,9 @@ module _ {S : Type 0} (rules : Rules S) (moment : ℕ) (p : Passage S) (end : Ne
       → AreInTurnFrom rules p g way.moves
       × IsNext (all_stages rules p g way.moves end.leg) to.intake.stage)
       → AllByRecursion (HeadBy (Judges rules p end (b ∷ []))) way.moves
+      → to.count ≡ end.count → AreCounted rules p way.moves
       → Heard rules p end (goes to role) (b ∷ [])
-  goes_on q to role way is put came held same live top turns texts = record {
+  goes_on q to role way is put came held same live top turns texts count counts = record {
     passage = q;
     way = way;
     role = is;
@@ -297,6 +207,13 @@ module _ {S : Type 0} (rules : Rules S) (moment : ℕ) (p : Passage S) (end : Ne
     refused = λ h. absurd h;
     texts = texts;
     turns = λ g. λ n. let both = turns g n in (both.0, λ h. both.1);
+    counted = λ h. (
+      counts,
+      λ go.
+          subst (TellsOn q end.leg) (sym count)
+          (subst (λ (log : List OnLeg). Tells end.count (packets (of_leg end.leg log)))
+          (sym came) h),
+    );
     on = inr on;
     same = same;
     held = held;
@@ -312,7 +229,7 @@ module _ {S : Type 0} (rules : Rules S) (moment : ℕ) (p : Passage S) (end : Ne
       subst (λ (s : Stage). is_live s ≡ true) is.0 l in
       (live, is.1 live ∙ ap (λ (s : Stage). (reading s j.held, [])) (sym is.0)))
       (λ h. (sym is.0 ∙ h, refl))
-      (λ g. λ n. (tt, subst (λ (s : Stage). IsNext (g end.leg) s) (sym is.0) n)) tt
+      (λ g. λ n. (tt, subst (λ (s : Stage). IsNext (g end.leg) s) (sym is.0) n)) tt refl tt
 
   head_is : (j : Intake) (text : List ℕ) (x : S × Result HeadTaken HeadRefused)
       → rules.head p.role end.leg text ≡ x
@@ -367,11 +284,13 @@ module _ {S : Type 0} (rules : Rules S) (moment : ℕ) (p : Passage S) (end : Ne
           (record { leg = refl; pipe = refl; begun = refl; standing = refl })
           (λ l. (ap is_live top, is ∙ ap (λ (x : List ℕ). (reading stage.Frames x, [])) (sym none)))
           (λ h. absurd cc) (λ g. λ n. (first g n, ap takes_frames (next_is g))) (judged, tt)
+          refl (tt, tt)
       by_behind role passed.PassedOver length same next_is =
           goes_on q (begun_body (now j) stage.PassedOver (Some length)) role way same refl refl
           (λ fr. nothing_held j.held none)
           (record { leg = refl; pipe = refl; begun = refl; standing = refl })
           (λ l. absurd cc) (λ h. absurd cc) (λ g. λ n. (first g n, tt)) (judged, tt)
+          refl (tt, tt)
 
       by_why : (role : S) (why : HeadRefused) → rules.head p.role end.leg text ≡ (role, Err why)
           → IsRefused (Some (stop_head end.leg (length text) why))
@@ -398,6 +317,7 @@ module _ {S : Type 0} (rules : Rules S) (moment : ℕ) (p : Passage S) (end : Ne
           stops_here q j role (stop_head end.leg (length text) why) way first
           (ap (λ (y : S × Result HeadTaken HeadRefused). y.0) e) refl refl
           (λ fr. nothing_held j.held none) (by_why role why e) (judged, tt)
+          (λ h. (tt, tt))
 
   greeting_is : (j : Intake) (t : Bool) (why : Cause) → end.intake.stage ≡ stage.Greeting
       → next ≡ (reading stage.Frames [], []) → j.held ≡ []
@@ -410,11 +330,11 @@ module _ {S : Type 0} (rules : Rules S) (moment : ℕ) (p : Passage S) (end : Ne
       (record { leg = refl; pipe = refl; begun = refl; standing = refl })
       (λ l. (ap is_live at, is ∙ ap (λ (x : List ℕ). (reading stage.Frames x, [])) (sym none)))
       (λ h. absurd cc)
-      (λ g. λ n. (tt, subst (λ (s : Stage). IsNext (g end.leg) s) at n)) tt
+      (λ g. λ n. (tt, subst (λ (s : Stage). IsNext (g end.leg) s) at n)) tt refl tt
   greeting_is j false why at is none =
       stops_here p j p.role (record { cause = why; refusal = None })
       (way_none rules heads p) (λ g. λ n. tt) refl refl refl
-      (λ fr. nothing_held j.held none) (λ r. absurd r) tt
+      (λ fr. nothing_held j.held none) (λ r. absurd r) tt (λ h. tt)
 
   frame_is : (j : Intake) (frame : List ℕ) (place : ℕ) (x : S × Result Count Cause)
       → FrameIs rules nowhere p (heading (now j) place) may frame x
@@ -451,6 +371,7 @@ module _ {S : Type 0} (rules : Rules S) (moment : ℕ) (p : Passage S) (end : Ne
               (subst (λ (x : Stages). takes_frames (x end.leg) ≡ true) (sym (f.leaves.stays g))
               frames),
         );
+    counted = λ h. let two = f.counted h in (two.0, λ go. two.1);
     on = inr on;
     same = record { leg = refl; pipe = refl; begun = refl; standing = refl };
     held = λ fr. nothing_held j.held none;
@@ -465,6 +386,7 @@ module _ {S : Type 0} (rules : Rules S) (moment : ℕ) (p : Passage S) (end : Ne
       f.role f.put
       (f.came ∙ append-nil p.came) (λ fr. nothing_held j.held none) (λ r. absurd r)
       (no_heads (Judges rules p end (b ∷ [])) f.way.moves (λ leg. f.way.headless leg refl))
+      (λ h. (f.counted h).0)
 
   by_came : (j : Intake) (c : Came) → ByteIs end.pipe end.intake.stage j c next
       → (end.intake.stage ≡ stage.Head → IsHead end.intake b c)
@@ -479,13 +401,13 @@ module _ {S : Type 0} (rules : Rules S) (moment : ℕ) (p : Passage S) (end : Ne
       (frame_taken rules nowhere p (heading (now j) place) may frame is.4) is.0 is.1 is.2 is.3
   by_came j (Fault place fault) is stands =
       stops_here p j p.role _ (way_none rules heads p) (λ g. λ n. tt) refl refl refl
-      (λ fr. absurd (apart (sym is ∙ fr))) (λ r. absurd r) tt
+      (λ fr. absurd (apart (sym is ∙ fr))) (λ r. absurd r) tt (λ h. tt)
     where
       apart : stage.Shut ≡ stage.Frames → ⊥
       apart e = absurd cc
   by_came j (Over length) is stands =
       stops_here p j p.role _ (way_none rules heads p) (λ g. λ n. tt) refl refl refl
-      (λ fr. absurd (apart (sym is ∙ fr))) (λ r. absurd r) tt
+      (λ fr. absurd (apart (sym is ∙ fr))) (λ r. absurd r) tt (λ h. tt)
     where
       apart : stage.Shut ≡ stage.Frames → ⊥
       apart e = absurd cc

@@ -26,6 +26,9 @@ use Rattle.rh_shell.specs.Rules.{Rules, Message, spell}
 use Rattle.rh_shell.specs.Wires.{of_leg}
 use Rattle.rh_reading.specs.Reading.{begin, messages_from, messages_read, reading}
 use Rattle.rh_streams.specs.Streams.{IsFirstHead, IsHeadOf, RefusesText, is_head_on, is_live}
+use Rattle.rh_passages.specs.Counted as counts
+use Rattle.rh_passages.specs.Counted.{packets}
+use Rattle.rh_streams.proofs.Counts.{TellsOn}
 use Rattle.rh_streams.proofs.Heads.{HeadBy, each_as, first_more, head_as, head_of, head_then, heads_more, heads_none, waited}
 use Rattle.rh_streams.proofs.Hears.{IsExact, IsRefusal, IsRefused, Judges}
 use Rattle.rh_streams.proofs.Pieces.{exact_then, front_more, front_then}
@@ -59,6 +62,7 @@ module _ {S : Type 0} (rules : Rules S) (pipe : Option Pipe) (leg : Leg)
         → IsRead p heard end.intake
     pub heads : end.intake.stage ≡ stage.Head
         → (first_stage pipe ≡ stage.Head) × (list_any (is_head_on leg) moves ≡ false)
+    pub tells : TellsOn p leg end.count
 
   -- for a leg that cannot be connected, or for a head
   abbrev pub IsWhy : List ℕ → Refusal → Type 0
@@ -239,6 +243,13 @@ module _ {S : Type 0} (rules : Rules S) (pipe : Option Pipe) (leg : Leg)
         let two = old.heads (ap (λ (i : Intake). i.stage) (sym intake) ∙ e) in
         (two.0, any_none (is_head_on leg) ms ns two.1 headless)
 
+    -- no packet comes
+    tells_on : (a b : NearEnd) → Sitting p ms heard drawn a → b.count ≡ a.count
+        → of_leg leg q.came ≡ of_leg leg p.came → TellsOn q leg b.count
+    tells_on a b old same came =
+        subst (TellsOn q leg) (sym same)
+        (subst (λ (x : List Message). counts.Tells a.count (packets x)) (sym came) old.tells)
+
     sits_on : (a b : NearEnd) → up ≡ true → Sitting p ms heard drawn a → IsStill a b
         → IsQuiet rules pipe leg p q ns out
         → bytes ≡ [] → Sitting q (ms ++ ns) (heard ++ bytes) (drawn ++ out) b
@@ -250,6 +261,7 @@ module _ {S : Type 0} (rules : Rules S) (pipe : Option Pipe) (leg : Leg)
           ∙ ap (λ (x : List ℕ). x ++ b.begun) (sym (same_drawn quiet.out_is));
       reads = reads_on a b rose old still.leg still.intake still.standing quiet.came none;
       heads = heads_on a b old still.intake quiet.headless;
+      tells = tells_on a b old still.count quiet.came;
     }
 
     sitting : (end : NearEnd) → s ≡ Sits end → Sitting p ms heard drawn end
@@ -338,6 +350,7 @@ module _ {S : Type 0} (rules : Rules S) (pipe : Option Pipe) (leg : Leg)
               (λ e. subst (λ (x : Standing). is_marked x ≡ false) d.drew.beside.standing e) came
               d.bytes_are;
           heads = heads_on d.end d.drawn.end old d.drew.beside.intake d.headless;
+          tells = tells_on d.end d.drawn.end old d.drew.beside.count came;
         }
 
     answered_keeps : (later : Bool) → Answered rules pipe leg p q ns s t bytes out → Keeps later
@@ -398,6 +411,7 @@ module _ {S : Type 0} (rules : Rules S) (pipe : Option Pipe) (leg : Leg)
               (subst (λ (x : List Message). IsExact pipe (fresh (first_stage pipe))
               (fresh (first_stage pipe)) [] x) (sym came) read_none);
           heads = λ e. (e, any_none (is_head_on leg) ms ns old.headless c.quiet.headless);
+          tells = ap packets came;
         }
 
     -- ---- the client is refused
@@ -516,6 +530,12 @@ module _ {S : Type 0} (rules : Rules S) (pipe : Option Pipe) (leg : Leg)
               any_none (is_head_on leg) ms ns before.1
                   (ap (list_any (is_head_on leg)) (sym h.moves_are ∙ now.1)),
             );
+        tells =
+            subst (λ (l : Leg). TellsOn q l h.turn.end.count) old.leg_is
+            (subst (λ (x : Passage S). TellsOn x h.end.leg h.turn.end.count) h.passage
+            ((h.heard.counted
+            (subst (λ (l : Leg). TellsOn p l h.end.count) (sym old.leg_is) old.tells)).1
+            (ap is_stopped goes_on)));
       }
 
       -- a head that was judged stands at the front of all that was heard

@@ -1,7 +1,9 @@
 mod Ways
+mod Counts
 mod Staging
 mod Bytes
 pub mod Heads
+mod Frames
 mod Hears
 mod Pieces
 mod Draws

@@ -24,6 +24,8 @@ use Rattle.rh_history.proofs.Appended.{accepted_append, came_append, drawn_appen
 use Rattle.rh_streams.specs.Streams.{HasPipes, HearsInTurn, IsDrawn, RefusalDrawn, StaysUnused, Stream, is_head_on, is_refused_on, is_up_on}
 use Rattle.rh_streams.specs.Turns.{Stages, AreInTurn, IsInTurn, RefusesInTurn, none_up, stages_after}
 use Rattle.rh_streams.proofs.Staging.{all_stages, all_stages_append, in_turn_append}
+use Rattle.rh_passages.specs.Counted.{AreCounted, IsCounted}
+use Rattle.rh_streams.proofs.Counts.{counted_append}
 use Rattle.rh_streams.proofs.Kept.{FrontOf}
 use Rattle.rh_streams.proofs.Going.{kept_seated}
 use Rattle.rh_streams.proofs.Runs.{IsFit, Ran, ran_as, ran_event, ran_none}
@@ -37,6 +39,7 @@ module _ {S : Type 0} (rules : Rules S) (first : S) (rooms : Rooms) (pipe : Leg 
     pub reached : all_moved rules (started first) ms ≡ p
     pub in_turn : AreInTurn rules first ms
     pub stages : all_stages rules (started first) none_up ms ≡ g
+    pub counted : AreCounted rules (started first) ms
 
   abbrev Sound : Leg → Type 0
   Sound leg = RefusesInTurn rules first pipe leg
@@ -49,9 +52,9 @@ module _ {S : Type 0} (rules : Rules S) (first : S) (rooms : Rooms) (pipe : Leg 
   start = begun first rooms
 
   more : (p : Passage S) (ms : List Move) (g : Stages) (move : Move) → IsReached p ms g
-      → MayMove rules p.role move → IsInTurn rules p.role g move
+      → MayMove rules p.role move → IsInTurn rules p.role g move → IsCounted p move
       → IsReached (moved rules p move) (ms ++ move ∷ []) (stages_after rules p.role g move)
-  more p ms g move at may turn = record {
+  more p ms g move at may turn count = record {
     allowed =
         all_allowed_append rules (started first) ms (move ∷ []) at.allowed
         (subst (λ (x : Passage S). MayMove rules x.role move) (sym at.reached) may, tt);
@@ -70,6 +73,9 @@ module _ {S : Type 0} (rules : Rules S) (first : S) (rooms : Rooms) (pipe : Leg 
         ∙ ap (λ (x : Passage S). stages_after rules x.role
         (all_stages rules (started first) none_up ms) move) at.reached
         ∙ ap (λ (f : Stages). stages_after rules p.role f move) at.stages;
+    counted =
+        counted_append rules (started first) ms (move ∷ []) at.counted
+        (subst (λ (x : Passage S). IsCounted x move) (sym at.reached) count, tt);
   }
 
   stays : (p : Passage S) (ms : List Move) (g : Stages) (move : Move) (leg : Leg)
@@ -201,6 +207,7 @@ module _ {S : Type 0} (rules : Rules S) (first : S) (rooms : Rooms) (pipe : Leg 
     passage = ran.passage;
     leads = record { moves = ran.moves; allowed = ran.at.allowed; reached = ran.at.reached };
     in_turn = ran.at.in_turn;
+    counted = ran.at.counted;
     role = ran.role;
     ups = ran.ups;
     read = λ leg. (ran.kept leg).front;
@@ -224,4 +231,10 @@ module _ {S : Type 0} (rules : Rules S) (first : S) (rooms : Rooms) (pipe : Leg 
       ran =
           run [] events start refl tt
           (ran_none rules pipe Sound (Unit {0}) anyhow IsReached first rooms
-          (record { allowed = tt; reached = refl; in_turn = tt; stages = refl })) accepted turn
+          (record {
+            allowed = tt;
+            reached = refl;
+            in_turn = tt;
+            stages = refl;
+            counted = tt;
+          })) accepted turn

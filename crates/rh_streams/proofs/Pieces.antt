@@ -18,6 +18,8 @@ use Rattle.rh_shell.specs.Rules.{Rules, Message}
 use Rattle.rh_shell.specs.Shells.{same_leg}
 use Rattle.rh_reading.specs.Reading.{Reading, reading, reading_after, messages_from}
 use Rattle.rh_streams.specs.Streams.{is_live}
+use Rattle.rh_passages.specs.Counted.{AreCounted}
+use Rattle.rh_streams.proofs.Counts.{TellsOn, counted_append}
 use Rattle.rh_streams.proofs.Bytes.{after_append, dead_reads, from_append}
 use Rattle.rh_streams.proofs.Heads.{HeadBy, each_as, head_as, head_more, head_then, waited}
 use Rattle.rh_streams.proofs.Hears.{Heard, IsExact, IsRefused, IsSame, Judges, byte_heard, on_leg_append}
@@ -113,6 +115,7 @@ module _ {S : Type 0} (rules : Rules S) where
     refused = λ r. absurd (unrefused u.stop on r);
     texts = tt;
     turns = λ g. λ n. (tt, λ h. n);
+    counted = λ h. (tt, λ go. h);
     on = by (is_deaf rules u) refl;
     same = record { leg = refl; pipe = refl; begun = refl; standing = refl };
     held = held;
@@ -157,6 +160,7 @@ module _ {S : Type 0} (rules : Rules S) where
         first.way.moves (head_as (Judges rules p end xs) (Judges rules p end (xs ++ ys)) more)
         first.texts;
     turns = first.turns;
+    counted = first.counted;
     on = first.on;
     same = first.same;
     held = first.held;
@@ -241,6 +245,16 @@ module _ {S : Type 0} (rules : Rules S) where
               ∙ ap (λ x. all_stages rules x h next.way.moves) first.way.reached))
               (subst (λ (l : Leg). IsNext (all_stages rules first.passage h next.way.moves l)
               v.end.intake.stage) first.same.leg (b.1 go)),
+        );
+    counted = λ h.
+        let a = first.counted h in
+        let b = next.counted
+        (subst (λ (l : Leg). TellsOn first.passage l u.end.count)
+        (sym first.same.leg) (a.1 quiet)) in (
+          counted_append rules p first.way.moves next.way.moves a.0
+              (subst (λ x. AreCounted rules x next.way.moves) (sym first.way.reached) b.0),
+          λ go.
+              subst (λ (l : Leg). TellsOn next.passage l v.end.count) first.same.leg (b.1 go),
         );
     on = still_on first.on;
     same = same_then end u.end v.end first.same next.same;

@@ -45,6 +45,7 @@ module _ {S : Type 0} (rules : Rules S) where
       in_turn = λ g. λ a.
           (subst (λ (r : S). is_some (rules.ping_after r k) ≡ true) (sym is) (after refl), tt);
       stays = λ g. refl;
+      counted = λ a. (tt, tt);
     };
   }
   ping_one p role k false is after = stands p role is

@@ -22,11 +22,12 @@ use Rattle.rh_shell.specs.Wires.{of_leg}
 use Rattle.rh_history.specs.Carried.{IsAccepted, drawn_in, heard_in, is_up_of}
 use Rattle.rh_streams.specs.Streams.{is_head_on, is_refused_on, is_up_on}
 use Rattle.rh_streams.specs.Turns.{Stages, AreInTurnFrom, IsInTurn, none_up, stages_after}
+use Rattle.rh_passages.specs.Counted.{AreCounted, IsCounted}
 use Rattle.rh_streams.proofs.Staging.{all_stages, way_reached, way_stays}
 use Rattle.rh_streams.proofs.Ends.{AreApart, leg_is}
 use Rattle.rh_streams.proofs.Events.{IsFresh, Steps, event_steps, ups_of}
 use Rattle.rh_streams.proofs.Seats.{seat}
-use Rattle.rh_streams.proofs.Kept.{Kept, turns_keep}
+use Rattle.rh_streams.proofs.Kept.{IsSeated, Kept, turns_keep}
 use Rattle.rh_streams.proofs.Going.{free_before, goes_keep}
 use Rattle.rh_streams.proofs.Turns.{Nowhere, Sits, IsStaged, Turns}
 use Rattle.rh_streams.proofs.Ways.{IsRaised, Lifts, each_joined}
@@ -191,7 +192,7 @@ module _ {S : Type 0} (rules : Rules S) (pipes : Leg → Option Pipe) (Sound : L
             (turned leg) (was leg) (none leg)
 
     module _ (more : (p : Passage S) (ms : List Move) (g : Stages) (move : Move) → At p ms g
-        → MayMove rules p.role move → IsInTurn rules p.role g move
+        → MayMove rules p.role move → IsInTurn rules p.role g move → IsCounted p move
         → At (moved rules p move) (ms ++ move ∷ []) (stages_after rules p.role g move))
         (stays : (p : Passage S) (ms : List Move) (g : Stages) (move : Move) (leg : Leg)
         → At p ms g → MayMove rules p.role move → is_up_on leg move ≡ false
@@ -210,13 +211,13 @@ module _ {S : Type 0} (rules : Rules S) (pipes : Leg → Option Pipe) (Sound : L
           (λ leg. drawn_in rules s leg event) up (λ leg. up leg || is_up_of leg event) ran
           step.passage step.way.moves (all_stages rules ran.passage ran.stages step.way.moves)
           (way_reached rules At more stays step.heads (ups_of rules pipes up With event) ran.passage
-          step.passage ran.moves ran.stages step.way staged.0 ran.at)
+          step.passage ran.moves ran.stages step.way staged.0 counted ran.at)
           step.role (λ leg. free_before rules leg s event) step.held step.apart step.turned staged.1
           (λ leg. ap (λ b. up leg || b) (step.way.raised leg ∙ comes event leg))
           (step.lifted (raises event fit))
           (λ leg rose.
           way_stays rules At more stays step.heads (ups_of rules pipes up With event) ran.passage
-          step.passage ran.moves ran.stages leg step.way staged.0 ran.at
+          step.passage ran.moves ran.stages leg step.way staged.0 counted ran.at
           (others event fit leg rose))
           (λ leg e. (neither (up leg) (is_up_of leg event) e).0)
           (λ leg e. silent event fit leg (neither (up leg) (is_up_of leg event) e).0)
@@ -306,3 +307,9 @@ module _ {S : Type 0} (rules : Rules S) (pipes : Leg → Option Pipe) (Sound : L
               → IsStaged (all_stages rules ran.passage ran.stages step.way.moves leg)
               (seat leg (after_event rules s event)) (up leg || is_up_of leg event))
           staged = step.staged ran.stages ran.staged
+
+          counted : AreCounted rules ran.passage step.way.moves
+          counted =
+              step.counted (λ leg end at.
+              (subst (IsSeated rules (pipes leg) leg (Sound leg) MayRefuse ran.passage ran.moves
+              (heard leg) (drawn leg)) at (ran.kept leg).seat).tells)

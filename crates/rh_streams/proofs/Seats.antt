@@ -53,6 +53,7 @@ left_self (Sits end) = record {
     pipe = refl;
     intake = refl;
     begun = refl;
+    count = refl;
     standing = λ e. e;
   };
 }
@@ -82,6 +83,7 @@ marked_still end = record {
   pipe = refl;
   intake = refl;
   begun = refl;
+  count = refl;
   standing = λ e. absurd cc;
 }
 

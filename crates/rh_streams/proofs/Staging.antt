@@ -12,6 +12,8 @@ use Rattle.rh_shell.specs.Rules.{Rules}
 use Rattle.rh_streams.specs.Streams.{is_up_on}
 use Rattle.rh_streams.specs.Turns.{Stages, AreInTurnFrom, IsInTurn, behind_head, is_head_on, stages_after, takes_frames}
 use Rattle.rh_streams.proofs.Ends.{leg_is}
+use Rattle.rh_passages.specs.Counted.{AreCounted, IsCounted}
+use Rattle.rh_streams.proofs.Counts.{counted_append}
 use Rattle.rh_streams.proofs.Ways.{Way}
 use Rattle.rh_order.proofs.ItemLists.{neither}
 
@@ -41,14 +43,16 @@ abbrev pub anything : Stages → Type 0
 anything g = Unit {0}
 
 module _ {S : Type 0} (rules : Rules S) where
-  -- moves in their turn, where so much is known of what comes next, which they leave
+  -- moves in their turn, where so much is known of what comes next, which they leave; where nothing
+  -- need be known no packet comes
   pub record LeavesStages (asks : Stages → Type 0) (p : Passage S) (moves : List Move) : Type 0
     where
       pub in_turn : (g : Stages) → asks g → AreInTurnFrom rules p g moves
       pub stays : (g : Stages) → all_stages rules p g moves ≡ g
+      pub counted : ((g : Stages) → asks g) → AreCounted rules p moves
 
   pub leaves_none : (asks : Stages → Type 0) (p : Passage S) → LeavesStages asks p []
-  leaves_none asks p = record { in_turn = λ g. λ a. tt; stays = λ g. refl }
+  leaves_none asks p = record { in_turn = λ g. λ a. tt; stays = λ g. refl; counted = λ a. tt }
 
   pub all_stages_append : (p : Passage S) (g : Stages) (ms ns : List Move)
       → all_stages rules p g (ms ++ ns)
@@ -78,6 +82,9 @@ module _ {S : Type 0} (rules : Rules S) where
         all_stages_append p g ms ns
         ∙ ap (λ x. all_stages rules x (all_stages rules p g ms) ns) reached
         ∙ ap (λ (f : Stages). all_stages rules q f ns) (a.stays g) ∙ b.stays g;
+    counted = λ h.
+        counted_append rules p ms ns (a.counted h)
+        (subst (λ x. AreCounted rules x ns) (sym reached) (b.counted h));
   }
 
   one_other : (p : Passage S) (g : Stages) (leg : Leg) (move : Move)
@@ -136,46 +143,48 @@ module _ {S : Type 0} (rules : Rules S) where
 
   module _ (At : Passage S → List Move → Stages → Type 0)
       (more : (p : Passage S) (ms : List Move) (g : Stages) (move : Move) → At p ms g
-      → MayMove rules p.role move → IsInTurn rules p.role g move
+      → MayMove rules p.role move → IsInTurn rules p.role g move → IsCounted p move
       → At (moved rules p move) (ms ++ move ∷ []) (stages_after rules p.role g move))
       (stays : (p : Passage S) (ms : List Move) (g : Stages) (move : Move) (leg : Leg)
       → At p ms g → MayMove rules p.role move → is_up_on leg move ≡ false
       → is_in_use rules p.role leg ≡ false
       → is_in_use rules (moved rules p move).role leg ≡ false) where
     all_reached : (p : Passage S) (ms : List Move) (g : Stages) (ns : List Move) → At p ms g
-        → AreAllowed rules p ns → AreInTurnFrom rules p g ns
+        → AreAllowed rules p ns → AreInTurnFrom rules p g ns → AreCounted rules p ns
         → At (all_moved rules p ns) (ms ++ ns) (all_stages rules p g ns)
-    all_reached p ms g [] at a turn = subst (λ x. At p x g) (sym (append-nil ms)) at
-    all_reached p ms g (n ∷ ns) at a turn =
+    all_reached p ms g [] at a turn c = subst (λ x. At p x g) (sym (append-nil ms)) at
+    all_reached p ms g (n ∷ ns) at a turn c =
         let q = moved rules p n in
         let h = stages_after rules p.role g n in
         subst (λ x. At (all_moved rules q ns) x (all_stages rules q h ns))
         (append_assoc ms (n ∷ []) ns)
-        (all_reached q (ms ++ n ∷ []) h ns (more p ms g n at a.0 turn.0) a.1 turn.1)
+        (all_reached q (ms ++ n ∷ []) h ns (more p ms g n at a.0 turn.0 c.0) a.1 turn.1 c.1)
 
     pub way_reached : (heads ups : Leg → Bool) (p q : Passage S) (ms : List Move)
         (g : Stages) → (way : Way rules heads ups p q) → AreInTurnFrom rules p g way.moves
-        → At p ms g → At q (ms ++ way.moves) (all_stages rules p g way.moves)
-    way_reached heads ups p q ms g way turn at =
+        → AreCounted rules p way.moves → At p ms g
+        → At q (ms ++ way.moves) (all_stages rules p g way.moves)
+    way_reached heads ups p q ms g way turn c at =
         subst (λ x. At x (ms ++ way.moves) (all_stages rules p g way.moves)) way.reached
-        (all_reached p ms g way.moves at way.allowed turn)
+        (all_reached p ms g way.moves at way.allowed turn c)
 
     all_stay : (p : Passage S) (ms : List Move) (g : Stages) (ns : List Move) (leg : Leg)
-        → At p ms g → AreAllowed rules p ns → AreInTurnFrom rules p g ns
+        → At p ms g → AreAllowed rules p ns → AreInTurnFrom rules p g ns → AreCounted rules p ns
         → list_any (is_up_on leg) ns ≡ false
         → is_in_use rules p.role leg ≡ false
         → is_in_use rules (all_moved rules p ns).role leg ≡ false
-    all_stay p ms g [] leg at a turn u un = un
-    all_stay p ms g (n ∷ ns) leg at a turn u un =
+    all_stay p ms g [] leg at a turn c u un = un
+    all_stay p ms g (n ∷ ns) leg at a turn c u un =
         let two = neither (is_up_on leg n) (list_any (is_up_on leg) ns) u in
         all_stay (moved rules p n) (ms ++ n ∷ []) (stages_after rules p.role g n) ns leg
-        (more p ms g n at a.0 turn.0) a.1 turn.1 two.1 (stays p ms g n leg at a.0 two.0 un)
+        (more p ms g n at a.0 turn.0 c.0) a.1 turn.1 c.1 two.1 (stays p ms g n leg at a.0 two.0 un)
 
     -- a leg that is not in use does not come in use again
     pub way_stays : (heads ups : Leg → Bool) (p q : Passage S) (ms : List Move)
         (g : Stages) (leg : Leg) → (way : Way rules heads ups p q)
-        → AreInTurnFrom rules p g way.moves → At p ms g → ups leg ≡ false
+        → AreInTurnFrom rules p g way.moves → AreCounted rules p way.moves → At p ms g
+        → ups leg ≡ false
         → is_in_use rules p.role leg ≡ false → is_in_use rules q.role leg ≡ false
-    way_stays heads ups p q ms g leg way turn at u un =
+    way_stays heads ups p q ms g leg way turn c at u un =
         subst (λ (x : Passage S). is_in_use rules x.role leg ≡ false) way.reached
-        (all_stay p ms g way.moves leg at way.allowed turn (way.raised leg ∙ u) un)
+        (all_stay p ms g way.moves leg at way.allowed turn c (way.raised leg ∙ u) un)

@@ -46,6 +46,7 @@ pub record IsStill (a b : NearEnd) : Type 0 where
   pub pipe : b.pipe ≡ a.pipe
   pub intake : b.intake ≡ a.intake
   pub begun : b.begun ≡ a.begun
+  pub count : b.count ≡ a.count
   pub standing : is_marked b.standing ≡ false → is_marked a.standing ≡ false
 
 pub record WasSeated (s : Seat) (end : NearEnd) : Type 0 where

@@ -28,6 +28,7 @@ use Rattle.rh_shell.specs.Rules.{Rules, Acts, Message}
 use Rattle.rh_shell.specs.Shells.{Shell, begun, end_at, same_leg}
 use Rattle.rh_shell.specs.Wires.{of_leg}
 use Rattle.rh_reading.specs.Reading.{IsWholeText, begin, messages_read, reading, reading_after}
+use Rattle.rh_passages.specs.Counted.{AreCounted, AreCountedAtEnd}
 use Rattle.rh_passages.specs.Rising.{AreUpFirst, CameUpWith, HasComeUp}
 use Rattle.rh_history.specs.Carried.{heard_on, drawn_on, end_drawn_on, came_up, happened}
 use Rattle.rh_streams.specs.Turns.{AreInTurn, RefusesInTurn}
@@ -150,6 +151,8 @@ pub record Stream {S : Type 0} (rules : Rules S) (first : S) (rooms : Rooms)
   pub leads : Leads rules (started first) passage
   pub role : passage.role ≡ (after_events rules (begun first rooms) events).role
   pub in_turn : AreInTurn rules first leads.moves
+  -- the count that comes with a packet is of those that came on its leg before
+  pub counted : AreCounted rules (started first) leads.moves
   -- the same legs came up by the moves
   pub ups : (leg : Leg) → list_any (is_up_on leg) leads.moves ≡ came_up leg events
   pub read : (leg : Leg)
@@ -261,6 +264,8 @@ pub record EndStream {S : Type 0} (rules : Rules S) (acts : Acts S) (first : S) 
       → CameUpWith (happened events) leg cookie
   -- PDUs and packets come on legs that came up before
   pub up_first : AreUpFirst [] leads.moves
+  -- the count that comes with a packet is of those that came on its leg before
+  pub counted : AreCountedAtEnd rules acts (end_started first) leads.moves
   pub read : (leg : Leg)
       → IsPrefix (of_leg leg passage.passage.came)
       (messages_read (pipe leg) (heard_on leg (happened events)))

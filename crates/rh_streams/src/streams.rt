@@ -17,7 +17,8 @@ use rh_shell::{EndRole, Role};
 /// Moves that are allowed lead to a node's role, whatever happens there. Each comes in its turn,
 /// and a leg came up by them exactly where it came up by an event. What they took on each leg is a
 /// front of the messages in the bytes that were heard; the bytes that were drawn are a front of
-/// those that they put, or of a refusal where nothing was put.
+/// those that they put, or of a refusal where nothing was put. The count that comes with a packet is
+/// of the packets that came on its leg before: none, one, or more.
 ///
 /// Each head that came on a leg is the one with which the bytes there begin, whole at its end and
 /// not before; and the client is refused for a leg that cannot be connected, or for such a head.
@@ -37,8 +38,9 @@ pub fn a_nodes_stream<R: Role>()
 /// The same at an end, which refuses no client: what was drawn is a front of what its role put. The
 /// PDUs that were given and taken are those that the end accepted, and those that it handed out. A
 /// leg that came up by the moves with a cookie came up so by an event; where all cookies by events
-/// have 16 bytes, those by the moves have. PDUs and packets came on legs that came up before. While
-/// it goes on, what is held on a leg is what is left of all bytes that it heard there.
+/// have 16 bytes, those by the moves have. PDUs and packets came on legs that came up before, and
+/// the count that comes with a packet is of those that came there before. While it goes on, what is
+/// held on a leg is what is left of all bytes that it heard there.
 pub fn an_ends_stream<R: EndRole>()
     ensures { (first : R) (rooms : Rooms) (pipe : Leg → Option Pipe) (events : List EndEvent)
         → ((s : R) (leg : Leg) → R.rules.pipe s leg ≡ pipe leg) → NeverRefuses R.rules

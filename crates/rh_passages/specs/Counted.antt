@@ -4,15 +4,15 @@ use Rattle.std.specs.Prelude.{◌≡◌, ◌≤◌, ℕ, List, [], ◌∷◌, Bo
 use Rattle.rh_sig.specs.declared.named.Named.{Named}
 use Rattle.rh_shell.specs.declared.answers.Count.{Count}
 use Rattle.rh_shell.specs.declared.answers.Count.TheVariants as count
-use Rattle.rh_shell.specs.Moves.{Move, PacketCame, Passage, moved}
-use Rattle.rh_shell.specs.Rules.{Message, Rules}
+use Rattle.rh_shell.specs.Moves.{Move, PacketCame, Passage, moved, EndMove, Moves, EndPassage, end_moved}
+use Rattle.rh_shell.specs.Rules.{Acts, Message, Rules}
 use Rattle.rh_shell.specs.Wires.{of_leg}
 use Rattle.rh_passages.specs.Passing.{count_of}
 
 abbrev pub is_any : Named → Bool
 is_any named = true
 
--- so many packets
+-- so many packets; Pings are not among them, for they come to no row
 abbrev pub packets : List Message → ℕ
 packets messages = count_of is_any messages
 
@@ -29,3 +29,14 @@ abbrev pub AreCounted : {S : Type 0} → Rules S → Passage S → List Move →
 AreCounted rules p [] = Unit {0}
 AreCounted rules p (move ∷ moves) =
     IsCounted p move × AreCounted rules (moved rules p move) moves
+
+-- and at an end
+abbrev pub IsCountedAtEnd : {S : Type 0} → EndPassage S → EndMove → Type 0
+IsCountedAtEnd p (Moves move) = IsCounted p.passage move
+IsCountedAtEnd p act = Unit {0}
+
+abbrev pub AreCountedAtEnd : {S : Type 0} → Rules S → Acts S → EndPassage S → List EndMove
+    → Type 0
+AreCountedAtEnd rules acts p [] = Unit {0}
+AreCountedAtEnd rules acts p (move ∷ moves) =
+    IsCountedAtEnd p move × AreCountedAtEnd rules acts (end_moved rules acts p move) moves
