@@ -4,11 +4,11 @@ use Rattle.std.proofs.Common.{◌≡◌, ℕ, zero, suc, ◌+◌, ◌≤◌, ◌
 use Rattle.std.proofs.lemmas.Bool.Decides.{nat_tests}
 use Rattle.rh_sig.specs.declared.named.Named.{Named}
 use Rattle.rh_line.specs.declared.leg.LegKind.{LegKind}
-use Rattle.rh_line.specs.declared.leg.LegKind.TheVariants.{ClientOut, OutServer, ClientIn, InServer}
+use Rattle.rh_line.specs.declared.leg.LegKind.TheVariants.{ClientIn, InServer}
 use Rattle.rh_shell.specs.Moves.{OnLeg}
 use Rattle.rh_chains.specs.Sums.{sum_below, count_on}
 use Rattle.rh_chains.specs.Ways.{total}
-use Rattle.rh_chains.proofs.Summing.{sum_rises, some_legs, all_legs, Bounded}
+use Rattle.rh_chains.proofs.Summing.{sum_rises, some_legs, all_legs}
 
 -- ---- by proxies of one leg to each side
 
@@ -24,8 +24,8 @@ module _ (before behind : Named → Bool) (from to : LegKind) (came put : List O
       let legs = all_legs behind to came in
       let all = legs.all legs.bound (omega arith) in
       let each = sum_rises (count_on behind to came) (count_on before from put)
-          (λ n. let a = last n in let b = passes n in let c = first n in omega (arith, a, b, c))
-          legs.bound in
+      (λ n. let a = last n in let b = passes n in let c = first n in omega (arith, a, b, c))
+      legs.bound in
       let some = some_legs before from put legs.bound in
       omega (arith, all, each, some)
 
@@ -115,16 +115,16 @@ module _ (before behind : Named → Bool) (came put : List OnLeg)
       let n = most.bound in
       let f = count_on before ClientIn put in
       let each = sum_below_rises (count_on behind InServer came)
-          (λ j. sum_below (λ k. at_reader reader f j k) n) m
-          (λ j l.
-          let a = last j in
-          let b = passes j in
-          let c = (all_legs before ClientIn (proxy_came j)).all n (most.each j l) in
-          let d = sum_rises (count_on before ClientIn (proxy_came j))
-              (λ k. at_reader reader f j k) (λ k. first j k) n in
-          omega (arith, a, b, c, d)) in
+      (λ j. sum_below (λ k. at_reader reader f j k) n) m
+      (λ j l.
+      let a = last j in
+      let b = passes j in
+      let c = (all_legs before ClientIn (proxy_came j)).all n (most.each j l) in
+      let d = sum_rises (count_on before ClientIn (proxy_came j))
+      (λ k. at_reader reader f j k) (λ k. first j k) n in
+      omega (arith, a, b, c, d)) in
       let swap = swapped (at_reader reader f) m n in
       let one = sum_rises (λ k. sum_below (λ j. at_reader reader f j k) m) f
-          (λ k. let r = one_reader reader f m k in grind (arith, nat_tests, r)) n in
+      (λ k. let r = one_reader reader f m k in grind (arith, nat_tests, r)) n in
       let some = some_legs before ClientIn put n in
       omega (arith, all, each, swap, one, some)

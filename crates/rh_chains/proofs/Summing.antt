@@ -1,8 +1,7 @@
 -- what is counted on the legs of a kind is the sum of what is counted on each
-use Rattle.std.proofs.Common.{◌≡◌, ℕ, zero, suc, ◌+◌, ◌≤◌, ◌==◌, ◌&&◌, nat_lt, Bool, true, false, if◌then◌else◌, List, [], ◌∷◌, refl, sym, ap, ◌∙◌, subst, arith, max}
+use Rattle.std.proofs.Common.{◌≡◌, ℕ, zero, suc, ◌+◌, ◌≤◌, ◌==◌, nat_lt, Bool, true, false, if◌then◌else◌, List, [], ◌∷◌, refl, sym, subst, arith, max}
 use Rattle.std.proofs.lemmas.Bool.Decides.{nat_tests}
 use Rattle.rh_sig.specs.declared.named.Named.{Named}
-use Rattle.rh_line.specs.declared.leg.Leg.{Leg}
 use Rattle.rh_line.specs.declared.leg.LegKind.{LegKind}
 use Rattle.rh_shell.specs.Moves.{OnLeg}
 use Rattle.rh_shell.specs.Rules.{Message, Text, Pdu, Packet}
@@ -112,12 +111,12 @@ some_legs test kind (one ∷ log) n = by (some_legs test kind log n) (is_of kind
     by before true e =
         let all = of_one test kind one log true e in
         let sum = sum_one (count_on test kind log) (count_on test kind (one ∷ log)) one.0.number
-            (count_of test (one.1 ∷ [])) (λ k. on_number test kind one log true k e) n in
+        (count_of test (one.1 ∷ [])) (λ k. on_number test kind one log true k e) n in
         grind (arith, nat_tests, all, sum, before)
     by before false e =
         let all = of_one test kind one log false e in
         let sum = sum_same (count_on test kind log) (count_on test kind (one ∷ log))
-            (λ k. other_number test kind one log k e) n in
+        (λ k. other_number test kind one log k e) n in
         omega (arith, all, sum, before)
 
 -- all stand on the legs below some number
@@ -140,7 +139,7 @@ one_more_leg test kind one log before = record {
     by n least true e =
         let all = of_one test kind one log true e in
         let sum = sum_one (count_on test kind log) (count_on test kind (one ∷ log)) one.0.number
-            (count_of test (one.1 ∷ [])) (λ k. on_number test kind one log true k e) n in
+        (count_of test (one.1 ∷ [])) (λ k. on_number test kind one log true k e) n in
         let reach : before.bound ≤ n = grind (arith, nat_tests, least) in
         let here : suc one.0.number ≤ n = grind (arith, nat_tests, least) in
         let rest = before.all n reach in
@@ -148,7 +147,7 @@ one_more_leg test kind one log before = record {
     by n least false e =
         let all = of_one test kind one log false e in
         let sum = sum_same (count_on test kind log) (count_on test kind (one ∷ log))
-            (λ k. other_number test kind one log k e) n in
+        (λ k. other_number test kind one log k e) n in
         let reach : before.bound ≤ n = grind (arith, nat_tests, least) in
         let rest = before.all n reach in
         omega (arith, all, sum, rest)

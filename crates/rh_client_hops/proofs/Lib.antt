@@ -2,7 +2,7 @@ mod Read
 mod Roles
 pub mod Routes
 mod Refusing
-mod Joined
+pub mod Joined
 mod Honest
 mod Stops
 mod Moments

@@ -1,5 +1,5 @@
 -- nodes that are joined by legs, as a count of packets sees them
-use Rattle.std.proofs.Common.{◌≡◌, ℕ, suc, ◌+◌, ◌≤◌, ◌==◌, Bool, true, false, if◌then◌else◌, List, [], ◌∷◌, ◌++◌, refl, sym, ap, subst, arith}
+use Rattle.std.proofs.Common.{◌≡◌, ℕ, ◌≤◌, ◌==◌, Bool, true, false, if◌then◌else◌, List, [], ◌∷◌, refl, sym, ap, subst, arith}
 use Rattle.std.proofs.lemmas.Bool.Decides.{nat_tests}
 use mathlib.Core.List.{IsPrefix}
 use Rattle.rh_text.specs.declared.ends.Dir.{Dir}
@@ -20,7 +20,7 @@ use Rattle.rh_history.specs.Carried.{end_node}
 use Rattle.rh_client.specs.State.{ci}
 use Rattle.rh_reading.specs.Reading.{all_read_of, read_of}
 use Rattle.rh_passages.specs.Passing.{count_of}
-use Rattle.rh_passages.proofs.Messages.{count_append, count_rises}
+use Rattle.rh_passages.proofs.Messages.{count_append}
 use Rattle.rh_chains.specs.Sums.{count_on}
 use Rattle.rh_chains.specs.Ways.{AreFronts, Logs}
 use Rattle.rh_client_hops.proofs.Routes.{AreJoined, Passages, came_to, in_front, put_by}

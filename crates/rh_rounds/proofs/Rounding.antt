@@ -1,6 +1,5 @@
 -- what each role counts, along the ways between them
 use Rattle.std.proofs.Common.{◌≡◌, ℕ, suc, ◌+◌, ◌≤◌, Bool, true, false, if◌then◌else◌, List, [], ◌∷◌, refl, arith}
-use Rattle.std.proofs.lemmas.Bool.Decides.{nat_tests}
 use Rattle.rh_rts.specs.declared.command.Cookie.{Cookie}
 use Rattle.rh_sig.specs.declared.named.Named.{Named}
 use Rattle.rh_sig.specs.declared.named.Named.TheVariants as named
@@ -19,7 +18,7 @@ use Rattle.rh_chains.specs.Sums.{count_on}
 use Rattle.rh_chains.specs.Ways.{AreFronts, Logs, total}
 use Rattle.rh_chains.proofs.Along.{by_in_proxies, by_proxies}
 use Rattle.rh_client_hops.proofs.Routes.{AreJoined, Passages}
-use Rattle.rh_rounds.specs.Rounds.{GoRound, InGoesRound, OutGoesRound, announced, taken_in}
+use Rattle.rh_rounds.specs.Rounds.{GoRound, InGoesRound, OutGoesRound}
 use Rattle.rh_rounds.proofs.Fronts.{are_fronts, logs_of}
 
 -- what each role keeps of its counts
@@ -62,7 +61,7 @@ sum_counts all one other is (Packet named ∷ ms) =
     let c = counted other named ms in
     omega (arith, rest, here, a, b, c)
 
-never : Named → Bool
+abbrev never : Named → Bool
 never named = false
 
 none_count : (ms : List Message) → count_of never ms ≡ 0
@@ -76,11 +75,11 @@ same_counts : (one other : Named → Bool)
     → (ms : List Message) → count_of one ms ≡ count_of other ms
 same_counts one other is ms =
     let sum = sum_counts one other never
-        (λ (named : Named). let same = is named in omega (arith, same)) ms in
+    (λ (named : Named). let same = is named in omega (arith, same)) ms in
     let none = none_count ms in
     omega (arith, sum, none)
 
-any : Cookie → Bool
+abbrev any : Cookie → Bool
 any cookie = true
 
 answers : (named : Named) → once (at_client.is_in_a4 named)
@@ -205,11 +204,11 @@ module _ (readers : List ℕ) (all : Passages) (joined : AreJoined readers all)
         let first = down at_proxy.is_in_r1_a3 at_proxy.is_in_r1_a4 (λ n. (known.outs n).in_r1) in
         let same = down at_proxy.is_in_r2_a3 at_proxy.is_in_r2_a4 (λ n. (known.outs n).in_r2) in
         let sum = sum_counts at_client.is_in_a4 at_proxy.is_in_r1_a4 at_proxy.is_in_r2_a4 answers
-            (of_kind ClientOut all.client.came) in
+        (of_kind ClientOut all.client.came) in
         let r1 = same_counts at_proxy.is_in_r1_a3 at_server.is_in_r1_a3 r1_answers
-            (of_kind OutServer all.server.put) in
+        (of_kind OutServer all.server.put) in
         let r2 = same_counts at_proxy.is_in_r2_a3 at_server.is_in_r2_a3 r2_answers
-            (of_kind OutServer all.server.put) in
+        (of_kind OutServer all.server.put) in
         omega (arith, first, same, sum, r1, r2);
     a3_behind_a2 =
         let r1 = known.server_ins.in_r1_at_most in
@@ -217,11 +216,11 @@ module _ (readers : List ℕ) (all : Passages) (joined : AreJoined readers all)
         omega (arith, r1, r2);
     a2_behind_a1 =
         let way = up (at_proxy.is_in_r1_a1 any) (at_proxy.is_in_a2 any)
-            (λ m. (known.ins m).successors any) in
+        (λ m. (known.ins m).successors any) in
         let sum = sum_counts (at_proxy.is_in_a2 any) at_server.is_in_r1_a2 at_server.is_in_r2_a2
-            announcements (of_kind InServer all.server.came) in
+        announcements (of_kind InServer all.server.came) in
         let one = same_counts (at_proxy.is_in_r1_a1 any) at_client.is_in_r1_a1 asks
-            (of_kind ClientIn all.client.put) in
+        (of_kind ClientIn all.client.put) in
         omega (arith, way, sum, one);
     a1_behind_a4 = known.client_ins.one;
   }
@@ -230,47 +229,47 @@ module _ (readers : List ℕ) (all : Passages) (joined : AreJoined readers all)
   out_round = record {
     a10_behind_a9 =
         let way = down at_proxy.is_out_r1_a9 at_proxy.is_out_r1_a10
-            (λ n. (known.outs n).handover) in
+        (λ n. (known.outs n).handover) in
         let here = same_counts at_proxy.is_out_r1_a10 at_client.is_out_r1_a10 finishes
-            (of_kind ClientOut all.client.came) in
+        (of_kind ClientOut all.client.came) in
         let there = same_counts at_proxy.is_out_r1_a9 at_server.is_out_r1_a9 hands_over
-            (of_kind OutServer all.server.put) in
+        (of_kind OutServer all.server.put) in
         omega (arith, way, here, there);
     a9_behind_a8 = known.server_outs.a9_behind_a8;
     a8_behind_a7 =
         let way = up (at_proxy.is_out_r1_a7 any) (at_proxy.is_out_r1_a8 any)
-            (λ m. (known.ins m).answers any) in
+        (λ m. (known.ins m).answers any) in
         let here = same_counts (at_proxy.is_out_r1_a8 any) at_server.is_out_r1_a8 confirms
-            (of_kind InServer all.server.came) in
+        (of_kind InServer all.server.came) in
         let there = same_counts (at_proxy.is_out_r1_a7 any) at_client.is_out_r1_a7 switches
-            (of_kind ClientIn all.client.put) in
+        (of_kind ClientIn all.client.put) in
         omega (arith, way, here, there);
     a7_behind_a6 = known.client_outs.answered;
     a6_behind_a5 =
         let way = down at_proxy.is_out_r1_a5 at_proxy.is_out_r1_a6
-            (λ n. (known.outs n).answers) in
+        (λ n. (known.outs n).answers) in
         let here = same_counts at_proxy.is_out_r1_a6 at_client.is_out_r1_a6 agrees
-            (of_kind ClientOut all.client.came) in
+        (of_kind ClientOut all.client.came) in
         let there = same_counts at_proxy.is_out_r1_a5 at_server.is_out_r1_a5 grants
-            (of_kind OutServer all.server.put) in
+        (of_kind OutServer all.server.put) in
         omega (arith, way, here, there);
     a5_behind_a4 = known.server_outs.a5_behind_a4;
     a4_behind_a3 =
         let way = back at_proxy.is_out_r1_a3 at_proxy.is_out_r1_a4
-            (λ n. (known.opens n).successor) in
+        (λ n. (known.opens n).successor) in
         let here = same_counts at_proxy.is_out_r1_a4 at_server.is_out_r1_a4 begins
-            (of_kind OutServer all.server.came) in
+        (of_kind OutServer all.server.came) in
         let there = same_counts at_proxy.is_out_r1_a3 at_client.is_out_r1_a3 opens_next
-            (of_kind ClientOut all.client.put) in
+        (of_kind ClientOut all.client.put) in
         omega (arith, way, here, there);
     a3_behind_a2 = known.client_asks.wanted;
     a2_behind_a1 =
         let way = down at_proxy.is_out_r1_a1 at_proxy.is_out_r1_a2
-            (λ n. (known.outs n).wishes) in
+        (λ n. (known.outs n).wishes) in
         let here = same_counts at_proxy.is_out_r1_a2 at_client.is_out_r1_a2 wishes
-            (of_kind ClientOut all.client.came) in
+        (of_kind ClientOut all.client.came) in
         let there = same_counts at_proxy.is_out_r1_a1 at_server.is_out_r1_a1 wants
-            (of_kind OutServer all.server.put) in
+        (of_kind OutServer all.server.put) in
         omega (arith, way, here, there);
     a1_behind_a9 = let one = known.server_outs.a1_behind_a9 in omega (arith, one);
   }
