@@ -1,0 +1,5 @@
+mod Legs
+mod Steps
+mod Keeps
+mod Items
+mod Refusals
