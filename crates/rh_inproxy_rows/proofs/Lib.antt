@@ -2,4 +2,6 @@ mod Legs
 mod Steps
 mod Keeps
 mod Items
+mod Answered
+mod Channels
 mod Refusals

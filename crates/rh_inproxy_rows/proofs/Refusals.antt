@@ -61,222 +61,33 @@ use Rattle.rh_inproxy_rows.specs.Refusing.{HasPacket, HasPdu, HasPduIn, IsEnded,
 use Rattle.rh_inproxy_rows.proofs.Items.{below_ended, came_is, ended_has, handed_counts, pdus_have}
 use Rattle.rh_inproxy_rows.proofs.Legs.{All, IsBehind, Joins, Opened, Opens, Starts, bound, client_is, last, plain, seen}
 use Rattle.rh_inproxy_rows.proofs.Steps.{is_opened, newcomer_is}
-
--- ---- answers
-
--- what is so of an answer that refuses as unexpected, or for a cookie
-abbrev pub Refuses : Type 0 → (Cookie → Cookie → Type 0) → Done → Type 0
-Refuses U M (t, Ok done) = Unit {0}
-Refuses U M (t, Err refused.Unexpected) = U
-Refuses U M (t, Err (refused.Cookie expected got)) = M expected got
-Refuses U M (t, Err why) = Unit {0}
-
-module _ (U : Type 0) (M : Cookie → Cookie → Type 0) where
-  pub so_unexpected : (x : Done) → Refuses U M x → x.1 ≡ Err refused.Unexpected → U
-  so_unexpected (t, Ok done) h e = absurd cc
-  so_unexpected (t, Err refused.Unexpected) h e = h
-  so_unexpected (t, Err (refused.Cookie expected got)) h e = absurd cc
-  so_unexpected (t, Err (refused.Window exceeded)) h e = absurd cc
-  so_unexpected (t, Err (refused.OutOfRange command value)) h e = absurd cc
-  so_unexpected (t, Err (refused.Full leg)) h e = absurd cc
-
-  pub so_mismatch : (x : Done) (expected got : Cookie) → Refuses U M x
-      → x.1 ≡ Err (refused.Cookie expected got) → M expected got
-  so_mismatch (t, Ok done) expected got h e = absurd cc
-  so_mismatch (t, Err refused.Unexpected) expected got h e = absurd cc
-  so_mismatch (t, Err (refused.Cookie a b)) expected got h e =
-      let first : a ≡ expected = cc in
-      let second : b ≡ got = cc in
-      subst (λ (x : Cookie). M x got) first (subst (λ (y : Cookie). M a y) second h)
-  so_mismatch (t, Err (refused.Window exceeded)) expected got h e = absurd cc
-  so_mismatch (t, Err (refused.OutOfRange command value)) expected got h e = absurd cc
-  so_mismatch (t, Err (refused.Full leg)) expected got h e = absurd cc
-
-  forwards : (t : InProxy) (m : Named) → Refuses U M (forwarded t m)
-  forwards t m = by (waiting.forwarded t.waiting m)
-    where
-      by : (x : waiting.Waiting × Bool) → Refuses U M (forward_by t x)
-      by (w, true) = tt
-      by (w, false) = tt
-
-  acks : (t : InProxy) (x : Result (Unit {0}) BadAck) → Refuses U M (acked_by t x)
-  acks t (Ok applied) = tt
-  acks t (Err bad) = tt
-
-differs : (a b : Cookie) → same_cookie a b ≡ false → a ≡ b → ⊥
-differs a b e is =
-    let yes = (bytes_eq-Decides a.0 b.0).1 (ap (λ (c : Cookie). c.0) is) in absurd cc
-
-not_same : (a b : Cookie) → not (same_cookie a b) ≡ true → a ≡ b → ⊥
-not_same a b e = by (same_cookie a b) refl e
-  where
-    by : (t : Bool) → same_cookie a b ≡ t → not t ≡ true → a ≡ b → ⊥
-    by true f e is = absurd cc
-    by false f e is = differs a b f is
-
-and_second : (a b : Bool) → (a && b) ≡ false → a ≡ true → b ≡ false
-and_second true b e f = e
-and_second false b e f = absurd cc
-
-plain_joined : (z : Successor) → is_joined (plain z) ≡ is_joined z
-plain_joined Absent = refl
-plain_joined (Up number) = refl
-plain_joined (Joined leg stage) = refl
-
--- ---- what is known of it
+use Rattle.rh_inproxy_rows.proofs.Answered.{Refuses, acks, differs, forwards, not_same, so_mismatch, so_unexpected}
+use Rattle.rh_inproxy_rows.proofs.Channels.{At, Carries}
 
 module _ (n : ℕ) (p : Passage InProxy) (known : All n (seen p.role) p.came)
-    (order : PasserLaw (passer_of p.role) n (came_log p.came) (put_items p.put)) where
+    (carries : Carries p) where
   abbrev s : InProxy
   s = p.role
 
   abbrev c : ℕ
   c = p.role.current.number
 
-  -- ---- the channel of a ci leg
-
-  abbrev At : ℕ → Which → Type 0
-  At k Current = c ≡ k
-  At k Next = (suc c ≡ k) × (is_joined p.role.successor ≡ true)
-
-  at_next : (z : Successor) (k : ℕ) (which : Which) → IsBehind c (plain z)
-      → next_of z k ≡ Some which
-      → (which ≡ Next) × (suc c ≡ k) × (is_joined z ≡ true)
-  at_next Absent k which b e = absurd cc
-  at_next (Up number) k which b e = absurd cc
-  at_next (Joined leg stage) k which b e = by (leg.number == k) refl e
-    where
-      by : (t : Bool) → (leg.number == k) ≡ t → (if t then Some Next else None) ≡ Some which
-          → (which ≡ Next) × (suc c ≡ k) × (true ≡ true)
-      by true t e =
-          let is : which ≡ Next = cc in (is, sym b ∙ eqb-true leg.number k t, refl)
-      by false t e = absurd cc
-
-  at : (k : ℕ) (which : Which) → channel_of s k ≡ Some which → At k which
-  at k which e = by (has_opened s.opening && (c == k)) refl e
-    where
-      by : (t : Bool) → (has_opened s.opening && (c == k)) ≡ t
-          → (if t then Some Current else next_of s.successor k) ≡ Some which → At k which
-      by true t e =
-          let is : which ≡ Current = cc in
-          subst (At k) (sym is)
-          (eqb-true c k (and_parts (has_opened s.opening) (c == k) t).1)
-      by false t e =
-          let found = at_next s.successor k which known.behind e in
-          subst (At k) (sym found.0) (found.1, found.2)
-
-  -- no packet came where there is none
-  none_by : (o : Option Opener) (z : Successor) (k : ℕ) → c ≤ k
-      → (is_some o ≡ true → (c == k) ≡ false) → IsBehind c (plain z) → next_of z k ≡ None
-      → bound n o s.current (plain z) ≤ k
-  none_by None z k from apart b e = let least = known.from in omega (arith, least, from)
-  none_by (Some o) Absent k from apart b e = let f = apart refl in grind (arith, nat_tests)
-  none_by (Some o) (Up number) k from apart b e = let f = apart refl in grind (arith, nat_tests)
-  none_by (Some o) (Joined leg stage) k from apart b e =
-      let f = apart refl in by f (leg.number == k) refl e
-    where
-      by : (c == k) ≡ false → (t : Bool) → (leg.number == k) ≡ t
-          → (if t then Some Next else None) ≡ None → suc leg.number ≤ k
-      by f true t e = absurd cc
-      by f false t e = grind (arith, nat_tests)
-
-  is_new : (k : ℕ) → c ≤ k → channel_of s k ≡ None → IsNew p k
-  is_new k from e = known.fresh k (by (has_opened s.opening && (c == k)) refl e)
-    where
-      by : (t : Bool) → (has_opened s.opening && (c == k)) ≡ t
-          → (if t then Some Current else next_of s.successor k) ≡ None
-          → bound n (opener_of s.opening) s.current (plain s.successor) ≤ k
-      by true t e = absurd cc
-      by false t e =
-          none_by (opener_of s.opening) s.successor k from
-          (λ some. and_second (has_opened s.opening) (c == k) t (is_opened s.opening ∙ some))
-          known.behind e
-
-  -- ---- what came there
-
-  next_is : (z : Successor) → is_joined z ≡ true
-      → shelf s.line.next (has_come s.handover) ≡ next_shelf s.line.next z s.handover
-  next_is Absent e = absurd cc
-  next_is (Up number) e = absurd cc
-  next_is (Joined leg stage) e = refl
-
-  left_at : (k : ℕ) → has_handover (came_log p.came k) ≡ true → IsLeft p k
-  left_at k e =
-      handed_counts (of_leg (ci_leg k) p.came)
-      (sym (ap has_handover (came_is k p.came)) ∙ e)
-
-  ended_at : (k : ℕ) → has_end (came_log p.came k) ≡ true → IsEnded p k
-  ended_at k e =
-      ended_has (of_leg (ci_leg k) p.came) (sym (ap has_end (came_is k p.came)) ∙ e)
-
-  pdu_at : (k : ℕ) → line.is_empty (pdus (came_log p.came k)) ≡ false → HasPdu p k
-  pdu_at k e =
-      pdus_have (of_leg (ci_leg k) p.came)
-      (sym (ap (λ items. line.is_empty (pdus items)) (came_is k p.came)) ∙ e)
-
-  left : (k : ℕ) (which : Which) → At k which → has_a5 s which ≡ true → IsLeft p k
-  left k Current at e =
-      subst (IsLeft p) at (left_at c (sym order.shelved.holds.finished ∙ e))
-  left k Next at e =
-      subst (IsLeft p) at.0 (left_at (suc c) (sym order.shelved.holds.next_finished
-      ∙ sym (ap (λ (x : Shelf). x.finished) (next_is s.successor at.1)) ∙ e))
-
-  ended : (k : ℕ) (which : Which) → At k which → (line.channel_of s.line which).ended ≡ true
-      → IsEnded p k
-  ended k Current at e =
-      subst (IsEnded p) at (ended_at c (sym order.shelved.holds.ended ∙ e))
-  ended k Next at e =
-      subst (IsEnded p) at.0 (ended_at (suc c) (sym order.shelved.holds.next_ended
-      ∙ sym (ap (λ (x : Shelf). x.ended) (next_is s.successor at.1)) ∙ e))
-
-  has_pdu : (k : ℕ) → At k Current → has_later s Current ≡ true → HasPdu p (suc k)
-  has_pdu k at e =
-      let parts = and_parts s.line.has_next (not (line.is_empty s.line.next.pdus)) e in
-      let there : is_joined s.successor ≡ true =
-      sym (plain_joined s.successor) ∙ sym known.joined ∙ parts.0 in
-      let some : line.is_empty s.line.next.pdus ≡ false = by (line.is_empty s.line.next.pdus)
-      parts.1 in
-      subst (λ (j : ℕ). HasPdu p (suc j)) at (pdu_at (suc c)
-      (sym (ap line.is_empty order.shelved.holds.follows)
-      ∙ sym (ap (λ (x : Shelf). line.is_empty x.held) (next_is s.successor there)) ∙ some))
-    where
-      by : (t : Bool) → not t ≡ true → t ≡ false
-      by true e = absurd cc
-      by false e = refl
-
-  ended_before : (k : ℕ) (which : Which) → At k which → line.is_ended s.line ≡ true
-      → (j : ℕ) × (j ≤ k) × IsEnded p j
-  ended_before k which at e = by (or_cases s.line.was_ended s.line.current.ended e)
-    where
-      least : (which : Which) → At k which → c ≤ k
-      least Current at = omega (arith, at)
-      least Next at = let is = at.0 in omega (arith, is)
-
-      by : (s.line.was_ended ≡ true) ⊎ (s.line.current.ended ≡ true)
-          → (j : ℕ) × (j ≤ k) × IsEnded p j
-      by (inl before) =
-          let found = below_ended (came_log p.came) c (sym order.shelved.holds.was_ended ∙ before)
-          in let less = found.1 in
-          let up = least which at in
-          (found.0, omega (arith, less, up), ended_at found.0 found.2)
-      by (inr now) = (c, least which at, ended_at c (sym order.shelved.holds.ended ∙ now))
-
   -- ---- rows of a channel
 
   abbrev On : ℕ → Named → Done → Type 0
   On k m x = Refuses (UnexpectedOnClient n p k m) (Mismatch n p (ci_leg k) m) x
 
-  unmet : (k : ℕ) (which : Which) (to want : ℕ) → At k which
+  unmet : (k : ℕ) (which : Which) (to want : ℕ) → At s k which
       → (not (has_a5 s which) && (to == want)) ≡ false
       → (to ≡ want → ⊥) ⊎ IsNew p k ⊎ IsLeft p k
   unmet k which to want at e = by (has_a5 s which) refl e
     where
       by : (t : Bool) → has_a5 s which ≡ t → (not t && (to == want)) ≡ false
           → (to ≡ want → ⊥) ⊎ IsNew p k ⊎ IsLeft p k
-      by true t e = inr (inr (left k which at t))
+      by true t e = inr (inr (carries.left k which at t))
       by false t e = inl (other_number to want e)
 
-  stops : (k : ℕ) (which : Which) → At k which
+  stops : (k : ℕ) (which : Which) → At s k which
       → (has_a5 s which || (line.channel_of s.line which).ended || has_later s which) ≡ true
       → IsNew p k ⊎ IsLeft p k ⊎ IsEnded p k ⊎ HasPdu p (suc k)
   stops k which at e =
@@ -284,12 +95,12 @@ module _ (n : ℕ) (p : Passage InProxy) (known : All n (seen p.role) p.came)
     where
       one : (has_a5 s which ≡ true) ⊎ ((line.channel_of s.line which).ended ≡ true)
           → IsNew p k ⊎ IsLeft p k ⊎ IsEnded p k ⊎ HasPdu p (suc k)
-      one (inl t) = inr (inl (left k which at t))
-      one (inr t) = inr (inr (inl (ended k which at t)))
+      one (inl t) = inr (inl (carries.left k which at t))
+      one (inr t) = inr (inr (inl (carries.ended k which at t)))
 
-      later : (w : Which) → At k w → has_later s w ≡ true
+      later : (w : Which) → At s k w → has_later s w ≡ true
           → IsNew p k ⊎ IsLeft p k ⊎ IsEnded p k ⊎ HasPdu p (suc k)
-      later Current at t = inr (inr (inr (has_pdu k at t)))
+      later Current at t = inr (inr (inr (carries.has_pdu k at t)))
       later Next at t = absurd cc
 
       by : ((has_a5 s which || (line.channel_of s.line which).ended) ≡ true)
@@ -311,13 +122,13 @@ module _ (n : ℕ) (p : Passage InProxy) (known : All n (seen p.role) p.came)
       subst (λ (i : ℕ). HasOne (BeginsIn leg.cookie) (of_leg (ci_leg i) p.came)) (b ∙ ap suc at)
       j)))
 
-  a5_row : (k : ℕ) (which : Which) (cookie : Cookie) → At k which
+  a5_row : (k : ℕ) (which : Which) (cookie : Cookie) → At s k which
       → On k (named.InR1A5 cookie) (on_in_r1_a5 s which cookie)
   a5_row k which cookie at =
       by_test (On k (named.InR1A5 cookie)) (has_a5 s which) (unexpected s)
       (hand_over s which cookie) (λ e. tt) (λ e. by which at)
     where
-      by : (w : Which) → At k w → On k (named.InR1A5 cookie) (hand_over s w cookie)
+      by : (w : Which) → At s k w → On k (named.InR1A5 cookie) (hand_over s w cookie)
       by Current at = a5_by k s.successor cookie at known.behind known.joins
       by Next at = tt
 
@@ -327,7 +138,7 @@ module _ (n : ℕ) (p : Passage InProxy) (known : All n (seen p.role) p.came)
   IsOther (named.InR1A1 version connection predecessor channel) = ⊥
   IsOther m = Unit {0}
 
-  channel_row : (k : ℕ) (which : Which) (m : Named) → IsOther m → At k which
+  channel_row : (k : ℕ) (which : Which) (m : Named) → IsOther m → At s k which
       → On k m (on_channel s which m)
   channel_row k which (named.ConnB1 version connection channel lifetime keepalive group) other at =
       absurd other
@@ -348,7 +159,7 @@ module _ (n : ℕ) (p : Passage InProxy) (known : All n (seen p.role) p.came)
       (λ e. unmet k which to 2 at e)
   channel_row k which (named.KeepAlive keepalive) other at =
       by_test (On k (named.KeepAlive keepalive)) (has_a5 s which) (unexpected s)
-      (taken (record s { keepalive = kept_for keepalive })) (λ e. inr (left k which at e))
+      (taken (record s { keepalive = kept_for keepalive })) (λ e. inr (carries.left k which at e))
       (λ e. tt)
   channel_row k which named.EndA1 other at =
       by_test (On k named.EndA1)
@@ -370,8 +181,8 @@ module _ (n : ℕ) (p : Passage InProxy) (known : All n (seen p.role) p.came)
 
   by_channel_row : (k : ℕ) (o : Option Which) (m : Named) → IsOther m → c ≤ k
       → channel_of s k ≡ o → On k m (on_channel_by s o m)
-  by_channel_row k None m other from e = new_so k m other (is_new k from e)
-  by_channel_row k (Some which) m other from e = channel_row k which m other (at k which e)
+  by_channel_row k None m other from e = new_so k m other (carries.is_new k from e)
+  by_channel_row k (Some which) m other from e = channel_row k which m other (carries.at k which e)
 
   -- ---- first packets
 
@@ -511,13 +322,13 @@ module _ (n : ℕ) (p : Passage InProxy) (known : All n (seen p.role) p.came)
   abbrev OnPdu : ℕ → Done → Type 0
   OnPdu k x = Refuses (UnexpectedPdu p (ci_leg k)) (λ expected got. ⊥) x
 
-  verdict_row : (k : ℕ) (which : Which) (bytes : List ℕ) (t : InProxy) → At k which
+  verdict_row : (k : ℕ) (which : Which) (bytes : List ℕ) (t : InProxy) → At s k which
       → OnPdu k (pdu_by t (line.admit_verdict s.line which bytes))
   verdict_row k which bytes t at =
       by_test (λ (v : Result (Unit {0}) LineFault). OnPdu k (pdu_by t v))
       (line.channel_of s.line which).ended (Err Over)
       (line.by_window (windows.admit_verdict (line.channel_of s.line which).window (length bytes)))
-      (λ e. inr (inr (k, omega arith, ended k which at e)))
+      (λ e. inr (inr (k, omega arith, carries.ended k which at e)))
       (λ e. by (windows.admit_verdict (line.channel_of s.line which).window (length bytes)))
     where
       by : (v : Result (Unit {0}) WindowExceeded) → OnPdu k (pdu_by t (line.by_window v))
@@ -526,19 +337,19 @@ module _ (n : ℕ) (p : Passage InProxy) (known : All n (seen p.role) p.came)
 
   pdu_row : (k : ℕ) (o : Option Which) (bytes : List ℕ) → c ≤ k → channel_of s k ≡ o
       → OnPdu k (machine_pdu_by s o bytes)
-  pdu_row k None bytes busy e = inl (is_new k busy e)
+  pdu_row k None bytes busy e = inl (carries.is_new k busy e)
   pdu_row k (Some which) bytes busy e =
       by_test (OnPdu k) (has_a5 s which || line.is_ended s.line) (unexpected s)
       (pdu_by (record s { line = line.after_admit s.line which bytes })
       (line.admit_verdict s.line which bytes))
       (λ t. by (or_cases (has_a5 s which) (line.is_ended s.line) t))
       (λ t. verdict_row k which bytes (record s { line = line.after_admit s.line which bytes })
-      (at k which e))
+      (carries.at k which e))
     where
       by : (has_a5 s which ≡ true) ⊎ (line.is_ended s.line ≡ true)
           → UnexpectedPduBy p k ClientIn
-      by (inl t) = inr (inl (left k which (at k which e) t))
-      by (inr t) = inr (inr (ended_before k which (at k which e) t))
+      by (inl t) = inr (inl (carries.left k which (carries.at k which e) t))
+      by (inr t) = inr (inr (carries.ended_before k which (carries.at k which e) t))
 
   -- ---- from the server
 
