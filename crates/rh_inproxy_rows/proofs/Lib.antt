@@ -5,3 +5,4 @@ mod Items
 mod Answered
 mod Channels
 mod Refusals
+mod Telling

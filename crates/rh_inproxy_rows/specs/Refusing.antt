@@ -1,9 +1,9 @@
 -- what is so in an in proxy's logs where it refuses what comes (MS-RPCH 3.2; replacement and the
 -- end are this profile's)
-use Rattle.std.specs.Prelude.{ℕ, suc, ◌≡◌, ◌⊎◌, ◌≤◌, Bool, true, List, [], ◌∷◌, IsTrue, Err}
+use Rattle.std.specs.Prelude.{ℕ, suc, ◌+◌, ◌≡◌, ◌⊎◌, ◌≤◌, Bool, true, false, List, [], ◌∷◌, IsTrue, Err}
 use Rattle.rh_rts.specs.declared.command.Cookie.{Cookie}
 use Rattle.rh_sig.specs.declared.named.Named.{Named}
-use Rattle.rh_sig.specs.declared.named.Named.TheVariants.{ConnB1, ConnB3, InR1A1, InR1A5, InR1B1, InR1B2, OutR1A7, EndA1, Ack, AckTo, KeepAlive}
+use Rattle.rh_sig.specs.declared.named.Named.TheVariants.{ConnB1, ConnB3, InR1A1, InR1A5, InR1B1, InR1B2, InR2A2, OutR1A7, EndA1, Ack, AckTo, KeepAlive}
 use Rattle.rh_line.specs.declared.leg.Leg.{Leg}
 use Rattle.rh_line.specs.declared.leg.LegKind.{LegKind}
 use Rattle.rh_line.specs.declared.leg.LegKind.TheVariants.{ClientOut, OutServer, ClientIn, InServer}
@@ -48,6 +48,16 @@ HasPduIn (Packet named ∷ messages) = HasPduIn messages
 -- an RPC PDU
 abbrev pub HasPdu : Passage InProxy → ℕ → Type 0
 HasPdu p n = HasPduIn (of_leg (ci_leg n) p.came)
+
+abbrev pub is_in_r2_a2 : Named → Bool
+is_in_r2_a2 (InR2A2 successor) = true
+is_in_r2_a2 packet = false
+
+-- the next ci leg was up, and IN_R2/A2 was put for the later ones up to this one at most
+abbrev pub IsUntold : ℕ → Passage InProxy → ℕ → Type 0
+IsUntold first p n =
+    IsTrue (rules.was_up p.role (ci_leg (suc n)))
+    × (first + count_of is_in_r2_a2 (of_leg (is_leg first) p.put) ≤ n)
 
 -- ---- unexpected
 
