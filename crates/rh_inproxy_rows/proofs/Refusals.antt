@@ -49,7 +49,7 @@ use Rattle.rh_inproxy.specs.InReplacement.{finish_by, finished, hand_over, hande
 use Rattle.rh_inproxy.specs.Opening.{had_client, was_up, is_connection, is_first, is_replacement, is_unknown, kept_for, newest, newest_by, on_first_in_r1_a1, opened, opener, opener_of, with_edge, awaits_packet}
 use Rattle.rh_inproxy.specs.Order.{came_log, next_shelf, passer_of, put_items, shelf}
 use Rattle.rh_inproxy.specs.Passing.{on_pdu, pdu_by}
-use Rattle.rh_inproxy.specs.State.{InProxy, channel_of, has_a5, has_come, has_opened, is_client_leg, is_joined, is_server_leg, next_of, same_cookie}
+use Rattle.rh_inproxy.specs.State.{InProxy, channel_of, hands_over, has_a5, has_come, has_opened, is_client_leg, is_joined, is_server_leg, next_of, same_cookie}
 use Rattle.rh_inproxy.specs.Machine.{on_channel, on_channel_by, on_ci, on_is, packet, pdu, rules}
 use Rattle.rh_inproxy.specs.Machine.{pdu_by as machine_pdu_by}
 use Rattle.rh_passages.specs.Passing.{BeginsIn, Has, HasOne, count_of, of_kind}
@@ -57,15 +57,18 @@ use Rattle.rh_passages.proofs.Messages.{one_so}
 use Rattle.rh_proxy_counts.specs.InCounts.{is_leg}
 use Rattle.rh_proxy_counts.proofs.Counts.{leg_is}
 use Rattle.rh_proxy_counts.specs.Kinds.{is_in_r1_a6, opens_server}
-use Rattle.rh_inproxy_rows.specs.Refusing.{HasPacket, HasPdu, HasPduIn, IsEnded, IsLeft, IsNew, Mismatch, NamesConnection, RefusesFor, Unexpected, UnexpectedOnClient, UnexpectedOnServer, UnexpectedPdu, UnexpectedPduBy, ci_leg}
+use Rattle.rh_inproxy_rows.specs.Refusing.{HasPacket, HasPdu, HasPduIn, IsEnded, IsLeft, IsNew, IsUntold, is_in_r2_a2, Mismatch, NamesConnection, RefusesFor, Unexpected, UnexpectedOnClient, UnexpectedOnServer, UnexpectedPdu, UnexpectedPduBy, ci_leg}
 use Rattle.rh_inproxy_rows.proofs.Items.{below_ended, came_is, ended_has, handed_counts, pdus_have}
 use Rattle.rh_inproxy_rows.proofs.Legs.{All, IsBehind, Joins, Opened, Opens, Starts, bound, client_is, last, plain, seen}
 use Rattle.rh_inproxy_rows.proofs.Steps.{is_opened, newcomer_is}
 use Rattle.rh_inproxy_rows.proofs.Answered.{Refuses, acks, differs, forwards, not_same, so_mismatch, so_unexpected}
 use Rattle.rh_inproxy_rows.proofs.Channels.{At, Carries}
+use Rattle.rh_inproxy_rows.proofs.Telling.{told}
 
 module _ (n : ℕ) (p : Passage InProxy) (known : All n (seen p.role) p.came)
-    (carries : Carries p) where
+    (carries : Carries p)
+    (tells : n + count_of is_in_r2_a2 (of_leg (is_leg n) p.put)
+    ≤ told p.role.current.number p.role.successor) where
   abbrev s : InProxy
   s = p.role
 
@@ -109,27 +112,48 @@ module _ (n : ℕ) (p : Passage InProxy) (known : All n (seen p.role) p.came)
       by (inl t) = one (or_cases (has_a5 s which) (line.channel_of s.line which).ended t)
       by (inr t) = later which at t
 
-  a5_by : (k : ℕ) (z : Successor) (cookie : Cookie) → c ≡ k → IsBehind c (plain z)
-      → Joins (plain z) p.came → On k (named.InR1A5 cookie) (finish_by s z cookie)
-  a5_by k Absent cookie at b j = tt
-  a5_by k (Up number) cookie at b j = tt
-  a5_by k (Joined leg (TellsServer behind)) cookie at b j = tt
-  a5_by k (Joined leg Follows) cookie at b j = tt
-  a5_by k (Joined leg Told) cookie at b j =
+  next_up : (k : ℕ) → had_client s.opening ≡ true → c ≡ k → suc k ≤ newest s
+      → was_up s (ci_leg (suc k)) ≡ true
+  next_up k had at up =
+      let from = known.from in
+      let number = known.number in
+      let least : s.config.number ≤ suc k = omega (arith, from, number, at) in
+      grind (arith, nat_tests)
+
+  untold : (k : ℕ) (z : Successor) → s.successor ≡ z → had_client s.opening ≡ true → c ≡ k
+      → newest_by s.current z ≡ suc c
+      → n + count_of is_in_r2_a2 (of_leg (is_leg n) p.put) ≤ c → IsUntold n p k
+  untold k z e had at is tells =
+      let newest_is = ap (newest_by s.current) e in
+      (next_up k had at (omega (arith, newest_is, is, at)), omega (arith, at, tells))
+
+  a5_by : (k : ℕ) (z : Successor) (cookie : Cookie) → s.successor ≡ z
+      → had_client s.opening ≡ true → c ≡ k → IsBehind c (plain z) → Joins (plain z) p.came
+      → n + count_of is_in_r2_a2 (of_leg (is_leg n) p.put) ≤ told c z
+      → On k (named.InR1A5 cookie) (finish_by s z cookie)
+  a5_by k Absent cookie e had at b j tells = tt
+  a5_by k (Up number) cookie e had at b j tells =
+      inr (inr (untold k (Up number) e had at b tells))
+  a5_by k (Joined leg (TellsServer behind)) cookie e had at b j tells =
+      inr (inr (untold k (Joined leg (TellsServer behind)) e had at b tells))
+  a5_by k (Joined leg Follows) cookie e had at b j tells =
+      inr (inl (carries.left k Current at
+      (ap (λ (z : Successor). hands_over z s.handover) e)))
+  a5_by k (Joined leg Told) cookie e had at b j tells =
       by_test (On k (named.InR1A5 cookie)) (same_cookie leg.cookie cookie)
       (taken (finished s leg)) (refuse s (refused.Cookie leg.cookie cookie)) (λ t. tt)
       (λ t. (differs leg.cookie cookie t, (refl,
       subst (λ (i : ℕ). HasOne (BeginsIn leg.cookie) (of_leg (ci_leg i) p.came)) (b ∙ ap suc at)
       j)))
 
-  a5_row : (k : ℕ) (which : Which) (cookie : Cookie) → At s k which
+  a5_row : (k : ℕ) (which : Which) (cookie : Cookie) → had_client s.opening ≡ true → At s k which
       → On k (named.InR1A5 cookie) (on_in_r1_a5 s which cookie)
-  a5_row k which cookie at =
+  a5_row k which cookie had at =
       by_test (On k (named.InR1A5 cookie)) (has_a5 s which) (unexpected s)
-      (hand_over s which cookie) (λ e. tt) (λ e. by which at)
+      (hand_over s which cookie) (λ e. inr (inl (carries.left k which at e))) (λ e. by which at)
     where
       by : (w : Which) → At s k w → On k (named.InR1A5 cookie) (hand_over s w cookie)
-      by Current at = a5_by k s.successor cookie at known.behind known.joins
+      by Current at = a5_by k s.successor cookie refl had at known.behind known.joins tells
       by Next at = tt
 
   -- it is neither CONN/B1 nor IN_R1/A1
@@ -138,36 +162,37 @@ module _ (n : ℕ) (p : Passage InProxy) (known : All n (seen p.role) p.came)
   IsOther (named.InR1A1 version connection predecessor channel) = ⊥
   IsOther m = Unit {0}
 
-  channel_row : (k : ℕ) (which : Which) (m : Named) → IsOther m → At s k which
+  channel_row : (k : ℕ) (which : Which) (m : Named) → IsOther m
+      → had_client s.opening ≡ true → At s k which
       → On k m (on_channel s which m)
-  channel_row k which (named.ConnB1 version connection channel lifetime keepalive group) other at =
+  channel_row k which (named.ConnB1 version connection channel lifetime keepalive group) other had at
+      = absurd other
+  channel_row k which (named.InR1A1 version connection predecessor channel) other had at =
       absurd other
-  channel_row k which (named.InR1A1 version connection predecessor channel) other at =
-      absurd other
-  channel_row k which (named.AckTo to received available channel) other at =
+  channel_row k which (named.AckTo to received available channel) other had at =
       by_test (On k (named.AckTo to received available channel))
       (not (has_a5 s which) && (to == 3)) (forwarded s (named.AckTo 3 received available channel))
       (unexpected s)
       (λ e. forwards (UnexpectedOnClient n p k (named.AckTo to received available channel))
       (Mismatch n p (ci_leg k) (named.AckTo to received available channel)) s
       (named.AckTo 3 received available channel)) (λ e. unmet k which to 3 at e)
-  channel_row k which (named.OutR1A7 to successor) other at =
+  channel_row k which (named.OutR1A7 to successor) other had at =
       by_test (On k (named.OutR1A7 to successor)) (not (has_a5 s which) && (to == 2))
       (forwarded s (named.OutR1A8 2 successor)) (unexpected s)
       (λ e. forwards (UnexpectedOnClient n p k (named.OutR1A7 to successor))
       (Mismatch n p (ci_leg k) (named.OutR1A7 to successor)) s (named.OutR1A8 2 successor))
       (λ e. unmet k which to 2 at e)
-  channel_row k which (named.KeepAlive keepalive) other at =
+  channel_row k which (named.KeepAlive keepalive) other had at =
       by_test (On k (named.KeepAlive keepalive)) (has_a5 s which) (unexpected s)
       (taken (record s { keepalive = kept_for keepalive })) (λ e. inr (carries.left k which at e))
       (λ e. tt)
-  channel_row k which named.EndA1 other at =
+  channel_row k which named.EndA1 other had at =
       by_test (On k named.EndA1)
       (has_a5 s which || (line.channel_of s.line which).ended || has_later s which)
       (unexpected s) (taken (record s { line = line.after_end s.line which }))
       (λ e. stops k which at e) (λ e. tt)
-  channel_row k which (named.InR1A5 successor) other at = a5_row k which successor at
-  channel_row k which m other at = tt
+  channel_row k which (named.InR1A5 successor) other had at = a5_row k which successor had at
+  channel_row k which m other had at = tt
 
   new_so : (k : ℕ) (m : Named) → IsOther m → IsNew p k → UnexpectedOnClient n p k m
   new_so k (named.ConnB1 version connection channel lifetime keepalive group) other new =
@@ -177,12 +202,14 @@ module _ (n : ℕ) (p : Passage InProxy) (known : All n (seen p.role) p.came)
   new_so k (named.OutR1A7 to successor) other new = inr (inl new)
   new_so k (named.KeepAlive keepalive) other new = inl new
   new_so k named.EndA1 other new = inl new
+  new_so k (named.InR1A5 successor) other new = inl new
   new_so k m other new = tt
 
   by_channel_row : (k : ℕ) (o : Option Which) (m : Named) → IsOther m → c ≤ k
-      → channel_of s k ≡ o → On k m (on_channel_by s o m)
-  by_channel_row k None m other from e = new_so k m other (carries.is_new k from e)
-  by_channel_row k (Some which) m other from e = channel_row k which m other (carries.at k which e)
+      → had_client s.opening ≡ true → channel_of s k ≡ o → On k m (on_channel_by s o m)
+  by_channel_row k None m other from had e = new_so k m other (carries.is_new k from e)
+  by_channel_row k (Some which) m other from had e =
+      channel_row k which m other had (carries.at k which e)
 
   -- ---- first packets
 
@@ -317,7 +344,7 @@ module _ (n : ℕ) (p : Passage InProxy) (known : All n (seen p.role) p.came)
       (on_later_in_r1_a1 s (opener_of s.opening) k connection predecessor channel) (λ e. tt)
       (λ e. later_row k version connection predecessor channel (opener_of s.opening) refl had from
       up e)
-  ci_row k m busy had from up = by_channel_row k (channel_of s k) m tt busy refl
+  ci_row k m busy had from up = by_channel_row k (channel_of s k) m tt busy had refl
 
   abbrev OnPdu : ℕ → Done → Type 0
   OnPdu k x = Refuses (UnexpectedPdu p (ci_leg k)) (λ expected got. ⊥) x

@@ -61,8 +61,9 @@ IsUntold first p n =
 
 -- ---- unexpected
 
--- on a ci leg each packet but the first needs that one came, and none comes behind IN_R1/A5. Of
--- packets that have no row there, and of IN_R1/A5, nothing is said
+-- on a ci leg each packet but the first needs that one came, and none comes behind IN_R1/A5; on an
+-- earlier leg that comes once the server was told of the next one. Other packets have no row there,
+-- since none of theirs has a name on it
 abbrev pub UnexpectedOnClient : ℕ → Passage InProxy → ℕ → Named → Type 0
 UnexpectedOnClient first p n (ConnB1 version connection channel lifetime keepalive group) =
     (n ≡ first → ⊥) ⊎ HasPacket p n
@@ -72,6 +73,7 @@ UnexpectedOnClient first p n (AckTo to received available channel) =
 UnexpectedOnClient first p n (OutR1A7 to successor) = (to ≡ 2 → ⊥) ⊎ IsNew p n ⊎ IsLeft p n
 UnexpectedOnClient first p n (KeepAlive keepalive) = IsNew p n ⊎ IsLeft p n
 UnexpectedOnClient first p n EndA1 = IsNew p n ⊎ IsLeft p n ⊎ IsEnded p n ⊎ HasPdu p (suc n)
+UnexpectedOnClient first p n (InR1A5 successor) = IsNew p n ⊎ IsLeft p n ⊎ IsUntold first p n
 UnexpectedOnClient first p n packet = Unit {0}
 
 abbrev pub any : Cookie → Bool
