@@ -1,5 +1,5 @@
 -- what is known of an in proxy's legs holds behind all its moves
-use Rattle.std.proofs.Common.{◌≡◌, ℕ, suc, ◌+◌, ◌<◌, ◌≤◌, ◌==◌, ◌&&◌, Bool, true, false, not, if◌then◌else◌, List, [], ◌∷◌, ◌++◌, Some, None, Ok, Err, refl, sym, ap, subst, ◌∙◌, arith, rules}
+use Rattle.std.proofs.Common.{◌≡◌, ℕ, suc, ◌<◌, ◌==◌, ◌&&◌, Bool, true, false, not, if◌then◌else◌, List, [], ◌∷◌, ◌++◌, Some, None, Ok, Err, refl, sym, ap, subst, ◌∙◌, arith, rules}
 use Rattle.std.proofs.lemmas.Bool.{and_parts, eqb-true}
 use Rattle.std.proofs.lemmas.Bool.Decides.{nat_tests}
 use Rattle.std.specs.Prelude.{IfSome, length}
@@ -20,12 +20,9 @@ use Rattle.rh_shell.specs.declared.due.Due.{Due}
 use Rattle.rh_shell.specs.Moves.{OnLeg, Move, started, all_moved}
 use Rattle.rh_shell.specs.Rules.{Message, Pdu, Packet}
 use Rattle.rh_shell.specs.Shells.{one_if}
-use Rattle.rh_shell.specs.Wires.{of_leg}
-use Rattle.rh_inproxy.specs.declared.state.ClientLeg.{ClientLeg}
 use Rattle.rh_inproxy.specs.declared.state.Edge.TheVariants.{Known}
 use Rattle.rh_inproxy.specs.declared.state.Entry.TheVariants.{Connects, Replaces}
 use Rattle.rh_inproxy.specs.declared.state.InProxyConfig.{InProxyConfig}
-use Rattle.rh_inproxy.specs.declared.state.Joining.{Joining}
 use Rattle.rh_inproxy.specs.declared.state.Joining.TheVariants.{TellsServer, Told, Follows}
 use Rattle.rh_inproxy.specs.declared.state.Opener.{Opener}
 use Rattle.rh_inproxy.specs.declared.state.Opening.{Opening}
@@ -35,7 +32,7 @@ use Rattle.rh_inproxy.specs.declared.state.Successor.TheVariants.{Absent, Up, Jo
 use Rattle.rh_inproxy.specs.Acknowledging.{on_ack, on_ack_to, ack_due, ack_by, current_ack, next_ack, put_acks}
 use Rattle.rh_inproxy.specs.Answers.{Done, Pick, is_some, or_else, refuse, taken, unexpected}
 use Rattle.rh_inproxy.specs.Ending.{mark, on_end_a1, put_end, settled, settled_pick}
-use Rattle.rh_inproxy.specs.InReplacement.{is_newcomer, joined, join, on_in_r1_a1, on_later_in_r1_a1, on_in_r1_a5, finish_by, finished, hand_over, handed_over, on_in_r1_b1, one_less, put_in_r1_a6, put_in_r2_a2, told_by}
+use Rattle.rh_inproxy.specs.InReplacement.{is_newcomer, joined, join, on_later_in_r1_a1, on_in_r1_a5, finish_by, finished, hand_over, handed_over, on_in_r1_b1, one_less, put_in_r1_a6, put_in_r2_a2, told_by}
 use Rattle.rh_inproxy.specs.Opening.{up, may_accept, accepts, accepts_later, accepted, wants, connected, head, drawn, first_by, is_absent, is_connection, is_first, is_replacement, is_unknown, awaits_packet, leg_of, opened, opener, opener_of, on_first_in_r1_a1, kept_for, put_echo, put_first, with_edge}
 use Rattle.rh_inproxy.specs.OutReplacement.{on_out_r1_a7}
 use Rattle.rh_inproxy.specs.Passing.{next_pdu, passed, put_pdu}
@@ -50,7 +47,7 @@ use Rattle.rh_proxy_counts.specs.InCounts.{is_leg}
 use Rattle.rh_proxy_counts.specs.Kinds.{is_conn_b1, is_in_r1_a1, opens_server}
 use Rattle.rh_proxy_counts.proofs.Counts.{leg_is, leg_here}
 use Rattle.rh_inproxy_rows.specs.Refusing.{any, ci_leg}
-use Rattle.rh_inproxy_rows.proofs.Legs.{All, IsBehind, IsPlain, Opens, Same, Seen, Starts, bound, client_is, client_within, grows, grows_to, last, pdu_within, plain, seen, server_within, Within}
+use Rattle.rh_inproxy_rows.proofs.Legs.{All, IsBehind, IsPlain, Opens, Same, Starts, bound, client_is, client_within, grows, grows_to, last, pdu_within, plain, seen, server_within, Within}
 use Rattle.rh_inproxy_rows.proofs.Steps.{absent_is, awaits_none, begins, comes_behind, connects_some, finish_next, follow, is_opened, kept, newcomer_is, replaces_some, rises, same_ack, same_ack_to, same_a7, same_b1, same_drawn, same_end, same_head, same_keep_alive, same_mark, same_pdu, same_ping, same_settled, take_next}
 
 abbrev Fact : ℕ → InProxy → List OnLeg → List OnLeg → Type 0

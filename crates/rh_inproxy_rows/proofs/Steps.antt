@@ -1,51 +1,44 @@
 -- each step of an in proxy keeps what is known of its legs
-use Rattle.std.proofs.Common.{◌≡◌, ℕ, suc, ◌+◌, ◌<◌, ◌≤◌, ◌==◌, ◌&&◌, Bool, true, false, not, if◌then◌else◌, List, [], ◌∷◌, ◌++◌, Some, None, Ok, Err, inl, inr, refl, sym, ap, subst, ◌∙◌, arith, rules}
-use Rattle.std.proofs.lemmas.Bool.{and_parts, eqb-true}
+use Rattle.std.proofs.Common.{◌≡◌, ℕ, suc, ◌<◌, ◌≤◌, ◌==◌, ◌&&◌, Bool, true, false, if◌then◌else◌, List, [], ◌∷◌, ◌++◌, Some, None, inl, inr, refl, sym, ap, subst, ◌∙◌, arith, rules}
+use Rattle.std.proofs.lemmas.Bool.{eqb-true}
 use Rattle.std.proofs.lemmas.Bool.Decides.{nat_tests}
-use Rattle.std.specs.Prelude.{IfSome, ◌⊎◌}
+use Rattle.std.specs.Prelude.{◌⊎◌}
 use Rattle.std.specs.declared.option.Option.{Option}
 use Rattle.rh_rts.specs.declared.command.Cookie.{Cookie}
 use Rattle.rh_sig.specs.declared.named.Named.{Named}
-use Rattle.rh_sig.specs.declared.named.Named.TheVariants as named
 use Rattle.rh_line.specs.Lines as line
 use Rattle.rh_line.specs.declared.leg.Leg.{Leg}
 use Rattle.rh_line.specs.declared.leg.LegKind.TheVariants.{ClientIn}
 use Rattle.rh_line.specs.declared.which.Which.{Which}
-use Rattle.rh_line.specs.declared.which.Which.TheVariants.{Current, Next}
 use Rattle.rh_order.proofs.ByNumber.{by_test}
 use Rattle.rh_shell.specs.declared.answers.Count.{Count}
 use Rattle.rh_shell.specs.Moves.{OnLeg}
-use Rattle.rh_shell.specs.Rules.{Message, Pdu, Packet}
-use Rattle.rh_shell.specs.Shells.{one_if, same_leg}
+use Rattle.rh_shell.specs.Rules.{Packet}
 use Rattle.rh_shell.specs.Wires.{of_leg}
 use Rattle.rh_inproxy.specs.declared.state.ClientLeg.{ClientLeg}
 use Rattle.rh_inproxy.specs.declared.state.Edge.{Edge}
-use Rattle.rh_inproxy.specs.declared.state.Edge.TheVariants.{Known}
-use Rattle.rh_inproxy.specs.declared.state.Entry.TheVariants.{Connects, Replaces}
-use Rattle.rh_inproxy.specs.declared.state.Joining.{Joining}
-use Rattle.rh_inproxy.specs.declared.state.Joining.TheVariants.{TellsServer, Told, Follows}
+use Rattle.rh_inproxy.specs.declared.state.Joining.TheVariants.{Told}
 use Rattle.rh_inproxy.specs.declared.state.Opener.{Opener}
 use Rattle.rh_inproxy.specs.declared.state.Opening.{Opening}
 use Rattle.rh_inproxy.specs.declared.state.Opening.TheVariants as openings
 use Rattle.rh_inproxy.specs.declared.state.Successor.{Successor}
 use Rattle.rh_inproxy.specs.declared.state.Successor.TheVariants.{Absent, Up, Joined}
 use Rattle.rh_inproxy.specs.Acknowledging.{on_ack, on_ack_to}
-use Rattle.rh_inproxy.specs.Answers.{Done, is_some, refuse, taken, unexpected}
+use Rattle.rh_inproxy.specs.Answers.{is_some}
 use Rattle.rh_inproxy.specs.Ending.{is_newest, mark, on_end_a1, settled}
-use Rattle.rh_inproxy.specs.InReplacement.{is_newcomer, joined, join, on_in_r1_a1, on_later_in_r1_a1, on_in_r1_a5, finish_by, finished, handed_over, on_in_r1_b1}
-use Rattle.rh_inproxy.specs.Opening.{up, may_accept, accepts, accepts_later, accepted, wants, connected, head, drawn, is_absent, is_connection, is_first, is_replacement, is_unknown, awaits_packet, leg_of, opener, opener_of, on_conn_b1, on_first_in_r1_a1, kept_for, with_edge}
+use Rattle.rh_inproxy.specs.InReplacement.{is_newcomer, on_in_r1_b1}
+use Rattle.rh_inproxy.specs.Opening.{head, drawn, is_absent, is_connection, is_replacement, awaits_packet, leg_of, opener_of}
 use Rattle.rh_inproxy.specs.OutReplacement.{on_out_r1_a7}
-use Rattle.rh_inproxy.specs.State.{InProxy, channel_of, follows, followed, has_a5, has_opened, is_client_leg, is_joined, is_server_leg, next_of, same_cookie}
+use Rattle.rh_inproxy.specs.State.{InProxy, follows, has_opened, is_joined}
 use Rattle.rh_inproxy.specs.Time.{on_keep_alive, ping}
-use Rattle.rh_inproxy.specs.Machine.{pdu, packet, on_channel, on_channel_by, on_ci, on_is}
-use Rattle.rh_passages.specs.Passing.{BeginsIn, HasOne, HasBegunIn, count_of, of_kind}
-use Rattle.rh_passages.proofs.Logs.{RowKeeps}
+use Rattle.rh_inproxy.specs.Machine.{pdu}
+use Rattle.rh_passages.specs.Passing.{BeginsIn, HasOne, HasBegunIn, count_of}
 use Rattle.rh_proxy_counts.specs.Counted.{packets, is_any}
 use Rattle.rh_proxy_counts.specs.InCounts.{is_leg}
 use Rattle.rh_proxy_counts.specs.Kinds.{is_conn_b1, is_in_r1_a1, opens_server}
-use Rattle.rh_proxy_counts.proofs.Counts.{leg_is, leg_at_most, leg_rises, leg_here, kind_at_most}
+use Rattle.rh_proxy_counts.proofs.Counts.{leg_at_most, leg_rises, leg_here, kind_at_most}
 use Rattle.rh_inproxy_rows.specs.Refusing.{any, ci_leg}
-use Rattle.rh_inproxy_rows.proofs.Legs.{All, IsBehind, IsPlain, Opens, Opened, Same, Seen, Starts, Within, bound, client_is, client_within, grows, grows_to, last, leg_sum, on_client, one_last, one_more, opened_more, pdu_within, plain, seen, server_within}
+use Rattle.rh_inproxy_rows.proofs.Legs.{All, Opens, Opened, Same, Seen, Starts, bound, leg_sum, on_client, one_last, opened_more, plain, seen}
 
 -- ---- what leaves the legs alone
 

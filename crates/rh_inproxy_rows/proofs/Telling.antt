@@ -1,13 +1,13 @@
 -- how many IN_R2/A2 an in proxy put: one for each later ci leg up to the one that it tells of
-use Rattle.std.proofs.Common.{◌≡◌, ℕ, suc, ◌+◌, ◌≤◌, ◌==◌, ◌&&◌, Bool, true, false, not, if◌then◌else◌, List, [], ◌∷◌, ◌++◌, length, Some, None, Ok, Err, inl, inr, refl, sym, ap, subst, ◌∙◌, arith, rules}
-use Rattle.std.proofs.lemmas.Bool.{and_parts, eqb-true}
+use Rattle.std.proofs.Common.{◌≡◌, ℕ, suc, ◌+◌, ◌≤◌, ◌==◌, ◌&&◌, Bool, true, false, not, if◌then◌else◌, List, [], ◌∷◌, length, Some, None, Ok, Err, refl, sym, ap, subst, ◌∙◌, arith, rules}
+use Rattle.std.proofs.lemmas.Bool.{and_parts}
 use Rattle.std.proofs.lemmas.Bool.Decides.{nat_tests}
 use Rattle.std.specs.Prelude.{IfSome}
 use Rattle.std.specs.declared.option.Option.{Option}
 use Rattle.rh_rts.specs.declared.command.Cookie.{Cookie}
 use Rattle.rh_sig.specs.declared.named.Named.{Named}
 use Rattle.rh_sig.specs.declared.named.Named.TheVariants as named
-use Rattle.rh_window.specs.Sending.{may_send, after_sent}
+use Rattle.rh_window.specs.Sending.{may_send}
 use Rattle.rh_window.specs.declared.recv_window.Ack.{Ack}
 use Rattle.rh_line.specs.Lines as line
 use Rattle.rh_line.specs.declared.leg.Leg.{Leg}
@@ -26,7 +26,6 @@ use Rattle.rh_inproxy.specs.declared.state.ClientLeg.{ClientLeg}
 use Rattle.rh_inproxy.specs.declared.state.Entry.{Entry}
 use Rattle.rh_inproxy.specs.declared.state.Entry.TheVariants.{Connects, Replaces}
 use Rattle.rh_inproxy.specs.declared.state.InProxyConfig.{InProxyConfig}
-use Rattle.rh_inproxy.specs.declared.state.Joining.{Joining}
 use Rattle.rh_inproxy.specs.declared.state.Joining.TheVariants.{TellsServer, Told, Follows}
 use Rattle.rh_inproxy.specs.declared.state.Opener.{Opener}
 use Rattle.rh_inproxy.specs.declared.state.Opening.{Opening}
@@ -36,11 +35,11 @@ use Rattle.rh_inproxy.specs.declared.state.Successor.TheVariants.{Absent, Up, Jo
 use Rattle.rh_inproxy.specs.Acknowledging.{forward_by, forwarded, ack_due, ack_by, current_ack, next_ack, put_acks}
 use Rattle.rh_inproxy.specs.Answers.{Done, Pick, or_else, refuse, taken, unexpected}
 use Rattle.rh_inproxy.specs.Ending.{is_newest, is_succeeded, mark, on_end_a1, put_end, settled, settled_pick}
-use Rattle.rh_inproxy.specs.InReplacement.{is_newcomer, joined, join, on_in_r1_a1, on_later_in_r1_a1, on_in_r1_a5, finish_by, finished, hand_over, handed_over, one_less, put_in_r1_a6, put_in_r2_a2, told_by}
-use Rattle.rh_inproxy.specs.Opening.{up, may_accept, accepts, accepts_later, accepted, wants, connected, head, drawn, announcement, first_by, is_absent, is_first, leg_of, on_conn_b1, on_first_in_r1_a1, opener_of, put_echo, put_first}
+use Rattle.rh_inproxy.specs.InReplacement.{is_newcomer, joined, join, on_later_in_r1_a1, on_in_r1_a5, finish_by, finished, hand_over, one_less, put_in_r1_a6, put_in_r2_a2, told_by}
+use Rattle.rh_inproxy.specs.Opening.{up, may_accept, accepts, accepts_later, accepted, wants, connected, head, drawn, announcement, first_by, is_absent, is_first, on_conn_b1, on_first_in_r1_a1, opener_of, put_echo, put_first}
 use Rattle.rh_inproxy.specs.Passing.{next_pdu, passed, put_pdu}
 use Rattle.rh_inproxy.specs.Putting.{put as put_of, next, waiting_by, put_waiting, put_control, put_early, put_stream, put_behind, put_mark}
-use Rattle.rh_inproxy.specs.State.{InProxy, first, channel_of, follows, followed, has_a5, is_client_leg, is_joined, is_server_leg, same_cookie}
+use Rattle.rh_inproxy.specs.State.{InProxy, first, channel_of, follows, has_a5, is_client_leg, is_joined, is_server_leg, same_cookie}
 use Rattle.rh_inproxy.specs.Time.{on_keep_alive, ping, put_ping}
 use Rattle.rh_inproxy.specs.Machine.{pdu, packet, on_channel, on_channel_by, on_ci, on_is}
 use Rattle.rh_inproxy.specs.Machine.{rules as proxy_rules}
