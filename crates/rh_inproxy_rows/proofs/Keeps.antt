@@ -125,8 +125,8 @@ module _ (n : ℕ) (s : InProxy) (came put : List OnLeg) (h : All n (seen s) cam
   a5_row : (k : ℕ) (which : Which) (cookie : Cookie) → k < limit
       → Row (ci_leg k, Packet (named.InR1A5 cookie)) (on_in_r1_a5 s which cookie)
   a5_row k which cookie below =
-      by_test (Row (a5_on k cookie)) (has_a5 s which) (unexpected s) (hand_over s which cookie) (λ e. h)
-      (λ e. hands which)
+      by_test (Row (a5_on k cookie)) (has_a5 s which) (unexpected s) (hand_over s which cookie)
+      (λ e. h) (λ e. hands which)
     where
       plain_one : IsPlain (Packet (named.InR1A5 cookie))
       plain_one = record { connects = refl; replaces = refl; window = refl }
@@ -146,8 +146,8 @@ module _ (n : ℕ) (s : InProxy) (came put : List OnLeg) (h : All n (seen s) cam
           (refuse s (refused.Cookie leg.cookie cookie))
           (λ t. follow n (line.after_finish s.line).has_next (seen s) (Joined leg Follows)
           (came ++ a5_on k cookie ∷ []) (finish_next s.line)
-          (subst (λ (z : Successor). All n (record (seen s) { heir = plain z }) (came ++ a5_on k cookie ∷ []))
-          e (grows n (seen s) came (a5_on k cookie) h plain_one
+          (subst (λ (z : Successor).
+          All n (record (seen s) { heir = plain z }) (came ++ a5_on k cookie ∷ [])) e (grows n (seen s) came (a5_on k cookie) h plain_one
           (client_within k limit (Packet (named.InR1A5 cookie)) below))))
           (λ t. h)
 
@@ -190,7 +190,9 @@ module _ (n : ℕ) (s : InProxy) (came put : List OnLeg) (h : All n (seen s) cam
       → (is_connection (Some o) ≡ false → count_of is_conn_b1 (Packet m ∷ []) ≡ 0)
       → (is_replacement (Some o) ≡ false → count_of (is_in_r1_a1 any) (Packet m ∷ []) ≡ 0)
       → All n (record (seen s) {
-      opener = Some o; current = leg_of s.current.number o.channel; })
+        opener = Some o;
+        current = leg_of s.current.number o.channel;
+      })
       (came ++ (ci_leg k, Packet m) ∷ [])
   opens_row k m o e opens starts no_window no_b1 no_a1 =
       let parts = and_parts (awaits_packet s.opening) (s.current.number == k) e in
@@ -200,11 +202,14 @@ module _ (n : ℕ) (s : InProxy) (came put : List OnLeg) (h : All n (seen s) cam
       let absent : plain s.successor ≡ Absent = unopened.start.1 in
       let alone = subst (λ (z : Successor).
       All n (record (seen s) { opener = None; heir = z }) came) absent unopened in
-      let new = begins n s.config.number s.edge s.current s.line.has_next o m came alone opens starts no_window
-      no_b1 no_a1 in
+      let new = begins n s.config.number s.edge s.current s.line.has_next o m came alone opens
+      starts no_window no_b1 no_a1 in
       let back = subst (λ (z : Successor).
-      All n (record (seen s) { opener = Some o; current = leg_of s.current.number o.channel;
-      heir = z }) (came ++ (ci_leg s.current.number, Packet m) ∷ [])) (sym absent) new in
+      All n (record (seen s) {
+        opener = Some o;
+        current = leg_of s.current.number o.channel;
+        heir = z;
+      }) (came ++ (ci_leg s.current.number, Packet m) ∷ [])) (sym absent) new in
       subst (λ (j : ℕ).
       All n (record (seen s) { opener = Some o; current = leg_of s.current.number o.channel })
       (came ++ (ci_leg j, Packet m) ∷ [])) (eqb-true s.current.number k parts.1) back
@@ -227,26 +232,31 @@ module _ (n : ℕ) (s : InProxy) (came put : List OnLeg) (h : All n (seen s) cam
 
   later_row : (k : ℕ) (version : ℕ) (connection predecessor channel : Cookie)
       (o : Option Opener) → opener_of s.opening ≡ o
-      → Row (ci_leg k, Packet (named.InR1A1 version connection predecessor channel))
+      → Row (a1_on k version connection predecessor channel)
       (on_later_in_r1_a1 s o k connection predecessor channel)
   later_row k version connection predecessor channel None e = h
   later_row k version connection predecessor channel (Some o) e =
       by_test (Row (a1_on k version connection predecessor channel)) (is_newcomer s.successor k)
       (join s o k connection predecessor channel) (unexpected s)
-      (λ t. by_test (Row (a1_on k version connection predecessor channel)) (not (same_cookie o.connection connection))
+      (λ t. by_test (Row (a1_on k version connection predecessor channel))
+      (not (same_cookie o.connection connection))
       (refuse s (refused.Cookie o.connection connection))
       (if not (same_cookie s.current.cookie predecessor)
       then refuse s (refused.Cookie s.current.cookie predecessor)
       else taken (joined s k channel)) (λ a. h)
-      (λ a. by_test (Row (a1_on k version connection predecessor channel)) (not (same_cookie s.current.cookie predecessor))
+      (λ a. by_test (Row (a1_on k version connection predecessor channel))
+      (not (same_cookie s.current.cookie predecessor))
       (refuse s (refused.Cookie s.current.cookie predecessor)) (taken (joined s k channel))
       (λ b. h)
       (λ b. joined_row k o version connection predecessor channel e
       (newcomer_is s.successor k t)))) (λ t. h)
+
   ci_row : (k : ℕ) (m : Named) → Row (ci_leg k, Packet m) (on_ci s k m)
   ci_row k (named.ConnB1 version connection channel lifetime keepalive group) =
-      by_test (Row (ci_leg k,
-      Packet (named.ConnB1 version connection channel lifetime keepalive group))) (is_first s k)
+      by_test (Row (
+        ci_leg k,
+        Packet (named.ConnB1 version connection channel lifetime keepalive group),
+      )) (is_first s k)
       (opened s (opener connection channel (Connects group)) (kept_for keepalive)) (unexpected s)
       (λ e. opens_row k (named.ConnB1 version connection channel lifetime keepalive group)
       (opener connection channel (Connects group)) e (refl, refl) refl refl (λ t. absurd cc)

@@ -158,8 +158,10 @@ module _ (first : ℕ) (x : Seen) (came : List OnLeg) (one : OnLeg) (h : All fir
   pub opened_more : (o : Option Opener) → Opened first o x.current came
       → Opened first o x.current (came ++ one ∷ [])
   opened_more None b = tt
-  opened_more (Some o) b = (one_more (ci_leg first) came one (Opens o) b.0,
-    one_more (ci_leg x.current.number) came one (BeginsIn x.current.cookie) b.1)
+  opened_more (Some o) b = (
+    one_more (ci_leg first) came one (Opens o) b.0,
+    one_more (ci_leg x.current.number) came one (BeginsIn x.current.cookie) b.1,
+  )
 
   pub joins_more : (z : Successor) → Joins z came → Joins z (came ++ one ∷ [])
   joins_more Absent b = tt

@@ -130,9 +130,14 @@ module _ (n : ℕ) (p : Passage InProxy) (known : All n (seen p.role) p.came)
   a5_by k (Joined leg Told) cookie e had at b j tells =
       by_test (On k (named.InR1A5 cookie)) (same_cookie leg.cookie cookie)
       (taken (finished s leg)) (refuse s (refused.Cookie leg.cookie cookie)) (λ t. tt)
-      (λ t. (differs leg.cookie cookie t, (refl,
-      subst (λ (i : ℕ). HasOne (BeginsIn leg.cookie) (of_leg (ci_leg i) p.came)) (b ∙ ap suc at)
-      j)))
+      (λ t. (
+        differs leg.cookie cookie t,
+        (
+          refl,
+          subst (λ (i : ℕ). HasOne (BeginsIn leg.cookie) (of_leg (ci_leg i) p.came)) (b ∙ ap suc at)
+              j,
+        ),
+      ))
 
   a5_row : (k : ℕ) (which : Which) (cookie : Cookie) → had_client s.opening ≡ true → At s k which
       → On k (named.InR1A5 cookie) (on_in_r1_a5 s which cookie)
@@ -153,10 +158,10 @@ module _ (n : ℕ) (p : Passage InProxy) (known : All n (seen p.role) p.came)
   channel_row : (k : ℕ) (which : Which) (m : Named) → IsOther m
       → had_client s.opening ≡ true → At s k which
       → On k m (on_channel s which m)
-  channel_row k which (named.ConnB1 version connection channel lifetime keepalive group) other had at
-      = absurd other
-  channel_row k which (named.InR1A1 version connection predecessor channel) other had at =
-      absurd other
+  channel_row k which (named.ConnB1 version connection channel lifetime keepalive group) no_row
+      had at = absurd no_row
+  channel_row k which (named.InR1A1 version connection predecessor channel) no_row had at =
+      absurd no_row
   channel_row k which (named.AckTo to received available channel) other had at =
       by_test (On k (named.AckTo to received available channel))
       (not (has_a5 s which) && (to == 3)) (forwarded s (named.AckTo 3 received available channel))
@@ -289,9 +294,14 @@ module _ (n : ℕ) (p : Passage InProxy) (known : All n (seen p.role) p.came)
       (if not (same_cookie s.current.cookie predecessor)
       then refuse s (refused.Cookie s.current.cookie predecessor)
       else taken (joined s k channel))
-      (λ a. (not_same o.connection connection a, inl (refl,
-      one_so (Opens o) (NamesConnection o.connection) (names o) (of_leg (ci_leg n) p.came)
-      begun.0)))
+      (λ a. (
+        not_same o.connection connection a,
+        inl (
+          refl,
+          one_so (Opens o) (NamesConnection o.connection) (names o) (of_leg (ci_leg n) p.came)
+              begun.0,
+        ),
+      ))
       (λ a. by_test (On k (named.InR1A1 version connection predecessor channel))
       (not (same_cookie s.current.cookie predecessor))
       (refuse s (refused.Cookie s.current.cookie predecessor)) (taken (joined s k channel))
@@ -393,9 +403,14 @@ module _ (n : ℕ) (p : Passage InProxy) (known : All n (seen p.role) p.came)
       (Mismatch n p (is_leg n) (named.Ack received available channel))
       (record s { window = after_acked s.window received available })
       (ack_verdict s.window received available))
-      (λ t. (differs o.channel channel t, (refl,
-      one_so (Opens o) (BeginsIn o.channel) (begins_so o) (of_leg (ci_leg n) p.came)
-      (opened_by o q).0)))
+      (λ t. (
+        differs o.channel channel t,
+        (
+          refl,
+          one_so (Opens o) (BeginsIn o.channel) (begins_so o) (of_leg (ci_leg n) p.came)
+              (opened_by o q).0,
+        ),
+      ))
 
   module _ (passes : 1 ≤ count_of is_in_r1_a6 (of_leg (is_leg n) p.put)
       → has_passed p.role.handover ≡ true) where
@@ -473,7 +488,8 @@ module _ (n : ℕ) (p : Passage InProxy) (known : All n (seen p.role) p.came)
     packets_refused : (leg : Leg) → was_up s leg ≡ true → Packets leg
     packets_refused leg up =
         by_leg Packets leg up
-        (λ k count m busy is. ci_row k m (use_from k busy) (up_had k is) (up_from k is) (up_to k is))
+        (λ k count m busy is.
+        ci_row k m (use_from k busy) (up_had k is) (up_from k is) (up_to k is))
         (λ count m busy is. by_test (OnIs m) (is_server_leg s (is_leg n)) (on_is s m)
         (unexpected s) (λ e. is_row m) (λ e. not_there e))
       where

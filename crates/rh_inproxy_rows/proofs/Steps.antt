@@ -178,13 +178,25 @@ module _ (first : ℕ) where
   -- the first packet of all
   pub begins : (number : ℕ) (edge : Edge) (current : ClientLeg) (has_next : Bool) (o : Opener)
       (m : Named) (came : List OnLeg)
-      → All first (record { number = number; opener = None; edge = edge; current = current;
-      heir = Absent; has_next = has_next }) came
+      → All first (record {
+        number = number;
+        opener = None;
+        edge = edge;
+        current = current;
+        heir = Absent;
+        has_next = has_next;
+      }) came
       → Opens o m → BeginsIn o.channel m → count_of opens_server (Packet m ∷ []) ≡ 0
       → (is_connection (Some o) ≡ false → count_of is_conn_b1 (Packet m ∷ []) ≡ 0)
       → (is_replacement (Some o) ≡ false → count_of (is_in_r1_a1 any) (Packet m ∷ []) ≡ 0)
-      → All first (record { number = number; opener = Some o; edge = edge;
-      current = leg_of current.number o.channel; heir = Absent; has_next = has_next })
+      → All first (record {
+        number = number;
+        opener = Some o;
+        edge = edge;
+        current = leg_of current.number o.channel;
+        heir = Absent;
+        has_next = has_next;
+      })
       (came ++ (ci_leg current.number, Packet m) ∷ [])
   begins number edge current has_next o m came h opens starts no_window no_b1 no_a1 =
       let at = h.start.0 in
@@ -206,7 +218,7 @@ module _ (first : ℕ) where
             (λ e. omega (arith, e, a))) in omega (arith, none, here, sum);
         opened = (
           subst (λ (j : ℕ). HasOne (Opens o) (of_leg (ci_leg j) (came ++ one ∷ []))) at
-          (one_last (ci_leg current.number) came m (Opens o) opens),
+              (one_last (ci_leg current.number) came m (Opens o) opens),
           one_last (ci_leg current.number) came m (BeginsIn o.channel) starts,
         );
         joins = tt;
@@ -230,12 +242,24 @@ module _ (first : ℕ) where
   -- the first packet on a later ci leg
   pub comes_behind : (number : ℕ) (edge : Edge) (current : ClientLeg) (has_next : Bool)
       (o : Opener) (k : ℕ) (channel : Cookie) (m : Named) (came : List OnLeg)
-      → All first (record { number = number; opener = Some o; edge = edge; current = current;
-      heir = Up k; has_next = has_next }) came
+      → All first (record {
+        number = number;
+        opener = Some o;
+        edge = edge;
+        current = current;
+        heir = Up k;
+        has_next = has_next;
+      }) came
       → BeginsIn channel m → count_of opens_server (Packet m ∷ []) ≡ 0
       → count_of is_conn_b1 (Packet m ∷ []) ≡ 0
-      → All first (record { number = number; opener = Some o; edge = edge; current = current;
-      heir = Joined (leg_of k channel) Told; has_next = true }) (came ++ (ci_leg k, Packet m) ∷ [])
+      → All first (record {
+        number = number;
+        opener = Some o;
+        edge = edge;
+        current = current;
+        heir = Joined (leg_of k channel) Told;
+        has_next = true;
+      }) (came ++ (ci_leg k, Packet m) ∷ [])
   comes_behind number edge current has_next o k channel m came h starts no_window no_b1 =
       let at = h.behind in
       let from = h.from in
@@ -252,8 +276,14 @@ module _ (first : ℕ) where
             let sum = leg_sum (ci_leg j) came one is_any in
             let here = ap packets (on_client k j (Packet m) (λ e. omega (arith, e, a))) in
             omega (arith, none, here, sum);
-        opened = opened_more first (record { number = number; opener = Some o; edge = edge;
-            current = current; heir = Up k; has_next = has_next }) came one h (Some o) h.opened;
+        opened = opened_more first (record {
+          number = number;
+          opener = Some o;
+          edge = edge;
+          current = current;
+          heir = Up k;
+          has_next = has_next;
+        }) came one h (Some o) h.opened;
         joins = one_last (ci_leg k) came m (BeginsIn channel) starts;
         connects = λ e.
             let none = h.connects e in
@@ -273,8 +303,14 @@ module _ (first : ℕ) where
       }
     where
       used_at : k ≡ suc current.number → (one : OnLeg)
-          → All first (record { number = number; opener = Some o; edge = edge; current = current;
-          heir = Up k; has_next = has_next }) came
+          → All first (record {
+            number = number;
+            opener = Some o;
+            edge = edge;
+            current = current;
+            heir = Up k;
+            has_next = has_next;
+          }) came
           → (j : ℕ) → first ≤ j → j < suc k → (b : Bool) → (j == k) ≡ b
           → 1 ≤ packets (of_leg (ci_leg j) (came ++ (ci_leg k, Packet m) ∷ []))
       used_at at one h j a b true e =
@@ -345,8 +381,11 @@ module _ (first : ℕ) where
   pub follow : (has_next : Bool) (x : Seen) (z : Successor) (came : List OnLeg)
       → (has_next ≡ x.has_next) ⊎ (has_next ≡ false)
       → All first (record x { heir = plain z }) came
-      → All first (record x { current = (follows has_next x.current z).0;
-      heir = plain (follows has_next x.current z).1; has_next = has_next }) came
+      → All first (record x {
+        current = (follows has_next x.current z).0;
+        heir = plain (follows has_next x.current z).1;
+        has_next = has_next;
+      }) came
   follow true x z came (inl same) h =
       subst (λ (b : Bool). All first (record x { heir = plain z; has_next = b }) came) (sym same) h
   follow true x z came (inr gone) h = absurd cc

@@ -144,8 +144,13 @@ module _ (n k : ℕ) (dues : List Due) where
   }) k
 
   stays : (has_next done : Bool) (current : ClientLeg) (z : Successor)
-      → Tells n (record { number = current.number; heir = z; has_next = has_next; done = done;
-      dues = dues }) k → After has_next done current z
+      → Tells n (record {
+        number = current.number;
+        heir = z;
+        has_next = has_next;
+        done = done;
+        dues = dues;
+      }) k → After has_next done current z
   stays true done current z h = h
   stays false done current Absent h = h
   stays false done current (Up number) h = h
@@ -165,8 +170,13 @@ module _ (n k : ℕ) (dues : List Due) where
   Behind current z l = After l.has_next l.finished current z
 
   settles : (current : ClientLeg) (z : Successor) (l : line.Line)
-      → Tells n (record { number = current.number; heir = z; has_next = l.has_next;
-      done = l.finished; dues = dues }) k → Behind current z (line.settled l)
+      → Tells n (record {
+        number = current.number;
+        heir = z;
+        has_next = l.has_next;
+        done = l.finished;
+        dues = dues;
+      }) k → Behind current z (line.settled l)
   settles current z l h =
       by_test (Behind current z) (l.finished && line.is_empty l.current.pdus) (line.moved_on l) l
       (λ e. goes current z (sym h.done
@@ -336,8 +346,12 @@ module _ (n : ℕ) (s : InProxy) (k : ℕ) (h : Tells n (seen s) k) where
   with_count : (t : InProxy) (more : ℕ) → Holds t → more ≡ 0 → Tells n (seen t) (k + more)
   with_count t more g e =
       let count = g.count in
-      record { count = omega (arith, count, e); behind = g.behind; joined = g.joined;
-      done = g.done }
+      record {
+        count = omega (arith, count, e);
+        behind = g.behind;
+        joined = g.joined;
+        done = g.done;
+      }
 
   quiet_puts : (pick : Pick) → Quiet pick → Puts pick
   quiet_puts None q = tt
@@ -482,8 +496,12 @@ module _ (n : ℕ) where
   put_row leg came put (Some one) h =
       let count = h.count in
       let more = leg_at_most is_in_r2_a2 (is_leg n) put (leg, one.1) in
-      record { count = omega (arith, count, more); behind = h.behind; joined = h.joined;
-      done = h.done }
+      record {
+        count = omega (arith, count, more);
+        behind = h.behind;
+        joined = h.joined;
+        done = h.done;
+      }
 
   abbrev so_many : List OnLeg → ℕ
   so_many put = count_of is_in_r2_a2 (of_leg (is_leg n) put)
