@@ -54,14 +54,14 @@ use Rattle.rh_inproxy_rows.proofs.Steps.{absent_is, newcomer_is}
 
 -- ---- what the fact is about
 
-record Seen : Type 0 where
-  number : ℕ
-  heir : Successor
-  has_next : Bool
-  done : Bool
-  dues : List Due
+pub record Seen : Type 0 where
+  pub number : ℕ
+  pub heir : Successor
+  pub has_next : Bool
+  pub done : Bool
+  pub dues : List Due
 
-abbrev seen : InProxy → Seen
+abbrev pub seen : InProxy → Seen
 seen s = record {
   number = s.current.number;
   heir = s.successor;
@@ -80,11 +80,15 @@ told number (Joined leg Follows) = leg.number
 told number heir = number
 
 -- so many were put
-record Tells (n : ℕ) (x : Seen) (put : ℕ) : Type 0 where
-  count : n + put + waits is_in_r2_a2 x.dues ≤ told x.number x.heir
-  behind : IsBehind x.number x.heir
-  joined : x.has_next ≡ is_joined x.heir
-  done : x.done ≡ is_succeeded x.heir
+pub record Tells (n floor : ℕ) (x : Seen) (put : ℕ) : Type 0 where
+  pub count : n + put ≤ told x.number x.heir
+  -- it is no earlier one than this
+  pub least : floor ≤ told x.number x.heir
+  -- none waits
+  pub none : waits is_in_r2_a2 x.dues ≡ 0
+  pub behind : IsBehind x.number x.heir
+  pub joined : x.has_next ≡ is_joined x.heir
+  pub done : x.done ≡ is_succeeded x.heir
 
 -- ---- what leaves it alone
 
@@ -133,9 +137,9 @@ no_ack : (to received available : ℕ) (channel : Cookie)
     → is_in_r2_a2 (named.AckTo to received available channel) ≡ false
 no_ack to received available channel = refl
 
-module _ (n k : ℕ) (dues : List Due) where
+module _ (n floor k : ℕ) (dues : List Due) where
   abbrev After : Bool → Bool → ClientLeg → Successor → Type 0
-  After has_next done current z = Tells n (record {
+  After has_next done current z = Tells n floor (record {
     number = (follows has_next current z).0.number;
     heir = (follows has_next current z).1;
     has_next = has_next;
@@ -144,7 +148,7 @@ module _ (n k : ℕ) (dues : List Due) where
   }) k
 
   stays : (has_next done : Bool) (current : ClientLeg) (z : Successor)
-      → Tells n (record {
+      → Tells n floor (record {
         number = current.number;
         heir = z;
         has_next = has_next;
@@ -157,20 +161,21 @@ module _ (n k : ℕ) (dues : List Due) where
   stays false done current (Joined leg stage) h = absurd (let e = h.joined in cc)
 
   goes : (current : ClientLeg) (z : Successor) → is_succeeded z ≡ true
-      → n + k + waits is_in_r2_a2 dues ≤ told current.number z → After false false current z
-  goes current (Joined leg Follows) e h =
-      record { count = h; behind = tt; joined = refl; done = refl }
-  goes current (Joined leg Told) e h = absurd cc
-  goes current (Joined leg (TellsServer behind)) e h = absurd cc
-  goes current (Up number) e h = absurd cc
-  goes current Absent e h = absurd cc
+      → n + k ≤ told current.number z → floor ≤ told current.number z
+      → waits is_in_r2_a2 dues ≡ 0 → After false false current z
+  goes current (Joined leg Follows) e h up none =
+      record { count = h; least = up; none = none; behind = tt; joined = refl; done = refl }
+  goes current (Joined leg Told) e h up none = absurd cc
+  goes current (Joined leg (TellsServer behind)) e h up none = absurd cc
+  goes current (Up number) e h up none = absurd cc
+  goes current Absent e h up none = absurd cc
 
   -- as the line says
   abbrev Behind : ClientLeg → Successor → line.Line → Type 0
   Behind current z l = After l.has_next l.finished current z
 
   settles : (current : ClientLeg) (z : Successor) (l : line.Line)
-      → Tells n (record {
+      → Tells n floor (record {
         number = current.number;
         heir = z;
         has_next = l.has_next;
@@ -180,23 +185,24 @@ module _ (n k : ℕ) (dues : List Due) where
   settles current z l h =
       by_test (Behind current z) (l.finished && line.is_empty l.current.pdus) (line.moved_on l) l
       (λ e. goes current z (sym h.done
-      ∙ (and_parts l.finished (line.is_empty l.current.pdus) e).0) h.count)
+      ∙ (and_parts l.finished (line.is_empty l.current.pdus) e).0) h.count
+      h.least h.none)
       (λ e. stays l.has_next l.finished current z h)
 
 -- ---- steps
 
-abbrev Fact : ℕ → InProxy → List OnLeg → List OnLeg → Type 0
-Fact n s came put = Tells n (seen s) (count_of is_in_r2_a2 (of_leg (is_leg n) put))
+abbrev pub Fact : ℕ → InProxy → List OnLeg → List OnLeg → Type 0
+Fact n s came put = Tells n 0 (seen s) (count_of is_in_r2_a2 (of_leg (is_leg n) put))
 
-module _ (n : ℕ) (s : InProxy) (k : ℕ) (h : Tells n (seen s) k) where
+module _ (n floor : ℕ) (s : InProxy) (k : ℕ) (h : Tells n floor (seen s) k) where
   abbrev Holds : InProxy → Type 0
-  Holds t = Tells n (seen t) k
+  Holds t = Tells n floor (seen t) k
 
   abbrev Row : Done → Type 0
   Row x = Holds x.0
 
   kept : (t : InProxy) → Same s t → Holds t
-  kept t same = subst (λ (x : Seen). Tells n x k) (sym same) h
+  kept t same = subst (λ (x : Seen). Tells n floor x k) (sym same) h
 
   up_row : (leg : Leg) → Holds (up s leg)
   up_row leg =
@@ -215,9 +221,9 @@ module _ (n : ℕ) (s : InProxy) (k : ℕ) (h : Tells n (seen s) k) where
       rises_to number e =
           let at : number ≡ suc s.current.number = grind (arith, nat_tests) in
           let free : is_absent s.successor ≡ true = grind (arith, nat_tests) in
-          let alone = subst (λ (z : Successor). Tells n (record (seen s) { heir = z }) k)
+          let alone = subst (λ (z : Successor). Tells n floor (record (seen s) { heir = z }) k)
           (absent_is s.successor free) h in
-          record { count = alone.count; behind = at; joined = alone.joined; done = alone.done }
+          record { count = alone.count; least = alone.least; none = alone.none; behind = at; joined = alone.joined; done = alone.done }
 
       accepts_row : (o : Opening) → accepts s o leg.number ≡ true
           → Holds (accepted s o leg.number)
@@ -237,10 +243,12 @@ module _ (n : ℕ) (s : InProxy) (k : ℕ) (h : Tells n (seen s) k) where
           → waits is_in_r2_a2 w.due ≤ waits is_in_r2_a2 s.waiting.due + one_if (is_in_r2_a2 m)
           → Holds (record s { waiting = w })
       less w fewer =
-          let count = h.count in
-          let none = ap one_if e in
+          let none = h.none in
+          let no_more = ap one_if e in
           record {
-            count = omega (arith, count, fewer, none);
+            count = h.count;
+            least = h.least;
+            none = omega (arith, none, fewer, no_more);
             behind = h.behind;
             joined = h.joined;
             done = h.done;
@@ -260,10 +268,10 @@ module _ (n : ℕ) (s : InProxy) (k : ℕ) (h : Tells n (seen s) k) where
   finish_row (Joined leg Told) cookie e =
       by_test Row (same_cookie leg.cookie cookie) (taken (finished s leg))
       (refuse s (refused.Cookie leg.cookie cookie))
-      (λ t. let at = subst (λ (z : Successor). Tells n (record (seen s) { heir = z }) k) e h in
-      settles n k s.waiting.due s.current (Joined leg Follows)
+      (λ t. let at = subst (λ (z : Successor). Tells n floor (record (seen s) { heir = z }) k) e h in
+      settles n floor k s.waiting.due s.current (Joined leg Follows)
       (record (s.line) { finished = true })
-      (record { count = at.count; behind = at.behind; joined = at.joined; done = refl }))
+      (record { count = at.count; least = at.least; none = at.none; behind = at.behind; joined = at.joined; done = refl }))
       (λ t. h)
 
   a5_row : (which : Which) (cookie : Cookie) → Row (on_in_r1_a5 s which cookie)
@@ -310,8 +318,8 @@ module _ (n : ℕ) (s : InProxy) (k : ℕ) (h : Tells n (seen s) k) where
     where
       joins : s.successor ≡ Up number → Holds (joined s number channel)
       joins e =
-          let at = subst (λ (z : Successor). Tells n (record (seen s) { heir = z }) k) e h in
-          record { count = at.count; behind = at.behind; joined = refl; done = at.done }
+          let at = subst (λ (z : Successor). Tells n floor (record (seen s) { heir = z }) k) e h in
+          record { count = at.count; least = at.least; none = at.none; behind = at.behind; joined = refl; done = at.done }
 
   ci_row : (number : ℕ) (m : Named) → Row (on_ci s number m)
   ci_row number (named.ConnB1 version connection channel lifetime keepalive group) =
@@ -336,18 +344,20 @@ module _ (n : ℕ) (s : InProxy) (k : ℕ) (h : Tells n (seen s) k) where
   abbrev Puts : Pick → Type 0
   Puts pick =
       IfSome pick (λ (one : InProxy × Message).
-      Tells n (seen one.0) (k + count_of is_in_r2_a2 (one.1 ∷ [])))
+      Tells n floor (seen one.0) (k + count_of is_in_r2_a2 (one.1 ∷ [])))
 
   abbrev Quiet : Pick → Type 0
   Quiet pick =
       IfSome pick (λ (one : InProxy × Message).
       Same s one.0 × (count_of is_in_r2_a2 (one.1 ∷ []) ≡ 0))
 
-  with_count : (t : InProxy) (more : ℕ) → Holds t → more ≡ 0 → Tells n (seen t) (k + more)
+  with_count : (t : InProxy) (more : ℕ) → Holds t → more ≡ 0 → Tells n floor (seen t) (k + more)
   with_count t more g e =
       let count = g.count in
       record {
         count = omega (arith, count, e);
+        least = g.least;
+        none = g.none;
         behind = g.behind;
         joined = g.joined;
         done = g.done;
@@ -365,7 +375,7 @@ module _ (n : ℕ) (s : InProxy) (k : ℕ) (h : Tells n (seen s) k) where
   settled_puts : (pick : Pick) → Puts pick → Puts (settled_pick pick)
   settled_puts None p = tt
   settled_puts (Some pick) p =
-      subst (λ (x : Seen). Tells n x (k + count_of is_in_r2_a2 (pick.1 ∷ [])))
+      subst (λ (x : Seen). Tells n floor x (k + count_of is_in_r2_a2 (pick.1 ∷ [])))
       (sym (same_settled pick.0)) p
 
   announced : (o : Opener) (entry : Entry)
@@ -388,45 +398,51 @@ module _ (n : ℕ) (s : InProxy) (k : ℕ) (h : Tells n (seen s) k) where
   told_puts (Joined leg (TellsServer behind)) e =
       by_test Puts (behind == 0)
       (Some (record s { successor = Joined leg Told }, Packet (named.InR2A2 leg.cookie))) None
-      (λ t. let at = subst (λ (z : Successor). Tells n (record (seen s) { heir = z }) k) e h in
+      (λ t. let at = subst (λ (z : Successor). Tells n floor (record (seen s) { heir = z }) k) e h in
       let count = at.count in
+      let up = at.least in
       let next = at.behind in
       record {
         count = omega (arith, count, next);
+        least = omega (arith, up, next);
+        none = at.none;
         behind = next;
         joined = at.joined;
         done = at.done;
       })
       (λ t. tt)
 
-  less : (z : Successor) → Tells n (record (seen s) { heir = z }) k
-      → Tells n (record (seen s) { heir = one_less z }) k
+  less : (z : Successor) → Tells n floor (record (seen s) { heir = z }) k
+      → Tells n floor (record (seen s) { heir = one_less z }) k
   less Absent g = g
   less (Up number) g = g
   less (Joined leg Told) g = g
   less (Joined leg Follows) g = g
   less (Joined leg (TellsServer behind)) g =
-      record { count = g.count; behind = g.behind; joined = g.joined; done = g.done }
+      record { count = g.count; least = g.least; none = g.none; behind = g.behind; joined = g.joined; done = g.done }
 
   waiting_puts : (dues : List Due) → s.waiting.due ≡ dues → Puts (waiting_by s dues)
   waiting_puts [] e = tt
   waiting_puts (due ∷ dues) e =
       let g = less s.successor h in
       let count = g.count in
+      let none = g.none in
       let all = ap (waits is_in_r2_a2) e in
       let one = one_counts is_in_r2_a2 due.packet in
       record {
-        count = omega (arith, count, all, one);
+        count = omega (arith, count, none, all, one);
+        least = g.least;
+        none = omega (arith, none, all);
         behind = g.behind;
         joined = g.joined;
         done = g.done;
       }
 
-  taken_row : (pdus : List (List ℕ)) → Behind n k s.waiting.due s.current s.successor
+  taken_row : (pdus : List (List ℕ)) → Behind n floor k s.waiting.due s.current s.successor
       (line.taken pdus s.line)
-  taken_row [] = stays n k s.waiting.due s.line.has_next s.line.finished s.current s.successor h
+  taken_row [] = stays n floor k s.waiting.due s.line.has_next s.line.finished s.current s.successor h
   taken_row (one ∷ pdus) =
-      settles n k s.waiting.due s.current s.successor
+      settles n floor k s.waiting.due s.current s.successor
       (record (s.line) { current = line.released (one ∷ pdus) s.line.current }) h
 
   pdu_puts : (pdus : List (List ℕ)) → Puts (next_pdu s pdus)
@@ -489,7 +505,7 @@ module _ (n : ℕ) where
   row one came put (t, Err why) h = h
 
   put_row : (leg : Leg) (came put : List OnLeg) (pick : Pick)
-      → IfSome pick (λ (one : InProxy × Message). Tells n (seen one.0)
+      → IfSome pick (λ (one : InProxy × Message). Tells n 0 (seen one.0)
       (count_of is_in_r2_a2 (of_leg (is_leg n) put) + count_of is_in_r2_a2 (one.1 ∷ [])))
       → PutKeeps (Fact n) leg came put pick
   put_row leg came put None h = tt
@@ -498,6 +514,8 @@ module _ (n : ℕ) where
       let more = leg_at_most is_in_r2_a2 (is_leg n) put (leg, one.1) in
       record {
         count = omega (arith, count, more);
+        least = h.least;
+        none = h.none;
         behind = h.behind;
         joined = h.joined;
         done = h.done;
@@ -506,23 +524,23 @@ module _ (n : ℕ) where
   abbrev so_many : List OnLeg → ℕ
   so_many put = count_of is_in_r2_a2 (of_leg (is_leg n) put)
 
-  steps : StepsKeep proxy_rules (Fact n)
+  pub steps : StepsKeep proxy_rules (Fact n)
   steps = record {
-    up = λ s leg cookie came put h. up_row n s (so_many put) h leg;
+    up = λ s leg cookie came put h. up_row n 0 s (so_many put) h leg;
     head = λ s leg text came put h.
-        kept n s (so_many put) h (head s leg text).0 (same_head s leg text);
+        kept n 0 s (so_many put) h (head s leg text).0 (same_head s leg text);
     pdu = λ s leg count bytes came put h.
         row (leg, Pdu bytes) came put (pdu s leg count bytes)
-        (kept n s (so_many put) h (pdu s leg count bytes).0 (same_pdu s leg count bytes));
+        (kept n 0 s (so_many put) h (pdu s leg count bytes).0 (same_pdu s leg count bytes));
     packet = λ s leg count m came put h.
         row (leg, Packet m) came put (packet s leg count m)
-        (packet_row n s (so_many put) h leg count m);
+        (packet_row n 0 s (so_many put) h leg count m);
     put = λ s leg came put h.
-        put_row leg came put (put_of s leg) (puts n s (so_many put) h leg);
+        put_row leg came put (put_of s leg) (puts n 0 s (so_many put) h leg);
     drawn = λ s leg came put h.
-        kept n s (so_many put) h (drawn s leg) (same_drawn s leg);
-    mark = λ s leg came put h. kept n s (so_many put) h (mark s leg) (same_mark s leg);
-    ping = λ s leg came put h. kept n s (so_many put) h (ping s leg) (same_ping s leg);
+        kept n 0 s (so_many put) h (drawn s leg) (same_drawn s leg);
+    mark = λ s leg came put h. kept n 0 s (so_many put) h (mark s leg) (same_mark s leg);
+    ping = λ s leg came put h. kept n 0 s (so_many put) h (ping s leg) (same_ping s leg);
   }
 
 -- IN_R2/A2 was put for the later ci legs up to one, at most
@@ -533,5 +551,5 @@ pub is_told : (config : InProxyConfig) (moves : List Move)
 is_told config moves =
     let all = moves_keep proxy_rules (Fact config.number) (steps config.number)
     (started (first config)) moves
-    (record { count = omega arith; behind = tt; joined = refl; done = refl }) in
+    (record { count = omega arith; least = omega arith; none = refl; behind = tt; joined = refl; done = refl }) in
     let count = all.count in omega (arith, count)
