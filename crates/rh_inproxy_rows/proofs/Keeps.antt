@@ -50,7 +50,7 @@ use Rattle.rh_inproxy_rows.specs.Refusing.{any, ci_leg}
 use Rattle.rh_inproxy_rows.proofs.Legs.{All, IsBehind, IsPlain, Opens, Same, Starts, bound, client_is, client_within, grows, grows_to, last, pdu_within, plain, seen, server_within, Within}
 use Rattle.rh_inproxy_rows.proofs.Steps.{absent_is, awaits_none, begins, comes_behind, connects_some, finish_next, follow, is_opened, kept, newcomer_is, replaces_some, rises, same_ack, same_ack_to, same_a7, same_b1, same_drawn, same_end, same_head, same_keep_alive, same_mark, same_pdu, same_ping, same_settled, take_next}
 
-abbrev Fact : ℕ → InProxy → List OnLeg → List OnLeg → Type 0
+abbrev pub Fact : ℕ → InProxy → List OnLeg → List OnLeg → Type 0
 Fact n s came put = All n (seen s) came
 
 abbrev a5_on : ℕ → Cookie → OnLeg
@@ -474,7 +474,7 @@ module _ (n : ℕ) (s : InProxy) (came put : List OnLeg) (h : All n (seen s) cam
 -- ---- the role
 
 module _ (n : ℕ) where
-  steps : StepsKeep proxy_rules (Fact n)
+  pub steps : StepsKeep proxy_rules (Fact n)
   steps = record {
     up = λ s leg cookie came put h. up_keeps n s came put h leg;
     head = λ s leg text came put h. kept n s (head s leg text).0 came (same_head s leg text) h;
@@ -486,7 +486,7 @@ module _ (n : ℕ) where
     ping = λ s leg came put h. kept n s (ping s leg) came (same_ping s leg) h;
   }
 
-start : (config : InProxyConfig) → All config.number (seen (first config)) []
+pub start : (config : InProxyConfig) → All config.number (seen (first config)) []
 start config = record {
   number = refl;
   from = omega arith;

@@ -6,3 +6,4 @@ mod Answered
 mod Channels
 mod Refusals
 mod Telling
+mod Naming

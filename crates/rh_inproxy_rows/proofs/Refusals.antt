@@ -41,7 +41,7 @@ use Rattle.rh_inproxy.specs.Passing.{pdu_by}
 use Rattle.rh_inproxy.specs.State.{InProxy, channel_of, hands_over, has_a5, is_client_leg, is_server_leg, same_cookie}
 use Rattle.rh_inproxy.specs.Machine.{on_channel, on_channel_by, on_ci, on_is, packet, pdu, rules}
 use Rattle.rh_inproxy.specs.Machine.{pdu_by as machine_pdu_by}
-use Rattle.rh_passages.specs.Passing.{BeginsIn, HasOne, count_of}
+use Rattle.rh_passages.specs.Passing.{BeginsIn, Has, HasBegunIn, HasOne, count_of}
 use Rattle.rh_passages.proofs.Messages.{one_so}
 use Rattle.rh_proxy_counts.specs.InCounts.{is_leg}
 use Rattle.rh_proxy_counts.proofs.Counts.{leg_is}
@@ -56,7 +56,10 @@ use Rattle.rh_inproxy_rows.proofs.Telling.{told}
 module _ (n : ℕ) (p : Passage InProxy) (known : All n (seen p.role) p.came)
     (carries : Carries p)
     (tells : n + count_of is_in_r2_a2 (of_leg (is_leg n) p.put)
-    ≤ told p.role.current.number p.role.successor) where
+    ≤ told p.role.current.number p.role.successor)
+    (names : (cookie : Cookie) → Has (named.InR2A2 cookie) (of_leg (is_leg n) p.put)
+    → (j : ℕ) × (j ≤ told p.role.current.number p.role.successor)
+    × HasBegunIn cookie (of_leg (ci_leg j) p.came)) where
   abbrev s : InProxy
   s = p.role
 
@@ -110,10 +113,14 @@ module _ (n : ℕ) (p : Passage InProxy) (known : All n (seen p.role) p.came)
 
   untold : (k : ℕ) (z : Successor) → s.successor ≡ z → had_client s.opening ≡ true → c ≡ k
       → newest_by s.current z ≡ suc c
-      → n + count_of is_in_r2_a2 (of_leg (is_leg n) p.put) ≤ c → IsUntold n p k
-  untold k z e had at is tells =
+      → n + count_of is_in_r2_a2 (of_leg (is_leg n) p.put) ≤ c → told c z ≡ c → IsUntold n p k
+  untold k z e had at is tells untold_is =
       let newest_is = ap (newest_by s.current) e in
-      (next_up k had at (omega (arith, newest_is, is, at)), omega (arith, at, tells))
+      let told_is = ap (told c) e in
+      (next_up k had at (omega (arith, newest_is, is, at)), omega (arith, at, tells),
+      λ cookie has. let found = names cookie has in
+      let below = found.1 in
+      (found.0, omega (arith, below, told_is, untold_is, at), found.2))
 
   a5_by : (k : ℕ) (z : Successor) (cookie : Cookie) → s.successor ≡ z
       → had_client s.opening ≡ true → c ≡ k → IsBehind c (plain z) → Joins (plain z) p.came
@@ -121,9 +128,9 @@ module _ (n : ℕ) (p : Passage InProxy) (known : All n (seen p.role) p.came)
       → On k (named.InR1A5 cookie) (finish_by s z cookie)
   a5_by k Absent cookie e had at b j tells = tt
   a5_by k (Up number) cookie e had at b j tells =
-      inr (inr (untold k (Up number) e had at b tells))
+      inr (inr (untold k (Up number) e had at b tells refl))
   a5_by k (Joined leg (TellsServer behind)) cookie e had at b j tells =
-      inr (inr (untold k (Joined leg (TellsServer behind)) e had at b tells))
+      inr (inr (untold k (Joined leg (TellsServer behind)) e had at b tells refl))
   a5_by k (Joined leg Follows) cookie e had at b j tells =
       inr (inl (carries.left k Current at
       (ap (λ (z : Successor). hands_over z s.handover) e)))
@@ -257,10 +264,10 @@ module _ (n : ℕ) (p : Passage InProxy) (known : All n (seen p.role) p.came)
           inr (used_at k (ap (λ (q : Option Opener). is_some q) some) from
           (omega (arith, is, up, first)))
 
-  names : (o : Opener) (m : Named) → Opens o m → NamesConnection o.connection m
-  names o (named.ConnB1 version connection channel lifetime keepalive group) h = h.0
-  names o (named.InR1A1 version connection predecessor channel) h = h.0
-  names o m h = absurd h
+  names_so : (o : Opener) (m : Named) → Opens o m → NamesConnection o.connection m
+  names_so o (named.ConnB1 version connection channel lifetime keepalive group) h = h.0
+  names_so o (named.InR1A1 version connection predecessor channel) h = h.0
+  names_so o m h = absurd h
 
   begins_so : (o : Opener) (m : Named) → Opens o m → BeginsIn o.channel m
   begins_so o (named.ConnB1 version connection channel lifetime keepalive group) h = h.1
@@ -298,7 +305,7 @@ module _ (n : ℕ) (p : Passage InProxy) (known : All n (seen p.role) p.came)
         not_same o.connection connection a,
         inl (
           refl,
-          one_so (Opens o) (NamesConnection o.connection) (names o) (of_leg (ci_leg n) p.came)
+          one_so (Opens o) (NamesConnection o.connection) (names_so o) (of_leg (ci_leg n) p.came)
               begun.0,
         ),
       ))

@@ -79,6 +79,11 @@ told number (Joined leg Told) = leg.number
 told number (Joined leg Follows) = leg.number
 told number heir = number
 
+-- the server was told of the next ci leg, by this cookie
+abbrev pub IsTold : Cookie → Successor → Type 0
+IsTold cookie (Joined leg Told) = leg.cookie ≡ cookie
+IsTold cookie heir = ⊥
+
 -- so many were put
 pub record Tells (n floor : ℕ) (x : Seen) (put : ℕ) : Type 0 where
   pub count : n + put ≤ told x.number x.heir
@@ -92,10 +97,10 @@ pub record Tells (n floor : ℕ) (x : Seen) (put : ℕ) : Type 0 where
 
 -- ---- what leaves it alone
 
-same_head : (s : InProxy) (leg : Leg) (text : List ℕ) → Same s (head s leg text).0
+pub same_head : (s : InProxy) (leg : Leg) (text : List ℕ) → Same s (head s leg text).0
 same_head s leg text = search rules
 
-same_pdu : (s : InProxy) (leg : Leg) (count : Count) (bytes : List ℕ)
+pub same_pdu : (s : InProxy) (leg : Leg) (count : Count) (bytes : List ℕ)
     → Same s (pdu s leg count bytes).0
 same_pdu s leg count bytes = search rules
 
@@ -117,18 +122,18 @@ same_is s named.InR1B1 = search rules
 same_is s (named.Ack received available channel) = search rules
 same_is s m = refl
 
-same_drawn : (s : InProxy) (leg : Leg) → Same s (drawn s leg)
+pub same_drawn : (s : InProxy) (leg : Leg) → Same s (drawn s leg)
 same_drawn s leg = search rules
 
-same_settled : (s : InProxy) → Same s (settled s)
+pub same_settled : (s : InProxy) → Same s (settled s)
 same_settled s = search rules
 
-same_mark : (s : InProxy) (leg : Leg) → Same s (mark s leg)
+pub same_mark : (s : InProxy) (leg : Leg) → Same s (mark s leg)
 same_mark s leg =
     same_settled (if is_newest s leg then record s { newest_lost = true } else s)
     ∙ by_test (Same s) (is_newest s leg) _ s (λ e. refl) (λ e. refl)
 
-same_ping : (s : InProxy) (leg : Leg) → Same s (ping s leg)
+pub same_ping : (s : InProxy) (leg : Leg) → Same s (ping s leg)
 same_ping s leg = search rules
 
 -- ---- the next channel takes the place of the current one
@@ -195,16 +200,16 @@ abbrev pub Fact : ℕ → InProxy → List OnLeg → List OnLeg → Type 0
 Fact n s came put = Tells n 0 (seen s) (count_of is_in_r2_a2 (of_leg (is_leg n) put))
 
 module _ (n floor : ℕ) (s : InProxy) (k : ℕ) (h : Tells n floor (seen s) k) where
-  abbrev Holds : InProxy → Type 0
+  abbrev pub Holds : InProxy → Type 0
   Holds t = Tells n floor (seen t) k
 
-  abbrev Row : Done → Type 0
+  abbrev pub Row : Done → Type 0
   Row x = Holds x.0
 
-  kept : (t : InProxy) → Same s t → Holds t
+  pub kept : (t : InProxy) → Same s t → Holds t
   kept t same = subst (λ (x : Seen). Tells n floor x k) (sym same) h
 
-  up_row : (leg : Leg) → Holds (up s leg)
+  pub up_row : (leg : Leg) → Holds (up s leg)
   up_row leg =
       by_test Holds (may_accept s leg) (accepted s s.opening leg.number)
       (if wants s leg then connected s s.opening else s)
@@ -331,7 +336,7 @@ module _ (n floor : ℕ) (s : InProxy) (k : ℕ) (h : Tells n floor (seen s) k) 
       (λ e. later_row (opener_of s.opening) number connection predecessor channel)
   ci_row number m = by_channel_row (channel_of s number) m
 
-  packet_row : (leg : Leg) (count : Count) (m : Named) → Row (packet s leg count m)
+  pub packet_row : (leg : Leg) (count : Count) (m : Named) → Row (packet s leg count m)
   packet_row leg count m =
       by_test Row (is_client_leg leg) (on_ci s leg.number m)
       (if is_server_leg s leg then on_is s m else unexpected s) (λ e. ci_row leg.number m)
@@ -341,12 +346,12 @@ module _ (n floor : ℕ) (s : InProxy) (k : ℕ) (h : Tells n floor (seen s) k) 
   -- ---- puts
 
   -- behind the message
-  abbrev Puts : Pick → Type 0
+  abbrev pub Puts : Pick → Type 0
   Puts pick =
       IfSome pick (λ (one : InProxy × Message).
       Tells n floor (seen one.0) (k + count_of is_in_r2_a2 (one.1 ∷ [])))
 
-  abbrev Quiet : Pick → Type 0
+  abbrev pub Quiet : Pick → Type 0
   Quiet pick =
       IfSome pick (λ (one : InProxy × Message).
       Same s one.0 × (count_of is_in_r2_a2 (one.1 ∷ []) ≡ 0))
@@ -488,13 +493,90 @@ module _ (n floor : ℕ) (s : InProxy) (k : ℕ) (h : Tells n floor (seen s) k) 
       (quiet_puts (put_in_r1_a6 s) quiet_mark))
       (quiet_puts (put_ping s) quiet_ping)))
 
-  puts : (leg : Leg) → Puts (put_of s leg)
+  pub puts : (leg : Leg) → Puts (put_of s leg)
   puts leg =
       by_test Puts (is_client_leg leg) (put_echo s leg.number)
       (if is_server_leg s leg then settled_pick (next s) else None)
       (λ e. quiet_puts (put_echo s leg.number) (quiet_echo leg.number))
       (λ e. by_test Puts (is_server_leg s leg) (settled_pick (next s)) None
       (λ f. settled_puts (next s) next_puts) (λ f. tt))
+
+  -- ---- where IN_R2/A2 comes from
+
+  abbrev Source : Message → InProxy → Type 0
+  Source m t =
+      (cookie : Cookie) → m ≡ Packet (named.InR2A2 cookie) → IsTold cookie t.successor
+
+  abbrev pub Sources : Pick → Type 0
+  Sources pick = IfSome pick (λ (one : InProxy × Message). Source one.1 one.0)
+
+  no_source : (m : Message) (t : InProxy) → count_of is_in_r2_a2 (m ∷ []) ≡ 0 → Source m t
+  no_source m t none cookie e =
+      let one = ap (λ (x : Message). count_of is_in_r2_a2 (x ∷ [])) e in
+      absurd (omega (arith, none, one))
+
+  quiet_sources : (pick : Pick) → Quiet pick → Sources pick
+  quiet_sources None q = tt
+  quiet_sources (Some one) q = no_source one.1 one.0 q.1
+
+  or_sources : (a b : Pick) → Sources a → Sources b → Sources (or_else a b)
+  or_sources None b p q = q
+  or_sources (Some pick) b p q = p
+
+  settled_sources : (pick : Pick) → Sources pick → Sources (settled_pick pick)
+  settled_sources None p = tt
+  settled_sources (Some pick) p = λ cookie e.
+      subst (IsTold cookie) (sym (ap (λ (x : Seen). x.heir) (same_settled pick.0))) (p cookie e)
+
+  told_sources : (z : Successor) → Sources (told_by s z)
+  told_sources Absent = tt
+  told_sources (Up number) = tt
+  told_sources (Joined leg Told) = tt
+  told_sources (Joined leg Follows) = tt
+  told_sources (Joined leg (TellsServer behind)) =
+      by_test Sources (behind == 0)
+      (Some (record s { successor = Joined leg Told }, Packet (named.InR2A2 leg.cookie))) None
+      (λ t cookie e. (let is : leg.cookie ≡ cookie = cc in is)) (λ t. tt)
+
+  waiting_sources : (dues : List Due) → s.waiting.due ≡ dues → Sources (waiting_by s dues)
+  waiting_sources [] e = tt
+  waiting_sources (due ∷ dues) e =
+      let none = h.none in
+      let all = ap (waits is_in_r2_a2) e in
+      let one = one_counts is_in_r2_a2 due.packet in
+      no_source (Packet due.packet)
+      (record s { waiting = waiting.with_due s.waiting dues; successor = one_less s.successor })
+      (omega (arith, none, all, one))
+
+  pdu_sources : (pdus : List (List ℕ)) → Sources (next_pdu s pdus)
+  pdu_sources [] = tt
+  pdu_sources (one ∷ pdus) =
+      by_test Sources (may_send s.window (length one)) (Some (passed s (length one), Pdu one))
+      None (λ t. no_source (Pdu one) (passed s (length one)) refl) (λ t. tt)
+
+  next_sources : Sources (next s)
+  next_sources =
+      or_sources (put_control s) (put_stream s)
+      (or_sources (put_early s) (put_acks s)
+      (or_sources (put_first s) _ (quiet_sources (put_first s) (quiet_first s.opening))
+      (or_sources (put_in_r2_a2 s) (put_waiting s) (told_sources s.successor)
+      (waiting_sources s.waiting.due refl)))
+      (or_sources (current_ack s) (next_ack s s.successor)
+      (quiet_sources (current_ack s) (quiet_ack Current s.current.cookie (ack_due s Current)))
+      (quiet_sources (next_ack s s.successor) (quiet_next s.successor))))
+      (or_sources (put_pdu s) (put_behind s) (pdu_sources s.line.current.pdus)
+      (or_sources (put_mark s) (put_ping s)
+      (or_sources (put_end s) (put_in_r1_a6 s) (quiet_sources (put_end s) quiet_end)
+      (quiet_sources (put_in_r1_a6 s) quiet_mark))
+      (quiet_sources (put_ping s) quiet_ping)))
+
+  pub sources : (leg : Leg) → Sources (put_of s leg)
+  sources leg =
+      by_test Sources (is_client_leg leg) (put_echo s leg.number)
+      (if is_server_leg s leg then settled_pick (next s) else None)
+      (λ e. quiet_sources (put_echo s leg.number) (quiet_echo leg.number))
+      (λ e. by_test Sources (is_server_leg s leg) (settled_pick (next s)) None
+      (λ f. settled_sources (next s) next_sources) (λ f. tt))
 
 -- ---- the role
 
@@ -543,6 +625,16 @@ module _ (n : ℕ) where
     ping = λ s leg came put h. kept n 0 s (so_many put) h (ping s leg) (same_ping s leg);
   }
 
+pub start : (config : InProxyConfig) → Fact config.number (first config) [] []
+start config = record {
+  count = omega arith;
+  least = omega arith;
+  none = refl;
+  behind = tt;
+  joined = refl;
+  done = refl;
+}
+
 -- IN_R2/A2 was put for the later ci legs up to one, at most
 pub is_told : (config : InProxyConfig) (moves : List Move)
     → (let p = all_moved proxy_rules (started (first config)) moves in
@@ -551,5 +643,5 @@ pub is_told : (config : InProxyConfig) (moves : List Move)
 is_told config moves =
     let all = moves_keep proxy_rules (Fact config.number) (steps config.number)
     (started (first config)) moves
-    (record { count = omega arith; least = omega arith; none = refl; behind = tt; joined = refl; done = refl }) in
+    (start config) in
     let count = all.count in omega (arith, count)

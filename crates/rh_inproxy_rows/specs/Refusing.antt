@@ -53,11 +53,14 @@ abbrev pub is_in_r2_a2 : Named → Bool
 is_in_r2_a2 (InR2A2 successor) = true
 is_in_r2_a2 packet = false
 
--- the next ci leg was up, and IN_R2/A2 was put for the later ones up to this one at most
+-- the next ci leg was up, and IN_R2/A2 was put for the later ones up to this one at most: each that
+-- was put names the channel of such a leg
 abbrev pub IsUntold : ℕ → Passage InProxy → ℕ → Type 0
 IsUntold first p n =
     IsTrue (rules.was_up p.role (ci_leg (suc n)))
     × (first + count_of is_in_r2_a2 (of_leg (is_leg first) p.put) ≤ n)
+    × ((cookie : Cookie) → Has (InR2A2 cookie) (of_leg (is_leg first) p.put)
+    → (k : ℕ) × (k ≤ n) × HasBegunIn cookie (of_leg (ci_leg k) p.came))
 
 -- ---- unexpected
 
