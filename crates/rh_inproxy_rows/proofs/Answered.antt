@@ -1,8 +1,14 @@
 -- what is so of an answer that refuses
-use Rattle.std.proofs.Common.{◌≡◌, Bool, true, false, not, Ok, Err, refl, ap, subst}
+use Rattle.std.proofs.Common.{◌≡◌, ◌&&◌, Bool, true, false, not, Ok, Err, inl, inr, refl, ap, subst}
 use Rattle.std.proofs.lemmas.Slice.Eq.{bytes_eq-Decides}
 use Rattle.std.specs.declared.result.Result.{Result}
+use Rattle.std.specs.Prelude.{◌⊎◌}
 use Rattle.rh_rts.specs.declared.command.Cookie.{Cookie}
+use Rattle.rh_sig.specs.declared.named.Named.TheVariants as named
+use Rattle.rh_inproxy.specs.declared.state.Opener.{Opener}
+use Rattle.rh_passages.specs.Passing.{BeginsIn}
+use Rattle.rh_inproxy_rows.specs.Refusing.{NamesConnection}
+use Rattle.rh_inproxy_rows.proofs.Legs.{Opens}
 use Rattle.rh_sig.specs.declared.named.Named.{Named}
 use Rattle.rh_window.specs.declared.fault.BadAck.{BadAck}
 use Rattle.rh_shell.specs.declared.answers.Refused.TheVariants as refused
@@ -62,3 +68,19 @@ not_same a b e = by (same_cookie a b) refl e
     by : (t : Bool) → same_cookie a b ≡ t → not t ≡ true → a ≡ b → ⊥
     by true f e is = absurd cc
     by false f e is = differs a b f is
+
+-- ---- tests, and first packets
+
+pub names_so : (o : Opener) (m : Named) → Opens o m → NamesConnection o.connection m
+names_so o (named.ConnB1 version connection channel lifetime keepalive group) h = h.0
+names_so o (named.InR1A1 version connection predecessor channel) h = h.0
+names_so o m h = absurd h
+
+pub begins_so : (o : Opener) (m : Named) → Opens o m → BeginsIn o.channel m
+begins_so o (named.ConnB1 version connection channel lifetime keepalive group) h = h.1
+begins_so o (named.InR1A1 version connection predecessor channel) h = h.1
+begins_so o m h = absurd h
+
+pub one_fails : (a b : Bool) → (a && b) ≡ false → (a ≡ false) ⊎ (b ≡ false)
+one_fails false b e = inl refl
+one_fails true b e = inr e

@@ -5,5 +5,6 @@ mod Items
 mod Answered
 mod Channels
 mod Refusals
+mod Told
 mod Telling
 mod Naming

@@ -1,6 +1,6 @@
 -- which channels the IN_R2/A2 name that an in proxy put
-use Rattle.std.proofs.Common.{◌≡◌, ℕ, ◌+◌, ◌≤◌, Bool, true, false, if◌then◌else◌, List, [], ◌∷◌, ◌++◌, Some, None, Ok, Err, inl, inr, refl, subst, arith}
-use Rattle.std.specs.Prelude.{IfSome, ◌⊎◌}
+use Rattle.std.proofs.Common.{◌≡◌, ℕ, ◌≤◌, Bool, true, false, if◌then◌else◌, List, [], ◌∷◌, ◌++◌, Some, None, Ok, Err, inl, inr, subst, arith}
+use Rattle.std.specs.Prelude.{◌⊎◌}
 use Rattle.rh_rts.specs.declared.command.Cookie.{Cookie}
 use Rattle.rh_sig.specs.declared.named.Named.{Named}
 use Rattle.rh_sig.specs.declared.named.Named.TheVariants as named
@@ -29,7 +29,9 @@ use Rattle.rh_inproxy_rows.specs.Refusing.{ci_leg, is_in_r2_a2}
 use Rattle.rh_inproxy_rows.proofs.Legs.{Joins, one_more, plain}
 use Rattle.rh_inproxy_rows.proofs.Keeps as keeps
 use Rattle.rh_inproxy_rows.proofs.Telling as telling
-use Rattle.rh_inproxy_rows.proofs.Telling.{IsTold, Sources, Tells, told}
+use Rattle.rh_inproxy_rows.proofs.Told as tolds
+use Rattle.rh_inproxy_rows.proofs.Told.{IsTold, Tells, told}
+use Rattle.rh_inproxy_rows.proofs.Telling.{Sources}
 
 has_split : (m : Named) (a b : List Message) → Has m (a ++ b) → Has m a ⊎ Has m b
 has_split m [] b h = inr h
@@ -52,9 +54,11 @@ Began cookie came limit = (j : ℕ) × (j ≤ limit) × HasBegunIn cookie (of_le
 
 began_of : (number : ℕ) (z : Successor) (cookie : Cookie) (came : List OnLeg)
     → IsTold cookie z → Joins (plain z) came → Began cookie came (told number z)
-began_of number (Joined leg Told) cookie came is joins =
-    (leg.number, omega arith,
-    subst (λ (c : Cookie). HasBegunIn c (of_leg (ci_leg leg.number) came)) is joins)
+began_of number (Joined leg Told) cookie came is joins = (
+  leg.number,
+  omega arith,
+  subst (λ (c : Cookie). HasBegunIn c (of_leg (ci_leg leg.number) came)) is joins,
+)
 began_of number (Joined leg (TellsServer behind)) cookie came is joins = absurd is
 began_of number (Joined leg Follows) cookie came is joins = absurd is
 began_of number (Up next) cookie came is joins = absurd is
@@ -79,8 +83,8 @@ module _ (n : ℕ) where
   so_many put = count_of is_in_r2_a2 (of_leg (is_leg n) put)
 
   -- it goes no further back
-  raised : (s : InProxy) (k : ℕ) → Tells n 0 (telling.seen s) k
-      → Tells n (reached s) (telling.seen s) k
+  raised : (s : InProxy) (k : ℕ) → Tells n 0 (tolds.seen s) k
+      → Tells n (reached s) (tolds.seen s) k
   raised s k h = record {
     count = h.count;
     least = omega arith;
@@ -118,7 +122,7 @@ module _ (n : ℕ) where
   }
 
   put_row : (s : InProxy) (leg : Leg) (came put : List OnLeg) (pick : Pick) (k : ℕ)
-      (g : Tells n (reached s) (telling.seen s) k) → Holds s came put
+      (g : Tells n (reached s) (tolds.seen s) k) → Holds s came put
       → PutKeeps (keeps.Fact n) leg came put pick → PutKeeps (telling.Fact n) leg came put pick
       → telling.Puts n (reached s) s k g pick → Sources n (reached s) s k g pick
       → PutKeeps Holds leg came put pick
@@ -161,13 +165,13 @@ module _ (n : ℕ) where
         same s (head s leg text).0 came put h ((keeps.steps n).head s leg text came put h.legs)
         ((telling.steps n).head s leg text came put h.tells)
         (telling.kept n (reached s) s (so_many put) (raised s (so_many put) h.tells)
-        (head s leg text).0 (telling.same_head s leg text)).least;
+        (head s leg text).0 (tolds.same_head s leg text)).least;
     pdu = λ s leg count bytes came put h.
         row s (leg, Pdu bytes) came put (pdu s leg count bytes) h
         ((keeps.steps n).pdu s leg count bytes came put h.legs)
         ((telling.steps n).pdu s leg count bytes came put h.tells)
         (telling.kept n (reached s) s (so_many put) (raised s (so_many put) h.tells)
-        (pdu s leg count bytes).0 (telling.same_pdu s leg count bytes)).least;
+        (pdu s leg count bytes).0 (tolds.same_pdu s leg count bytes)).least;
     packet = λ s leg count m came put h.
         row s (leg, Packet m) came put (packet s leg count m) h
         ((keeps.steps n).packet s leg count m came put h.legs)
@@ -184,17 +188,17 @@ module _ (n : ℕ) where
         same s (drawn s leg) came put h ((keeps.steps n).drawn s leg came put h.legs)
         ((telling.steps n).drawn s leg came put h.tells)
         (telling.kept n (reached s) s (so_many put) (raised s (so_many put) h.tells)
-        (drawn s leg) (telling.same_drawn s leg)).least;
+        (drawn s leg) (tolds.same_drawn s leg)).least;
     mark = λ s leg came put h.
         same s (mark s leg) came put h ((keeps.steps n).mark s leg came put h.legs)
         ((telling.steps n).mark s leg came put h.tells)
         (telling.kept n (reached s) s (so_many put) (raised s (so_many put) h.tells)
-        (mark s leg) (telling.same_mark s leg)).least;
+        (mark s leg) (tolds.same_mark s leg)).least;
     ping = λ s leg came put h.
         same s (ping s leg) came put h ((keeps.steps n).ping s leg came put h.legs)
         ((telling.steps n).ping s leg came put h.tells)
         (telling.kept n (reached s) s (so_many put) (raised s (so_many put) h.tells)
-        (ping s leg) (telling.same_ping s leg)).least;
+        (ping s leg) (tolds.same_ping s leg)).least;
   }
 
 -- each names the channel of a ci leg of which the server was told

@@ -49,9 +49,9 @@ use Rattle.rh_proxy_counts.specs.Kinds.{is_in_r1_a6, opens_server}
 use Rattle.rh_inproxy_rows.specs.Refusing.{HasPacket, HasPdu, IsEnded, IsLeft, IsNew, IsUntold, is_in_r2_a2, Mismatch, NamesConnection, RefusesFor, Unexpected, UnexpectedOnClient, UnexpectedOnServer, UnexpectedPdu, UnexpectedPduBy, ci_leg}
 use Rattle.rh_inproxy_rows.proofs.Legs.{All, IsBehind, Joins, Opened, Opens, Starts, bound, client_is, last, plain, seen}
 use Rattle.rh_inproxy_rows.proofs.Steps.{newcomer_is}
-use Rattle.rh_inproxy_rows.proofs.Answered.{Refuses, acks, differs, forwards, not_same, so_mismatch, so_unexpected}
+use Rattle.rh_inproxy_rows.proofs.Answered.{Refuses, acks, begins_so, differs, forwards, names_so, not_same, one_fails, so_mismatch, so_unexpected}
 use Rattle.rh_inproxy_rows.proofs.Channels.{At, Carries}
-use Rattle.rh_inproxy_rows.proofs.Telling.{told}
+use Rattle.rh_inproxy_rows.proofs.Told.{told}
 
 module _ (n : ℕ) (p : Passage InProxy) (known : All n (seen p.role) p.came)
     (carries : Carries p)
@@ -116,11 +116,13 @@ module _ (n : ℕ) (p : Passage InProxy) (known : All n (seen p.role) p.came)
       → n + count_of is_in_r2_a2 (of_leg (is_leg n) p.put) ≤ c → told c z ≡ c → IsUntold n p k
   untold k z e had at is tells untold_is =
       let newest_is = ap (newest_by s.current) e in
-      let told_is = ap (told c) e in
-      (next_up k had at (omega (arith, newest_is, is, at)), omega (arith, at, tells),
-      λ cookie has. let found = names cookie has in
-      let below = found.1 in
-      (found.0, omega (arith, below, told_is, untold_is, at), found.2))
+      let told_is = ap (told c) e in (
+        next_up k had at (omega (arith, newest_is, is, at)),
+        omega (arith, at, tells),
+        λ cookie has. let found = names cookie has in
+            let below = found.1 in
+            (found.0, omega (arith, below, told_is, untold_is, at), found.2),
+      )
 
   a5_by : (k : ℕ) (z : Successor) (cookie : Cookie) → s.successor ≡ z
       → had_client s.opening ≡ true → c ≡ k → IsBehind c (plain z) → Joins (plain z) p.came
@@ -264,16 +266,6 @@ module _ (n : ℕ) (p : Passage InProxy) (known : All n (seen p.role) p.came)
           inr (used_at k (ap (λ (q : Option Opener). is_some q) some) from
           (omega (arith, is, up, first)))
 
-  names_so : (o : Opener) (m : Named) → Opens o m → NamesConnection o.connection m
-  names_so o (named.ConnB1 version connection channel lifetime keepalive group) h = h.0
-  names_so o (named.InR1A1 version connection predecessor channel) h = h.0
-  names_so o m h = absurd h
-
-  begins_so : (o : Opener) (m : Named) → Opens o m → BeginsIn o.channel m
-  begins_so o (named.ConnB1 version connection channel lifetime keepalive group) h = h.1
-  begins_so o (named.InR1A1 version connection predecessor channel) h = h.1
-  begins_so o m h = absurd h
-
   opened_by : (o : Opener) → opener_of s.opening ≡ Some o → Opened n (Some o) s.current p.came
   opened_by o e =
       subst (λ (q : Option Opener). Opened n q s.current p.came) e known.opened
@@ -387,10 +379,6 @@ module _ (n : ℕ) (p : Passage InProxy) (known : All n (seen p.role) p.came)
 
   abbrev OnIs : Named → Done → Type 0
   OnIs m x = Refuses (UnexpectedOnServer n p m) (Mismatch n p (is_leg n) m) x
-
-  one_fails : (a b : Bool) → (a && b) ≡ false → (a ≡ false) ⊎ (b ≡ false)
-  one_fails false b e = inl refl
-  one_fails true b e = inr e
 
   is_told : is_unknown s.edge ≡ false → 1 ≤ count_of opens_server (of_leg (is_leg n) p.came)
   is_told e =

@@ -1,5 +1,5 @@
 -- how many IN_R2/A2 an in proxy put: one for each later ci leg up to the one that it tells of
-use Rattle.std.proofs.Common.{◌≡◌, ℕ, suc, ◌+◌, ◌≤◌, ◌==◌, ◌&&◌, Bool, true, false, not, if◌then◌else◌, List, [], ◌∷◌, length, Some, None, Ok, Err, refl, sym, ap, subst, ◌∙◌, arith, rules}
+use Rattle.std.proofs.Common.{◌≡◌, ℕ, suc, ◌+◌, ◌≤◌, ◌==◌, ◌&&◌, Bool, true, false, not, if◌then◌else◌, List, [], ◌∷◌, length, Some, None, Ok, Err, refl, sym, ap, subst, arith, rules}
 use Rattle.std.proofs.lemmas.Bool.{and_parts}
 use Rattle.std.proofs.lemmas.Bool.Decides.{nat_tests}
 use Rattle.std.specs.Prelude.{IfSome}
@@ -22,7 +22,6 @@ use Rattle.rh_shell.specs.Rules.{Message, Pdu, Packet}
 use Rattle.rh_shell.specs.Shells.{one_if}
 use Rattle.rh_shell.specs.Waiting as waiting
 use Rattle.rh_shell.specs.Wires.{of_leg}
-use Rattle.rh_inproxy.specs.declared.state.ClientLeg.{ClientLeg}
 use Rattle.rh_inproxy.specs.declared.state.Entry.{Entry}
 use Rattle.rh_inproxy.specs.declared.state.Entry.TheVariants.{Connects, Replaces}
 use Rattle.rh_inproxy.specs.declared.state.InProxyConfig.{InProxyConfig}
@@ -34,12 +33,12 @@ use Rattle.rh_inproxy.specs.declared.state.Successor.{Successor}
 use Rattle.rh_inproxy.specs.declared.state.Successor.TheVariants.{Absent, Up, Joined}
 use Rattle.rh_inproxy.specs.Acknowledging.{forward_by, forwarded, ack_due, ack_by, current_ack, next_ack, put_acks}
 use Rattle.rh_inproxy.specs.Answers.{Done, Pick, or_else, refuse, taken, unexpected}
-use Rattle.rh_inproxy.specs.Ending.{is_newest, is_succeeded, mark, on_end_a1, put_end, settled, settled_pick}
+use Rattle.rh_inproxy.specs.Ending.{mark, on_end_a1, put_end, settled_pick}
 use Rattle.rh_inproxy.specs.InReplacement.{is_newcomer, joined, join, on_later_in_r1_a1, on_in_r1_a5, finish_by, finished, hand_over, one_less, put_in_r1_a6, put_in_r2_a2, told_by}
 use Rattle.rh_inproxy.specs.Opening.{up, may_accept, accepts, accepts_later, accepted, wants, connected, head, drawn, announcement, first_by, is_absent, is_first, on_conn_b1, on_first_in_r1_a1, opener_of, put_echo, put_first}
 use Rattle.rh_inproxy.specs.Passing.{next_pdu, passed, put_pdu}
 use Rattle.rh_inproxy.specs.Putting.{put as put_of, next, waiting_by, put_waiting, put_control, put_early, put_stream, put_behind, put_mark}
-use Rattle.rh_inproxy.specs.State.{InProxy, first, channel_of, follows, has_a5, is_client_leg, is_joined, is_server_leg, same_cookie}
+use Rattle.rh_inproxy.specs.State.{InProxy, first, channel_of, has_a5, is_client_leg, is_server_leg, same_cookie}
 use Rattle.rh_inproxy.specs.Time.{on_keep_alive, ping, put_ping}
 use Rattle.rh_inproxy.specs.Machine.{pdu, packet, on_channel, on_channel_by, on_ci, on_is}
 use Rattle.rh_inproxy.specs.Machine.{rules as proxy_rules}
@@ -49,150 +48,8 @@ use Rattle.rh_proxy_counts.specs.InCounts.{is_leg}
 use Rattle.rh_proxy_counts.proofs.Counts.{leg_at_most, one_counts}
 use Rattle.rh_proxy_counts.proofs.Waits.{IsSame, waits, forwarded_waits, refused_waits}
 use Rattle.rh_inproxy_rows.specs.Refusing.{is_in_r2_a2}
-use Rattle.rh_inproxy_rows.proofs.Legs.{IsBehind}
 use Rattle.rh_inproxy_rows.proofs.Steps.{absent_is, newcomer_is}
-
--- ---- what the fact is about
-
-pub record Seen : Type 0 where
-  pub number : ℕ
-  pub heir : Successor
-  pub has_next : Bool
-  pub done : Bool
-  pub dues : List Due
-
-abbrev pub seen : InProxy → Seen
-seen s = record {
-  number = s.current.number;
-  heir = s.successor;
-  has_next = s.line.has_next;
-  done = s.line.finished;
-  dues = s.waiting.due;
-}
-
-abbrev Same : InProxy → InProxy → Type 0
-Same s t = seen t ≡ seen s
-
--- the last ci leg of which the server was told
-abbrev pub told : ℕ → Successor → ℕ
-told number (Joined leg Told) = leg.number
-told number (Joined leg Follows) = leg.number
-told number heir = number
-
--- the server was told of the next ci leg, by this cookie
-abbrev pub IsTold : Cookie → Successor → Type 0
-IsTold cookie (Joined leg Told) = leg.cookie ≡ cookie
-IsTold cookie heir = ⊥
-
--- so many were put
-pub record Tells (n floor : ℕ) (x : Seen) (put : ℕ) : Type 0 where
-  pub count : n + put ≤ told x.number x.heir
-  -- it is no earlier one than this
-  pub least : floor ≤ told x.number x.heir
-  -- none waits
-  pub none : waits is_in_r2_a2 x.dues ≡ 0
-  pub behind : IsBehind x.number x.heir
-  pub joined : x.has_next ≡ is_joined x.heir
-  pub done : x.done ≡ is_succeeded x.heir
-
--- ---- what leaves it alone
-
-pub same_head : (s : InProxy) (leg : Leg) (text : List ℕ) → Same s (head s leg text).0
-same_head s leg text = search rules
-
-pub same_pdu : (s : InProxy) (leg : Leg) (count : Count) (bytes : List ℕ)
-    → Same s (pdu s leg count bytes).0
-same_pdu s leg count bytes = search rules
-
-same_keep_alive : (s : InProxy) (which : Which) (keepalive : ℕ)
-    → Same s (on_keep_alive s which keepalive).0
-same_keep_alive s which keepalive = search rules
-
-same_end : (s : InProxy) (which : Which) → Same s (on_end_a1 s which).0
-same_end s which = search rules
-
-same_conn_b1 : (s : InProxy) (number : ℕ) (connection channel : Cookie) (keepalive : ℕ)
-    (group : Cookie) → Same s (on_conn_b1 s number connection channel keepalive group).0
-same_conn_b1 s number connection channel keepalive group = search rules
-
-same_is : (s : InProxy) (m : Named) → Same s (on_is s m).0
-same_is s (named.ConnB3 size version) = search rules
-same_is s (named.InR1B2 size) = search rules
-same_is s named.InR1B1 = search rules
-same_is s (named.Ack received available channel) = search rules
-same_is s m = refl
-
-pub same_drawn : (s : InProxy) (leg : Leg) → Same s (drawn s leg)
-same_drawn s leg = search rules
-
-pub same_settled : (s : InProxy) → Same s (settled s)
-same_settled s = search rules
-
-pub same_mark : (s : InProxy) (leg : Leg) → Same s (mark s leg)
-same_mark s leg =
-    same_settled (if is_newest s leg then record s { newest_lost = true } else s)
-    ∙ by_test (Same s) (is_newest s leg) _ s (λ e. refl) (λ e. refl)
-
-pub same_ping : (s : InProxy) (leg : Leg) → Same s (ping s leg)
-same_ping s leg = search rules
-
--- ---- the next channel takes the place of the current one
-
-no_ack : (to received available : ℕ) (channel : Cookie)
-    → is_in_r2_a2 (named.AckTo to received available channel) ≡ false
-no_ack to received available channel = refl
-
-module _ (n floor k : ℕ) (dues : List Due) where
-  abbrev After : Bool → Bool → ClientLeg → Successor → Type 0
-  After has_next done current z = Tells n floor (record {
-    number = (follows has_next current z).0.number;
-    heir = (follows has_next current z).1;
-    has_next = has_next;
-    done = done;
-    dues = dues;
-  }) k
-
-  stays : (has_next done : Bool) (current : ClientLeg) (z : Successor)
-      → Tells n floor (record {
-        number = current.number;
-        heir = z;
-        has_next = has_next;
-        done = done;
-        dues = dues;
-      }) k → After has_next done current z
-  stays true done current z h = h
-  stays false done current Absent h = h
-  stays false done current (Up number) h = h
-  stays false done current (Joined leg stage) h = absurd (let e = h.joined in cc)
-
-  goes : (current : ClientLeg) (z : Successor) → is_succeeded z ≡ true
-      → n + k ≤ told current.number z → floor ≤ told current.number z
-      → waits is_in_r2_a2 dues ≡ 0 → After false false current z
-  goes current (Joined leg Follows) e h up none =
-      record { count = h; least = up; none = none; behind = tt; joined = refl; done = refl }
-  goes current (Joined leg Told) e h up none = absurd cc
-  goes current (Joined leg (TellsServer behind)) e h up none = absurd cc
-  goes current (Up number) e h up none = absurd cc
-  goes current Absent e h up none = absurd cc
-
-  -- as the line says
-  abbrev Behind : ClientLeg → Successor → line.Line → Type 0
-  Behind current z l = After l.has_next l.finished current z
-
-  settles : (current : ClientLeg) (z : Successor) (l : line.Line)
-      → Tells n floor (record {
-        number = current.number;
-        heir = z;
-        has_next = l.has_next;
-        done = l.finished;
-        dues = dues;
-      }) k → Behind current z (line.settled l)
-  settles current z l h =
-      by_test (Behind current z) (l.finished && line.is_empty l.current.pdus) (line.moved_on l) l
-      (λ e. goes current z (sym h.done
-      ∙ (and_parts l.finished (line.is_empty l.current.pdus) e).0) h.count
-      h.least h.none)
-      (λ e. stays l.has_next l.finished current z h)
+use Rattle.rh_inproxy_rows.proofs.Told.{Behind, IsTold, Same, Seen, Tells, no_ack, same_conn_b1, same_drawn, same_end, same_head, same_is, same_keep_alive, same_mark, same_pdu, same_ping, same_settled, seen, settles, stays, told}
 
 -- ---- steps
 
