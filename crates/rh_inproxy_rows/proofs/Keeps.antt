@@ -147,7 +147,8 @@ module _ (n : ℕ) (s : InProxy) (came put : List OnLeg) (h : All n (seen s) cam
           (λ t. follow n (line.after_finish s.line).has_next (seen s) (Joined leg Follows)
           (came ++ a5_on k cookie ∷ []) (finish_next s.line)
           (subst (λ (z : Successor).
-          All n (record (seen s) { heir = plain z }) (came ++ a5_on k cookie ∷ [])) e (grows n (seen s) came (a5_on k cookie) h plain_one
+          All n (record (seen s) { heir = plain z }) (came ++ a5_on k cookie ∷ [])) e
+          (grows n (seen s) came (a5_on k cookie) h plain_one
           (client_within k limit (Packet (named.InR1A5 cookie)) below))))
           (λ t. h)
 

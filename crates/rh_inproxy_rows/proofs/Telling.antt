@@ -85,7 +85,14 @@ module _ (n floor : ℕ) (s : InProxy) (k : ℕ) (h : Tells n floor (seen s) k) 
           let free : is_absent s.successor ≡ true = grind (arith, nat_tests) in
           let alone = subst (λ (z : Successor). Tells n floor (record (seen s) { heir = z }) k)
           (absent_is s.successor free) h in
-          record { count = alone.count; least = alone.least; none = alone.none; behind = at; joined = alone.joined; done = alone.done }
+          record {
+            count = alone.count;
+            least = alone.least;
+            none = alone.none;
+            behind = at;
+            joined = alone.joined;
+            done = alone.done;
+          }
 
       accepts_row : (o : Opening) → accepts s o leg.number ≡ true
           → Holds (accepted s o leg.number)
@@ -130,10 +137,18 @@ module _ (n floor : ℕ) (s : InProxy) (k : ℕ) (h : Tells n floor (seen s) k) 
   finish_row (Joined leg Told) cookie e =
       by_test Row (same_cookie leg.cookie cookie) (taken (finished s leg))
       (refuse s (refused.Cookie leg.cookie cookie))
-      (λ t. let at = subst (λ (z : Successor). Tells n floor (record (seen s) { heir = z }) k) e h in
+      (λ t.
+      let at = subst (λ (z : Successor). Tells n floor (record (seen s) { heir = z }) k) e h in
       settles n floor k s.waiting.due s.current (Joined leg Follows)
       (record (s.line) { finished = true })
-      (record { count = at.count; least = at.least; none = at.none; behind = at.behind; joined = at.joined; done = refl }))
+      (record {
+        count = at.count;
+        least = at.least;
+        none = at.none;
+        behind = at.behind;
+        joined = at.joined;
+        done = refl;
+      }))
       (λ t. h)
 
   a5_row : (which : Which) (cookie : Cookie) → Row (on_in_r1_a5 s which cookie)
@@ -180,8 +195,16 @@ module _ (n floor : ℕ) (s : InProxy) (k : ℕ) (h : Tells n floor (seen s) k) 
     where
       joins : s.successor ≡ Up number → Holds (joined s number channel)
       joins e =
-          let at = subst (λ (z : Successor). Tells n floor (record (seen s) { heir = z }) k) e h in
-          record { count = at.count; least = at.least; none = at.none; behind = at.behind; joined = refl; done = at.done }
+          let at =
+          subst (λ (z : Successor). Tells n floor (record (seen s) { heir = z }) k) e h in
+          record {
+            count = at.count;
+            least = at.least;
+            none = at.none;
+            behind = at.behind;
+            joined = refl;
+            done = at.done;
+          }
 
   ci_row : (number : ℕ) (m : Named) → Row (on_ci s number m)
   ci_row number (named.ConnB1 version connection channel lifetime keepalive group) =
@@ -260,7 +283,8 @@ module _ (n floor : ℕ) (s : InProxy) (k : ℕ) (h : Tells n floor (seen s) k) 
   told_puts (Joined leg (TellsServer behind)) e =
       by_test Puts (behind == 0)
       (Some (record s { successor = Joined leg Told }, Packet (named.InR2A2 leg.cookie))) None
-      (λ t. let at = subst (λ (z : Successor). Tells n floor (record (seen s) { heir = z }) k) e h in
+      (λ t.
+      let at = subst (λ (z : Successor). Tells n floor (record (seen s) { heir = z }) k) e h in
       let count = at.count in
       let up = at.least in
       let next = at.behind in
@@ -281,7 +305,14 @@ module _ (n floor : ℕ) (s : InProxy) (k : ℕ) (h : Tells n floor (seen s) k) 
   less (Joined leg Told) g = g
   less (Joined leg Follows) g = g
   less (Joined leg (TellsServer behind)) g =
-      record { count = g.count; least = g.least; none = g.none; behind = g.behind; joined = g.joined; done = g.done }
+      record {
+        count = g.count;
+        least = g.least;
+        none = g.none;
+        behind = g.behind;
+        joined = g.joined;
+        done = g.done;
+      }
 
   waiting_puts : (dues : List Due) → s.waiting.due ≡ dues → Puts (waiting_by s dues)
   waiting_puts [] e = tt
@@ -302,7 +333,8 @@ module _ (n floor : ℕ) (s : InProxy) (k : ℕ) (h : Tells n floor (seen s) k) 
 
   taken_row : (pdus : List (List ℕ)) → Behind n floor k s.waiting.due s.current s.successor
       (line.taken pdus s.line)
-  taken_row [] = stays n floor k s.waiting.due s.line.has_next s.line.finished s.current s.successor h
+  taken_row [] =
+      stays n floor k s.waiting.due s.line.has_next s.line.finished s.current s.successor h
   taken_row (one ∷ pdus) =
       settles n floor k s.waiting.due s.current s.successor
       (record (s.line) { current = line.released (one ∷ pdus) s.line.current }) h
