@@ -1,0 +1,3 @@
+mod Tests
+mod Openings
+mod Packets
