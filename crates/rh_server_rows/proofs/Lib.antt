@@ -1,3 +1,6 @@
 mod Tests
+mod Places
 mod Openings
 mod Packets
+mod Told
+mod Steps
