@@ -1,6 +1,7 @@
 mod Tests
 mod Places
-mod Openings
-mod Packets
 mod Told
 mod Steps
+mod Openings
+mod Mismatches
+mod Packets

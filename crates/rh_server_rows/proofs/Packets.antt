@@ -25,6 +25,8 @@ use Rattle.rh_server_counts.specs.Replacing.{since_asked, since_answered, since_
 use Rattle.rh_server_rows.specs.Counted.{Tells}
 use Rattle.rh_server_rows.specs.Refusing.{came_on, UnexpectedBy, RefusesFor}
 use Rattle.rh_server_rows.proofs.Tests.{one_fails, not_false, first_count, later_count, out_waits, WaitsOut}
+use Rattle.rh_server_rows.proofs.Told.{seen, Known}
+use Rattle.rh_server_rows.proofs.Mismatches.{refused_other}
 use Rattle.rh_server_rows.proofs.Openings.{IsUnexpected, conn_a2_refused, conn_b2_refused}
 
 -- ---- acknowledgements
@@ -152,7 +154,9 @@ module _ (p : Passage Server) (opens : OpensOnce p) (replaces : AreReplaced p) w
   by_kind leg count m ClientIn tells r = tt
   by_kind leg count m ClientOut tells r = tt
 
-  pub refuses_for : RefusesFor p
-  refuses_for = record {
+  pub refuses_for : Known (seen p.role) p.came → RefusesFor p
+  refuses_for known = record {
     unexpected = λ leg count m used tells r. by_kind leg count m leg.kind tells r;
+    mismatch = λ leg count m expected got r.
+        refused_other expected got p known replaces.writing leg.number count m leg.kind r;
   }

@@ -1,7 +1,8 @@
 -- what is so in a server's logs where it refuses what comes as unexpected (MS-RPCH 3.2.5; profile)
 use Rattle.std.specs.Prelude.{ℕ, suc, ◌≡◌, ◌⊎◌, ◌≤◌, IsTrue, Err}
+use Rattle.rh_rts.specs.declared.command.Cookie.{Cookie}
 use Rattle.rh_sig.specs.declared.named.Named.{Named}
-use Rattle.rh_sig.specs.declared.named.Named.TheVariants.{ConnA2, ConnB2, OutR1A4, OutR1A8, AckTo, PingTraffic}
+use Rattle.rh_sig.specs.declared.named.Named.TheVariants.{ConnA2, ConnB2, InR1A2, InR1A6, OutR1A4, OutR1A8, Ack, AckTo, PingTraffic}
 use Rattle.rh_line.specs.declared.leg.Leg.{Leg}
 use Rattle.rh_line.specs.declared.leg.LegKind.{LegKind}
 use Rattle.rh_line.specs.declared.leg.LegKind.TheVariants.{ClientOut, OutServer, ClientIn, InServer}
@@ -11,8 +12,9 @@ use Rattle.rh_shell.specs.Moves.{Passage, is_in_use}
 use Rattle.rh_shell.specs.Wires.{of_leg}
 use Rattle.rh_server.specs.States.{Server}
 use Rattle.rh_server.specs.Servers.{rules}
-use Rattle.rh_server_counts.specs.Counting.{is_conn_a2, is_conn_b2, is_out_r1_a5, is_out_r1_a8, in_came, out_came, out_put}
+use Rattle.rh_server_counts.specs.Counting.{is_conn_a2, is_conn_b2, is_out_r1_a5, is_out_r1_a8, is_out_r1_a9, in_came, out_came, out_put}
 use Rattle.rh_server_rows.specs.Counted.{packets, Tells}
+use Rattle.rh_server_rows.specs.Cookies.{IsConnection, IsOutChannel}
 
 -- ---- first on the leg, or not
 
@@ -55,6 +57,48 @@ UnexpectedBy p leg named ClientOut = Unit {0}
 abbrev pub Unexpected : Passage Server → Leg → Named → Type 0
 Unexpected p leg named = UnexpectedBy p leg named leg.kind
 
+-- ---- other cookies (MS-RPCH 2.2.3.1)
+
+-- what came is what the row got, and another one than what it expected
+pub record IsOther (cookie expected got : Cookie) : Type 0 where
+  pub is_got : cookie ≡ got
+  pub differs : expected ≡ got → ⊥
+
+-- on an is leg: of IN_R1/A2 and IN_R1/A6 nothing is said, and no other row there expects a cookie
+abbrev pub MismatchIn : Passage Server → Named → Cookie → Cookie → Type 0
+MismatchIn p (ConnB2 version connection cookie window timeout group address padding) expected got =
+    IsOther connection expected got × IsConnection OutServer expected p.came
+MismatchIn p (OutR1A8 destination successor) expected got =
+    IsOther successor expected got
+    × IsOutChannel (suc (suc (out_put is_out_r1_a9 p))) expected p.came
+MismatchIn p (InR1A2 version connection predecessor successor window timeout) expected got =
+    Unit {0}
+MismatchIn p (InR1A6 successor) expected got = Unit {0}
+MismatchIn p packet expected got = ⊥
+
+-- on an os leg
+abbrev pub MismatchOut : Passage Server → ℕ → Named → Cookie → Cookie → Type 0
+MismatchOut p number (ConnA2 version connection cookie lifetime window) expected got =
+    IsOther connection expected got × IsConnection InServer expected p.came
+MismatchOut p number
+    (OutR1A4 version connection predecessor successor lifetime window timeout) expected got =
+    (IsOther connection expected got
+    × (IsConnection OutServer expected p.came ⊎ IsConnection InServer expected p.came))
+    ⊎ (IsOther predecessor expected got
+    × IsOutChannel (suc (out_put is_out_r1_a9 p)) expected p.came)
+MismatchOut p number (Ack received window cookie) expected got =
+    IsOther cookie expected got × IsOutChannel number expected p.came
+MismatchOut p number packet expected got = ⊥
+
+abbrev pub MismatchBy : Passage Server → ℕ → Named → Cookie → Cookie → LegKind → Type 0
+MismatchBy p number named expected got InServer = MismatchIn p named expected got
+MismatchBy p number named expected got OutServer = MismatchOut p number named expected got
+MismatchBy p number named expected got ClientIn = ⊥
+MismatchBy p number named expected got ClientOut = ⊥
+
+abbrev pub Mismatch : Passage Server → Leg → Named → Cookie → Cookie → Type 0
+Mismatch p leg named expected got = MismatchBy p leg.number named expected got leg.kind
+
 -- ---- the law
 
 -- the packet is refused so only where this is so
@@ -63,3 +107,6 @@ pub record RefusesFor (p : Passage Server) : Type 0 where
       → IsTrue (is_in_use rules p.role leg) → Tells count (came_on p leg)
       → (rules.packet p.role leg count named).1 ≡ Err refused.Unexpected
       → Unexpected p leg named
+  pub mismatch : (leg : Leg) (count : Count) (named : Named) (expected got : Cookie)
+      → (rules.packet p.role leg count named).1 ≡ Err (refused.Cookie expected got)
+      → Mismatch p leg named expected got
