@@ -1,5 +1,7 @@
 mod Tests
 mod Places
+mod Ascending
+mod Allowed
 mod Told
 mod Steps
 mod Openings
