@@ -44,6 +44,21 @@ module _ {X : Type 0} (number_of : X → ℕ) where
       let here = s.0 in
       let rest = above_at (number_of z) high xs place x at s.1 in omega (arith, here, rest)
 
+  ascends_low : (low high : ℕ) (xs : List X) → Ascends low high xs → low ≤ high
+  ascends_low low high [] s = s
+  ascends_low low high (x ∷ xs) s =
+      let above = s.0 in
+      let rest = ascends_low (number_of x) high xs s.1 in omega (arith, above, rest)
+
+  -- and at most high
+  pub within_at : (low high : ℕ) (xs : List X) (place : ℕ) (x : X) → slice_get xs place ≡ Some x
+      → Ascends low high xs → number_of x ≤ high
+  within_at low high [] place x at s = absurd (cc)
+  within_at low high (z ∷ xs) zero x at s =
+      let is : number_of z ≡ number_of x = ap (number_by number_of) at in
+      let rest = ascends_low (number_of z) high xs s.1 in omega (arith, is, rest)
+  within_at low high (z ∷ xs) (suc place) x at s = within_at (number_of z) high xs place x at s.1
+
   pub ascends_push : (low high : ℕ) (y : X) (xs : List X) → high < number_of y
       → Ascends low high xs → Ascends low (number_of y) (xs ++ y ∷ [])
   ascends_push low high y [] e s = (omega (arith, e, s), omega arith)

@@ -4,6 +4,7 @@ mod Ascending
 mod Allowed
 mod Told
 mod Steps
+mod Begun
 mod Openings
 mod Mismatches
 mod Packets
