@@ -5,6 +5,7 @@ mod Allowed
 mod Told
 mod Steps
 mod Begun
+mod BegunSteps
 mod Openings
 mod Mismatches
 mod Packets

@@ -57,7 +57,7 @@ settles s came h =
 
 -- ---- what is put on an is leg
 
-abbrev PickSame : Server → Pick → Type 0
+abbrev pub PickSame : Server → Pick → Type 0
 PickSame s pick = IfSome pick (λ (one : Server × Message). seen one.0 ≡ seen s)
 
 or_same : (s : Server) (a b : Pick) → PickSame s a → PickSame s b → PickSame s (or_else a b)
@@ -81,7 +81,7 @@ put_ack_same : (s : Server) (o : Option Ack) → PickSame s (put_ack_by s o)
 put_ack_same s None = tt
 put_ack_same s (Some ack) = refl
 
-in_same : (s : Server) (n : ℕ) → PickSame s (put_in s n)
+pub in_same : (s : Server) (n : ℕ) → PickSame s (put_in s n)
 in_same s n = by (in_leg n s.ins)
   where
     by : (o : Option InLeg) → PickSame s (put_in_by s o)
@@ -233,7 +233,7 @@ drawn_kept s n OutServer came h = h
 drawn_kept s n ClientIn came h = h
 drawn_kept s n ClientOut came h = h
 
-lost_same : (s : Server) (n : ℕ) (o : Option InLeg) → seen (lost_in s n o) ≡ seen s
+pub lost_same : (s : Server) (n : ℕ) (o : Option InLeg) → seen (lost_in s n o) ≡ seen s
 lost_same s n o = search rules
 
 gone_kept : (s : Server) (place : Option ℕ) (came : List OnLeg) → Known (seen s) came
@@ -260,14 +260,14 @@ mark_kept s n ClientOut came h = h
 
 -- ---- the server
 
-pdu_same : (s : Server) (n : ℕ) (bytes : List ℕ) (k : LegKind)
+pub pdu_same : (s : Server) (n : ℕ) (bytes : List ℕ) (k : LegKind)
     → seen (pdu_by s n bytes k).0 ≡ seen s
 pdu_same s n bytes k = search rules
 
-give_same : (s : Server) (bytes : List ℕ) → seen (give s bytes).0 ≡ seen s
+pub give_same : (s : Server) (bytes : List ℕ) → seen (give s bytes).0 ≡ seen s
 give_same s bytes = search rules
 
-take_same : (s : Server) → seen (take s) ≡ seen s
+pub take_same : (s : Server) → seen (take s) ≡ seen s
 take_same s = search rules
 
 recycle_kept : (s : Server) (came : List OnLeg) → Known (seen s) came

@@ -51,6 +51,7 @@ pub record Seen : Type 0 where
   pub outs : List OutLeg
   pub writing : ℕ
   pub replacement : Replacement
+  pub newest : ℕ
 
 abbrev pub seen : Server → Seen
 seen s = record {
@@ -58,6 +59,7 @@ seen s = record {
   outs = s.outs;
   writing = s.writing;
   replacement = s.replacement;
+  newest = s.newest_out;
 }
 
 -- the connection's cookie came with CONN/A2 or with CONN/B2
