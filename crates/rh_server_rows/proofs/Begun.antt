@@ -59,7 +59,7 @@ has_leg [] place less e = absurd (omega (arith, less))
 has_leg (x ∷ xs) zero less e = absurd (cc)
 has_leg (x ∷ xs) (suc place) less e = has_leg xs place (omega (arith, less)) e
 
-is_there : (s : Server) (n place : ℕ) → out_place n s.outs ≡ Some place
+pub is_there : (s : Server) (n place : ℕ) → out_place n s.outs ≡ Some place
     → slice_get s.outs place ≡ None → ⊥
 is_there s n place found at =
     has_leg s.outs place

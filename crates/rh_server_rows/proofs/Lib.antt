@@ -7,5 +7,6 @@ mod Steps
 mod Begun
 mod BegunSteps
 mod Openings
+mod OutRows
 mod Mismatches
 mod Packets

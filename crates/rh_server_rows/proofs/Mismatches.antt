@@ -17,15 +17,16 @@ use Rattle.rh_shell.specs.declared.answers.Count.{Count}
 use Rattle.rh_shell.specs.declared.answers.Refused.TheVariants as refused
 use Rattle.rh_shell.specs.Rules.{Row}
 use Rattle.rh_shell.specs.Moves.{OnLeg, Passage}
+use Rattle.rh_server.specs.declared.state.InLeg.{InLeg}
 use Rattle.rh_server.specs.declared.state.OutLeg.{OutLeg}
 use Rattle.rh_server.specs.declared.state.Replacement.{Replacement}
 use Rattle.rh_server.specs.declared.state.Replacement.TheVariants.{Steady, Asked, Answered, Confirmed}
 use Rattle.rh_server.specs.declared.state.Stage.{Stage}
 use Rattle.rh_server.specs.declared.state.Stage.TheVariants as stage
-use Rattle.rh_server.specs.States.{Server, same_cookie, no_cookie, cookie_by, out_place, out_at, out_cookie}
+use Rattle.rh_server.specs.States.{Server, is_fresh, same_cookie, in_leg, no_cookie, cookie_by, out_place, out_at, out_cookie}
 use Rattle.rh_server.specs.Opening.{Done, took, refuse, unexpected, is_first, conn_a2_at, on_conn_a2, conn_b2_at, on_conn_b2}
 use Rattle.rh_server.specs.Acknowledging.{acked_in, acked_cookie, on_ack, on_ack_to, on_ping_traffic}
-use Rattle.rh_server.specs.InReplacement.{on_in_r2_a2}
+use Rattle.rh_server.specs.InReplacement.{announced, in_r1_a2_by, in_r1_a2_at, on_in_r1_a2, hands_over, on_in_r1_a6, on_in_r2_a2}
 use Rattle.rh_server.specs.OutReplacement.{answered_on, out_r1_a4_by, out_r1_a4_at, on_out_r1_a4, out_r1_a8_at, on_out_r1_a8}
 use Rattle.rh_server.specs.Ending.{on_end_a2}
 use Rattle.rh_server.specs.Servers.{packet_by, on_is, on_os}
@@ -49,6 +50,10 @@ differ : (a b : Cookie) → same_cookie a b ≡ false → a ≡ b → ⊥
 differ a b e same =
     not_from_Decides (bytes_eq a.0 b.0) (bytes_eq-Decides a.0 b.0) e
     (ap (λ (c : Cookie). c.0) same)
+
+is_not : (t : Bool) → not t ≡ true → t ≡ false
+is_not true e = absurd (false≢true e)
+is_not false e = refl
 
 module _ (expected got : Cookie) where
   abbrev Refuses : Done → Type 0
@@ -148,6 +153,57 @@ module _ (expected got : Cookie) where
         by (stage.Open first) e r = absurd (none_refused s r)
         by stage.Ended e r = absurd (none_refused s r)
 
+    -- ---- IN channels
+
+    a2_other : (n : ℕ) (count : Count) (a b c : Cookie) (d e : ℕ)
+        → Refuses (on_in_r1_a2 s n count a b c d e)
+        → (IsOther a expected got
+        × (IsConnection OutServer expected came ⊎ IsConnection InServer expected came))
+        ⊎ IsOther b expected got
+    a2_other n count a b c d e =
+        by_test (λ (x : Done). Refuses x → Goal) _ (in_r1_a2_at s s.stage n a b c d e)
+        (unexpected s) (λ g. by s.stage refl) (λ g r. absurd (none_refused s r))
+      where
+        Goal : Type 0
+        Goal =
+            (IsOther a expected got
+            × (IsConnection OutServer expected came ⊎ IsConnection InServer expected came))
+            ⊎ IsOther b expected got
+
+        by_leg : (first : Cookie) → s.stage ≡ stage.Open first → (o : Option InLeg)
+            → Refuses (in_r1_a2_by s first a b c d e o) → Goal
+        by_leg first at None r = absurd (none_refused s r)
+        by_leg first at (Some leg) r =
+            by_test (λ (x : Done). Refuses x → Goal) (not (is_fresh leg.stage)) (unexpected s) _
+            (λ g q. absurd (none_refused s q))
+            (λ g. by_test (λ (x : Done). Refuses x → Goal) (not (same_cookie first a))
+            (refuse s (refused.Cookie first a)) _
+            (λ i q.
+            let is = other s first a (is_not (same_cookie first a) i) q in
+            inl (is.1, subst (λ (x : Cookie). IsConnection OutServer x came
+            ⊎ IsConnection InServer x came) is.0 (stage_told (stage.Open first) at)))
+            (λ i. by_test (λ (x : Done). Refuses x → Goal) (not (same_cookie s.newest.cookie b))
+            (refuse s (refused.Cookie s.newest.cookie b)) (took (announced s leg c d e))
+            (λ j q. inr (other s s.newest.cookie b (is_not (same_cookie s.newest.cookie b) j) q).1)
+            (λ j q. absurd (cc)))) r
+
+        by : (at : Stage) → s.stage ≡ at → Refuses (in_r1_a2_at s at n a b c d e) → Goal
+        by (stage.Open first) at r = by_leg first at (in_leg n s.ins) r
+        by stage.Waits at r = absurd (none_refused s r)
+        by (stage.OutCame first) at r = absurd (none_refused s r)
+        by (stage.InCame first in_window in_timeout) at r = absurd (none_refused s r)
+        by stage.Ended at r = absurd (none_refused s r)
+
+    a6_other : (n : ℕ) (successor : Cookie) → Refuses (on_in_r1_a6 s n successor)
+        → IsOther successor expected got
+    a6_other n successor =
+        by_test (λ (x : Done). Refuses x → IsOther successor expected got) _ _ (unexpected s)
+        (λ e. by_test (λ (x : Done). Refuses x → IsOther successor expected got)
+        (same_cookie s.next.cookie successor) (took (hands_over s n))
+        (refuse s (refused.Cookie s.next.cookie successor)) (λ f r. absurd (cc))
+        (λ f r. (other s s.next.cookie successor f r).1))
+        (λ e r. absurd (none_refused s r))
+
     -- ---- OUT channels
 
     -- the cookie of a leg's channel came there
@@ -228,9 +284,6 @@ module _ (expected got : Cookie) where
         by_test (λ (x : Done). Refuses x → Goal) _ (out_r1_a4_at s s.stage n a b c d e f)
         (unexpected s) (λ g. by s.stage refl) (λ g r. absurd (none_refused s r))
       where
-        Both : Cookie → Type 0
-        Both x = IsConnection OutServer x came ⊎ IsConnection InServer x came
-
         Goal : Type 0
         Goal =
             (IsOther a expected got
@@ -255,10 +308,6 @@ module _ (expected got : Cookie) where
             inr (is.1, subst (λ (x : Cookie). IsOutChannel s.writing x came) is.0
             (cookie_told s.writing writing g)))
             (λ j q. absurd (answered_none s n c d e f q))) r
-          where
-            is_not : (t : Bool) → not t ≡ true → t ≡ false
-            is_not true i = absurd (false≢true i)
-            is_not false i = refl
 
         by : (at : Stage) → s.stage ≡ at → Refuses (out_r1_a4_at s at n a b c d e f) → Goal
         by (stage.Open first) at r =
@@ -279,8 +328,9 @@ module _ (expected got : Cookie) where
         → MismatchIn p m expected got
     on_is_other n count (named.ConnB2 v1 v2 v3 v4 v5 v6 v7 v8) r =
         conn_b2_other p.role p.came h n count v2 v3 v4 v5 r
-    on_is_other n count (named.InR1A2 v1 v2 v3 v4 v5 v6) r = tt
-    on_is_other n count (named.InR1A6 v1) r = tt
+    on_is_other n count (named.InR1A2 v1 v2 v3 v4 v5 v6) r =
+        a2_other p.role p.came h n count v2 v3 v4 v5 v6 r
+    on_is_other n count (named.InR1A6 v1) r = a6_other p.role p.came h n v1 r
     on_is_other n count (named.InR2A2 v1) r = in_r2_a2_none p.role n count v1 r
     on_is_other n count (named.AckTo v1 v2 v3 v4) r = ack_to_none p.role count v1 v2 v3 v4 r
     on_is_other n count (named.OutR1A8 v1 v2) r =

@@ -1,5 +1,6 @@
 -- why a server refuses, packet by packet
 use Rattle.std.proofs.Common.{◌≡◌, ◌⊎◌, inl, inr, ℕ, ◌+◌, ◌≤◌, ◌==◌, ◌&&◌, Bool, true, false, not, if◌then◌else◌, List, Some, None, Ok, Err, arith, refl, sym, ap, ◌∙◌, rules}
+use Rattle.std.specs.Prelude.{IsTrue}
 use Rattle.std.specs.declared.option.Option.{Option}
 use Rattle.rh_rts.specs.declared.command.Cookie.{Cookie}
 use Rattle.rh_sig.specs.declared.named.Named.{Named}
@@ -9,7 +10,7 @@ use Rattle.rh_line.specs.declared.leg.LegKind.{LegKind}
 use Rattle.rh_line.specs.declared.leg.LegKind.TheVariants.{ClientOut, OutServer, ClientIn, InServer}
 use Rattle.rh_order.proofs.ByNumber.{by_test, other_number}
 use Rattle.rh_shell.specs.declared.answers.Count.{Count}
-use Rattle.rh_shell.specs.Moves.{Passage}
+use Rattle.rh_shell.specs.Moves.{Passage, is_in_use}
 use Rattle.rh_server.specs.declared.state.Replacement.{Replacement}
 use Rattle.rh_server.specs.declared.state.Replacement.TheVariants.{Steady, Asked, Answered, Confirmed}
 use Rattle.rh_server.specs.declared.out_line.Kind.TheVariants as kind
@@ -19,12 +20,15 @@ use Rattle.rh_server.specs.Opening.{Done, took, refuse, unexpected, is_first}
 use Rattle.rh_server.specs.Acknowledging.{forwards_writing, forwards_to, channel_leg, on_ack_to, on_ping_traffic}
 use Rattle.rh_server.specs.OutReplacement.{out_r1_a8_at, on_out_r1_a8}
 use Rattle.rh_server.specs.Servers.{packet_by, on_is, on_os}
-use Rattle.rh_server_counts.specs.Counting.{is_out_r1_a5, is_out_r1_a8, in_came, out_put}
+use Rattle.rh_server.specs.Servers.{rules as server_rules}
+use Rattle.rh_server_counts.specs.Counting.{is_conn_a2, is_out_r1_a4, is_out_r1_a5, is_out_r1_a8, in_came, out_put, leg_at}
 use Rattle.rh_server_counts.specs.Opening.{OpensOnce}
 use Rattle.rh_server_counts.specs.Replacing.{since_asked, since_answered, since_confirmed, AreReplaced}
 use Rattle.rh_server_rows.specs.Counted.{Tells}
 use Rattle.rh_server_rows.specs.Refusing.{came_on, UnexpectedBy, RefusesFor}
 use Rattle.rh_server_rows.proofs.Tests.{one_fails, not_false, first_count, later_count, out_waits, WaitsOut}
+use Rattle.rh_server_rows.proofs.Begun.{view, Begun}
+use Rattle.rh_server_rows.proofs.OutRows.{ack_refused, a4_refused}
 use Rattle.rh_server_rows.proofs.Told.{seen, Known}
 use Rattle.rh_server_rows.proofs.Mismatches.{refused_other}
 use Rattle.rh_server_rows.proofs.Openings.{IsUnexpected, conn_a2_refused, conn_b2_refused}
@@ -125,38 +129,47 @@ module _ (p : Passage Server) (h : AreReplaced p) where
 
 -- ---- each packet
 
-module _ (p : Passage Server) (opens : OpensOnce p) (replaces : AreReplaced p) where
+module _ (p : Passage Server) (opens : OpensOnce p) (replaces : AreReplaced p)
+    (of_a2 : Begun is_conn_a2 (view p.role) p.came)
+    (of_a4 : Begun is_out_r1_a4 (view p.role) p.came) where
   on_is_refused : (leg : Leg) (count : Count) (m : Named) → Tells count (came_on p leg)
       → IsUnexpected (on_is p.role leg.number count m) → UnexpectedBy p leg m InServer
-  on_is_refused leg count (named.ConnB2 version connection cookie window timeout group address padding) tells r =
-      conn_b2_refused p opens leg.number count (came_on p leg) connection cookie window timeout
-      tells r
+  on_is_refused leg count (named.ConnB2 v1 v2 v3 v4 v5 v6 v7 v8) tells r =
+      conn_b2_refused p opens leg.number count (came_on p leg) v2 v3 v4 v5 tells r
   on_is_refused leg count (named.AckTo destination received window cookie) tells r =
       ack_to_refused p.role count (came_on p leg) destination received window cookie tells r
   on_is_refused leg count (named.OutR1A8 destination successor) tells r =
       a8_refused p replaces count (came_on p leg) destination successor tells r
   on_is_refused leg count packet tells r = tt
 
-  on_os_refused : (leg : Leg) (count : Count) (m : Named) → Tells count (came_on p leg)
-      → IsUnexpected (on_os p.role leg.number count m) → UnexpectedBy p leg m OutServer
-  on_os_refused leg count (named.ConnA2 version connection cookie lifetime window) tells r =
-      conn_a2_refused p opens leg.number count (came_on p leg) connection cookie lifetime window
-      tells r
-  on_os_refused leg count (named.PingTraffic bytes) tells r =
+  on_os_refused : (leg : Leg) (count : Count) (m : Named)
+      → IsTrue (is_in_use server_rules p.role (leg_at OutServer leg.number))
+      → Tells count (came_on p leg) → IsUnexpected (on_os p.role leg.number count m)
+      → UnexpectedBy p leg m OutServer
+  on_os_refused leg count (named.ConnA2 v1 v2 v3 v4 v5) used tells r =
+      conn_a2_refused p opens leg.number count (came_on p leg) v2 v3 v4 v5 tells r
+  on_os_refused leg count (named.OutR1A4 v1 v2 v3 v4 v5 v6 v7) used tells r =
+      a4_refused p opens replaces of_a2 of_a4 leg.number count (came_on p leg) v2 v3 v4 v5 v6 v7
+      used tells r
+  on_os_refused leg count (named.Ack v1 v2 v3) used tells r =
+      ack_refused p opens replaces of_a2 of_a4 leg.number count (came_on p leg) v1 v2 v3 used tells
+      r
+  on_os_refused leg count (named.PingTraffic bytes) used tells r =
       traffic_refused p.role count (came_on p leg) tells r
-  on_os_refused leg count packet tells r = tt
+  on_os_refused leg count packet used tells r = tt
 
   by_kind : (leg : Leg) (count : Count) (m : Named) (k : LegKind)
-      → Tells count (came_on p leg)
-      → IsUnexpected (packet_by p.role leg.number count m k) → UnexpectedBy p leg m k
-  by_kind leg count m InServer tells r = on_is_refused leg count m tells r
-  by_kind leg count m OutServer tells r = on_os_refused leg count m tells r
-  by_kind leg count m ClientIn tells r = tt
-  by_kind leg count m ClientOut tells r = tt
+      → IsTrue (is_in_use server_rules p.role (leg_at k leg.number))
+      → Tells count (came_on p leg) → IsUnexpected (packet_by p.role leg.number count m k)
+      → UnexpectedBy p leg m k
+  by_kind leg count m InServer used tells r = on_is_refused leg count m tells r
+  by_kind leg count m OutServer used tells r = on_os_refused leg count m used tells r
+  by_kind leg count m ClientIn used tells r = tt
+  by_kind leg count m ClientOut used tells r = tt
 
   pub refuses_for : Known (seen p.role) p.came → RefusesFor p
   refuses_for known = record {
-    unexpected = λ leg count m used tells r. by_kind leg count m leg.kind tells r;
+    unexpected = λ leg count m used tells r. by_kind leg count m leg.kind used tells r;
     mismatch = λ leg count m expected got r.
         refused_other expected got p known replaces.writing leg.number count m leg.kind r;
   }

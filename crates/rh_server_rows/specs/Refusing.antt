@@ -1,5 +1,5 @@
 -- what is so in a server's logs where it refuses what comes as unexpected (MS-RPCH 3.2.5; profile)
-use Rattle.std.specs.Prelude.{ℕ, suc, ◌≡◌, ◌⊎◌, ◌≤◌, IsTrue, Err}
+use Rattle.std.specs.Prelude.{ℕ, suc, ◌≡◌, ◌⊎◌, ◌≤◌, true, IsTrue, Err}
 use Rattle.rh_rts.specs.declared.command.Cookie.{Cookie}
 use Rattle.rh_sig.specs.declared.named.Named.{Named}
 use Rattle.rh_sig.specs.declared.named.Named.TheVariants.{ConnA2, ConnB2, InR1A2, InR1A6, OutR1A4, OutR1A8, Ack, AckTo, PingTraffic}
@@ -12,7 +12,7 @@ use Rattle.rh_shell.specs.Moves.{Passage, is_in_use}
 use Rattle.rh_shell.specs.Wires.{of_leg}
 use Rattle.rh_server.specs.States.{Server}
 use Rattle.rh_server.specs.Servers.{rules}
-use Rattle.rh_server_counts.specs.Counting.{is_conn_a2, is_conn_b2, is_out_r1_a5, is_out_r1_a8, is_out_r1_a9, in_came, out_came, out_put}
+use Rattle.rh_server_counts.specs.Counting.{is_conn_a2, is_conn_b2, is_out_r1_a1, is_out_r1_a4, is_out_r1_a5, is_out_r1_a8, is_out_r1_a9, in_came, out_came, out_put, leg_at, often_at}
 use Rattle.rh_server_rows.specs.Counted.{packets, Tells}
 use Rattle.rh_server_rows.specs.Cookies.{IsConnection, IsOutChannel}
 
@@ -26,6 +26,18 @@ IsFirst p leg = came_on p leg ≡ 0
 
 abbrev pub IsLater : Passage Server → Leg → Type 0
 IsLater p leg = 1 ≤ came_on p leg
+
+-- ---- OUT channels
+
+-- none began on the os leg
+abbrev pub IsUnbegun : Passage Server → ℕ → Type 0
+IsUnbegun p number =
+    (often_at is_conn_a2 OutServer number p.came ≡ 0)
+    × (often_at is_out_r1_a4 OutServer number p.came ≡ 0)
+
+-- there is no use for the os leg any more
+abbrev pub IsGone : Passage Server → ℕ → Type 0
+IsGone p number = rules.is_done p.role (leg_at OutServer number) ≡ true
 
 -- ---- packets (MS-RPCH 2.2.4)
 
@@ -45,6 +57,12 @@ UnexpectedIn p leg packet = Unit {0}
 abbrev pub UnexpectedOut : Passage Server → Leg → Named → Type 0
 UnexpectedOut p leg (ConnA2 version connection cookie lifetime window) =
     IsLater p leg ⊎ (leg.number ≡ 1 → ⊥) ⊎ (1 ≤ out_came is_conn_a2 p)
+UnexpectedOut p leg
+    (OutR1A4 version connection predecessor successor lifetime window timeout) =
+    IsLater p leg ⊎ (leg.number ≡ suc (suc (out_put is_out_r1_a9 p)) → ⊥)
+    ⊎ (out_put is_out_r1_a1 p ≤ out_came is_out_r1_a4 p)
+    ⊎ IsGone p (suc (out_put is_out_r1_a9 p)) ⊎ IsUnbegun p (suc (out_put is_out_r1_a9 p))
+UnexpectedOut p leg (Ack received window cookie) = IsFirst p leg ⊎ IsUnbegun p leg.number
 UnexpectedOut p leg (PingTraffic bytes) = IsFirst p leg
 UnexpectedOut p leg packet = Unit {0}
 
@@ -64,7 +82,7 @@ pub record IsOther (cookie expected got : Cookie) : Type 0 where
   pub is_got : cookie ≡ got
   pub differs : expected ≡ got → ⊥
 
--- on an is leg: of IN_R1/A2 and IN_R1/A6 nothing is said, and no other row there expects a cookie
+-- on an is leg; nothing is said of where a predecessor or a successor of an IN channel was expected
 abbrev pub MismatchIn : Passage Server → Named → Cookie → Cookie → Type 0
 MismatchIn p (ConnB2 version connection cookie window timeout group address padding) expected got =
     IsOther connection expected got × IsConnection OutServer expected p.came
@@ -72,8 +90,10 @@ MismatchIn p (OutR1A8 destination successor) expected got =
     IsOther successor expected got
     × IsOutChannel (suc (suc (out_put is_out_r1_a9 p))) expected p.came
 MismatchIn p (InR1A2 version connection predecessor successor window timeout) expected got =
-    Unit {0}
-MismatchIn p (InR1A6 successor) expected got = Unit {0}
+    (IsOther connection expected got
+    × (IsConnection OutServer expected p.came ⊎ IsConnection InServer expected p.came))
+    ⊎ IsOther predecessor expected got
+MismatchIn p (InR1A6 successor) expected got = IsOther successor expected got
 MismatchIn p packet expected got = ⊥
 
 -- on an os leg
