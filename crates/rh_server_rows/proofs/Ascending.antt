@@ -1,5 +1,5 @@
 -- legs in ascending order of their numbers, and one of them that changes
-use Rattle.std.proofs.Common.{◌≡◌, ℕ, zero, suc, ◌<◌, ◌≤◌, List, [], ◌∷◌, ◌++◌, Some, None, arith, refl, sym, ap, ◌∙◌, subst}
+use Rattle.std.proofs.Common.{◌≡◌, ℕ, zero, suc, ◌<◌, ◌≤◌, List, [], ◌∷◌, ◌++◌, Some, None, arith, sym, ap, ◌∙◌, subst}
 use Rattle.std.specs.Prelude.{slice_get, slice_set, remove}
 use Rattle.std.specs.List.{AllByRecursion}
 use Rattle.std.specs.declared.option.Option.{Option}
@@ -29,9 +29,11 @@ module _ {X : Type 0} (number_of : X → ℕ) where
       → AllByRecursion (λ (z : X). low < number_of z) xs
   above_all low high [] s = tt
   above_all low high (x ∷ xs) s =
-      let above = s.0 in
-      (above, above_all low high xs
-      (ascends_lower (number_of x) low high xs (omega (arith, above)) s.1))
+      let above = s.0 in (
+        above,
+        above_all low high xs
+            (ascends_lower (number_of x) low high xs (omega (arith, above)) s.1),
+      )
 
   -- a leg at a place is above low
   above_at : (low high : ℕ) (xs : List X) (place : ℕ) (x : X) → slice_get xs place ≡ Some x
@@ -90,11 +92,14 @@ module _ {X : Type 0} (number_of : X → ℕ) where
       → AllByRecursion P xs → AllByRecursion Q (slice_set xs place y)
   others_so P Q low high [] place x y at here so s all = tt
   others_so P Q low high (z ∷ xs) zero x y at here so s all =
-      let is : number_of z ≡ number_of x = ap (number_by number_of) at in
-      (here, both_so P (λ (w : X). number_of z < number_of w) Q
-      (λ w was above. so w (λ e. omega (arith, e, is, above)) was) xs all.1
-      (above_all (number_of z) high xs s.1))
+      let is : number_of z ≡ number_of x = ap (number_by number_of) at in (
+        here,
+        both_so P (λ (w : X). number_of z < number_of w) Q
+            (λ w was above. so w (λ e. omega (arith, e, is, above)) was) xs all.1
+            (above_all (number_of z) high xs s.1),
+      )
   others_so P Q low high (z ∷ xs) (suc place) x y at here so s all =
-      let below = above_at (number_of z) high xs place x at s.1 in
-      (so z (λ e. omega (arith, e, below)) all.0,
-      others_so P Q (number_of z) high xs place x y at here so s.1 all.1)
+      let below = above_at (number_of z) high xs place x at s.1 in (
+        so z (λ e. omega (arith, e, below)) all.0,
+        others_so P Q (number_of z) high xs place x y at here so s.1 all.1,
+      )

@@ -1,7 +1,7 @@
 -- on an os leg whose channel has no cookie, none began
 use Rattle.std.proofs.Common.{◌≡◌, ℕ, zero, suc, ◌+◌, ◌<◌, ◌≤◌, ◌==◌, List, [], ◌∷◌, ◌++◌, length, Bool, true, false, true≢false, if◌then◌else◌, ◌&&◌, not, Some, None, Ok, Err, arith, refl, sym, ap, ◌∙◌, subst, rules}
 use Rattle.std.proofs.lemmas.Bool.{false≢true, and_parts}
-use Rattle.std.specs.Prelude.{slice_get, slice_set, position, IfSome, IsTrue}
+use Rattle.std.specs.Prelude.{slice_get, slice_set, IfSome, IsTrue}
 use Rattle.std.specs.List.{AllByRecursion}
 use Rattle.std.specs.declared.option.Option.{Option}
 use Rattle.std.proofs.lemmas.List.Quantifiers.{position-Some}
@@ -10,7 +10,6 @@ use Rattle.rh_sig.specs.declared.named.Named.{Named}
 use Rattle.rh_sig.specs.declared.named.Named.TheVariants as named
 use Rattle.rh_keep.specs.Meters.{started}
 use Rattle.rh_window.specs.Sending.{unsent, after_acked}
-use Rattle.rh_line.proofs.Queues.{each_push}
 use Rattle.rh_line.specs.declared.leg.Leg.{Leg}
 use Rattle.rh_line.specs.declared.leg.LegKind.{LegKind}
 use Rattle.rh_line.specs.declared.leg.LegKind.TheVariants.{ClientOut, OutServer, ClientIn, InServer}
@@ -129,7 +128,8 @@ module _ (test : Named → Bool) where
       → begun n (came ++ one ∷ []) ≡ begun n came + begun n (one ∷ [])
   begun_more n came one =
       ap (count_of test) (leg_more (leg_at OutServer n) came one)
-      ∙ count_append test (of_leg (leg_at OutServer n) came) (of_leg (leg_at OutServer n) (one ∷ []))
+      ∙ count_append test (of_leg (leg_at OutServer n) came)
+      (of_leg (leg_at OutServer n) (one ∷ []))
 
   pub none_by : (leg : Leg) (m : Message) (n : ℕ) → count_of test (m ∷ []) ≡ 0
       → begun n ((leg, m) ∷ []) ≡ 0

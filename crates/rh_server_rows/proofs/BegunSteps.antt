@@ -1,7 +1,7 @@
 -- a server's other steps keep that none began on an os leg whose channel has no cookie
-use Rattle.std.proofs.Common.{◌≡◌, ℕ, suc, ◌+◌, ◌<◌, ◌==◌, List, [], ◌∷◌, ◌++◌, length, Bool, true, false, if◌then◌else◌, ◌&&◌, not, Some, None, Ok, Err, arith, refl, sym, ap, ◌∙◌, subst, rules}
+use Rattle.std.proofs.Common.{◌≡◌, ℕ, ◌+◌, ◌==◌, List, Bool, true, false, ◌&&◌, Some, None, arith, refl, ap, rules}
 use Rattle.std.proofs.lemmas.Bool.{and_parts}
-use Rattle.std.specs.Prelude.{slice_get, slice_set, IfSome}
+use Rattle.std.specs.Prelude.{slice_get, IfSome}
 use Rattle.std.specs.declared.option.Option.{Option}
 use Rattle.rh_rts.specs.declared.command.Cookie.{Cookie}
 use Rattle.rh_sig.specs.declared.named.Named.{Named}
@@ -15,7 +15,7 @@ use Rattle.rh_order.proofs.ByNumber.{by_test, same_number}
 use Rattle.rh_passages.proofs.Logs.{PutKeeps, ActsKeep}
 use Rattle.rh_shell.specs.declared.due.Due.{Due}
 use Rattle.rh_shell.specs.Rules.{Message, Pdu}
-use Rattle.rh_shell.specs.Moves.{OnLeg, Passage, EndMove, AreAllowedAtEnd, end_started, all_end_moved}
+use Rattle.rh_shell.specs.Moves.{OnLeg, EndMove, AreAllowedAtEnd, end_started, all_end_moved}
 use Rattle.rh_shell.specs.Waiting.{Waiting, taken}
 use Rattle.rh_server.specs.declared.state.Greeting.TheVariants as greetings
 use Rattle.rh_server.specs.declared.state.OutLeg.{OutLeg}
@@ -32,7 +32,7 @@ use Rattle.rh_server.specs.Servers.{rules as server_rules}
 use Rattle.rh_server_rows.proofs.Ascending.{ascends_push, ascends_removed}
 use Rattle.rh_server_rows.proofs.Places.{all_removed}
 use Rattle.rh_server_rows.proofs.Allowed.{MayKeep, allowed_keep}
-use Rattle.rh_server_rows.proofs.Told.{Seen, seen}
+use Rattle.rh_server_rows.proofs.Told.{Seen}
 use Rattle.rh_server_rows.proofs.Steps.{PickSame, in_same, lost_same, pdu_same, give_same, take_same}
 use Rattle.rh_server_rows.proofs.Begun.{View, view, number_of, Bare, Begun, Holds, none_by, row_holds, same_holds, set_holds, bare_at, packet_holds}
 

@@ -1,15 +1,13 @@
 -- why a server refuses a cookie
-use Rattle.std.proofs.Common.{◌≡◌, ◌⊎◌, inl, inr, ℕ, suc, ◌+◌, ◌==◌, ◌&&◌, Bool, true, false, not, if◌then◌else◌, List, Some, None, Ok, Err, arith, refl, sym, ap, ◌∙◌, subst, rules}
+use Rattle.std.proofs.Common.{◌≡◌, ◌⊎◌, inl, inr, ℕ, suc, ◌+◌, Bool, true, false, not, List, Some, None, Err, arith, refl, sym, ap, ◌∙◌, subst, rules}
 use Rattle.std.proofs.lemmas.Bool.{false≢true}
 use Rattle.std.proofs.lemmas.Bool.Decides.{not_from_Decides}
 use Rattle.std.proofs.lemmas.Slice.Eq.{bytes_eq-Decides}
 use Rattle.std.specs.Prelude.{slice_get, bytes_eq, IfSome}
-use Rattle.std.specs.List.{AllByRecursion}
 use Rattle.std.specs.declared.option.Option.{Option}
 use Rattle.rh_rts.specs.declared.command.Cookie.{Cookie}
 use Rattle.rh_sig.specs.declared.named.Named.{Named}
 use Rattle.rh_sig.specs.declared.named.Named.TheVariants as named
-use Rattle.rh_line.specs.declared.leg.Leg.{Leg}
 use Rattle.rh_line.specs.declared.leg.LegKind.{LegKind}
 use Rattle.rh_line.specs.declared.leg.LegKind.TheVariants.{ClientOut, OutServer, ClientIn, InServer}
 use Rattle.rh_order.proofs.ByNumber.{by_test}
@@ -180,8 +178,11 @@ module _ (expected got : Cookie) where
             (refuse s (refused.Cookie first a)) _
             (λ i q.
             let is = other s first a (is_not (same_cookie first a) i) q in
-            inl (is.1, subst (λ (x : Cookie). IsConnection OutServer x came
-            ⊎ IsConnection InServer x came) is.0 (stage_told (stage.Open first) at)))
+            inl (
+              is.1,
+              subst (λ (x : Cookie). IsConnection OutServer x came
+                  ⊎ IsConnection InServer x came) is.0 (stage_told (stage.Open first) at),
+            ))
             (λ i. by_test (λ (x : Done). Refuses x → Goal) (not (same_cookie s.newest.cookie b))
             (refuse s (refused.Cookie s.newest.cookie b)) (took (announced s leg c d e))
             (λ j q. inr (other s s.newest.cookie b (is_not (same_cookie s.newest.cookie b) j) q).1)
@@ -299,14 +300,20 @@ module _ (expected got : Cookie) where
             (refuse s (refused.Cookie first a)) _
             (λ i q.
             let is = other s first a (is_not (same_cookie first a) i) q in
-            inl (is.1, subst (λ (x : Cookie). IsConnection OutServer x came
-            ⊎ IsConnection InServer x came) is.0 (stage_told (stage.Open first) at)))
+            inl (
+              is.1,
+              subst (λ (x : Cookie). IsConnection OutServer x came
+                  ⊎ IsConnection InServer x came) is.0 (stage_told (stage.Open first) at),
+            ))
             (λ i. by_test (λ (x : Done). Refuses x → Goal) (not (same_cookie writing b))
             (refuse s (refused.Cookie writing b)) (answered_on s n c d e f)
             (λ j q.
             let is = other s writing b (is_not (same_cookie writing b) j) q in
-            inr (is.1, subst (λ (x : Cookie). IsOutChannel s.writing x came) is.0
-            (cookie_told s.writing writing g)))
+            inr (
+              is.1,
+              subst (λ (x : Cookie). IsOutChannel s.writing x came) is.0
+                  (cookie_told s.writing writing g),
+            ))
             (λ j q. absurd (answered_none s n c d e f q))) r
 
         by : (at : Stage) → s.stage ≡ at → Refuses (out_r1_a4_at s at n a b c d e f) → Goal

@@ -1,5 +1,5 @@
 -- why a server refuses CONN/A2 and CONN/B2
-use Rattle.std.proofs.Common.{◌≡◌, ◌⊎◌, inl, inr, ℕ, ◌+◌, ◌≤◌, ◌==◌, ◌&&◌, Bool, true, false, not, if◌then◌else◌, List, Some, None, Ok, Err, arith, refl, sym, ap, ◌∙◌}
+use Rattle.std.proofs.Common.{◌≡◌, ◌⊎◌, inl, inr, ℕ, ◌≤◌, ◌==◌, ◌&&◌, true, false, not, Err, arith, refl, ap}
 use Rattle.rh_rts.specs.declared.command.Cookie.{Cookie}
 use Rattle.rh_order.proofs.ByNumber.{by_test, other_number}
 use Rattle.rh_shell.specs.declared.answers.Count.{Count}
@@ -10,7 +10,7 @@ use Rattle.rh_server.specs.declared.state.Stage.TheVariants as stage
 use Rattle.rh_server.specs.declared.out_line.Kind.TheVariants as kind
 use Rattle.rh_server.specs.OutLines.{waits}
 use Rattle.rh_server.specs.States.{Server, same_cookie}
-use Rattle.rh_server.specs.Opening.{Done, took, refuse, unexpected, is_first, opens, with_first_out, conn_a2_at, on_conn_a2, with_first_in, conn_b2_at, on_conn_b2}
+use Rattle.rh_server.specs.Opening.{Done, unexpected, is_first, conn_a2_at, on_conn_a2, conn_b2_at, on_conn_b2}
 use Rattle.rh_server_counts.specs.Counting.{is_conn_a2, is_conn_b2, is_conn_c1, in_came, out_came}
 use Rattle.rh_server_counts.specs.Opening.{since_conn_a2, since_conn_b2, since_open, OpensOnce}
 use Rattle.rh_server_rows.specs.Counted.{Tells}

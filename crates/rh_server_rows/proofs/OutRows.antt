@@ -1,5 +1,5 @@
 -- why a server refuses OUT_R1/A4 and Ack as unexpected
-use Rattle.std.proofs.Common.{◌≡◌, ◌⊎◌, inl, inr, ℕ, suc, ◌+◌, ◌≤◌, ◌==◌, ◌&&◌, Bool, true, false, true≢false, not, if◌then◌else◌, List, [], ◌∷◌, Some, None, Ok, Err, arith, refl, sym, ap, ◌∙◌, subst, rules}
+use Rattle.std.proofs.Common.{◌≡◌, ◌⊎◌, inl, inr, ℕ, suc, ◌+◌, ◌≤◌, ◌==◌, ◌&&◌, Bool, false, true≢false, not, List, [], ◌∷◌, Some, None, arith, refl, sym, ap, ◌∙◌, subst, rules}
 use Rattle.std.proofs.lemmas.Bool.{false≢true, and_parts}
 use Rattle.std.specs.Prelude.{slice_get, IfSome, IsTrue}
 use Rattle.std.specs.List.{AllByRecursion}
@@ -26,7 +26,7 @@ use Rattle.rh_server.specs.Opening.{Done, unexpected, refuse, is_first}
 use Rattle.rh_server.specs.Acknowledging.{acked_at, acked_in, acked_cookie, on_ack}
 use Rattle.rh_server.specs.OutReplacement.{answered_by, answered_on, out_r1_a4_by, out_r1_a4_at, is_asked, may_answer, on_out_r1_a4}
 use Rattle.rh_server.specs.Servers.{rules as server_rules}
-use Rattle.rh_server_counts.specs.Counting.{is_conn_a2, is_conn_b2, is_out_r1_a1, is_out_r1_a4, is_out_r1_a9, in_came, out_came, out_put, leg_at}
+use Rattle.rh_server_counts.specs.Counting.{is_conn_a2, is_out_r1_a1, is_out_r1_a4, is_out_r1_a9, out_came, out_put, leg_at}
 use Rattle.rh_server_counts.specs.Opening.{since_conn_a2, since_conn_b2, IsText, OpensOnce}
 use Rattle.rh_server_counts.specs.Replacing.{since_asked, since_answered, AreReplaced}
 use Rattle.rh_server_rows.specs.Counted.{Tells}
@@ -136,8 +136,17 @@ module _ (p : Passage Server) (opens : OpensOnce p) (replaces : AreReplaced p)
       let at = in_turn p.role.replacement in
       let most = at.0 in
       let turn = at.1 in
-      omega (arith, some, most, turn, replaces.asked, replaces.began, replaces.a1_waits,
-      replaces.a5_waits, replaces.a9_waits)
+      omega (
+        arith,
+        some,
+        most,
+        turn,
+        replaces.asked,
+        replaces.began,
+        replaces.a1_waits,
+        replaces.a5_waits,
+        replaces.a9_waits,
+      )
 
   over_at : (at : Replacement) → p.role.replacement ≡ at → is_asked at ≡ false → Over
   over_at at e none =

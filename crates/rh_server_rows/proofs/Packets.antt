@@ -1,5 +1,5 @@
 -- why a server refuses, packet by packet
-use Rattle.std.proofs.Common.{◌≡◌, ◌⊎◌, inl, inr, ℕ, ◌+◌, ◌≤◌, ◌==◌, ◌&&◌, Bool, true, false, not, if◌then◌else◌, List, Some, None, Ok, Err, arith, refl, sym, ap, ◌∙◌, rules}
+use Rattle.std.proofs.Common.{◌≡◌, ◌⊎◌, inl, inr, ℕ, ◌≤◌, ◌==◌, ◌&&◌, Bool, false, not, arith, refl, ap, rules}
 use Rattle.std.specs.Prelude.{IsTrue}
 use Rattle.std.specs.declared.option.Option.{Option}
 use Rattle.rh_rts.specs.declared.command.Cookie.{Cookie}
@@ -16,7 +16,7 @@ use Rattle.rh_server.specs.declared.state.Replacement.TheVariants.{Steady, Asked
 use Rattle.rh_server.specs.declared.out_line.Kind.TheVariants as kind
 use Rattle.rh_server.specs.OutLines.{waits}
 use Rattle.rh_server.specs.States.{Server, same_cookie}
-use Rattle.rh_server.specs.Opening.{Done, took, refuse, unexpected, is_first}
+use Rattle.rh_server.specs.Opening.{Done, took, unexpected, is_first}
 use Rattle.rh_server.specs.Acknowledging.{forwards_writing, forwards_to, channel_leg, on_ack_to, on_ping_traffic}
 use Rattle.rh_server.specs.OutReplacement.{out_r1_a8_at, on_out_r1_a8}
 use Rattle.rh_server.specs.Servers.{packet_by, on_is, on_os}
@@ -26,7 +26,7 @@ use Rattle.rh_server_counts.specs.Opening.{OpensOnce}
 use Rattle.rh_server_counts.specs.Replacing.{since_asked, since_answered, since_confirmed, AreReplaced}
 use Rattle.rh_server_rows.specs.Counted.{Tells}
 use Rattle.rh_server_rows.specs.Refusing.{came_on, UnexpectedBy, RefusesFor}
-use Rattle.rh_server_rows.proofs.Tests.{one_fails, not_false, first_count, later_count, out_waits, WaitsOut}
+use Rattle.rh_server_rows.proofs.Tests.{one_fails, not_false, first_count, out_waits, WaitsOut}
 use Rattle.rh_server_rows.proofs.Begun.{view, Begun}
 use Rattle.rh_server_rows.proofs.OutRows.{ack_refused, a4_refused}
 use Rattle.rh_server_rows.proofs.Told.{seen, Known}

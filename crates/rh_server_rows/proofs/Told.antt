@@ -1,5 +1,5 @@
 -- the cookies that a server knows came: of its connection, and of its OUT channels
-use Rattle.std.proofs.Common.{◌≡◌, ◌⊎◌, inl, inr, ℕ, ◌+◌, ◌==◌, List, [], ◌∷◌, ◌++◌, Bool, true, false, if◌then◌else◌, ◌&&◌, not, Some, None, Ok, Err, arith, refl, sym, ap, ◌∙◌, subst, rules}
+use Rattle.std.proofs.Common.{◌≡◌, ◌⊎◌, inl, inr, ℕ, ◌+◌, ◌==◌, List, [], ◌∷◌, ◌++◌, Bool, true, if◌then◌else◌, ◌&&◌, not, Some, None, Ok, Err, refl, sym, ap, ◌∙◌, subst, rules}
 use Rattle.std.proofs.lemmas.Bool.{and_parts}
 use Rattle.std.specs.Prelude.{slice_get, slice_set, IfSome}
 use Rattle.std.specs.List.{AllByRecursion}
@@ -9,20 +9,17 @@ use Rattle.rh_sig.specs.declared.named.Named.{Named}
 use Rattle.rh_sig.specs.declared.named.Named.TheVariants as named
 use Rattle.rh_keep.specs.Meters.{started}
 use Rattle.rh_window.specs.Sending.{unsent, after_acked}
-use Rattle.rh_line.proofs.Queues.{each_push}
-use Rattle.rh_line.specs.Queue.{behind}
-use Rattle.rh_line.specs.declared.leg.Leg.{Leg}
 use Rattle.rh_line.specs.declared.leg.LegKind.{LegKind}
 use Rattle.rh_line.specs.declared.leg.LegKind.TheVariants.{ClientOut, OutServer, ClientIn, InServer}
 use Rattle.rh_order.proofs.ByNumber.{by_test, same_number, test_same}
 use Rattle.rh_passages.specs.Passing.{of_kind, HasOne}
 use Rattle.rh_passages.proofs.Messages.{each_so, one_more_so, last_one_so, leg_more, kind_more}
-use Rattle.rh_passages.proofs.Logs.{RowKeeps, PutKeeps}
+use Rattle.rh_passages.proofs.Logs.{RowKeeps}
 use Rattle.rh_shell.specs.declared.answers.Count.{Count}
 use Rattle.rh_shell.specs.declared.answers.Refused.TheVariants as refused
-use Rattle.rh_shell.specs.Rules.{Message, Packet}
+use Rattle.rh_shell.specs.Rules.{Packet}
 use Rattle.rh_shell.specs.Moves.{OnLeg}
-use Rattle.rh_shell.specs.Shells.{same_leg, is_of}
+use Rattle.rh_shell.specs.Shells.{is_of}
 use Rattle.rh_shell.specs.Wires.{of_leg}
 use Rattle.rh_server.specs.declared.state.InLeg.{InLeg}
 use Rattle.rh_server.specs.declared.state.OutLeg.{OutLeg}
@@ -36,8 +33,8 @@ use Rattle.rh_server.specs.States.{Server, same_cookie, in_leg, out_place, out_a
 use Rattle.rh_server.specs.Opening.{Done, took, refuse, unexpected, is_first, opens, first_out_at, with_first_out, conn_a2_at, on_conn_a2, first_in, with_first_in, conn_b2_at, on_conn_b2}
 use Rattle.rh_server.specs.Acknowledging.{acked_at, acked_in, acked_cookie, on_ack, on_ack_to, on_ping_traffic}
 use Rattle.rh_server.specs.InReplacement.{on_in_r1_a2, on_in_r1_a6, on_in_r2_a2}
-use Rattle.rh_server.specs.OutReplacement.{asks, wishes, answered, answered_by, answered_on, out_r1_a4_by, out_r1_a4_at, may_answer, on_out_r1_a4, out_r1_a8_at, on_out_r1_a8}
-use Rattle.rh_server.specs.Ending.{completed, is_complete, settled, on_end_a2}
+use Rattle.rh_server.specs.OutReplacement.{answered_by, answered_on, out_r1_a4_by, out_r1_a4_at, may_answer, on_out_r1_a4, out_r1_a8_at, on_out_r1_a8}
+use Rattle.rh_server.specs.Ending.{on_end_a2}
 use Rattle.rh_server.specs.Servers.{on_is, on_os, packet_by}
 use Rattle.rh_server_counts.specs.Counting.{leg_at}
 use Rattle.rh_server_rows.specs.Cookies.{Connects, OpensOut, IsConnection, IsOutChannel}

@@ -41,8 +41,8 @@ IsGone p number = rules.is_done p.role (leg_at OutServer number) ≡ true
 
 -- ---- packets (MS-RPCH 2.2.4)
 
--- on an is leg; of packets that have no row there, and of those of an IN channel's replacement,
--- nothing is said
+-- on an is leg; nothing is said of packets that have no row there, of END/A2, and of those that
+-- replace an IN channel
 abbrev pub UnexpectedIn : Passage Server → Leg → Named → Type 0
 UnexpectedIn p leg (ConnB2 version connection cookie window timeout group address padding) =
     IsLater p leg ⊎ (leg.number ≡ 1 → ⊥) ⊎ (1 ≤ in_came is_conn_b2 p)

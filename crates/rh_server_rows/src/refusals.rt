@@ -6,11 +6,16 @@ ghost use Rattle.rh_shell.specs.Moves.{AreAllowedAtEnd, EndMove, all_end_moved, 
 ghost use Rattle.rh_server.specs.Servers.{acts, first, rules};
 ghost use Rattle.rh_server_rows.specs.Refusing.{RefusesFor};
 
-use rh_server_counts::a_server_opens_once;
-use rh_server_counts::a_server_replaces_out_channels_one_by_one;
+use rh_server_counts::{a_server_opens_once, a_server_replaces_out_channels_one_by_one};
 
-/// Whatever moves a server makes that are allowed: where it refuses a packet as unexpected, on a leg
-/// that is in use, its own logs of what came and what was put tell why.
+/// Whatever moves a server makes that are allowed, its logs tell why it refuses a packet. As
+/// unexpected it refuses CONN/A2 and CONN/B2 only behind others on the leg, on another leg than
+/// the first, or where one came; OUT_R1/A4 only behind others, on another leg than the one behind
+/// the writing channel's, where each OUT_R1/A1 has its answer, or where no channel began on the
+/// writing leg or that is gone; OUT_R1/A8 only first, for another destination, or where each
+/// OUT_R1/A5 has its answer; Ack only first, or where no channel began on the leg; AckTo only
+/// first or for another destination; and PingTraffic only first. Where it refuses a cookie, what
+/// came is another one than was expected, and that of a connection or of an OUT channel came.
 pub fn what_a_server_refuses()
     ensures { (window : ℕ) (moves : List EndMove)
         → AreAllowedAtEnd rules acts (end_started (first window)) moves
