@@ -6,6 +6,7 @@ mod Told
 mod Steps
 mod Begun
 mod BegunSteps
+mod Writing
 mod Openings
 mod OutRows
 mod Mismatches

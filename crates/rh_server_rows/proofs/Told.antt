@@ -182,30 +182,30 @@ same_row : (s : Server) (one : OnLeg) (came put : List OnLeg) (x : Done)
 same_row s one came put x same h =
     row_known one came put x (subst (λ (v : Seen). Known v came) (sym same) h)
 
-in_r1_a2_same : (s : Server) (n : ℕ) (count : Count) (a b c : Cookie) (d e : ℕ)
+pub in_r1_a2_same : (s : Server) (n : ℕ) (count : Count) (a b c : Cookie) (d e : ℕ)
     → seen (on_in_r1_a2 s n count a b c d e).0 ≡ seen s
 in_r1_a2_same s n count a b c d e = search rules
 
-in_r1_a6_same : (s : Server) (n : ℕ) (a : Cookie) → seen (on_in_r1_a6 s n a).0 ≡ seen s
+pub in_r1_a6_same : (s : Server) (n : ℕ) (a : Cookie) → seen (on_in_r1_a6 s n a).0 ≡ seen s
 in_r1_a6_same s n a = search rules
 
-in_r2_a2_same : (s : Server) (n : ℕ) (count : Count) (a : Cookie)
+pub in_r2_a2_same : (s : Server) (n : ℕ) (count : Count) (a : Cookie)
     → seen (on_in_r2_a2 s n count a).0 ≡ seen s
 in_r2_a2_same s n count a = search rules
 
-ack_to_same : (s : Server) (count : Count) (a b c : ℕ) (d : Cookie)
+pub ack_to_same : (s : Server) (count : Count) (a b c : ℕ) (d : Cookie)
     → seen (on_ack_to s count a b c d).0 ≡ seen s
 ack_to_same s count a b c d = search rules
 
-end_a2_same : (s : Server) (n : ℕ) (count : Count) → seen (on_end_a2 s n count).0 ≡ seen s
+pub end_a2_same : (s : Server) (n : ℕ) (count : Count) → seen (on_end_a2 s n count).0 ≡ seen s
 end_a2_same s n count = search rules
 
-ping_same : (s : Server) (count : Count) → seen (on_ping_traffic s count).0 ≡ seen s
+pub ping_same : (s : Server) (count : Count) → seen (on_ping_traffic s count).0 ≡ seen s
 ping_same s count = search rules
 
 -- ---- CONN/B2
 
-first_in_same : (s : Server) (cookie : Cookie) (at : Stage) (o : Option InLeg)
+pub first_in_same : (s : Server) (cookie : Cookie) (at : Stage) (o : Option InLeg)
     → seen (record (first_in s cookie o) { stage = at }) ≡ record (seen s) { at = at }
 first_in_same s cookie at None = refl
 first_in_same s cookie at (Some leg) = refl
