@@ -7,6 +7,7 @@ mod Steps
 mod Begun
 mod BegunSteps
 mod Writing
+mod WritingSteps
 mod Openings
 mod OutRows
 mod Mismatches

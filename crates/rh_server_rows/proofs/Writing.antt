@@ -58,7 +58,7 @@ abbrev number_by : Option OutLeg → ℕ
 number_by None = 0
 number_by (Some x) = x.number
 
-has_push : (n : ℕ) (xs ys : List OutLeg) → HasLeg n xs → HasLeg n (xs ++ ys)
+pub has_push : (n : ℕ) (xs ys : List OutLeg) → HasLeg n xs → HasLeg n (xs ++ ys)
 has_push n [] ys h = absurd h
 has_push n (x ∷ xs) ys (inl is) = inl is
 has_push n (x ∷ xs) ys (inr rest) = inr (has_push n xs ys rest)
@@ -69,7 +69,7 @@ has_at n [] place x at is = absurd (cc)
 has_at n (z ∷ xs) zero x at is = inl (ap number_by at ∙ is)
 has_at n (z ∷ xs) (suc place) x at is = inr (has_at n xs place x at is)
 
-has_set : (n : ℕ) (xs : List OutLeg) (place : ℕ) (x y : OutLeg) → slice_get xs place ≡ Some x
+pub has_set : (n : ℕ) (xs : List OutLeg) (place : ℕ) (x y : OutLeg) → slice_get xs place ≡ Some x
     → y.number ≡ x.number → HasLeg n xs → HasLeg n (slice_set xs place y)
 has_set n [] place x y at same h = absurd h
 has_set n (z ∷ xs) zero x y at same (inl is) = inl (same ∙ sym (ap number_by at) ∙ is)
@@ -77,7 +77,7 @@ has_set n (z ∷ xs) zero x y at same (inr rest) = inr rest
 has_set n (z ∷ xs) (suc place) x y at same (inl is) = inl is
 has_set n (z ∷ xs) (suc place) x y at same (inr rest) = inr (has_set n xs place x y at same rest)
 
-has_removed : (n : ℕ) (xs : List OutLeg) (place : ℕ) (x : OutLeg)
+pub has_removed : (n : ℕ) (xs : List OutLeg) (place : ℕ) (x : OutLeg)
     → slice_get xs place ≡ Some x → (x.number ≡ n → ⊥) → HasLeg n xs → HasLeg n (remove xs place)
 has_removed n [] place x at other h = absurd h
 has_removed n (z ∷ xs) zero x at other (inl is) =
@@ -99,16 +99,16 @@ pub record Writes (x : Seen) : Type 0 where
 abbrev pub Holds : Server → List OnLeg → List OnLeg → Type 0
 Holds s came put = Writes (seen s)
 
-row_writes : (one : OnLeg) (came put : List OnLeg) (x : Done) → Writes (seen x.0)
+pub row_writes : (one : OnLeg) (came put : List OnLeg) (x : Done) → Writes (seen x.0)
     → RowKeeps Holds one came put x
 row_writes one came put (t, Ok taken) h = h
 row_writes one came put (t, Err why) h = h
 
-same_writes : (s t : Server) → seen t ≡ seen s → Writes (seen s) → Writes (seen t)
+pub same_writes : (s t : Server) → seen t ≡ seen s → Writes (seen s) → Writes (seen t)
 same_writes s t same h = subst Writes (sym same) h
 
 -- other legs, among which each number is as before
-legs_writes : (x : Seen) (outs : List OutLeg)
+pub legs_writes : (x : Seen) (outs : List OutLeg)
     → ((n : ℕ) → HasLeg n x.outs → HasLeg n outs) → Writes x → Writes (record x { outs = outs })
 legs_writes x outs as_before h = record {
   early = h.early;
@@ -116,7 +116,7 @@ legs_writes x outs as_before h = record {
   next = λ e. as_before (x.writing + 1) (h.next e);
 }
 
-set_writes : (s : Server) (place : ℕ) (x y : OutLeg) → slice_get s.outs place ≡ Some x
+pub set_writes : (s : Server) (place : ℕ) (x y : OutLeg) → slice_get s.outs place ≡ Some x
     → y.number ≡ x.number → Writes (seen s)
     → Writes (record (seen s) { outs = slice_set s.outs place y })
 set_writes s place x y at same h =
@@ -124,7 +124,7 @@ set_writes s place x y at same h =
     (λ n. has_set n s.outs place x y at same) h
 
 -- another stage, behind CONN/A2 as before
-stage_writes : (x : Seen) (at : Stage) → since_conn_a2 at ≡ since_conn_a2 x.at → Writes x
+pub stage_writes : (x : Seen) (at : Stage) → since_conn_a2 at ≡ since_conn_a2 x.at → Writes x
     → Writes (record x { at = at })
 stage_writes x at same h = record {
   early = λ e. h.early (sym same ∙ e);
@@ -316,7 +316,7 @@ on_os_writes s n count (named.PingTraffic v1) some h =
     same_writes s (on_ping_traffic s count).0 (ping_same s count) h
 on_os_writes s n count m some h = h
 
-packet_writes : (s : Server) (n : ℕ) (count : Count) (m : Named) (k : LegKind)
+pub packet_writes : (s : Server) (n : ℕ) (count : Count) (m : Named) (k : LegKind)
     → IsTrue (is_in_use server_rules s (leg_at k n)) → Writes (seen s)
     → Writes (seen (packet_by s n count m k).0)
 packet_writes s n count m InServer used h = on_is_writes s n count m h
