@@ -30,10 +30,11 @@ use Rattle.rh_server_counts.specs.Counting.{is_conn_a2, is_out_r1_a1, is_out_r1_
 use Rattle.rh_server_counts.specs.Opening.{since_conn_a2, since_conn_b2, IsText, OpensOnce}
 use Rattle.rh_server_counts.specs.Replacing.{since_asked, since_answered, AreReplaced}
 use Rattle.rh_server_rows.specs.Counted.{Tells}
-use Rattle.rh_server_rows.specs.Refusing.{IsUnbegun, IsGone}
+use Rattle.rh_server_rows.specs.Refusing.{IsUnbegun}
+use Rattle.rh_server_rows.proofs.Writing.{HasLeg, has_place, Writes}
 use Rattle.rh_server_rows.proofs.Tests.{one_fails, not_false, first_count, later_count, out_waits, WaitsOut}
 use Rattle.rh_server_rows.proofs.Places.{all_at}
-use Rattle.rh_server_rows.proofs.Told.{number_at}
+use Rattle.rh_server_rows.proofs.Told.{seen, number_at}
 use Rattle.rh_server_rows.proofs.Begun.{view, Bare, Begun, is_there, in_use_at}
 use Rattle.rh_server_rows.proofs.Openings.{IsUnexpected}
 
@@ -52,7 +53,11 @@ in_turn Confirmed = (omega arith, omega arith)
 
 module _ (p : Passage Server) (opens : OpensOnce p) (replaces : AreReplaced p)
     (of_a2 : Begun is_conn_a2 (view p.role) p.came)
-    (of_a4 : Begun is_out_r1_a4 (view p.role) p.came) where
+    (of_a4 : Begun is_out_r1_a4 (view p.role) p.came) (writes : Writes (seen p.role)) where
+  -- the leg isn't kept any more
+  abbrev IsGone : ℕ → Type 0
+  IsGone n = is_some (out_place n p.role.outs) ≡ false
+
   -- a leg that is there and has no cookie
   unbegun_at : (place : ℕ) (n : ℕ) (x : OutLeg) → out_place n p.role.outs ≡ Some place
       → slice_get p.role.outs place ≡ Some x → is_some x.cookie ≡ false → IsUnbegun p n
@@ -66,7 +71,7 @@ module _ (p : Passage Server) (opens : OpensOnce p) (replaces : AreReplaced p)
           (all_at (Bare test p.came) p.role.outs place h.each)
 
   -- there is no cookie for a leg: it is gone, or no channel began there
-  no_cookie_so : (n : ℕ) → out_cookie n p.role.outs ≡ None → IsGone p n ⊎ IsUnbegun p n
+  no_cookie_so : (n : ℕ) → out_cookie n p.role.outs ≡ None → IsGone n ⊎ IsUnbegun p n
   no_cookie_so n e = by (out_place n p.role.outs) refl e
     where
       by_leg : (place : ℕ) (o : Option OutLeg) → out_place n p.role.outs ≡ Some place
@@ -76,14 +81,14 @@ module _ (p : Passage Server) (opens : OpensOnce p) (replaces : AreReplaced p)
           unbegun_at place n x found at (ap is_some e)
 
       by : (place : Option ℕ) → out_place n p.role.outs ≡ place
-          → cookie_by (out_at p.role.outs place) ≡ None → IsGone p n ⊎ IsUnbegun p n
-      by None found e = inl (ap (λ (o : Option ℕ). not (is_some o)) found)
+          → cookie_by (out_at p.role.outs place) ≡ None → IsGone n ⊎ IsUnbegun p n
+      by None found e = inl (ap (λ (o : Option ℕ). is_some o) found)
       by (Some place) found e =
           inr (by_leg place (slice_get p.role.outs place) found refl e)
 
-  there : (n : ℕ) → IsTrue (is_in_use server_rules p.role (leg_at OutServer n)) → IsGone p n → ⊥
+  there : (n : ℕ) → IsTrue (is_in_use server_rules p.role (leg_at OutServer n)) → IsGone n → ⊥
   there n used gone =
-      absurd (false≢true (sym (ap not (in_use_at p.role n used)) ∙ gone))
+      absurd (true≢false (sym (in_use_at p.role n used) ∙ gone))
 
   -- ---- acknowledgements
 
@@ -98,13 +103,13 @@ module _ (p : Passage Server) (opens : OpensOnce p) (replaces : AreReplaced p)
       Goal : Type 0
       Goal = (before ≡ 0) ⊎ IsUnbegun p n
 
-      none : IsGone p n ⊎ IsUnbegun p n → Goal
+      none : IsGone n ⊎ IsUnbegun p n → Goal
       none (inl gone) = absurd (there n used gone)
       none (inr is) = inr is
 
       acked : (place : Option ℕ) → out_place n p.role.outs ≡ place
           → IsUnexpected (acked_in p.role received window place) → Goal
-      acked None found r = none (inl (ap (λ (o : Option ℕ). not (is_some o)) found))
+      acked None found r = none (inl (ap (λ (o : Option ℕ). is_some o) found))
       acked (Some place) found r = by_leg (slice_get p.role.outs place) refl r
         where
           by_leg : (o : Option OutLeg) → slice_get p.role.outs place ≡ o
@@ -174,7 +179,7 @@ module _ (p : Passage Server) (opens : OpensOnce p) (replaces : AreReplaced p)
       → IsTrue (is_in_use server_rules p.role (leg_at OutServer n)) → Tells count before
       → IsUnexpected (on_out_r1_a4 p.role n count a b c d e f)
       → (1 ≤ before) ⊎ (n ≡ suc (suc (out_put is_out_r1_a9 p)) → ⊥) ⊎ Over
-      ⊎ IsGone p (suc (out_put is_out_r1_a9 p)) ⊎ IsUnbegun p (suc (out_put is_out_r1_a9 p))
+      ⊎ IsUnbegun p (suc (out_put is_out_r1_a9 p))
   a4_refused n count before a b c d e f used tells =
       by_test (λ (x : Done). IsUnexpected x → Goal) (may_answer p.role n count)
       (out_r1_a4_at p.role p.role.stage n a b c d e f) (unexpected p.role)
@@ -184,7 +189,6 @@ module _ (p : Passage Server) (opens : OpensOnce p) (replaces : AreReplaced p)
       Goal : Type 0
       Goal =
           (1 ≤ before) ⊎ (n ≡ suc (suc (out_put is_out_r1_a9 p)) → ⊥) ⊎ Over
-          ⊎ IsGone p (suc (out_put is_out_r1_a9 p))
           ⊎ IsUnbegun p (suc (out_put is_out_r1_a9 p))
 
       first : Bool
@@ -218,7 +222,7 @@ module _ (p : Passage Server) (opens : OpensOnce p) (replaces : AreReplaced p)
       answers : (place : Option ℕ) → out_place n p.role.outs ≡ place
           → IsUnexpected (answered_by p.role c d e f place (out_at p.role.outs place)) → Goal
       answers None found r =
-          absurd (there n used (ap (λ (o : Option ℕ). not (is_some o)) found))
+          absurd (there n used (ap (λ (o : Option ℕ). is_some o) found))
       answers (Some place) found r = by_leg (slice_get p.role.outs place) refl r
         where
           by_leg : (o : Option OutLeg) → slice_get p.role.outs place ≡ o
@@ -226,14 +230,17 @@ module _ (p : Passage Server) (opens : OpensOnce p) (replaces : AreReplaced p)
           by_leg None at r = absurd (is_there p.role n place found at)
           by_leg (Some x) at r = absurd (cc)
 
-      none : IsGone p p.role.writing ⊎ IsUnbegun p p.role.writing → Goal
-      none (inl gone) = inr (inr (inr (inl (subst (IsGone p) replaces.writing gone))))
-      none (inr is) = inr (inr (inr (inr (subst (IsUnbegun p) replaces.writing is))))
+      none : HasLeg p.role.writing p.role.outs
+          → IsGone p.role.writing ⊎ IsUnbegun p p.role.writing → Goal
+      none kept (inl gone) =
+          absurd (true≢false (sym (has_place p.role.writing p.role.outs kept) ∙ gone))
+      none kept (inr is) = inr (inr (inr (subst (IsUnbegun p) replaces.writing is)))
 
-      by_writing : (known : Cookie) (o : Option Cookie) → out_cookie p.role.writing p.role.outs ≡ o
+      by_writing : HasLeg p.role.writing p.role.outs → (known : Cookie) (o : Option Cookie)
+          → out_cookie p.role.writing p.role.outs ≡ o
           → IsUnexpected (out_r1_a4_by p.role n known a b c d e f o) → Goal
-      by_writing known None g r = none (no_cookie_so p.role.writing g)
-      by_writing known (Some writing) g q =
+      by_writing kept known None g r = none kept (no_cookie_so p.role.writing g)
+      by_writing kept known (Some writing) g q =
           by_test (λ (x : Done). IsUnexpected x → Goal) (not (same_cookie known a))
           (refuse p.role (refused.Cookie known a)) _ (λ i r. absurd (cc))
           (λ i. by_test (λ (x : Done). IsUnexpected x → Goal) (not (same_cookie writing b))
@@ -243,7 +250,7 @@ module _ (p : Passage Server) (opens : OpensOnce p) (replaces : AreReplaced p)
       by : (at : Stage) → p.role.stage ≡ at
           → IsUnexpected (out_r1_a4_at p.role at n a b c d e f) → Goal
       by (stage.Open known) g r =
-          by_writing known (out_cookie p.role.writing p.role.outs) refl r
+          by_writing (writes.now (ap since_conn_a2 g)) known (out_cookie p.role.writing p.role.outs) refl r
       by stage.Waits g r = inr (inr (inl (over_early stage.Waits g (omega arith))))
       by (stage.OutCame known) g r =
           inr (inr (inl (over_early (stage.OutCame known) g (omega arith))))

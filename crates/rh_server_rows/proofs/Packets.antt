@@ -28,6 +28,7 @@ use Rattle.rh_server_rows.specs.Counted.{Tells}
 use Rattle.rh_server_rows.specs.Refusing.{came_on, UnexpectedBy, RefusesFor}
 use Rattle.rh_server_rows.proofs.Tests.{one_fails, not_false, first_count, out_waits, WaitsOut}
 use Rattle.rh_server_rows.proofs.Begun.{view, Begun}
+use Rattle.rh_server_rows.proofs.Writing.{Writes}
 use Rattle.rh_server_rows.proofs.OutRows.{ack_refused, a4_refused}
 use Rattle.rh_server_rows.proofs.Told.{seen, Known}
 use Rattle.rh_server_rows.proofs.Mismatches.{refused_other}
@@ -131,7 +132,7 @@ module _ (p : Passage Server) (h : AreReplaced p) where
 
 module _ (p : Passage Server) (opens : OpensOnce p) (replaces : AreReplaced p)
     (of_a2 : Begun is_conn_a2 (view p.role) p.came)
-    (of_a4 : Begun is_out_r1_a4 (view p.role) p.came) where
+    (of_a4 : Begun is_out_r1_a4 (view p.role) p.came) (writes : Writes (seen p.role)) where
   on_is_refused : (leg : Leg) (count : Count) (m : Named) → Tells count (came_on p leg)
       → IsUnexpected (on_is p.role leg.number count m) → UnexpectedBy p leg m InServer
   on_is_refused leg count (named.ConnB2 v1 v2 v3 v4 v5 v6 v7 v8) tells r =
@@ -149,10 +150,10 @@ module _ (p : Passage Server) (opens : OpensOnce p) (replaces : AreReplaced p)
   on_os_refused leg count (named.ConnA2 v1 v2 v3 v4 v5) used tells r =
       conn_a2_refused p opens leg.number count (came_on p leg) v2 v3 v4 v5 tells r
   on_os_refused leg count (named.OutR1A4 v1 v2 v3 v4 v5 v6 v7) used tells r =
-      a4_refused p opens replaces of_a2 of_a4 leg.number count (came_on p leg) v2 v3 v4 v5 v6 v7
+      a4_refused p opens replaces of_a2 of_a4 writes leg.number count (came_on p leg) v2 v3 v4 v5 v6 v7
       used tells r
   on_os_refused leg count (named.Ack v1 v2 v3) used tells r =
-      ack_refused p opens replaces of_a2 of_a4 leg.number count (came_on p leg) v1 v2 v3 used tells
+      ack_refused p opens replaces of_a2 of_a4 writes leg.number count (came_on p leg) v1 v2 v3 used tells
       r
   on_os_refused leg count (named.PingTraffic bytes) used tells r =
       traffic_refused p.role count (came_on p leg) tells r

@@ -1,5 +1,5 @@
 -- the leg of the writing channel is there, and that of its successor (profile)
-use Rattle.std.proofs.Common.{◌≡◌, ◌⊎◌, inl, inr, ℕ, zero, suc, ◌+◌, ◌≤◌, ◌<◌, ◌==◌, List, [], ◌∷◌, ◌++◌, length, Bool, true, false, true≢false, nat_le, nat_lt, if◌then◌else◌, ◌&&◌, not, Some, None, Ok, Err, arith, refl, sym, ap, ◌∙◌, subst, rules}
+use Rattle.std.proofs.Common.{◌≡◌, ◌⊎◌, inl, inr, ℕ, zero, suc, ◌+◌, ◌≤◌, ◌<◌, ◌==◌, List, [], ◌∷◌, ◌++◌, length, Bool, true, false, true≢false, nat_le, nat_lt, cond, if◌then◌else◌, ◌&&◌, not, Some, None, Ok, Err, arith, refl, sym, ap, ◌∙◌, subst, rules}
 use Rattle.std.proofs.lemmas.Bool.{false≢true, and_parts}
 use Rattle.std.proofs.lemmas.Bool.Decides.{nat_tests}
 use Rattle.std.specs.Prelude.{slice_get, slice_set, remove, position, find, IfSome, IsTrue}
@@ -13,7 +13,7 @@ use Rattle.rh_line.specs.Queue.{front_length}
 use Rattle.rh_line.specs.declared.leg.Leg.{Leg}
 use Rattle.rh_line.specs.declared.leg.LegKind.{LegKind}
 use Rattle.rh_line.specs.declared.leg.LegKind.TheVariants.{ClientOut, OutServer, ClientIn, InServer}
-use Rattle.rh_order.proofs.ByNumber.{by_test, same_number, test_same}
+use Rattle.rh_order.proofs.ByNumber.{by_test, same_number, other_number}
 use Rattle.rh_passages.proofs.Logs.{RowKeeps, PutKeeps, ActsKeep}
 use Rattle.rh_shell.specs.declared.answers.Count.{Count}
 use Rattle.rh_shell.specs.declared.answers.Refused.TheVariants as refused
@@ -43,6 +43,7 @@ use Rattle.rh_server.specs.Servers.{rules as server_rules}
 use Rattle.rh_server_counts.specs.Counting.{leg_at}
 use Rattle.rh_server_counts.specs.Opening.{since_conn_a2}
 use Rattle.rh_server_counts.specs.Replacing.{since_answered}
+use Rattle.rh_server_rows.proofs.Places.{next_place, place_step}
 use Rattle.rh_server_rows.proofs.Allowed.{MayKeep, allowed_keep}
 use Rattle.rh_server_rows.proofs.Told.{Seen, seen, number_at, in_r1_a2_same, in_r1_a6_same, in_r2_a2_same, ack_to_same, end_a2_same, ping_same, first_in_same}
 use Rattle.rh_server_rows.proofs.Steps.{PickSame, in_same, lost_same, pdu_same, give_same, take_same}
@@ -86,6 +87,24 @@ has_removed n (z ∷ xs) zero x at other (inr rest) = rest
 has_removed n (z ∷ xs) (suc place) x at other (inl is) = inl is
 has_removed n (z ∷ xs) (suc place) x at other (inr rest) =
     inr (has_removed n xs place x at other rest)
+
+-- so it is found
+pub has_place : (n : ℕ) (xs : List OutLeg) → HasLeg n xs → is_some (out_place n xs) ≡ true
+has_place n [] h = absurd h
+has_place n (x ∷ xs) h =
+    ap is_some (place_step (λ (leg : OutLeg). leg.number == n) x xs)
+    ∙ by (x.number == n) refl h (has_place n xs)
+  where
+    further : (place : Option ℕ) → is_some place ≡ true → is_some (next_place place) ≡ true
+    further None e = absurd (false≢true e)
+    further (Some place) e = refl
+
+    by : (b : Bool) → x.number == n ≡ b → (x.number ≡ n) ⊎ HasLeg n xs
+        → (HasLeg n xs → is_some (out_place n xs) ≡ true)
+        → is_some (cond b (Some 0) (next_place (out_place n xs))) ≡ true
+    by true e h rest = refl
+    by false e (inl is) rest = absurd (other_number x.number n e is)
+    by false e (inr h) rest = further (out_place n xs) (rest h)
 
 -- ---- what is known
 

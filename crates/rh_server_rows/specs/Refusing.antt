@@ -1,5 +1,5 @@
 -- what is so in a server's logs where it refuses what comes as unexpected (MS-RPCH 3.2.5; profile)
-use Rattle.std.specs.Prelude.{ℕ, suc, ◌≡◌, ◌⊎◌, ◌≤◌, true, IsTrue, Err}
+use Rattle.std.specs.Prelude.{ℕ, suc, ◌≡◌, ◌⊎◌, ◌≤◌, IsTrue, Err}
 use Rattle.rh_rts.specs.declared.command.Cookie.{Cookie}
 use Rattle.rh_sig.specs.declared.named.Named.{Named}
 use Rattle.rh_sig.specs.declared.named.Named.TheVariants.{ConnA2, ConnB2, InR1A2, InR1A6, OutR1A4, OutR1A8, Ack, AckTo, PingTraffic}
@@ -35,10 +35,6 @@ IsUnbegun p number =
     (often_at is_conn_a2 OutServer number p.came ≡ 0)
     × (often_at is_out_r1_a4 OutServer number p.came ≡ 0)
 
--- there is no use for the os leg any more
-abbrev pub IsGone : Passage Server → ℕ → Type 0
-IsGone p number = rules.is_done p.role (leg_at OutServer number) ≡ true
-
 -- ---- packets (MS-RPCH 2.2.4)
 
 -- on an is leg; nothing is said of packets that have no row there, of END/A2, and of those that
@@ -61,7 +57,7 @@ UnexpectedOut p leg
     (OutR1A4 version connection predecessor successor lifetime window timeout) =
     IsLater p leg ⊎ (leg.number ≡ suc (suc (out_put is_out_r1_a9 p)) → ⊥)
     ⊎ (out_put is_out_r1_a1 p ≤ out_came is_out_r1_a4 p)
-    ⊎ IsGone p (suc (out_put is_out_r1_a9 p)) ⊎ IsUnbegun p (suc (out_put is_out_r1_a9 p))
+    ⊎ IsUnbegun p (suc (out_put is_out_r1_a9 p))
 UnexpectedOut p leg (Ack received window cookie) = IsFirst p leg ⊎ IsUnbegun p leg.number
 UnexpectedOut p leg (PingTraffic bytes) = IsFirst p leg
 UnexpectedOut p leg packet = Unit {0}

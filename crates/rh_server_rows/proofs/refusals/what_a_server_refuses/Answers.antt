@@ -2,6 +2,7 @@ use Rattle.std.proofs.Common.{refl}
 use Rattle.rh_server_counts.specs.Counting.{is_conn_a2, is_out_r1_a4}
 use Rattle.rh_server_rows.proofs.Steps.{known}
 use Rattle.rh_server_rows.proofs.BegunSteps.{begun_so}
+use Rattle.rh_server_rows.proofs.WritingSteps.{writes_so}
 use Rattle.rh_server_rows.proofs.Packets.{refuses_for}
 use Rattle.rh_server_rows.proofs.refusals.what_a_server_refuses.Goals as goal
 
@@ -11,4 +12,4 @@ returns c = λ window moves may.
     (c.a_server_replaces_out_channels_one_by_one.ensures.counts window moves)
     (begun_so is_conn_a2 (λ v1 v2 v3. refl) (λ v1. refl) window moves may)
     (begun_so is_out_r1_a4 (λ v1 v2 v3. refl) (λ v1. refl) window moves may)
-    (known window moves)
+    (writes_so window moves may) (known window moves)
