@@ -250,7 +250,8 @@ module _ (p : Passage Server) (opens : OpensOnce p) (replaces : AreReplaced p)
       by : (at : Stage) → p.role.stage ≡ at
           → IsUnexpected (out_r1_a4_at p.role at n a b c d e f) → Goal
       by (stage.Open known) g r =
-          by_writing (writes.now (ap since_conn_a2 g)) known (out_cookie p.role.writing p.role.outs) refl r
+          by_writing (writes.now (ap since_conn_a2 g)) known
+          (out_cookie p.role.writing p.role.outs) refl r
       by stage.Waits g r = inr (inr (inl (over_early stage.Waits g (omega arith))))
       by (stage.OutCame known) g r =
           inr (inr (inl (over_early (stage.OutCame known) g (omega arith))))

@@ -150,11 +150,12 @@ module _ (p : Passage Server) (opens : OpensOnce p) (replaces : AreReplaced p)
   on_os_refused leg count (named.ConnA2 v1 v2 v3 v4 v5) used tells r =
       conn_a2_refused p opens leg.number count (came_on p leg) v2 v3 v4 v5 tells r
   on_os_refused leg count (named.OutR1A4 v1 v2 v3 v4 v5 v6 v7) used tells r =
-      a4_refused p opens replaces of_a2 of_a4 writes leg.number count (came_on p leg) v2 v3 v4 v5 v6 v7
+      a4_refused p opens replaces of_a2 of_a4 writes leg.number count (came_on p leg) v2 v3 v4 v5
+      v6 v7
       used tells r
   on_os_refused leg count (named.Ack v1 v2 v3) used tells r =
-      ack_refused p opens replaces of_a2 of_a4 writes leg.number count (came_on p leg) v1 v2 v3 used tells
-      r
+      ack_refused p opens replaces of_a2 of_a4 writes leg.number count (came_on p leg) v1 v2 v3
+      used tells r
   on_os_refused leg count (named.PingTraffic bytes) used tells r =
       traffic_refused p.role count (came_on p leg) tells r
   on_os_refused leg count packet used tells r = tt

@@ -1,52 +1,41 @@
 -- the leg of the writing channel is there, and that of its successor (profile)
-use Rattle.std.proofs.Common.{◌≡◌, ◌⊎◌, inl, inr, ℕ, zero, suc, ◌+◌, ◌≤◌, ◌<◌, ◌==◌, List, [], ◌∷◌, ◌++◌, length, Bool, true, false, true≢false, nat_le, nat_lt, cond, if◌then◌else◌, ◌&&◌, not, Some, None, Ok, Err, arith, refl, sym, ap, ◌∙◌, subst, rules}
+use Rattle.std.proofs.Common.{◌≡◌, ◌⊎◌, inl, inr, ℕ, zero, suc, ◌+◌, ◌==◌, List, [], ◌∷◌, ◌++◌, Bool, true, false, cond, ◌&&◌, not, Some, None, Ok, Err, refl, sym, ap, ◌∙◌, subst}
 use Rattle.std.proofs.lemmas.Bool.{false≢true, and_parts}
-use Rattle.std.proofs.lemmas.Bool.Decides.{nat_tests}
-use Rattle.std.specs.Prelude.{slice_get, slice_set, remove, position, find, IfSome, IsTrue}
+use Rattle.std.specs.Prelude.{slice_get, slice_set, remove, IsTrue}
 use Rattle.std.specs.declared.option.Option.{Option}
 use Rattle.rh_rts.specs.declared.command.Cookie.{Cookie}
 use Rattle.rh_sig.specs.declared.named.Named.{Named}
 use Rattle.rh_sig.specs.declared.named.Named.TheVariants as named
-use Rattle.rh_keep.specs.Meters.{started, fits}
+use Rattle.rh_keep.specs.Meters.{started}
 use Rattle.rh_window.specs.Sending.{unsent, after_acked}
-use Rattle.rh_line.specs.Queue.{front_length}
-use Rattle.rh_line.specs.declared.leg.Leg.{Leg}
 use Rattle.rh_line.specs.declared.leg.LegKind.{LegKind}
 use Rattle.rh_line.specs.declared.leg.LegKind.TheVariants.{ClientOut, OutServer, ClientIn, InServer}
 use Rattle.rh_order.proofs.ByNumber.{by_test, same_number, other_number}
-use Rattle.rh_passages.proofs.Logs.{RowKeeps, PutKeeps, ActsKeep}
+use Rattle.rh_passages.proofs.Logs.{RowKeeps}
 use Rattle.rh_shell.specs.declared.answers.Count.{Count}
 use Rattle.rh_shell.specs.declared.answers.Refused.TheVariants as refused
-use Rattle.rh_shell.specs.declared.due.Due.{Due}
-use Rattle.rh_shell.specs.Rules.{Message, Packet, Pdu}
-use Rattle.rh_shell.specs.Moves.{OnLeg, EndMove, AreAllowedAtEnd, end_started, all_end_moved, is_in_use}
-use Rattle.rh_shell.specs.Waiting.{Waiting, taken}
-use Rattle.rh_server.specs.declared.state.Greeting.TheVariants as greetings
-use Rattle.rh_server.specs.declared.state.InLeg.{InLeg}
+use Rattle.rh_shell.specs.Moves.{OnLeg, is_in_use}
+use Rattle.rh_shell.specs.Waiting.{taken}
 use Rattle.rh_server.specs.declared.state.OutLeg.{OutLeg}
 use Rattle.rh_server.specs.declared.state.Replacement.{Replacement}
 use Rattle.rh_server.specs.declared.state.Replacement.TheVariants.{Steady, Asked, Answered, Confirmed}
 use Rattle.rh_server.specs.declared.state.Stage.{Stage}
 use Rattle.rh_server.specs.declared.state.Stage.TheVariants as stage
 use Rattle.rh_server.specs.declared.out_line.Kind.TheVariants as kind
-use Rattle.rh_server.specs.OutLines.{Gate, waits, lets, length_of}
-use Rattle.rh_server.specs.OutLegs.{counted, went}
-use Rattle.rh_server.specs.States.{Server, is_open, is_due, is_some, is_confirmed, same_cookie, in_leg, out_place, out_at, out_cookie, removed_at, without_in, without_out}
-use Rattle.rh_server.specs.Opening.{Done, took, refuse, unexpected, is_first, may_up_by, out_leg_up, up, up_by, opens, first_out_at, with_first_out, conn_a2_at, on_conn_a2, with_first_in, conn_b2_at, on_conn_b2}
+use Rattle.rh_server.specs.OutLines.{waits}
+use Rattle.rh_server.specs.States.{Server, is_some, same_cookie, in_leg, out_place, out_at, out_cookie}
+use Rattle.rh_server.specs.Opening.{Done, took, refuse, unexpected, is_first, opens, first_out_at, with_first_out, conn_a2_at, on_conn_a2, with_first_in, conn_b2_at, on_conn_b2}
 use Rattle.rh_server.specs.Acknowledging.{acked_at, acked_in, acked_cookie, on_ack, on_ack_to, on_ping_traffic}
-use Rattle.rh_server.specs.InReplacement.{take, on_in_r1_a2, on_in_r1_a6, on_in_r2_a2}
-use Rattle.rh_server.specs.OutReplacement.{last_number, asks, wishes, recycle, handed, answered_by, answered_on, out_r1_a4_by, out_r1_a4_at, may_answer, on_out_r1_a4, out_r1_a8_at, on_out_r1_a8}
-use Rattle.rh_server.specs.Ending.{give, completed, is_complete, settled, in_is_drawn, drawn_by, with_ack_dropped, lost_in, mark_by, only_marks_by, on_end_a2}
-use Rattle.rh_server.specs.Putting.{Pick, or_else, put_in, out_greeting_at, put_out_greeting, gate, gate_at, counts, counts_at, was_put, waiting_by, waiting_at, put_waiting, may_go_at, went_at, pdu_by as put_pdu_by, put_pdu, is_end_due, may_end_at, put_end, put_pdu_or_end, next_out, settled_pick, put_open, put_out_at, put_by as put_by_kind}
-use Rattle.rh_server.specs.Servers.{on_is, on_os, packet_by, pdu_by, first, acts}
+use Rattle.rh_server.specs.InReplacement.{on_in_r1_a2, on_in_r1_a6, on_in_r2_a2}
+use Rattle.rh_server.specs.OutReplacement.{answered_by, answered_on, out_r1_a4_by, out_r1_a4_at, may_answer, on_out_r1_a4, out_r1_a8_at, on_out_r1_a8}
+use Rattle.rh_server.specs.Ending.{on_end_a2}
+use Rattle.rh_server.specs.Servers.{on_is, on_os, packet_by}
 use Rattle.rh_server.specs.Servers.{rules as server_rules}
 use Rattle.rh_server_counts.specs.Counting.{leg_at}
 use Rattle.rh_server_counts.specs.Opening.{since_conn_a2}
 use Rattle.rh_server_counts.specs.Replacing.{since_answered}
 use Rattle.rh_server_rows.proofs.Places.{next_place, place_step}
-use Rattle.rh_server_rows.proofs.Allowed.{MayKeep, allowed_keep}
 use Rattle.rh_server_rows.proofs.Told.{Seen, seen, number_at, in_r1_a2_same, in_r1_a6_same, in_r2_a2_same, ack_to_same, end_a2_same, ping_same, first_in_same}
-use Rattle.rh_server_rows.proofs.Steps.{PickSame, in_same, lost_same, pdu_same, give_same, take_same}
 use Rattle.rh_server_rows.proofs.Begun.{is_there, in_use_at}
 
 -- ---- a leg of this number is there

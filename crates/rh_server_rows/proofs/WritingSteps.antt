@@ -1,8 +1,8 @@
 -- a server's other steps keep the leg of the writing channel, and that of its successor
-use Rattle.std.proofs.Common.{◌≡◌, ◌⊎◌, inl, inr, ℕ, zero, suc, ◌+◌, ◌≤◌, ◌<◌, ◌==◌, List, [], ◌∷◌, ◌++◌, length, Bool, true, false, true≢false, nat_le, nat_lt, if◌then◌else◌, ◌&&◌, not, Some, None, Ok, Err, arith, refl, sym, ap, ◌∙◌, subst, rules}
+use Rattle.std.proofs.Common.{◌≡◌, ℕ, ◌+◌, ◌<◌, ◌==◌, List, [], ◌∷◌, Bool, true, false, nat_le, ◌&&◌, not, Some, None, arith, refl, sym, rules}
 use Rattle.std.proofs.lemmas.Bool.{false≢true, and_parts}
 use Rattle.std.proofs.lemmas.Bool.Decides.{nat_tests}
-use Rattle.std.specs.Prelude.{slice_get, slice_set, remove, position, find, IfSome, IsTrue}
+use Rattle.std.specs.Prelude.{slice_get, remove, find, IfSome, IsTrue}
 use Rattle.std.specs.declared.option.Option.{Option}
 use Rattle.rh_rts.specs.declared.command.Cookie.{Cookie}
 use Rattle.rh_sig.specs.declared.named.Named.{Named}
@@ -29,7 +29,7 @@ use Rattle.rh_server.specs.OutLegs.{counted, went}
 use Rattle.rh_server.specs.States.{Server, is_open, is_due, is_confirmed, in_leg, out_place, removed_at, without_in, without_out}
 use Rattle.rh_server.specs.Opening.{may_up_by, out_leg_up, up, up_by}
 use Rattle.rh_server.specs.InReplacement.{take}
-use Rattle.rh_server.specs.OutReplacement.{last_number, asks, wishes, recycle, handed}
+use Rattle.rh_server.specs.OutReplacement.{asks, wishes, recycle, handed}
 use Rattle.rh_server.specs.Ending.{give, completed, is_complete, settled, in_is_drawn, drawn_by, with_ack_dropped, lost_in, mark_by, only_marks_by}
 use Rattle.rh_server.specs.Putting.{Pick, or_else, put_in, out_greeting_at, put_out_greeting, gate, gate_at, counts, counts_at, was_put, waiting_by, waiting_at, put_waiting, may_go_at, went_at, pdu_by as put_pdu_by, put_pdu, is_end_due, may_end_at, put_end, put_pdu_or_end, next_out, settled_pick, put_open, put_out_at, put_by as put_by_kind}
 use Rattle.rh_server.specs.Servers.{pdu_by, packet_by, first, acts}
@@ -37,10 +37,10 @@ use Rattle.rh_server.specs.Servers.{rules as server_rules}
 use Rattle.rh_server_counts.specs.Opening.{since_conn_a2}
 use Rattle.rh_server_counts.specs.Replacing.{since_answered}
 use Rattle.rh_server_rows.proofs.Allowed.{MayKeep, allowed_keep}
-use Rattle.rh_server_rows.proofs.Told.{Seen, seen, number_at}
+use Rattle.rh_server_rows.proofs.Told.{seen, number_at}
 use Rattle.rh_server_rows.proofs.Steps.{PickSame, in_same, lost_same, pdu_same, give_same, take_same}
 use Rattle.rh_server_rows.proofs.Begun.{is_there}
-use Rattle.rh_server_rows.proofs.Writing.{HasLeg, has_push, has_set, has_removed, Writes, Holds, row_writes, same_writes, legs_writes, set_writes, stage_writes, packet_writes}
+use Rattle.rh_server_rows.proofs.Writing.{has_push, has_set, has_removed, Writes, Holds, row_writes, same_writes, set_writes, stage_writes, packet_writes}
 
 abbrev Fine : Server → Type 0
 Fine s = Writes (seen s)
