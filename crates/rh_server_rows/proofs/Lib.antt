@@ -6,6 +6,7 @@ mod Told
 mod Steps
 mod Begun
 mod BegunSteps
+mod FirstLeg
 mod Writing
 mod WritingSteps
 mod Openings
