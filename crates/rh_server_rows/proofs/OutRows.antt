@@ -1,5 +1,5 @@
 -- why a server refuses OUT_R1/A4 and Ack as unexpected
-use Rattle.std.proofs.Common.{◌≡◌, ◌⊎◌, inl, inr, ℕ, suc, ◌+◌, ◌≤◌, ◌==◌, ◌&&◌, Bool, false, true≢false, not, List, [], ◌∷◌, Some, None, arith, refl, sym, ap, ◌∙◌, subst, rules}
+use Rattle.std.proofs.Common.{◌≡◌, ◌⊎◌, inl, inr, ℕ, suc, ◌+◌, ◌≤◌, ◌==◌, ◌&&◌, Bool, false, true≢false, not, List, [], ◌∷◌, Some, None, arith, refl, sym, ap, ◌∙◌, subst, rules, zero}
 use Rattle.std.proofs.lemmas.Bool.{false≢true, and_parts}
 use Rattle.std.specs.Prelude.{slice_get, IfSome, IsTrue}
 use Rattle.std.specs.List.{AllByRecursion}
@@ -26,12 +26,13 @@ use Rattle.rh_server.specs.Opening.{Done, unexpected, refuse, is_first}
 use Rattle.rh_server.specs.Acknowledging.{acked_at, acked_in, acked_cookie, on_ack}
 use Rattle.rh_server.specs.OutReplacement.{answered_by, answered_on, out_r1_a4_by, out_r1_a4_at, is_asked, may_answer, on_out_r1_a4}
 use Rattle.rh_server.specs.Servers.{rules as server_rules}
-use Rattle.rh_server_counts.specs.Counting.{is_conn_a2, is_out_r1_a1, is_out_r1_a4, is_out_r1_a9, out_came, out_put, leg_at}
+use Rattle.rh_server_counts.specs.Counting.{is_conn_a2, is_out_r1_a1, is_out_r1_a4, is_out_r1_a9, out_came, out_put, leg_at, often_at}
 use Rattle.rh_server_counts.specs.Opening.{since_conn_a2, since_conn_b2, IsText, OpensOnce}
-use Rattle.rh_server_counts.specs.Replacing.{since_asked, since_answered, AreReplaced}
+use Rattle.rh_server_counts.specs.Replacing.{since_asked, since_answered, ArePutInTurn, AreReplaced}
 use Rattle.rh_server_rows.specs.Counted.{Tells}
 use Rattle.rh_server_rows.specs.Refusing.{IsUnbegun}
-use Rattle.rh_server_rows.proofs.Writing.{HasLeg, has_place, Writes}
+use Rattle.rh_server_rows.proofs.Writing.{has_place, Writes}
+use Rattle.rh_server_rows.proofs.FirstLeg.{AreFirst}
 use Rattle.rh_server_rows.proofs.Tests.{one_fails, not_false, first_count, later_count, out_waits, WaitsOut}
 use Rattle.rh_server_rows.proofs.Places.{all_at}
 use Rattle.rh_server_rows.proofs.Told.{seen, number_at}
@@ -53,7 +54,8 @@ in_turn Confirmed = (omega arith, omega arith)
 
 module _ (p : Passage Server) (opens : OpensOnce p) (replaces : AreReplaced p)
     (of_a2 : Begun is_conn_a2 (view p.role) p.came)
-    (of_a4 : Begun is_out_r1_a4 (view p.role) p.came) (writes : Writes (seen p.role)) where
+    (of_a4 : Begun is_out_r1_a4 (view p.role) p.came) (writes : Writes (seen p.role))
+    (turn : ArePutInTurn p) (first_came : AreFirst p.came) where
   -- the leg isn't kept any more
   abbrev IsGone : ℕ → Type 0
   IsGone n = is_some (out_place n p.role.outs) ≡ false
@@ -179,7 +181,6 @@ module _ (p : Passage Server) (opens : OpensOnce p) (replaces : AreReplaced p)
       → IsTrue (is_in_use server_rules p.role (leg_at OutServer n)) → Tells count before
       → IsUnexpected (on_out_r1_a4 p.role n count a b c d e f)
       → (1 ≤ before) ⊎ (n ≡ suc (suc (out_put is_out_r1_a9 p)) → ⊥) ⊎ Over
-      ⊎ IsUnbegun p (suc (out_put is_out_r1_a9 p))
   a4_refused n count before a b c d e f used tells =
       by_test (λ (x : Done). IsUnexpected x → Goal) (may_answer p.role n count)
       (out_r1_a4_at p.role p.role.stage n a b c d e f) (unexpected p.role)
@@ -189,7 +190,6 @@ module _ (p : Passage Server) (opens : OpensOnce p) (replaces : AreReplaced p)
       Goal : Type 0
       Goal =
           (1 ≤ before) ⊎ (n ≡ suc (suc (out_put is_out_r1_a9 p)) → ⊥) ⊎ Over
-          ⊎ IsUnbegun p (suc (out_put is_out_r1_a9 p))
 
       first : Bool
       first = n == p.role.writing + 1
@@ -199,9 +199,9 @@ module _ (p : Passage Server) (opens : OpensOnce p) (replaces : AreReplaced p)
 
       third : (is_asked p.role.replacement ≡ false)
           ⊎ (not (waits kind.OutR1 p.role.waiting) ≡ false) → Goal
-      third (inl g) = inr (inr (inl (over_at p.role.replacement refl g)))
+      third (inl g) = inr (inr ((over_at p.role.replacement refl g)))
       third (inr g) =
-          inr (inr (inl (over_waits (out_waits p.role.waiting.due
+          inr (inr ((over_waits (out_waits p.role.waiting.due
           (not_false (waits kind.OutR1 p.role.waiting) g)))))
 
       inner : (first ≡ false) ⊎ (second ≡ false) → Goal
@@ -230,17 +230,33 @@ module _ (p : Passage Server) (opens : OpensOnce p) (replaces : AreReplaced p)
           by_leg None at r = absurd (is_there p.role n place found at)
           by_leg (Some x) at r = absurd (cc)
 
-      none : HasLeg p.role.writing p.role.outs
-          → IsGone p.role.writing ⊎ IsUnbegun p p.role.writing → Goal
-      none kept (inl gone) =
-          absurd (true≢false (sym (has_place p.role.writing p.role.outs kept) ∙ gone))
-      none kept (inr is) = inr (inr (inr (subst (IsUnbegun p) replaces.writing is)))
+      -- the writing channel began: the first with CONN/A2, a later one with OUT_R1/A4
+      began : since_conn_a2 p.role.stage ≡ 1 → IsUnbegun p p.role.writing → ⊥
+      began opened is = at_number (out_put is_out_r1_a9 p) refl
+        where
+          at_number : (k : ℕ) → out_put is_out_r1_a9 p ≡ k → ⊥
+          at_number zero g =
+              let none = subst (λ (i : ℕ). often_at is_conn_a2 OutServer i p.came ≡ 0)
+              (replaces.writing ∙ ap suc g) is.0 in
+              absurd (omega (arith, none, first_came, opens.conn_a2, opened))
+          at_number (suc k) g =
+              let none = is.1 in
+              let one = turn.a4.each p.role.writing (omega (arith, replaces.writing, g))
+              (omega (arith, replaces.writing, replaces.began)) in
+              absurd (omega (arith, none, one))
 
-      by_writing : HasLeg p.role.writing p.role.outs → (known : Cookie) (o : Option Cookie)
+      none : since_conn_a2 p.role.stage ≡ 1 → IsGone p.role.writing ⊎ IsUnbegun p p.role.writing
+          → Goal
+      none opened (inl gone) =
+          absurd (true≢false (sym (has_place p.role.writing p.role.outs (writes.now opened))
+          ∙ gone))
+      none opened (inr is) = absurd (began opened is)
+
+      by_writing : since_conn_a2 p.role.stage ≡ 1 → (known : Cookie) (o : Option Cookie)
           → out_cookie p.role.writing p.role.outs ≡ o
           → IsUnexpected (out_r1_a4_by p.role n known a b c d e f o) → Goal
-      by_writing kept known None g r = none kept (no_cookie_so p.role.writing g)
-      by_writing kept known (Some writing) g q =
+      by_writing opened known None g r = none opened (no_cookie_so p.role.writing g)
+      by_writing opened known (Some writing) g q =
           by_test (λ (x : Done). IsUnexpected x → Goal) (not (same_cookie known a))
           (refuse p.role (refused.Cookie known a)) _ (λ i r. absurd (cc))
           (λ i. by_test (λ (x : Done). IsUnexpected x → Goal) (not (same_cookie writing b))
@@ -250,13 +266,13 @@ module _ (p : Passage Server) (opens : OpensOnce p) (replaces : AreReplaced p)
       by : (at : Stage) → p.role.stage ≡ at
           → IsUnexpected (out_r1_a4_at p.role at n a b c d e f) → Goal
       by (stage.Open known) g r =
-          by_writing (writes.now (ap since_conn_a2 g)) known
+          by_writing (ap since_conn_a2 g) known
           (out_cookie p.role.writing p.role.outs) refl r
-      by stage.Waits g r = inr (inr (inl (over_early stage.Waits g (omega arith))))
+      by stage.Waits g r = inr (inr ((over_early stage.Waits g (omega arith))))
       by (stage.OutCame known) g r =
-          inr (inr (inl (over_early (stage.OutCame known) g (omega arith))))
+          inr (inr ((over_early (stage.OutCame known) g (omega arith))))
       by (stage.InCame known window timeout) g r =
-          inr (inr (inl (over_early (stage.InCame known window timeout) g (omega arith))))
+          inr (inr ((over_early (stage.InCame known window timeout) g (omega arith))))
       by stage.Ended g r = absurd (at_work_not g)
         where
           at_work_not : p.role.stage ≡ stage.Ended → ⊥

@@ -23,12 +23,13 @@ use Rattle.rh_server.specs.Servers.{packet_by, on_is, on_os}
 use Rattle.rh_server.specs.Servers.{rules as server_rules}
 use Rattle.rh_server_counts.specs.Counting.{is_conn_a2, is_out_r1_a4, is_out_r1_a5, is_out_r1_a8, in_came, out_put, leg_at}
 use Rattle.rh_server_counts.specs.Opening.{OpensOnce}
-use Rattle.rh_server_counts.specs.Replacing.{since_asked, since_answered, since_confirmed, AreReplaced}
+use Rattle.rh_server_counts.specs.Replacing.{since_asked, since_answered, since_confirmed, ArePutInTurn, AreReplaced}
 use Rattle.rh_server_rows.specs.Counted.{Tells}
 use Rattle.rh_server_rows.specs.Refusing.{came_on, UnexpectedBy, RefusesFor}
 use Rattle.rh_server_rows.proofs.Tests.{one_fails, not_false, first_count, out_waits, WaitsOut}
 use Rattle.rh_server_rows.proofs.Begun.{view, Begun}
 use Rattle.rh_server_rows.proofs.Writing.{Writes}
+use Rattle.rh_server_rows.proofs.FirstLeg.{AreFirst}
 use Rattle.rh_server_rows.proofs.OutRows.{ack_refused, a4_refused}
 use Rattle.rh_server_rows.proofs.Told.{seen, Known}
 use Rattle.rh_server_rows.proofs.Mismatches.{refused_other}
@@ -132,7 +133,8 @@ module _ (p : Passage Server) (h : AreReplaced p) where
 
 module _ (p : Passage Server) (opens : OpensOnce p) (replaces : AreReplaced p)
     (of_a2 : Begun is_conn_a2 (view p.role) p.came)
-    (of_a4 : Begun is_out_r1_a4 (view p.role) p.came) (writes : Writes (seen p.role)) where
+    (of_a4 : Begun is_out_r1_a4 (view p.role) p.came) (writes : Writes (seen p.role))
+    (turn : ArePutInTurn p) (first_came : AreFirst p.came) where
   on_is_refused : (leg : Leg) (count : Count) (m : Named) → Tells count (came_on p leg)
       → IsUnexpected (on_is p.role leg.number count m) → UnexpectedBy p leg m InServer
   on_is_refused leg count (named.ConnB2 v1 v2 v3 v4 v5 v6 v7 v8) tells r =
@@ -150,12 +152,11 @@ module _ (p : Passage Server) (opens : OpensOnce p) (replaces : AreReplaced p)
   on_os_refused leg count (named.ConnA2 v1 v2 v3 v4 v5) used tells r =
       conn_a2_refused p opens leg.number count (came_on p leg) v2 v3 v4 v5 tells r
   on_os_refused leg count (named.OutR1A4 v1 v2 v3 v4 v5 v6 v7) used tells r =
-      a4_refused p opens replaces of_a2 of_a4 writes leg.number count (came_on p leg) v2 v3 v4 v5
-      v6 v7
-      used tells r
+      a4_refused p opens replaces of_a2 of_a4 writes turn first_came leg.number count
+      (came_on p leg) v2 v3 v4 v5 v6 v7 used tells r
   on_os_refused leg count (named.Ack v1 v2 v3) used tells r =
-      ack_refused p opens replaces of_a2 of_a4 writes leg.number count (came_on p leg) v1 v2 v3
-      used tells r
+      ack_refused p opens replaces of_a2 of_a4 writes turn first_came leg.number count
+      (came_on p leg) v1 v2 v3 used tells r
   on_os_refused leg count (named.PingTraffic bytes) used tells r =
       traffic_refused p.role count (came_on p leg) tells r
   on_os_refused leg count packet used tells r = tt

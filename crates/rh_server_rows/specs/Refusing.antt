@@ -57,7 +57,6 @@ UnexpectedOut p leg
     (OutR1A4 version connection predecessor successor lifetime window timeout) =
     IsLater p leg ⊎ (leg.number ≡ suc (suc (out_put is_out_r1_a9 p)) → ⊥)
     ⊎ (out_put is_out_r1_a1 p ≤ out_came is_out_r1_a4 p)
-    ⊎ IsUnbegun p (suc (out_put is_out_r1_a9 p))
 UnexpectedOut p leg (Ack received window cookie) = IsFirst p leg ⊎ IsUnbegun p leg.number
 UnexpectedOut p leg (PingTraffic bytes) = IsFirst p leg
 UnexpectedOut p leg packet = Unit {0}

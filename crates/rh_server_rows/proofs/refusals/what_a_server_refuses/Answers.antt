@@ -1,3 +1,4 @@
+use Rattle.rh_server_rows.proofs.FirstLeg.{first_so}
 use Rattle.std.proofs.Common.{refl}
 use Rattle.rh_server_counts.specs.Counting.{is_conn_a2, is_out_r1_a4}
 use Rattle.rh_server_rows.proofs.Steps.{known}
@@ -12,4 +13,6 @@ returns c = λ window moves may.
     (c.a_server_replaces_out_channels_one_by_one.ensures.counts window moves)
     (begun_so is_conn_a2 (λ v1 v2 v3. refl) (λ v1. refl) window moves may)
     (begun_so is_out_r1_a4 (λ v1 v2 v3. refl) (λ v1. refl) window moves may)
-    (writes_so window moves may) (known window moves)
+    (writes_so window moves may)
+    (c.a_server_replaces_out_channels_one_by_one.ensures.legs window moves)
+    (first_so window moves) (known window moves)
