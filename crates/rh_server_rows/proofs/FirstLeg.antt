@@ -16,7 +16,6 @@ use Rattle.rh_shell.specs.Rules.{Message, Packet, Pdu}
 use Rattle.rh_shell.specs.Moves.{OnLeg, EndMove, end_started, all_end_moved}
 use Rattle.rh_shell.specs.Shells.{is_of}
 use Rattle.rh_shell.specs.Wires.{of_leg}
-use Rattle.std.specs.declared.option.Option.{Option}
 use Rattle.std.proofs.Common.{Some, None}
 use Rattle.rh_server.specs.declared.out_line.Kind.TheVariants as kind
 use Rattle.rh_server.specs.OutLines.{waits}

@@ -199,10 +199,10 @@ module _ (p : Passage Server) (opens : OpensOnce p) (replaces : AreReplaced p)
 
       third : (is_asked p.role.replacement ≡ false)
           ⊎ (not (waits kind.OutR1 p.role.waiting) ≡ false) → Goal
-      third (inl g) = inr (inr ((over_at p.role.replacement refl g)))
+      third (inl g) = inr (inr (over_at p.role.replacement refl g))
       third (inr g) =
-          inr (inr ((over_waits (out_waits p.role.waiting.due
-          (not_false (waits kind.OutR1 p.role.waiting) g)))))
+          inr (inr (over_waits (out_waits p.role.waiting.due
+          (not_false (waits kind.OutR1 p.role.waiting) g))))
 
       inner : (first ≡ false) ⊎ (second ≡ false) → Goal
       inner (inl g) =
@@ -268,11 +268,11 @@ module _ (p : Passage Server) (opens : OpensOnce p) (replaces : AreReplaced p)
       by (stage.Open known) g r =
           by_writing (ap since_conn_a2 g) known
           (out_cookie p.role.writing p.role.outs) refl r
-      by stage.Waits g r = inr (inr ((over_early stage.Waits g (omega arith))))
+      by stage.Waits g r = inr (inr (over_early stage.Waits g (omega arith)))
       by (stage.OutCame known) g r =
-          inr (inr ((over_early (stage.OutCame known) g (omega arith))))
+          inr (inr (over_early (stage.OutCame known) g (omega arith)))
       by (stage.InCame known window timeout) g r =
-          inr (inr ((over_early (stage.InCame known window timeout) g (omega arith))))
+          inr (inr (over_early (stage.InCame known window timeout) g (omega arith)))
       by stage.Ended g r = absurd (at_work_not g)
         where
           at_work_not : p.role.stage ≡ stage.Ended → ⊥
