@@ -22,7 +22,7 @@ use Rattle.rh_inproxy.specs.Opening.{is_connection, is_replacement, is_unknown, 
 use Rattle.rh_inproxy.specs.State.{InProxy, is_client_leg, is_joined}
 use Rattle.rh_passages.specs.Passing.{BeginsIn, HasOne, HasBegunIn, count_of, of_kind}
 use Rattle.rh_passages.proofs.Messages.{leg_more, count_append, one_more_so, last_one_so}
-use Rattle.rh_proxy_counts.specs.Counted.{packets, is_any}
+use Rattle.rh_passages.specs.Counted.{packets, is_any}
 use Rattle.rh_proxy_counts.specs.InCounts.{is_leg}
 use Rattle.rh_proxy_counts.specs.Kinds.{is_conn_b1, is_in_r1_a1, opens_server}
 use Rattle.rh_proxy_counts.proofs.Counts.{here_more, leg_is, leg_at_most, leg_rises, kind_at_most}

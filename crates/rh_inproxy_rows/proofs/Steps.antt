@@ -33,7 +33,7 @@ use Rattle.rh_inproxy.specs.State.{InProxy, follows, has_opened, is_joined}
 use Rattle.rh_inproxy.specs.Time.{on_keep_alive, ping}
 use Rattle.rh_inproxy.specs.Machine.{pdu}
 use Rattle.rh_passages.specs.Passing.{BeginsIn, HasOne, HasBegunIn, count_of}
-use Rattle.rh_proxy_counts.specs.Counted.{packets, is_any}
+use Rattle.rh_passages.specs.Counted.{packets, is_any}
 use Rattle.rh_proxy_counts.specs.InCounts.{is_leg}
 use Rattle.rh_proxy_counts.specs.Kinds.{is_conn_b1, is_in_r1_a1, opens_server}
 use Rattle.rh_proxy_counts.proofs.Counts.{leg_at_most, leg_rises, leg_here, kind_at_most}

@@ -15,7 +15,7 @@ use Rattle.rh_shell.specs.Wires.{of_leg}
 use Rattle.rh_inproxy.specs.State.{InProxy}
 use Rattle.rh_inproxy.specs.Machine.{rules}
 use Rattle.rh_passages.specs.Passing.{Has, HasOne, HasBegunIn, count_of, of_kind}
-use Rattle.rh_proxy_counts.specs.Counted.{packets}
+use Rattle.rh_passages.specs.Counted.{packets}
 use Rattle.rh_proxy_counts.specs.InCounts.{is_leg}
 use Rattle.rh_proxy_counts.specs.Kinds.{is_conn_b1, is_in_r1_a1, is_in_r1_a5, is_in_r1_a6, opens_server}
 

@@ -13,7 +13,7 @@ use Rattle.rh_server.specs.States.{Server, same_cookie}
 use Rattle.rh_server.specs.Opening.{Done, unexpected, is_first, conn_a2_at, on_conn_a2, conn_b2_at, on_conn_b2}
 use Rattle.rh_server_counts.specs.Counting.{is_conn_a2, is_conn_b2, is_conn_c1, in_came, out_came}
 use Rattle.rh_server_counts.specs.Opening.{since_conn_a2, since_conn_b2, since_open, OpensOnce}
-use Rattle.rh_server_rows.specs.Counted.{Tells}
+use Rattle.rh_passages.specs.Counted.{Tells}
 use Rattle.rh_server_rows.proofs.Tests.{one_fails, not_false, later_count, one_waits, is_c1}
 
 -- the row refuses as unexpected

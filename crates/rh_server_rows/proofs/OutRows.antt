@@ -29,7 +29,7 @@ use Rattle.rh_server.specs.Servers.{rules as server_rules}
 use Rattle.rh_server_counts.specs.Counting.{is_conn_a2, is_out_r1_a1, is_out_r1_a4, is_out_r1_a9, out_came, out_put, leg_at, often_at}
 use Rattle.rh_server_counts.specs.Opening.{since_conn_a2, since_conn_b2, IsText, OpensOnce}
 use Rattle.rh_server_counts.specs.Replacing.{since_asked, since_answered, ArePutInTurn, AreReplaced}
-use Rattle.rh_server_rows.specs.Counted.{Tells}
+use Rattle.rh_passages.specs.Counted.{Tells}
 use Rattle.rh_server_rows.specs.Refusing.{IsUnbegun}
 use Rattle.rh_server_rows.proofs.Writing.{has_place, Writes}
 use Rattle.rh_server_rows.proofs.FirstLeg.{AreFirst}

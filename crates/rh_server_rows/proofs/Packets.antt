@@ -24,7 +24,7 @@ use Rattle.rh_server.specs.Servers.{rules as server_rules}
 use Rattle.rh_server_counts.specs.Counting.{is_conn_a2, is_out_r1_a4, is_out_r1_a5, is_out_r1_a8, in_came, out_put, leg_at}
 use Rattle.rh_server_counts.specs.Opening.{OpensOnce}
 use Rattle.rh_server_counts.specs.Replacing.{since_asked, since_answered, since_confirmed, ArePutInTurn, AreReplaced}
-use Rattle.rh_server_rows.specs.Counted.{Tells}
+use Rattle.rh_passages.specs.Counted.{Tells}
 use Rattle.rh_server_rows.specs.Refusing.{came_on, UnexpectedBy, RefusesFor}
 use Rattle.rh_server_rows.proofs.Tests.{one_fails, not_false, first_count, out_waits, WaitsOut}
 use Rattle.rh_server_rows.proofs.Begun.{view, Begun}

@@ -15,7 +15,7 @@ use Rattle.rh_server.specs.OutLines.{is_kind, is_own}
 use Rattle.rh_server.specs.States.{is_some}
 use Rattle.rh_server.specs.Opening.{is_first}
 use Rattle.rh_server_counts.specs.Counting.{is_conn_c1, is_out_r1_a1, is_out_r1_a5, is_out_r1_a9, waiting_of}
-use Rattle.rh_server_rows.specs.Counted.{Tells}
+use Rattle.rh_passages.specs.Counted.{Tells}
 
 pub one_fails : (a b : Bool) → a && b ≡ false → (a ≡ false) ⊎ (b ≡ false)
 one_fails false b e = inl refl

@@ -13,7 +13,7 @@ use Rattle.rh_shell.specs.Wires.{of_leg}
 use Rattle.rh_server.specs.States.{Server}
 use Rattle.rh_server.specs.Servers.{rules}
 use Rattle.rh_server_counts.specs.Counting.{is_conn_a2, is_conn_b2, is_out_r1_a1, is_out_r1_a4, is_out_r1_a5, is_out_r1_a8, is_out_r1_a9, in_came, out_came, out_put, often_at}
-use Rattle.rh_server_rows.specs.Counted.{packets, Tells}
+use Rattle.rh_passages.specs.Counted.{packets, Tells}
 use Rattle.rh_server_rows.specs.Cookies.{IsConnection, IsOutChannel}
 
 -- ---- first on the leg, or not
