@@ -1,8 +1,8 @@
 mod Read
 mod Roles
-mod Routes
+pub mod Routes
 mod Refusing
-mod Joined
+pub mod Joined
 mod Honest
 mod Stops
 mod Moments

@@ -1,0 +1,10 @@
+mod Legs
+mod Steps
+mod Keeps
+mod Items
+mod Answered
+mod Channels
+mod Refusals
+mod Told
+mod Telling
+mod Naming

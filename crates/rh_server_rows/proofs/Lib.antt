@@ -1,0 +1,15 @@
+mod Tests
+mod Places
+mod Ascending
+mod Allowed
+mod Told
+mod Steps
+mod Begun
+mod BegunSteps
+mod FirstLeg
+mod Writing
+mod WritingSteps
+mod Openings
+mod OutRows
+mod Mismatches
+mod Packets
