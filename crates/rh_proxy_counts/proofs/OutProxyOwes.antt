@@ -241,7 +241,8 @@ module _ (put : Named → Bool) (n : ℕ) (strict : Bool) (closed : strict ≡ f
     -- and the timeout to the client
     abbrev pub timeout_owes : OutProxyConfig → Channel → ℕ
     timeout_owes config channels.Unknown = 0
-    timeout_owes config (channels.New connection cookie) = one_if (put (named.ConnA3 config.timeout))
+    timeout_owes config (channels.New connection cookie) =
+        one_if (put (named.ConnA3 config.timeout))
     timeout_owes config (channels.Joined connection cookie) =
         one_if (put (named.ConnA3 config.timeout))
     timeout_owes config (channels.Successor connection predecessor cookie) = 0

@@ -1,5 +1,5 @@
--- the packets of replacements between the ends: of each as many pass as of the one before it, or one
--- less (the replacement of channels is this profile's)
+-- the packets of replacements between the ends: of each as many pass as of the one before it, or
+-- one less (the replacement of channels is this profile's)
 use Rattle.std.specs.Prelude.{ℕ, ◌+◌, ◌≤◌}
 use Rattle.rh_shell.specs.Moves.{Passage}
 use Rattle.rh_client.specs.declared.state.ClientRole.{ClientRole}

@@ -1,5 +1,5 @@
-//! Replacements of channels, along the way that their packets go between the ends. Its function does
-//! nothing: its contract is the law.
+//! Replacements of channels, along the way that their packets go between the ends. Its function
+//! does nothing: its contract is the law.
 #![tactic(auto)]
 
 pub mod worlds;

@@ -1,6 +1,6 @@
 //! Writes what was gathered in pieces.
 
-ghost use Rattle.std.specs.Prelude.{◌≡◌, ◌≤◌, IsOk, OnOk, OnErr, Err, [], string_bytes, length};
+ghost use Rattle.std.specs.Prelude.{◌≡◌, ◌<◌, ◌≤◌, IsOk, OnOk, OnErr, Err, [], string_bytes, length};
 ghost use Rattle.rh_io.specs.Counts.{Rose};
 ghost use Rattle.rh_words.specs.Outputs.{out, Gathers, Stops};
 
@@ -30,7 +30,8 @@ impl From<AllocError> for Unfinished {
     }
 }
 
-/// Writes what was gathered where that is at least so many bytes, and keeps its room for more.
+/// Writes what was gathered where that is at least so many bytes, and keeps its room for more. Fewer
+/// stay, and nothing is written.
 pub fn pass_on<W: Sink>(
     gathered: &mut String,
     least: usize,
@@ -39,6 +40,8 @@ pub fn pass_on<W: Sink>(
     ensures ok { OnOk result (Gathers (string_bytes gathered.old) (string_bytes gathered.new)
         (out W.written W.takes output.old) (out W.written W.takes output.new)) }
     ensures all { OnOk result (least ≡ 0 → string_bytes gathered.new ≡ []) }
+    ensures waits { length (string_bytes gathered.old) < least
+        → (string_bytes gathered.new ≡ string_bytes gathered.old) × (output.new ≡ output.old) }
     ensures err { OnErr result (Stops (string_bytes gathered.old)
         (W.written output.old) (W.written output.new)) }
     ensures fault { OnErr result (result ≡ Err Unfinished.WriteFault) }
