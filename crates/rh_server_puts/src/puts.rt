@@ -1,0 +1,17 @@
+//! Where a server's messages stand. These functions do nothing: their contracts are the laws.
+
+ghost use Rattle.std.specs.Prelude.{List, ℕ};
+ghost use Rattle.rh_shell.specs.Moves.{EndMove, all_end_moved, end_started};
+ghost use Rattle.rh_server.specs.Servers.{acts, first, rules};
+ghost use Rattle.rh_server_puts.specs.Puts.{WritesInTurn};
+
+/// Whatever moves a server makes, allowed or not: RPC PDUs, END/B1, CONN/C1, IN_R1/A3, IN_R2/A3,
+/// OUT_R1/A1, OUT_R1/A5, OUT_R1/A9 and acknowledgements stand only on the OUT channel that writes:
+/// the one behind as many as OUT_R1/A9 was put before. Acknowledgements to out proxies may stand on
+/// any os leg. END/B1 stands once at most on a channel, and no RPC PDU stands behind it, on
+/// whichever leg. On is legs stand CONN/B3, IN_R1/B1, IN_R1/B2 and acknowledgements; and no other
+/// messages are put but greetings (MS-RPCH 2.2.4, 3.2.5; successors are this profile's).
+pub fn a_server_writes_in_turn()
+    ensures { (window : ℕ) (moves : List EndMove)
+        → WritesInTurn (all_end_moved rules acts (end_started (first window)) moves).passage.put }
+{}
