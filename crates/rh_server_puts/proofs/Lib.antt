@@ -1,2 +1,6 @@
 mod Turns
 mod Writing
+mod Each
+mod Copied
+mod CopiedRows
+mod CopiedPuts

@@ -1,7 +1,7 @@
-//! What a server puts on its legs, and in which order. Its functions do nothing: their contracts
+//! What a server puts on its legs, in which order, and what it copies. Its functions do nothing: their contracts
 //! are the laws.
 #![tactic(auto)]
 
 pub mod puts;
 
-pub use puts::a_server_writes_in_turn;
+pub use puts::{a_server_copies_what_came, a_server_writes_in_turn};
