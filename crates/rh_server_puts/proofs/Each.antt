@@ -115,7 +115,7 @@ has_one Is packet (m ∷ ms) is (inr rest) = by m (has_one Is packet ms is rest)
     by (Packet other) h = inr h
 
 -- the last message of a log, on its leg
-own_leg : (kind : LegKind) (n : ℕ) (m : Message)
+pub own_leg : (kind : LegKind) (n : ℕ) (m : Message)
     → of_leg (leg_at kind n) ((leg_at kind n, m) ∷ []) ≡ m ∷ []
 own_leg ClientOut n m =
     ap (λ (b : Bool). if b then m ∷ [] else []) (test_same n)

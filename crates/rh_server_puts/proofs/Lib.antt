@@ -4,3 +4,6 @@ mod Each
 mod Copied
 mod CopiedRows
 mod CopiedPuts
+mod Numbered
+mod Greets
+mod GreetsOut

@@ -4,6 +4,7 @@ ghost use Rattle.std.specs.Prelude.{List, ℕ};
 ghost use Rattle.rh_shell.specs.Moves.{EndMove, all_end_moved, end_started};
 ghost use Rattle.rh_server.specs.Servers.{acts, first, rules};
 ghost use Rattle.rh_server_puts.specs.Copying.{CopiesWhatCame};
+ghost use Rattle.rh_server_puts.specs.Greeting.{GreetsFirst};
 ghost use Rattle.rh_server_puts.specs.Puts.{WritesInTurn};
 
 /// Whatever moves a server makes, allowed or not: RPC PDUs, END/B1, CONN/C1, IN_R1/A3, IN_R2/A3,
@@ -25,5 +26,12 @@ pub fn a_server_writes_in_turn()
 /// 3.2.5; successors are this profile's).
 pub fn a_server_copies_what_came()
     ensures { (window : ℕ) (moves : List EndMove) → CopiesWhatCame window
+        (all_end_moved rules acts (end_started (first window)) moves).passage }
+{}
+
+/// Whatever moves a server makes, allowed or not: what it put on each leg to an out proxy is nothing,
+/// or the greeting and then RPC PDUs and packets (profile).
+pub fn a_server_greets_out_proxies_first()
+    ensures { (window : ℕ) (moves : List EndMove) → GreetsFirst
         (all_end_moved rules acts (end_started (first window)) moves).passage }
 {}
