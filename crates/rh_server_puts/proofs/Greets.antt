@@ -138,3 +138,24 @@ module _ {X : Type 0} (number : X → ℕ) (greets : X → Greeting) (n : ℕ) w
     legs = once_set number n (IsSo log) (IsSo log) xs i x y at same
         (λ e was. absurd (true≢false (sym e ∙ other))) (λ e z was. was) h.legs;
   }
+
+  -- a leg takes the place of another, and is as the log is
+  pub greets_let : (newest : ℕ) (xs : List X) (i : ℕ) (x y : X) (log : List Message)
+      → slice_get xs i ≡ Some x → number y ≡ number x
+      → ((number x == n) ≡ true → IsAs log (greets y))
+      → Greets newest xs log → Greets newest (slice_set xs i y) log
+  greets_let newest xs i x y log at same here h = record {
+    may = h.may;
+    unborn = λ e. ((h.unborn e).0, absent_set number n xs i x y at same (h.unborn e).1);
+    legs = once_set number n (IsSo log) (IsSo log) xs i x y at same (λ e was. here e)
+        (λ e z was. was) h.legs;
+  }
+
+  -- a greater number was given
+  pub greets_newer : (newest : ℕ) (xs : List X) (log : List Message) → Greets newest xs log
+      → Greets (newest + 1) xs log
+  greets_newer newest xs log h = record {
+    may = h.may;
+    unborn = λ e. h.unborn (omega (arith, e));
+    legs = h.legs;
+  }

@@ -41,7 +41,7 @@ use Rattle.rh_server.specs.Servers.{acts, first, on_is, on_os, packet_by, pdu}
 use Rattle.rh_server.specs.Servers.{rules as server_rules}
 use Rattle.rh_server_puts.specs.Puts.{os}
 use Rattle.rh_server_puts.specs.Copying.{leg_at}
-use Rattle.rh_server_puts.specs.Greeting.{IsFrame, GreetsFirst}
+use Rattle.rh_server_puts.specs.Greeting.{IsFrame, MayGreet}
 use Rattle.rh_server_puts.proofs.Turns.{found_number}
 use Rattle.rh_server_puts.proofs.Each.{own_leg}
 use Rattle.rh_server_puts.proofs.Greets.{Greets, greets_start, greets_set, greets_removed, greets_up, greets_frame, greets_text, greets_other}
@@ -99,11 +99,11 @@ in_same : (s : Server) (n : ℕ)
     → IfSome (put_in s n) (λ (one : Server × Message). seen one.0 ≡ seen s)
 in_same s n = search rules
 
-is_when_due : (g : Greeting) → is_due g ≡ true → g ≡ greeting.Due
+pub is_when_due : (g : Greeting) → is_due g ≡ true → g ≡ greeting.Due
 is_when_due greeting.Due e = refl
 is_when_due greeting.Put e = absurd (false≢true e)
 
-is_when_put : (g : Greeting) → is_due g ≡ false → g ≡ greeting.Put
+pub is_when_put : (g : Greeting) → is_due g ≡ false → g ≡ greeting.Put
 is_when_put greeting.Due e = absurd (false≢true (sym e))
 is_when_put greeting.Put e = refl
 
@@ -472,8 +472,9 @@ module _ (n : ℕ) where
     recycle = λ s came put. same_keeps s (recycle s).0 (recycle_same s) (of_leg (os n) put);
   }
 
-pub greets_first : (window : ℕ) (moves : List EndMove)
-    → GreetsFirst (all_end_moved server_rules acts (end_started (first window)) moves).passage
-greets_first window moves n =
+pub greets_out : (window : ℕ) (moves : List EndMove) (n : ℕ)
+    → MayGreet (of_leg (os n)
+    (all_end_moved server_rules acts (end_started (first window)) moves).passage.put)
+greets_out window moves n =
     (end_moves_keep server_rules (Holds n) (steps n) acts (calls n) (end_started (first window))
     moves (greets_start number_of greets_of n)).may

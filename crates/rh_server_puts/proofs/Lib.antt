@@ -7,3 +7,4 @@ mod CopiedPuts
 mod Numbered
 mod Greets
 mod GreetsOut
+mod GreetsIn

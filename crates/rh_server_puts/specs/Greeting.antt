@@ -1,6 +1,8 @@
--- a server greets first on each leg to an out proxy (MS-RPCH 2.1.1.1)
+-- a server greets first on each leg (MS-RPCH 2.1.1)
 use Rattle.std.specs.Prelude.{ℕ, ◌≡◌, List, [], ◌∷◌}
 use Rattle.std.specs.List.{AllByRecursion}
+use Rattle.rh_line.specs.declared.leg.Leg.{Leg}
+use Rattle.rh_line.specs.declared.leg.LegKind.TheVariants.{InServer}
 use Rattle.rh_shell.specs.Hearing.{greeting}
 use Rattle.rh_shell.specs.Moves.{Passage}
 use Rattle.rh_shell.specs.Rules.{Message, Text, Pdu, Packet}
@@ -24,5 +26,9 @@ abbrev pub MayGreet : List Message → Type 0
 MayGreet [] = Unit {0}
 MayGreet (first ∷ rest) = IsGreeted (first ∷ rest)
 
-abbrev pub GreetsFirst : Passage Server → Type 0
-GreetsFirst p = (n : ℕ) → MayGreet (of_leg (os n) p.put)
+abbrev pub is : ℕ → Leg
+is n = record { kind = InServer; number = n }
+
+pub record GreetsFirst (p : Passage Server) : Type 0 where
+  pub out_proxies : (n : ℕ) → MayGreet (of_leg (os n) p.put)
+  pub in_proxies : (n : ℕ) → MayGreet (of_leg (is n) p.put)

@@ -5,5 +5,5 @@
 pub mod puts;
 
 pub use puts::{
-    a_server_copies_what_came, a_server_greets_out_proxies_first, a_server_writes_in_turn,
+    a_server_copies_what_came, a_server_greets_first, a_server_writes_in_turn,
 };

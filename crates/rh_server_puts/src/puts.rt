@@ -29,9 +29,9 @@ pub fn a_server_copies_what_came()
         (all_end_moved rules acts (end_started (first window)) moves).passage }
 {}
 
-/// Whatever moves a server makes, allowed or not: what it put on each leg to an out proxy is nothing,
-/// or the greeting and then RPC PDUs and packets (profile).
-pub fn a_server_greets_out_proxies_first()
+/// Whatever moves a server makes, allowed or not: what it put on each leg is nothing, or the
+/// greeting and then RPC PDUs and packets (MS-RPCH 2.1.1).
+pub fn a_server_greets_first()
     ensures { (window : ℕ) (moves : List EndMove) → GreetsFirst
         (all_end_moved rules acts (end_started (first window)) moves).passage }
 {}
