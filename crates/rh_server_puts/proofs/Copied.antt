@@ -1,15 +1,15 @@
 -- what a server keeps of what came, to copy it
-use Rattle.std.proofs.Common.{◌≡◌, ◌⊎◌, ℕ, ◌==◌, ◌&&◌, ◌||◌, Bool, true, false, not, List, ◌++◌, [], ◌∷◌, Some, None, inl, inr, refl, rules, sym, ap, ◌∙◌, subst}
-use Rattle.std.specs.Prelude.{IfSome, nat_lt}
-use Rattle.std.specs.List.{AllByRecursion, list_any}
+use Rattle.std.proofs.Common.{◌≡◌, ◌⊎◌, ℕ, ◌&&◌, ◌||◌, Bool, true, false, not, List, ◌++◌, [], ◌∷◌, Some, None, inl, inr, refl, rules, ◌∙◌}
+use Rattle.std.specs.Prelude.{IfSome}
+use Rattle.std.specs.List.{AllByRecursion}
 use Rattle.std.specs.declared.option.Option.{Option}
 use Rattle.rh_rts.specs.declared.command.Cookie.{Cookie}
 use Rattle.rh_sig.specs.declared.named.Named.{Named}
 use Rattle.rh_sig.specs.declared.named.Named.TheVariants as named
-use Rattle.rh_line.specs.Lines.{Line, after_open_next, after_take, after_finish, after_tell, after_told}
+use Rattle.rh_line.specs.Lines.{Line, after_open_next, after_take, after_finish}
 use Rattle.rh_line.proofs.Queues.{each_push}
 use Rattle.rh_line.specs.declared.leg.LegKind.{LegKind}
-use Rattle.rh_line.specs.declared.leg.LegKind.TheVariants.{OutServer, InServer}
+use Rattle.rh_line.specs.declared.leg.LegKind.TheVariants.{InServer}
 use Rattle.rh_order.proofs.ByNumber.{by_test}
 use Rattle.rh_shell.specs.declared.due.Due.{Due}
 use Rattle.rh_shell.specs.Moves.{OnLeg}
@@ -84,9 +84,10 @@ dues_more : (size : ℕ) (came : List OnLeg) (one : OnLeg) (dues : List Due)
     → AllByRecursion (DueCopies size came) dues
     → AllByRecursion (DueCopies size (came ++ one ∷ [])) dues
 dues_more size came one [] h = tt
-dues_more size came one (due ∷ dues) h =
-    (λ kind n. copies_more size came one kind n due.packet (h.0 kind n),
-    dues_more size came one dues h.1)
+dues_more size came one (due ∷ dues) h = (
+  λ kind n. copies_more size came one kind n due.packet (h.0 kind n),
+  dues_more size came one dues h.1,
+)
 
 channel_more : (came : List OnLeg) (one : OnLeg) (n : ℕ) (cookie : Cookie)
     → ChannelHas came n cookie → ChannelHas (came ++ one ∷ []) n cookie

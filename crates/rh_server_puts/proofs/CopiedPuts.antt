@@ -1,7 +1,7 @@
 -- a server's packets copy what came
-use Rattle.std.proofs.Common.{◌≡◌, ◌⊎◌, ℕ, ◌==◌, ◌&&◌, Bool, true, false, not, List, ◌++◌, [], ◌∷◌, Some, None, Ok, Err, inl, inr, refl, rules, sym, ap, ◌∙◌, subst}
-use Rattle.std.proofs.lemmas.Bool.{false≢true, and_parts}
-use Rattle.std.specs.Prelude.{IfSome, nat_le, length, slice_get, find}
+use Rattle.std.proofs.Common.{◌≡◌, ℕ, ◌==◌, ◌&&◌, not, List, ◌++◌, [], ◌∷◌, Some, None, Ok, Err, inr, refl, sym, ◌∙◌, subst}
+use Rattle.std.proofs.lemmas.Bool.{and_parts}
+use Rattle.std.specs.Prelude.{IfSome, nat_le, slice_get, find}
 use Rattle.std.specs.List.{AllByRecursion}
 use Rattle.std.specs.declared.option.Option.{Option}
 use Rattle.std.specs.declared.result.Result.{Result}
@@ -12,8 +12,7 @@ use Rattle.rh_sig.specs.declared.named.Named.{Named}
 use Rattle.rh_sig.specs.declared.named.Named.TheVariants as named
 use Rattle.rh_window.specs.declared.recv_window.Ack.{Ack}
 use Rattle.rh_line.specs.Lines.{after_tell, after_told, due}
-use Rattle.rh_line.specs.Queue.{front_length, total, queue_bytes}
-use Rattle.rh_line.specs.declared.leg.Leg.{Leg}
+use Rattle.rh_line.specs.Queue.{front_length, queue_bytes}
 use Rattle.rh_line.specs.declared.leg.LegKind.{LegKind}
 use Rattle.rh_line.specs.declared.leg.LegKind.TheVariants.{ClientOut, OutServer, ClientIn, InServer}
 use Rattle.rh_line.specs.declared.which.Which.TheVariants.{Current}
@@ -22,7 +21,7 @@ use Rattle.rh_order.proofs.ByNumber.{by_test, same_number}
 use Rattle.rh_shell.specs.declared.answers.Count.{Count}
 use Rattle.rh_shell.specs.declared.due.Due.{Due}
 use Rattle.rh_shell.specs.declared.end_role.GiveRefused.{GiveRefused}
-use Rattle.rh_shell.specs.Rules.{Message, Text, Pdu, Packet}
+use Rattle.rh_shell.specs.Rules.{Pdu, Packet}
 use Rattle.rh_shell.specs.Moves.{OnLeg, EndMove, end_started, all_end_moved}
 use Rattle.rh_shell.specs.Waiting.{taken}
 use Rattle.rh_passages.proofs.Messages.{all_append}
@@ -38,15 +37,13 @@ use Rattle.rh_server.specs.declared.state.InLeg.{InLeg}
 use Rattle.rh_server.specs.declared.state.OutLeg.{OutLeg}
 use Rattle.rh_server.specs.OutLines.{Gate, lets, length_of, is_ack_of}
 use Rattle.rh_server.specs.States.{Server, is_open, is_due, is_shut, is_closing, is_waiting, stays, in_leg, in_place, with_in, without_in, without_out, out_place, out_cookie}
-use Rattle.rh_server.specs.Opening.{Done, in_leg_up, may_up, up_by, up}
-use Rattle.rh_server.specs.InReplacement.{take}
-use Rattle.rh_server.specs.OutReplacement.{recycle}
+use Rattle.rh_server.specs.Opening.{Done, in_leg_up, may_up, up_by}
 use Rattle.rh_server.specs.Ending.{give, give_by, settled, in_is_drawn, drawn_by, lost_in, without_ack_of, with_ack_dropped, mark_by}
 use Rattle.rh_server.specs.Putting.{Pick, or_else, put_by, told_by, put_in_greeting, put_tells, put_tells_by, was_current, put_b1, put_b1_by, ack_due, put_ack, put_ack_by, put_in_by, out_greeting_at, put_out_greeting, gate_at, counts, counts_at, was_put, waiting_by, waiting_at, put_waiting, may_go_at, pdu_by, put_pdu, may_end_at, is_end_due, put_end, put_pdu_or_end, next_out, settled_pick, put_open, put_out_place, put_out_at}
-use Rattle.rh_server.specs.Servers.{acts, first, packet_by, pdu}
+use Rattle.rh_server.specs.Servers.{acts, first, packet_by}
 use Rattle.rh_server.specs.Servers.{pdu_by as pdu_by_kind}
 use Rattle.rh_server.specs.Servers.{rules as server_rules}
-use Rattle.rh_server_puts.specs.Copying.{leg_at, Begins, CameAt, Copies, CopiesAt, CopiesWhatCame}
+use Rattle.rh_server_puts.specs.Copying.{leg_at, Copies, CopiesWhatCame}
 use Rattle.rh_server_puts.proofs.Each.{each_found, each_without, number_found, came_last, all_more}
 use Rattle.rh_server_puts.proofs.Copied.{LegHas, DueCopies, ChannelHas, Fine, fine_more, line_is, legs_are, packets_are, leg_found, leg_set, leg_gone, takes_kept, settles}
 use Rattle.rh_server_puts.proofs.CopiedRows.{Came, RowHolds, row_any, pdu_row, packet_row, recycle_kept}

@@ -1,5 +1,5 @@
 -- the rows of a server keep what came, to copy it
-use Rattle.std.proofs.Common.{◌≡◌, ℕ, ◌==◌, ◌&&◌, ◌||◌, Bool, true, false, not, if◌then◌else◌, List, ◌++◌, [], ◌∷◌, Some, None, Ok, Err, inl, inr, refl, rules, sym, ap, ◌∙◌, subst}
+use Rattle.std.proofs.Common.{◌≡◌, ℕ, ◌==◌, ◌&&◌, Bool, true, false, not, if◌then◌else◌, List, Some, None, Ok, Err, inl, inr, refl, sym, subst}
 use Rattle.std.proofs.lemmas.Bool.{and_parts}
 use Rattle.std.specs.Prelude.{IfSome, nat_lt}
 use Rattle.std.specs.List.{AllByRecursion, list_any}
@@ -8,7 +8,7 @@ use Rattle.std.specs.declared.result.Result.{Result}
 use Rattle.rh_rts.specs.declared.command.Cookie.{Cookie}
 use Rattle.rh_sig.specs.declared.named.Named.{Named}
 use Rattle.rh_sig.specs.declared.named.Named.TheVariants as named
-use Rattle.rh_line.specs.Lines.{Line, after_admit, admit_verdict, after_end, after_finish}
+use Rattle.rh_line.specs.Lines.{after_admit, admit_verdict, after_end, after_finish}
 use Rattle.rh_line.proofs.Queues.{each_push}
 use Rattle.rh_line.specs.declared.leg.LegKind.{LegKind}
 use Rattle.rh_line.specs.declared.leg.LegKind.TheVariants.{ClientOut, OutServer, ClientIn, InServer}
@@ -44,10 +44,10 @@ use Rattle.rh_server.specs.Acknowledging.{channel_at, admitted_by, admitted_on, 
 use Rattle.rh_server.specs.InReplacement.{announced, in_r1_a2_by, in_r1_a2_at, on_in_r1_a2, leaves_by, leaves, hands_over, on_in_r1_a6, in_r2_a2_on, on_in_r2_a2}
 use Rattle.rh_server.specs.OutReplacement.{asks, recycle, is_under_way, last_number, answered_by, answered_on, out_r1_a4_by, out_r1_a4_at, may_answer, on_out_r1_a4, confirms, out_r1_a8_at, on_out_r1_a8}
 use Rattle.rh_server.specs.Ending.{end_a2_on_leg, end_a2_waiting, is_over_on, end_a2_at, on_end_a2}
-use Rattle.rh_server.specs.Servers.{on_is, on_os, packet_by, pdu_by}
+use Rattle.rh_server.specs.Servers.{on_is, on_os, packet_by}
 use Rattle.rh_server_puts.specs.Copying.{leg_at, IsConnB2, IsInR1A2, IsOutR1A4, Begins, CameAt, CopiesAt}
 use Rattle.rh_server_puts.proofs.Each.{each_merged, has_one, number_found}
-use Rattle.rh_server_puts.proofs.Copied.{StageHas, WaitHas, LegHas, DueCopies, Fine, finish_size, stage_is, line_is, legs_are, packets_are, packet_added, leg_found, leg_set, next_opens, moves, asks_kept}
+use Rattle.rh_server_puts.proofs.Copied.{StageHas, WaitHas, LegHas, DueCopies, Fine, finish_size, stage_is, line_is, packets_are, packet_added, leg_found, leg_set, next_opens, moves, asks_kept}
 
 -- the packet came on a leg
 abbrev pub Came : LegKind → ℕ → Named → List OnLeg → Type 0
@@ -312,11 +312,12 @@ module _ (size : ℕ) (came : List OnLeg) where
             stage = in_stage.Waits window timeout false;
           } in
           let told = record s { newest = record { leg = leg.number; cookie = successor } } in
-          next_opens size came _ (leg_set size came told changed h
-          (subst (λ (k : ℕ). CameAt InServer k (IsInR1A2 window timeout) came) (sym at)
-          (came_as InServer n packet came (IsInR1A2 window timeout) is f),
-          subst (λ (k : ℕ). CameAt InServer k (Begins successor) came) (sym at)
-          (came_as InServer n packet came (Begins successor) begins f)))
+          next_opens size came _ (leg_set size came told changed h (
+            subst (λ (k : ℕ). CameAt InServer k (IsInR1A2 window timeout) came) (sym at)
+                (came_as InServer n packet came (IsInR1A2 window timeout) is f),
+            subst (λ (k : ℕ). CameAt InServer k (Begins successor) came) (sym at)
+                (came_as InServer n packet came (Begins successor) begins f),
+          ))
 
       on_leg : (first : Cookie) (leg : Option InLeg)
           → IfSome leg (λ (x : InLeg). x.number ≡ n)
@@ -450,7 +451,8 @@ module _ (size : ℕ) (came : List OnLeg) where
       staged_by leg in_stage.Opened is = h
       staged_by leg (in_stage.Waits window timeout ended) is =
           by_test Either ended (unexpected s) _ (λ e. h)
-          (λ e. leg_set size came s (record leg { stage = in_stage.Waits window timeout true }) h is)
+          (λ e. leg_set size came s (record leg { stage = in_stage.Waits window timeout true }) h
+          is)
 
       on_leg : (leg : Option InLeg) → IfSome leg (LegHas came) → Either (end_a2_waiting s leg)
       on_leg None is = h

@@ -1,11 +1,10 @@
 -- what holds of each element of a list, and of what came
-use Rattle.std.proofs.Common.{◌≡◌, ℕ, zero, suc, ◌==◌, ◌&&◌, Bool, if◌then◌else◌, List, [], ◌∷◌, ◌++◌, Some, None, inl, inr, refl, sym, ap, ◌∙◌, subst}
+use Rattle.std.proofs.Common.{◌≡◌, ℕ, zero, suc, ◌==◌, Bool, if◌then◌else◌, List, [], ◌∷◌, ◌++◌, Some, None, inl, inr, refl, sym, ap, ◌∙◌, subst}
 use Rattle.std.proofs.lemmas.List.Quantifiers.{position-Some}
 use Rattle.std.proofs.lemmas.Option.{get_or_from_slice_get}
 use Rattle.std.specs.Prelude.{slice_get, slice_set, remove, find, IfSome}
 use Rattle.std.specs.List.{AllByRecursion}
 use Rattle.std.specs.declared.option.Option.{Option}
-use Rattle.rh_rts.specs.declared.command.Cookie.{Cookie}
 use Rattle.rh_sig.specs.declared.named.Named.{Named}
 use Rattle.rh_sig.specs.declared.named.Named.TheVariants as named
 use Rattle.rh_line.specs.declared.leg.LegKind.{LegKind}
@@ -150,11 +149,16 @@ copies_more size came one kind n (named.InR1A3 to version window timeout) h =
     (h.0, (h.1.0, came_more InServer h.1.0 _ came one h.1.1))
 copies_more size came one kind n (named.OutR1A5 to version timeout) h =
     (h.0, (h.1.0, came_more OutServer h.1.0 _ came one h.1.1))
-copies_more size came one kind n (named.AckTo to received window cookie) h =
-    (h.0, (h.1.0, subst (λ (ms : List Message). Has (named.AckTo to received window cookie) ms)
-    (sym (leg_more (leg_at InServer h.1.0) came one))
-    (has_more (named.AckTo to received window cookie) (of_leg (leg_at InServer h.1.0) came)
-    (of_leg (leg_at InServer h.1.0) (one ∷ [])) h.1.1)))
+copies_more size came one kind n (named.AckTo to received window cookie) h = (
+  h.0,
+  (
+    h.1.0,
+    subst (λ (ms : List Message). Has (named.AckTo to received window cookie) ms)
+        (sym (leg_more (leg_at InServer h.1.0) came one))
+        (has_more (named.AckTo to received window cookie) (of_leg (leg_at InServer h.1.0) came)
+        (of_leg (leg_at InServer h.1.0) (one ∷ [])) h.1.1),
+  ),
+)
 copies_more size came one kind n (named.Ack received window cookie) (inl h) =
     inl (came_more kind n _ came one h)
 copies_more size came one kind n (named.Ack received window cookie) (inr h) = inr h

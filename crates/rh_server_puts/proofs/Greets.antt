@@ -1,8 +1,6 @@
 -- whether a leg is greeted, by what was put there
 use Rattle.std.proofs.Common.{◌≡◌, ℕ, ◌==◌, ◌<◌, ◌+◌, Bool, true, false, true≢false, List, ◌++◌, [], ◌∷◌, Some, arith, refl, sym, ap, ◌∙◌, subst}
-use Rattle.std.proofs.lemmas.Bool.{false≢true}
 use Rattle.std.specs.Prelude.{slice_get, slice_set, remove}
-use Rattle.std.specs.List.{AllByRecursion}
 use Rattle.rh_order.proofs.ByNumber.{same_number, test_same, test_other}
 use Rattle.rh_shell.specs.Hearing.{greeting as greeting_text}
 use Rattle.rh_shell.specs.Rules.{Message, Text}
@@ -10,7 +8,7 @@ use Rattle.rh_passages.proofs.Messages.{all_append}
 use Rattle.rh_server.specs.declared.state.Greeting.{Greeting}
 use Rattle.rh_server.specs.declared.state.Greeting.TheVariants.{Due, Put}
 use Rattle.rh_server_puts.specs.Greeting.{IsFrame, IsGreeted, MayGreet}
-use Rattle.rh_server_puts.proofs.Numbered.{If, Absent, Once, absent_at, absent_push, absent_removed, absent_set, once_at, once_first, once_map, once_push, once_removed, once_set}
+use Rattle.rh_server_puts.proofs.Numbered.{Absent, Once, absent_at, absent_push, absent_removed, absent_set, once_at, once_first, once_map, once_push, once_removed, once_set}
 
 -- nothing was put where the greeting is due
 abbrev pub IsAs : List Message → Greeting → Type 0
@@ -68,9 +66,11 @@ module _ {X : Type 0} (number : X → ℕ) (greets : X → Greeting) (n : ℕ) w
   greets_up newest xs x log next due h = record {
     may = h.may;
     unborn = λ e.
-        let before = h.unborn (omega (arith, next, e)) in
-        (before.0, absent_push number n xs x
-        (test_other (number x) n (λ is. absurd (omega (arith, is, e)))) before.1);
+        let before = h.unborn (omega (arith, next, e)) in (
+          before.0,
+          absent_push number n xs x
+              (test_other (number x) n (λ is. absurd (omega (arith, is, e)))) before.1,
+        );
     legs = by (number x == n) refl;
   }
     where

@@ -1,6 +1,6 @@
 -- a server greets first on its is legs
 use Rattle.std.proofs.Common.{◌≡◌, ℕ, zero, suc, ◌==◌, ◌&&◌, ◌||◌, ◌+◌, Bool, true, false, not, if◌then◌else◌, List, ◌++◌, [], ◌∷◌, Some, None, Ok, Err, refl, rules, sym, ap, ◌∙◌, subst}
-use Rattle.std.proofs.lemmas.Bool.{false≢true, and_parts}
+use Rattle.std.proofs.lemmas.Bool.{and_parts}
 use Rattle.std.proofs.lemmas.List.{append-nil}
 use Rattle.std.specs.Prelude.{IfSome, slice_get, slice_set}
 use Rattle.std.specs.declared.option.Option.{Option}
@@ -8,7 +8,7 @@ use Rattle.rh_rts.specs.declared.command.Cookie.{Cookie}
 use Rattle.rh_sig.specs.declared.named.Named.{Named}
 use Rattle.rh_sig.specs.declared.named.Named.TheVariants as named
 use Rattle.rh_window.specs.declared.recv_window.Ack.{Ack}
-use Rattle.rh_line.specs.Lines.{after_tell, after_told, after_finish, after_take, after_open_next}
+use Rattle.rh_line.specs.Lines.{after_tell, after_told, after_finish, after_take}
 use Rattle.rh_line.specs.declared.leg.Leg.{Leg}
 use Rattle.rh_line.specs.declared.leg.LegKind.{LegKind}
 use Rattle.rh_line.specs.declared.leg.LegKind.TheVariants.{ClientOut, OutServer, ClientIn, InServer}
@@ -45,10 +45,10 @@ use Rattle.rh_server.specs.OutLines.{Gate, lets, waits, length_of}
 use Rattle.rh_server.specs.States.{Server, is_open, is_due, is_shut, is_fresh, is_waiting, stays, same_cookie, in_at, in_leg, in_place, out_place, set_at, removed_at, with_in, without_in, without_out}
 use Rattle.rh_server.specs.Opening.{Done, took, refuse, unexpected, is_first, has_room, may_up_by, up_by, in_leg_up, opens, first_in, with_first_in, conn_b2_at, on_conn_b2}
 use Rattle.rh_server.specs.Acknowledging.{channel_at}
-use Rattle.rh_server.specs.InReplacement.{opens_next, opens_leg, first_waiting, waiting_place, next_opened, becomes_current, moved_if, take, announced, in_r1_a2_by, in_r1_a2_at, on_in_r1_a2, leaves_by, leaves, hands_over, on_in_r1_a6, in_r2_a2_on, on_in_r2_a2}
+use Rattle.rh_server.specs.InReplacement.{opens_next, opens_leg, first_waiting, waiting_place, next_opened, becomes_current, moved_if, announced, in_r1_a2_by, in_r1_a2_at, on_in_r1_a2, leaves_by, leaves, hands_over, on_in_r1_a6, in_r2_a2_on, on_in_r2_a2}
 use Rattle.rh_server.specs.OutReplacement.{recycle}
 use Rattle.rh_server.specs.Ending.{give, settled, in_is_drawn, drawn_by, with_ack_dropped, lost_in, mark_by, end_a2_on_leg, end_a2_waiting, is_over_on, end_a2_at, on_end_a2}
-use Rattle.rh_server.specs.Putting.{Pick, or_else, told_by, was_current, put_in_greeting, put_tells_by, put_tells, put_b1_by, put_b1, put_ack_by, put_ack, ack_due, put_in_by, out_greeting_at, put_out_greeting, gate_at, counts, was_put, waiting_by, waiting_at, put_waiting, may_go_at, goes, pdu_by, put_pdu, may_end_at, is_end_due, put_end, put_pdu_or_end, next_out, settled_pick, put_open, put_out_at, put_out, put_by}
+use Rattle.rh_server.specs.Putting.{Pick, or_else, told_by, was_current, put_tells_by, put_tells, put_b1_by, put_b1, put_ack_by, put_ack, ack_due, put_in_by, out_greeting_at, put_out_greeting, gate_at, counts, was_put, waiting_by, waiting_at, put_waiting, may_go_at, pdu_by, put_pdu, may_end_at, is_end_due, put_end, put_pdu_or_end, next_out, settled_pick, put_open, put_out_at, put_out, put_by}
 use Rattle.rh_server.specs.Servers.{acts, first, on_is, on_os, packet_by, pdu}
 use Rattle.rh_server.specs.Servers.{rules as server_rules}
 use Rattle.rh_server_puts.specs.Copying.{leg_at}

@@ -1,8 +1,8 @@
 -- a server greets first on its os legs
-use Rattle.std.proofs.Common.{◌≡◌, ℕ, ◌==◌, ◌&&◌, ◌+◌, Bool, true, false, not, if◌then◌else◌, List, ◌++◌, [], ◌∷◌, Some, None, Ok, Err, refl, rules, sym, ap, ◌∙◌, subst}
+use Rattle.std.proofs.Common.{◌≡◌, ℕ, ◌==◌, ◌&&◌, ◌+◌, true, false, not, List, ◌++◌, [], ◌∷◌, Some, None, Ok, Err, refl, rules, sym, ap, ◌∙◌, subst}
 use Rattle.std.proofs.lemmas.Bool.{false≢true, and_parts}
 use Rattle.std.proofs.lemmas.List.{append-nil}
-use Rattle.std.specs.Prelude.{IfSome, slice_get, slice_set, find}
+use Rattle.std.specs.Prelude.{IfSome, slice_get, find}
 use Rattle.std.specs.declared.option.Option.{Option}
 use Rattle.rh_rts.specs.declared.command.Cookie.{Cookie}
 use Rattle.rh_sig.specs.declared.named.Named.{Named}
@@ -29,21 +29,20 @@ use Rattle.rh_server.specs.declared.state.InLeg.{InLeg}
 use Rattle.rh_server.specs.declared.state.OutLeg.{OutLeg}
 use Rattle.rh_server.specs.declared.state.Stage.{Stage}
 use Rattle.rh_server.specs.declared.state.Stage.TheVariants as stage
-use Rattle.rh_server.specs.OutLines.{Gate, lets, length_of}
+use Rattle.rh_server.specs.OutLines.{lets, length_of}
 use Rattle.rh_server.specs.States.{Server, is_open, is_due, same_cookie, in_leg, out_at, out_place, out_cookie, without_in, without_out, removed_at}
-use Rattle.rh_server.specs.Opening.{Done, took, refuse, unexpected, is_first, has_room, may_up_by, up_by, up, out_leg_up, opens, first_out_at, with_first_out, conn_a2_at, on_conn_a2}
+use Rattle.rh_server.specs.Opening.{Done, took, unexpected, is_first, has_room, may_up_by, up_by, out_leg_up, opens, first_out_at, with_first_out, conn_a2_at, on_conn_a2}
 use Rattle.rh_server.specs.Acknowledging.{acked_at, acked_in, acked_cookie, on_ack, on_ping_traffic}
 use Rattle.rh_server.specs.InReplacement.{take}
 use Rattle.rh_server.specs.OutReplacement.{recycle, answered_by, answered_on, out_r1_a4_by, out_r1_a4_at, may_answer, on_out_r1_a4}
 use Rattle.rh_server.specs.Ending.{give, settled, in_is_drawn, drawn_by, with_ack_dropped, lost_in, mark_by}
-use Rattle.rh_server.specs.Putting.{Pick, or_else, put_in, with_out, out_greeting_at, put_out_greeting, gate, gate_at, counts, counts_at, was_put, went_at, goes, waiting_by, waiting_at, put_waiting, may_go_at, pdu_by, put_pdu, may_end_at, is_end_due, put_end, put_pdu_or_end, next_out, settled_pick, put_open, put_out_place, put_out_at, put_by}
+use Rattle.rh_server.specs.Putting.{Pick, or_else, put_in, with_out, out_greeting_at, gate, gate_at, counts, counts_at, was_put, went_at, goes, waiting_by, waiting_at, put_waiting, may_go_at, pdu_by, put_pdu, may_end_at, is_end_due, put_end, put_pdu_or_end, next_out, settled_pick, put_open, put_out_at, put_by}
 use Rattle.rh_server.specs.Servers.{acts, first, on_is, on_os, packet_by, pdu}
 use Rattle.rh_server.specs.Servers.{rules as server_rules}
 use Rattle.rh_server_puts.specs.Puts.{os}
 use Rattle.rh_server_puts.specs.Copying.{leg_at}
 use Rattle.rh_server_puts.specs.Greeting.{IsFrame, MayGreet}
 use Rattle.rh_server_puts.proofs.Turns.{found_number}
-use Rattle.rh_server_puts.proofs.Each.{own_leg}
 use Rattle.rh_server_puts.proofs.Greets.{Greets, greets_start, greets_set, greets_removed, greets_up, greets_frame, greets_text, greets_other}
 
 -- ---- what the facts are about

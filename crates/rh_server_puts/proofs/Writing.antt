@@ -1,5 +1,5 @@
 -- a server writes in turn
-use Rattle.std.proofs.Common.{◌≡◌, ℕ, suc, ◌+◌, ◌==◌, ◌&&◌, Bool, true, false, not, List, [], ◌∷◌, ◌++◌, Some, None, Ok, Err, arith, refl, rules, sym, ap, ◌∙◌, subst}
+use Rattle.std.proofs.Common.{◌≡◌, ℕ, ◌+◌, ◌==◌, ◌&&◌, Bool, true, false, not, List, [], ◌∷◌, ◌++◌, Some, None, Ok, Err, arith, refl, rules, sym, ap, ◌∙◌, subst}
 use Rattle.std.proofs.lemmas.Bool.{false≢true, and_parts, not-true}
 use Rattle.std.specs.Prelude.{IfSome, slice_get, find}
 use Rattle.std.specs.declared.option.Option.{Option}
@@ -10,7 +10,7 @@ use Rattle.rh_rts.specs.declared.command.Cookie.{Cookie}
 use Rattle.rh_sig.specs.declared.named.Named.{Named}
 use Rattle.rh_sig.specs.declared.named.Named.TheVariants as named
 use Rattle.rh_window.specs.declared.recv_window.Ack.{Ack}
-use Rattle.rh_line.specs.Queue.{front_length, total, queue_bytes}
+use Rattle.rh_line.specs.Queue.{front_length}
 use Rattle.rh_line.specs.declared.leg.Leg.{Leg}
 use Rattle.rh_line.specs.declared.leg.LegKind.{LegKind}
 use Rattle.rh_line.specs.declared.leg.LegKind.TheVariants.{ClientOut, OutServer, ClientIn, InServer}
@@ -324,9 +324,10 @@ module _ (n : ℕ) (came put : List OnLeg) where
       let bare = and_parts (not (is_put s.end_mark)) (is_nil s.queue) due.1 in
       subst (λ (x : Seen). Kept (ended x) (put ++ (os n, Packet named.EndB1) ∷ []))
       (sym (counts_same s place 24))
-      (more (seen s) (ended (seen s)) put (os n, Packet named.EndB1)
-      (here (slice_get s.outs place) refl both.1,
-      sym h.ended ∙ not-true (is_put s.end_mark) bare.0)
+      (more (seen s) (ended (seen s)) put (os n, Packet named.EndB1) (
+        here (slice_get s.outs place) refl both.1,
+        sym h.ended ∙ not-true (is_put s.end_mark) bare.0,
+      )
       h.writing refl (λ f. (due.0, bare.1)) h))
       (λ e. tt)
     where

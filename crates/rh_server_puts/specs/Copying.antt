@@ -7,7 +7,7 @@ use Rattle.rh_sig.specs.declared.named.Named.TheVariants.{ConnB2, ConnB3, ConnC1
 use Rattle.rh_line.specs.declared.leg.Leg.{Leg}
 use Rattle.rh_line.specs.declared.leg.LegKind.{LegKind}
 use Rattle.rh_line.specs.declared.leg.LegKind.TheVariants.{OutServer, InServer}
-use Rattle.rh_shell.specs.Rules.{Message, Text, Pdu, Packet}
+use Rattle.rh_shell.specs.Rules.{Text, Pdu, Packet}
 use Rattle.rh_shell.specs.Moves.{OnLeg, Passage}
 use Rattle.rh_shell.specs.Wires.{of_leg}
 use Rattle.rh_passages.specs.Passing.{HasOne, HasOn}
@@ -17,7 +17,7 @@ use Rattle.rh_server.specs.States.{Server, no_cookie}
 
 -- CONN/B2 with this window and timeout of the in proxy
 abbrev pub IsConnB2 : ℕ → ℕ → Named → Type 0
-IsConnB2 window timeout (ConnB2 version connection cookie its_window its_timeout group address padding) =
+IsConnB2 window timeout (ConnB2 version connection cookie its_window its_timeout a b c) =
     (its_window ≡ window) × (its_timeout ≡ timeout)
 IsConnB2 window timeout packet = ⊥
 

@@ -1,4 +1,4 @@
--- a server greets first on each leg (MS-RPCH 2.1.1)
+-- a server greets first on each leg (profile)
 use Rattle.std.specs.Prelude.{ℕ, ◌≡◌, List, [], ◌∷◌}
 use Rattle.std.specs.List.{AllByRecursion}
 use Rattle.rh_line.specs.declared.leg.Leg.{Leg}

@@ -55,7 +55,7 @@ PacketStands t leg OutR1A9 = leg ≡ os t.writing
 PacketStands t leg EndB1 = (leg ≡ os t.writing) × (t.ended ≡ false)
 PacketStands t leg packet = ⊥
 
--- RPC PDUs stand there too, behind no END/B1; and a text is a greeting (MS-RPCH 2.1.1)
+-- RPC PDUs stand there too, behind no END/B1; and a text is a greeting (profile)
 abbrev pub Stands : Turn → OnLeg → Type 0
 Stands t (leg, Text bytes) = bytes ≡ greeting
 Stands t (leg, Pdu pdu) = (leg ≡ os t.writing) × (t.over ≡ false)
