@@ -8,3 +8,4 @@ mod Numbered
 mod Greets
 mod GreetsOut
 mod GreetsIn
+mod OnFirst

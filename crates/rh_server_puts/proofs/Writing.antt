@@ -370,7 +370,7 @@ module _ (n : ℕ) (came put : List OnLeg) where
           by_test (Quiet n OutServer came put s) (is_due leg.greeting) _ None
           (λ e. (refl, λ t. (refl, refl))) (λ e. tt)
 
-  puts : (s : Server) (k : LegKind) → Holds s came put → Puts n k came put (put_by s n k)
+  pub puts : (s : Server) (k : LegKind) → Holds s came put → Puts n k came put (put_by s n k)
   puts s InServer h = in_puts s (in_leg n s.ins) h
   puts s OutServer h = out_puts s (out_place n s.outs) refl h
   puts s ClientIn h = tt
@@ -408,8 +408,13 @@ calls = record {
   recycle = λ s came put. same_holds s (recycle s).0 came put (recycle_same s);
 }
 
+pub kept : (window : ℕ) (moves : List EndMove)
+    → let p = (all_end_moved server_rules acts (end_started (first window)) moves).passage in
+    Holds p.role p.came p.put
+kept window moves =
+    end_moves_keep server_rules Holds steps acts calls (end_started (first window)) moves
+    (record { stand = tt; writing = refl; ended = refl; over = λ e. absurd (false≢true e) })
+
 pub in_turn : (window : ℕ) (moves : List EndMove)
     → WritesInTurn (all_end_moved server_rules acts (end_started (first window)) moves).passage.put
-in_turn window moves =
-    (end_moves_keep server_rules Holds steps acts calls (end_started (first window)) moves
-    (record { stand = tt; writing = refl; ended = refl; over = λ e. absurd (false≢true e) })).stand
+in_turn window moves = (kept window moves).stand
