@@ -1,4 +1,5 @@
-//! Where a server's messages stand, and what they copy. These functions do nothing: their contracts are the laws.
+//! Where a server's messages stand, and what they copy. These functions do nothing: their contracts
+//! are the laws.
 
 ghost use Rattle.std.specs.Prelude.{List, ℕ};
 ghost use Rattle.rh_shell.specs.Moves.{EndMove, all_end_moved, end_started};
@@ -22,8 +23,8 @@ pub fn a_server_writes_in_turn()
 /// timeout of a CONN/B2 that came on its first is leg, each IN_R1/A3 those of an IN_R1/A2 that
 /// came, and each OUT_R1/A5 the timeout of an OUT_R1/A4 that came. An acknowledgement to the client
 /// or to an out proxy came as it is put; one to an in proxy has the cookie of a packet that began a
-/// channel on its leg, or the one of zeros that stands for none. CONN/B3 and IN_R1/B2 tell the server's window (MS-RPCH 2.2.4,
-/// 3.2.5; successors are this profile's).
+/// channel on its leg, or the one of zeros that stands for none. CONN/B3 and IN_R1/B2 tell the
+/// server's window (MS-RPCH 2.2.4, 3.2.5; successors are this profile's).
 pub fn a_server_copies_what_came()
     ensures { (window : ℕ) (moves : List EndMove) → CopiesWhatCame window
         (all_end_moved rules acts (end_started (first window)) moves).passage }
