@@ -1,0 +1,6 @@
+mod Fronts
+mod Sounds
+mod Waiting
+mod Rows
+mod Goes
+mod Laws

@@ -1,0 +1,591 @@
+-- what comes to an in proxy changes nothing on its is leg, and is known
+use Rattle.std.proofs.Common.{◌≡◌, ℕ, suc, ◌+◌, ◌==◌, ◌&&◌, Bool, true, false, true≢false, not, if◌then◌else◌, List, [], ◌∷◌, ◌++◌, Some, None, Ok, Err, inl, inr, refl, sym, ap, ◌∙◌, subst, arith, rules}
+use Rattle.std.proofs.lemmas.Bool.{and_parts, eqb-true}
+use Rattle.std.specs.declared.option.Option.{Option}
+use Rattle.std.specs.Prelude.{nat_le, nat_lt}
+use Rattle.std.specs.List.{list_any}
+use Rattle.rh_rts.specs.declared.command.Cookie.{Cookie}
+use Rattle.rh_sig.specs.declared.named.Named.{Named}
+use Rattle.rh_sig.specs.declared.named.Named.TheVariants as named
+use Rattle.rh_line.specs.Lines as line
+use Rattle.rh_line.specs.declared.leg.Leg.{Leg}
+use Rattle.rh_line.specs.declared.which.Which.{Which}
+use Rattle.rh_line.specs.declared.which.Which.TheVariants.{Current, Next}
+use Rattle.rh_order.proofs.ByNumber.{by_test, same_number}
+use Rattle.rh_shell.specs.declared.answers.Count.{Count}
+use Rattle.rh_shell.specs.declared.answers.Refused.{Refused}
+use Rattle.rh_shell.specs.declared.answers.Refused.TheVariants as refused
+use Rattle.rh_shell.specs.declared.due.Due.{Due}
+use Rattle.rh_shell.specs.declared.due.Origin.TheVariants.{Forwarded}
+use Rattle.rh_shell.specs.Waiting as waiting
+use Rattle.rh_shell.specs.Moves.{OnLeg}
+use Rattle.rh_inproxy.specs.declared.opening.TheConstants.{GREATEST_LENGTHS}
+use Rattle.rh_inproxy.specs.declared.state.ClientLeg.{ClientLeg}
+use Rattle.rh_inproxy.specs.declared.state.Entry.{Entry}
+use Rattle.rh_inproxy.specs.declared.state.Handover.{Handover}
+use Rattle.rh_inproxy.specs.declared.state.Handover.TheVariants as handovers
+use Rattle.rh_inproxy.specs.declared.state.InProxyConfig.{InProxyConfig}
+use Rattle.rh_inproxy.specs.declared.state.Joining.{Joining}
+use Rattle.rh_inproxy.specs.declared.state.Joining.TheVariants.{TellsServer, Told, Follows}
+use Rattle.rh_inproxy.specs.declared.state.Opener.{Opener}
+use Rattle.rh_inproxy.specs.declared.state.Opening.{Opening}
+use Rattle.rh_inproxy.specs.declared.state.Opening.TheVariants.{AwaitsClient, AwaitsPacket, WantsServer, Announces, Announced}
+use Rattle.rh_inproxy.specs.declared.state.Successor.{Successor}
+use Rattle.rh_inproxy.specs.declared.state.Successor.TheVariants.{Absent, Up, Joined}
+use Rattle.rh_inproxy.specs.Answers.{Done, taken, refuse, unexpected}
+use Rattle.rh_inproxy.specs.Acknowledging.{on_ack, on_ack_to, forward_by, forwarded}
+use Rattle.rh_inproxy.specs.Ending.{is_announced, is_newest, is_succeeded, mark, on_end_a1, settled}
+use Rattle.rh_inproxy.specs.InReplacement.{is_newcomer, joined, join, on_later_in_r1_a1, on_in_r1_a1, on_in_r1_a5, on_in_r1_b1, on_in_r1_b2, finished, finish_by, handed_over, hand_over}
+use Rattle.rh_inproxy.specs.Opening.{up, may_accept, accepts, accepts_later, accepted, wants, connected, head, drawn, is_absent, is_first, awaits_packet, opened, opener, opener_of, kept_for, leg_of, on_conn_b1, on_conn_b3, on_first_in_r1_a1}
+use Rattle.rh_inproxy.specs.OutReplacement.{on_out_r1_a7}
+use Rattle.rh_inproxy.specs.State.{InProxy, channel_of, followed, has_a5, has_come, has_opened, hands_over, is_client_leg, is_joined, is_server_leg, next_of, same_cookie}
+use Rattle.rh_inproxy.specs.Time.{on_keep_alive, ping}
+use Rattle.rh_inproxy.specs.Machine.{pdu, packet, on_channel, on_channel_by, on_ci, on_is}
+use Rattle.rh_inproxy.specs.declared.opening.TheConstants.{KEEPALIVE}
+use Rattle.rh_inproxy.specs.declared.state.Entry.TheVariants.{Connects, Replaces}
+use Rattle.rh_passages.specs.Passing.{BeginsIn}
+use Rattle.rh_inproxy_puts.specs.Puts as puts
+use Rattle.rh_inproxy_puts.specs.Puts.{CameOn, Joins, Leaves, Switches, Acknowledges, IsPlainPacket}
+use Rattle.rh_inproxy_puts.proofs.Waiting as waits
+use Rattle.rh_inproxy_puts.proofs.Sounds.{Seen, seen, Same, Sound, Moves, IsOpener, IsOpening, HasBegun, IsFirstLeg, IsLeaving, IsNext, Waits, told_by, last, same_moves, moves_on, settles}
+
+-- ---- what leaves the facts alone
+
+same_head : (s : InProxy) (leg : Leg) (text : List ℕ) → Same s (head s leg text).0
+same_head s leg text = search rules
+
+same_pdu : (s : InProxy) (leg : Leg) (count : Count) (bytes : List ℕ)
+    → Same s (pdu s leg count bytes).0
+same_pdu s leg count bytes = search rules
+
+same_keep_alive : (s : InProxy) (which : Which) (keepalive : ℕ)
+    → Same s (on_keep_alive s which keepalive).0
+same_keep_alive s which keepalive = search rules
+
+same_end : (s : InProxy) (which : Which) → Same s (on_end_a1 s which).0
+same_end s which = search rules
+
+same_b3 : (s : InProxy) (size : ℕ) → Same s (on_conn_b3 s size).0
+same_b3 s size = search rules
+
+same_b2 : (s : InProxy) (size : ℕ) → Same s (on_in_r1_b2 s size).0
+same_b2 s size = search rules
+
+same_b1 : (s : InProxy) → Same s (on_in_r1_b1 s).0
+same_b1 s = search rules
+
+same_ack : (s : InProxy) (received available : ℕ) (channel : Cookie)
+    → Same s (on_ack s received available channel).0
+same_ack s received available channel = search rules
+
+same_is : (s : InProxy) (m : Named) → Same s (on_is s m).0
+same_is s (named.ConnB3 size version) = same_b3 s size
+same_is s (named.InR1B2 size) = same_b2 s size
+same_is s named.InR1B1 = same_b1 s
+same_is s (named.Ack received available channel) = same_ack s received available channel
+same_is s m = refl
+
+same_drawn : (s : InProxy) (leg : Leg) → Same s (drawn s leg)
+same_drawn s leg = search rules
+
+pub same_settled : (s : InProxy) → Same s (settled s)
+same_settled s = search rules
+
+same_mark : (s : InProxy) (leg : Leg) → Same s (mark s leg)
+same_mark s leg =
+    same_settled (if is_newest s leg then record s { newest_lost = true } else s)
+    ∙ by_test (Same s) (is_newest s leg) _ s (λ e. refl) (λ e. refl)
+
+same_ping : (s : InProxy) (leg : Leg) → Same s (ping s leg)
+same_ping s leg = search rules
+
+-- ---- tests
+
+absent_alone : (z : Successor) → is_absent z ≡ true
+    → (is_joined z ≡ false) × (is_succeeded z ≡ false)
+absent_alone Absent e = (refl, refl)
+absent_alone (Up number) e = absurd cc
+absent_alone (Joined leg stage) e = absurd cc
+
+not_so : (b : Bool) → not b ≡ true → b ≡ false
+not_so true e = absurd cc
+not_so false e = refl
+
+four : (a b c d : Bool) → a && b && c && d ≡ true
+    → (a ≡ true) × (b ≡ true) × (d ≡ true)
+four false b c d e = absurd cc
+four true false c d e = absurd cc
+four true true false d e = absurd cc
+four true true true false e = absurd cc
+four true true true true e = (refl, refl, refl)
+
+awaits_is : (o : Opening) → awaits_packet o ≡ true → o ≡ AwaitsPacket
+awaits_is AwaitsClient e = absurd cc
+awaits_is AwaitsPacket e = refl
+awaits_is (WantsServer o) e = absurd cc
+awaits_is (Announces o) e = absurd cc
+awaits_is (Announced o) e = absurd cc
+
+module _ (config : InProxyConfig) (came : List OnLeg) where
+  -- the facts of an opening, once there was a first packet, are those of any successor
+  opened_any : (current : ClientLeg) (z y : Successor) (o : Opening) → has_opened o ≡ true
+      → IsOpening config came current z o → IsOpening config came current y o
+  opened_any current z y AwaitsClient e h = absurd cc
+  opened_any current z y AwaitsPacket e h = absurd cc
+  opened_any current z y (WantsServer o) e h = h
+  opened_any current z y (Announces o) e h = h
+  opened_any current z y (Announced o) e h = h
+
+  -- where no IN_R1/A5 came
+  staying : (n : ℕ) (handover : Handover) (z : Successor) → has_come handover ≡ false
+      → IsLeaving came n handover z
+  staying n handovers.Before z e = tt
+  staying n (handovers.Came cookie) z e = absurd cc
+  staying n handovers.Passed z e = absurd cc
+
+  -- nor did one while the newest ci leg has no channel
+  joining : (n k : ℕ) (leg : ClientLeg) (stage : Joining) (handover : Handover)
+      → IsLeaving came n handover (Up k) → IsLeaving came n handover (Joined leg stage)
+  joining n k leg stage handovers.Before h = tt
+  joining n k leg stage (handovers.Came cookie) h = absurd h
+  joining n k leg stage handovers.Passed h = absurd h
+
+  pub finishing : (n : ℕ) (leg : ClientLeg) (stage other : Joining) (handover : Handover)
+      → IsLeaving came n handover (Joined leg stage)
+      → IsLeaving came n handover (Joined leg other)
+  finishing n leg stage other handovers.Before h = tt
+  finishing n leg stage other (handovers.Came cookie) h = h
+  finishing n leg stage other handovers.Passed h = absurd h
+
+  pub joined_any : (current leg : ClientLeg) (stage other : Joining) (o : Opening)
+      → IsOpening config came current (Joined leg stage) o
+      → IsOpening config came current (Joined leg other) o
+  joined_any current leg stage other AwaitsClient h = h
+  joined_any current leg stage other AwaitsPacket h = h
+  joined_any current leg stage other (WantsServer o) h = h
+  joined_any current leg stage other (Announces o) h = h
+  joined_any current leg stage other (Announced o) h = h
+
+  leaving_next : (n : ℕ) (cookie : Cookie) (z : Successor) → is_joined z ≡ true
+      → CameOn (suc n) (Leaves cookie) came → IsLeaving came n (handovers.Came cookie) z
+  leaving_next n cookie Absent e h = absurd cc
+  leaving_next n cookie (Up number) e h = absurd cc
+  leaving_next n cookie (Joined leg stage) e h = h
+
+same_told : (n : ℕ) (cookie : Cookie) (z : Successor) (handover : Handover)
+    → has_come handover ≡ false
+    → told_by n z (handovers.Came cookie) ≡ told_by n z handover
+same_told n cookie z handovers.Before e = refl
+same_told n cookie z (handovers.Came other) e = absurd cc
+same_told n cookie z handovers.Passed e = absurd cc
+
+-- a successor that the server was not told
+untold : (n : ℕ) (z y : Successor) (handover : Handover)
+    → ((k : ℕ) → told_by k z handovers.Before ≡ told_by k y handovers.Before)
+    → told_by n z handover ≡ told_by n y handover
+untold n z y handovers.Before e = e n
+untold n z y (handovers.Came cookie) e = e n
+untold n z y handovers.Passed e = refl
+
+-- ---- ups
+
+module _ (config : InProxyConfig) (came : List OnLeg) (s : InProxy)
+    (h : Sound config (seen s) came) where
+  abbrev pub Goes : InProxy → Type 0
+  Goes t = Moves config came s t
+
+  still : Goes s
+  still = same_moves config came s s refl h
+
+  -- a later ci leg is up
+  newcomer : (number : ℕ) → has_opened s.opening ≡ true → accepts_later s number ≡ true
+      → Goes (record s { successor = Up number; newest_lost = false })
+  newcomer number has e = by s.successor refl
+    where
+      may : ((number == s.current.number + 1) ≡ true) × (is_absent s.successor ≡ true)
+          × (not (has_come s.handover) ≡ true)
+      may =
+          four (number == s.current.number + 1) (is_absent s.successor)
+          (nat_le s.lengths GREATEST_LENGTHS) (not (has_come s.handover)) e
+
+      by : (z : Successor) → s.successor ≡ z
+          → Goes (record s { successor = Up number; newest_lost = false })
+      by (Up k) f = let is = may.1 in absurd cc
+      by (Joined leg stage) f = let is = may.1 in absurd cc
+      by Absent f =
+          let alone = absent_alone s.successor may.1 in
+          let is = eqb-true number (s.current.number + 1) may.0 in record {
+            sound = record {
+              same = h.same;
+              joined = h.joined ∙ alone.0;
+              finished = h.finished ∙ alone.1;
+              opening = opened_any config came s.current s.successor (Up number) s.opening has
+                  h.opening;
+              next = omega (arith, is);
+              leaving = staying config came s.current.number s.handover (Up number)
+                  (not_so (has_come s.handover) may.2);
+              waits = h.waits;
+            };
+            last = untold s.current.number (Up number) Absent s.handover (λ k. refl)
+                ∙ ap (λ (z : Successor). told_by s.current.number z s.handover) (sym f);
+            announced = refl;
+          }
+
+  -- how far the first legs are
+  opens : (o now : Opening) → s.opening ≡ o → is_announced now ≡ is_announced o
+      → (IsOpening config came s.current s.successor o
+      → IsOpening config came s.current s.successor now) → Goes (record s { opening = now })
+  opens o now e same so = record {
+    sound = record {
+      same = h.same;
+      joined = h.joined;
+      finished = h.finished;
+      opening = so (subst (IsOpening config came s.current s.successor) e h.opening);
+      next = h.next;
+      leaving = h.leaving;
+      waits = h.waits;
+    };
+    last = refl;
+    announced = same ∙ ap is_announced (sym e);
+  }
+
+  pub up_moves : (leg : Leg) → Goes (up s leg)
+  up_moves leg =
+      by_test Goes (may_accept s leg) (accepted s s.opening leg.number)
+      (if wants s leg then connected s s.opening else s)
+      (λ e. comes s.opening refl
+      (and_parts (is_client_leg leg) (accepts s s.opening leg.number) e).1)
+      (λ e. by_test Goes (wants s leg) (connected s s.opening) s (λ f. connects s.opening refl)
+      (λ f. still))
+    where
+      comes : (o : Opening) → s.opening ≡ o → accepts s o leg.number ≡ true
+          → Goes (accepted s o leg.number)
+      comes AwaitsClient e may = opens AwaitsClient AwaitsPacket e refl (λ first. first)
+      comes AwaitsPacket e may = absurd cc
+      comes (WantsServer o) e may = newcomer leg.number (ap has_opened e) may
+      comes (Announces o) e may = newcomer leg.number (ap has_opened e) may
+      comes (Announced o) e may = newcomer leg.number (ap has_opened e) may
+
+      connects : (o : Opening) → s.opening ≡ o → Goes (connected s o)
+      connects AwaitsClient e = still
+      connects AwaitsPacket e = still
+      connects (Announces o) e = still
+      connects (Announced o) e = still
+      connects (WantsServer o) e = opens (WantsServer o) (Announces o) e refl (λ first. first)
+
+  pub head_moves : (leg : Leg) (text : List ℕ) → Goes (head s leg text).0
+  head_moves leg text = same_moves config came s (head s leg text).0 (same_head s leg text) h
+
+  pub drawn_moves : (leg : Leg) → Goes (drawn s leg)
+  drawn_moves leg = same_moves config came s (drawn s leg) (same_drawn s leg) h
+
+  pub mark_moves : (leg : Leg) → Goes (mark s leg)
+  mark_moves leg = same_moves config came s (mark s leg) (same_mark s leg) h
+
+  pub ping_moves : (leg : Leg) → Goes (ping s leg)
+  ping_moves leg = same_moves config came s (ping s leg) (same_ping s leg) h
+
+-- ---- rows
+
+-- before what comes, and behind it where it is taken
+module _ (config : InProxyConfig) (came later : List OnLeg) (s : InProxy)
+    (h : Sound config (seen s) came) (k : Sound config (seen s) later) where
+  abbrev pub Row : Done → Type 0
+  Row (t, Ok taken) = Moves config later s t
+  Row (t, Err why) = Moves config came s t
+
+  same_row : (x : Done) → Same s x.0 → Row x
+  same_row (t, Ok taken) same = same_moves config later s t same k
+  same_row (t, Err why) same = same_moves config came s t same h
+
+  refused_row : (why : Refused) → Row (refuse s why)
+  refused_row why = same_moves config came s s refl h
+
+  pub pdu_row : (leg : Leg) (count : Count) (bytes : List ℕ) → Row (pdu s leg count bytes)
+  pdu_row leg count bytes = same_row (pdu s leg count bytes) (same_pdu s leg count bytes)
+
+  -- ---- what is forwarded
+
+  forward_row : (m : Named) → IsPlainPacket later m → Row (forwarded s m)
+  forward_row m is =
+      by (waiting.forwarded s.waiting m)
+      (waits.forwarded_joins (IsPlainPacket later) s.waiting m is k.waits)
+    where
+      by : (r : waiting.Waiting × Bool) → waits.Joins (IsPlainPacket later) s.waiting r
+          → Row (forward_by s r)
+      by (w, true) each = record {
+        sound = record {
+          same = k.same;
+          joined = k.joined;
+          finished = k.finished;
+          opening = k.opening;
+          next = k.next;
+          leaving = k.leaving;
+          waits = each;
+        };
+        last = refl;
+        announced = refl;
+      }
+      by (w, false) same =
+          same_moves config came s (record s { waiting = w })
+          (ap (λ (v : waiting.Waiting). record (seen s) { waiting = v }) same) h
+
+  -- ---- the first packet
+
+  opened_row : (number : ℕ) (o : Opener) (keepalive : ℕ) → is_first s number ≡ true
+      → (number ≡ config.number → IsOpener config later o o.entry)
+      → CameOn number (BeginsIn o.channel) later → Row (opened s o keepalive)
+  opened_row number o keepalive e opens begins =
+      let parts = and_parts (awaits_packet s.opening) (s.current.number == number) e in
+      let is = awaits_is s.opening parts.0 in
+      let first = subst (IsOpening config later s.current s.successor) is k.opening in
+      let number_is = same_number s.current.number number parts.1 in record {
+        sound = record {
+          same = k.same;
+          joined = k.joined;
+          finished = k.finished;
+          opening = (
+            opens (sym number_is ∙ first.0),
+            subst (λ (n : ℕ). CameOn n (BeginsIn o.channel) later) (sym number_is) begins,
+          );
+          next = k.next;
+          leaving = k.leaving;
+          waits = k.waits;
+        };
+        last = refl;
+        announced = sym (ap is_announced is);
+      }
+
+  -- ---- a later ci leg
+
+  joined_row : (leg : ℕ) (channel : Cookie) → has_opened s.opening ≡ true
+      → s.successor ≡ Up leg → CameOn leg (Joins channel) later → Row (taken (joined s leg channel))
+  joined_row leg channel has e came_there =
+      let up = subst (λ (z : Successor). Sound config (record (seen s) { successor = z }) later)
+      e k in
+      let now = Joined (leg_of leg channel) (TellsServer (waiting.count Forwarded s.waiting.due))
+      in record {
+        sound = record {
+          same = k.same;
+          joined = refl;
+          finished = up.finished;
+          opening = opened_any config later s.current s.successor now s.opening has k.opening;
+          next = (up.next, subst (λ (n : ℕ). CameOn n (Joins channel) later) up.next came_there);
+          leaving = joining config later s.current.number leg (leg_of leg channel)
+              (TellsServer (waiting.count Forwarded s.waiting.due)) s.handover up.leaving;
+          waits = k.waits;
+        };
+        last = untold s.current.number now (Up leg) s.handover (λ n. refl)
+            ∙ ap (λ (z : Successor). told_by s.current.number z s.handover) (sym e);
+        announced = refl;
+      }
+
+  later_row : (number : ℕ) (connection predecessor channel : Cookie)
+      → CameOn number (Joins channel) later
+      → Row (on_later_in_r1_a1 s (opener_of s.opening) number connection predecessor channel)
+  later_row number connection predecessor channel came_there = by s.opening refl
+    where
+      joins : (o : Opener) (z : Successor) → s.successor ≡ z → has_opened s.opening ≡ true
+          → Row (if is_newcomer z number
+          then join s o number connection predecessor channel else unexpected s)
+      joins o Absent e has = refused_row refused.Unexpected
+      joins o (Joined leg stage) e has = refused_row refused.Unexpected
+      joins o (Up leg) e has =
+          by_test Row (leg == number) (join s o number connection predecessor channel)
+          (unexpected s)
+          (λ f. by_test Row (not (same_cookie o.connection connection))
+          (refuse s (refused.Cookie o.connection connection))
+          (if not (same_cookie s.current.cookie predecessor)
+          then refuse s (refused.Cookie s.current.cookie predecessor)
+          else taken (joined s number channel))
+          (λ g. refused_row (refused.Cookie o.connection connection))
+          (λ g. by_test Row (not (same_cookie s.current.cookie predecessor))
+          (refuse s (refused.Cookie s.current.cookie predecessor))
+          (taken (joined s number channel)) (λ i. refused_row (refused.Cookie s.current.cookie predecessor))
+          (λ i. joined_row number channel has
+          (e ∙ ap (λ (n : ℕ). Up n) (same_number leg number f)) came_there)))
+          (λ f. refused_row refused.Unexpected)
+
+      by : (o : Opening) → s.opening ≡ o
+          → Row (on_later_in_r1_a1 s (opener_of o) number connection predecessor channel)
+      by AwaitsClient e = refused_row refused.Unexpected
+      by AwaitsPacket e = refused_row refused.Unexpected
+      by (WantsServer o) e = joins o s.successor refl (ap has_opened e)
+      by (Announces o) e = joins o s.successor refl (ap has_opened e)
+      by (Announced o) e = joins o s.successor refl (ap has_opened e)
+
+  -- ---- IN_R1/A5
+
+  handed_row : (cookie : Cookie) → has_come s.handover ≡ false
+      → IsLeaving later s.current.number (handovers.Came cookie) s.successor
+      → Row (handed_over s cookie)
+  handed_row cookie none leaves = record {
+    sound = record {
+      same = k.same;
+      joined = k.joined;
+      finished = k.finished;
+      opening = k.opening;
+      next = k.next;
+      leaving = leaves;
+      waits = k.waits;
+    };
+    last = same_told s.current.number cookie s.successor s.handover none;
+    announced = refl;
+  }
+
+  finished_row : (leg : ClientLeg) → s.successor ≡ Joined leg Told → Row (taken (finished s leg))
+  finished_row leg e =
+      let t : InProxy = record s {
+        line = record (s.line) { finished = true };
+        successor = Joined leg Follows;
+      } in
+      let told = subst (λ (z : Successor). Sound config (record (seen s) { successor = z }) later)
+      e k in
+      let goes : Moves config later s t = record {
+        sound = record {
+          same = k.same;
+          joined = told.joined;
+          finished = refl;
+          opening = joined_any config later s.current leg Told Follows s.opening told.opening;
+          next = told.next;
+          leaving = finishing config later s.current.number leg Told Follows s.handover
+              told.leaving;
+          waits = k.waits;
+        };
+        last = untold s.current.number (Joined leg Follows) (Joined leg Told) s.handover
+            (λ n. refl) ∙ ap (λ (z : Successor). told_by s.current.number z s.handover) (sym e);
+        announced = refl;
+      } in
+      moves_on config later s t (finished s leg) goes (settles config later t goes.sound)
+
+  finish_row : (z : Successor) (cookie : Cookie) → s.successor ≡ z
+      → hands_over z s.handover ≡ false → CameOn s.current.number (Leaves cookie) later
+      → Row (finish_by s z cookie)
+  finish_row Absent cookie e none here =
+      handed_row cookie none
+      (subst (IsLeaving later s.current.number (handovers.Came cookie)) (sym e) here)
+  finish_row (Joined leg Told) cookie e none here =
+      by_test Row (same_cookie leg.cookie cookie) (taken (finished s leg))
+      (refuse s (refused.Cookie leg.cookie cookie)) (λ f. finished_row leg e)
+      (λ f. refused_row (refused.Cookie leg.cookie cookie))
+  finish_row (Joined leg Follows) cookie e none here = refused_row refused.Unexpected
+  finish_row (Joined leg (TellsServer behind)) cookie e none here =
+      refused_row refused.Unexpected
+  finish_row (Up number) cookie e none here = refused_row refused.Unexpected
+
+  -- ---- behind the first packet of a ci leg
+
+  abbrev number_of : Which → ℕ
+  number_of Current = s.current.number
+  number_of Next = suc s.current.number
+
+  abbrev IsThere : Which → Type 0
+  IsThere Current = Unit {0}
+  IsThere Next = is_joined s.successor ≡ true
+
+  a5_row : (which : Which) (cookie : Cookie) → IsThere which
+      → CameOn (number_of which) (Leaves cookie) later → Row (on_in_r1_a5 s which cookie)
+  a5_row which cookie there here =
+      by_test Row (has_a5 s which) (unexpected s) (hand_over s which cookie)
+      (λ e. refused_row refused.Unexpected) (λ e. by which e there here)
+    where
+      by : (w : Which) → has_a5 s w ≡ false → IsThere w → CameOn (number_of w) (Leaves cookie) later
+          → Row (hand_over s w cookie)
+      by Current e there here = finish_row s.successor cookie refl e here
+      by Next e there here =
+          handed_row cookie e
+          (leaving_next config later s.current.number cookie s.successor there here)
+
+  channel_row : (which : Which) (m : Named) → IsThere which
+      → ((Is : Named → Type 0) → Is m → CameOn (number_of which) Is later)
+      → Row (on_channel s which m)
+  channel_row which (named.AckTo to received available channel) there here =
+      by_test Row (not (has_a5 s which) && (to == 3))
+      (forwarded s (named.AckTo 3 received available channel)) (unexpected s)
+      (λ e. forward_row (named.AckTo 3 received available channel)
+      (inr (
+        refl,
+        (
+          number_of which,
+          here (Acknowledges received available channel)
+              (same_number to 3 (and_parts (not (has_a5 s which)) (to == 3) e).1, refl, refl, refl),
+        ),
+      )))
+      (λ e. refused_row refused.Unexpected)
+  channel_row which (named.OutR1A7 to successor) there here =
+      by_test Row (not (has_a5 s which) && (to == 2)) (forwarded s (named.OutR1A8 2 successor))
+      (unexpected s)
+      (λ e. forward_row (named.OutR1A8 2 successor) (
+        refl,
+        (
+          number_of which,
+          here (Switches successor)
+              (same_number to 2 (and_parts (not (has_a5 s which)) (to == 2) e).1, refl),
+        ),
+      ))
+      (λ e. refused_row refused.Unexpected)
+  channel_row which (named.KeepAlive keepalive) there here =
+      same_row (on_keep_alive s which keepalive) (same_keep_alive s which keepalive)
+  channel_row which named.EndA1 there here = same_row (on_end_a1 s which) (same_end s which)
+  channel_row which (named.InR1A5 successor) there here =
+      a5_row which successor there (here (Leaves successor) refl)
+  channel_row which m there here = refused_row refused.Unexpected
+
+  -- ---- on a leg
+
+  module _ (number : ℕ) (m : Named)
+      (here : (Is : Named → Type 0) → Is m → CameOn number Is later) where
+    at : (n : ℕ) → n ≡ number → (Is : Named → Type 0) → Is m → CameOn n Is later
+    at n e Is is = subst (λ (j : ℕ). CameOn j Is later) (sym e) (here Is is)
+
+    by_channel_row : Row (on_channel_by s (channel_of s number) m)
+    by_channel_row =
+        by_test (λ (o : Option Which). Row (on_channel_by s o m))
+        (has_opened s.opening && (s.current.number == number)) (Some Current)
+        (next_of s.successor number)
+        (λ e. channel_row Current m tt
+        (at s.current.number (same_number s.current.number number
+        (and_parts (has_opened s.opening) (s.current.number == number) e).1)))
+        (λ e. by s.successor refl k.next)
+      where
+        by : (z : Successor) → s.successor ≡ z → IsNext later s.current.number z
+            → Row (on_channel_by s (next_of z number) m)
+        by Absent e next = refused_row refused.Unexpected
+        by (Up leg) e next = refused_row refused.Unexpected
+        by (Joined leg stage) e next =
+            by_test (λ (o : Option Which). Row (on_channel_by s o m)) (leg.number == number)
+            (Some Next) None
+            (λ f. channel_row Next m (ap is_joined e)
+            (at (suc s.current.number) (sym next.0 ∙ same_number leg.number number f)))
+            (λ f. refused_row refused.Unexpected)
+
+  ci_row : (number : ℕ) (m : Named)
+      → ((Is : Named → Type 0) → Is m → CameOn number Is later) → Row (on_ci s number m)
+  ci_row number (named.ConnB1 version connection channel lifetime keepalive group) here =
+      by_test Row (is_first s number)
+      (opened s (opener connection channel (Connects group)) (kept_for keepalive))
+      (unexpected s)
+      (λ e. opened_row number (opener connection channel (Connects group)) (kept_for keepalive) e
+      (λ is. subst (λ (n : ℕ). CameOn n (puts.Connects connection channel group) later) is
+      (here (puts.Connects connection channel group) (refl, refl, refl)))
+      (here (BeginsIn channel) refl))
+      (λ e. refused_row refused.Unexpected)
+  ci_row number (named.InR1A1 version connection predecessor channel) here =
+      by_test Row (is_first s number) (on_first_in_r1_a1 s connection predecessor channel)
+      (on_later_in_r1_a1 s (opener_of s.opening) number connection predecessor channel)
+      (λ e. opened_row number (opener connection channel (Replaces predecessor)) KEEPALIVE e
+      (λ is. subst (λ (n : ℕ). CameOn n (puts.Replaces connection predecessor channel) later) is
+      (here (puts.Replaces connection predecessor channel) (refl, refl, refl)))
+      (here (BeginsIn channel) refl))
+      (λ e. later_row number connection predecessor channel (here (Joins channel) refl))
+  ci_row number m here = by_channel_row number m here
+
+  pub packet_row : (leg : Leg) (count : Count) (m : Named)
+      → (is_client_leg leg ≡ true → (Is : Named → Type 0) → Is m → CameOn leg.number Is later)
+      → Row (packet s leg count m)
+  packet_row leg count m here =
+      by_test Row (is_client_leg leg) (on_ci s leg.number m)
+      (if is_server_leg s leg then on_is s m else unexpected s)
+      (λ e. ci_row leg.number m (here e))
+      (λ e. by_test Row (is_server_leg s leg) (on_is s m) (unexpected s)
+      (λ f. same_row (on_is s m) (same_is s m)) (λ f. refused_row refused.Unexpected))
