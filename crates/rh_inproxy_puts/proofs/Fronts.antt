@@ -8,9 +8,9 @@ use Rattle.rh_shell.specs.Rules.{Message, Text, Pdu, Packet}
 use Rattle.rh_shell.specs.Moves.{OnLeg}
 use Rattle.rh_shell.specs.Wires.{of_leg}
 use Rattle.rh_passages.specs.Passing.{BeginsIn, HasOne}
-use Rattle.rh_passages.proofs.Messages.{all_append, each_so, leg_more, one_more_so}
+use Rattle.rh_passages.proofs.Messages.{all_append, leg_more, one_more_so}
 use Rattle.rh_inproxy.specs.declared.state.InProxyConfig.{InProxyConfig}
-use Rattle.rh_inproxy_puts.specs.Puts.{ci, CameOn, Acknowledges, Joins, Leaves, Switches, Connects, Replaces, IsFirst, IsPlainPacket, IsPlain, IsRest, IsPacket, IsStream}
+use Rattle.rh_inproxy_puts.specs.Puts.{ci, CameOn, Acknowledges, Joins, Leaves, Switches, Connects, Replaces, IsFirst, IsPlainPacket, IsPlain, IsPing, HasPdu, IsRest, IsPacket, IsStream}
 
 -- the last ci leg that the server was told, until IN_R1/A6
 abbrev pub reached : ℕ → List Message → Option ℕ
@@ -29,21 +29,22 @@ module _ (came : List OnLeg) where
   abbrev Stands : ℕ → List Message → Option ℕ → Type 0
   Stands n ms now = IsRest came n ms × (reached n ms ≡ now)
 
-  plain_first : (n : ℕ) (m : Message) → IsPlain came m → Stands n (m ∷ []) (Some n)
+  pub plain_first : (n : ℕ) (m : Message) → IsPlain came n m → Stands n (m ∷ []) (Some n)
   plain_first n (Text bytes) is = absurd is
   plain_first n (Packet (named.InR2A2 successor)) is = absurd is
   plain_first n (Packet (named.InR1A6 successor)) is = absurd is
   plain_first n m is = ((is, tt), refl)
 
-  pub plain_more : (n : ℕ) (ms : List Message) (m : Message) → IsPlain came m
-      → IsRest came n ms → Stands n (ms ++ m ∷ []) (reached n ms)
-  plain_more n [] m is h = plain_first n m is
-  plain_more n (Packet (named.InR2A2 successor) ∷ ms) m is h =
-      let rest = plain_more (suc n) ms m is h.1 in ((h.0, rest.0), rest.1)
-  plain_more n (Packet (named.InR1A6 successor) ∷ ms) m is h =
-      ((h.0, all_append (IsPlain came) ms (m ∷ []) h.1 (is, tt)), refl)
-  plain_more n (other ∷ ms) m is h =
-      let rest = plain_more n ms m is h.1 in ((h.0, rest.0), rest.1)
+  -- a Ping behind IN_R1/A6
+  pub ping_more : (n : ℕ) (ms : List Message) → reached n ms ≡ None → IsRest came n ms
+      → Stands n (ms ++ Packet named.Ping ∷ []) None
+  ping_more n [] e h = absurd cc
+  ping_more n (Packet (named.InR2A2 successor) ∷ ms) e h =
+      let rest = ping_more (suc n) ms e h.1 in ((h.0, rest.0), rest.1)
+  ping_more n (Packet (named.InR1A6 successor) ∷ ms) e h =
+      ((h.0, all_append IsPing ms (Packet named.Ping ∷ []) h.1 (refl, tt)), refl)
+  ping_more n (other ∷ ms) e h =
+      let rest = ping_more n ms e h.1 in ((h.0, rest.0), rest.1)
 
   -- where IN_R1/A6 was not put
   pub more_at : (n k : ℕ) (ms : List Message) (m : Message) → reached n ms ≡ Some k
@@ -64,6 +65,21 @@ pub came_stays : (Is : Named → Type 0) (n : ℕ) (came : List OnLeg) (one : On
 came_stays Is n came one h =
     subst (HasOne Is) (sym (leg_more (ci n) came one))
     (one_more_so Is (of_leg (ci n) came) (of_leg (ci n) (one ∷ [])) h)
+
+pdu_more : (pdu : List ℕ) (a b : List Message) → HasPdu pdu a → HasPdu pdu (a ++ b)
+pdu_more pdu [] b h = absurd h
+pdu_more pdu (m ∷ a) b (inl is) = inl is
+pdu_more pdu (m ∷ a) b (inr rest) = inr (pdu_more pdu a b rest)
+
+pub last_pdu : (pdu : List ℕ) (a : List Message) → HasPdu pdu (a ++ Pdu pdu ∷ [])
+last_pdu pdu [] = inl refl
+last_pdu pdu (m ∷ a) = inr (last_pdu pdu a)
+
+pub pdu_stays : (pdu : List ℕ) (n : ℕ) (came : List OnLeg) (one : OnLeg)
+    → HasPdu pdu (of_leg (ci n) came) → HasPdu pdu (of_leg (ci n) (came ++ one ∷ []))
+pdu_stays pdu n came one h =
+    subst (HasPdu pdu) (sym (leg_more (ci n) came one))
+    (pdu_more pdu (of_leg (ci n) came) (of_leg (ci n) (one ∷ [])) h)
 
 module _ (came : List OnLeg) (one : OnLeg) where
   abbrev later : List OnLeg
@@ -86,20 +102,18 @@ module _ (came : List OnLeg) (one : OnLeg) where
   packet_stays named.Ping is = tt
   packet_stays packet is = absurd is
 
-  plain_stays : (m : Message) → IsPlain came m → IsPlain later m
-  plain_stays (Text bytes) is = absurd is
-  plain_stays (Pdu pdu) is = tt
-  plain_stays (Packet packet) is = packet_stays packet is
+  plain_stays : (n : ℕ) (m : Message) → IsPlain came n m → IsPlain later n m
+  plain_stays n (Text bytes) is = absurd is
+  plain_stays n (Pdu pdu) is = (is.0, is.1, pdu_stays pdu is.0 came one is.2)
+  plain_stays n (Packet packet) is = packet_stays packet is
 
   rest_stays : (n : ℕ) (ms : List Message) → IsRest came n ms → IsRest later n ms
   rest_stays n [] h = tt
   rest_stays n (Packet (named.InR2A2 successor) ∷ ms) h =
       (came_stays (Joins successor) (suc n) came one h.0, rest_stays (suc n) ms h.1)
-  rest_stays n (Packet (named.InR1A6 successor) ∷ ms) h = (
-    came_stays (Leaves successor) n came one h.0,
-    each_so (IsPlain came) (IsPlain later) plain_stays ms h.1,
-  )
-  rest_stays n (m ∷ ms) h = (plain_stays m h.0, rest_stays n ms h.1)
+  rest_stays n (Packet (named.InR1A6 successor) ∷ ms) h =
+      (came_stays (Leaves successor) n came one h.0, h.1)
+  rest_stays n (m ∷ ms) h = (plain_stays n m h.0, rest_stays n ms h.1)
 
   module _ (config : InProxyConfig) where
     first_stays : (packet : Named) → IsFirst config came packet → IsFirst config later packet

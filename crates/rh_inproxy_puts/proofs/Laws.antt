@@ -27,8 +27,8 @@ use Rattle.rh_inproxy.specs.Machine.{rules as proxy_rules}
 use Rattle.rh_passages.specs.Passing.{HasOne}
 use Rattle.rh_passages.proofs.Logs.{PutKeeps}
 use Rattle.rh_passages.proofs.Messages.{leg_more, last_one_so}
-use Rattle.rh_inproxy_puts.specs.Puts.{ci, is_leg, CameOn, IsPutUp, ArePutUp, PutsInOrder}
-use Rattle.rh_inproxy_puts.proofs.Fronts.{stream_stays}
+use Rattle.rh_inproxy_puts.specs.Puts.{ci, is_leg, CameOn, HasPdu, IsPutUp, ArePutUp, PutsInOrder}
+use Rattle.rh_inproxy_puts.proofs.Fronts.{last_pdu, stream_stays}
 use Rattle.rh_inproxy_puts.proofs.Sounds.{seen, Sound, Moves, sound_stays, same_moves}
 use Rattle.rh_inproxy_puts.proofs.Rows.{Row, up_moves, head_moves, drawn_moves, mark_moves, ping_moves, pdu_row, packet_row}
 use Rattle.rh_inproxy_puts.proofs.Goes.{Stands, Goes, still, server_goes}
@@ -50,6 +50,16 @@ here_came n ClientIn log m e Is is =
 here_came n ClientOut log m e Is is = absurd cc
 here_came n OutServer log m e Is is = absurd cc
 here_came n InServer log m e Is is = absurd cc
+
+pdu_came : (n : ℕ) (kind : LegKind) (log : List OnLeg) (pdu : List ℕ)
+    → is_client_leg (record { kind = kind; number = n }) ≡ true
+    → HasPdu pdu (of_leg (ci n) (log ++ (record { kind = kind; number = n }, Pdu pdu) ∷ []))
+pdu_came n ClientIn log pdu e =
+    subst (HasPdu pdu) (sym (more_by (ci n) log (ci n, Pdu pdu) true (test_same n)))
+    (last_pdu pdu (of_leg (ci n) log))
+pdu_came n ClientOut log pdu e = absurd cc
+pdu_came n OutServer log pdu e = absurd cc
+pdu_came n InServer log pdu e = absurd cc
 
 module _ (config : InProxyConfig) where
   abbrev on : List OnLeg → List Message
@@ -138,7 +148,8 @@ module _ (config : InProxyConfig) where
   move_kept p (PduCame leg count bytes) may h =
       row_kept p leg (Pdu bytes) (pdu p.role leg count bytes) h
       (pdu_row config p.came (p.came ++ (leg, Pdu bytes) ∷ []) p.role h.sound
-      (sound_stays config p.came (leg, Pdu bytes) (seen p.role) h.sound) leg count bytes)
+      (sound_stays config p.came (leg, Pdu bytes) (seen p.role) h.sound) leg count bytes
+      (pdu_came leg.number leg.kind p.came bytes))
   move_kept p (PacketCame leg count m) may h =
       row_kept p leg (Packet m) (packet p.role leg count m) h
       (packet_row config p.came (p.came ++ (leg, Packet m) ∷ []) p.role h.sound
@@ -173,6 +184,9 @@ module _ (config : InProxyConfig) where
       next = tt;
       leaving = tt;
       waits = tt;
+      held = tt;
+      held_next = tt;
+      quiet = tt;
     };
     at = refl;
     stream = tt;

@@ -1,13 +1,22 @@
 -- what comes to an in proxy changes nothing on its is leg, and is known
-use Rattle.std.proofs.Common.{◌≡◌, ℕ, suc, ◌+◌, ◌==◌, ◌&&◌, Bool, true, false, true≢false, not, if◌then◌else◌, List, [], ◌∷◌, ◌++◌, Some, None, Ok, Err, inl, inr, refl, sym, ap, ◌∙◌, subst, arith, rules}
+use Rattle.std.proofs.Common.{◌≡◌, ℕ, suc, ◌+◌, ◌==◌, ◌&&◌, ◌||◌, Bool, true, false, true≢false, not, if◌then◌else◌, List, [], ◌∷◌, ◌++◌, length, Some, None, Ok, Err, inl, inr, refl, sym, ap, ◌∙◌, subst, arith, rules}
 use Rattle.std.proofs.lemmas.Bool.{and_parts, eqb-true}
 use Rattle.std.specs.declared.option.Option.{Option}
-use Rattle.std.specs.Prelude.{nat_le, nat_lt}
+use Rattle.std.specs.Prelude.{is_ok, nat_le, nat_lt}
 use Rattle.std.specs.List.{list_any}
 use Rattle.rh_rts.specs.declared.command.Cookie.{Cookie}
 use Rattle.rh_sig.specs.declared.named.Named.{Named}
 use Rattle.rh_sig.specs.declared.named.Named.TheVariants as named
+use Rattle.std.specs.declared.result.Result.{Result}
+use Rattle.rh_window.specs.Receiving as windows
 use Rattle.rh_line.specs.Lines as line
+use Rattle.rh_line.specs.Lines.{Incoming}
+use Rattle.rh_line.specs.declared.line_fault.LineFault.{LineFault}
+use Rattle.rh_line.specs.declared.line_fault.LineFault.TheVariants.{Window, Over}
+use Rattle.rh_shell.specs.Wires.{of_leg}
+use Rattle.rh_passages.proofs.Messages.{all_append}
+use Rattle.rh_inproxy.specs.Passing as passing
+use Rattle.rh_inproxy.specs.Machine as machine
 use Rattle.rh_line.specs.declared.leg.Leg.{Leg}
 use Rattle.rh_line.specs.declared.which.Which.{Which}
 use Rattle.rh_line.specs.declared.which.Which.TheVariants.{Current, Next}
@@ -34,7 +43,7 @@ use Rattle.rh_inproxy.specs.declared.state.Successor.{Successor}
 use Rattle.rh_inproxy.specs.declared.state.Successor.TheVariants.{Absent, Up, Joined}
 use Rattle.rh_inproxy.specs.Answers.{Done, taken, refuse, unexpected}
 use Rattle.rh_inproxy.specs.Acknowledging.{on_ack, on_ack_to, forward_by, forwarded}
-use Rattle.rh_inproxy.specs.Ending.{is_announced, is_newest, is_succeeded, mark, on_end_a1, settled}
+use Rattle.rh_inproxy.specs.Ending.{is_announced, has_later, is_newest, is_succeeded, mark, on_end_a1, settled}
 use Rattle.rh_inproxy.specs.InReplacement.{is_newcomer, joined, join, on_later_in_r1_a1, on_in_r1_a1, on_in_r1_a5, on_in_r1_b1, on_in_r1_b2, finished, finish_by, handed_over, hand_over}
 use Rattle.rh_inproxy.specs.Opening.{up, may_accept, accepts, accepts_later, accepted, wants, connected, head, drawn, is_absent, is_first, awaits_packet, opened, opener, opener_of, kept_for, leg_of, on_conn_b1, on_conn_b3, on_first_in_r1_a1}
 use Rattle.rh_inproxy.specs.OutReplacement.{on_out_r1_a7}
@@ -45,25 +54,18 @@ use Rattle.rh_inproxy.specs.declared.opening.TheConstants.{KEEPALIVE}
 use Rattle.rh_inproxy.specs.declared.state.Entry.TheVariants.{Connects, Replaces}
 use Rattle.rh_passages.specs.Passing.{BeginsIn}
 use Rattle.rh_inproxy_puts.specs.Puts as puts
-use Rattle.rh_inproxy_puts.specs.Puts.{CameOn, Joins, Leaves, Switches, Acknowledges, IsPlainPacket}
+use Rattle.rh_inproxy_puts.specs.Puts.{CameOn, HasPdu, Joins, Leaves, Switches, Acknowledges, IsPlainPacket}
 use Rattle.rh_inproxy_puts.proofs.Waiting as waits
-use Rattle.rh_inproxy_puts.proofs.Sounds.{Seen, seen, Same, Sound, Moves, IsOpener, IsOpening, HasBegun, IsFirstLeg, IsLeaving, IsNext, Waits, told_by, last, same_moves, moves_on, settles}
+use Rattle.rh_inproxy_puts.proofs.Sounds.{Seen, seen, Same, Sound, Moves, IsOpener, IsOpening, HasBegun, IsFirstLeg, IsLeaving, IsNext, IsQuiet, Waits, told_by, last, same_moves, moves_on, settles}
 
 -- ---- what leaves the facts alone
 
 same_head : (s : InProxy) (leg : Leg) (text : List ℕ) → Same s (head s leg text).0
 same_head s leg text = search rules
 
-same_pdu : (s : InProxy) (leg : Leg) (count : Count) (bytes : List ℕ)
-    → Same s (pdu s leg count bytes).0
-same_pdu s leg count bytes = search rules
-
 same_keep_alive : (s : InProxy) (which : Which) (keepalive : ℕ)
     → Same s (on_keep_alive s which keepalive).0
 same_keep_alive s which keepalive = search rules
-
-same_end : (s : InProxy) (which : Which) → Same s (on_end_a1 s which).0
-same_end s which = search rules
 
 same_b3 : (s : InProxy) (size : ℕ) → Same s (on_conn_b3 s size).0
 same_b3 s size = search rules
@@ -172,6 +174,30 @@ module _ (config : InProxyConfig) (came : List OnLeg) where
   leaving_next n cookie (Up number) e h = absurd cc
   leaving_next n cookie (Joined leg stage) e h = h
 
+-- where IN_R1/A6 was not put, anything may be left
+pub uncome : (handover : Handover) (dues : List Due) (pdus : List (List ℕ)) (ended end_put : Bool)
+    → has_come handover ≡ false → IsQuiet handover dues pdus ended end_put
+uncome handovers.Before dues pdus ended end_put e = tt
+uncome (handovers.Came cookie) dues pdus ended end_put e = tt
+uncome handovers.Passed dues pdus ended end_put e = absurd cc
+
+unpassed : (came : List OnLeg) (n : ℕ) (z : Successor) (handover : Handover) (dues : List Due)
+    (pdus : List (List ℕ)) (ended end_put : Bool) → IsLeaving came n handover z
+    → hands_over z handover ≡ false → IsQuiet handover dues pdus ended end_put
+unpassed came n z handovers.Before dues pdus ended end_put h e = tt
+unpassed came n z (handovers.Came cookie) dues pdus ended end_put h e = tt
+unpassed came n Absent handovers.Passed dues pdus ended end_put h e = absurd cc
+unpassed came n (Up number) handovers.Passed dues pdus ended end_put h e = absurd h
+unpassed came n (Joined leg stage) handovers.Passed dues pdus ended end_put h e = absurd h
+
+pub neither : (a b : Bool) → a || b ≡ false → (a ≡ false) × (b ≡ false)
+neither true b e = absurd cc
+neither false b e = (refl, e)
+
+none_of : (a b c : Bool) → a || b || c ≡ false → a ≡ false
+none_of true b c e = absurd cc
+none_of false b c e = refl
+
 same_told : (n : ℕ) (cookie : Cookie) (z : Successor) (handover : Handover)
     → has_come handover ≡ false
     → told_by n z (handovers.Came cookie) ≡ told_by n z handover
@@ -225,6 +251,9 @@ module _ (config : InProxyConfig) (came : List OnLeg) (s : InProxy)
               leaving = staying config came s.current.number s.handover (Up number)
                   (not_so (has_come s.handover) may.2);
               waits = h.waits;
+              held = h.held;
+              held_next = h.held_next;
+              quiet = h.quiet;
             };
             last = untold s.current.number (Up number) Absent s.handover (λ k. refl)
                 ∙ ap (λ (z : Successor). told_by s.current.number z s.handover) (sym f);
@@ -244,6 +273,9 @@ module _ (config : InProxyConfig) (came : List OnLeg) (s : InProxy)
       next = h.next;
       leaving = h.leaving;
       waits = h.waits;
+      held = h.held;
+      held_next = h.held_next;
+      quiet = h.quiet;
     };
     last = refl;
     announced = same ∙ ap is_announced (sym e);
@@ -301,13 +333,153 @@ module _ (config : InProxyConfig) (came later : List OnLeg) (s : InProxy)
   refused_row : (why : Refused) → Row (refuse s why)
   refused_row why = same_moves config came s s refl h
 
-  pub pdu_row : (leg : Leg) (count : Count) (bytes : List ℕ) → Row (pdu s leg count bytes)
-  pdu_row leg count bytes = same_row (pdu s leg count bytes) (same_pdu s leg count bytes)
+  abbrev number_of : Which → ℕ
+  number_of Current = s.current.number
+  number_of Next = suc s.current.number
+
+  abbrev IsThere : Which → Type 0
+  IsThere Current = Unit {0}
+  IsThere Next = is_joined s.successor ≡ true
+
+  channel_at : (P : Option Which → Type 0) (number : ℕ) → P None
+      → ((which : Which) → IsThere which → number_of which ≡ number → P (Some which))
+      → P (channel_of s number)
+  channel_at P number none some =
+      by_test P (has_opened s.opening && (s.current.number == number)) (Some Current)
+      (next_of s.successor number)
+      (λ e. some Current tt (same_number s.current.number number
+      (and_parts (has_opened s.opening) (s.current.number == number) e).1))
+      (λ e. by s.successor refl k.next)
+    where
+      by : (z : Successor) → s.successor ≡ z → IsNext later s.current.number z
+          → P (next_of z number)
+      by Absent e next = none
+      by (Up leg) e next = none
+      by (Joined leg stage) e next =
+          by_test P (leg.number == number) (Some Next) None
+          (λ f. some Next (ap is_joined e) (sym next.0 ∙ same_number leg.number number f))
+          (λ f. none)
+
+  -- where no IN_R1/A5 came on the channel, IN_R1/A6 was not put
+  any_quiet : (which : Which) → has_a5 s which ≡ false → (dues : List Due)
+      (pdus : List (List ℕ)) (ended end_put : Bool) → IsQuiet s.handover dues pdus ended end_put
+  any_quiet Current e dues pdus ended end_put =
+      unpassed later s.current.number s.successor s.handover dues pdus ended end_put k.leaving e
+  any_quiet Next e dues pdus ended end_put = uncome s.handover dues pdus ended end_put e
+
+  -- ---- RPC PDUs
+
+  abbrev grown : List ℕ → Bool → Incoming → Incoming
+  grown bytes admitted c =
+      if admitted then record c {
+        pdus = c.pdus ++ bytes ∷ [];
+        window = windows.after_admit c.window (length bytes);
+      } else c
+
+  verdict_row : (which : Which) (bytes : List ℕ) (v : Result (Unit {0}) LineFault)
+      → has_a5 s which ≡ false → HasPdu bytes (of_leg (puts.ci (number_of which)) later)
+      → Row (passing.pdu_by (record s {
+        line = line.with_channel s.line which (grown bytes (is_ok v) (line.channel_of s.line which));
+      }) v)
+  verdict_row Current bytes (Ok admitted) e here = record {
+    sound = record {
+      same = k.same;
+      joined = k.joined;
+      finished = k.finished;
+      opening = k.opening;
+      next = k.next;
+      leaving = k.leaving;
+      waits = k.waits;
+      held = all_append
+          (λ (pdu : List ℕ). HasPdu pdu (of_leg (puts.ci s.current.number) later))
+          s.line.current.pdus (bytes ∷ []) k.held (here, tt);
+      held_next = k.held_next;
+      quiet = any_quiet Current e s.waiting.due (s.line.current.pdus ++ bytes ∷ [])
+          s.line.current.ended s.end_put;
+    };
+    last = refl;
+    announced = refl;
+  }
+  verdict_row Next bytes (Ok admitted) e here = record {
+    sound = record {
+      same = k.same;
+      joined = k.joined;
+      finished = k.finished;
+      opening = k.opening;
+      next = k.next;
+      leaving = k.leaving;
+      waits = k.waits;
+      held = k.held;
+      held_next = all_append
+          (λ (pdu : List ℕ). HasPdu pdu (of_leg (puts.ci (suc s.current.number)) later))
+          s.line.next.pdus (bytes ∷ []) k.held_next (here, tt);
+      quiet = k.quiet;
+    };
+    last = refl;
+    announced = refl;
+  }
+  verdict_row Current bytes (Err (Window exceeded)) e here = refused_row (refused.Window exceeded)
+  verdict_row Next bytes (Err (Window exceeded)) e here = refused_row (refused.Window exceeded)
+  verdict_row Current bytes (Err Over) e here = refused_row refused.Unexpected
+  verdict_row Next bytes (Err Over) e here = refused_row refused.Unexpected
+
+  pub pdu_row : (leg : Leg) (count : Count) (bytes : List ℕ)
+      → (is_client_leg leg ≡ true → HasPdu bytes (of_leg (puts.ci leg.number) later))
+      → Row (pdu s leg count bytes)
+  pdu_row leg count bytes here =
+      by_test Row (is_client_leg leg) (machine.pdu_by s (channel_of s leg.number) bytes)
+      (unexpected s)
+      (λ e. channel_at (λ (o : Option Which). Row (machine.pdu_by s o bytes)) leg.number
+      (refused_row refused.Unexpected)
+      (λ which there is.
+      by_test Row (has_a5 s which || line.is_ended s.line) (unexpected s)
+      (passing.pdu_by (record s { line = line.after_admit s.line which bytes })
+      (line.admit_verdict s.line which bytes))
+      (λ f. refused_row refused.Unexpected)
+      (λ f. verdict_row which bytes (line.admit_verdict s.line which bytes)
+      (neither (has_a5 s which) (line.is_ended s.line) f).0
+      (subst (λ (n : ℕ). HasPdu bytes (of_leg (puts.ci n) later)) (sym is) (here e)))))
+      (λ e. refused_row refused.Unexpected)
+
+  -- ---- END
+
+  end_row : (which : Which) → Row (on_end_a1 s which)
+  end_row which =
+      by_test Row
+      (has_a5 s which || (line.channel_of s.line which).ended || has_later s which)
+      (unexpected s) (taken (record s { line = line.after_end s.line which }))
+      (λ e. refused_row refused.Unexpected)
+      (λ e. by which (none_of (has_a5 s which) (line.channel_of s.line which).ended
+      (has_later s which) e))
+    where
+      by : (w : Which) → has_a5 s w ≡ false
+          → Row (taken (record s { line = line.after_end s.line w }))
+      by Next e =
+          same_moves config later s (record s { line = line.after_end s.line Next }) refl k
+      by Current e = record {
+        sound = record {
+          same = k.same;
+          joined = k.joined;
+          finished = k.finished;
+          opening = k.opening;
+          next = k.next;
+          leaving = k.leaving;
+          waits = k.waits;
+          held = k.held;
+          held_next = k.held_next;
+          quiet = any_quiet Current e s.waiting.due s.line.current.pdus true s.end_put;
+        };
+        last = refl;
+        announced = refl;
+      }
 
   -- ---- what is forwarded
 
-  forward_row : (m : Named) → IsPlainPacket later m → Row (forwarded s m)
-  forward_row m is =
+  forward_row : (m : Named) → IsPlainPacket later m
+      → ((dues : List Due)
+      → IsQuiet s.handover dues s.line.current.pdus s.line.current.ended s.end_put)
+      → Row (forwarded s m)
+  forward_row m is quiet =
       by (waiting.forwarded s.waiting m)
       (waits.forwarded_joins (IsPlainPacket later) s.waiting m is k.waits)
     where
@@ -322,6 +494,9 @@ module _ (config : InProxyConfig) (came later : List OnLeg) (s : InProxy)
           next = k.next;
           leaving = k.leaving;
           waits = each;
+          held = k.held;
+          held_next = k.held_next;
+          quiet = quiet w.due;
         };
         last = refl;
         announced = refl;
@@ -351,6 +526,9 @@ module _ (config : InProxyConfig) (came later : List OnLeg) (s : InProxy)
           next = k.next;
           leaving = k.leaving;
           waits = k.waits;
+          held = k.held;
+          held_next = k.held_next;
+          quiet = k.quiet;
         };
         last = refl;
         announced = sym (ap is_announced is);
@@ -374,6 +552,9 @@ module _ (config : InProxyConfig) (came later : List OnLeg) (s : InProxy)
           leaving = joining config later s.current.number leg (leg_of leg channel)
               (TellsServer (waiting.count Forwarded s.waiting.due)) s.handover up.leaving;
           waits = k.waits;
+          held = k.held;
+          held_next = tt;
+          quiet = k.quiet;
         };
         last = untold s.current.number now (Up leg) s.handover (λ n. refl)
             ∙ ap (λ (z : Successor). told_by s.current.number z s.handover) (sym e);
@@ -428,6 +609,9 @@ module _ (config : InProxyConfig) (came later : List OnLeg) (s : InProxy)
       next = k.next;
       leaving = leaves;
       waits = k.waits;
+      held = k.held;
+      held_next = k.held_next;
+      quiet = tt;
     };
     last = same_told s.current.number cookie s.successor s.handover none;
     announced = refl;
@@ -451,6 +635,9 @@ module _ (config : InProxyConfig) (came later : List OnLeg) (s : InProxy)
           leaving = finishing config later s.current.number leg Told Follows s.handover
               told.leaving;
           waits = k.waits;
+          held = k.held;
+          held_next = k.held_next;
+          quiet = k.quiet;
         };
         last = untold s.current.number (Joined leg Follows) (Joined leg Told) s.handover
             (λ n. refl) ∙ ap (λ (z : Successor). told_by s.current.number z s.handover) (sym e);
@@ -475,14 +662,6 @@ module _ (config : InProxyConfig) (came later : List OnLeg) (s : InProxy)
 
   -- ---- behind the first packet of a ci leg
 
-  abbrev number_of : Which → ℕ
-  number_of Current = s.current.number
-  number_of Next = suc s.current.number
-
-  abbrev IsThere : Which → Type 0
-  IsThere Current = Unit {0}
-  IsThere Next = is_joined s.successor ≡ true
-
   a5_row : (which : Which) (cookie : Cookie) → IsThere which
       → CameOn (number_of which) (Leaves cookie) later → Row (on_in_r1_a5 s which cookie)
   a5_row which cookie there here =
@@ -495,6 +674,12 @@ module _ (config : InProxyConfig) (came later : List OnLeg) (s : InProxy)
       by Next e there here =
           handed_row cookie e
           (leaving_next config later s.current.number cookie s.successor there here)
+
+  going : (which : Which) (to : Bool) → not (has_a5 s which) && to ≡ true → (dues : List Due)
+      → IsQuiet s.handover dues s.line.current.pdus s.line.current.ended s.end_put
+  going which to e dues =
+      any_quiet which (not_so (has_a5 s which) (and_parts (not (has_a5 s which)) to e).0) dues
+      s.line.current.pdus s.line.current.ended s.end_put
 
   channel_row : (which : Which) (m : Named) → IsThere which
       → ((Is : Named → Type 0) → Is m → CameOn (number_of which) Is later)
@@ -510,7 +695,7 @@ module _ (config : InProxyConfig) (came later : List OnLeg) (s : InProxy)
           here (Acknowledges received available channel)
               (same_number to 3 (and_parts (not (has_a5 s which)) (to == 3) e).1, refl, refl, refl),
         ),
-      )))
+      )) (going which (to == 3) e))
       (λ e. refused_row refused.Unexpected)
   channel_row which (named.OutR1A7 to successor) there here =
       by_test Row (not (has_a5 s which) && (to == 2)) (forwarded s (named.OutR1A8 2 successor))
@@ -522,11 +707,11 @@ module _ (config : InProxyConfig) (came later : List OnLeg) (s : InProxy)
           here (Switches successor)
               (same_number to 2 (and_parts (not (has_a5 s which)) (to == 2) e).1, refl),
         ),
-      ))
+      ) (going which (to == 2) e))
       (λ e. refused_row refused.Unexpected)
   channel_row which (named.KeepAlive keepalive) there here =
       same_row (on_keep_alive s which keepalive) (same_keep_alive s which keepalive)
-  channel_row which named.EndA1 there here = same_row (on_end_a1 s which) (same_end s which)
+  channel_row which named.EndA1 there here = end_row which
   channel_row which (named.InR1A5 successor) there here =
       a5_row which successor there (here (Leaves successor) refl)
   channel_row which m there here = refused_row refused.Unexpected
@@ -540,24 +725,9 @@ module _ (config : InProxyConfig) (came later : List OnLeg) (s : InProxy)
 
     by_channel_row : Row (on_channel_by s (channel_of s number) m)
     by_channel_row =
-        by_test (λ (o : Option Which). Row (on_channel_by s o m))
-        (has_opened s.opening && (s.current.number == number)) (Some Current)
-        (next_of s.successor number)
-        (λ e. channel_row Current m tt
-        (at s.current.number (same_number s.current.number number
-        (and_parts (has_opened s.opening) (s.current.number == number) e).1)))
-        (λ e. by s.successor refl k.next)
-      where
-        by : (z : Successor) → s.successor ≡ z → IsNext later s.current.number z
-            → Row (on_channel_by s (next_of z number) m)
-        by Absent e next = refused_row refused.Unexpected
-        by (Up leg) e next = refused_row refused.Unexpected
-        by (Joined leg stage) e next =
-            by_test (λ (o : Option Which). Row (on_channel_by s o m)) (leg.number == number)
-            (Some Next) None
-            (λ f. channel_row Next m (ap is_joined e)
-            (at (suc s.current.number) (sym next.0 ∙ same_number leg.number number f)))
-            (λ f. refused_row refused.Unexpected)
+        channel_at (λ (o : Option Which). Row (on_channel_by s o m)) number
+        (refused_row refused.Unexpected)
+        (λ which there is. channel_row which m there (at (number_of which) is))
 
   ci_row : (number : ℕ) (m : Named)
       → ((Is : Named → Type 0) → Is m → CameOn number Is later) → Row (on_ci s number m)

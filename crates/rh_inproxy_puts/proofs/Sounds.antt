@@ -30,8 +30,8 @@ use Rattle.rh_inproxy.specs.Ending.{is_announced, is_succeeded}
 use Rattle.rh_inproxy.specs.Opening.{is_absent}
 use Rattle.rh_inproxy.specs.State.{InProxy, is_joined, follows, followed}
 use Rattle.rh_inproxy_puts.specs.Puts as puts
-use Rattle.rh_inproxy_puts.specs.Puts.{CameOn, Joins, Leaves, IsPlainPacket}
-use Rattle.rh_inproxy_puts.proofs.Fronts.{came_stays, packet_stays}
+use Rattle.rh_inproxy_puts.specs.Puts.{CameOn, HasPdu, Joins, Leaves, IsPlainPacket}
+use Rattle.rh_inproxy_puts.proofs.Fronts.{came_stays, packet_stays, pdu_stays}
 
 -- what the facts are about
 pub record Seen : Type 0 where
@@ -43,6 +43,11 @@ pub record Seen : Type 0 where
   pub successor : Successor
   pub handover : Handover
   pub waiting : Waiting
+  -- the RPC PDUs of the current channel and of the next one
+  pub pdus : List (List ℕ)
+  pub later : List (List ℕ)
+  pub ended : Bool
+  pub end_put : Bool
 
 abbrev pub seen : InProxy → Seen
 seen s = record {
@@ -54,6 +59,10 @@ seen s = record {
   successor = s.successor;
   handover = s.handover;
   waiting = s.waiting;
+  pdus = s.line.current.pdus;
+  later = s.line.next.pdus;
+  ended = s.line.current.ended;
+  end_put = s.end_put;
 }
 
 abbrev pub Same : InProxy → InProxy → Type 0
@@ -118,6 +127,16 @@ IsLeaving came n handovers.Passed successor = ⊥
 abbrev pub Waits : List OnLeg → List Due → Type 0
 Waits came dues = AllByRecursion (λ (due : Due). IsPlainPacket came due.packet) dues
 
+-- each RPC PDU came on the ci leg of this number
+abbrev pub Held : List OnLeg → ℕ → List (List ℕ) → Type 0
+Held came n pdus = AllByRecursion (λ (pdu : List ℕ). HasPdu pdu (of_leg (puts.ci n) came)) pdus
+
+-- behind IN_R1/A6 nothing is left to put but Pings
+abbrev pub IsQuiet : Handover → List Due → List (List ℕ) → Bool → Bool → Type 0
+IsQuiet handovers.Passed dues pdus ended end_put =
+    (dues ≡ []) × (pdus ≡ []) × (ended && not end_put ≡ false)
+IsQuiet handover dues pdus ended end_put = Unit {0}
+
 pub record Sound (config : InProxyConfig) (x : Seen) (came : List OnLeg) : Type 0 where
   pub same : x.config ≡ config
   pub joined : x.has_next ≡ is_joined x.successor
@@ -126,6 +145,9 @@ pub record Sound (config : InProxyConfig) (x : Seen) (came : List OnLeg) : Type 
   pub next : IsNext came x.current.number x.successor
   pub leaving : IsLeaving came x.current.number x.handover x.successor
   pub waits : Waits came x.waiting.due
+  pub held : Held came x.current.number x.pdus
+  pub held_next : Held came (suc x.current.number) x.later
+  pub quiet : IsQuiet x.handover x.waiting.due x.pdus x.ended x.end_put
 
 -- ---- one more came
 
@@ -170,6 +192,12 @@ module _ (config : InProxyConfig) (came : List OnLeg) (one : OnLeg) where
   leaving_stays n handovers.Passed (Up number) h = absurd h
   leaving_stays n handovers.Passed (Joined leg stage) h = absurd h
 
+  held_stays : (n : ℕ) (pdus : List (List ℕ)) → Held came n pdus → Held later n pdus
+  held_stays n pdus h =
+      each_so (λ (pdu : List ℕ). HasPdu pdu (of_leg (puts.ci n) came))
+      (λ (pdu : List ℕ). HasPdu pdu (of_leg (puts.ci n) later))
+      (λ (pdu : List ℕ). pdu_stays pdu n came one) pdus h
+
   pub sound_stays : (x : Seen) → Sound config x came → Sound config x later
   sound_stays x h = record {
     same = h.same;
@@ -181,6 +209,9 @@ module _ (config : InProxyConfig) (came : List OnLeg) (one : OnLeg) where
     waits = each_so (λ (due : Due). IsPlainPacket came due.packet)
         (λ (due : Due). IsPlainPacket later due.packet)
         (λ (due : Due). packet_stays came one due.packet) x.waiting.due h.waits;
+    held = held_stays x.current.number x.pdus h.held;
+    held_next = held_stays (suc x.current.number) x.later h.held_next;
+    quiet = h.quiet;
   }
 
 -- ---- what changes nothing on the is leg
@@ -241,6 +272,13 @@ module _ (config : InProxyConfig) (came : List OnLeg) where
   following_last n k leg (handovers.Came cookie) e = ap (λ (j : ℕ). Some j) e
   following_last n k leg handovers.Passed e = refl
 
+  following_quiet : (n : ℕ) (leg : ClientLeg) (handover : Handover) (dues : List Due)
+      (pdus : List (List ℕ)) (ended end_put : Bool)
+      → IsLeaving came n handover (Joined leg Follows) → IsQuiet handover dues pdus ended end_put
+  following_quiet n leg handovers.Before dues pdus ended end_put h = tt
+  following_quiet n leg (handovers.Came cookie) dues pdus ended end_put h = tt
+  following_quiet n leg handovers.Passed dues pdus ended end_put h = absurd h
+
   pub settles : (s : InProxy) → Sound config (seen s) came
       → Moves config came s (followed (record s { line = line.settled s.line }))
   settles s h =
@@ -271,6 +309,10 @@ module _ (config : InProxyConfig) (came : List OnLeg) where
               leaving = following_leaves s.current.number leg.number leg s.handover k.next.0
                   k.leaving;
               waits = k.waits;
+              held = subst (λ (n : ℕ). Held came n s.line.next.pdus) (sym k.next.0) k.held_next;
+              held_next = tt;
+              quiet = following_quiet s.current.number leg s.handover s.waiting.due s.line.next.pdus
+                  s.line.next.ended s.end_put k.leaving;
             };
             last = following_last s.current.number leg.number leg s.handover k.next.0
                 ∙ ap (λ (z : Successor). told_by s.current.number z s.handover) (sym e);

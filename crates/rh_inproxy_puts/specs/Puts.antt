@@ -1,6 +1,6 @@
 -- what an in proxy puts on its is leg, in order and for what came on its ci legs (MS-RPCH 2.2.4,
 -- 3.2.3; several ci legs over one is leg are this profile's)
-use Rattle.std.specs.Prelude.{ℕ, suc, ◌≡◌, ◌⊎◌, List, [], ◌∷◌, Bool, true, Some, None}
+use Rattle.std.specs.Prelude.{ℕ, suc, ◌≡◌, ◌≤◌, ◌⊎◌, List, [], ◌∷◌, Bool, true, Some, None}
 use Rattle.std.specs.List.{AllByRecursion}
 use Rattle.std.specs.declared.option.Option.{Option}
 use Rattle.rh_rts.specs.declared.command.Cookie.{Cookie}
@@ -65,6 +65,11 @@ CameOn n Is came = HasOne Is (of_leg (ci n) came)
 abbrev pub Came : (Named → Type 0) → List OnLeg → Type 0
 Came Is came = (n : ℕ) × CameOn n Is came
 
+-- an RPC PDU is among them
+abbrev pub HasPdu : List ℕ → List Message → Type 0
+HasPdu pdu [] = ⊥
+HasPdu pdu (message ∷ messages) = (message ≡ Pdu pdu) ⊎ HasPdu pdu messages
+
 -- ---- what is put
 
 -- CONN/B2 with what CONN/B1 told on the lowest ci leg, or IN_R1/A2 with what IN_R1/A1 told there;
@@ -89,22 +94,25 @@ IsPlainPacket came EndA2 = Unit {0}
 IsPlainPacket came Ping = Unit {0}
 IsPlainPacket came packet = ⊥
 
--- or an RPC PDU
-abbrev pub IsPlain : List OnLeg → Message → Type 0
-IsPlain came (Text bytes) = ⊥
-IsPlain came (Pdu pdu) = Unit {0}
-IsPlain came (Packet packet) = IsPlainPacket came packet
+-- or an RPC PDU that came on ci leg n or one before it
+abbrev pub IsPlain : List OnLeg → ℕ → Message → Type 0
+IsPlain came n (Text bytes) = ⊥
+IsPlain came n (Pdu pdu) = (k : ℕ) × (k ≤ n) × HasPdu pdu (of_leg (ci k) came)
+IsPlain came n (Packet packet) = IsPlainPacket came packet
+
+abbrev pub IsPing : Message → Type 0
+IsPing message = message ≡ Packet Ping
 
 -- behind the first packet: the channel of ci leg n was the last that the server was told. IN_R2/A2
 -- tells it that of the next ci leg, with the successor of the IN_R1/A1 that came there. IN_R1/A6
--- has the successor of an IN_R1/A5 that came on the last one, and neither stands behind it
+-- has the successor of an IN_R1/A5 that came on the last one, and only Pings stand behind it
 abbrev pub IsRest : List OnLeg → ℕ → List Message → Type 0
 IsRest came n [] = Unit {0}
 IsRest came n (Packet (InR2A2 successor) ∷ messages) =
     CameOn (suc n) (Joins successor) came × IsRest came (suc n) messages
 IsRest came n (Packet (InR1A6 successor) ∷ messages) =
-    CameOn n (Leaves successor) came × AllByRecursion (IsPlain came) messages
-IsRest came n (message ∷ messages) = IsPlain came message × IsRest came n messages
+    CameOn n (Leaves successor) came × AllByRecursion IsPing messages
+IsRest came n (message ∷ messages) = IsPlain came n message × IsRest came n messages
 
 abbrev pub IsPacket : (Named → Type 0) → Message → Type 0
 IsPacket Is (Text bytes) = ⊥
