@@ -1,4 +1,4 @@
--- each message that an in proxy puts on its is leg stands there in its order
+-- before IN_R1/A6 each message that an in proxy puts on its is leg stands there in its order
 use Rattle.std.proofs.Common.{◌≡◌, ℕ, suc, ◌-◌, ◌≤◌, ◌==◌, ◌&&◌, ◌||◌, Bool, true, false, true≢false, not, if◌then◌else◌, List, [], ◌∷◌, ◌++◌, length, Some, None, inl, inr, refl, sym, ap, ◌∙◌, subst, arith}
 use Rattle.std.proofs.lemmas.Bool.{and_parts}
 use Rattle.std.specs.Prelude.{IfSome}
@@ -43,47 +43,15 @@ use Rattle.rh_passages.specs.Passing.{BeginsIn}
 use Rattle.rh_inproxy_puts.specs.Puts.{CameOn, Came, Joins, Leaves, IsFirst, IsPlain, IsRest, IsStream}
 use Rattle.rh_inproxy_puts.proofs.Fronts.{reached, plain_first, ping_more, more_at}
 use Rattle.rh_inproxy_puts.proofs.Sounds.{seen, Same, Seen, Sound, Moves, IsOpener, IsOpening, HasBegun, IsLeaving, IsQuiet, Held, Waits, told, told_by, last, begins, same_moves, moves_on, settles}
-use Rattle.rh_inproxy_puts.proofs.Rows.{joined_any, finishing, neither, same_settled}
-
--- ---- what stands on the leg
-
-abbrev pub behind : List Message → List Message
-behind [] = []
-behind (first ∷ rest) = rest
-
--- the first packet was put, or nothing
-abbrev pub IsAt : Bool → List Message → Type 0
-IsAt true [] = ⊥
-IsAt true (first ∷ rest) = Unit {0}
-IsAt false ms = ms ≡ []
-
-pub record Stands (config : InProxyConfig) (came : List OnLeg) (ms : List Message) (s : InProxy)
-    : Type 0 where
-  pub sound : Sound config (seen s) came
-  pub at : IsAt (is_announced s.opening) ms
-  pub stream : IsStream config came ms
-  pub last : reached config.number (behind ms) ≡ last (seen s)
-
-pub still : (config : InProxyConfig) (came : List OnLeg) (ms : List Message) (s t : InProxy)
-    → Moves config came s t → IsStream config came ms → IsAt (is_announced s.opening) ms
-    → reached config.number (behind ms) ≡ last (seen s) → Stands config came ms t
-still config came ms s t moves stream at now = record {
-  sound = moves.sound;
-  at = subst (λ (b : Bool). IsAt b ms) (sym moves.announced) at;
-  stream = stream;
-  last = now ∙ sym moves.last;
-}
+use Rattle.rh_inproxy_puts.proofs.Tests.{joined_any, finishing, neither, same_settled}
+use Rattle.rh_inproxy_puts.proofs.Stands as stands
+use Rattle.rh_inproxy_puts.proofs.Stands.{behind, IsAt, Stands, still, first_goes}
 
 -- ---- tests
 
 nothing_there : (pdus : List (List ℕ)) → line.is_empty pdus ≡ true → pdus ≡ []
 nothing_there [] e = refl
 nothing_there (pdu ∷ pdus) e = absurd cc
-
-first_two : (a b c : Bool) → a && b && c ≡ true → a && b ≡ true
-first_two false b c e = absurd cc
-first_two true false c e = absurd cc
-first_two true true c e = refl
 
 no_end_due : (ended end_put empty : Bool) → empty ≡ true → ended && not end_put && empty ≡ false
     → ended && not end_put ≡ false
@@ -126,511 +94,323 @@ told_at_least : (n k : ℕ) (z : Successor) (handover : Handover)
 told_at_least n k z handovers.Before e = at_least_told n k z (ap value e)
 told_at_least n k z (handovers.Came cookie) e = at_least_told n k z (ap value e)
 told_at_least n k z handovers.Passed e = absurd cc
-
 module _ (config : InProxyConfig) (came : List OnLeg) (ms : List Message) (s : InProxy)
-    (h : Stands config came ms s) where
-  abbrev pub Goes : Pick → Type 0
-  Goes pick =
-      IfSome pick (λ (one : InProxy × Message).
-      Stands config came (ms ++ one.1 ∷ []) one.0)
+    (h : Stands config came ms s) (announced : is_announced s.opening ≡ true)
+    (k : ℕ) (unmarked : last (seen s) ≡ Some k) where
+  abbrev Goes : Pick → Type 0
+  Goes pick = stands.Goes config came ms s h pick
 
   abbrev n : ℕ
   n = s.current.number
 
-  -- ---- the first packet
+  or_goes : (a b : Pick) → Goes a → (a ≡ None → Goes b) → Goes (or_else a b)
+  or_goes a b = stands.or_stands config came ms s h a b
 
-  first_is : (o : Opener) (entry : Entry) → IsOpener config came o entry
-      → IsFirst config came (announcement s o entry)
-  first_is o (Connects group) is =
-      let same = h.sound.same in (
-        refl,
-        ap (λ (c : InProxyConfig). c.window) same,
-        ap (λ (c : InProxyConfig). c.timeout) same,
-        ap (λ (c : InProxyConfig). V4 c.address) same,
-        is,
-      )
-  first_is o (Replaces predecessor) is =
-      let same = h.sound.same in (
-        refl,
-        ap (λ (c : InProxyConfig). c.window) same,
-        ap (λ (c : InProxyConfig). c.timeout) same,
-        is,
-      )
+  plain_goes : (t : InProxy) (m : Message) → Moves config came s t → IsPlain came k m
+      → Stands config came (ms ++ m ∷ []) t
+  plain_goes t m moves is =
+      stands.more config came ms s h announced t m moves.sound (moves.announced ∙ announced)
+      (λ rest stands e.
+      let one = plain_first came k m is in
+      let both = more_at came config.number k rest m (e ∙ unmarked) one.0 stands in
+      (both.0, both.1 ∙ one.1 ∙ sym unmarked ∙ sym moves.last))
 
-  first_goes : (o : Opener) → s.opening ≡ Announces o → Goes (first_by s (Announces o))
-  first_goes o e =
-      let none : ms ≡ [] = subst (λ (x : Opening). IsAt (is_announced x) ms) e h.at in
-      let opens = subst (IsOpening config came s.current s.successor) e h.sound.opening in
-      let packet : Message = Packet (announcement s o o.entry) in
-      subst (λ (all : List Message). Stands config came (all ++ packet ∷ [])
-      (record s { opening = Announced o })) (sym none)
+  same_goes : (t : InProxy) (m : Message) → Same s t → IsPlain came k m
+      → Stands config came (ms ++ m ∷ []) t
+  same_goes t m same is = plain_goes t m (same_moves config came s t same h.sound) is
+
+  unmarked_quiet : (z : Successor) (handover : Handover) (dues : List Due)
+      (pdus : List (List ℕ)) (ended end_put : Bool) → told_by n z handover ≡ Some k
+      → IsQuiet handover dues pdus ended end_put
+  unmarked_quiet z handovers.Before dues pdus ended end_put e = tt
+  unmarked_quiet z (handovers.Came cookie) dues pdus ended end_put e = tt
+  unmarked_quiet z handovers.Passed dues pdus ended end_put e = absurd cc
+
+  -- ---- IN_R2/A2
+
+  untold_last : (leg : ClientLeg) (b : ℕ) (handover : Handover)
+      → IsLeaving came n handover (Joined leg (TellsServer b))
+      → (told_by n (Joined leg (TellsServer b)) handover ≡ Some n)
+      × (told_by n (Joined leg Told) handover ≡ Some (suc n))
+  untold_last leg b handovers.Before l = (refl, refl)
+  untold_last leg b (handovers.Came cookie) l = (refl, refl)
+  untold_last leg b handovers.Passed l = absurd l
+
+  with_next : (z : Successor) → s.successor ≡ z
+      → Sound config (record (seen s) { successor = z }) came
+  with_next z e =
+      subst (λ (y : Successor). Sound config (record (seen s) { successor = y }) came) e h.sound
+
+  told_goes : (z : Successor) → s.successor ≡ z → Goes (tells_by s z)
+  told_goes Absent e = tt
+  told_goes (Up number) e = tt
+  told_goes (Joined leg Told) e = tt
+  told_goes (Joined leg Follows) e = tt
+  told_goes (Joined leg (TellsServer b)) e =
+      by_test Goes (b == 0)
+      (Some (record s { successor = Joined leg Told }, Packet (named.InR2A2 leg.cookie))) None
+      (λ f.
+      let k = with_next (Joined leg (TellsServer b)) e in
+      let lasts = untold_last leg b s.handover k.leaving in
+      stands.more config came ms s h announced (record s { successor = Joined leg Told }) (Packet (named.InR2A2 leg.cookie))
       (record {
-        sound = record {
-          same = h.sound.same;
-          joined = h.sound.joined;
-          finished = h.sound.finished;
-          opening = opens.1;
-          next = h.sound.next;
-          leaving = h.sound.leaving;
-          waits = h.sound.waits;
-          held = h.sound.held;
-          held_next = h.sound.held_next;
-          quiet = h.sound.quiet;
-        };
-        at = tt;
-        stream = (first_is o o.entry opens.0, tt);
-        last = subst (λ (all : List Message). reached config.number (behind all)
-            ≡ last (seen s)) none h.last;
+        same = k.same;
+        joined = k.joined;
+        finished = k.finished;
+        opening = joined_any config came s.current leg (TellsServer b) Told s.opening k.opening;
+        next = k.next;
+        leaving = finishing config came n leg (TellsServer b) Told s.handover k.leaving;
+        waits = k.waits;
+        held = k.held;
+        held_next = k.held_next;
+        quiet = k.quiet;
       })
+      announced
+      (λ rest stands now.
+      let both = more_at came config.number n rest (Packet (named.InR2A2 leg.cookie))
+      (now ∙ ap (λ (y : Successor). told_by n y s.handover) e ∙ lasts.0) (k.next.1, tt) stands in
+      (both.0, both.1 ∙ sym lasts.1)))
+      (λ f. tt)
 
-  -- ---- what goes behind it
+  -- ---- packets that wait
 
-  module _ (announced : is_announced s.opening ≡ true) where
-    more : (t : InProxy) (m : Message) → Sound config (seen t) came
-        → is_announced t.opening ≡ true
-        → ((rest : List Message) → IsRest came config.number rest
-        → reached config.number rest ≡ last (seen s)
-        → IsRest came config.number (rest ++ m ∷ [])
-        × (reached config.number (rest ++ m ∷ []) ≡ last (seen t)))
-        → Stands config came (ms ++ m ∷ []) t
-    more t m sound now so =
-        by ms (subst (λ (b : Bool). IsAt b ms) announced h.at) h.stream h.last
-      where
-        by : (all : List Message) → IsAt true all → IsStream config came all
-            → reached config.number (behind all) ≡ last (seen s)
-            → Stands config came (all ++ m ∷ []) t
-        by [] at stream e = absurd at
-        by (first ∷ rest) at stream e =
-            let both = so rest stream.1 e in record {
-              sound = sound;
-              at = subst (λ (b : Bool). IsAt b (first ∷ rest ++ m ∷ [])) (sym now) tt;
-              stream = (stream.0, both.0);
-              last = both.1;
-            }
+  less_moves : (t : InProxy) → Sound config (seen t) came
+      → Moves config came t (record t { successor = one_less t.successor })
+  less_moves t k = by t.successor refl
+    where
+      same : (z : Successor) → t.successor ≡ z
+          → Moves config came t (record t { successor = z })
+      same z e =
+          same_moves config came t (record t { successor = z })
+          (ap (λ (y : Successor). record (seen t) { successor = y }) (sym e)) k
 
-    or_goes : (a b : Pick) → Goes a → (a ≡ None → Goes b) → Goes (or_else a b)
-    or_goes None b one other = other refl
-    or_goes (Some pick) b one other = one
+      by : (z : Successor) → t.successor ≡ z
+          → Moves config came t (record t { successor = one_less z })
+      by Absent e = same Absent e
+      by (Up number) e = same (Up number) e
+      by (Joined leg Told) e = same (Joined leg Told) e
+      by (Joined leg Follows) e = same (Joined leg Follows) e
+      by (Joined leg (TellsServer b)) e =
+          let j = subst (λ (y : Successor). Sound config (record (seen t) { successor = y }) came)
+          e k in record {
+            sound = record {
+              same = j.same;
+              joined = j.joined;
+              finished = j.finished;
+              opening = joined_any config came t.current leg (TellsServer b)
+                  (TellsServer (b - 1)) t.opening j.opening;
+              next = j.next;
+              leaving = finishing config came t.current.number leg (TellsServer b)
+                  (TellsServer (b - 1)) t.handover j.leaving;
+              waits = j.waits;
+              held = j.held;
+              held_next = j.held_next;
+              quiet = j.quiet;
+            };
+            last = by_handover leg b t.handover
+                ∙ ap (λ (y : Successor). told_by t.current.number y t.handover) (sym e);
+            announced = refl;
+          }
+        where
+          by_handover : (leg : ClientLeg) (b : ℕ) (handover : Handover)
+              → told_by t.current.number (Joined leg (TellsServer (b - 1))) handover
+              ≡ told_by t.current.number (Joined leg (TellsServer b)) handover
+          by_handover leg b handovers.Before = refl
+          by_handover leg b (handovers.Came cookie) = refl
+          by_handover leg b handovers.Passed = refl
 
-    no_first : (o : Opening) → is_announced o ≡ true → Goes (first_by s o)
-    no_first AwaitsClient e = tt
-    no_first AwaitsPacket e = tt
-    no_first (WantsServer o) e = tt
-    no_first (Announces o) e = absurd cc
-    no_first (Announced o) e = tt
+  waiting_goes : (dues : List Due) → s.waiting.due ≡ dues → Goes (waiting_by s dues)
+  waiting_goes [] e = tt
+  waiting_goes (due ∷ dues) e =
+      let t : InProxy = record s { waiting = waiting.with_due s.waiting dues } in
+      let k = h.sound in
+      let each = subst (λ (all : List Due). Waits came all) e k.waits in
+      let goes : Moves config came s t = record {
+        sound = record {
+          same = k.same;
+          joined = k.joined;
+          finished = k.finished;
+          opening = k.opening;
+          next = k.next;
+          leaving = k.leaving;
+          waits = each.1;
+          held = k.held;
+          held_next = k.held_next;
+          quiet = unmarked_quiet s.successor s.handover dues s.line.current.pdus
+              s.line.current.ended s.end_put unmarked;
+        };
+        last = refl;
+        announced = refl;
+      } in
+      plain_goes (record t { successor = one_less t.successor }) (Packet due.packet)
+      (moves_on config came s t _ goes (less_moves t goes.sound)) each.0
 
-    -- ---- before IN_R1/A6
+  -- ---- acknowledgements
 
-    module _ (k : ℕ) (unmarked : last (seen s) ≡ Some k) where
+  ack_goes : (which : Which) (cookie : Cookie) (o : Option Ack) → Came (BeginsIn cookie) came
+      → Goes (ack_by s which cookie o)
+  ack_goes which cookie None begun = tt
+  ack_goes which cookie (Some ack) begun =
+      same_goes (record s { line = line.after_told s.line which ack })
+      (Packet (named.AckTo 0 ack.received ack.available cookie)) (by which) (inl (refl, begun))
+    where
+      by : (w : Which) → Same s (record s { line = line.after_told s.line w ack })
+      by Current = refl
+      by Next = refl
 
-      plain_goes : (t : InProxy) (m : Message) → Moves config came s t → IsPlain came k m
-          → Stands config came (ms ++ m ∷ []) t
-      plain_goes t m moves is =
-          more t m moves.sound (moves.announced ∙ announced)
-          (λ rest stands e.
-          let one = plain_first came k m is in
-          let both = more_at came config.number k rest m (e ∙ unmarked) one.0 stands in
-          (both.0, both.1 ∙ one.1 ∙ sym unmarked ∙ sym moves.last))
+  begun_by : (o : Opening) → is_announced o ≡ true
+      → IsOpening config came s.current s.successor o → HasBegun came s.current
+  begun_by AwaitsClient e is = absurd cc
+  begun_by AwaitsPacket e is = absurd cc
+  begun_by (WantsServer o) e is = absurd cc
+  begun_by (Announces o) e is = absurd cc
+  begun_by (Announced o) e is = is
 
-      same_goes : (t : InProxy) (m : Message) → Same s t → IsPlain came k m
-          → Stands config came (ms ++ m ∷ []) t
-      same_goes t m same is = plain_goes t m (same_moves config came s t same h.sound) is
+  next_ack_goes : (z : Successor) → s.successor ≡ z → Goes (next_ack s z)
+  next_ack_goes Absent e = tt
+  next_ack_goes (Up number) e = tt
+  next_ack_goes (Joined leg stage) e =
+      let k = with_next (Joined leg stage) e in
+      ack_goes Next leg.cookie (ack_due s Next)
+      (leg.number, begins config came leg n k.next.0 k.next.1)
 
-      unmarked_quiet : (z : Successor) (handover : Handover) (dues : List Due)
-          (pdus : List (List ℕ)) (ended end_put : Bool) → told_by n z handover ≡ Some k
-          → IsQuiet handover dues pdus ended end_put
-      unmarked_quiet z handovers.Before dues pdus ended end_put e = tt
-      unmarked_quiet z (handovers.Came cookie) dues pdus ended end_put e = tt
-      unmarked_quiet z handovers.Passed dues pdus ended end_put e = absurd cc
+  -- ---- RPC PDUs
 
-      -- ---- IN_R2/A2
+  passed_moves : (window : Sender) (pdus : List (List ℕ)) (pdu : List ℕ)
+      → s.line.current.pdus ≡ pdu ∷ pdus
+      → Moves config came s
+      (followed (record s { line = line.after_take s.line; window = window }))
+  passed_moves window pdus pdu e =
+      subst (λ (all : List (List ℕ)). Moves config came s
+      (followed (record s { line = line.taken all s.line; window = window }))) (sym e)
+      (let t : InProxy = record s {
+        line = record (s.line) { current = line.released (pdu ∷ pdus) s.line.current };
+        window = window;
+      } in
+      let known = h.sound in
+      let goes : Moves config came s t = record {
+        sound = record {
+          same = known.same;
+          joined = known.joined;
+          finished = known.finished;
+          opening = known.opening;
+          next = known.next;
+          leaving = known.leaving;
+          waits = known.waits;
+          held = (subst (Held came n) e known.held).1;
+          held_next = known.held_next;
+          quiet = unmarked_quiet s.successor s.handover s.waiting.due pdus
+              s.line.current.ended s.end_put unmarked;
+        };
+        last = refl;
+        announced = refl;
+      } in
+      moves_on config came s t _ goes (settles config came t goes.sound))
 
-      untold_last : (leg : ClientLeg) (b : ℕ) (handover : Handover)
-          → IsLeaving came n handover (Joined leg (TellsServer b))
-          → (told_by n (Joined leg (TellsServer b)) handover ≡ Some n)
-          × (told_by n (Joined leg Told) handover ≡ Some (suc n))
-      untold_last leg b handovers.Before l = (refl, refl)
-      untold_last leg b (handovers.Came cookie) l = (refl, refl)
-      untold_last leg b handovers.Passed l = absurd l
+  pdu_goes : (pdus : List (List ℕ)) → s.line.current.pdus ≡ pdus → Goes (next_pdu s pdus)
+  pdu_goes [] e = tt
+  pdu_goes (pdu ∷ pdus) e =
+      by_test Goes (may_send s.window (length pdu))
+      (Some (passed s (length pdu), Pdu pdu)) None
+      (λ f. plain_goes (passed s (length pdu)) (Pdu pdu)
+      (passed_moves (after_sent s.window (length pdu)) pdus pdu e)
+      (n, told_at_least n k s.successor s.handover unmarked,
+      (subst (Held came n) e h.sound.held).0))
+      (λ f. tt)
 
-      with_next : (z : Successor) → s.successor ≡ z
-          → Sound config (record (seen s) { successor = z }) came
-      with_next z e =
-          subst (λ (y : Successor). Sound config (record (seen s) { successor = y }) came) e h.sound
+  -- ---- marks
 
-      told_goes : (z : Successor) → s.successor ≡ z → Goes (tells_by s z)
-      told_goes Absent e = tt
-      told_goes (Up number) e = tt
-      told_goes (Joined leg Told) e = tt
-      told_goes (Joined leg Follows) e = tt
-      told_goes (Joined leg (TellsServer b)) e =
-          by_test Goes (b == 0)
-          (Some (record s { successor = Joined leg Told }, Packet (named.InR2A2 leg.cookie))) None
-          (λ f.
-          let k = with_next (Joined leg (TellsServer b)) e in
-          let lasts = untold_last leg b s.handover k.leaving in
-          more (record s { successor = Joined leg Told }) (Packet (named.InR2A2 leg.cookie))
+  mark_goes : (handover : Handover) → s.handover ≡ handover → is_absent s.successor ≡ true
+      → s.waiting.due ≡ [] → s.line.current.pdus ≡ []
+      → s.line.current.ended && not s.end_put ≡ false → Goes (mark_by s handover)
+  mark_goes handovers.Before e alone no_due no_pdu no_end = tt
+  mark_goes handovers.Passed e alone no_due no_pdu no_end = tt
+  mark_goes (handovers.Came cookie) e alone no_due no_pdu no_end = by s.successor refl
+    where
+      by : (z : Successor) → s.successor ≡ z → Goes (mark_by s (handovers.Came cookie))
+      by (Up number) f = absurd cc
+      by (Joined leg stage) f = absurd cc
+      by Absent f =
+          let known = h.sound in
+          let leaves = subst (λ (z : Successor). IsLeaving came n (handovers.Came cookie) z) f
+          (subst (λ (x : Handover). IsLeaving came n x s.successor) e known.leaving) in
+          stands.more config came ms s h announced (record s { handover = handovers.Passed }) (Packet (named.InR1A6 cookie))
           (record {
-            same = k.same;
-            joined = k.joined;
-            finished = k.finished;
-            opening = joined_any config came s.current leg (TellsServer b) Told s.opening k.opening;
-            next = k.next;
-            leaving = finishing config came n leg (TellsServer b) Told s.handover k.leaving;
-            waits = k.waits;
-            held = k.held;
-            held_next = k.held_next;
-            quiet = k.quiet;
+            same = known.same;
+            joined = known.joined;
+            finished = known.finished;
+            opening = known.opening;
+            next = known.next;
+            leaving = subst (λ (z : Successor). IsLeaving came n handovers.Passed z) (sym f) tt;
+            waits = known.waits;
+            held = known.held;
+            held_next = known.held_next;
+            quiet = (no_due, no_pdu, no_end);
           })
           announced
           (λ rest stands now.
-          let both = more_at came config.number n rest (Packet (named.InR2A2 leg.cookie))
-          (now ∙ ap (λ (y : Successor). told_by n y s.handover) e ∙ lasts.0) (k.next.1, tt) stands in
-          (both.0, both.1 ∙ sym lasts.1)))
-          (λ f. tt)
+          more_at came config.number n rest (Packet (named.InR1A6 cookie))
+          (now ∙ ap (λ (x : Handover). told_by n s.successor x) e
+          ∙ ap (λ (z : Successor). told_by n z (handovers.Came cookie)) f)
+          (leaves, tt) stands)
 
-      -- ---- packets that wait
+  -- ---- the next message
 
-      less_moves : (t : InProxy) → Sound config (seen t) came
-          → Moves config came t (record t { successor = one_less t.successor })
-      less_moves t k = by t.successor refl
-        where
-          same : (z : Successor) → t.successor ≡ z
-              → Moves config came t (record t { successor = z })
-          same z e =
-              same_moves config came t (record t { successor = z })
-              (ap (λ (y : Successor). record (seen t) { successor = y }) (sym e)) k
+  end_goes : Goes (put_end s)
+  end_goes =
+      by_test Goes (s.line.current.ended && not s.end_put && line.is_empty s.line.current.pdus)
+      (Some (record s { end_put = true }, Packet named.EndA2)) None
+      (λ e. let h' = h.sound in
+      plain_goes (record s { end_put = true }) (Packet named.EndA2)
+      (record {
+        sound = record {
+          same = h'.same;
+          joined = h'.joined;
+          finished = h'.finished;
+          opening = h'.opening;
+          next = h'.next;
+          leaving = h'.leaving;
+          waits = h'.waits;
+          held = h'.held;
+          held_next = h'.held_next;
+          quiet = unmarked_quiet s.successor s.handover s.waiting.due s.line.current.pdus
+              s.line.current.ended true unmarked;
+        };
+        last = refl;
+        announced = refl;
+      }) tt)
+      (λ e. tt)
 
-          by : (z : Successor) → t.successor ≡ z
-              → Moves config came t (record t { successor = one_less z })
-          by Absent e = same Absent e
-          by (Up number) e = same (Up number) e
-          by (Joined leg Told) e = same (Joined leg Told) e
-          by (Joined leg Follows) e = same (Joined leg Follows) e
-          by (Joined leg (TellsServer b)) e =
-              let j = subst (λ (y : Successor). Sound config (record (seen t) { successor = y }) came)
-              e k in record {
-                sound = record {
-                  same = j.same;
-                  joined = j.joined;
-                  finished = j.finished;
-                  opening = joined_any config came t.current leg (TellsServer b)
-                      (TellsServer (b - 1)) t.opening j.opening;
-                  next = j.next;
-                  leaving = finishing config came t.current.number leg (TellsServer b)
-                      (TellsServer (b - 1)) t.handover j.leaving;
-                  waits = j.waits;
-                  held = j.held;
-                  held_next = j.held_next;
-                  quiet = j.quiet;
-                };
-                last = by_handover leg b t.handover
-                    ∙ ap (λ (y : Successor). told_by t.current.number y t.handover) (sym e);
-                announced = refl;
-              }
-            where
-              by_handover : (leg : ClientLeg) (b : ℕ) (handover : Handover)
-                  → told_by t.current.number (Joined leg (TellsServer (b - 1))) handover
-                  ≡ told_by t.current.number (Joined leg (TellsServer b)) handover
-              by_handover leg b handovers.Before = refl
-              by_handover leg b (handovers.Came cookie) = refl
-              by_handover leg b handovers.Passed = refl
+  behind_goes : s.waiting.due ≡ [] → Goes (put_behind s)
+  behind_goes none =
+      or_goes (put_mark s) (put_ping s)
+      (or_goes (put_end s) (put_in_r1_a6 s) end_goes
+      (λ no_end. by_test Goes (is_absent s.successor && line.is_empty s.line.current.pdus)
+      (mark_by s s.handover) None
+      (λ e.
+      let parts = and_parts (is_absent s.successor) (line.is_empty s.line.current.pdus) e in
+      mark_goes s.handover refl parts.0 none (nothing_there s.line.current.pdus parts.1)
+      (no_end_due s.line.current.ended s.end_put (line.is_empty s.line.current.pdus) parts.1
+      (not_put s no_end)))
+      (λ e. tt)))
+      (λ no_mark. by_test Goes s.ping_due
+      (Some (record s { ping_due = false }, Packet named.Ping)) None
+      (λ e. same_goes (record s { ping_due = false }) (Packet named.Ping) refl tt) (λ e. tt))
 
-      waiting_goes : (dues : List Due) → s.waiting.due ≡ dues → Goes (waiting_by s dues)
-      waiting_goes [] e = tt
-      waiting_goes (due ∷ dues) e =
-          let t : InProxy = record s { waiting = waiting.with_due s.waiting dues } in
-          let k = h.sound in
-          let each = subst (λ (all : List Due). Waits came all) e k.waits in
-          let goes : Moves config came s t = record {
-            sound = record {
-              same = k.same;
-              joined = k.joined;
-              finished = k.finished;
-              opening = k.opening;
-              next = k.next;
-              leaving = k.leaving;
-              waits = each.1;
-              held = k.held;
-              held_next = k.held_next;
-              quiet = unmarked_quiet s.successor s.handover dues s.line.current.pdus
-                  s.line.current.ended s.end_put unmarked;
-            };
-            last = refl;
-            announced = refl;
-          } in
-          plain_goes (record t { successor = one_less t.successor }) (Packet due.packet)
-          (moves_on config came s t _ goes (less_moves t goes.sound)) each.0
-
-      -- ---- acknowledgements
-
-      ack_goes : (which : Which) (cookie : Cookie) (o : Option Ack) → Came (BeginsIn cookie) came
-          → Goes (ack_by s which cookie o)
-      ack_goes which cookie None begun = tt
-      ack_goes which cookie (Some ack) begun =
-          same_goes (record s { line = line.after_told s.line which ack })
-          (Packet (named.AckTo 0 ack.received ack.available cookie)) (by which) (inl (refl, begun))
-        where
-          by : (w : Which) → Same s (record s { line = line.after_told s.line w ack })
-          by Current = refl
-          by Next = refl
-
-      begun_by : (o : Opening) → is_announced o ≡ true
-          → IsOpening config came s.current s.successor o → HasBegun came s.current
-      begun_by AwaitsClient e is = absurd cc
-      begun_by AwaitsPacket e is = absurd cc
-      begun_by (WantsServer o) e is = absurd cc
-      begun_by (Announces o) e is = absurd cc
-      begun_by (Announced o) e is = is
-
-      next_ack_goes : (z : Successor) → s.successor ≡ z → Goes (next_ack s z)
-      next_ack_goes Absent e = tt
-      next_ack_goes (Up number) e = tt
-      next_ack_goes (Joined leg stage) e =
-          let k = with_next (Joined leg stage) e in
-          ack_goes Next leg.cookie (ack_due s Next)
-          (leg.number, begins config came leg n k.next.0 k.next.1)
-
-      -- ---- RPC PDUs
-
-      passed_moves : (window : Sender) (pdus : List (List ℕ)) (pdu : List ℕ)
-          → s.line.current.pdus ≡ pdu ∷ pdus
-          → Moves config came s
-          (followed (record s { line = line.after_take s.line; window = window }))
-      passed_moves window pdus pdu e =
-          subst (λ (all : List (List ℕ)). Moves config came s
-          (followed (record s { line = line.taken all s.line; window = window }))) (sym e)
-          (let t : InProxy = record s {
-            line = record (s.line) { current = line.released (pdu ∷ pdus) s.line.current };
-            window = window;
-          } in
-          let known = h.sound in
-          let goes : Moves config came s t = record {
-            sound = record {
-              same = known.same;
-              joined = known.joined;
-              finished = known.finished;
-              opening = known.opening;
-              next = known.next;
-              leaving = known.leaving;
-              waits = known.waits;
-              held = (subst (Held came n) e known.held).1;
-              held_next = known.held_next;
-              quiet = unmarked_quiet s.successor s.handover s.waiting.due pdus
-                  s.line.current.ended s.end_put unmarked;
-            };
-            last = refl;
-            announced = refl;
-          } in
-          moves_on config came s t _ goes (settles config came t goes.sound))
-
-      pdu_goes : (pdus : List (List ℕ)) → s.line.current.pdus ≡ pdus → Goes (next_pdu s pdus)
-      pdu_goes [] e = tt
-      pdu_goes (pdu ∷ pdus) e =
-          by_test Goes (may_send s.window (length pdu))
-          (Some (passed s (length pdu), Pdu pdu)) None
-          (λ f. plain_goes (passed s (length pdu)) (Pdu pdu)
-          (passed_moves (after_sent s.window (length pdu)) pdus pdu e)
-          (n, told_at_least n k s.successor s.handover unmarked,
-          (subst (Held came n) e h.sound.held).0))
-          (λ f. tt)
-
-      -- ---- marks
-
-      mark_goes : (handover : Handover) → s.handover ≡ handover → is_absent s.successor ≡ true
-          → s.waiting.due ≡ [] → s.line.current.pdus ≡ []
-          → s.line.current.ended && not s.end_put ≡ false → Goes (mark_by s handover)
-      mark_goes handovers.Before e alone no_due no_pdu no_end = tt
-      mark_goes handovers.Passed e alone no_due no_pdu no_end = tt
-      mark_goes (handovers.Came cookie) e alone no_due no_pdu no_end = by s.successor refl
-        where
-          by : (z : Successor) → s.successor ≡ z → Goes (mark_by s (handovers.Came cookie))
-          by (Up number) f = absurd cc
-          by (Joined leg stage) f = absurd cc
-          by Absent f =
-              let known = h.sound in
-              let leaves = subst (λ (z : Successor). IsLeaving came n (handovers.Came cookie) z) f
-              (subst (λ (x : Handover). IsLeaving came n x s.successor) e known.leaving) in
-              more (record s { handover = handovers.Passed }) (Packet (named.InR1A6 cookie))
-              (record {
-                same = known.same;
-                joined = known.joined;
-                finished = known.finished;
-                opening = known.opening;
-                next = known.next;
-                leaving = subst (λ (z : Successor). IsLeaving came n handovers.Passed z) (sym f) tt;
-                waits = known.waits;
-                held = known.held;
-                held_next = known.held_next;
-                quiet = (no_due, no_pdu, no_end);
-              })
-              announced
-              (λ rest stands now.
-              more_at came config.number n rest (Packet (named.InR1A6 cookie))
-              (now ∙ ap (λ (x : Handover). told_by n s.successor x) e
-              ∙ ap (λ (z : Successor). told_by n z (handovers.Came cookie)) f)
-              (leaves, tt) stands)
-
-      -- ---- the next message
-
-      end_goes : Goes (put_end s)
-      end_goes =
-          by_test Goes (s.line.current.ended && not s.end_put && line.is_empty s.line.current.pdus)
-          (Some (record s { end_put = true }, Packet named.EndA2)) None
-          (λ e. let h' = h.sound in
-          plain_goes (record s { end_put = true }) (Packet named.EndA2)
-          (record {
-            sound = record {
-              same = h'.same;
-              joined = h'.joined;
-              finished = h'.finished;
-              opening = h'.opening;
-              next = h'.next;
-              leaving = h'.leaving;
-              waits = h'.waits;
-              held = h'.held;
-              held_next = h'.held_next;
-              quiet = unmarked_quiet s.successor s.handover s.waiting.due s.line.current.pdus
-                  s.line.current.ended true unmarked;
-            };
-            last = refl;
-            announced = refl;
-          }) tt)
-          (λ e. tt)
-
-      behind_goes : s.waiting.due ≡ [] → Goes (put_behind s)
-      behind_goes none =
-          or_goes (put_mark s) (put_ping s)
-          (or_goes (put_end s) (put_in_r1_a6 s) end_goes
-          (λ no_end. by_test Goes (is_absent s.successor && line.is_empty s.line.current.pdus)
-          (mark_by s s.handover) None
-          (λ e.
-          let parts = and_parts (is_absent s.successor) (line.is_empty s.line.current.pdus) e in
-          mark_goes s.handover refl parts.0 none (nothing_there s.line.current.pdus parts.1)
-          (no_end_due s.line.current.ended s.end_put (line.is_empty s.line.current.pdus) parts.1
-          (not_put s no_end)))
-          (λ e. tt)))
-          (λ no_mark. by_test Goes s.ping_due
-          (Some (record s { ping_due = false }, Packet named.Ping)) None
-          (λ e. same_goes (record s { ping_due = false }) (Packet named.Ping) refl tt) (λ e. tt))
-
-      unmarked_goes : Goes (next s)
-      unmarked_goes =
-          or_goes (put_control s) (put_stream s)
-          (or_goes (put_early s) (put_acks s)
-          (or_goes (put_first s) (or_else (put_in_r2_a2 s) (put_waiting s))
-          (no_first s.opening announced)
-          (λ e. or_goes (put_in_r2_a2 s) (put_waiting s) (told_goes s.successor refl)
-          (λ f. waiting_goes s.waiting.due refl)))
-          (λ e. or_goes (current_ack s) (next_ack s s.successor)
-          (ack_goes Current s.current.cookie (ack_due s Current)
-          (n, begun_by s.opening announced h.sound.opening))
-          (λ f. next_ack_goes s.successor refl)))
-          (λ e. or_goes (put_pdu s) (put_behind s) (pdu_goes s.line.current.pdus refl)
-          (λ f. behind_goes (none_waits s s.waiting.due
-          (no_other (put_in_r2_a2 s) (put_waiting s)
-          (no_other (put_first s) (or_else (put_in_r2_a2 s) (put_waiting s))
-          (no_other (put_early s) (put_acks s) e).0).1).1)))
-
-    -- ---- behind IN_R1/A6
-
-    module _ (is_passed : s.handover ≡ handovers.Passed) where
-      absent : s.successor ≡ Absent
-      absent =
-          alone s.successor
-          (subst (λ (x : Handover). IsLeaving came n x s.successor) is_passed h.sound.leaving)
-        where
-          alone : (z : Successor) → IsLeaving came n handovers.Passed z → z ≡ Absent
-          alone Absent l = refl
-          alone (Up number) l = absurd l
-          alone (Joined leg stage) l = absurd l
-
-      quiet : IsQuiet handovers.Passed s.waiting.due s.line.current.pdus s.line.current.ended
-          s.end_put
-      quiet =
-          subst (λ (x : Handover). IsQuiet x s.waiting.due s.line.current.pdus
-          s.line.current.ended s.end_put) is_passed h.sound.quiet
-
-      over : hands_over s.successor s.handover ≡ true
-      over =
-          ap (λ (z : Successor). hands_over z s.handover) absent ∙ ap has_come is_passed
-
-      no_ack : Goes (current_ack s)
-      no_ack =
-          by_test (λ (o : Option Ack). Goes (ack_by s Current s.current.cookie o))
-          ((line.channel_of s.line Current).ended || has_a5 s Current) None
-          (line.due s.line Current) (λ e. tt)
-          (λ e. absurd (true≢false (sym over
-          ∙ (neither (line.channel_of s.line Current).ended (has_a5 s Current) e).1)))
-
-      ping_goes : Goes (put_ping s)
-      ping_goes =
-          let none : last (seen s) ≡ None =
-          ap (λ (x : Handover). told_by n s.successor x) is_passed in
-          by_test Goes s.ping_due (Some (record s { ping_due = false }, Packet named.Ping)) None
-          (λ e. more (record s { ping_due = false }) (Packet named.Ping) h.sound announced
-          (λ rest stands now.
-          let both = ping_more came config.number rest (now ∙ none) stands in
-          (both.0, both.1 ∙ sym none)))
-          (λ e. tt)
-
-      no_end : Goes (put_end s)
-      no_end =
-          by_test Goes (s.line.current.ended && not s.end_put && line.is_empty s.line.current.pdus)
-          (Some (record s { end_put = true }, Packet named.EndA2)) None
-          (λ e. absurd (true≢false (sym (first_two s.line.current.ended (not s.end_put)
-          (line.is_empty s.line.current.pdus) e) ∙ quiet.2)))
-          (λ e. tt)
-
-      passed_goes : Goes (next s)
-      passed_goes =
-          or_goes (put_control s) (put_stream s)
-          (or_goes (put_early s) (put_acks s)
-          (or_goes (put_first s) (or_else (put_in_r2_a2 s) (put_waiting s))
-          (no_first s.opening announced)
-          (λ e. or_goes (put_in_r2_a2 s) (put_waiting s)
-          (subst (λ (z : Successor). Goes (tells_by s z)) (sym absent) tt)
-          (λ f. subst (λ (dues : List Due). Goes (waiting_by s dues)) (sym quiet.0) tt)))
-          (λ e. or_goes (current_ack s) (next_ack s s.successor) no_ack
-          (λ f. subst (λ (z : Successor). Goes (next_ack s z)) (sym absent) tt)))
-          (λ e. or_goes (put_pdu s) (put_behind s)
-          (subst (λ (pdus : List (List ℕ)). Goes (next_pdu s pdus)) (sym quiet.1) tt)
-          (λ f. or_goes (put_mark s) (put_ping s)
-          (or_goes (put_end s) (put_in_r1_a6 s) no_end
-          (λ g. by_test Goes (is_absent s.successor && line.is_empty s.line.current.pdus)
-          (mark_by s s.handover) None
-          (λ i. subst (λ (x : Handover). Goes (mark_by s x)) (sym is_passed) tt) (λ i. tt)))
-          (λ g. ping_goes)))
-
-    next_goes : Goes (next s)
-    next_goes = by s.handover refl
-      where
-        by : (x : Handover) → s.handover ≡ x → Goes (next s)
-        by handovers.Passed e = passed_goes e
-        by handovers.Before e =
-            unmarked_goes (told n s.successor)
-            (ap (λ (x : Handover). told_by n s.successor x) e)
-        by (handovers.Came cookie) e =
-            unmarked_goes (told n s.successor)
-            (ap (λ (x : Handover). told_by n s.successor x) e)
-
-  -- once the leg is up
-  up_goes : (o : Opening) → s.opening ≡ o → has_server o ≡ true → Goes (next s)
-  up_goes AwaitsClient e up = absurd cc
-  up_goes AwaitsPacket e up = absurd cc
-  up_goes (WantsServer o) e up = absurd cc
-  up_goes (Announced o) e up = next_goes (ap is_announced e)
-  up_goes (Announces o) e up =
-      subst (λ (x : Opening). Goes (or_else (or_else (or_else (first_by s x)
-      (or_else (put_in_r2_a2 s) (put_waiting s))) (put_acks s)) (put_stream s)))
-      (sym e) (first_goes o e)
-
-  pub server_goes : has_server s.opening ≡ true → Goes (settled_pick (next s))
-  server_goes up = by (next s) (up_goes s.opening refl up)
-    where
-      by : (pick : Pick) → Goes pick → Goes (settled_pick pick)
-      by None k = tt
-      by (Some pick) k =
-          still config came (ms ++ pick.1 ∷ []) pick.0 (settled pick.0)
-          (same_moves config came pick.0 (settled pick.0) (same_settled pick.0) k.sound)
-          k.stream k.at k.last
+  pub unmarked_goes : stands.Goes config came ms s h (next s)
+  unmarked_goes =
+      or_goes (put_control s) (put_stream s)
+      (or_goes (put_early s) (put_acks s)
+      (or_goes (put_first s) (or_else (put_in_r2_a2 s) (put_waiting s))
+      (stands.no_first config came ms s h announced s.opening announced)
+      (λ e. or_goes (put_in_r2_a2 s) (put_waiting s) (told_goes s.successor refl)
+      (λ f. waiting_goes s.waiting.due refl)))
+      (λ e. or_goes (current_ack s) (next_ack s s.successor)
+      (ack_goes Current s.current.cookie (ack_due s Current)
+      (n, begun_by s.opening announced h.sound.opening))
+      (λ f. next_ack_goes s.successor refl)))
+      (λ e. or_goes (put_pdu s) (put_behind s) (pdu_goes s.line.current.pdus refl)
+      (λ f. behind_goes (none_waits s s.waiting.due
+      (no_other (put_in_r2_a2 s) (put_waiting s)
+      (no_other (put_first s) (or_else (put_in_r2_a2 s) (put_waiting s))
+      (no_other (put_early s) (put_acks s) e).0).1).1)))

@@ -30,8 +30,10 @@ use Rattle.rh_passages.proofs.Messages.{leg_more, last_one_so}
 use Rattle.rh_inproxy_puts.specs.Puts.{ci, is_leg, CameOn, HasPdu, IsPutUp, ArePutUp, PutsInOrder}
 use Rattle.rh_inproxy_puts.proofs.Fronts.{last_pdu, stream_stays}
 use Rattle.rh_inproxy_puts.proofs.Sounds.{seen, Sound, Moves, sound_stays, same_moves}
-use Rattle.rh_inproxy_puts.proofs.Rows.{Row, up_moves, head_moves, drawn_moves, mark_moves, ping_moves, pdu_row, packet_row}
-use Rattle.rh_inproxy_puts.proofs.Goes.{Stands, Goes, still, server_goes}
+use Rattle.rh_inproxy_puts.proofs.Ups.{up_moves, head_moves, drawn_moves, mark_moves, ping_moves}
+use Rattle.rh_inproxy_puts.proofs.Rows.{Row, pdu_row, packet_row}
+use Rattle.rh_inproxy_puts.proofs.Stands.{Stands, Goes, still}
+use Rattle.rh_inproxy_puts.proofs.Behind.{server_goes}
 
 -- ---- a message more
 

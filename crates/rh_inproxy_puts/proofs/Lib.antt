@@ -1,6 +1,10 @@
 mod Fronts
 mod Sounds
 mod Waiting
+mod Tests
+mod Ups
 mod Rows
+mod Stands
 mod Goes
+mod Behind
 mod Laws
