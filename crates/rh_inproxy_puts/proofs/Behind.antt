@@ -1,49 +1,33 @@
 -- behind IN_R1/A6 an in proxy puts only Pings; so each message stands in its order
-use Rattle.std.proofs.Common.{◌≡◌, ℕ, suc, ◌-◌, ◌≤◌, ◌==◌, ◌&&◌, ◌||◌, Bool, true, false, true≢false, not, if◌then◌else◌, List, [], ◌∷◌, ◌++◌, length, Some, None, inl, inr, refl, sym, ap, ◌∙◌, subst, arith}
-use Rattle.std.proofs.lemmas.Bool.{and_parts}
-use Rattle.std.specs.Prelude.{IfSome}
+use Rattle.std.proofs.Common.{◌≡◌, ℕ, ◌&&◌, ◌||◌, Bool, true, false, true≢false, not, List, [], ◌∷◌, ◌++◌, Some, None, refl, sym, ap, ◌∙◌, subst}
 use Rattle.std.specs.declared.option.Option.{Option}
-use Rattle.rh_rts.specs.declared.command.Cookie.{Cookie}
 use Rattle.rh_sig.specs.declared.named.Named.TheVariants as named
-use Rattle.rh_window.specs.Sending.{may_send, after_sent}
-use Rattle.rh_window.specs.Sides.{Sender}
 use Rattle.rh_window.specs.declared.recv_window.Ack.{Ack}
 use Rattle.rh_line.specs.Lines as line
-use Rattle.rh_line.specs.declared.which.Which.{Which}
-use Rattle.rh_line.specs.declared.which.Which.TheVariants.{Current, Next}
+use Rattle.rh_line.specs.declared.which.Which.TheVariants.{Current}
 use Rattle.rh_order.proofs.ByNumber.{by_test}
 use Rattle.rh_shell.specs.declared.due.Due.{Due}
-use Rattle.rh_shell.specs.Rules.{Message, Text, Pdu, Packet}
+use Rattle.rh_shell.specs.Rules.{Message, Packet}
 use Rattle.rh_shell.specs.Moves.{OnLeg}
-use Rattle.rh_shell.specs.Waiting as waiting
-use Rattle.rh_inproxy.specs.declared.state.ClientLeg.{ClientLeg}
-use Rattle.rh_rts.specs.declared.command.Address4or16.TheVariants.{V4}
-use Rattle.rh_inproxy.specs.declared.state.Entry.{Entry}
-use Rattle.rh_inproxy.specs.declared.state.Entry.TheVariants.{Connects, Replaces}
 use Rattle.rh_inproxy.specs.declared.state.Handover.{Handover}
 use Rattle.rh_inproxy.specs.declared.state.Handover.TheVariants as handovers
 use Rattle.rh_inproxy.specs.declared.state.InProxyConfig.{InProxyConfig}
-use Rattle.rh_inproxy.specs.declared.state.Joining.{Joining}
-use Rattle.rh_inproxy.specs.declared.state.Joining.TheVariants.{TellsServer, Told, Follows}
-use Rattle.rh_inproxy.specs.declared.state.Opener.{Opener}
 use Rattle.rh_inproxy.specs.declared.state.Opening.{Opening}
 use Rattle.rh_inproxy.specs.declared.state.Opening.TheVariants.{AwaitsClient, AwaitsPacket, WantsServer, Announces, Announced}
 use Rattle.rh_inproxy.specs.declared.state.Successor.{Successor}
 use Rattle.rh_inproxy.specs.declared.state.Successor.TheVariants.{Absent, Up, Joined}
-use Rattle.rh_inproxy.specs.Acknowledging.{ack_due, ack_by, current_ack, next_ack, put_acks}
+use Rattle.rh_inproxy.specs.Acknowledging.{ack_by, current_ack, next_ack, put_acks}
 use Rattle.rh_inproxy.specs.Answers.{Pick, or_else}
 use Rattle.rh_inproxy.specs.Ending.{is_announced, put_end, settled, settled_pick}
-use Rattle.rh_inproxy.specs.InReplacement.{told_by as tells_by, one_less, put_in_r2_a2, mark_by, put_in_r1_a6}
-use Rattle.rh_inproxy.specs.Opening.{announcement, first_by, put_first, has_server, is_absent}
-use Rattle.rh_inproxy.specs.Passing.{next_pdu, passed, put_pdu}
+use Rattle.rh_inproxy.specs.InReplacement.{told_by as tells_by, put_in_r2_a2, mark_by, put_in_r1_a6}
+use Rattle.rh_inproxy.specs.Opening.{first_by, put_first, has_server, is_absent}
+use Rattle.rh_inproxy.specs.Passing.{next_pdu, put_pdu}
 use Rattle.rh_inproxy.specs.Putting.{next, waiting_by, put_waiting, put_control, put_early, put_stream, put_behind, put_mark}
-use Rattle.rh_inproxy.specs.State.{InProxy, followed, has_a5, has_come, hands_over}
+use Rattle.rh_inproxy.specs.State.{InProxy, has_a5, has_come, hands_over}
 use Rattle.rh_inproxy.specs.Time.{put_ping}
-use Rattle.rh_passages.specs.Passing.{BeginsIn}
-use Rattle.rh_inproxy_puts.specs.Puts.{CameOn, Came, Joins, Leaves, IsFirst, IsPlain, IsRest, IsStream}
-use Rattle.rh_inproxy_puts.proofs.Fronts.{reached, plain_first, ping_more, more_at}
-use Rattle.rh_inproxy_puts.proofs.Sounds.{seen, Same, Seen, Sound, Moves, IsOpener, IsOpening, HasBegun, IsLeaving, IsQuiet, Held, Waits, told, told_by, last, begins, same_moves, moves_on, settles}
-use Rattle.rh_inproxy_puts.proofs.Tests.{joined_any, finishing, neither, same_settled}
+use Rattle.rh_inproxy_puts.proofs.Fronts.{ping_more}
+use Rattle.rh_inproxy_puts.proofs.Sounds.{seen, IsLeaving, IsQuiet, told, told_by, last, same_moves}
+use Rattle.rh_inproxy_puts.proofs.Tests.{neither, same_settled}
 use Rattle.rh_inproxy_puts.proofs.Stands as stands
 use Rattle.rh_inproxy_puts.proofs.Stands.{behind, IsAt, Stands, still, first_goes}
 use Rattle.rh_inproxy_puts.proofs.Goes.{unmarked_goes}
@@ -98,7 +82,8 @@ module _ (config : InProxyConfig) (came : List OnLeg) (ms : List Message) (s : I
       let none : last (seen s) ≡ None =
       ap (λ (x : Handover). told_by n s.successor x) is_passed in
       by_test Goes s.ping_due (Some (record s { ping_due = false }, Packet named.Ping)) None
-      (λ e. stands.more config came ms s h announced (record s { ping_due = false }) (Packet named.Ping) h.sound announced
+      (λ e. stands.more config came ms s h announced (record s { ping_due = false })
+      (Packet named.Ping) h.sound announced
       (λ rest stands now.
       let both = ping_more came config.number rest (now ∙ none) stands in
       (both.0, both.1 ∙ sym none)))

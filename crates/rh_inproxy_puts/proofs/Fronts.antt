@@ -1,6 +1,5 @@
 -- what stands on the is leg, and one message more
 use Rattle.std.proofs.Common.{◌≡◌, ℕ, suc, List, [], ◌∷◌, ◌++◌, Some, None, inl, inr, refl, sym, ap, subst}
-use Rattle.std.specs.List.{AllByRecursion}
 use Rattle.std.specs.declared.option.Option.{Option}
 use Rattle.rh_sig.specs.declared.named.Named.{Named}
 use Rattle.rh_sig.specs.declared.named.Named.TheVariants as named
@@ -10,7 +9,7 @@ use Rattle.rh_shell.specs.Wires.{of_leg}
 use Rattle.rh_passages.specs.Passing.{BeginsIn, HasOne}
 use Rattle.rh_passages.proofs.Messages.{all_append, leg_more, one_more_so}
 use Rattle.rh_inproxy.specs.declared.state.InProxyConfig.{InProxyConfig}
-use Rattle.rh_inproxy_puts.specs.Puts.{ci, CameOn, Acknowledges, Joins, Leaves, Switches, Connects, Replaces, IsFirst, IsPlainPacket, IsPlain, IsPing, HasPdu, IsRest, IsPacket, IsStream}
+use Rattle.rh_inproxy_puts.specs.Puts.{ci, CameOn, Acknowledges, Joins, Leaves, Switches, Connects, Replaces, IsFirst, IsPlainPacket, IsPlain, IsPing, HasPdu, IsRest, IsStream}
 
 -- the last ci leg that the server was told, until IN_R1/A6
 abbrev pub reached : ℕ → List Message → Option ℕ

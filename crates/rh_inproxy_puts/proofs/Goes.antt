@@ -1,7 +1,6 @@
 -- before IN_R1/A6 each message that an in proxy puts on its is leg stands there in its order
-use Rattle.std.proofs.Common.{◌≡◌, ℕ, suc, ◌-◌, ◌≤◌, ◌==◌, ◌&&◌, ◌||◌, Bool, true, false, true≢false, not, if◌then◌else◌, List, [], ◌∷◌, ◌++◌, length, Some, None, inl, inr, refl, sym, ap, ◌∙◌, subst, arith}
+use Rattle.std.proofs.Common.{◌≡◌, ℕ, suc, ◌-◌, ◌≤◌, ◌==◌, ◌&&◌, Bool, true, false, not, if◌then◌else◌, List, [], ◌∷◌, ◌++◌, length, Some, None, inl, refl, sym, ap, ◌∙◌, subst, arith}
 use Rattle.std.proofs.lemmas.Bool.{and_parts}
-use Rattle.std.specs.Prelude.{IfSome}
 use Rattle.std.specs.declared.option.Option.{Option}
 use Rattle.rh_rts.specs.declared.command.Cookie.{Cookie}
 use Rattle.rh_sig.specs.declared.named.Named.TheVariants as named
@@ -13,37 +12,32 @@ use Rattle.rh_line.specs.declared.which.Which.{Which}
 use Rattle.rh_line.specs.declared.which.Which.TheVariants.{Current, Next}
 use Rattle.rh_order.proofs.ByNumber.{by_test}
 use Rattle.rh_shell.specs.declared.due.Due.{Due}
-use Rattle.rh_shell.specs.Rules.{Message, Text, Pdu, Packet}
+use Rattle.rh_shell.specs.Rules.{Message, Pdu, Packet}
 use Rattle.rh_shell.specs.Moves.{OnLeg}
 use Rattle.rh_shell.specs.Waiting as waiting
 use Rattle.rh_inproxy.specs.declared.state.ClientLeg.{ClientLeg}
-use Rattle.rh_rts.specs.declared.command.Address4or16.TheVariants.{V4}
-use Rattle.rh_inproxy.specs.declared.state.Entry.{Entry}
-use Rattle.rh_inproxy.specs.declared.state.Entry.TheVariants.{Connects, Replaces}
 use Rattle.rh_inproxy.specs.declared.state.Handover.{Handover}
 use Rattle.rh_inproxy.specs.declared.state.Handover.TheVariants as handovers
 use Rattle.rh_inproxy.specs.declared.state.InProxyConfig.{InProxyConfig}
-use Rattle.rh_inproxy.specs.declared.state.Joining.{Joining}
 use Rattle.rh_inproxy.specs.declared.state.Joining.TheVariants.{TellsServer, Told, Follows}
-use Rattle.rh_inproxy.specs.declared.state.Opener.{Opener}
 use Rattle.rh_inproxy.specs.declared.state.Opening.{Opening}
 use Rattle.rh_inproxy.specs.declared.state.Opening.TheVariants.{AwaitsClient, AwaitsPacket, WantsServer, Announces, Announced}
 use Rattle.rh_inproxy.specs.declared.state.Successor.{Successor}
 use Rattle.rh_inproxy.specs.declared.state.Successor.TheVariants.{Absent, Up, Joined}
 use Rattle.rh_inproxy.specs.Acknowledging.{ack_due, ack_by, current_ack, next_ack, put_acks}
 use Rattle.rh_inproxy.specs.Answers.{Pick, or_else}
-use Rattle.rh_inproxy.specs.Ending.{is_announced, put_end, settled, settled_pick}
+use Rattle.rh_inproxy.specs.Ending.{is_announced, put_end}
 use Rattle.rh_inproxy.specs.InReplacement.{told_by as tells_by, one_less, put_in_r2_a2, mark_by, put_in_r1_a6}
-use Rattle.rh_inproxy.specs.Opening.{announcement, first_by, put_first, has_server, is_absent}
+use Rattle.rh_inproxy.specs.Opening.{put_first, is_absent}
 use Rattle.rh_inproxy.specs.Passing.{next_pdu, passed, put_pdu}
 use Rattle.rh_inproxy.specs.Putting.{next, waiting_by, put_waiting, put_control, put_early, put_stream, put_behind, put_mark}
-use Rattle.rh_inproxy.specs.State.{InProxy, followed, has_a5, has_come, hands_over}
+use Rattle.rh_inproxy.specs.State.{InProxy, followed}
 use Rattle.rh_inproxy.specs.Time.{put_ping}
 use Rattle.rh_passages.specs.Passing.{BeginsIn}
-use Rattle.rh_inproxy_puts.specs.Puts.{CameOn, Came, Joins, Leaves, IsFirst, IsPlain, IsRest, IsStream}
-use Rattle.rh_inproxy_puts.proofs.Fronts.{reached, plain_first, ping_more, more_at}
-use Rattle.rh_inproxy_puts.proofs.Sounds.{seen, Same, Seen, Sound, Moves, IsOpener, IsOpening, HasBegun, IsLeaving, IsQuiet, Held, Waits, told, told_by, last, begins, same_moves, moves_on, settles}
-use Rattle.rh_inproxy_puts.proofs.Tests.{joined_any, finishing, neither, same_settled}
+use Rattle.rh_inproxy_puts.specs.Puts.{Came, IsPlain}
+use Rattle.rh_inproxy_puts.proofs.Fronts.{plain_first, more_at}
+use Rattle.rh_inproxy_puts.proofs.Sounds.{seen, Same, Sound, Moves, IsOpening, HasBegun, IsLeaving, IsQuiet, Held, Waits, told, told_by, last, begins, same_moves, moves_on, settles}
+use Rattle.rh_inproxy_puts.proofs.Tests.{joined_any, finishing}
 use Rattle.rh_inproxy_puts.proofs.Stands as stands
 use Rattle.rh_inproxy_puts.proofs.Stands.{behind, IsAt, Stands, still, first_goes}
 
@@ -94,6 +88,7 @@ told_at_least : (n k : ℕ) (z : Successor) (handover : Handover)
 told_at_least n k z handovers.Before e = at_least_told n k z (ap value e)
 told_at_least n k z (handovers.Came cookie) e = at_least_told n k z (ap value e)
 told_at_least n k z handovers.Passed e = absurd cc
+
 module _ (config : InProxyConfig) (came : List OnLeg) (ms : List Message) (s : InProxy)
     (h : Stands config came ms s) (announced : is_announced s.opening ≡ true)
     (k : ℕ) (unmarked : last (seen s) ≡ Some k) where
@@ -152,7 +147,8 @@ module _ (config : InProxyConfig) (came : List OnLeg) (ms : List Message) (s : I
       (λ f.
       let k = with_next (Joined leg (TellsServer b)) e in
       let lasts = untold_last leg b s.handover k.leaving in
-      stands.more config came ms s h announced (record s { successor = Joined leg Told }) (Packet (named.InR2A2 leg.cookie))
+      stands.more config came ms s h announced (record s { successor = Joined leg Told })
+      (Packet (named.InR2A2 leg.cookie))
       (record {
         same = k.same;
         joined = k.joined;
@@ -313,9 +309,11 @@ module _ (config : InProxyConfig) (came : List OnLeg) (ms : List Message) (s : I
       by_test Goes (may_send s.window (length pdu))
       (Some (passed s (length pdu), Pdu pdu)) None
       (λ f. plain_goes (passed s (length pdu)) (Pdu pdu)
-      (passed_moves (after_sent s.window (length pdu)) pdus pdu e)
-      (n, told_at_least n k s.successor s.handover unmarked,
-      (subst (Held came n) e h.sound.held).0))
+      (passed_moves (after_sent s.window (length pdu)) pdus pdu e) (
+        n,
+        told_at_least n k s.successor s.handover unmarked,
+        (subst (Held came n) e h.sound.held).0,
+      ))
       (λ f. tt)
 
   -- ---- marks
@@ -334,7 +332,8 @@ module _ (config : InProxyConfig) (came : List OnLeg) (ms : List Message) (s : I
           let known = h.sound in
           let leaves = subst (λ (z : Successor). IsLeaving came n (handovers.Came cookie) z) f
           (subst (λ (x : Handover). IsLeaving came n x s.successor) e known.leaving) in
-          stands.more config came ms s h announced (record s { handover = handovers.Passed }) (Packet (named.InR1A6 cookie))
+          stands.more config came ms s h announced (record s { handover = handovers.Passed })
+          (Packet (named.InR1A6 cookie))
           (record {
             same = known.same;
             joined = known.joined;

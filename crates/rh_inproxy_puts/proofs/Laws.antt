@@ -1,8 +1,7 @@
 -- what an in proxy puts on its is leg, whatever happens
-use Rattle.std.proofs.Common.{◌≡◌, ℕ, ◌==◌, ◌&&◌, Bool, true, false, if◌then◌else◌, List, [], ◌∷◌, ◌++◌, Some, None, Ok, Err, refl, sym, ap, ◌∙◌, subst}
+use Rattle.std.proofs.Common.{◌≡◌, ℕ, ◌==◌, Bool, true, false, if◌then◌else◌, List, [], ◌∷◌, ◌++◌, Some, None, Ok, Err, refl, sym, ap, ◌∙◌, subst}
 use Rattle.std.proofs.lemmas.Bool.{and_parts}
 use Rattle.std.proofs.lemmas.List.{append-nil}
-use Rattle.std.specs.Prelude.{IfSome}
 use Rattle.rh_sig.specs.declared.named.Named.{Named}
 use Rattle.rh_line.specs.declared.leg.Leg.{Leg}
 use Rattle.rh_line.specs.declared.leg.LegKind.{LegKind}
@@ -17,7 +16,7 @@ use Rattle.rh_inproxy.specs.declared.state.Work.{Work}
 use Rattle.rh_inproxy.specs.declared.state.Work.TheVariants as works
 use Rattle.rh_inproxy.specs.Answers.{Done, Pick}
 use Rattle.rh_inproxy.specs.Ending.{mark, settled_pick}
-use Rattle.rh_inproxy.specs.Opening.{up, head, drawn, was_up, put_echo, echo_by, echo_answer, has_server}
+use Rattle.rh_inproxy.specs.Opening.{up, head, drawn, was_up, echo_by, echo_answer, has_server}
 use Rattle.rh_inproxy.specs.Putting.{next}
 use Rattle.rh_inproxy.specs.Putting as putting
 use Rattle.rh_inproxy.specs.State.{InProxy, first, is_client_leg, is_server_leg}
@@ -29,7 +28,7 @@ use Rattle.rh_passages.proofs.Logs.{PutKeeps}
 use Rattle.rh_passages.proofs.Messages.{leg_more, last_one_so}
 use Rattle.rh_inproxy_puts.specs.Puts.{ci, is_leg, CameOn, HasPdu, IsPutUp, ArePutUp, PutsInOrder}
 use Rattle.rh_inproxy_puts.proofs.Fronts.{last_pdu, stream_stays}
-use Rattle.rh_inproxy_puts.proofs.Sounds.{seen, Sound, Moves, sound_stays, same_moves}
+use Rattle.rh_inproxy_puts.proofs.Sounds.{seen, Moves, sound_stays, same_moves}
 use Rattle.rh_inproxy_puts.proofs.Ups.{up_moves, head_moves, drawn_moves, mark_moves, ping_moves}
 use Rattle.rh_inproxy_puts.proofs.Rows.{Row, pdu_row, packet_row}
 use Rattle.rh_inproxy_puts.proofs.Stands.{Stands, Goes, still}

@@ -1,49 +1,22 @@
 -- what stands on the is leg of an in proxy, with its first packet
-use Rattle.std.proofs.Common.{◌≡◌, ℕ, suc, ◌-◌, ◌≤◌, ◌==◌, ◌&&◌, ◌||◌, Bool, true, false, true≢false, not, if◌then◌else◌, List, [], ◌∷◌, ◌++◌, length, Some, None, inl, inr, refl, sym, ap, ◌∙◌, subst, arith}
-use Rattle.std.proofs.lemmas.Bool.{and_parts}
+use Rattle.std.proofs.Common.{◌≡◌, ℕ, Bool, true, false, List, [], ◌∷◌, ◌++◌, Some, None, refl, sym, ap, ◌∙◌, subst}
 use Rattle.std.specs.Prelude.{IfSome}
-use Rattle.std.specs.declared.option.Option.{Option}
-use Rattle.rh_rts.specs.declared.command.Cookie.{Cookie}
-use Rattle.rh_sig.specs.declared.named.Named.TheVariants as named
-use Rattle.rh_window.specs.Sending.{may_send, after_sent}
-use Rattle.rh_window.specs.Sides.{Sender}
-use Rattle.rh_window.specs.declared.recv_window.Ack.{Ack}
-use Rattle.rh_line.specs.Lines as line
-use Rattle.rh_line.specs.declared.which.Which.{Which}
-use Rattle.rh_line.specs.declared.which.Which.TheVariants.{Current, Next}
-use Rattle.rh_order.proofs.ByNumber.{by_test}
-use Rattle.rh_shell.specs.declared.due.Due.{Due}
-use Rattle.rh_shell.specs.Rules.{Message, Text, Pdu, Packet}
+use Rattle.rh_shell.specs.Rules.{Message, Packet}
 use Rattle.rh_shell.specs.Moves.{OnLeg}
-use Rattle.rh_shell.specs.Waiting as waiting
-use Rattle.rh_inproxy.specs.declared.state.ClientLeg.{ClientLeg}
 use Rattle.rh_rts.specs.declared.command.Address4or16.TheVariants.{V4}
 use Rattle.rh_inproxy.specs.declared.state.Entry.{Entry}
 use Rattle.rh_inproxy.specs.declared.state.Entry.TheVariants.{Connects, Replaces}
-use Rattle.rh_inproxy.specs.declared.state.Handover.{Handover}
-use Rattle.rh_inproxy.specs.declared.state.Handover.TheVariants as handovers
 use Rattle.rh_inproxy.specs.declared.state.InProxyConfig.{InProxyConfig}
-use Rattle.rh_inproxy.specs.declared.state.Joining.{Joining}
-use Rattle.rh_inproxy.specs.declared.state.Joining.TheVariants.{TellsServer, Told, Follows}
 use Rattle.rh_inproxy.specs.declared.state.Opener.{Opener}
 use Rattle.rh_inproxy.specs.declared.state.Opening.{Opening}
 use Rattle.rh_inproxy.specs.declared.state.Opening.TheVariants.{AwaitsClient, AwaitsPacket, WantsServer, Announces, Announced}
-use Rattle.rh_inproxy.specs.declared.state.Successor.{Successor}
-use Rattle.rh_inproxy.specs.declared.state.Successor.TheVariants.{Absent, Up, Joined}
-use Rattle.rh_inproxy.specs.Acknowledging.{ack_due, ack_by, current_ack, next_ack, put_acks}
 use Rattle.rh_inproxy.specs.Answers.{Pick, or_else}
-use Rattle.rh_inproxy.specs.Ending.{is_announced, put_end, settled, settled_pick}
-use Rattle.rh_inproxy.specs.InReplacement.{told_by as tells_by, one_less, put_in_r2_a2, mark_by, put_in_r1_a6}
-use Rattle.rh_inproxy.specs.Opening.{announcement, first_by, put_first, has_server, is_absent}
-use Rattle.rh_inproxy.specs.Passing.{next_pdu, passed, put_pdu}
-use Rattle.rh_inproxy.specs.Putting.{next, waiting_by, put_waiting, put_control, put_early, put_stream, put_behind, put_mark}
-use Rattle.rh_inproxy.specs.State.{InProxy, followed, has_a5, has_come, hands_over}
-use Rattle.rh_inproxy.specs.Time.{put_ping}
-use Rattle.rh_passages.specs.Passing.{BeginsIn}
-use Rattle.rh_inproxy_puts.specs.Puts.{CameOn, Came, Joins, Leaves, IsFirst, IsPlain, IsRest, IsStream}
-use Rattle.rh_inproxy_puts.proofs.Fronts.{reached, plain_first, ping_more, more_at}
-use Rattle.rh_inproxy_puts.proofs.Sounds.{seen, Same, Seen, Sound, Moves, IsOpener, IsOpening, HasBegun, IsLeaving, IsQuiet, Held, Waits, told, told_by, last, begins, same_moves, moves_on, settles}
-use Rattle.rh_inproxy_puts.proofs.Tests.{joined_any, finishing, neither, same_settled}
+use Rattle.rh_inproxy.specs.Ending.{is_announced}
+use Rattle.rh_inproxy.specs.Opening.{announcement, first_by}
+use Rattle.rh_inproxy.specs.State.{InProxy}
+use Rattle.rh_inproxy_puts.specs.Puts.{IsFirst, IsRest, IsStream}
+use Rattle.rh_inproxy_puts.proofs.Fronts.{reached}
+use Rattle.rh_inproxy_puts.proofs.Sounds.{seen, Sound, Moves, IsOpener, IsOpening, last}
 
 -- ---- what stands on the leg
 
@@ -73,6 +46,7 @@ still config came ms s t moves stream at now = record {
   stream = stream;
   last = now ∙ sym moves.last;
 }
+
 module _ (config : InProxyConfig) (came : List OnLeg) (ms : List Message) (s : InProxy)
     (h : Stands config came ms s) where
   abbrev pub Goes : Pick → Type 0

@@ -1,63 +1,22 @@
 -- legs that come up, requests, and what else nothing is put for
-use Rattle.std.proofs.Common.{◌≡◌, ℕ, suc, ◌+◌, ◌==◌, ◌&&◌, ◌||◌, Bool, true, false, true≢false, not, if◌then◌else◌, List, [], ◌∷◌, ◌++◌, length, Some, None, Ok, Err, inl, inr, refl, sym, ap, ◌∙◌, subst, arith, rules}
+use Rattle.std.proofs.Common.{◌≡◌, ℕ, ◌+◌, ◌==◌, true, false, not, if◌then◌else◌, List, refl, sym, ap, ◌∙◌, subst, arith}
 use Rattle.std.proofs.lemmas.Bool.{and_parts, eqb-true}
-use Rattle.std.specs.declared.option.Option.{Option}
-use Rattle.std.specs.Prelude.{is_ok, nat_le, nat_lt}
-use Rattle.std.specs.List.{list_any}
-use Rattle.rh_rts.specs.declared.command.Cookie.{Cookie}
-use Rattle.rh_sig.specs.declared.named.Named.{Named}
-use Rattle.rh_sig.specs.declared.named.Named.TheVariants as named
-use Rattle.std.specs.declared.result.Result.{Result}
-use Rattle.rh_window.specs.Receiving as windows
-use Rattle.rh_line.specs.Lines as line
-use Rattle.rh_line.specs.Lines.{Incoming}
-use Rattle.rh_line.specs.declared.line_fault.LineFault.{LineFault}
-use Rattle.rh_line.specs.declared.line_fault.LineFault.TheVariants.{Window, Over}
-use Rattle.rh_shell.specs.Wires.{of_leg}
-use Rattle.rh_passages.proofs.Messages.{all_append}
-use Rattle.rh_inproxy.specs.Passing as passing
-use Rattle.rh_inproxy.specs.Machine as machine
+use Rattle.std.specs.Prelude.{nat_le}
 use Rattle.rh_line.specs.declared.leg.Leg.{Leg}
-use Rattle.rh_line.specs.declared.which.Which.{Which}
-use Rattle.rh_line.specs.declared.which.Which.TheVariants.{Current, Next}
-use Rattle.rh_order.proofs.ByNumber.{by_test, same_number}
-use Rattle.rh_shell.specs.declared.answers.Count.{Count}
-use Rattle.rh_shell.specs.declared.answers.Refused.{Refused}
-use Rattle.rh_shell.specs.declared.answers.Refused.TheVariants as refused
-use Rattle.rh_shell.specs.declared.due.Due.{Due}
-use Rattle.rh_shell.specs.declared.due.Origin.TheVariants.{Forwarded}
-use Rattle.rh_shell.specs.Waiting as waiting
+use Rattle.rh_order.proofs.ByNumber.{by_test}
 use Rattle.rh_shell.specs.Moves.{OnLeg}
 use Rattle.rh_inproxy.specs.declared.opening.TheConstants.{GREATEST_LENGTHS}
-use Rattle.rh_inproxy.specs.declared.state.ClientLeg.{ClientLeg}
-use Rattle.rh_inproxy.specs.declared.state.Entry.{Entry}
-use Rattle.rh_inproxy.specs.declared.state.Handover.{Handover}
-use Rattle.rh_inproxy.specs.declared.state.Handover.TheVariants as handovers
 use Rattle.rh_inproxy.specs.declared.state.InProxyConfig.{InProxyConfig}
-use Rattle.rh_inproxy.specs.declared.state.Joining.{Joining}
-use Rattle.rh_inproxy.specs.declared.state.Joining.TheVariants.{TellsServer, Told, Follows}
-use Rattle.rh_inproxy.specs.declared.state.Opener.{Opener}
 use Rattle.rh_inproxy.specs.declared.state.Opening.{Opening}
 use Rattle.rh_inproxy.specs.declared.state.Opening.TheVariants.{AwaitsClient, AwaitsPacket, WantsServer, Announces, Announced}
 use Rattle.rh_inproxy.specs.declared.state.Successor.{Successor}
 use Rattle.rh_inproxy.specs.declared.state.Successor.TheVariants.{Absent, Up, Joined}
-use Rattle.rh_inproxy.specs.Answers.{Done, taken, refuse, unexpected}
-use Rattle.rh_inproxy.specs.Acknowledging.{on_ack, on_ack_to, forward_by, forwarded}
-use Rattle.rh_inproxy.specs.Ending.{is_announced, has_later, is_newest, is_succeeded, mark, on_end_a1, settled}
-use Rattle.rh_inproxy.specs.InReplacement.{is_newcomer, joined, join, on_later_in_r1_a1, on_in_r1_a1, on_in_r1_a5, on_in_r1_b1, on_in_r1_b2, finished, finish_by, handed_over, hand_over}
-use Rattle.rh_inproxy.specs.Opening.{up, may_accept, accepts, accepts_later, accepted, wants, connected, head, drawn, is_absent, is_first, awaits_packet, opened, opener, opener_of, kept_for, leg_of, on_conn_b1, on_conn_b3, on_first_in_r1_a1}
-use Rattle.rh_inproxy.specs.OutReplacement.{on_out_r1_a7}
-use Rattle.rh_inproxy.specs.State.{InProxy, channel_of, followed, has_a5, has_come, has_opened, hands_over, is_client_leg, is_joined, is_server_leg, next_of, same_cookie}
-use Rattle.rh_inproxy.specs.Time.{on_keep_alive, ping}
-use Rattle.rh_inproxy.specs.Machine.{pdu, packet, on_channel, on_channel_by, on_ci, on_is}
-use Rattle.rh_inproxy.specs.declared.opening.TheConstants.{KEEPALIVE}
-use Rattle.rh_inproxy.specs.declared.state.Entry.TheVariants.{Connects, Replaces}
-use Rattle.rh_passages.specs.Passing.{BeginsIn}
-use Rattle.rh_inproxy_puts.specs.Puts as puts
-use Rattle.rh_inproxy_puts.specs.Puts.{CameOn, HasPdu, Joins, Leaves, Switches, Acknowledges, IsPlainPacket}
-use Rattle.rh_inproxy_puts.proofs.Waiting as waits
-use Rattle.rh_inproxy_puts.proofs.Sounds.{Seen, seen, Same, Sound, Moves, IsOpener, IsOpening, HasBegun, IsFirstLeg, IsLeaving, IsNext, IsQuiet, Waits, told_by, last, same_moves, moves_on, settles}
-use Rattle.rh_inproxy_puts.proofs.Tests.{same_head, same_keep_alive, same_b3, same_b2, same_b1, same_ack, same_is, same_drawn, same_settled, same_mark, same_ping, absent_alone, not_so, four, awaits_is, opened_any, staying, joining, finishing, joined_any, leaving_next, uncome, unpassed, neither, none_of, same_told, untold}
+use Rattle.rh_inproxy.specs.Ending.{is_announced, mark}
+use Rattle.rh_inproxy.specs.Opening.{up, may_accept, accepts, accepts_later, accepted, wants, connected, head, drawn, is_absent}
+use Rattle.rh_inproxy.specs.State.{InProxy, has_come, has_opened, is_client_leg}
+use Rattle.rh_inproxy.specs.Time.{ping}
+use Rattle.rh_inproxy_puts.proofs.Sounds.{seen, Sound, Moves, IsOpening, told_by, same_moves}
+use Rattle.rh_inproxy_puts.proofs.Tests.{same_head, same_drawn, same_mark, same_ping, absent_alone, not_so, four, opened_any, staying, untold}
 
 -- ---- ups
 

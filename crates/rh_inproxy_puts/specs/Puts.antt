@@ -1,8 +1,7 @@
 -- what an in proxy puts on its is leg, in order and for what came on its ci legs (MS-RPCH 2.2.4,
 -- 3.2.3; several ci legs over one is leg are this profile's)
-use Rattle.std.specs.Prelude.{ℕ, suc, ◌≡◌, ◌≤◌, ◌⊎◌, List, [], ◌∷◌, Bool, true, Some, None}
+use Rattle.std.specs.Prelude.{ℕ, suc, ◌≡◌, ◌≤◌, ◌⊎◌, List, [], ◌∷◌, true}
 use Rattle.std.specs.List.{AllByRecursion}
-use Rattle.std.specs.declared.option.Option.{Option}
 use Rattle.rh_rts.specs.declared.command.Cookie.{Cookie}
 use Rattle.rh_rts.specs.declared.command.Address4or16.TheVariants.{V4}
 use Rattle.rh_sig.specs.declared.named.Named.{Named}

@@ -13,8 +13,9 @@ ghost use Rattle.rh_inproxy_puts.specs.Puts.{ArePutUp, PutsInOrder};
 /// order of their numbers, with the cookie of the IN_R1/A1 that came there. Each RPC PDU came on a
 /// ci leg of which the server was told before. Between them stand acknowledgements of channels that
 /// began on ci legs, those that came for the out proxy, OUT_R1/A8 for OUT_R1/A7, END/A2 and Pings;
-/// and then at most one IN_R1/A6, with the cookie of the IN_R1/A5 that came on the ci leg told last,
-/// and behind it only Pings (MS-RPCH 2.2.4, 3.2.3; several ci legs are this profile's).
+/// and then at most one IN_R1/A6, with the cookie of the IN_R1/A5 that came on the ci leg of which
+/// the server was told last, and behind it only Pings (MS-RPCH 2.2.4, 3.2.3; several ci legs are
+/// this profile's).
 pub fn an_in_proxy_puts_in_order()
     ensures { (config : InProxyConfig) (moves : List Move)
         → ArePutUp rules (started (first config)) moves
