@@ -9,7 +9,7 @@ use Rattle.rh_shell.specs.Wires.{of_leg}
 use Rattle.rh_passages.specs.Passing.{BeginsIn, HasOne}
 use Rattle.rh_passages.proofs.Messages.{all_append, leg_more, one_more_so}
 use Rattle.rh_inproxy.specs.declared.state.InProxyConfig.{InProxyConfig}
-use Rattle.rh_inproxy_puts.specs.Puts.{ci, CameOn, Acknowledges, Joins, Leaves, Switches, Connects, Replaces, IsFirst, IsPlainPacket, IsPlain, IsPing, HasPdu, IsRest, IsStream}
+use Rattle.rh_inproxy_puts.specs.Puts.{ci, CameOn, CameFirst, IsFront, Acknowledges, Joins, Leaves, Switches, Connects, Replaces, IsFirst, IsPlainPacket, IsPlain, IsPing, HasPdu, IsRest, IsStream}
 
 -- the last ci leg that the server was told, until IN_R1/A6
 abbrev pub reached : ℕ → List Message → Option ℕ
@@ -64,6 +64,16 @@ pub came_stays : (Is : Named → Type 0) (n : ℕ) (came : List OnLeg) (one : On
 came_stays Is n came one h =
     subst (HasOne Is) (sym (leg_more (ci n) came one))
     (one_more_so Is (of_leg (ci n) came) (of_leg (ci n) (one ∷ [])) h)
+
+front_more : (Is : Named → Type 0) (a b : List Message) → IsFront Is a → IsFront Is (a ++ b)
+front_more Is [] b h = absurd h
+front_more Is (m ∷ a) b h = h
+
+pub first_stays_first : (Is : Named → Type 0) (n : ℕ) (came : List OnLeg) (one : OnLeg)
+    → CameFirst n Is came → CameFirst n Is (came ++ one ∷ [])
+first_stays_first Is n came one h =
+    subst (IsFront Is) (sym (leg_more (ci n) came one))
+    (front_more Is (of_leg (ci n) came) (of_leg (ci n) (one ∷ [])) h)
 
 pdu_more : (pdu : List ℕ) (a b : List Message) → HasPdu pdu a → HasPdu pdu (a ++ b)
 pdu_more pdu [] b h = absurd h
@@ -121,13 +131,13 @@ module _ (came : List OnLeg) (one : OnLeg) where
       h.1,
       h.2,
       h.3,
-      came_stays (Connects connection channel group) config.number came one h.4,
+      first_stays_first (Connects connection channel group) config.number came one h.4,
     )
     first_stays (named.InR1A2 version connection predecessor successor window timeout) h = (
       h.0,
       h.1,
       h.2,
-      came_stays (Replaces connection predecessor successor) config.number came one h.3,
+      first_stays_first (Replaces connection predecessor successor) config.number came one h.3,
     )
     first_stays packet h = absurd h
 

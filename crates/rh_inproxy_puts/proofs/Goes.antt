@@ -206,6 +206,7 @@ module _ (config : InProxyConfig) (came : List OnLeg) (ms : List Message) (s : I
             last = by_handover leg b t.handover
                 ∙ ap (λ (y : Successor). told_by t.current.number y t.handover) (sym e);
             announced = refl;
+            opened = λ e. e;
           }
         where
           by_handover : (leg : ClientLeg) (b : ℕ) (handover : Handover)
@@ -237,6 +238,7 @@ module _ (config : InProxyConfig) (came : List OnLeg) (ms : List Message) (s : I
         };
         last = refl;
         announced = refl;
+        opened = λ e. e;
       } in
       plain_goes (record t { successor = one_less t.successor }) (Packet due.packet)
       (moves_on config came s t _ goes (less_moves t goes.sound)) each.0
@@ -300,6 +302,7 @@ module _ (config : InProxyConfig) (came : List OnLeg) (ms : List Message) (s : I
         };
         last = refl;
         announced = refl;
+        opened = λ e. e;
       } in
       moves_on config came s t _ goes (settles config came t goes.sound))
 
@@ -377,6 +380,7 @@ module _ (config : InProxyConfig) (came : List OnLeg) (ms : List Message) (s : I
         };
         last = refl;
         announced = refl;
+        opened = λ e. e;
       }) tt)
       (λ e. tt)
 

@@ -7,4 +7,5 @@ mod Rows
 mod Stands
 mod Goes
 mod Behind
+mod Fresh
 mod Laws

@@ -48,7 +48,7 @@ use Rattle.rh_inproxy.specs.declared.opening.TheConstants.{KEEPALIVE}
 use Rattle.rh_inproxy.specs.declared.state.Entry.TheVariants.{Connects, Replaces}
 use Rattle.rh_passages.specs.Passing.{BeginsIn}
 use Rattle.rh_inproxy_puts.specs.Puts as puts
-use Rattle.rh_inproxy_puts.specs.Puts.{CameOn, HasPdu, Joins, Leaves, Switches, Acknowledges, IsPlainPacket}
+use Rattle.rh_inproxy_puts.specs.Puts.{CameOn, CameFirst, HasPdu, Joins, Leaves, Switches, Acknowledges, IsPlainPacket}
 use Rattle.rh_inproxy_puts.proofs.Waiting as waits
 use Rattle.rh_inproxy_puts.proofs.Sounds.{seen, Same, Sound, Moves, IsOpener, IsOpening, IsLeaving, IsNext, IsQuiet, told_by, same_moves, moves_on, settles}
 use Rattle.rh_inproxy_puts.proofs.Tests.{same_keep_alive, same_is, not_so, awaits_is, opened_any, joining, finishing, joined_any, leaving_next, uncome, unpassed, neither, none_of, same_told, untold}
@@ -136,6 +136,7 @@ module _ (config : InProxyConfig) (came later : List OnLeg) (s : InProxy)
     };
     last = refl;
     announced = refl;
+    opened = λ e. e;
   }
   verdict_row Next bytes (Ok admitted) e here = record {
     sound = record {
@@ -154,6 +155,7 @@ module _ (config : InProxyConfig) (came later : List OnLeg) (s : InProxy)
     };
     last = refl;
     announced = refl;
+    opened = λ e. e;
   }
   verdict_row Current bytes (Err (Window exceeded)) e here = refused_row (refused.Window exceeded)
   verdict_row Next bytes (Err (Window exceeded)) e here = refused_row (refused.Window exceeded)
@@ -208,6 +210,7 @@ module _ (config : InProxyConfig) (came later : List OnLeg) (s : InProxy)
         };
         last = refl;
         announced = refl;
+        opened = λ e. e;
       }
 
   -- ---- what is forwarded
@@ -237,6 +240,7 @@ module _ (config : InProxyConfig) (came later : List OnLeg) (s : InProxy)
         };
         last = refl;
         announced = refl;
+        opened = λ e. e;
       }
       by (w, false) same =
           same_moves config came s (record s { waiting = w })
@@ -245,7 +249,7 @@ module _ (config : InProxyConfig) (came later : List OnLeg) (s : InProxy)
   -- ---- the first packet
 
   opened_row : (number : ℕ) (o : Opener) (keepalive : ℕ) → is_first s number ≡ true
-      → (number ≡ config.number → IsOpener config later o o.entry)
+      → (has_opened s.opening ≡ false → number ≡ config.number → IsOpener config later o o.entry)
       → CameOn number (BeginsIn o.channel) later → Row (opened s o keepalive)
   opened_row number o keepalive e opens begins =
       let parts = and_parts (awaits_packet s.opening) (s.current.number == number) e in
@@ -257,7 +261,7 @@ module _ (config : InProxyConfig) (came later : List OnLeg) (s : InProxy)
           joined = k.joined;
           finished = k.finished;
           opening = (
-            opens (sym number_is ∙ first.0),
+            opens (ap has_opened is) (sym number_is ∙ first.0),
             subst (λ (n : ℕ). CameOn n (BeginsIn o.channel) later) (sym number_is) begins,
           );
           next = k.next;
@@ -269,6 +273,7 @@ module _ (config : InProxyConfig) (came later : List OnLeg) (s : InProxy)
         };
         last = refl;
         announced = sym (ap is_announced is);
+        opened = λ f. absurd cc;
       }
 
   -- ---- a later ci leg
@@ -296,6 +301,7 @@ module _ (config : InProxyConfig) (came later : List OnLeg) (s : InProxy)
         last = untold s.current.number now (Up leg) s.handover (λ n. refl)
             ∙ ap (λ (z : Successor). told_by s.current.number z s.handover) (sym e);
         announced = refl;
+        opened = λ e. e;
       }
 
   later_row : (number : ℕ) (connection predecessor channel : Cookie)
@@ -353,6 +359,7 @@ module _ (config : InProxyConfig) (came later : List OnLeg) (s : InProxy)
     };
     last = same_told s.current.number cookie s.successor s.handover none;
     announced = refl;
+    opened = λ e. e;
   }
 
   finished_row : (leg : ClientLeg) → s.successor ≡ Joined leg Told → Row (taken (finished s leg))
@@ -380,6 +387,7 @@ module _ (config : InProxyConfig) (came later : List OnLeg) (s : InProxy)
         last = untold s.current.number (Joined leg Follows) (Joined leg Told) s.handover
             (λ n. refl) ∙ ap (λ (z : Successor). told_by s.current.number z s.handover) (sym e);
         announced = refl;
+        opened = λ e. e;
       } in
       moves_on config later s t (finished s leg) goes (settles config later t goes.sound)
 
@@ -468,32 +476,34 @@ module _ (config : InProxyConfig) (came later : List OnLeg) (s : InProxy)
         (λ which there is. channel_row which m there (at (number_of which) is))
 
   ci_row : (number : ℕ) (m : Named)
-      → ((Is : Named → Type 0) → Is m → CameOn number Is later) → Row (on_ci s number m)
-  ci_row number (named.ConnB1 version connection channel lifetime keepalive group) here =
+      → ((Is : Named → Type 0) → Is m → CameOn number Is later)
+      → (has_opened s.opening ≡ false → number ≡ config.number → (Is : Named → Type 0) → Is m
+      → CameFirst config.number Is later) → Row (on_ci s number m)
+  ci_row number (named.ConnB1 version connection channel lifetime keepalive group) here front =
       by_test Row (is_first s number)
       (opened s (opener connection channel (Connects group)) (kept_for keepalive))
       (unexpected s)
       (λ e. opened_row number (opener connection channel (Connects group)) (kept_for keepalive) e
-      (λ is. subst (λ (n : ℕ). CameOn n (puts.Connects connection channel group) later) is
-      (here (puts.Connects connection channel group) (refl, refl, refl)))
+      (λ new is. front new is (puts.Connects connection channel group) (refl, refl, refl))
       (here (BeginsIn channel) refl))
       (λ e. refused_row refused.Unexpected)
-  ci_row number (named.InR1A1 version connection predecessor channel) here =
+  ci_row number (named.InR1A1 version connection predecessor channel) here front =
       by_test Row (is_first s number) (on_first_in_r1_a1 s connection predecessor channel)
       (on_later_in_r1_a1 s (opener_of s.opening) number connection predecessor channel)
       (λ e. opened_row number (opener connection channel (Replaces predecessor)) KEEPALIVE e
-      (λ is. subst (λ (n : ℕ). CameOn n (puts.Replaces connection predecessor channel) later) is
-      (here (puts.Replaces connection predecessor channel) (refl, refl, refl)))
+      (λ new is. front new is (puts.Replaces connection predecessor channel) (refl, refl, refl))
       (here (BeginsIn channel) refl))
       (λ e. later_row number connection predecessor channel (here (Joins channel) refl))
-  ci_row number m here = by_channel_row number m here
+  ci_row number m here front = by_channel_row number m here
 
   pub packet_row : (leg : Leg) (count : Count) (m : Named)
       → (is_client_leg leg ≡ true → (Is : Named → Type 0) → Is m → CameOn leg.number Is later)
+      → (is_client_leg leg ≡ true → has_opened s.opening ≡ false → leg.number ≡ config.number
+      → (Is : Named → Type 0) → Is m → CameFirst config.number Is later)
       → Row (packet s leg count m)
-  packet_row leg count m here =
+  packet_row leg count m here front =
       by_test Row (is_client_leg leg) (on_ci s leg.number m)
       (if is_server_leg s leg then on_is s m else unexpected s)
-      (λ e. ci_row leg.number m (here e))
+      (λ e. ci_row leg.number m (here e) (front e))
       (λ e. by_test Row (is_server_leg s leg) (on_is s m) (unexpected s)
       (λ f. same_row (on_is s m) (same_is s m)) (λ f. refused_row refused.Unexpected))

@@ -28,10 +28,10 @@ use Rattle.rh_inproxy.specs.declared.state.Successor.{Successor}
 use Rattle.rh_inproxy.specs.declared.state.Successor.TheVariants.{Absent, Up, Joined}
 use Rattle.rh_inproxy.specs.Ending.{is_announced, is_succeeded}
 use Rattle.rh_inproxy.specs.Opening.{is_absent}
-use Rattle.rh_inproxy.specs.State.{InProxy, is_joined, follows, followed}
+use Rattle.rh_inproxy.specs.State.{InProxy, has_opened, is_joined, follows, followed}
 use Rattle.rh_inproxy_puts.specs.Puts as puts
-use Rattle.rh_inproxy_puts.specs.Puts.{CameOn, HasPdu, Joins, Leaves, IsPlainPacket}
-use Rattle.rh_inproxy_puts.proofs.Fronts.{came_stays, packet_stays, pdu_stays}
+use Rattle.rh_inproxy_puts.specs.Puts.{CameOn, CameFirst, HasPdu, Joins, Leaves, IsPlainPacket}
+use Rattle.rh_inproxy_puts.proofs.Fronts.{came_stays, first_stays_first, packet_stays, pdu_stays}
 
 -- what the facts are about
 pub record Seen : Type 0 where
@@ -87,9 +87,9 @@ last x = told_by x.current.number x.successor x.handover
 -- of the first packet
 abbrev pub IsOpener : InProxyConfig → List OnLeg → Opener → Entry → Type 0
 IsOpener config came o (Connects group) =
-    CameOn config.number (puts.Connects o.connection o.channel group) came
+    CameFirst config.number (puts.Connects o.connection o.channel group) came
 IsOpener config came o (Replaces predecessor) =
-    CameOn config.number (puts.Replaces o.connection predecessor o.channel) came
+    CameFirst config.number (puts.Replaces o.connection predecessor o.channel) came
 
 -- the channel began on its ci leg
 abbrev pub HasBegun : List OnLeg → ClientLeg → Type 0
@@ -161,9 +161,9 @@ module _ (config : InProxyConfig) (came : List OnLeg) (one : OnLeg) where
   opener_stays : (o : Opener) (entry : Entry) → IsOpener config came o entry
       → IsOpener config later o entry
   opener_stays o (Connects group) h =
-      came_stays (puts.Connects o.connection o.channel group) config.number came one h
+      first_stays_first (puts.Connects o.connection o.channel group) config.number came one h
   opener_stays o (Replaces predecessor) h =
-      came_stays (puts.Replaces o.connection predecessor o.channel) config.number came one h
+      first_stays_first (puts.Replaces o.connection predecessor o.channel) config.number came one h
 
   opening_stays : (current : ClientLeg) (z : Successor) (o : Opening)
       → IsOpening config came current z o → IsOpening config later current z o
@@ -220,6 +220,7 @@ pub record Moves (config : InProxyConfig) (came : List OnLeg) (s t : InProxy) : 
   pub sound : Sound config (seen t) came
   pub last : last (seen t) ≡ last (seen s)
   pub announced : is_announced t.opening ≡ is_announced s.opening
+  pub opened : has_opened t.opening ≡ false → has_opened s.opening ≡ false
 
 module _ (config : InProxyConfig) (came : List OnLeg) where
   pub same_moves : (s t : InProxy) → Same s t → Sound config (seen s) came
@@ -228,6 +229,7 @@ module _ (config : InProxyConfig) (came : List OnLeg) where
     sound = subst (λ (x : Seen). Sound config x came) (sym same) h;
     last = ap last same;
     announced = ap (λ (x : Seen). is_announced x.opening) same;
+    opened = λ e. ap (λ (x : Seen). has_opened x.opening) (sym same) ∙ e;
   }
 
   pub moves_on : (s t u : InProxy) → Moves config came s t → Moves config came t u
@@ -236,6 +238,7 @@ module _ (config : InProxyConfig) (came : List OnLeg) where
     sound = b.sound;
     last = b.last ∙ a.last;
     announced = b.announced ∙ a.announced;
+    opened = λ e. a.opened (b.opened e);
   }
 
   -- ---- the next channel becomes current
@@ -317,6 +320,7 @@ module _ (config : InProxyConfig) (came : List OnLeg) where
             last = following_last s.current.number leg.number leg s.handover k.next.0
                 ∙ ap (λ (z : Successor). told_by s.current.number z s.handover) (sym e);
             announced = refl;
+            opened = λ e. e;
           }
 
       same : (z : Successor) → s.successor ≡ z

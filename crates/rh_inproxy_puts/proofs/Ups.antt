@@ -63,13 +63,15 @@ module _ (config : InProxyConfig) (came : List OnLeg) (s : InProxy)
             last = untold s.current.number (Up number) Absent s.handover (λ k. refl)
                 ∙ ap (λ (z : Successor). told_by s.current.number z s.handover) (sym f);
             announced = refl;
+            opened = λ e. e;
           }
 
   -- how far the first legs are
   opens : (o now : Opening) → s.opening ≡ o → is_announced now ≡ is_announced o
+      → has_opened now ≡ has_opened o
       → (IsOpening config came s.current s.successor o
       → IsOpening config came s.current s.successor now) → Goes (record s { opening = now })
-  opens o now e same so = record {
+  opens o now e same same_opened so = record {
     sound = record {
       same = h.same;
       joined = h.joined;
@@ -84,6 +86,7 @@ module _ (config : InProxyConfig) (came : List OnLeg) (s : InProxy)
     };
     last = refl;
     announced = same ∙ ap is_announced (sym e);
+    opened = λ f. ap has_opened e ∙ sym same_opened ∙ f;
   }
 
   pub up_moves : (leg : Leg) → Goes (up s leg)
@@ -97,7 +100,7 @@ module _ (config : InProxyConfig) (came : List OnLeg) (s : InProxy)
     where
       comes : (o : Opening) → s.opening ≡ o → accepts s o leg.number ≡ true
           → Goes (accepted s o leg.number)
-      comes AwaitsClient e may = opens AwaitsClient AwaitsPacket e refl (λ first. first)
+      comes AwaitsClient e may = opens AwaitsClient AwaitsPacket e refl refl (λ first. first)
       comes AwaitsPacket e may = absurd cc
       comes (WantsServer o) e may = newcomer leg.number (ap has_opened e) may
       comes (Announces o) e may = newcomer leg.number (ap has_opened e) may
@@ -108,7 +111,7 @@ module _ (config : InProxyConfig) (came : List OnLeg) (s : InProxy)
       connects AwaitsPacket e = still
       connects (Announces o) e = still
       connects (Announced o) e = still
-      connects (WantsServer o) e = opens (WantsServer o) (Announces o) e refl (λ first. first)
+      connects (WantsServer o) e = opens (WantsServer o) (Announces o) e refl refl (λ first. first)
 
   pub head_moves : (leg : Leg) (text : List ℕ) → Goes (head s leg text).0
   head_moves leg text = same_moves config came s (head s leg text).0 (same_head s leg text) h

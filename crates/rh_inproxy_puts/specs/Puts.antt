@@ -64,6 +64,19 @@ CameOn n Is came = HasOne Is (of_leg (ci n) came)
 abbrev pub Came : (Named → Type 0) → List OnLeg → Type 0
 Came Is came = (n : ℕ) × CameOn n Is came
 
+abbrev pub IsPacket : (Named → Type 0) → Message → Type 0
+IsPacket Is (Text bytes) = ⊥
+IsPacket Is (Pdu pdu) = ⊥
+IsPacket Is (Packet packet) = Is packet
+
+abbrev pub IsFront : (Named → Type 0) → List Message → Type 0
+IsFront Is [] = ⊥
+IsFront Is (message ∷ messages) = IsPacket Is message
+
+-- it was the first that came there
+abbrev pub CameFirst : ℕ → (Named → Type 0) → List OnLeg → Type 0
+CameFirst n Is came = IsFront Is (of_leg (ci n) came)
+
 -- an RPC PDU is among them
 abbrev pub HasPdu : List ℕ → List Message → Type 0
 HasPdu pdu [] = ⊥
@@ -71,15 +84,15 @@ HasPdu pdu (message ∷ messages) = (message ≡ Pdu pdu) ⊎ HasPdu pdu message
 
 -- ---- what is put
 
--- CONN/B2 with what CONN/B1 told on the lowest ci leg, or IN_R1/A2 with what IN_R1/A1 told there;
--- and the own window and timeout
+-- CONN/B2 with what CONN/B1 told, which came first on the lowest ci leg, or IN_R1/A2 with what
+-- IN_R1/A1 told there; and the own window and timeout
 abbrev pub IsFirst : InProxyConfig → List OnLeg → Named → Type 0
 IsFirst config came (ConnB2 version connection channel window timeout group address padding) =
     (version ≡ 1) × (window ≡ config.window) × (timeout ≡ config.timeout)
-    × (address ≡ V4 config.address) × CameOn config.number (Connects connection channel group) came
+    × (address ≡ V4 config.address) × CameFirst config.number (Connects connection channel group) came
 IsFirst config came (InR1A2 version connection predecessor successor window timeout) =
     (version ≡ 1) × (window ≡ config.window) × (timeout ≡ config.timeout)
-    × CameOn config.number (Replaces connection predecessor successor) came
+    × CameFirst config.number (Replaces connection predecessor successor) came
 IsFirst config came packet = ⊥
 
 -- an acknowledgement of a channel that began on a ci leg, or one that came for the out proxy;
@@ -112,11 +125,6 @@ IsRest came n (Packet (InR2A2 successor) ∷ messages) =
 IsRest came n (Packet (InR1A6 successor) ∷ messages) =
     CameOn n (Leaves successor) came × AllByRecursion IsPing messages
 IsRest came n (message ∷ messages) = IsPlain came n message × IsRest came n messages
-
-abbrev pub IsPacket : (Named → Type 0) → Message → Type 0
-IsPacket Is (Text bytes) = ⊥
-IsPacket Is (Pdu pdu) = ⊥
-IsPacket Is (Packet packet) = Is packet
 
 -- what is put on the is leg, as far as it was put
 abbrev pub IsStream : InProxyConfig → List OnLeg → List Message → Type 0

@@ -9,7 +9,8 @@ ghost use Rattle.rh_inproxy_puts.specs.Puts.{ArePutUp, PutsInOrder};
 
 /// Whatever moves an in proxy makes, allowed or not, if it puts only on legs that are up: on its is
 /// leg stands first CONN/B2 or IN_R1/A2, with its own window and timeout and with what CONN/B1 or
-/// IN_R1/A1 told on its lowest ci leg. IN_R2/A2 stands behind it once for each later ci leg, in the
+/// IN_R1/A1 told, which came first on its lowest ci leg. Behind it stands IN_R2/A2 once for each
+/// later ci leg, in the
 /// order of their numbers, with the cookie of the IN_R1/A1 that came there. Each RPC PDU came on a
 /// ci leg of which the server was told before. Between them stand acknowledgements of channels that
 /// began on ci legs, those that came for the out proxy, OUT_R1/A8 for OUT_R1/A7, END/A2 and Pings;
