@@ -1,5 +1,5 @@
 -- before the first packet an in proxy takes nothing else on a ci leg
-use Rattle.std.proofs.Common.{◌≡◌, ℕ, ◌==◌, ◌&&◌, ◌++◌, Bool, true, false, true≢false, List, [], ◌∷◌, Some, None, Ok, Err, refl, sym, ◌∙◌, subst}
+use Rattle.std.proofs.Common.{◌≡◌, ℕ, ◌==◌, ◌&&◌, ◌++◌, true, false, true≢false, List, [], ◌∷◌, Some, None, Ok, Err, refl, sym, ◌∙◌, subst}
 use Rattle.std.proofs.lemmas.Bool.{and_parts}
 use Rattle.std.specs.declared.option.Option.{Option}
 use Rattle.rh_rts.specs.declared.command.Cookie.{Cookie}
@@ -10,7 +10,6 @@ use Rattle.rh_line.specs.declared.which.Which.TheVariants.{Current}
 use Rattle.rh_order.proofs.ByNumber.{by_test}
 use Rattle.rh_shell.specs.Rules.{Message}
 use Rattle.rh_shell.specs.Moves.{OnLeg}
-use Rattle.rh_inproxy.specs.declared.opening.TheConstants.{KEEPALIVE}
 use Rattle.rh_inproxy.specs.declared.state.ClientLeg.{ClientLeg}
 use Rattle.rh_inproxy.specs.declared.state.Entry.TheVariants.{Connects}
 use Rattle.rh_inproxy.specs.declared.state.InProxyConfig.{InProxyConfig}

@@ -161,8 +161,7 @@ module _ (config : InProxyConfig) where
       → PutKeeps Holds (is_leg n) came put pick
   server_kept s n came put e None h goes = tt
   server_kept s n came put e (Some one) h goes =
-      subst (λ (k : ℕ). Holds one.0 came (put ++ (is_leg k, one.1) ∷ [])) e
-      (
+      subst (λ (k : ℕ). Holds one.0 came (put ++ (is_leg k, one.1) ∷ [])) e (
         subst (λ (ms : List Message). Stands config came ms one.0)
             (sym (more_by (is_leg config.number) put (is_leg config.number, one.1) true
             (test_same config.number))) goes,
@@ -238,23 +237,26 @@ module _ (config : InProxyConfig) where
       moves_kept (moved proxy_rules p move) moves may.1 (move_kept p move may.0 h)
 
   starts : HoldsAt (started (first config))
-  starts = (record {
-    sound = record {
-      same = refl;
-      joined = refl;
-      finished = refl;
-      opening = (refl, refl);
-      next = tt;
-      leaving = tt;
-      waits = tt;
-      held = tt;
-      held_next = tt;
-      quiet = tt;
-    };
-    at = refl;
-    stream = tt;
-    last = refl;
-  }, λ e. refl)
+  starts = (
+    record {
+      sound = record {
+        same = refl;
+        joined = refl;
+        finished = refl;
+        opening = (refl, refl);
+        next = tt;
+        leaving = tt;
+        waits = tt;
+        held = tt;
+        held_next = tt;
+        quiet = tt;
+      };
+      at = refl;
+      stream = tt;
+      last = refl;
+    },
+    λ e. refl,
+  )
 
 pub puts_in_order : (config : InProxyConfig) (moves : List Move)
     → ArePutUp proxy_rules (started (first config)) moves

@@ -89,7 +89,8 @@ HasPdu pdu (message ∷ messages) = (message ≡ Pdu pdu) ⊎ HasPdu pdu message
 abbrev pub IsFirst : InProxyConfig → List OnLeg → Named → Type 0
 IsFirst config came (ConnB2 version connection channel window timeout group address padding) =
     (version ≡ 1) × (window ≡ config.window) × (timeout ≡ config.timeout)
-    × (address ≡ V4 config.address) × CameFirst config.number (Connects connection channel group) came
+    × (address ≡ V4 config.address)
+    × CameFirst config.number (Connects connection channel group) came
 IsFirst config came (InR1A2 version connection predecessor successor window timeout) =
     (version ≡ 1) × (window ≡ config.window) × (timeout ≡ config.timeout)
     × CameFirst config.number (Replaces connection predecessor successor) came

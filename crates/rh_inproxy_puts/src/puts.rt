@@ -10,13 +10,12 @@ ghost use Rattle.rh_inproxy_puts.specs.Puts.{ArePutUp, PutsInOrder};
 /// Whatever moves an in proxy makes, allowed or not, if it puts only on legs that are up: on its is
 /// leg stands first CONN/B2 or IN_R1/A2, with its own window and timeout and with what CONN/B1 or
 /// IN_R1/A1 told, which came first on its lowest ci leg. Behind it stands IN_R2/A2 once for each
-/// later ci leg, in the
-/// order of their numbers, with the cookie of the IN_R1/A1 that came there. Each RPC PDU came on a
-/// ci leg of which the server was told before. Between them stand acknowledgements of channels that
-/// began on ci legs, those that came for the out proxy, OUT_R1/A8 for OUT_R1/A7, END/A2 and Pings;
-/// and then at most one IN_R1/A6, with the cookie of the IN_R1/A5 that came on the ci leg of which
-/// the server was told last, and behind it only Pings (MS-RPCH 2.2.4, 3.2.3; several ci legs are
-/// this profile's).
+/// later ci leg of which the server is told, in the order of their numbers, with the cookie of the
+/// IN_R1/A1 that came there. Each RPC PDU came on a ci leg of which the server was told before it.
+/// Between them stand acknowledgements of channels that began on ci legs, those that came for the
+/// out proxy, OUT_R1/A8 for OUT_R1/A7, END/A2 and Pings; and then at most one IN_R1/A6, with the
+/// cookie of the IN_R1/A5 that came on the ci leg of which the server was told last, and behind it
+/// only Pings (MS-RPCH 2.2.4, 3.2.3; several ci legs are this profile's).
 pub fn an_in_proxy_puts_in_order()
     ensures { (config : InProxyConfig) (moves : List Move)
         → ArePutUp rules (started (first config)) moves
