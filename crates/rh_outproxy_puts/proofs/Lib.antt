@@ -1,2 +1,4 @@
 mod Turns
 mod ToServer
+mod Forms
+mod Standing

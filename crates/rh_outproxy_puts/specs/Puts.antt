@@ -59,3 +59,89 @@ abbrev pub PutsToServer : OutProxyConfig → Passage OutProxy → Type 0
 PutsToServer config p =
     IsToServer config (of_leg (co_leg config.number) p.came)
     (of_leg (os_leg config.number) p.put)
+
+-- ---- to the client: what goes first
+
+-- the OUT response (MS-RPCH 2.1.2)
+abbrev pub response : OutProxyConfig → Message
+response config = Text (response_text (config.lifetime + ping_room))
+
+-- which packet came first from the client
+abbrev pub OpensNew : Named → Type 0
+OpensNew (ConnA1 version connection channel window) = Unit {0}
+OpensNew packet = ⊥
+
+abbrev pub OpensSuccessor : Named → Type 0
+OpensSuccessor (OutR1A3 version connection predecessor successor window) = Unit {0}
+OpensSuccessor packet = ⊥
+
+-- the answer to an echo request, and nothing else (MS-RPCH 2.1.2)
+abbrev pub IsEcho : List Message → Type 0
+IsEcho [] = Unit {0}
+IsEcho (text ∷ []) = text ≡ Text echo_text
+IsEcho (text ∷ other ∷ rest) = ⊥
+
+-- ---- to the client: what passes the channel once it is open
+
+-- what came for the client from the server, with destination 0, is passed on; END/B2, OUT_R1/A10
+-- and Pings are the proxy's (MS-RPCH 2.2.4; replacement and the end are this profile's)
+abbrev pub PassesPacket : List Message → Named → Type 0
+PassesPacket came (InR1A4 to version window timeout) =
+    (to ≡ 0) × Has (InR1A3 to version window timeout) came
+PassesPacket came (InR2A4 to) = (to ≡ 0) × Has (InR2A3 to) came
+PassesPacket came (OutR1A2 to) = (to ≡ 0) × Has (OutR1A1 to) came
+PassesPacket came (OutR1A6 to version timeout) = (to ≡ 0) × Has (OutR1A5 to version timeout) came
+PassesPacket came (AckTo to received available channel) =
+    (to ≡ 0) × Has (AckTo to received available channel) came
+PassesPacket came EndB2 = Unit {0}
+PassesPacket came OutR1A10 = Unit {0}
+PassesPacket came Ping = Unit {0}
+PassesPacket came packet = ⊥
+
+-- and RPC PDUs
+abbrev pub IsPassed : List Message → Message → Type 0
+IsPassed came (Text bytes) = ⊥
+IsPassed came (Pdu pdu) = Unit {0}
+IsPassed came (Packet packet) = PassesPacket came packet
+
+-- ---- to the client: a new channel
+
+-- CONN/C2 is the CONN/C1 that came (MS-RPCH 2.2.4)
+abbrev pub OpensClient : List Message → Named → Type 0
+OpensClient came (ConnC2 version window timeout) = Has (ConnC1 version window timeout) came
+OpensClient came packet = ⊥
+
+-- Pings, then CONN/C2, and then what passes
+abbrev pub IsOpening : List Message → List Message → Type 0
+IsOpening came [] = Unit {0}
+IsOpening came (Text bytes ∷ rest) = ⊥
+IsOpening came (Pdu pdu ∷ rest) = ⊥
+IsOpening came (Packet packet ∷ rest) =
+    ((packet ≡ Ping) × IsOpening came rest)
+    ⊎ (OpensClient came packet × AllByRecursion (IsPassed came) rest)
+
+-- the response, CONN/A3 with the timeout, and that, as far as they were put
+abbrev pub IsNew : OutProxyConfig → List Message → List Message → Type 0
+IsNew config came [] = Unit {0}
+IsNew config came (text ∷ []) = text ≡ response config
+IsNew config came (text ∷ first ∷ rest) =
+    (text ≡ response config) × (first ≡ Packet (ConnA3 config.timeout)) × IsOpening came rest
+
+-- ---- to the client: a successor
+
+-- the response, and then what passes
+abbrev pub IsSuccessor : OutProxyConfig → List Message → List Message → Type 0
+IsSuccessor config came [] = Unit {0}
+IsSuccessor config came (text ∷ rest) =
+    (text ≡ response config) × AllByRecursion (IsPassed came) rest
+
+-- by what came first from the client
+abbrev pub IsToClient : OutProxyConfig → List Message → List Message → List Message → Type 0
+IsToClient config asked came put =
+    IsEcho put ⊎ ((HasOne OpensNew asked × IsNew config came put)
+    ⊎ (HasOne OpensSuccessor asked × IsSuccessor config came put))
+
+abbrev pub PutsToClient : OutProxyConfig → Passage OutProxy → Type 0
+PutsToClient config p =
+    IsToClient config (of_leg (co_leg config.number) p.came)
+    (of_leg (os_leg config.number) p.came) (of_leg (co_leg config.number) p.put)
