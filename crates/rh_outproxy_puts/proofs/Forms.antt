@@ -252,3 +252,14 @@ forwarded_first w m room none =
     ap (λ (x : Waiting). forwarded x m)
     (ap (λ (n : ℕ). record w { room = n }) room
     ∙ ap (λ (ds : List Due). record { room = FORWARDED_ROOM; due = ds }) none)
+
+-- where there is no room nothing changes
+abbrev pub IsKept : Waiting → Waiting × Bool → Type 0
+IsKept w (other, true) = Unit {0}
+IsKept w (other, false) = other ≡ w
+
+pub forwarded_kept : (w : Waiting) (m : Named) → IsKept w (forwarded w m)
+forwarded_kept w m =
+    by_test (IsKept w) (list_any (takes m) w.due) (with_due w (merged w.due m), true) _ (λ e. tt)
+    (λ e. by_test (IsKept w) (nat_lt (count Forwarded w.due) w.room)
+    (pushed w (to_forward m), true) (w, false) (λ f. tt) (λ f. refl))

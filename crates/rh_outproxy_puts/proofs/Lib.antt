@@ -2,3 +2,4 @@ mod Turns
 mod ToServer
 mod Forms
 mod Standing
+mod ToClient
