@@ -76,6 +76,17 @@ pub record IsQuiet (a : Seen) : Type 0 where
   pub handover : a.handover ≡ marks.Awaited
   pub client : is_client_marked a.client ≡ false
 
+-- whatever is in the core, where nothing more waits
+pub quiet_core : (a : Seen) (k : Core) → k.waiting ≡ a.core.waiting → IsQuiet a
+    → IsQuiet (record a { core = k })
+quiet_core a k same q = record {
+  pdus = q.pdus;
+  dues = ap (λ (w : Waiting). w.due) same ∙ q.dues;
+  end = q.end;
+  handover = q.handover;
+  client = q.client;
+}
+
 -- CONN/C1 came
 abbrev pub is_opened : Channel → Bool
 is_opened (channels.Joined connection cookie) = true
@@ -222,13 +233,12 @@ module _ (config : OutProxyConfig) where
 
   -- behind what goes first
   pub put_more : (put due : List Message) (m : Message) (Q : List Message → Type 0) → due ≡ []
-      → (Q (put ++ due) → Q ((put ++ due) ++ m ∷ [])) → Q (put ++ due)
-      → Q ((put ++ m ∷ []) ++ due)
-  put_more put due m Q e goes h =
+      → Q ((put ++ due) ++ m ∷ []) → Q ((put ++ m ∷ []) ++ due)
+  put_more put due m Q e h =
       subst (λ (d : List Message). Q ((put ++ m ∷ []) ++ d)) (sym e)
       (subst Q (ap (λ (ms : List Message). ms ++ m ∷ []) (append-nil put)
       ∙ sym (append-nil (put ++ m ∷ [])))
-      (subst (λ (d : List Message). Q ((put ++ d) ++ m ∷ [])) e (goes h)))
+      (subst (λ (d : List Message). Q ((put ++ d) ++ m ∷ [])) e h))
 
   -- what goes first is put
   pub response_goes : (c : Channel) (put : List Message)

@@ -1,6 +1,7 @@
 -- what an out proxy puts to its client, in order
 use Rattle.std.proofs.Common.{◌≡◌, ◌⊎◌, inl, inr, ℕ, ◌+◌, ◌≤◌, ◌==◌, ◌&&◌, ◌||◌, not, Bool, true, false, true≢false, if◌then◌else◌, List, [], ◌∷◌, ◌++◌, length, append_assoc, Some, None, is_some, Ok, Err, refl, sym, ap, ◌∙◌, subst, arith, rules}
 use Rattle.std.proofs.lemmas.Bool.{and_parts, eqb-true}
+use Rattle.std.specs.List.{AllByRecursion}
 use Rattle.std.specs.Prelude.{IfSome, nat_le}
 use Rattle.std.specs.declared.option.Option.{Option}
 use Rattle.std.specs.declared.result.Result.{Result}
@@ -59,8 +60,9 @@ use Rattle.rh_proxy_counts.proofs.Counts.{here_more, other_more}
 use Rattle.rh_streams.specs.Turns.{Stages, takes_frames, AreInTurn}
 use Rattle.rh_outproxy_puts.specs.Puts.{response, PassesPacket, IsPassed, OpensClient, OpensNew, OpensSuccessor, IsEcho, IsNew, IsSuccessor, IsToClient, PutsToClient}
 use Rattle.rh_outproxy_puts.proofs.Forms.{IsKept, IsPing, HasOpened, begun_front, follows_front, forwarded_each, forwarded_first, forwarded_kept, forwarded_opening, forwarded_room, opened_front, pings_front}
-use Rattle.rh_outproxy_puts.proofs.Standing.{Core, Seen, core_of, seen, is_still, IsQuiet, is_opened, IsServing, IsDown, due_by, Kind, At, Stands, at_came, kind_came, stands_came, kind_waits, kind_passes, kind_pings, kind_opens, put_more, response_goes, response_serves, timeout_goes, kind_starts}
-use Rattle.rh_outproxy_puts.proofs.Turns.{IsAsked, IsUnasked, TurnsAt, Keeps, keeps_all, here, there, is_wanted}
+use Rattle.rh_outproxy_puts.proofs.Standing.{Core, Seen, core_of, seen, is_still, IsQuiet, quiet_core, is_opened, IsServing, IsDown, due_by, Kind, At, Stands, at_came, kind_came, stands_came, kind_waits, kind_passes, kind_pings, kind_opens, put_more, response_goes, response_serves, timeout_goes, kind_starts}
+use Rattle.rh_outproxy_puts.proofs.Turns.{IsAsked, IsUnasked, TurnsAt, Keeps, keeps_all, here, there, is_wanted, is_asked, is_unheard}
+use Rattle.rh_outproxy_puts.proofs.Turns as turning
 
 -- ---- what leaves all alone
 
@@ -458,3 +460,636 @@ module _ (config : OutProxyConfig) where
       os_row named.OutR1A9 = a9_row
       os_row named.EndB1 = end_row
       os_row m = h
+
+    -- ---- what is put
+
+    or_put : (leg : Leg) (a b : Pick) → PutKeeps Holds leg came put a
+        → (a ≡ None → PutKeeps Holds leg came put b) → PutKeeps Holds leg came put (or_else a b)
+    or_put leg None b g k = k refl
+    or_put leg (Some pick) b g k = g
+
+    -- to the server
+    to_server : (t : OutProxy) (m : Message) → Holds t came put
+        → Holds t came (put ++ (os, m) ∷ [])
+    to_server t m k =
+        subst (Stands config (seen t) (of_leg os came)) (sym (other_more co put (os, m) refl)) k
+
+    first_put : (l : ServerLeg) → s.server ≡ l → is_server_first l ≡ true → (o : Option Named)
+        → PutKeeps Holds os came put (first_by s o)
+    first_put l e f None = tt
+    first_put servers.Down e f (Some m) = absurd cc
+    first_put servers.FirstDue e f (Some m) =
+        to_server (record s { server = servers.Up }) (Packet m) (record {
+          still = λ x. quiet (h.still (ap (λ (l : ServerLeg).
+              is_server_down l || not (is_some (joined s.channel))) e ∙ x));
+          silent = λ x. absurd cc;
+          room = h.room;
+          at = subst (λ (l : ServerLeg). At config (is_server_down l) (core_of s)
+              (of_leg os came) (of_leg co put)) e h.at;
+        })
+      where
+        quiet : IsQuiet (seen s) → IsQuiet (seen (record s { server = servers.Up }))
+        quiet q = record {
+          pdus = q.pdus;
+          dues = q.dues;
+          end = q.end;
+          handover = q.handover;
+          client = q.client;
+        }
+    first_put servers.Up e f (Some m) = absurd cc
+    first_put servers.Marked e f (Some m) = absurd cc
+
+    ack_put : (o : Option Cookie) (a : Option Ack) → PutKeeps Holds os came put (ack_by s o a)
+    ack_put None a = tt
+    ack_put (Some cookie) None = tt
+    ack_put (Some cookie) (Some ack) =
+        to_server (record s { line = after_told s.line Current ack })
+        (Packet (named.Ack ack.received ack.available cookie))
+        (same_holds s (record s { line = after_told s.line Current ack }) came put refl h)
+
+    os_put : PutKeeps Holds os came put (next_os s)
+    os_put =
+        or_put os (put_first s) (put_ack s)
+        (by_test (PutKeeps Holds os came put) (is_server_first s.server)
+        (first_by s (first_packet s s.channel)) None
+        (λ e. first_put s.server refl e (first_packet s s.channel)) (λ e. tt))
+        (λ e. ack_put (joined s.channel) (ack_due s))
+
+    -- to the client
+    to_client : (t : OutProxy) (m : Message)
+        → Stands config (seen t) (of_leg os came) (of_leg co put ++ m ∷ [])
+        → Holds t came (put ++ (co, m) ∷ [])
+    to_client t m k =
+        subst (Stands config (seen t) (of_leg os came)) (sym (here_more co put m)) k
+
+    -- the leg to the server is up, and the answer changes
+    answered : (t : OutProxy) (m : Message) (x : Answer) → t ≡ record s { answer = x }
+        → is_server_down s.server ≡ false
+        → IsServing x × Kind config (of_leg os came) s.channel
+        ((of_leg co put ++ m ∷ []) ++ due_by config x (is_successor s.channel)) s.waiting.due
+        → Holds t came (put ++ (co, m) ∷ [])
+    answered t m x e up' k =
+        subst (λ (u : OutProxy). Holds u came (put ++ (co, m) ∷ [])) (sym e)
+        (to_client (record s { answer = x }) m (record {
+          still = λ f. let q = h.still f in record {
+            pdus = q.pdus;
+            dues = q.dues;
+            end = q.end;
+            handover = q.handover;
+            client = q.client;
+          };
+          silent = h.silent;
+          room = h.room;
+          at = subst (λ (b : Bool). At config b (core_of (record s { answer = x }))
+              (of_leg os came) (of_leg co put ++ m ∷ [])) (sym up') k;
+        }))
+
+    -- what goes first, where the leg to the server is up
+    answer_up : s.config ≡ config → is_server_down s.server ≡ false → (x : Answer)
+        → s.answer ≡ x → IsServing x
+        → Kind config (of_leg os came) s.channel
+        (of_leg co put ++ due_by config x (is_successor s.channel)) s.waiting.due
+        → PutKeeps Holds co came put (answer_by x s)
+    answer_up made up' answers.Awaited e serves k = absurd serves
+    answer_up made up' answers.EchoDue e serves k = absurd serves
+    answer_up made up' answers.EchoPut e serves k = absurd serves
+    answer_up made up' answers.EchoDrawn e serves k = absurd serves
+    answer_up made up' answers.ResponseDue e serves k =
+        subst (λ (m : Message). Holds (record s { answer = behind_response s.channel }) came
+        (put ++ (co, m) ∷ [])) (sym (ap response made))
+        (answered (record s { answer = behind_response s.channel }) (response config)
+        (behind_response s.channel) refl up' (
+          response_serves config s.channel,
+          subst (λ (ms : List Message). Kind config (of_leg os came) s.channel ms s.waiting.due)
+              (response_goes config s.channel (of_leg co put)) k,
+        ))
+    answer_up made up' answers.TimeoutDue e serves k =
+        subst (λ (c : OutProxyConfig). Holds (record s { answer = answers.Put }) came
+        (put ++ (co, Packet (named.ConnA3 c.timeout)) ∷ [])) (sym made)
+        (answered (record s { answer = answers.Put }) (Packet (named.ConnA3 config.timeout))
+        answers.Put refl up' (
+          tt,
+          subst (λ (ms : List Message). Kind config (of_leg os came) s.channel ms s.waiting.due)
+              (timeout_goes config (of_leg co put)) k,
+        ))
+    answer_up made up' answers.Put e serves k = tt
+
+    -- and where it is down
+    answer_down : is_server_down s.server ≡ true → (x : Answer) → s.answer ≡ x
+        → IsDown x s.request s.channel (of_leg co put)
+        → PutKeeps Holds co came put (answer_by x s)
+    answer_down down answers.Awaited e k = tt
+    answer_down down answers.EchoDue e k =
+        let q = quiet_down down in
+        let quiet = h.silent down in
+        down_holds (record s { answer = answers.EchoPut }) (put ++ (co, Text echo_text) ∷ [])
+        down (record {
+          pdus = q.pdus;
+          dues = q.dues;
+          end = q.end;
+          handover = q.handover;
+          client = q.client;
+        }) quiet.0 quiet.1 h.room (
+          k.0,
+          k.1,
+          here_more co put (Text echo_text)
+          ∙ ap (λ (ms : List Message). ms ++ Text echo_text ∷ []) k.2,
+        )
+    answer_down down answers.EchoPut e k = tt
+    answer_down down answers.EchoDrawn e k = tt
+    answer_down down answers.ResponseDue e k = absurd k
+    answer_down down answers.TimeoutDue e k = absurd k
+    answer_down down answers.Put e k = absurd k
+
+    answer_put : s.config ≡ config → PutKeeps Holds co came put (put_answer s)
+    answer_put made = by (is_server_down s.server) refl
+      where
+        by : (b : Bool) → is_server_down s.server ≡ b
+            → PutKeeps Holds co came put (put_answer s)
+        by true e = answer_down e s.answer refl (at_down e)
+        by false e =
+            let k = at_up e in answer_up made e s.answer refl k.0 k.1
+
+    -- ---- behind what goes first
+
+    -- where something came from the server, the channel is open and the leg up
+    busy : (IsQuiet (seen s) → ⊥)
+        → (is_server_down s.server ≡ false) × (is_some (joined s.channel) ≡ true)
+    busy some =
+        not_still (is_server_down s.server) (is_some (joined s.channel)) (λ e. some (h.still e))
+
+    none_due : (x : Answer) → answer_by x s ≡ None → IsServing x
+        → due_by config x (is_successor s.channel) ≡ []
+    none_due answers.Awaited e serves = refl
+    none_due answers.EchoDue e serves = absurd serves
+    none_due answers.EchoPut e serves = refl
+    none_due answers.EchoDrawn e serves = refl
+    none_due answers.ResponseDue e serves = absurd cc
+    none_due answers.TimeoutDue e serves = absurd cc
+    none_due answers.Put e serves = refl
+
+    abbrev Whole : List Message
+    Whole = of_leg co put ++ due_by config s.answer (is_successor s.channel)
+
+    -- a message goes, and of what waits these are left
+    goes : (t : OutProxy) (m : Message) (w : Waiting)
+        → core_of t ≡ record (core_of s) { waiting = w } → w.room ≡ FORWARDED_ROOM
+        → is_server_down s.server ≡ false → (is_still (core_of s) ≡ true → IsQuiet (seen t))
+        → put_answer s ≡ None
+        → (Kind config (of_leg os came) s.channel Whole s.waiting.due
+        → Kind config (of_leg os came) s.channel (Whole ++ m ∷ []) w.due)
+        → Holds t came (put ++ (co, m) ∷ [])
+    goes t m w same room up' quiet none more =
+        let k = at_up up' in
+        to_client t m (record {
+          still = λ e. quiet (sym (ap is_still same) ∙ e);
+          silent = λ e.
+              absurd (true≢false (sym e ∙ ap (λ (c : Core). is_server_down c.server) same ∙ up'));
+          room = ap (λ (c : Core). c.waiting.room) same ∙ room;
+          at = subst (λ (c : Core). At config (is_server_down c.server) c (of_leg os came)
+              (of_leg co put ++ m ∷ [])) (sym same)
+              (subst (λ (b : Bool). At config b (record (core_of s) { waiting = w })
+              (of_leg os came) (of_leg co put ++ m ∷ [])) (sym up') (
+                k.0,
+                put_last (none_due s.answer none k.0) (more k.1),
+              ));
+        })
+      where
+        put_last : due_by config s.answer (is_successor s.channel) ≡ []
+            → Kind config (of_leg os came) s.channel (Whole ++ m ∷ []) w.due
+            → Kind config (of_leg os came) s.channel
+            ((of_leg co put ++ m ∷ []) ++ due_by config s.answer (is_successor s.channel)) w.due
+        put_last e kind =
+            put_more config (of_leg co put) (due_by config s.answer (is_successor s.channel)) m
+            (λ (ms : List Message). Kind config (of_leg os came) s.channel ms w.due) e kind
+
+    waiting_put : put_answer s ≡ None → (dues : List Due) → s.waiting.due ≡ dues
+        → PutKeeps Holds co came put (waiting_by s dues)
+    waiting_put none [] e = tt
+    waiting_put none (due ∷ dues) e =
+        let b = busy (λ q. some (sym e ∙ q.dues)) in
+        goes (record s { waiting = with_due s.waiting dues }) (Packet due.packet)
+        (with_due s.waiting dues) refl h.room b.0
+        (λ x. absurd (true≢false (sym x
+        ∙ still_by (is_server_down s.server) (is_some (joined s.channel)) b.0 b.1)))
+        none
+        (λ k. kind_waits config (of_leg os came) s.channel Whole due dues b.1
+        (subst (Kind config (of_leg os came) s.channel Whole) e k))
+      where
+        some : due ∷ dues ≡ [] → ⊥
+        some f = absurd cc
+
+    -- where nothing waits, what passes goes
+    passes : (t : OutProxy) (m : Message) → core_of t ≡ core_of s → s.waiting.due ≡ []
+        → put_answer s ≡ None → IsPassed (of_leg os came) m → (IsQuiet (seen s) → ⊥)
+        → Holds t came (put ++ (co, m) ∷ [])
+    passes t m same no_dues none is some =
+        let b = busy some in
+        goes t m s.waiting same h.room b.0
+        (λ x. absurd (true≢false (sym x
+        ∙ still_by (is_server_down s.server) (is_some (joined s.channel)) b.0 b.1)))
+        none
+        (λ k. subst (Kind config (of_leg os came) s.channel (Whole ++ m ∷ [])) (sym no_dues)
+        (kind_passes config (of_leg os came) s.channel Whole m b.1 is
+        (subst (Kind config (of_leg os came) s.channel Whole) no_dues k)))
+
+    module _ (none : put_answer s ≡ None) (no_dues : s.waiting.due ≡ []) where
+      pdu_put : (pdus : List (List ℕ)) → s.line.current.pdus ≡ pdus
+          → PutKeeps Holds co came put (pdu_by s pdus)
+      pdu_put [] e = tt
+      pdu_put (pdu ∷ pdus) e =
+          by_test (PutKeeps Holds co came put) (may_send s.window (length pdu)) _ None
+          (λ f. passes
+          (record s { line = after_take s.line; window = after_sent s.window (length pdu) })
+          (Pdu pdu) refl no_dues none tt (λ q. some (sym e ∙ q.pdus)))
+          (λ f. tt)
+        where
+          some : pdu ∷ pdus ≡ [] → ⊥
+          some f = absurd cc
+
+      end_put : PutKeeps Holds co came put (put_end s)
+      end_put =
+          by_test (PutKeeps Holds co came put) (is_empty s.line.current.pdus && is_due s.end) _
+          None
+          (λ f. passes (record s { end = marks.Put }) (Packet named.EndB2) refl no_dues none tt
+          (λ q. true≢false (sym (and_parts (is_empty s.line.current.pdus) (is_due s.end) f).1
+          ∙ ap is_due q.end)))
+          (λ f. tt)
+
+      handover_put : PutKeeps Holds co came put (put_handover s)
+      handover_put =
+          by_test (PutKeeps Holds co came put) (is_empty s.line.current.pdus && is_due s.handover)
+          _ None
+          (λ f. passes (record s { handover = marks.Put }) (Packet named.OutR1A10) refl no_dues
+          none tt
+          (λ q. true≢false (sym (and_parts (is_empty s.line.current.pdus) (is_due s.handover)
+          f).1 ∙ ap is_due q.handover)))
+          (λ f. tt)
+
+      ping_put : PutKeeps Holds co came put (put_ping s)
+      ping_put =
+          by_test (PutKeeps Holds co came put)
+          (is_ping_due s.ping && nat_le (s.pinged + 20) ping_room) _ None
+          (λ f. goes (record s { ping = pings.NotDue; pinged = s.pinged + 20 })
+          (Packet named.Ping) s.waiting refl h.room
+          (up_by (is_server_down s.server) refl
+          (and_parts (is_ping_due s.ping) (nat_le (s.pinged + 20) ping_room) f).0)
+          (λ x. let q = h.still x in record {
+            pdus = q.pdus;
+            dues = q.dues;
+            end = q.end;
+            handover = q.handover;
+            client = q.client;
+          })
+          none
+          (λ k. subst (Kind config (of_leg os came) s.channel (Whole ++ Packet named.Ping ∷ []))
+          (sym no_dues) (kind_pings config (of_leg os came) s.channel Whole
+          (subst (Kind config (of_leg os came) s.channel Whole) no_dues k))))
+          (λ f. tt)
+        where
+          up_by : (b : Bool) → is_server_down s.server ≡ b → is_ping_due s.ping ≡ true
+              → is_server_down s.server ≡ false
+          up_by true e f =
+              absurd (true≢false (sym f ∙ ap is_ping_due (h.silent e).0))
+          up_by false e f = e
+
+    no_waiting : (dues : List Due) → waiting_by s dues ≡ None → dues ≡ []
+    no_waiting [] e = refl
+    no_waiting (due ∷ dues) e = absurd cc
+
+    co_put : s.config ≡ config → PutKeeps Holds co came put (next_co s)
+    co_put made =
+        or_put co (put_answer s) _ (answer_put made)
+        (λ none. or_put co (put_waiting s) _ (waiting_put none s.waiting.due refl)
+        (λ e. let no_dues = no_waiting s.waiting.due e in
+        or_put co (put_pdu s) _ (pdu_put none no_dues s.line.current.pdus refl)
+        (λ f. or_put co (put_mark s) (put_ping s)
+        (or_put co (put_end s) (put_handover s) (end_put none no_dues)
+        (λ f. handover_put none no_dues))
+        (λ f. ping_put none no_dues))))
+
+    -- ---- legs, heads, marks and Pings
+
+    module _ (g : Stages) (turns : TurnsAt config g s came) where
+      -- the client's leg comes up, or the server's
+      up_holds : (leg : Leg) (cookie : Cookie) → may_up s leg ≡ true
+          → Holds (up s leg cookie) came put
+      up_holds leg cookie may =
+          by_test (λ (t : OutProxy). Holds t came put) (is_co s leg) _ _
+          (λ e. record {
+            still = λ f. let q = h.still f in record {
+              pdus = q.pdus;
+              dues = q.dues;
+              end = q.end;
+              handover = q.handover;
+              client = refl;
+            };
+            silent = h.silent;
+            room = h.room;
+            at = h.at;
+          })
+          (λ e. let w = is_wanted config s leg may e in starts w.1 w.2)
+        where
+          none : (x : Answer) → is_known s.channel ≡ true
+              → IsDown x s.request s.channel (of_leg co put) → of_leg co put ≡ []
+          none answers.Awaited e k = k
+          none answers.EchoDue e k = k.2
+          none answers.EchoPut e k = absurd (true≢false (sym e ∙ ap is_known k.1))
+          none answers.EchoDrawn e k = absurd (true≢false (sym e ∙ ap is_known k.1))
+          none answers.ResponseDue e k = absurd k
+          none answers.TimeoutDue e k = absurd k
+          none answers.Put e k = absurd k
+
+          starts : is_known s.channel ≡ true → is_server_down s.server ≡ true
+              → Holds (record s { server = servers.FirstDue; answer = answers.ResponseDue }) came
+              put
+          starts known down =
+              let q = quiet_down down in record {
+                still = λ f. record {
+                  pdus = q.pdus;
+                  dues = q.dues;
+                  end = q.end;
+                  handover = q.handover;
+                  client = q.client;
+                };
+                silent = λ f. absurd cc;
+                room = h.room;
+                at = (
+                  tt,
+                  subst (λ (ms : List Message). Kind config (of_leg os came) s.channel
+                      (ms ++ due_by config answers.ResponseDue (is_successor s.channel))
+                      s.waiting.due) (sym (none s.answer known (at_down down)))
+                      (kind_starts config (of_leg os came) s.channel s.waiting.due known
+                      (h.silent down).1 q.dues),
+                );
+              }
+
+      head_holds : (leg : Leg) (verdict : Result Asked HttpFault) → g leg ≡ Some stage.Head
+          → Holds (head_by s verdict).0 came put
+      head_holds leg (Err fault) turn = h
+      head_holds leg (Ok request) turn =
+          by_test (λ (r : OutProxy × Result HeadTaken HeadRefused). Holds r.0 came put)
+          (nat_le request.length greatest_echo) (
+            record s { answer = answers.EchoDue },
+            Ok (record { behind = PassedOver; length = request.length }),
+          ) (
+            record s { request = Some request },
+            Ok (record { behind = Frames; length = request.length }),
+          )
+          (λ e. down_holds (record s { answer = answers.EchoDue }) put down
+          (quiet_core (seen s) (core_of (record s { answer = answers.EchoDue })) refl quiet)
+          (h.silent down).0 (h.silent down).1 h.room (u.request, u.channel, nothing))
+          (λ e. down_holds (record s { request = Some request }) put down
+          (quiet_core (seen s) (core_of (record s { request = Some request })) refl quiet)
+          (h.silent down).0 (h.silent down).1 h.room
+          (subst (λ (x : Answer). IsDown x (Some request) s.channel (of_leg co put))
+          (sym u.answer) nothing))
+        where
+          at_co : leg ≡ co
+          at_co = turns.heads leg turn
+
+          unheard : is_unheard (g co) ≡ true
+          unheard = ap is_unheard (ap g (sym at_co) ∙ turn)
+
+          u : IsUnasked (turning.seen s)
+          u = turns.unasked unheard
+
+          down : is_server_down s.server ≡ true
+          down = unknown_down (ap is_known u.channel)
+
+          quiet : IsQuiet (seen s)
+          quiet = quiet_down down
+
+          nothing : of_leg co put ≡ []
+          nothing = subst (λ (x : Answer). IsDown x s.request s.channel (of_leg co put)) u.answer
+              (at_down down)
+
+      packet_row : (leg : Leg) (number : Count) (m : Named)
+          → Tells number (packets (of_leg leg came)) → takes_frames (g leg) ≡ true
+          → Row came put (leg, Packet m) (packet s leg number m)
+      packet_row leg number m tells turn =
+          by_test (Row came put (leg, Packet m)) (is_co s leg) (on_co s number m)
+          (if is_os s leg then on_os s m else unexpected s)
+          (λ e. subst (λ (l : Leg). Tells number (packets (of_leg l came))
+          → Row came put (l, Packet m) (on_co s number m)) (here config s leg turns.made e)
+          (λ first. co_row number m first turns.known) tells)
+          (λ e. by_test (Row came put (leg, Packet m)) (is_os s leg) (on_os s m) (unexpected s)
+          (λ f. subst (λ (l : Leg). takes_frames (g l) ≡ true
+          → Row came put (l, Packet m) (on_os s m))
+          (there config s leg turns.made f) (λ x. os_row (turns.served x) m) turn)
+          (λ f. h))
+
+      pdus_row : (leg : Leg) (number : Count) (bytes : List ℕ) → takes_frames (g leg) ≡ true
+          → Row came put (leg, Pdu bytes) (pdu s leg number bytes)
+      pdus_row leg number bytes turn =
+          by_test (Row came put (leg, Pdu bytes)) (is_os s leg) (on_pdu s bytes) (unexpected s)
+          (λ f. subst (λ (l : Leg). takes_frames (g l) ≡ true
+          → Row came put (l, Pdu bytes) (on_pdu s bytes))
+          (there config s leg turns.made f) (λ x. pdu_row (turns.served x) bytes) turn)
+          (λ f. h)
+
+      puts : (leg : Leg) → PutKeeps Holds leg came put (put_of s leg)
+      puts leg =
+          by_test (PutKeeps Holds leg came put) (is_co s leg) (next_co s)
+          (if is_os s leg then next_os s else None)
+          (λ e. subst (λ (l : Leg). PutKeeps Holds l came put (next_co s))
+          (here config s leg turns.made e) (co_put turns.made))
+          (λ e. by_test (PutKeeps Holds leg came put) (is_os s leg) (next_os s) None
+          (λ f. subst (λ (l : Leg). PutKeeps Holds l came put (next_os s))
+          (there config s leg turns.made f) os_put)
+          (λ f. tt))
+
+    drawn_holds : (leg : Leg) → Holds (drawn s leg) came put
+    drawn_holds leg =
+        by_test (λ (t : OutProxy). Holds t came put) (is_co s leg && is_echo_put s.answer)
+        (record s { answer = answers.EchoDrawn }) s
+        (λ e. by (is_server_down s.server) refl s.answer refl
+        (and_parts (is_co s leg) (is_echo_put s.answer) e).1)
+        (λ e. h)
+      where
+        draws : is_server_down s.server ≡ true
+            → IsDown answers.EchoDrawn s.request s.channel (of_leg co put)
+            → Holds (record s { answer = answers.EchoDrawn }) came put
+        draws down k =
+            let q = quiet_down down in
+            down_holds (record s { answer = answers.EchoDrawn }) put down (record {
+              pdus = q.pdus;
+              dues = q.dues;
+              end = q.end;
+              handover = q.handover;
+              client = q.client;
+            }) (h.silent down).0 (h.silent down).1 h.room k
+
+        by : (b : Bool) → is_server_down s.server ≡ b → (x : Answer) → s.answer ≡ x
+            → is_echo_put x ≡ true → Holds (record s { answer = answers.EchoDrawn }) came put
+        by b e answers.Awaited f t = absurd cc
+        by b e answers.EchoDue f t = absurd cc
+        by true e answers.EchoPut f t =
+            draws e (subst (λ (x : Answer). IsDown x s.request s.channel (of_leg co put)) f
+            (at_down e))
+        by false e answers.EchoPut f t = absurd (subst IsServing f (at_up e).0)
+        by b e answers.EchoDrawn f t = absurd cc
+        by b e answers.ResponseDue f t = absurd cc
+        by b e answers.TimeoutDue f t = absurd cc
+        by b e answers.Put f t = absurd cc
+
+    mark_holds : (leg : Leg) → only_marks s leg ≡ true → Holds (mark s leg) came put
+    mark_holds leg may =
+        let b = busy (λ q. unmarked (is_put s.end) (is_co s leg) (is_put s.handover)
+        (ap is_put q.end) (ap is_put q.handover) may) in
+        by_test (λ (t : OutProxy). Holds t came put) (is_co s leg) _ _
+        (λ e. core_holds s (record s { client = clients.Marked }) came put refl b.0 b.1 h)
+        (λ e. record {
+          still = λ f. absurd (true≢false (sym f
+              ∙ still_by false (is_some (joined s.channel)) refl b.1));
+          silent = λ f. absurd cc;
+          room = h.room;
+          at = at_up b.0;
+        })
+      where
+        unmarked : (a c b : Bool) → a ≡ false → b ≡ false → (a || (c && b)) ≡ true → ⊥
+        unmarked true c b e f t = absurd cc
+        unmarked false true true e f t = absurd cc
+        unmarked false true false e f t = absurd cc
+        unmarked false false b e f t = absurd cc
+
+    ping_holds : (leg : Leg) → is_some (ping_after s leg) ≡ true → Holds (ping s leg) came put
+    ping_holds leg may =
+        record {
+          still = λ f. let q = h.still f in record {
+            pdus = q.pdus;
+            dues = q.dues;
+            end = q.end;
+            handover = q.handover;
+            client = q.client;
+          };
+          silent = λ f. absurd (not_down s.answer (response' (is_co s leg)
+              (is_response_put s.answer) may) (at_down f));
+          room = h.room;
+          at = h.at;
+        }
+      where
+        response' : (a b : Bool) → is_some (if a && b then Some s.config.timeout else None) ≡ true
+            → b ≡ true
+        response' true true e = refl
+        response' true false e = absurd cc
+        response' false b e = absurd cc
+
+        not_down : (x : Answer) → is_response_put x ≡ true
+            → IsDown x s.request s.channel (of_leg co put) → ⊥
+        not_down answers.Awaited e k = absurd cc
+        not_down answers.EchoDue e k = absurd cc
+        not_down answers.EchoPut e k = absurd cc
+        not_down answers.EchoDrawn e k = absurd cc
+        not_down answers.ResponseDue e k = k
+        not_down answers.TimeoutDue e k = k
+        not_down answers.Put e k = k
+
+  -- ---- moves
+
+  abbrev HoldsAt : Passage OutProxy → Type 0
+  HoldsAt p = Holds p.role p.came p.put
+
+  by_row : (p : Passage OutProxy) (leg : Leg) (m : Message) (x : Done)
+      → Row p.came p.put (leg, m) x → HoldsAt (taken_by p leg m x)
+  by_row p leg m (t, Ok taken) h = h
+  by_row p leg m (t, Err why) h = h
+
+  by_put : (p : Passage OutProxy) (leg : Leg) (pick : Pick) → HoldsAt p
+      → PutKeeps Holds leg p.came p.put pick → HoldsAt (put_by p leg pick)
+  by_put p leg None h goes = h
+  by_put p leg (Some one) h goes = goes
+
+  keeps : Keeps config Holds
+  keeps g p (Up leg cookie) may counted turn turns h =
+      up_holds p.role p.came p.put h g turns leg cookie may.1
+  keeps g p (HeadCame leg text) may counted turn turns h =
+      head_holds p.role p.came p.put h g turns leg (request_verdict false text) turn
+  keeps g p (PduCame leg number bytes) may counted turn turns h =
+      by_row p leg (Pdu bytes) (pdu p.role leg number bytes)
+      (pdus_row p.role p.came p.put h g turns leg number bytes turn)
+  keeps g p (PacketCame leg number m) may counted turn turns h =
+      by_row p leg (Packet m) (packet p.role leg number m)
+      (packet_row p.role p.came p.put h g turns leg number m counted turn)
+  keeps g p (Puts leg) may counted turn turns h =
+      by_put p leg (put_of p.role leg) h (puts p.role p.came p.put h g turns leg)
+  keeps g p (IsDrawn leg) may counted turn turns h = drawn_holds p.role p.came p.put h leg
+  keeps g p (Marks leg) may counted turn turns h = mark_holds p.role p.came p.put h leg may.1
+  keeps g p (Pings leg) may counted turn turns h = ping_holds p.role p.came p.put h leg turn
+
+  starts : Holds (new_proxy config) [] []
+  starts = record {
+    still = λ e. record { pdus = refl; dues = refl; end = refl; handover = refl; client = refl };
+    silent = λ e. (refl, refl);
+    room = refl;
+    at = refl;
+  }
+
+  -- ---- what was put
+
+  names_new : (connection cookie : Cookie) (m : Named) → NamesNew connection cookie m
+      → OpensNew m
+  names_new connection cookie (named.ConnA1 version other own window) h = tt
+  names_new connection cookie m h = absurd h
+
+  names_successor : (connection predecessor cookie : Cookie) (m : Named)
+      → NamesSuccessor connection predecessor cookie m → OpensSuccessor m
+  names_successor connection predecessor cookie
+      (named.OutR1A3 version other before own window) h = tt
+  names_successor connection predecessor cookie m h = absurd h
+
+  down_puts : (x : Answer) (request : Option Asked) (c : Channel) (put : List Message)
+      → IsDown x request c put → IsEcho put
+  down_puts answers.Awaited request c put k = subst IsEcho (sym k) tt
+  down_puts answers.EchoDue request c put k = subst IsEcho (sym k.2) tt
+  down_puts answers.EchoPut request c put k = subst IsEcho (sym k.2) refl
+  down_puts answers.EchoDrawn request c put k = subst IsEcho (sym k.2) refl
+  down_puts answers.ResponseDue request c put k = absurd k
+  down_puts answers.TimeoutDue request c put k = absurd k
+  down_puts answers.Put request c put k = absurd k
+
+  up_puts : (c : Channel) (asked came put more : List Message) (dues : List Due)
+      → IsAsked c asked → Kind config came c (put ++ more) dues
+      → IsToClient config asked came put
+  up_puts channels.Unknown asked came put more dues a k = absurd k
+  up_puts (channels.New connection cookie) asked came put more dues a k =
+      inr (inl (
+        one_so (NamesNew connection cookie) OpensNew (names_new connection cookie) asked a,
+        begun_front config (AllByRecursion IsPing) came put more (pings_front came) k,
+      ))
+  up_puts (channels.Joined connection cookie) asked came put more dues a (inl k) =
+      inr (inl (
+        one_so (NamesNew connection cookie) OpensNew (names_new connection cookie) asked a,
+        begun_front config (AllByRecursion IsPing) came put more (pings_front came) k.0,
+      ))
+  up_puts (channels.Joined connection cookie) asked came put more dues a (inr k) =
+      inr (inl (
+        one_so (NamesNew connection cookie) OpensNew (names_new connection cookie) asked a,
+        begun_front config (HasOpened came) came put more (opened_front came) k.0,
+      ))
+  up_puts (channels.Successor connection predecessor cookie) asked came put more dues a k =
+      inr (inr (
+        one_so (NamesSuccessor connection predecessor cookie) OpensSuccessor
+            (names_successor connection predecessor cookie) asked a,
+        follows_front config came put more k.0,
+      ))
+
+  at_puts : (b : Bool) (a : Core) (asked came put : List Message) → IsAsked a.channel asked
+      → At config b a came put → IsToClient config asked came put
+  at_puts true a asked came put is k = inl (down_puts a.answer a.request a.channel put k)
+  at_puts false a asked came put is k =
+      up_puts a.channel asked came put (due_by config a.answer (is_successor a.channel))
+      a.waiting.due is k.1
+
+pub opens_in_order : (config : OutProxyConfig) (moves : List Move)
+    → AreAllowed proxy_rules (started (new_proxy config)) moves
+    → AreCounted proxy_rules (started (new_proxy config)) moves
+    → AreInTurn proxy_rules (new_proxy config) moves
+    → PutsToClient config (all_moved proxy_rules (started (new_proxy config)) moves)
+opens_in_order config moves may counted turn =
+    let p = all_moved proxy_rules (started (new_proxy config)) moves in
+    let h = keeps_all config (Holds config) (keeps config) (starts config) moves may counted turn
+    in
+    at_puts config (is_server_down p.role.server) (core_of p.role)
+    (of_leg (co_leg config.number) p.came) (of_leg (os_leg config.number) p.came)
+    (of_leg (co_leg config.number) p.put) (is_asked config moves may counted turn) h.at

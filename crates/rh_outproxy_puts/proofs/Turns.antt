@@ -679,3 +679,14 @@ module _ (config : OutProxyConfig) where
       F p.role p.came p.put)
   keeps_all F keeps first moves may counted turn =
       all_keep F keeps none_up (started (new_proxy config)) moves may counted turn starts first
+
+  -- the channel is one that was asked for
+  pub is_asked : (moves : List Move) → AreAllowed proxy_rules (started (new_proxy config)) moves
+      → AreCounted proxy_rules (started (new_proxy config)) moves
+      → AreInTurn proxy_rules (new_proxy config) moves
+      → (let p = all_moved proxy_rules (started (new_proxy config)) moves in
+      IsAsked p.role.channel (of_leg co p.came))
+  is_asked moves may counted turn =
+      keeps_all (λ (s : OutProxy) (came put : List OnLeg). IsAsked s.channel (of_leg co came))
+      (λ g p move may counted turn h f. (move_turns g p move may turn h).asked) tt moves may counted
+      turn
