@@ -1,9 +1,8 @@
 -- what an out proxy puts to the server: the packet that opens its channel, and acknowledgements
-use Rattle.std.proofs.Common.{◌≡◌, ℕ, ◌+◌, ◌≤◌, ◌&&◌, ◌||◌, not, Bool, true, false, true≢false, if◌then◌else◌, List, [], ◌∷◌, ◌++◌, length, Some, None, Ok, Err, refl, sym, ap, ◌∙◌, subst, arith, rules}
+use Rattle.std.proofs.Common.{◌≡◌, ℕ, ◌≤◌, ◌&&◌, ◌||◌, Bool, true, false, true≢false, if◌then◌else◌, List, [], ◌∷◌, ◌++◌, length, Some, None, Ok, Err, refl, sym, ap, ◌∙◌, subst, arith, rules}
 use Rattle.std.proofs.lemmas.Bool.{and_parts}
 use Rattle.std.proofs.lemmas.Bool.Decides.{nat_tests}
-use Rattle.std.specs.List.{AllByRecursion}
-use Rattle.std.specs.Prelude.{IfSome, nat_le}
+use Rattle.std.specs.Prelude.{IfSome}
 use Rattle.std.specs.declared.option.Option.{Option}
 use Rattle.rh_rts.specs.declared.command.Cookie.{Cookie}
 use Rattle.rh_sig.specs.declared.named.Named.{Named}
@@ -19,8 +18,8 @@ use Rattle.rh_order.proofs.ByNumber.{by_test}
 use Rattle.rh_shell.specs.declared.answers.Count.{Count}
 use Rattle.rh_shell.specs.declared.answers.Count.TheVariants as count
 use Rattle.rh_shell.specs.declared.due.Due.{Due}
-use Rattle.rh_shell.specs.Rules.{Message, Text, Pdu, Packet}
-use Rattle.rh_shell.specs.Moves.{OnLeg, Move, Up, HeadCame, PduCame, PacketCame, Puts, IsDrawn, Marks, Pings, Passage, started, moved, all_moved, taken_by, put_by, AreAllowed}
+use Rattle.rh_shell.specs.Rules.{Message, Pdu, Packet}
+use Rattle.rh_shell.specs.Moves.{OnLeg, Move, Up, HeadCame, PduCame, PacketCame, Puts, IsDrawn, Marks, Pings, Passage, started, all_moved, taken_by, put_by, AreAllowed}
 use Rattle.rh_shell.specs.Wires.{of_leg}
 use Rattle.rh_outproxy.specs.declared.state.Answer.{Answer}
 use Rattle.rh_outproxy.specs.declared.state.Channel.{Channel}
@@ -29,13 +28,13 @@ use Rattle.rh_outproxy.specs.declared.state.ClientLeg.TheVariants as clients
 use Rattle.rh_outproxy.specs.declared.state.OutProxyConfig.{OutProxyConfig}
 use Rattle.rh_outproxy.specs.declared.state.ServerLeg.{ServerLeg}
 use Rattle.rh_outproxy.specs.declared.state.ServerLeg.TheVariants as servers
-use Rattle.rh_outproxy.specs.OutProxy.{OutProxy, has_come, is_due, is_known, is_over, is_ping_due, is_put, is_server_down, is_server_first, is_server_marked, is_echo_drawn, joined, new_proxy}
-use Rattle.rh_outproxy.specs.Rows.{Done, is_co, is_os, is_first, takes_pdus, unexpected, forwarded, passed_on}
+use Rattle.rh_outproxy.specs.OutProxy.{OutProxy, has_come, is_known, is_over, is_put, is_server_down, is_server_first, is_server_marked, is_echo_drawn, joined, new_proxy}
+use Rattle.rh_outproxy.specs.Rows.{Done, is_co, is_os, is_first, unexpected, forwarded, passed_on}
 use Rattle.rh_outproxy.specs.Opening.{first_packet, may_up, up, head, told_length, new_length, successor_length, opened, on_out_r2_c1, conn_c1_by}
 use Rattle.rh_outproxy.specs.Acknowledging.{on_pdu, on_ack_to, ack_due}
 use Rattle.rh_outproxy.specs.Ending.{drawn, mark, on_end_b1}
 use Rattle.rh_outproxy.specs.OutReplacement.{on_out_r1_a9}
-use Rattle.rh_outproxy.specs.Putting.{Pick, ping_room, or_else, answer_by, put_answer, waiting_by, put_waiting, pdu_by, put_pdu, put_mark, put_ping, next_co, first_by, put_first, ack_by, put_ack, next_os}
+use Rattle.rh_outproxy.specs.Putting.{Pick, or_else, answer_by, put_answer, waiting_by, put_waiting, pdu_by, put_pdu, put_mark, put_ping, next_co, first_by, put_first, ack_by, put_ack, next_os}
 use Rattle.rh_outproxy.specs.Putting.{put as put_of}
 use Rattle.rh_outproxy.specs.Machine.{pdu, packet, on_co, on_os}
 use Rattle.rh_outproxy.specs.Machine.{rules as proxy_rules}
