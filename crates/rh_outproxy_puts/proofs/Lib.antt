@@ -1,4 +1,6 @@
+mod Goes
 mod Turns
+mod ServerRows
 mod ToServer
 mod Forms
 mod Standing

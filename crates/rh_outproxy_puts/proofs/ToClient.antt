@@ -47,8 +47,9 @@ use Rattle.rh_streams.specs.Turns.{Stages, takes_frames, AreInTurn}
 use Rattle.rh_outproxy_puts.specs.Puts.{OpensNew, OpensSuccessor, IsEcho, IsToClient, PutsToClient}
 use Rattle.rh_outproxy_puts.proofs.Forms.{IsPing, HasOpened, begun_front, follows_front, opened_front, pings_front}
 use Rattle.rh_outproxy_puts.proofs.Standing.{Core, core_of, seen, IsQuiet, quiet_core, IsServing, IsDown, due_by, Kind, At, Stands, kind_starts}
-use Rattle.rh_outproxy_puts.proofs.Turns.{IsAsked, IsUnasked, TurnsAt, Keeps, keeps_all, here, there, is_wanted, is_asked, is_unheard}
-use Rattle.rh_outproxy_puts.proofs.Turns as turning
+use Rattle.rh_outproxy_puts.proofs.Goes.{IsAsked, IsUnasked, is_unheard}
+use Rattle.rh_outproxy_puts.proofs.Turns.{TurnsAt, Keeps, keeps_all, here, there, is_wanted, is_asked}
+use Rattle.rh_outproxy_puts.proofs.Goes as turning
 use Rattle.rh_outproxy_puts.proofs.ClientRows.{still_by, core_holds, unknown_down, at_down, down_holds, quiet_down, co_row, at_up, pdu_row, os_row}
 use Rattle.rh_outproxy_puts.proofs.ClientPuts.{os_put, co_put, busy}
 
