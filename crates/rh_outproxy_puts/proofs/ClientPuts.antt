@@ -181,7 +181,7 @@ module _ (config : OutProxyConfig) where
           k.0,
           k.1,
           here_more co put (Text echo_text)
-          ∙ ap (λ (ms : List Message). ms ++ Text echo_text ∷ []) k.2,
+              ∙ ap (λ (ms : List Message). ms ++ Text echo_text ∷ []) k.2,
         )
     answer_down down answers.EchoPut e k = tt
     answer_down down answers.EchoDrawn e k = tt

@@ -1,5 +1,5 @@
 -- what comes to an out proxy keeps what it puts to its client in order
-use Rattle.std.proofs.Common.{◌≡◌, inl, inr, ℕ, ◌≤◌, ◌==◌, ◌&&◌, ◌||◌, not, Bool, true, false, true≢false, List, [], ◌∷◌, ◌++◌, Some, None, is_some, Ok, Err, refl, sym, ap, ◌∙◌, subst, arith, rules}
+use Rattle.std.proofs.Common.{◌≡◌, inl, inr, ℕ, ◌≤◌, ◌==◌, ◌&&◌, ◌||◌, not, Bool, true, false, true≢false, List, [], ◌∷◌, ◌++◌, Some, None, is_some, Ok, Err, refl, sym, ap, ◌∙◌, subst, rules}
 use Rattle.std.proofs.lemmas.Bool.{and_parts, eqb-true}
 use Rattle.std.specs.declared.option.Option.{Option}
 use Rattle.rh_heads.specs.Verdicts.{Asked}
@@ -9,7 +9,6 @@ use Rattle.rh_sig.specs.declared.named.Named.TheVariants as named
 use Rattle.rh_line.specs.declared.leg.Leg.{Leg}
 use Rattle.rh_order.proofs.ByNumber.{by_test}
 use Rattle.rh_shell.specs.declared.answers.Count.{Count}
-use Rattle.rh_shell.specs.declared.answers.Count.TheVariants as count
 use Rattle.rh_shell.specs.declared.due.Due.{Due}
 use Rattle.rh_shell.specs.declared.waiting.TheConstants.{FORWARDED_ROOM}
 use Rattle.rh_shell.specs.Rules.{Message, Pdu, Packet}
@@ -38,6 +37,7 @@ use Rattle.rh_passages.proofs.Messages.{has_last, leg_more}
 use Rattle.rh_proxy_counts.specs.OutCounts.{co_leg, os_leg}
 use Rattle.rh_proxy_counts.proofs.Counts.{here_more}
 use Rattle.rh_outproxy_puts.specs.Puts.{PassesPacket, OpensClient}
+use Rattle.rh_outproxy_puts.proofs.Goes.{unknown}
 use Rattle.rh_outproxy_puts.proofs.Forms.{IsKept, forwarded_each, forwarded_first, forwarded_kept, forwarded_opening, forwarded_room}
 use Rattle.rh_outproxy_puts.proofs.Standing.{Core, Seen, core_of, seen, is_still, IsQuiet, is_opened, IsDown, due_by, Kind, At, Stands, stands_came, kind_opens}
 
@@ -199,17 +199,6 @@ module _ (config : OutProxyConfig) where
           client = q.client;
         }) (h.silent down).0 fresh' h.room (opens_down s.answer c n asked (at_down down)))
 
-    unknown : (number : Count) → is_first number ≡ true → Tells number (packets (of_leg co came))
-        → (is_known s.channel ≡ true → 1 ≤ packets (of_leg co came))
-        → is_known s.channel ≡ false
-    unknown count.Zero e tells known = by (is_known s.channel) refl
-      where
-        by : (b : Bool) → is_known s.channel ≡ b → is_known s.channel ≡ false
-        by true f = let some = known f in absurd (omega (arith, some, tells))
-        by false f = f
-    unknown count.One e tells known = absurd cc
-    unknown count.More e tells known = absurd cc
-
     pub co_row : (number : Count) (m : Named) → Tells number (packets (of_leg co came))
         → (is_known s.channel ≡ true → 1 ≤ packets (of_leg co came))
         → Row came put (co, Packet m) (on_co s number m)
@@ -218,8 +207,8 @@ module _ (config : OutProxyConfig) where
         (is_first number && told_length s.request new_length) _ (unexpected s)
         (λ e. let both = and_parts (is_first number) (told_length s.request new_length) e in
         opened_row (co, Packet (named.ConnA1 version connection cookie size))
-        (channels.New connection cookie) size new_length (unknown number both.0 tells known) both.1
-        refl)
+        (channels.New connection cookie) size new_length
+        (unknown s.channel number (packets (of_leg co came)) both.0 tells known) both.1 refl)
         (λ e. h)
     co_row number (named.OutR1A3 version connection predecessor cookie size) tells known =
         by_test
@@ -228,7 +217,7 @@ module _ (config : OutProxyConfig) where
         (λ e. let both = and_parts (is_first number) (told_length s.request successor_length) e in
         opened_row (co, Packet (named.OutR1A3 version connection predecessor cookie size))
         (channels.Successor connection predecessor cookie) size successor_length
-        (unknown number both.0 tells known) both.1 refl)
+        (unknown s.channel number (packets (of_leg co came)) both.0 tells known) both.1 refl)
         (λ e. h)
     co_row number named.OutR2C1 tells known =
         same_row (co, Packet named.OutR2C1) s came put h (on_out_r2_c1 s number)
@@ -364,9 +353,11 @@ module _ (config : OutProxyConfig) where
             silent = λ f. absurd (true≢false (sym f ∙ up'));
             room = refl;
             at = subst (λ (b : Bool). At config b (core_of (record t { waiting = w }))
-                (of_leg os log) (of_leg co put)) (sym up')
-                (at_up.0, kind_opens config (of_leg os log) connection cookie _
-                (named.ConnC2 version size timeout) s.waiting.due opens kind);
+                (of_leg os log) (of_leg co put)) (sym up') (
+                  at_up.0,
+                  kind_opens config (of_leg os log) connection cookie _
+                      (named.ConnC2 version size timeout) s.waiting.due opens kind,
+                );
           }
       c1_row m (channels.Joined connection cookie) e version size timeout is = h
       c1_row m (channels.Successor connection predecessor cookie) e version size timeout is = h
@@ -382,9 +373,12 @@ module _ (config : OutProxyConfig) where
           (on_ack s received available cookie) (same_ack s received available cookie))
           (λ e. passed_row (named.AckTo to received available cookie)
           (named.AckTo 0 received available cookie) to
-          (λ f. (refl, subst (λ (n : ℕ). Has (named.AckTo n received available cookie)
-          (of_leg os (came ++ (os, Packet (named.AckTo to received available cookie)) ∷ []))) f
-          (came_last (named.AckTo to received available cookie)))))
+          (λ f. (
+            refl,
+            subst (λ (n : ℕ). Has (named.AckTo n received available cookie)
+                (of_leg os (came ++ (os, Packet (named.AckTo to received available cookie)) ∷ []))) f
+                (came_last (named.AckTo to received available cookie)),
+          )))
 
       a9_row : Row came put (os, Packet named.OutR1A9) (on_out_r1_a9 s)
       a9_row =
@@ -416,24 +410,36 @@ module _ (config : OutProxyConfig) where
       os_row (named.AckTo to received available cookie) = ack_row to received available cookie
       os_row (named.InR1A3 to version size timeout) =
           passed_row (named.InR1A3 to version size timeout) (named.InR1A4 0 version size timeout)
-          to (λ f. (refl, subst (λ (n : ℕ). Has (named.InR1A3 n version size timeout)
-          (of_leg os (came ++ (os, Packet (named.InR1A3 to version size timeout)) ∷ []))) f
-          (came_last (named.InR1A3 to version size timeout))))
+          to (λ f. (
+            refl,
+            subst (λ (n : ℕ). Has (named.InR1A3 n version size timeout)
+                (of_leg os (came ++ (os, Packet (named.InR1A3 to version size timeout)) ∷ []))) f
+                (came_last (named.InR1A3 to version size timeout)),
+          ))
       os_row (named.InR2A3 to) =
           passed_row (named.InR2A3 to) (named.InR2A4 0) to
-          (λ f. (refl, subst (λ (n : ℕ). Has (named.InR2A3 n)
-          (of_leg os (came ++ (os, Packet (named.InR2A3 to)) ∷ []))) f
-          (came_last (named.InR2A3 to))))
+          (λ f. (
+            refl,
+            subst (λ (n : ℕ). Has (named.InR2A3 n)
+                (of_leg os (came ++ (os, Packet (named.InR2A3 to)) ∷ []))) f
+                (came_last (named.InR2A3 to)),
+          ))
       os_row (named.OutR1A1 to) =
           passed_row (named.OutR1A1 to) (named.OutR1A2 0) to
-          (λ f. (refl, subst (λ (n : ℕ). Has (named.OutR1A1 n)
-          (of_leg os (came ++ (os, Packet (named.OutR1A1 to)) ∷ []))) f
-          (came_last (named.OutR1A1 to))))
+          (λ f. (
+            refl,
+            subst (λ (n : ℕ). Has (named.OutR1A1 n)
+                (of_leg os (came ++ (os, Packet (named.OutR1A1 to)) ∷ []))) f
+                (came_last (named.OutR1A1 to)),
+          ))
       os_row (named.OutR1A5 to version timeout) =
           passed_row (named.OutR1A5 to version timeout) (named.OutR1A6 0 version timeout) to
-          (λ f. (refl, subst (λ (n : ℕ). Has (named.OutR1A5 n version timeout)
-          (of_leg os (came ++ (os, Packet (named.OutR1A5 to version timeout)) ∷ []))) f
-          (came_last (named.OutR1A5 to version timeout))))
+          (λ f. (
+            refl,
+            subst (λ (n : ℕ). Has (named.OutR1A5 n version timeout)
+                (of_leg os (came ++ (os, Packet (named.OutR1A5 to version timeout)) ∷ []))) f
+                (came_last (named.OutR1A5 to version timeout)),
+          ))
       os_row named.OutR1A9 = a9_row
       os_row named.EndB1 = end_row
       os_row m = h

@@ -82,8 +82,10 @@ opened_came a b (Text bytes ∷ ms) h = absurd h
 opened_came a b (Pdu pdu ∷ ms) h = absurd h
 opened_came a b (Packet other ∷ ms) (inl h) = inl (h.0, opened_came a b ms h.1)
 opened_came a b (Packet other ∷ ms) (inr h) =
-    inr (opens_more a b other h.0,
-    each_so (IsPassed a) (IsPassed (a ++ b)) (passed_more a b) ms h.1)
+    inr (
+      opens_more a b other h.0,
+      each_so (IsPassed a) (IsPassed (a ++ b)) (passed_more a b) ms h.1,
+    )
 
 -- a front of either is so far
 all_front : (P : Message → Type 0) (a b : List Message) → AllByRecursion P (a ++ b)
@@ -178,8 +180,10 @@ each_came P Q so (due ∷ dues) h = (so due.packet h.0, each_came P Q so dues h.
 pub waits_came : (a b : List Message) (dues : List Due) → WaitsOpening a dues
     → WaitsOpening (a ++ b) dues
 waits_came a b [] h = absurd h
-waits_came a b (due ∷ dues) h = (opens_more a b due.packet h.0,
-    each_came (PassesPacket a) (PassesPacket (a ++ b)) (passes_more a b) dues h.1)
+waits_came a b (due ∷ dues) h = (
+  opens_more a b due.packet h.0,
+  each_came (PassesPacket a) (PassesPacket (a ++ b)) (passes_more a b) dues h.1,
+)
 
 each_pushed : (P : Named → Type 0) (dues : List Due) (m : Named) → P m → Each P dues
     → Each P (dues ++ to_forward m ∷ [])
@@ -191,8 +195,11 @@ each_merged : (P : Named → Type 0) (dues : List Due) (m : Named) → P m → E
 each_merged P [] m is h = tt
 each_merged P (due ∷ dues) m is h =
     by_test (Each P) (takes m due) (better due m ∷ dues) (due ∷ merged dues m)
-    (λ e. (by_test (λ (d : Due). P d.packet) (nat_lt (edge_of m) (edge_of due.packet)) due
-    (record { packet = m; origin = due.origin }) (λ f. h.0) (λ f. is), h.1))
+    (λ e. (
+      by_test (λ (d : Due). P d.packet) (nat_lt (edge_of m) (edge_of due.packet)) due
+          (record { packet = m; origin = due.origin }) (λ f. h.0) (λ f. is),
+      h.1,
+    ))
     (λ e. (h.0, each_merged P dues m is h.1))
 
 -- CONN/C2 acknowledges nothing

@@ -1,30 +1,18 @@
 -- what an out proxy's channel is opened by, and what its rows and puts leave alone
-use Rattle.std.proofs.Common.{◌≡◌, ℕ, ◌+◌, ◌≤◌, ◌&&◌, ◌||◌, Bool, true, false, true≢false, if◌then◌else◌, List, [], ◌∷◌, ◌++◌, length, Some, None, Ok, Err, refl, sym, ap, ◌∙◌, subst, arith, rules}
+use Rattle.std.proofs.Common.{◌≡◌, ℕ, ◌+◌, ◌≤◌, ◌&&◌, Bool, true, false, true≢false, if◌then◌else◌, List, [], ◌∷◌, ◌++◌, length, Some, None, refl, sym, ap, ◌∙◌, arith, rules}
 use Rattle.std.proofs.lemmas.Bool.{and_parts}
-use Rattle.std.proofs.lemmas.Bool.Decides.{nat_tests}
 use Rattle.std.specs.Prelude.{nat_le, IfSome}
 use Rattle.std.specs.declared.option.Option.{Option}
-use Rattle.std.specs.declared.result.Result.{Result}
-use Rattle.rh_http.specs.declared.fault.HttpFault.{HttpFault}
-use Rattle.rh_http.specs.Lengths.{greatest_echo}
-use Rattle.rh_heads.specs.Verdicts.{Asked, request_verdict}
+use Rattle.rh_heads.specs.Verdicts.{Asked}
 use Rattle.rh_rts.specs.declared.command.Cookie.{Cookie}
-use Rattle.rh_sig.specs.declared.name.Pipe.TheVariants.{CoU, OsD}
 use Rattle.rh_sig.specs.declared.named.Named.{Named}
-use Rattle.rh_sig.specs.declared.named.Named.TheVariants as named
 use Rattle.rh_line.specs.declared.leg.Leg.{Leg}
 use Rattle.rh_order.proofs.ByNumber.{by_test}
-use Rattle.rh_shell.specs.declared.answers.Behind.TheVariants.{Frames, PassedOver}
 use Rattle.rh_shell.specs.declared.answers.Count.{Count}
-use Rattle.rh_shell.specs.declared.answers.HeadRefused.{HeadRefused}
-use Rattle.rh_shell.specs.declared.answers.HeadTaken.{HeadTaken}
+use Rattle.rh_shell.specs.declared.answers.Count.TheVariants as count
 use Rattle.rh_shell.specs.declared.stage.Stage.{Stage}
 use Rattle.rh_shell.specs.declared.stage.Stage.TheVariants as stage
-use Rattle.rh_shell.specs.NearEnds.{first_stage}
-use Rattle.rh_shell.specs.Rules.{Message, Packet, Pdu}
-use Rattle.rh_shell.specs.Shells.{same_leg}
-use Rattle.rh_shell.specs.Moves.{OnLeg, Move, Up, HeadCame, PduCame, PacketCame, Puts, IsDrawn, Marks, Pings, Passage, started, moved, all_moved, taken_by, put_by, MayMove, AreAllowed}
-use Rattle.rh_shell.specs.Wires.{of_leg}
+use Rattle.rh_shell.specs.Rules.{Message}
 use Rattle.rh_outproxy.specs.declared.state.Answer.{Answer}
 use Rattle.rh_outproxy.specs.declared.state.Answer.TheVariants as answers
 use Rattle.rh_outproxy.specs.declared.state.Channel.{Channel}
@@ -32,30 +20,26 @@ use Rattle.rh_outproxy.specs.declared.state.Channel.TheVariants as channels
 use Rattle.rh_outproxy.specs.declared.state.ClientLeg.TheVariants as clients
 use Rattle.rh_outproxy.specs.declared.state.OutProxyConfig.{OutProxyConfig}
 use Rattle.rh_outproxy.specs.declared.state.ServerLeg.{ServerLeg}
-use Rattle.rh_outproxy.specs.declared.state.ServerLeg.TheVariants as servers
 use Rattle.rh_window.specs.Sending.{may_send}
 use Rattle.rh_window.specs.declared.recv_window.Ack.{Ack}
 use Rattle.rh_line.specs.Lines.{is_empty}
 use Rattle.rh_shell.specs.declared.due.Due.{Due}
 use Rattle.rh_shell.specs.Waiting.{with_due}
 use Rattle.rh_outproxy.specs.declared.state.Mark.TheVariants as marks
-use Rattle.rh_outproxy.specs.OutProxy.{OutProxy, is_known, is_server_down, is_server_first, is_client_down, is_due, is_echo_put, is_ping_due, joined, new_proxy}
-use Rattle.rh_outproxy.specs.Rows.{Done, is_co, is_os, is_first, unexpected, forwarded, passed_on}
-use Rattle.rh_outproxy.specs.Opening.{first_packet, up, pipe, may_up, wants, head_by, told_length, new_length, successor_length, opened, on_out_r2_c1, conn_c1_by}
+use Rattle.rh_outproxy.specs.OutProxy.{OutProxy, is_known, is_server_down, is_server_first, is_due, is_echo_put, is_ping_due, joined}
+use Rattle.rh_outproxy.specs.Rows.{is_co, is_os, is_first, forwarded, passed_on}
+use Rattle.rh_outproxy.specs.Opening.{first_packet, on_out_r2_c1}
 use Rattle.rh_outproxy.specs.Acknowledging.{on_ack_to, ack_due}
 use Rattle.rh_outproxy.specs.Ending.{drawn, mark, on_end_b1}
 use Rattle.rh_outproxy.specs.OutReplacement.{on_out_r1_a9}
 use Rattle.rh_outproxy.specs.Putting.{Pick, ping_room, or_else, answer_by, put_answer, waiting_by, put_waiting, pdu_by, put_pdu, put_end, put_handover, put_mark, put_ping, next_co, first_by, put_first, ack_by, put_ack, next_os}
 use Rattle.rh_outproxy.specs.Putting.{put as put_of}
-use Rattle.rh_outproxy.specs.Machine.{pdu, packet, on_co, on_os}
-use Rattle.rh_outproxy.specs.Machine.{rules as proxy_rules}
+use Rattle.rh_outproxy.specs.Machine.{pdu}
 use Rattle.rh_passages.specs.Passing.{HasOne}
-use Rattle.rh_passages.specs.Counted.{IsCounted, AreCounted, packets, is_any}
-use Rattle.rh_passages.proofs.Logs.{RowKeeps}
-use Rattle.rh_passages.proofs.Messages.{leg_more, one_more_so, last_one_so, count_append, count_rises}
+use Rattle.rh_passages.specs.Counted.{packets, Tells}
+use Rattle.rh_passages.proofs.Messages.{one_more_so}
 use Rattle.rh_proxy_counts.specs.OutCounts.{co_leg, os_leg, NamesNew, NamesSuccessor}
-use Rattle.rh_proxy_counts.proofs.Counts.{leg_is, here_more}
-use Rattle.rh_streams.specs.Turns.{Stages, none_up, with_stage, behind_head, stages_after, takes_frames, IsInTurn, AreInTurn, AreInTurnFrom}
+use Rattle.rh_streams.specs.Turns.{Stages, takes_frames}
 
 -- ---- what was asked
 
@@ -303,3 +287,16 @@ put_goes s leg =
     (λ t. first_goes s (first_packet s s.channel)) (λ t. tt))
     (ack_goes s (joined s.channel) (ack_due s)))
     (λ f. tt))
+
+-- ---- a packet that is counted as the first
+
+-- a channel is known only behind some packet, and so not where the first comes
+pub unknown : (channel : Channel) (number : Count) (n : ℕ) → is_first number ≡ true
+    → Tells number n → (is_known channel ≡ true → 1 ≤ n) → is_known channel ≡ false
+unknown channel count.Zero n e tells known = by (is_known channel) refl
+  where
+    by : (b : Bool) → is_known channel ≡ b → is_known channel ≡ false
+    by true f = let some = known f in absurd (omega (arith, some, tells))
+    by false f = f
+unknown channel count.One n e tells known = absurd cc
+unknown channel count.More n e tells known = absurd cc

@@ -1,5 +1,5 @@
 -- what was put to the server, and what comes to an out proxy, which keeps it
-use Rattle.std.proofs.Common.{◌≡◌, ℕ, ◌≤◌, ◌&&◌, ◌||◌, Bool, true, false, true≢false, if◌then◌else◌, List, [], ◌∷◌, ◌++◌, length, Some, None, Ok, Err, refl, sym, ap, ◌∙◌, subst, arith, rules}
+use Rattle.std.proofs.Common.{◌≡◌, ℕ, ◌≤◌, ◌&&◌, true, false, true≢false, if◌then◌else◌, List, [], ◌∷◌, ◌++◌, Some, None, Ok, Err, refl, sym, ap, ◌∙◌, subst, arith, rules}
 use Rattle.std.proofs.lemmas.Bool.{and_parts}
 use Rattle.std.proofs.lemmas.Bool.Decides.{nat_tests}
 use Rattle.std.specs.Prelude.{IfSome}
@@ -7,49 +7,38 @@ use Rattle.std.specs.declared.option.Option.{Option}
 use Rattle.rh_rts.specs.declared.command.Cookie.{Cookie}
 use Rattle.rh_sig.specs.declared.named.Named.{Named}
 use Rattle.rh_sig.specs.declared.named.Named.TheVariants as named
-use Rattle.rh_sig.specs.declared.ranges.TheConstants.{PROTOCOL_VERSION}
 use Rattle.rh_window.specs.Receiving as windows
-use Rattle.rh_window.specs.Sending.{after_sent, may_send}
 use Rattle.rh_window.specs.declared.recv_window.Ack.{Ack}
-use Rattle.rh_line.specs.Lines.{Incoming, after_take, after_told, fresh, due}
+use Rattle.rh_line.specs.Lines.{Incoming, fresh}
 use Rattle.rh_line.specs.declared.leg.Leg.{Leg}
-use Rattle.rh_line.specs.declared.which.Which.TheVariants.{Current}
 use Rattle.rh_order.proofs.ByNumber.{by_test}
 use Rattle.rh_shell.specs.declared.answers.Count.{Count}
-use Rattle.rh_shell.specs.declared.answers.Count.TheVariants as count
 use Rattle.rh_shell.specs.declared.due.Due.{Due}
 use Rattle.rh_shell.specs.Rules.{Message, Pdu, Packet}
-use Rattle.rh_shell.specs.Moves.{OnLeg, Move, Up, HeadCame, PduCame, PacketCame, Puts, IsDrawn, Marks, Pings, Passage, started, all_moved, taken_by, put_by, AreAllowed}
+use Rattle.rh_shell.specs.Moves.{OnLeg}
 use Rattle.rh_shell.specs.Wires.{of_leg}
 use Rattle.rh_outproxy.specs.declared.state.Answer.{Answer}
 use Rattle.rh_outproxy.specs.declared.state.Channel.{Channel}
 use Rattle.rh_outproxy.specs.declared.state.Channel.TheVariants as channels
-use Rattle.rh_outproxy.specs.declared.state.ClientLeg.TheVariants as clients
 use Rattle.rh_outproxy.specs.declared.state.OutProxyConfig.{OutProxyConfig}
 use Rattle.rh_outproxy.specs.declared.state.ServerLeg.{ServerLeg}
 use Rattle.rh_outproxy.specs.declared.state.ServerLeg.TheVariants as servers
-use Rattle.rh_outproxy.specs.OutProxy.{OutProxy, has_come, is_known, is_over, is_put, is_server_down, is_server_first, is_server_marked, is_echo_drawn, joined, new_proxy}
+use Rattle.rh_outproxy.specs.OutProxy.{OutProxy, is_known, is_server_down, joined}
 use Rattle.rh_outproxy.specs.Rows.{Done, is_co, is_os, is_first, unexpected, forwarded, passed_on}
-use Rattle.rh_outproxy.specs.Opening.{first_packet, may_up, up, head, told_length, new_length, successor_length, opened, on_out_r2_c1, conn_c1_by}
-use Rattle.rh_outproxy.specs.Acknowledging.{on_pdu, on_ack_to, ack_due}
-use Rattle.rh_outproxy.specs.Ending.{drawn, mark, on_end_b1}
+use Rattle.rh_outproxy.specs.Opening.{up, head, told_length, new_length, successor_length, opened, on_out_r2_c1, conn_c1_by}
+use Rattle.rh_outproxy.specs.Acknowledging.{on_pdu, on_ack_to}
+use Rattle.rh_outproxy.specs.Ending.{drawn, on_end_b1}
 use Rattle.rh_outproxy.specs.OutReplacement.{on_out_r1_a9}
-use Rattle.rh_outproxy.specs.Putting.{Pick, or_else, answer_by, put_answer, waiting_by, put_waiting, pdu_by, put_pdu, put_mark, put_ping, next_co, first_by, put_first, ack_by, put_ack, next_os}
-use Rattle.rh_outproxy.specs.Putting.{put as put_of}
+use Rattle.rh_outproxy.specs.Putting.{Pick, answer_by, waiting_by, put_mark, put_ping}
 use Rattle.rh_outproxy.specs.Machine.{pdu, packet, on_co, on_os}
-use Rattle.rh_outproxy.specs.Machine.{rules as proxy_rules}
-use Rattle.rh_outproxy.proofs.Conditions.{either_left, either_right}
-use Rattle.rh_outproxy.proofs.OrderKept.{works_where}
-use Rattle.rh_passages.specs.Passing.{HasOne}
-use Rattle.rh_passages.specs.Counted.{Tells, AreCounted, packets}
-use Rattle.rh_passages.proofs.Logs.{RowKeeps, PutKeeps}
+use Rattle.rh_passages.specs.Counted.{Tells, packets}
+use Rattle.rh_passages.proofs.Logs.{RowKeeps}
 use Rattle.rh_passages.proofs.Messages.{all_append, leg_more, one_more_so}
 use Rattle.rh_proxy_counts.specs.OutCounts.{co_leg, os_leg, NamesNew, NamesSuccessor}
-use Rattle.rh_proxy_counts.proofs.Counts.{here_more, other_more}
-use Rattle.rh_streams.specs.Turns.{Stages, takes_frames, AreInTurn}
-use Rattle.rh_outproxy_puts.specs.Puts.{OpensServer, IsAck, BeginsServer, IsToServer, PutsToServer}
-use Rattle.rh_outproxy_puts.proofs.Goes.{IsAsked}
-use Rattle.rh_outproxy_puts.proofs.Turns.{TurnsAt, Keeps, keeps_all, here, there, is_wanted}
+use Rattle.rh_streams.specs.Turns.{Stages, takes_frames}
+use Rattle.rh_outproxy_puts.specs.Puts.{OpensServer, IsAck, BeginsServer, IsToServer}
+use Rattle.rh_outproxy_puts.proofs.Goes.{unknown}
+use Rattle.rh_outproxy_puts.proofs.Turns.{TurnsAt, here, there}
 
 -- ---- what was put, by the leg and the channel
 
@@ -155,9 +144,14 @@ module _ (config : OutProxyConfig) where
   opens_more a b cookie (named.ConnA2 version connection channel lifetime window) h =
       (h.0, h.1, h.2, h.3, one_more_so (NamesNew connection channel) a b h.4)
   opens_more a b cookie
-      (named.OutR1A4 version connection predecessor successor lifetime window timeout) h =
-      (h.0, h.1, h.2, h.3, h.4,
-      one_more_so (NamesSuccessor connection predecessor successor) a b h.5)
+      (named.OutR1A4 version connection predecessor successor lifetime window timeout) h = (
+        h.0,
+        h.1,
+        h.2,
+        h.3,
+        h.4,
+        one_more_so (NamesSuccessor connection predecessor successor) a b h.5,
+      )
   opens_more a b cookie m h = absurd h
 
   abbrev begins_more : (a b : List Message) (first : Message) (rest : List Message)
@@ -211,8 +205,8 @@ module _ (config : OutProxyConfig) where
       record { begins = h.begins; channel = h.channel }
 
   -- another acknowledgement
-  pub begun_acks : (c : Channel) (came put : List Message) (received available : ℕ) (cookie : Cookie)
-      → joined c ≡ Some cookie → IsBegun c came put
+  pub begun_acks : (c : Channel) (came put : List Message) (received available : ℕ)
+      (cookie : Cookie) → joined c ≡ Some cookie → IsBegun c came put
       → IsBegun c came (put ++ Packet (named.Ack received available cookie) ∷ [])
   begun_acks c came [] received available cookie e h = absurd h
   begun_acks c came (first ∷ rest) received available cookie e h =
@@ -291,8 +285,8 @@ module _ (config : OutProxyConfig) where
   abbrev Row : List OnLeg → List OnLeg → OnLeg → Done → Type 0
   Row came put one x = RowKeeps Holds one came put x
 
-  pub same_row : (one : OnLeg) (s : OutProxy) (came put : List OnLeg) → Holds s came put → (x : Done)
-      → seen x.0 ≡ seen s → Row came put one x
+  pub same_row : (one : OnLeg) (s : OutProxy) (came put : List OnLeg) → Holds s came put
+      → (x : Done) → seen x.0 ≡ seen s → Row came put one x
   same_row one s came put h (t, Ok taken) same =
       came_one t came put one (same_holds s t came put same h)
   same_row one s came put h (t, Err why) same = same_holds s t came put same h
@@ -306,17 +300,6 @@ module _ (config : OutProxyConfig) where
           at = at_opens s.server s.channel c (of_leg co came) (of_leg os put) none h.at;
         })
 
-    unknown : (number : Count) → is_first number ≡ true → Tells number (packets (of_leg co came))
-        → (is_known s.channel ≡ true → 1 ≤ packets (of_leg co came))
-        → is_known s.channel ≡ false
-    unknown count.Zero e tells known = by (is_known s.channel) refl
-      where
-        by : (b : Bool) → is_known s.channel ≡ b → is_known s.channel ≡ false
-        by true f = let some = known f in absurd (omega (arith, some, tells))
-        by false f = f
-    unknown count.One e tells known = absurd cc
-    unknown count.More e tells known = absurd cc
-
     co_row : (number : Count) (m : Named) → Tells number (packets (of_leg co came))
         → (is_known s.channel ≡ true → 1 ≤ packets (of_leg co came))
         → Row came put (co, Packet m) (on_co s number m)
@@ -325,8 +308,8 @@ module _ (config : OutProxyConfig) where
         (is_first number && told_length s.request new_length) _ (unexpected s)
         (λ e. opened_row (co, Packet (named.ConnA1 version connection cookie size))
         (channels.New connection cookie) size
-        (unknown number (and_parts (is_first number) (told_length s.request new_length) e).0 tells
-        known))
+        (unknown s.channel number (packets (of_leg co came))
+        (and_parts (is_first number) (told_length s.request new_length) e).0 tells known))
         (λ e. h)
     co_row number (named.OutR1A3 version connection predecessor cookie size) tells known =
         by_test
@@ -334,8 +317,8 @@ module _ (config : OutProxyConfig) where
         (is_first number && told_length s.request successor_length) _ (unexpected s)
         (λ e. opened_row (co, Packet (named.OutR1A3 version connection predecessor cookie size))
         (channels.Successor connection predecessor cookie) size
-        (unknown number (and_parts (is_first number) (told_length s.request successor_length) e).0
-        tells known))
+        (unknown s.channel number (packets (of_leg co came))
+        (and_parts (is_first number) (told_length s.request successor_length) e).0 tells known))
         (λ e. h)
     co_row number named.OutR2C1 tells known =
         same_row (co, Packet named.OutR2C1) s came put h (on_out_r2_c1 s number)

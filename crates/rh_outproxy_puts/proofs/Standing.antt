@@ -156,18 +156,23 @@ module _ (config : OutProxyConfig) where
   kind_came a b (channels.Joined connection cookie) put dues (inl h) =
       inl (h.0, waits_came a b dues h.1)
   kind_came a b (channels.Joined connection cookie) put dues (inr h) =
-      inr (begun_same config (HasOpened a) (HasOpened (a ++ b)) put (opened_came a b) h.0,
-      each_came (PassesPacket a) (PassesPacket (a ++ b)) (passes_more a b) dues h.1)
-  kind_came a b (channels.Successor connection predecessor cookie) put dues h =
-      (follows_came config a b put h.0,
-      each_came (PassesPacket a) (PassesPacket (a ++ b)) (passes_more a b) dues h.1)
+      inr (
+        begun_same config (HasOpened a) (HasOpened (a ++ b)) put (opened_came a b) h.0,
+        each_came (PassesPacket a) (PassesPacket (a ++ b)) (passes_more a b) dues h.1,
+      )
+  kind_came a b (channels.Successor connection predecessor cookie) put dues h = (
+    follows_came config a b put h.0,
+    each_came (PassesPacket a) (PassesPacket (a ++ b)) (passes_more a b) dues h.1,
+  )
 
   pub at_came : (down : Bool) (k : Core) (a b put : List Message) → At down k a put
       → At down k (a ++ b) put
   at_came true k a b put h = h
-  at_came false k a b put h =
-      (h.0, kind_came a b k.channel (put ++ due_by k.answer (is_successor k.channel))
-      k.waiting.due h.1)
+  at_came false k a b put h = (
+    h.0,
+    kind_came a b k.channel (put ++ due_by k.answer (is_successor k.channel))
+        k.waiting.due h.1,
+  )
 
   pub stands_came : (a : Seen) (came more put : List Message) → Stands a came put
       → Stands a (came ++ more) put
@@ -188,12 +193,18 @@ module _ (config : OutProxyConfig) where
     kind_waits channels.Unknown put due dues e h = absurd h
     kind_waits (channels.New connection cookie) put due dues e h = absurd cc
     kind_waits (channels.Joined connection cookie) put due dues e (inl h) =
-        inr (begun_so config (AllByRecursion IsPing) (HasOpened came) put
-        (Packet due.packet ∷ [])
-        (λ rest all. pings_open came rest due.packet all h.1.0) h.0, h.1.1)
+        inr (
+          begun_so config (AllByRecursion IsPing) (HasOpened came) put
+              (Packet due.packet ∷ [])
+              (λ rest all. pings_open came rest due.packet all h.1.0) h.0,
+          h.1.1,
+        )
     kind_waits (channels.Joined connection cookie) put due dues e (inr h) =
-        inr (begun_so config (HasOpened came) (HasOpened came) put (Packet due.packet ∷ [])
-        (λ rest all. opened_more came rest (Packet due.packet) all h.1.0) h.0, h.1.1)
+        inr (
+          begun_so config (HasOpened came) (HasOpened came) put (Packet due.packet ∷ [])
+              (λ rest all. opened_more came rest (Packet due.packet) all h.1.0) h.0,
+          h.1.1,
+        )
     kind_waits (channels.Successor connection predecessor cookie) put due dues e h =
         (follows_more config came put (Packet due.packet) h.0 h.1.0, h.1.1)
 
@@ -205,8 +216,11 @@ module _ (config : OutProxyConfig) where
     kind_passes (channels.New connection cookie) put m e is h = absurd cc
     kind_passes (channels.Joined connection cookie) put m e is (inl h) = absurd h.1
     kind_passes (channels.Joined connection cookie) put m e is (inr h) =
-        inr (begun_so config (HasOpened came) (HasOpened came) put (m ∷ [])
-        (λ rest all. opened_more came rest m all is) h.0, tt)
+        inr (
+          begun_so config (HasOpened came) (HasOpened came) put (m ∷ [])
+              (λ rest all. opened_more came rest m all is) h.0,
+          tt,
+        )
     kind_passes (channels.Successor connection predecessor cookie) put m e is h =
         (follows_more config came put m h.0 is, tt)
 

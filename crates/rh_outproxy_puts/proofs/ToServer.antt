@@ -1,7 +1,5 @@
 -- what an out proxy puts to the server: the packet that opens its channel, and acknowledgements
-use Rattle.std.proofs.Common.{◌≡◌, ℕ, ◌≤◌, ◌&&◌, ◌||◌, Bool, true, false, true≢false, if◌then◌else◌, List, [], ◌∷◌, ◌++◌, length, Some, None, Ok, Err, refl, sym, ap, ◌∙◌, subst, arith, rules}
-use Rattle.std.proofs.lemmas.Bool.{and_parts}
-use Rattle.std.proofs.lemmas.Bool.Decides.{nat_tests}
+use Rattle.std.proofs.Common.{◌≡◌, ℕ, ◌||◌, Bool, true, false, true≢false, if◌then◌else◌, List, [], ◌∷◌, ◌++◌, length, Some, None, Ok, Err, refl, sym, ap, ◌∙◌, subst}
 use Rattle.std.specs.Prelude.{IfSome}
 use Rattle.std.specs.declared.option.Option.{Option}
 use Rattle.rh_rts.specs.declared.command.Cookie.{Cookie}
@@ -15,41 +13,35 @@ use Rattle.rh_line.specs.Lines.{Incoming, after_take, after_told, fresh, due}
 use Rattle.rh_line.specs.declared.leg.Leg.{Leg}
 use Rattle.rh_line.specs.declared.which.Which.TheVariants.{Current}
 use Rattle.rh_order.proofs.ByNumber.{by_test}
-use Rattle.rh_shell.specs.declared.answers.Count.{Count}
-use Rattle.rh_shell.specs.declared.answers.Count.TheVariants as count
-use Rattle.rh_shell.specs.declared.due.Due.{Due}
 use Rattle.rh_shell.specs.Rules.{Message, Pdu, Packet}
 use Rattle.rh_shell.specs.Moves.{OnLeg, Move, Up, HeadCame, PduCame, PacketCame, Puts, IsDrawn, Marks, Pings, Passage, started, all_moved, taken_by, put_by, AreAllowed}
 use Rattle.rh_shell.specs.Wires.{of_leg}
-use Rattle.rh_outproxy.specs.declared.state.Answer.{Answer}
 use Rattle.rh_outproxy.specs.declared.state.Channel.{Channel}
 use Rattle.rh_outproxy.specs.declared.state.Channel.TheVariants as channels
 use Rattle.rh_outproxy.specs.declared.state.ClientLeg.TheVariants as clients
 use Rattle.rh_outproxy.specs.declared.state.OutProxyConfig.{OutProxyConfig}
 use Rattle.rh_outproxy.specs.declared.state.ServerLeg.{ServerLeg}
 use Rattle.rh_outproxy.specs.declared.state.ServerLeg.TheVariants as servers
-use Rattle.rh_outproxy.specs.OutProxy.{OutProxy, has_come, is_known, is_over, is_put, is_server_down, is_server_first, is_server_marked, is_echo_drawn, joined, new_proxy}
-use Rattle.rh_outproxy.specs.Rows.{Done, is_co, is_os, is_first, unexpected, forwarded, passed_on}
-use Rattle.rh_outproxy.specs.Opening.{first_packet, may_up, up, head, told_length, new_length, successor_length, opened, on_out_r2_c1, conn_c1_by}
-use Rattle.rh_outproxy.specs.Acknowledging.{on_pdu, on_ack_to, ack_due}
-use Rattle.rh_outproxy.specs.Ending.{drawn, mark, on_end_b1}
-use Rattle.rh_outproxy.specs.OutReplacement.{on_out_r1_a9}
-use Rattle.rh_outproxy.specs.Putting.{Pick, or_else, answer_by, put_answer, waiting_by, put_waiting, pdu_by, put_pdu, put_mark, put_ping, next_co, first_by, put_first, ack_by, put_ack, next_os}
+use Rattle.rh_outproxy.specs.OutProxy.{OutProxy, has_come, is_over, is_put, is_server_down, is_server_first, is_server_marked, is_echo_drawn, joined, new_proxy}
+use Rattle.rh_outproxy.specs.Rows.{Done, is_co, is_os}
+use Rattle.rh_outproxy.specs.Opening.{first_packet, may_up, up, head}
+use Rattle.rh_outproxy.specs.Acknowledging.{ack_due}
+use Rattle.rh_outproxy.specs.Ending.{drawn, mark}
+use Rattle.rh_outproxy.specs.Putting.{Pick, or_else, put_answer, put_waiting, pdu_by, put_pdu, put_mark, put_ping, next_co, first_by, put_first, ack_by, put_ack, next_os}
 use Rattle.rh_outproxy.specs.Putting.{put as put_of}
-use Rattle.rh_outproxy.specs.Machine.{pdu, packet, on_co, on_os}
+use Rattle.rh_outproxy.specs.Machine.{pdu, packet}
 use Rattle.rh_outproxy.specs.Machine.{rules as proxy_rules}
 use Rattle.rh_outproxy.proofs.Conditions.{either_left, either_right}
 use Rattle.rh_outproxy.proofs.OrderKept.{works_where}
 use Rattle.rh_passages.specs.Passing.{HasOne}
-use Rattle.rh_passages.specs.Counted.{Tells, AreCounted, packets}
+use Rattle.rh_passages.specs.Counted.{AreCounted}
 use Rattle.rh_passages.proofs.Logs.{RowKeeps, PutKeeps}
-use Rattle.rh_passages.proofs.Messages.{all_append, leg_more, one_more_so}
-use Rattle.rh_proxy_counts.specs.OutCounts.{co_leg, os_leg, NamesNew, NamesSuccessor}
+use Rattle.rh_proxy_counts.specs.OutCounts.{co_leg, os_leg, NamesNew}
 use Rattle.rh_proxy_counts.proofs.Counts.{here_more, other_more}
-use Rattle.rh_streams.specs.Turns.{Stages, takes_frames, AreInTurn}
-use Rattle.rh_outproxy_puts.specs.Puts.{OpensServer, IsAck, BeginsServer, IsToServer, PutsToServer}
+use Rattle.rh_streams.specs.Turns.{AreInTurn}
+use Rattle.rh_outproxy_puts.specs.Puts.{OpensServer, PutsToServer}
 use Rattle.rh_outproxy_puts.proofs.Goes.{IsAsked}
-use Rattle.rh_outproxy_puts.proofs.Turns.{TurnsAt, Keeps, keeps_all, here, there, is_wanted}
+use Rattle.rh_outproxy_puts.proofs.Turns.{Keeps, keeps_all, here, there, is_wanted}
 use Rattle.rh_outproxy_puts.proofs.ServerRows as server
 use Rattle.rh_outproxy_puts.proofs.ServerRows.{Seen, seen, IsOf, same_holds, same_row, packet_row, pdu_row, at_puts, begun_acks, undue, same_head, same_drawn, quiet_answer, quiet_waiting, quiet_mark, quiet_ping}
 
@@ -230,7 +222,8 @@ module _ (config : OutProxyConfig) where
           (ap is_server_first e)) ∙ first))
       acked servers.Up cookie ack e is due first live k = (
         ap is_server_down e,
-        begun_acks config s.channel (of_leg co came) (of_leg os put) ack.received ack.available cookie is
+        begun_acks config s.channel (of_leg co came) (of_leg os put) ack.received ack.available
+            cookie is
             k,
       )
       acked servers.Marked cookie ack e is due first live k =

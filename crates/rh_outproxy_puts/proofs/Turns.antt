@@ -1,9 +1,9 @@
 -- what holds of an out proxy whose moves are counted and in their turn: when its channel is opened,
 -- by which packet, and where its legs came up
-use Rattle.std.proofs.Common.{◌≡◌, ℕ, ◌+◌, ◌≤◌, ◌&&◌, ◌||◌, Bool, true, false, true≢false, if◌then◌else◌, List, [], ◌∷◌, ◌++◌, length, Some, None, Ok, Err, refl, sym, ap, ◌∙◌, subst, arith, rules}
+use Rattle.std.proofs.Common.{◌≡◌, ℕ, ◌&&◌, ◌||◌, Bool, true, false, true≢false, if◌then◌else◌, List, [], ◌∷◌, ◌++◌, Some, None, Ok, Err, refl, sym, ap, ◌∙◌, subst, arith}
 use Rattle.std.proofs.lemmas.Bool.{and_parts}
 use Rattle.std.proofs.lemmas.Bool.Decides.{nat_tests}
-use Rattle.std.specs.Prelude.{nat_le, IfSome}
+use Rattle.std.specs.Prelude.{nat_le}
 use Rattle.std.specs.declared.option.Option.{Option}
 use Rattle.std.specs.declared.result.Result.{Result}
 use Rattle.rh_http.specs.declared.fault.HttpFault.{HttpFault}
@@ -26,34 +26,25 @@ use Rattle.rh_shell.specs.Rules.{Message, Packet, Pdu}
 use Rattle.rh_shell.specs.Shells.{same_leg}
 use Rattle.rh_shell.specs.Moves.{OnLeg, Move, Up, HeadCame, PduCame, PacketCame, Puts, IsDrawn, Marks, Pings, Passage, started, moved, all_moved, taken_by, put_by, MayMove, AreAllowed}
 use Rattle.rh_shell.specs.Wires.{of_leg}
-use Rattle.rh_outproxy.specs.declared.state.Answer.{Answer}
 use Rattle.rh_outproxy.specs.declared.state.Answer.TheVariants as answers
 use Rattle.rh_outproxy.specs.declared.state.Channel.{Channel}
 use Rattle.rh_outproxy.specs.declared.state.Channel.TheVariants as channels
 use Rattle.rh_outproxy.specs.declared.state.ClientLeg.TheVariants as clients
 use Rattle.rh_outproxy.specs.declared.state.OutProxyConfig.{OutProxyConfig}
-use Rattle.rh_outproxy.specs.declared.state.ServerLeg.{ServerLeg}
 use Rattle.rh_outproxy.specs.declared.state.ServerLeg.TheVariants as servers
-use Rattle.rh_window.specs.Sending.{may_send}
-use Rattle.rh_window.specs.declared.recv_window.Ack.{Ack}
-use Rattle.rh_line.specs.Lines.{is_empty}
-use Rattle.rh_shell.specs.declared.due.Due.{Due}
-use Rattle.rh_shell.specs.Waiting.{with_due}
-use Rattle.rh_outproxy.specs.declared.state.Mark.TheVariants as marks
-use Rattle.rh_outproxy.specs.OutProxy.{OutProxy, is_known, is_server_down, is_server_first, is_client_down, is_due, is_echo_put, is_ping_due, joined, new_proxy}
+use Rattle.rh_outproxy.specs.OutProxy.{OutProxy, is_known, is_server_down, is_client_down, new_proxy}
 use Rattle.rh_outproxy.specs.Rows.{Done, is_co, is_os, is_first, unexpected, forwarded, passed_on}
-use Rattle.rh_outproxy.specs.Opening.{first_packet, up, pipe, may_up, wants, head_by, told_length, new_length, successor_length, opened, on_out_r2_c1, conn_c1_by}
-use Rattle.rh_outproxy.specs.Acknowledging.{on_ack_to, ack_due}
+use Rattle.rh_outproxy.specs.Opening.{up, pipe, may_up, wants, head_by, told_length, new_length, successor_length, opened, on_out_r2_c1, conn_c1_by}
+use Rattle.rh_outproxy.specs.Acknowledging.{on_ack_to}
 use Rattle.rh_outproxy.specs.Ending.{drawn, mark, on_end_b1}
 use Rattle.rh_outproxy.specs.OutReplacement.{on_out_r1_a9}
-use Rattle.rh_outproxy.specs.Putting.{Pick, ping_room, or_else, answer_by, put_answer, waiting_by, put_waiting, pdu_by, put_pdu, put_end, put_handover, put_mark, put_ping, next_co, first_by, put_first, ack_by, put_ack, next_os}
+use Rattle.rh_outproxy.specs.Putting.{Pick}
 use Rattle.rh_outproxy.specs.Putting.{put as put_of}
 use Rattle.rh_outproxy.specs.Machine.{pdu, packet, on_co, on_os}
 use Rattle.rh_outproxy.specs.Machine.{rules as proxy_rules}
-use Rattle.rh_passages.specs.Passing.{HasOne}
-use Rattle.rh_passages.specs.Counted.{IsCounted, AreCounted, packets, is_any}
+use Rattle.rh_passages.specs.Counted.{IsCounted, AreCounted, is_any}
 use Rattle.rh_passages.proofs.Logs.{RowKeeps}
-use Rattle.rh_passages.proofs.Messages.{leg_more, one_more_so, last_one_so, count_append, count_rises}
+use Rattle.rh_passages.proofs.Messages.{leg_more, last_one_so, count_append, count_rises}
 use Rattle.rh_proxy_counts.specs.OutCounts.{co_leg, os_leg, NamesNew, NamesSuccessor}
 use Rattle.rh_proxy_counts.proofs.Counts.{leg_is, here_more}
 use Rattle.rh_streams.specs.Turns.{Stages, none_up, with_stage, behind_head, stages_after, takes_frames, IsInTurn, AreInTurn, AreInTurnFrom}

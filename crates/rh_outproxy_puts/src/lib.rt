@@ -4,6 +4,4 @@
 
 pub mod puts;
 
-pub use puts::{
-    an_out_proxy_opens_to_its_client_in_order, an_out_proxy_opens_to_the_server_first,
-};
+pub use puts::{an_out_proxy_opens_to_its_client_in_order, an_out_proxy_opens_to_the_server_first};
