@@ -309,6 +309,13 @@ module _ (config : OutProxyConfig) where
       came_last m =
           subst (Has m) (sym (here_more os came (Packet m))) (has_last m (of_leg os came))
 
+      -- with destination 0
+      last_to : (m : ℕ → Named) (to : ℕ) → to ≡ 0
+          → Has (m 0) (of_leg os (came ++ (os, Packet (m to)) ∷ []))
+      last_to m to e =
+          subst (λ (n : ℕ). Has (m n) (of_leg os (came ++ (os, Packet (m to)) ∷ []))) e
+          (came_last (m to))
+
       -- CONN/C1: nothing waits, and there is room
       c1_row : (m : Named) (c : Channel) → s.channel ≡ c → (version size timeout : ℕ)
           → m ≡ named.ConnC1 version size timeout
@@ -375,9 +382,7 @@ module _ (config : OutProxyConfig) where
           (named.AckTo 0 received available cookie) to
           (λ f. (
             refl,
-            subst (λ (n : ℕ). Has (named.AckTo n received available cookie)
-                (of_leg os (came ++ (os, Packet (named.AckTo to received available cookie)) ∷ []))) f
-                (came_last (named.AckTo to received available cookie)),
+            last_to (λ (n : ℕ). named.AckTo n received available cookie) to f,
           )))
 
       a9_row : Row came put (os, Packet named.OutR1A9) (on_out_r1_a9 s)
@@ -412,33 +417,25 @@ module _ (config : OutProxyConfig) where
           passed_row (named.InR1A3 to version size timeout) (named.InR1A4 0 version size timeout)
           to (λ f. (
             refl,
-            subst (λ (n : ℕ). Has (named.InR1A3 n version size timeout)
-                (of_leg os (came ++ (os, Packet (named.InR1A3 to version size timeout)) ∷ []))) f
-                (came_last (named.InR1A3 to version size timeout)),
+            last_to (λ (n : ℕ). named.InR1A3 n version size timeout) to f,
           ))
       os_row (named.InR2A3 to) =
           passed_row (named.InR2A3 to) (named.InR2A4 0) to
           (λ f. (
             refl,
-            subst (λ (n : ℕ). Has (named.InR2A3 n)
-                (of_leg os (came ++ (os, Packet (named.InR2A3 to)) ∷ []))) f
-                (came_last (named.InR2A3 to)),
+            last_to (λ (n : ℕ). named.InR2A3 n) to f,
           ))
       os_row (named.OutR1A1 to) =
           passed_row (named.OutR1A1 to) (named.OutR1A2 0) to
           (λ f. (
             refl,
-            subst (λ (n : ℕ). Has (named.OutR1A1 n)
-                (of_leg os (came ++ (os, Packet (named.OutR1A1 to)) ∷ []))) f
-                (came_last (named.OutR1A1 to)),
+            last_to (λ (n : ℕ). named.OutR1A1 n) to f,
           ))
       os_row (named.OutR1A5 to version timeout) =
           passed_row (named.OutR1A5 to version timeout) (named.OutR1A6 0 version timeout) to
           (λ f. (
             refl,
-            subst (λ (n : ℕ). Has (named.OutR1A5 n version timeout)
-                (of_leg os (came ++ (os, Packet (named.OutR1A5 to version timeout)) ∷ []))) f
-                (came_last (named.OutR1A5 to version timeout)),
+            last_to (λ (n : ℕ). named.OutR1A5 n version timeout) to f,
           ))
       os_row named.OutR1A9 = a9_row
       os_row named.EndB1 = end_row
