@@ -1,0 +1,11 @@
+mod Fronts
+mod Sounds
+mod Waiting
+mod Tests
+mod Ups
+mod Rows
+mod Stands
+mod Goes
+mod Behind
+mod Fresh
+mod Laws

@@ -1,0 +1,9 @@
+mod Goes
+mod Turns
+mod ServerRows
+mod ToServer
+mod Forms
+mod Standing
+mod ClientRows
+mod ClientPuts
+mod ToClient

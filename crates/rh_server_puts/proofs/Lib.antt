@@ -1,0 +1,11 @@
+mod Turns
+mod Writing
+mod Each
+mod Copied
+mod CopiedRows
+mod CopiedPuts
+mod Numbered
+mod Greets
+mod GreetsOut
+mod GreetsIn
+mod OnFirst

@@ -1,0 +1,4 @@
+pub mod Puts
+pub mod Copying
+pub mod Greeting
+pub mod First
