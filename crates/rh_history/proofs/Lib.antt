@@ -1,5 +1,6 @@
 pub mod Leading
 pub mod Working
+pub mod Drawing
 pub mod Numbers
 pub mod Losing
 pub mod Connecting
