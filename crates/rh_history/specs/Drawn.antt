@@ -4,8 +4,7 @@ use Rattle.rh_rts.specs.declared.command.Cookie.{Cookie}
 use Rattle.rh_line.specs.declared.leg.Leg.{Leg}
 use Rattle.rh_line.specs.declared.leg.LegKind.TheVariants.{ClientIn, ClientOut}
 use Rattle.rh_record.specs.declared.answer.Who.TheVariants as who
-use Rattle.rh_shell.specs.Moving as moving
-use Rattle.rh_shell.specs.Moving.{EndEvent, Happens}
+use Rattle.rh_shell.specs.Moving.{Event, ComesUp}
 use Rattle.rh_nodes.specs.Company.{Rulebook}
 use Rattle.rh_nodes.specs.Cookies.{Cookies, cookie_of}
 use Rattle.rh_nodes.specs.Giving.{Deeds}
@@ -49,14 +48,14 @@ abbrev pub DrawnByLines : {K C S I O : Type 0} → Rulebook C S I O → Makers K
     → World K C S I O → World K C S I O → Type 0
 DrawnByLines r m d w v = DrawsBy of_line r m d w v
 
--- at one of these events of the end the leg came up, with this cookie
-abbrev pub RoseWith : List EndEvent → Leg → Cookie → Type 0
+-- at one of these events of a node the leg came up, with this cookie
+abbrev pub RoseWith : List Event → Leg → Cookie → Type 0
 RoseWith [] leg cookie = ⊥
 RoseWith (event ∷ events) leg cookie =
-    (event ≡ Happens (moving.ComesUp leg cookie)) ⊎ RoseWith events leg cookie
+    (event ≡ ComesUp leg cookie) ⊎ RoseWith events leg cookie
 
 -- no two legs came up with one cookie
-abbrev pub HaveOwnCookies : List EndEvent → Type 0
+abbrev pub HaveOwnCookies : List Event → Type 0
 HaveOwnCookies events =
     (one other : Leg) (cookie : Cookie) → RoseWith events one cookie
     → RoseWith events other cookie → one ≡ other
