@@ -21,7 +21,7 @@ use Rattle.rh_nodes.specs.Cookies.{draw}
 use Rattle.rh_nodes.specs.Giving.{Deeds}
 use Rattle.rh_nodes.specs.Halves.{up_at}
 use Rattle.rh_nodes.specs.Numbered.{ask, change}
-use Rattle.rh_nodes.specs.Opening.{Makers, at_moment, with_in, with_out, connect, up_at_both, connect_client, may_make, open_out_to, open_in_to, is_wanted, open_server, open_leg, reader_before, may_open_same, read_on, open_same}
+use Rattle.rh_nodes.specs.Opening.{Makers, at_moment, with_in, with_out, connect, up_at_both, connect_client, may_make, is_wanted, open_server, open_leg, reader_before, may_open_same, read_on, open_same}
 use Rattle.rh_nodes.specs.Places as places
 use Rattle.rh_nodes.specs.Places.{is_absent}
 use Rattle.rh_nodes.specs.Readers.{reader_of, with_reader}
@@ -85,7 +85,7 @@ module _ {K C S I O : Type 0} (r : Rulebook C S I O) (m : Makers K I O) (d : Dee
   Connects w v = WorksBy connects r m d w v
 
   -- and the cookies of the client's legs are drawn for them
-  abbrev Joins : World K C S I O → World K C S I O → Type 0
+  abbrev pub Joins : World K C S I O → World K C S I O → Type 0
   Joins w v = DrawsBy connects r m d w v
 
   -- behind something that was done or refused
@@ -299,7 +299,7 @@ module _ {K C S I O : Type 0} (r : Rulebook C S I O) (m : Makers K I O) (d : Dee
   open_by w ClientIn n = open_in w n
   open_by w InServer n = open_server_leg w (leg_at InServer n) refl (ins_servers w n)
 
-  joins_open_leg : (w : World K C S I O) (leg : Leg) → Joins w (open_leg r m w leg).0
+  pub joins_open_leg : (w : World K C S I O) (leg : Leg) → Joins w (open_leg r m w leg).0
   joins_open_leg w leg = open_by w leg.kind leg.number
 
   same_by : (w : World K C S I O) (kind : LegKind) (n : ℕ)
@@ -321,7 +321,7 @@ module _ {K C S I O : Type 0} (r : Rulebook C S I O) (m : Makers K I O) (d : Dee
           same_proxy w n may.0 may.1
       by false e = draws_none r m d w
 
-  joins_open_same : (w : World K C S I O) (leg : Leg) → Joins w (open_same r w leg).0
+  pub joins_open_same : (w : World K C S I O) (leg : Leg) → Joins w (open_same r w leg).0
   joins_open_same w leg = same_by w leg.kind leg.number
 
   pub connects_open_leg : (w : World K C S I O) (leg : Leg) → Connects w (open_leg r m w leg).0
