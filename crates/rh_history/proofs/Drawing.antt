@@ -33,8 +33,8 @@ drawn_lower low middle high (one ∷ legs) le h =
     let first = h.1 in
     (h.0, omega (arith, le, first), h.2, h.3)
 
-drawn_append : (low middle high : ℕ) (legs more : List (Leg × Cookie)) → AreDrawn low legs middle
-    → AreDrawn middle more high → AreDrawn low (legs ++ more) high
+pub drawn_append : (low middle high : ℕ) (legs more : List (Leg × Cookie))
+    → AreDrawn low legs middle → AreDrawn middle more high → AreDrawn low (legs ++ more) high
 drawn_append low middle high [] more a b = drawn_lower low middle high more a b
 drawn_append low middle high (one ∷ legs) more a b =
     (a.0, a.1, a.2, drawn_append (a.0 + 1) middle high legs more a.3 b)
@@ -62,7 +62,7 @@ past_rises others (other ∷ rest) number left =
     let first = one_rises others number (omega (arith, more, left)) in
     omega (arith, more, first)
 
-draw_is_drawn : (cookies : Cookies) (leg : Leg) → AreLeft (draw cookies).0
+pub draw_is_drawn : (cookies : Cookies) (leg : Leg) → AreLeft (draw cookies).0
     → AreDrawn cookies.next ((leg, (draw cookies).1) ∷ []) (draw cookies).0.next
 draw_is_drawn cookies leg left =
     let number = past cookies.others cookies.others cookies.next in (
@@ -84,47 +84,47 @@ is_steady (Draws cookies) = false
 is_steady change = true
 
 module _ {K C S I O : Type 0} (r : Rulebook C S I O) (m : Makers K I O) (d : Deeds C S) where
-  abbrev IsStill : World K C S I O → Change → Type 0
+  abbrev pub IsStill : World K C S I O → Change → Type 0
   IsStill w change =
       AreDrawn w.cookies.next (all_risen (change ∷ [])) (changed r m d w change).cookies.next
 
-  same : (n : ℕ) → n ≤ n
-  same n = omega arith
+  pub stands : (w : World K C S I O) → w.cookies.next ≤ w.cookies.next
+  stands w = omega arith
 
-  steady_is_still : (w : World K C S I O) (change : Change) → is_steady change ≡ true
+  pub steady_is_still : (w : World K C S I O) (change : Change) → is_steady change ≡ true
       → IsStill w change
-  steady_is_still w (IsTold node event) is = same w.cookies.next
-  steady_is_still w (IsFed leg dir count) is = same w.cookies.next
-  steady_is_still w (IsDrawn leg dir count) is = same w.cookies.next
+  steady_is_still w (IsTold node event) is = stands w
+  steady_is_still w (IsFed leg dir count) is = stands w
+  steady_is_still w (IsDrawn leg dir count) is = stands w
   steady_is_still w (GoesUp who.Client leg end cookie) is = absurd cc
-  steady_is_still w (GoesUp who.Server leg end cookie) is = same w.cookies.next
-  steady_is_still w (GoesUp (who.In n) leg end cookie) is = same w.cookies.next
-  steady_is_still w (GoesUp (who.Out n) leg end cookie) is = same w.cookies.next
+  steady_is_still w (GoesUp who.Server leg end cookie) is = stands w
+  steady_is_still w (GoesUp (who.In n) leg end cookie) is = stands w
+  steady_is_still w (GoesUp (who.Out n) leg end cookie) is = stands w
   steady_is_still w (RaisesAlone node leg end cookie) is = absurd cc
-  steady_is_still w (GoesDown node leg end) is = same w.cookies.next
+  steady_is_still w (GoesDown node leg end) is = stands w
   steady_is_still w (OpensIn n cookie) is = absurd cc
   steady_is_still w (OpensOut n cookie) is = absurd cc
   steady_is_still w (OpensSame n cookie) is = absurd cc
-  steady_is_still w (Gives side.Client pdu) is = same w.cookies.next
-  steady_is_still w (Gives side.Server pdu) is = same w.cookies.next
-  steady_is_still w (Takes side.Client) is = same w.cookies.next
-  steady_is_still w (Takes side.Server) is = same w.cookies.next
-  steady_is_still w (Closes side.Client) is = same w.cookies.next
-  steady_is_still w (Closes side.Server) is = same w.cookies.next
-  steady_is_still w RecyclesIn is = same w.cookies.next
-  steady_is_still w RecyclesOut is = same w.cookies.next
-  steady_is_still w (MovesTo now) is = same w.cookies.next
+  steady_is_still w (Gives side.Client pdu) is = stands w
+  steady_is_still w (Gives side.Server pdu) is = stands w
+  steady_is_still w (Takes side.Client) is = stands w
+  steady_is_still w (Takes side.Server) is = stands w
+  steady_is_still w (Closes side.Client) is = stands w
+  steady_is_still w (Closes side.Server) is = stands w
+  steady_is_still w RecyclesIn is = stands w
+  steady_is_still w RecyclesOut is = stands w
+  steady_is_still w (MovesTo now) is = stands w
   steady_is_still w (Draws cookies) is = absurd cc
-  steady_is_still w Reports is = same w.cookies.next
+  steady_is_still w Reports is = stands w
 
 -- ---- changes behind each other
 
 module _ {K C S I O : Type 0} {kind : Change → Bool} (r : Rulebook C S I O) (m : Makers K I O)
     (d : Deeds C S) where
-  pub draws_none : (w : World K C S I O) → DrawsBy kind r m d w w
-  draws_none w = record { works = works_none r m d w; drawn = λ left. same r m d w.cookies.next }
+  abbrev pub draws_none : (w : World K C S I O) → DrawsBy kind r m d w w
+  draws_none w = record { works = works_none r m d w; drawn = λ left. stands r m d w }
 
-  pub draws_one : (w : World K C S I O) (change : Change) → MayChange r w change
+  abbrev pub draws_one : (w : World K C S I O) (change : Change) → MayChange r w change
       → (is_steady change && kind change) ≡ true → DrawsBy kind r m d w (changed r m d w change)
   draws_one w change may is =
       let parts = and_parts (is_steady change) (kind change) is in
@@ -133,7 +133,7 @@ module _ {K C S I O : Type 0} {kind : Change → Bool} (r : Rulebook C S I O) (m
         drawn = λ left. steady_is_still r m d w change parts.0;
       }
 
-  pub draws_then : (w v u : World K C S I O) → DrawsBy kind r m d w v
+  abbrev pub draws_then : (w v u : World K C S I O) → DrawsBy kind r m d w v
       → DrawsBy kind r m d v u → DrawsBy kind r m d w u
   draws_then w v u a b = record {
     works = works_then r m d w v u a.works b.works;
@@ -149,7 +149,7 @@ module _ {K C S I O : Type 0} {kind : Change → Bool} (r : Rulebook C S I O) (m
   }
 
   -- one more change
-  pub draws_more : (w v : World K C S I O) (change : Change) → DrawsBy kind r m d w v
+  abbrev pub draws_more : (w v : World K C S I O) (change : Change) → DrawsBy kind r m d w v
       → MayChange r v change → (is_steady change && kind change) ≡ true
       → DrawsBy kind r m d w (changed r m d v change)
   draws_more w v change a may is =
@@ -165,7 +165,7 @@ module _ {K C S I O : Type 0} {kind : Change → Bool} (r : Rulebook C S I O) (m
       (a n (for_each n act w))
 
   -- a cookie is drawn, and a leg of the client comes up with it
-  pub draws_leg : (w : World K C S I O) (leg : Leg) (change : Change)
+  abbrev pub draws_leg : (w : World K C S I O) (leg : Leg) (change : Change)
       → (let x = record w { cookies = (draw w.cookies).0 } in
       risen change ≡ (leg, (draw w.cookies).1) ∷ []
       → (changed r m d x change).cookies ≡ x.cookies → MayChange r x change
@@ -197,8 +197,8 @@ module _ {K C S I O : Type 0} (r : Rulebook C S I O) (m : Makers K I O) (d : Dee
   abbrev pub DrawsOk : World K C S I O → World K C S I O × Bool → Type 0
   DrawsOk w did = DrawsQuietly w did.0
 
-  pub draws_quietly : (w v : World K C S I O) → DrawsQuietly w v → DrawsWork w v
+  abbrev pub draws_quietly : (w v : World K C S I O) → DrawsQuietly w v → DrawsWork w v
   draws_quietly w v a = record { works = works_quietly r m d w v a.works; drawn = a.drawn }
 
-  pub draws_by_lines : (w v : World K C S I O) → DrawsWork w v → DrawnByLines r m d w v
+  abbrev pub draws_by_lines : (w v : World K C S I O) → DrawsWork w v → DrawnByLines r m d w v
   draws_by_lines w v a = record { works = works_by_lines r m d w v a.works; drawn = a.drawn }
