@@ -36,6 +36,7 @@ use Rattle.rh_traced.proofs.ByChanges.{lines_by_changes}
 use Rattle.rh_fifo.specs.Flows.{numbers_of}
 use Rattle.rh_fifo.specs.Premises.{AreInRange}
 use Rattle.rh_fifo.proofs.Recorded.{in_range, ours}
+use Rattle.rh_honest.specs.Cookies.{AreLeftIn}
 
 -- ---- the world in the midst of a line
 
@@ -93,13 +94,6 @@ module _ {K C S I O : Type 0} (r : Rulebook C S I O) (m : Makers K I O) (d : Dee
       ∙ sym (append_assoc cs is.closed.before rest))
 
 -- ---- a line of a recording
-
--- cookies are left in a world of roles
-abbrev pub AreLeftIn : AnyWorld → Type 0
-AreLeftIn Before = Unit {0}
-AreLeftIn (Direct w) = Unit {0}
-AreLeftIn (Settings config) = Unit {0}
-AreLeftIn (Roles w) = AreLeft w.cookies
 
 -- what follows of each change that closes the node so: the changes before it are those of lines,
 -- and where cookies are left behind the line, the legs of the client have cookies of their own
