@@ -1,11 +1,12 @@
 -- changes that lines make lead to each world of roles that a recording comes to, from one that
--- begins with numbers in their ranges
+-- begins with numbers in their ranges; the cookies of the client's legs are drawn for them
 use Rattle.std.proofs.Common.{List, [], ◌∷◌, true, false}
 use Rattle.rh_record.specs.declared.line.Line.{Line}
 use Rattle.rh_record.specs.declared.line.Line.TheVariants.{First, Set, Give, Take, Close, Send, Move, OpenLeg, OpenSame, BreakLeg, EndLeg, Tick, RecycleIn, RecycleOut, Settle}
 use Rattle.rh_history.specs.Changes.{ByLines}
-use Rattle.rh_history.proofs.Working.{works_none, works_then}
-use Rattle.rh_history.proofs.Lines.{step_by_lines}
+use Rattle.rh_history.specs.Drawn.{AreDrawn, AreLeft, DrawnByLines, all_risen}
+use Rattle.rh_history.proofs.Drawing.{draws_none, draws_then}
+use Rattle.rh_history.proofs.Lines.{step_draws}
 use Rattle.rh_world.specs.declared.any_world.AnyWorld.{AnyWorld}
 use Rattle.rh_world.specs.declared.any_world.AnyWorld.TheVariants.{Before, Direct, Settings, Roles}
 use Rattle.rh_world.specs.declared.config.WorldConfig.{WorldConfig}
@@ -18,23 +19,36 @@ pub record IsReached (world : roles.World) : Type 0 where
   pub config : WorldConfig
   pub ranges : AreInRange config
   pub lines : ByLines roles.rules roles.makers roles.deeds (roles.begun config) world
+  pub drawn : AreLeft world.cookies
+      → AreDrawn (roles.begun config).cookies.next (all_risen lines.leads.changes)
+      world.cookies.next
 
-begun_reached : (config : WorldConfig) → AreInRange config → IsReached (roles.begun config)
-begun_reached config ranges = record {
+reached_by : (config : WorldConfig) → AreInRange config → (world : roles.World)
+    → DrawnByLines roles.rules roles.makers roles.deeds (roles.begun config) world
+    → IsReached world
+reached_by config ranges world draws = record {
   config = config;
   ranges = ranges;
-  lines = works_none roles.rules roles.makers roles.deeds (roles.begun config);
+  lines = draws.works;
+  drawn = draws.drawn;
 }
+
+abbrev pub reached_draws : (world : roles.World) (reached : IsReached world)
+    → DrawnByLines roles.rules roles.makers roles.deeds (roles.begun reached.config) world
+reached_draws world reached = record { works = reached.lines; drawn = reached.drawn }
+
+begun_reached : (config : WorldConfig) → AreInRange config → IsReached (roles.begun config)
+begun_reached config ranges =
+    reached_by config ranges (roles.begun config)
+    (draws_none roles.rules roles.makers roles.deeds (roles.begun config))
 
 step_reached : (world : roles.World) (line : Line) → IsReached world
     → IsReached (roles.step line world).0
-step_reached world line reached = record {
-  config = reached.config;
-  ranges = reached.ranges;
-  lines = works_then roles.rules roles.makers roles.deeds (roles.begun reached.config) world
-      (roles.step line world).0 reached.lines
-      (step_by_lines roles.rules roles.makers roles.deeds line world);
-}
+step_reached world line reached =
+    reached_by reached.config reached.ranges (roles.step line world).0
+    (draws_then roles.rules roles.makers roles.deeds (roles.begun reached.config) world
+    (roles.step line world).0 (reached_draws world reached)
+    (step_draws roles.rules roles.makers roles.deeds line world))
 
 -- ---- the world of a recording
 

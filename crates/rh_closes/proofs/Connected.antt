@@ -10,7 +10,7 @@ use Rattle.rh_nodes.specs.Opening.{Makers, open_leg, open_same}
 use Rattle.rh_nodes.specs.World.{World}
 use Rattle.rh_history.specs.Changes.{Change, IsTold, IsFed, changed, is_work}
 use Rattle.rh_history.specs.Closes.{told_by}
-use Rattle.rh_history.proofs.Connecting.{Connects, connects, connects_open_leg, connects_open_same, quiet_connects}
+use Rattle.rh_history.proofs.Connecting.{Joins, connects, joins_open_leg, joins_open_same, quiet_connects}
 use Rattle.rh_history.proofs.Working.{all_wider, quiet_work}
 use Rattle.rh_closes.specs.Shows.{AreShown, IsShown, ShownWorks}
 
@@ -29,22 +29,26 @@ module _ {K C S I O : Type 0} (r : Rulebook C S I O) (m : Makers K I O) (d : Dee
       let parts = and_parts (connects change) (list_all connects changes) is in
       (untold w change parts.0, all_untold (changed r m d w change) changes parts.1)
 
-  shown_connects : (w v : World K C S I O) → Connects r m d w v → ShownWorks r m d all w v
-  shown_connects w v a = record {
-    works = record {
-      leads = a.leads;
-      work =
-          all_wider connects is_work
-          (λ change is. quiet_work change (quiet_connects change is)) a.leads.changes a.work;
-    };
-    shown = all_untold w a.leads.changes a.work;
-  }
+  shown_joins : (w v : World K C S I O) → Joins r m d w v → ShownWorks r m d all w v
+  shown_joins w v a =
+      let leads = a.works.leads in
+      record {
+        works = record {
+          leads = leads;
+          work =
+              all_wider connects is_work
+              (λ change is. quiet_work change (quiet_connects change is)) leads.changes
+              a.works.work;
+        };
+        shown = all_untold w leads.changes a.works.work;
+        drawn = a.drawn;
+      }
 
   pub shown_open_leg : (w : World K C S I O) (leg : Leg)
       → ShownWorks r m d all w (open_leg r m w leg).0
-  shown_open_leg w leg = shown_connects w (open_leg r m w leg).0 (connects_open_leg r m d w leg)
+  shown_open_leg w leg = shown_joins w (open_leg r m w leg).0 (joins_open_leg r m d w leg)
 
   pub shown_open_same : (w : World K C S I O) (leg : Leg)
       → ShownWorks r m d all w (open_same r w leg).0
   shown_open_same w leg =
-      shown_connects w (open_same r w leg).0 (connects_open_same r m d w leg)
+      shown_joins w (open_same r w leg).0 (joins_open_same r m d w leg)

@@ -31,7 +31,7 @@ use Rattle.rh_history.specs.Changes.{Change, IsTold, RaisesAlone, OpensIn, Opens
 use Rattle.rh_history.proofs.Connecting.{or_left}
 use Rattle.rh_history.proofs.Leading.{leads_none, leads_then}
 use Rattle.rh_history.proofs.Lines.{leads_step, same_who}
-use Rattle.rh_history.proofs.Losing.{works_broken, works_ended}
+use Rattle.rh_history.proofs.Losing.{draws_broken, draws_ended}
 use Rattle.rh_history.proofs.Working.{all_wider, works_none, works_one, works_then, works_more}
 
 -- what half steps change is of the kind: what tells a node something, the report, and a leg that
@@ -161,14 +161,14 @@ module _ {K C S I O : Type 0} (r : Rulebook C S I O) (m : Makers K I O) (d : Dee
   broken_goes w node leg (Some end) =
       by_test (Goes w) (legs.is_up leg end w.legs) (lose r w leg end (Breaks leg), true)
       (refused_half r w node leg)
-      (λ e. quiet_works w (lose r w leg end (Breaks leg)) (works_broken r m d w leg end))
+      (λ e. quiet_works w (lose r w leg end (Breaks leg)) (draws_broken r m d w leg end).works)
       (λ e. refused_goes w node leg)
 
   ended_goes : (w : World K C S I O) (leg : Leg) (o : Option Side) → Goes w (ended_end r w leg o)
   ended_goes w leg None = works_none r m d w
   ended_goes w leg (Some end) =
       by_test (Goes w) (legs.is_up leg end w.legs) (lose r w leg end (Ends leg), true) (w, false)
-      (λ e. quiet_works w (lose r w leg end (Ends leg)) (works_ended r m d w leg end))
+      (λ e. quiet_works w (lose r w leg end (Ends leg)) (draws_ended r m d w leg end).works)
       (λ e. works_none r m d w)
 
   tick_goes : (w : World K C S I O) (node : Who) (now : ℕ) (o : Option ℕ)

@@ -1,5 +1,7 @@
 pub mod Leading
 pub mod Working
+pub mod Drawing
+pub mod Drawn
 pub mod Numbers
 pub mod Losing
 pub mod Connecting

@@ -22,11 +22,11 @@ use Rattle.rh_nodes.specs.Opening.{Makers, open_leg, open_same, may_open_same}
 use Rattle.rh_nodes.specs.Reports.{and_then, each}
 use Rattle.rh_nodes.specs.Settling.{leg_at, opened, opened_same, open_next, open_next_in, next_number, open_client_outs, open_client_ins, open_out_servers, open_in_servers, open_all, most_bytes, carry_bytes, carried, carry, carry_both, carry_kind, carry_all, took, take_one, take_both, ends_now, ended, end_where, end_one, end_kind, end_all, round, behind_round, rounds_from, settle}
 use Rattle.rh_nodes.specs.World.{World}
-use Rattle.rh_history.specs.Changes.{Takes, Works, Quietly, GoesQuietly}
-use Rattle.rh_history.proofs.Working.{works_none, works_one, works_then}
-use Rattle.rh_history.proofs.Answering.{Goes, goes_quietly, goes_none, goes_quiet, goes_one, goes_and_then}
-use Rattle.rh_history.proofs.Losing.{works_end_leg, works_send, works_feed}
-use Rattle.rh_history.proofs.Connecting.{works_open_leg, works_open_same}
+use Rattle.rh_history.specs.Changes.{Takes, GoesQuietly}
+use Rattle.rh_history.proofs.Drawing.{DrawsQuietly, DrawsWork, draws_none, draws_one, draws_then}
+use Rattle.rh_history.proofs.Answering.{Goes, GoesDrawing, QuietlyDrawing, goes_quietly, goes_none, goes_quiet, goes_one, goes_and_then, goes_plainly}
+use Rattle.rh_history.proofs.Losing.{draws_end_leg, draws_send, draws_feed}
+use Rattle.rh_history.proofs.Connecting.{draws_open_leg, draws_open_same}
 
 -- ---- what holds of each step of a round, and of one behind another, holds of rounds
 
@@ -169,44 +169,44 @@ module _ {K C S I O : Type 0} (r : Rulebook C S I O) (m : Makers K I O) (d : Dee
           (λ next. rounds_from n (count + 1) (round r m d) next) (round_goes w)
           (rounds_go n (count + 1))
 
--- ---- each round is a list of changes, and reports no closed node
+-- ---- each round is a list of changes that draw cookies, and reports no closed node
 
 module _ {K C S I O : Type 0} (r : Rulebook C S I O) (m : Makers K I O) (d : Deeds C S) where
   opened_goes : (w : World K C S I O) (leg : Leg) (did : World K C S I O × Bool)
-      → Quietly r m d w did.0 → GoesQuietly r m d w (opened leg did)
+      → DrawsQuietly r m d w did.0 → QuietlyDrawing r m d w (opened leg did)
   opened_goes w leg (v, true) a = goes_one r m d w v (answer.OpenLeg leg true) a refl
   opened_goes w leg (v, false) a = goes_quiet r m d w v a
 
   opened_same_goes : (w : World K C S I O) (leg : Leg) (did : World K C S I O × Bool)
-      → Quietly r m d w did.0 → GoesQuietly r m d w (opened_same leg did)
+      → DrawsQuietly r m d w did.0 → QuietlyDrawing r m d w (opened_same leg did)
   opened_same_goes w leg (v, true) a = goes_one r m d w v (answer.OpenSame leg true) a refl
   opened_same_goes w leg (v, false) a = goes_quiet r m d w v a
 
-  pub open_goes : (w : World K C S I O) → GoesQuietly r m d w (open_all r m w)
-  open_goes =
-      opens_go r m d (GoesQuietly r m d) (goes_none r m d) (goes_and_then r m d)
-      (λ w leg. opened_goes w leg (open_leg r m w leg) (works_open_leg r m d w leg))
-      (λ w leg. opened_same_goes w leg (open_same r w leg) (works_open_same r m d w leg))
+  open_draws : (w : World K C S I O) → QuietlyDrawing r m d w (open_all r m w)
+  open_draws =
+      opens_go r m d (QuietlyDrawing r m d) (goes_none r m d) (goes_and_then r m d)
+      (λ w leg. opened_goes w leg (open_leg r m w leg) (draws_open_leg r m d w leg))
+      (λ w leg. opened_same_goes w leg (open_same r w leg) (draws_open_same r m d w leg))
 
   carried_goes : (w : World K C S I O) (leg : Leg) (dir : Dir)
-      (did : World K C S I O × Option (List ℕ)) → Quietly r m d w did.0
-      → GoesQuietly r m d w (carried leg dir did)
+      (did : World K C S I O × Option (List ℕ)) → DrawsQuietly r m d w did.0
+      → QuietlyDrawing r m d w (carried leg dir did)
   carried_goes w leg dir (v, None) a = goes_quiet r m d w v a
   carried_goes w leg dir (v, Some []) a = goes_quiet r m d w v a
   carried_goes w leg dir (v, Some (b ∷ bytes)) a =
       goes_one r m d w v (answer.Move (Some leg) dir (Some (b ∷ bytes))) a refl
 
-  pub carry_all_goes : (w : World K C S I O) → GoesQuietly r m d w (carry_all r w)
-  carry_all_goes =
-      carries_go r m d (GoesQuietly r m d) (goes_none r m d) (goes_and_then r m d)
+  carry_all_draws : (w : World K C S I O) → QuietlyDrawing r m d w (carry_all r w)
+  carry_all_draws =
+      carries_go r m d (QuietlyDrawing r m d) (goes_none r m d) (goes_and_then r m d)
       (λ leg dir w. let v = (send r w leg dir most_bytes).0 in
       carried_goes w leg dir (carry_bytes r leg dir w)
-      (works_then r m d w v (feed r v leg dir most_bytes).0
-      (works_send r m d w leg dir most_bytes) (works_feed r m d v leg dir most_bytes)))
+      (draws_then r m d w v (feed r v leg dir most_bytes).0
+      (draws_send r m d w leg dir most_bytes) (draws_feed r m d v leg dir most_bytes)))
 
   took_goes : (w : World K C S I O) (end : Side) (ended : Bool)
-      (did : World K C S I O × TakeAnswer) → Works r m d w did.0
-      → Goes r m d w (took end ended did)
+      (did : World K C S I O × TakeAnswer) → DrawsWork r m d w did.0
+      → GoesDrawing r m d w (took end ended did)
   took_goes w end ended (v, takes.Pdu pdu) a =
       goes_one r m d w v (answer.Take end (takes.Pdu pdu)) a refl
   took_goes w end ended (v, takes.Empty) a = goes_quiet r m d w v a
@@ -215,28 +215,43 @@ module _ {K C S I O : Type 0} (r : Rulebook C S I O) (m : Makers K I O) (d : Dee
   took_goes w end true (v, takes.Ended) a = goes_quiet r m d w v a
   took_goes w end ended (v, takes.Closed why) a = goes_quiet r m d w v a
 
-  take_goes : (end : Side) (w : World K C S I O) → Goes r m d w (take_one d end w)
+  take_goes : (end : Side) (w : World K C S I O) → GoesDrawing r m d w (take_one d end w)
   take_goes end w =
-      took_goes w end (has_ended w end) (take d w end) (works_one r m d w (Takes end) tt refl)
+      took_goes w end (has_ended w end) (take d w end) (draws_one r m d w (Takes end) tt refl)
+
+  end_all_draws : (w : World K C S I O) → QuietlyDrawing r m d w (end_all r w)
+  end_all_draws =
+      ends_go r m d (QuietlyDrawing r m d) (goes_none r m d) (goes_and_then r m d)
+      (λ leg dir w. let did = end_leg r w leg dir in
+      goes_one r m d w did.0 (answer.EndLeg leg dir did.1) (draws_end_leg r m d w leg dir) refl)
+
+  pub draws_round : (w : World K C S I O) → GoesDrawing r m d w (round r m d w)
+  draws_round =
+      round_goes r m d (GoesDrawing r m d) (goes_none r m d) (goes_and_then r m d)
+      (λ w. goes_quietly r m d w (open_all r m w) (open_draws w))
+      (λ w. goes_quietly r m d w (carry_all r w) (carry_all_draws w)) take_goes
+      (λ w. goes_quietly r m d w (end_all r w) (end_all_draws w))
+
+  pub draws_settle : (rounds : ℕ) (w : World K C S I O)
+      → GoesDrawing r m d w (settle r m d rounds w)
+  draws_settle rounds =
+      rounds_go r m d (GoesDrawing r m d) (goes_none r m d) (goes_and_then r m d)
+      (λ w. goes_quietly r m d w (open_all r m w) (open_draws w))
+      (λ w. goes_quietly r m d w (carry_all r w) (carry_all_draws w)) take_goes
+      (λ w. goes_quietly r m d w (end_all r w) (end_all_draws w))
+      (λ w v count a. goes_one r m d w v (answer.Quiet count) a.draws refl)
+      (λ w count. goes_one r m d w w (answer.Spent count) (draws_none r m d w) refl) rounds 0
+
+  -- ---- whatever the cookies
+
+  pub open_goes : (w : World K C S I O) → GoesQuietly r m d w (open_all r m w)
+  open_goes w = goes_plainly r m d w (open_all r m w) (open_draws w)
+
+  pub carry_all_goes : (w : World K C S I O) → GoesQuietly r m d w (carry_all r w)
+  carry_all_goes w = goes_plainly r m d w (carry_all r w) (carry_all_draws w)
 
   pub end_all_goes : (w : World K C S I O) → GoesQuietly r m d w (end_all r w)
-  end_all_goes =
-      ends_go r m d (GoesQuietly r m d) (goes_none r m d) (goes_and_then r m d)
-      (λ leg dir w. let did = end_leg r w leg dir in
-      goes_one r m d w did.0 (answer.EndLeg leg dir did.1) (works_end_leg r m d w leg dir) refl)
+  end_all_goes w = goes_plainly r m d w (end_all r w) (end_all_draws w)
 
   pub goes_round : (w : World K C S I O) → Goes r m d w (round r m d w)
-  goes_round =
-      round_goes r m d (Goes r m d) (goes_none r m d) (goes_and_then r m d)
-      (λ w. goes_quietly r m d w (open_all r m w) (open_goes w))
-      (λ w. goes_quietly r m d w (carry_all r w) (carry_all_goes w)) take_goes
-      (λ w. goes_quietly r m d w (end_all r w) (end_all_goes w))
-
-  pub goes_settle : (rounds : ℕ) (w : World K C S I O) → Goes r m d w (settle r m d rounds w)
-  goes_settle rounds =
-      rounds_go r m d (Goes r m d) (goes_none r m d) (goes_and_then r m d)
-      (λ w. goes_quietly r m d w (open_all r m w) (open_goes w))
-      (λ w. goes_quietly r m d w (carry_all r w) (carry_all_goes w)) take_goes
-      (λ w. goes_quietly r m d w (end_all r w) (end_all_goes w))
-      (λ w v count a. goes_one r m d w v (answer.Quiet count) a.works refl)
-      (λ w count. goes_one r m d w w (answer.Spent count) (works_none r m d w) refl) rounds 0
+  goes_round w = goes_plainly r m d w (round r m d w) (draws_round w)

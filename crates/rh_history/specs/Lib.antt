@@ -1,4 +1,5 @@
 pub mod Changes
+pub mod Drawn
 pub mod Histories
 pub mod Closes
 pub mod Carriages

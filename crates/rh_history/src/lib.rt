@@ -4,6 +4,7 @@
 
 pub mod changing;
 pub mod closes;
+pub mod cookies;
 pub mod histories;
 pub mod legs;
 
@@ -16,6 +17,7 @@ pub use closes::{
     a_node_is_reported_closed_once, what_is_reported_closed_was_closed,
     what_is_to_be_reported_has_closed,
 };
+pub use cookies::{cookies_of_lines_differ, lines_draw_cookies};
 pub use histories::{a_recording_begins_new, each_node_is_what_its_history_made};
 pub use legs::{
     a_leg_is_read_at_its_ends, a_leg_that_is_remembered_comes_up_once,

@@ -2,3 +2,4 @@ pub mod Heads
 pub mod Causes
 pub mod Rows
 pub mod Honest
+pub mod Cookies
