@@ -8,3 +8,4 @@ mod Stops
 mod Moments
 mod Closing
 mod Joining
+mod Distinct

@@ -1,7 +1,9 @@
-//! The hops between a client and its proxies, whose acknowledgements pass other nodes. Its function
-//! does nothing: its contract is the law.
+//! The hops between a client and its proxies, whose acknowledgements pass other nodes. Its functions
+//! do nothing: their contracts are the laws.
 #![tactic(auto)]
 
+pub mod recordings;
 pub mod worlds;
 
+pub use recordings::no_hop_of_a_client_closes_a_node_of_a_recording;
 pub use worlds::no_hop_of_a_client_closes_a_node;
