@@ -28,6 +28,7 @@ use Rattle.rh_ordered.specs.Counted.{CountsCapped}
 use Rattle.rh_ordered.specs.Recordings.{OffersBehindFirst}
 use Rattle.rh_paths.specs.Recordings.{KeepsWays}
 use Rattle.rh_refused.specs.Reported.{ReportsBreak}
+use Rattle.rh_honest.specs.Cookies.{AreLeftIn}
 use Rattle.rh_hops.specs.Hops.{is_leg, os_leg}
 
 -- a line reports a node as closed only for what it told that node, and its answers show that
@@ -89,6 +90,27 @@ pub record HopsHold (world : AnyWorld) (line : Line) : Type 0 where
       → IsOneOf (NodeClosed (who.Out k) (WindowExceeded (os_leg n) reached edge))
       (step world line).1 → ⊥
 
+-- nor one for that of a hop between the client and its proxies
+pub record ClientHopsHold (world : AnyWorld) (line : Line) : Type 0 where
+  pub in_window : (k n reached edge : ℕ)
+      → IsOneOf (NodeClosed (who.In k) (WindowExceeded (leg_at ClientIn n) reached edge))
+      (step world line).1 → ⊥
+  pub in_range : (k n command value : ℕ)
+      → IsOneOf (NodeClosed (who.In k) (OutOfRange (leg_at ClientIn n) command value))
+      (step world line).1 → ⊥
+  pub client_window : (n reached edge : ℕ)
+      → IsOneOf (NodeClosed who.Client (WindowExceeded (leg_at ClientOut n) reached edge))
+      (step world line).1 → ⊥
+  pub client_range : (n command value : ℕ)
+      → IsOneOf (NodeClosed who.Client (OutOfRange (leg_at ClientOut n) command value))
+      (step world line).1 → ⊥
+  pub out_window : (k n reached edge : ℕ)
+      → IsOneOf (NodeClosed (who.Out k) (WindowExceeded (leg_at ClientOut n) reached edge))
+      (step world line).1 → ⊥
+  pub out_range : (k : ℕ) (leg : Leg) (command value : ℕ)
+      → IsOneOf (NodeClosed (who.Out k) (OutOfRange leg command value))
+      (step world line).1 → ⊥
+
 -- at every line of the report what an end took is a front of what the other end gave, each PDU
 -- once and in order, and all of it at a clean end; and a report of roles counts what it tells.
 -- Behind each front of the lines no more is held for a channel than its window, nothing stands
@@ -113,5 +135,8 @@ pub record Claims (lines : List Line) : Type 0 where
       → BodiesFit (after Before before) line
   pub hops : (before behind : List Line) (line : Line) → lines ≡ before ++ line ∷ behind
       → HopsHold (after Before before) line
+  pub client_hops : (before behind : List Line) (line : Line)
+      → lines ≡ before ++ line ∷ behind → AreLeftIn (step (after Before before) line).0
+      → ClientHopsHold (after Before before) line
   pub once : (node : Who) → closings_of node (run lines) ≤ 1
   pub named : NamesIt (run lines)

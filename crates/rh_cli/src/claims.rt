@@ -7,6 +7,7 @@ ghost use Rattle.rh_cli.specs.Claims.{Claims};
 
 use rh_bodies::no_body_of_a_recording_is_too_long;
 use rh_bounds::windows_hold_in_every_recording;
+use rh_client_hops::no_hop_of_a_client_closes_a_node_of_a_recording;
 use rh_closes::{
     a_node_of_a_recording_falls_silent, a_recording_reports_a_node_closed_once,
     each_cause_of_a_recording_shows, each_close_of_a_recording_shows,
@@ -28,7 +29,8 @@ use rh_refused::a_refused_client_of_a_recording_lost_its_server;
 /// unless a leg is lost. No more is held for a channel than its window, and each node is reported
 /// as closed once at most, by a line whose answers show why; each later answer of that end names
 /// the same cause (MS-RPCH 3.2). No node closes for bytes that read badly, for a body that is too
-/// long, or for the window of a hop that lies on one leg.
+/// long, or for the window of a hop: of one that lies on one leg, and of one between the client and
+/// its proxies until the count of cookies comes to 2^64 - 1.
 pub fn recordings_keep_to_their_claims()
     ensures { (lines : List Line) → Claims lines }
 {
@@ -43,6 +45,7 @@ pub fn recordings_keep_to_their_claims()
     only_acknowledgements_of_a_recording_are_out_of_range();
     no_body_of_a_recording_is_too_long();
     no_hop_on_one_leg_closes_a_node_of_a_recording();
+    no_hop_of_a_client_closes_a_node_of_a_recording();
     every_recording_keeps_what_is_on_its_way();
     a_node_of_a_recording_falls_silent();
     a_recording_reports_a_node_closed_once();
