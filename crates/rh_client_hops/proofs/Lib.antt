@@ -1,11 +1,11 @@
-mod Read
-mod Roles
+pub mod Read
+pub mod Roles
 pub mod Routes
-mod Refusing
+pub mod Refusing
 pub mod Joined
-mod Honest
-mod Stops
-mod Moments
-mod Closing
-mod Joining
-mod Distinct
+pub mod Honest
+pub mod Stops
+pub mod Moments
+pub mod Closing
+pub mod Joining
+pub mod Distinct

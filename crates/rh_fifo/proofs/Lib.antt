@@ -2,7 +2,7 @@ mod Legs
 pub mod Fine
 pub mod Heard
 pub mod Flowing
-mod Starting
+pub mod Starting
 mod Legal
 mod Reaching
 mod Routing
