@@ -45,7 +45,7 @@ use Rattle.rh_history.proofs.Runs.{end_events_append}
 use Rattle.rh_passages.specs.Rising.{AreUpFirst, CameUpWith, HasComeUp, IsUpFirst}
 use Rattle.rh_order.proofs.ItemLists.{neither}
 
-is_open : (c : Course) (f : Phase) → state_by c f ≡ state.Open → f ≡ phase.Open
+pub is_open : (c : Course) (f : Phase) → state_by c f ≡ state.Open → f ≡ phase.Open
 is_open Going phase.Opening e = absurd cc
 is_open Going phase.Open e = refl
 is_open Going phase.Ended e = absurd cc
@@ -56,14 +56,14 @@ module _ {S : Type 0} (rules : Rules S) (acts : Acts S) (first : S) (rooms : Roo
     (pipe : Leg → Option Pipe) (piped : (s : S) (leg : Leg) → rules.pipe s leg ≡ pipe leg)
     (never : NeverRefuses rules) (unused : StaysUnusedAtEnd rules acts first)
     (once : ComesUpOnceAtEnd rules acts (begun first rooms)) (all : List EndEvent) where
-  abbrev start : Shell S
+  abbrev pub start : Shell S
   start = begun first rooms
 
-  abbrev Sound : Leg → Type 0
+  abbrev pub Sound : Leg → Type 0
   Sound leg = Unit {0}
 
   -- the leg came up so by an event
-  abbrev CameUp : Leg → Cookie → Type 0
+  abbrev pub CameUp : Leg → Cookie → Type 0
   CameUp leg cookie = CameUpWith (happened all) leg cookie
 
   -- moves of the end lead to it, by which these PDUs were given and taken
@@ -81,7 +81,7 @@ module _ {S : Type 0} (rules : Rules S) (acts : Acts S) (first : S) (rooms : Roo
     pub given_is : end.given ≡ given
     pub taken_is : end.taken ≡ taken
 
-  end_stays : (end : EndPassage S) (move : EndMove) (leg : Leg)
+  pub end_stays : (end : EndPassage S) (move : EndMove) (leg : Leg)
       → EndLeads rules acts (end_started first) end → MayEndMove rules end.passage.role move
       → is_end_up_on leg move ≡ false → is_in_use rules end.passage.role leg ≡ false
       → is_in_use rules (end_moved rules acts end move).passage.role leg ≡ false
@@ -94,17 +94,17 @@ module _ {S : Type 0} (rules : Rules S) (acts : Acts S) (first : S) (rooms : Roo
       (subst (λ (x : EndPassage S). is_in_use rules x.passage.role leg ≡ false)
       (sym leads.reached) not_used))
 
-  asked : (leg : Leg) (p : Passage S) (text : List ℕ) (fault : HttpFault)
+  pub asked : (leg : Leg) (p : Passage S) (text : List ℕ) (fault : HttpFault)
       → (rules.head p.role leg text).1 ≡ Err (head.Request fault)
       → ⊥ × (of_leg leg p.put ≡ [])
   asked leg p text fault refuses = absurd (never.heads p.role leg text fault refuses)
 
-  unreached : (leg : Leg) (p : Passage S) → rules.answers_on p.role ≡ Some leg
+  pub unreached : (leg : Leg) (p : Passage S) → rules.answers_on p.role ≡ Some leg
       → ⊥ × (of_leg leg p.put ≡ [])
   unreached leg p answers =
       absurd (let bad : None ≡ Some leg = sym (never.unreached p.role) ∙ answers in cc)
 
-  abbrev RanBy : List (List ℕ) → List (List ℕ) → Shell S → (Leg → List ℕ) → (Leg → List ℕ)
+  abbrev pub RanBy : List (List ℕ) → List (List ℕ) → Shell S → (Leg → List ℕ) → (Leg → List ℕ)
       → (Leg → Bool) → Type 0
   RanBy given taken s heard drawn up =
       Ran rules pipe Sound ⊥ CameUp (IsReached given taken) s heard drawn up
@@ -284,13 +284,13 @@ module _ {S : Type 0} (rules : Rules S) (acts : Acts S) (first : S) (rooms : Roo
 
   -- ---- all that happens at the end
 
-  abbrev RanTo : List (List ℕ) → List (List ℕ) → Shell S → List EndEvent → Type 0
+  abbrev pub RanTo : List (List ℕ) → List (List ℕ) → Shell S → List EndEvent → Type 0
   RanTo given taken s events =
       RanBy given taken s (λ leg. heard_on leg (happened events))
       (λ leg. end_drawn_on rules acts start leg events) (λ leg. came_up leg (happened events))
 
   -- what was kept, and then what an event brought
-  abbrev Next : List (List ℕ) → List (List ℕ) → Shell S → List EndEvent → EndEvent → Type 0
+  abbrev pub Next : List (List ℕ) → List (List ℕ) → Shell S → List EndEvent → EndEvent → Type 0
   Next given taken s events event =
       RanBy (given ++ streams.given_by acts s event) (taken ++ taken_by acts s event)
       (after_end_event rules acts s event)
@@ -298,12 +298,12 @@ module _ {S : Type 0} (rules : Rules S) (acts : Acts S) (first : S) (rooms : Roo
       (λ leg. end_drawn_on rules acts start leg events ++ drawn_at_end rules acts s leg event)
       (λ leg. came_up leg (happened events) || came_up leg (happened (event ∷ [])))
 
-  abbrev FitsEnd : Shell S → List EndEvent → EndEvent → Type 0
+  abbrev pub FitsEnd : Shell S → List EndEvent → EndEvent → Type 0
   FitsEnd s events (Happens event) =
       IsFit rules CameUp s (λ leg. came_up leg (happened events)) event
   FitsEnd s events act = Unit {0}
 
-  happens : (given taken : List (List ℕ)) (s : Shell S) (events : List EndEvent) (event : Event)
+  pub happens : (given taken : List (List ℕ)) (s : Shell S) (events : List EndEvent) (event : Event)
       → RanTo given taken s events
       → IsFit rules CameUp s (λ leg. came_up leg (happened events)) event
       → Next given taken s events (Happens event)
@@ -338,7 +338,7 @@ module _ {S : Type 0} (rules : Rules S) (acts : Acts S) (first : S) (rooms : Roo
       (λ leg. heard_on leg (happened events)) (λ leg. end_drawn_on rules acts start leg events)
       (λ leg. came_up leg (happened events)) ran fit)))
 
-  next_of : (given taken : List (List ℕ)) (s : Shell S) (events : List EndEvent)
+  pub next_of : (given taken : List (List ℕ)) (s : Shell S) (events : List EndEvent)
       (event : EndEvent) → RanTo given taken s events → FitsEnd s events event
       → Next given taken s events event
   next_of given taken s events (Happens event) ran fit =
@@ -360,7 +360,7 @@ module _ {S : Type 0} (rules : Rules S) (acts : Acts S) (first : S) (rooms : Roo
       (λ leg. end_drawn_on rules acts start leg events) (λ leg. came_up leg (happened events)) ran
       (state_of rules s) refl
 
-  one_more : (given taken : List (List ℕ)) (s : Shell S) (events : List EndEvent)
+  pub one_more : (given taken : List (List ℕ)) (s : Shell S) (events : List EndEvent)
       (event : EndEvent) → after_end_events rules acts start events ≡ s
       → Next given taken s events event
       → RanTo (given ++ streams.given_by acts s event) (taken ++ taken_by acts s event)
@@ -389,7 +389,7 @@ module _ {S : Type 0} (rules : Rules S) (acts : Acts S) (first : S) (rooms : Roo
       ∙ ap (came_up leg) (sym (happened_append events (event ∷ []))))
       next
 
-  fits : (s : Shell S) (events later : List EndEvent) (event : EndEvent)
+  pub fits : (s : Shell S) (events later : List EndEvent) (event : EndEvent)
       → after_end_events rules acts start events ≡ s
       → AreAcceptedAtEnd rules acts start events → IsAcceptedAtEnd rules s event
       → HearsInTurn (happened (events ++ event ∷ later))
@@ -413,7 +413,7 @@ module _ {S : Type 0} (rules : Rules S) (acts : Acts S) (first : S) (rooms : Roo
   fits s events later IsClosed is before accepted turn whole = tt
   fits s events later IsRecycled is before accepted turn whole = tt
 
-  run : (given taken : List (List ℕ)) (events later : List EndEvent) (s : Shell S)
+  pub run : (given taken : List (List ℕ)) (events later : List EndEvent) (s : Shell S)
       → after_end_events rules acts start events ≡ s → AreAcceptedAtEnd rules acts start events
       → RanTo given taken s events → AreAcceptedAtEnd rules acts s later
       → HearsInTurn (happened (events ++ later)) → events ++ later ≡ all
@@ -446,7 +446,7 @@ module _ {S : Type 0} (rules : Rules S) (acts : Acts S) (first : S) (rooms : Roo
       accepted.1
       (subst (λ x. HearsInTurn (happened x)) (sym same) turn) (same ∙ whole))))
 
-  drawn_is : (leg : Leg) (p : Passage S) (heard bytes : List ℕ)
+  pub drawn_is : (leg : Leg) (p : Passage S) (heard bytes : List ℕ)
       → IsPrefix bytes (spelled (of_leg leg p.put))
       ⊎ FrontOf rules (pipe leg) leg (Sound leg) ⊥ p heard bytes
       → IsPrefix bytes (spelled (of_leg leg p.put))

@@ -45,7 +45,7 @@ use Rattle.rh_history.proofs.Wired.{same_itself}
 use Rattle.std.proofs.lemmas.Bool.{and_parts}
 use Rattle.rh_order.proofs.ItemLists.{neither}
 
-no_lift : (With : Leg → Cookie → Type 0) (move : Move)
+pub no_lift : (With : Leg → Cookie → Type 0) (move : Move)
     → ((leg : Leg) → is_up_on leg move ≡ false) → Lifts With move
 no_lift With (Up leg cookie) none =
     absurd (let bad : true ≡ false = sym (same_itself leg) ∙ none leg in cc)
@@ -58,7 +58,7 @@ no_lift With (Marks leg) none = tt
 no_lift With (Pings leg) none = tt
 
 -- where no leg comes up, each that does has it
-no_lifts : (With : Leg → Cookie → Type 0) (moves : List Move)
+pub no_lifts : (With : Leg → Cookie → Type 0) (moves : List Move)
     → ((leg : Leg) → list_any (is_up_on leg) moves ≡ false) → AllByRecursion (Lifts With) moves
 no_lifts With [] none = tt
 no_lifts With (move ∷ moves) none = (
@@ -751,7 +751,7 @@ module _ {S : Type 0} (rules : Rules S) (pipes : Leg → Option Pipe) (rose : Le
 
   -- ---- time
 
-  ticks : (p : Passage S) (s : Shell S) (is : p.role ≡ s.role) (held : AreHeld s)
+  pub ticks : (p : Passage S) (s : Shell S) (is : p.role ≡ s.role) (held : AreHeld s)
       (apart : AreApart s.legs) (now : ℕ) → Calm p s is held apart (tick rules s now).0
   ticks p s is held apart now = by (is_working rules s && nat_le s.now now)
     where

@@ -1,22 +1,22 @@
-mod Ways
-mod Counts
-mod Staging
-mod Bytes
+pub mod Ways
+pub mod Counts
+pub mod Staging
+pub mod Bytes
 pub mod Heads
-mod Frames
-mod Hears
-mod Pieces
-mod Draws
+pub mod Frames
+pub mod Hears
+pub mod Pieces
+pub mod Draws
 pub mod Ends
 pub mod LegLogs
-mod Turns
-mod Kept
-mod Seats
-mod Going
-mod Pings
-mod Events
-mod Runs
-mod Rising
-mod Nodes
-mod EndMoves
-mod AtEnds
+pub mod Turns
+pub mod Kept
+pub mod Seats
+pub mod Going
+pub mod Pings
+pub mod Events
+pub mod Runs
+pub mod Rising
+pub mod Nodes
+pub mod EndMoves
+pub mod AtEnds

@@ -41,17 +41,17 @@ module _ {S : Type 0} (rules : Rules S) (first : S) (rooms : Rooms) (pipe : Leg 
     pub stages : all_stages rules (started first) none_up ms ≡ g
     pub counted : AreCounted rules (started first) ms
 
-  abbrev Sound : Leg → Type 0
+  abbrev pub Sound : Leg → Type 0
   Sound leg = RefusesInTurn rules first pipe leg
 
   -- nothing is asked of the cookie with which a leg comes up
-  abbrev anyhow : Leg → Cookie → Type 0
+  abbrev pub anyhow : Leg → Cookie → Type 0
   anyhow leg cookie = Unit {0}
 
-  abbrev start : Shell S
+  abbrev pub start : Shell S
   start = begun first rooms
 
-  more : (p : Passage S) (ms : List Move) (g : Stages) (move : Move) → IsReached p ms g
+  pub more : (p : Passage S) (ms : List Move) (g : Stages) (move : Move) → IsReached p ms g
       → MayMove rules p.role move → IsInTurn rules p.role g move → IsCounted p move
       → IsReached (moved rules p move) (ms ++ move ∷ []) (stages_after rules p.role g move)
   more p ms g move at may turn count = record {
@@ -78,7 +78,7 @@ module _ {S : Type 0} (rules : Rules S) (first : S) (rooms : Rooms) (pipe : Leg 
         (subst (λ (x : Passage S). IsCounted x move) (sym at.reached) count, tt);
   }
 
-  stays : (p : Passage S) (ms : List Move) (g : Stages) (move : Move) (leg : Leg)
+  pub stays : (p : Passage S) (ms : List Move) (g : Stages) (move : Move) (leg : Leg)
       → IsReached p ms g
       → MayMove rules p.role move → is_up_on leg move ≡ false
       → is_in_use rules p.role leg ≡ false → is_in_use rules (moved rules p move).role leg ≡ false
@@ -88,12 +88,12 @@ module _ {S : Type 0} (rules : Rules S) (first : S) (rooms : Rooms) (pipe : Leg 
       (subst (λ (x : Passage S). MayMove rules x.role move) (sym at.reached) may) up
       (subst (λ (x : Passage S). is_in_use rules x.role leg ≡ false) (sym at.reached) not_used))
 
-  piped : (p : Passage S) (ms : List Move) (g : Stages) (leg : Leg) → IsReached p ms g
+  pub piped : (p : Passage S) (ms : List Move) (g : Stages) (leg : Leg) → IsReached p ms g
       → rules.pipe p.role leg ≡ pipe leg
   piped p ms g leg at =
       subst (λ (x : Passage S). rules.pipe x.role leg ≡ pipe leg) at.reached (has ms leg at.allowed)
 
-  asked : (leg : Leg) (p : Passage S) (ms : List Move) (g : Stages) (text : List ℕ)
+  pub asked : (leg : Leg) (p : Passage S) (ms : List Move) (g : Stages) (text : List ℕ)
       (fault : HttpFault) → Sound leg → IsReached p ms g → first_stage (pipe leg) ≡ stage.Head
       → list_any (is_head_on leg) ms ≡ false
       → (rules.head p.role leg text).1 ≡ Err (head.Request fault)
@@ -106,7 +106,7 @@ module _ {S : Type 0} (rules : Rules S) (first : S) (rooms : Rooms) (pipe : Leg 
         (sym at.reached) refuses)),
   )
 
-  unreached : (leg : Leg) (p : Passage S) (ms : List Move) (g : Stages) (wanted : Leg)
+  pub unreached : (leg : Leg) (p : Passage S) (ms : List Move) (g : Stages) (wanted : Leg)
       → Sound leg → IsReached p ms g → rules.answers_on p.role ≡ Some leg
       → rules.wants p.role wanted ≡ true → Unit {0} × (of_leg leg p.put ≡ [])
   unreached leg p ms g wanted sound at answers wants = (
@@ -118,12 +118,12 @@ module _ {S : Type 0} (rules : Rules S) (first : S) (rooms : Rooms) (pipe : Leg 
   )
 
   -- what is kept behind these events
-  abbrev RanTo : Shell S → List Event → Type 0
+  abbrev pub RanTo : Shell S → List Event → Type 0
   RanTo s events =
       Ran rules pipe Sound (Unit {0}) anyhow IsReached s (λ leg. heard_on leg events)
       (λ leg. drawn_on rules start leg events) (λ leg. came_up leg events)
 
-  ran_one : (events : List Event) (s : Shell S) (event : Event)
+  pub ran_one : (events : List Event) (s : Shell S) (event : Event)
       → after_events rules start events ≡ s → RanTo s events
       → IsFit rules anyhow s (λ leg. came_up leg events) event
       → RanTo (after_event rules s event) (events ++ event ∷ [])
@@ -150,7 +150,7 @@ module _ {S : Type 0} (rules : Rules S) (first : S) (rooms : Rooms) (pipe : Leg 
       event (λ leg. heard_on leg events) (λ leg. drawn_on rules start leg events)
       (λ leg. came_up leg events) ran fit)
 
-  run : (events later : List Event) (s : Shell S) → after_events rules start events ≡ s
+  pub run : (events later : List Event) (s : Shell S) → after_events rules start events ≡ s
       → AreAccepted rules start events → RanTo s events → AreAccepted rules s later
       → HearsInTurn (events ++ later) → RanTo (after_events rules s later) (events ++ later)
   run events [] s is before ran accepted turn =
@@ -176,7 +176,7 @@ module _ {S : Type 0} (rules : Rules S) (first : S) (rooms : Rooms) (pipe : Leg 
       (ran_one events s event is ran fit) accepted.1
       (subst HearsInTurn (sym all) turn))
 
-  drawn_is : (leg : Leg) (p : Passage S) (heard bytes : List ℕ)
+  pub drawn_is : (leg : Leg) (p : Passage S) (heard bytes : List ℕ)
       → IsPrefix bytes (spelled (of_leg leg p.put))
       ⊎ FrontOf rules (pipe leg) leg (Sound leg) (Unit {0}) p heard bytes
       → IsDrawn (of_leg leg p.put) bytes
@@ -188,7 +188,7 @@ module _ {S : Type 0} (rules : Rules S) (first : S) (rooms : Rooms) (pipe : Leg 
         (front.rest, sym front.answering.text),
       )
 
-  refused_is : (leg : Leg) (p : Passage S) (heard bytes : List ℕ)
+  pub refused_is : (leg : Leg) (p : Passage S) (heard bytes : List ℕ)
       → IsPrefix bytes (spelled (of_leg leg p.put))
       ⊎ FrontOf rules (pipe leg) leg (Sound leg) (Unit {0}) p heard bytes
       → IsPrefix bytes (spelled (of_leg leg p.put))
