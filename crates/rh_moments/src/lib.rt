@@ -1,0 +1,3 @@
+//! Moments of a virtual connection: what the moves of its four roles have in common. It has
+//! definitions and lemmas alone.
+#![tactic(auto)]
