@@ -1,11 +1,12 @@
 -- where CONN/C2 came at the client, CONN/A2 came at the server: so the client had put CONN/A1
-use Rattle.std.proofs.Common.{◌≡◌, ◌⊎◌, ℕ, ◌+◌, ◌≤◌, true, List, [], refl, arith, subst}
+use Rattle.std.proofs.Common.{◌≡◌, ◌⊎◌, ℕ, ◌+◌, ◌≤◌, true, List, [], refl, sym, arith, subst}
 use Rattle.rh_rts.specs.declared.command.Cookie.{Cookie}
 use Rattle.rh_sig.specs.declared.named.Named.{Named}
 use Rattle.rh_sig.specs.declared.named.Named.TheVariants.{ConnA2, ConnC1, ConnC2}
 use Rattle.rh_line.specs.declared.leg.LegKind.TheVariants.{OutServer}
-use Rattle.rh_shell.specs.Rules.{Message}
+use Rattle.rh_shell.specs.Moves.{EndMove}
 use Rattle.rh_shell.specs.Wires.{of_leg}
+use Rattle.rh_client.specs.Order.{client_moved}
 use Rattle.rh_client.specs.State.{co}
 use Rattle.rh_server.specs.declared.state.Stage.{Stage}
 use Rattle.rh_server.specs.declared.state.Stage.TheVariants.{Waits, OutCame, InCame, Open, Ended}
@@ -16,9 +17,9 @@ use Rattle.rh_proxy_counts.specs.OutCounts.{co_leg, os_leg, ForwardsWhatCame, Na
 use Rattle.rh_server_counts.specs.Counting as at_server
 use Rattle.rh_server_counts.specs.Counting.{out_came, out_put, waits_for}
 use Rattle.rh_server_counts.specs.Opening.{OpensOnce, since_conn_a2, since_open}
-use Rattle.rh_client_puts.specs.Puts.{HasOpened}
+use Rattle.rh_client_puts.specs.Puts.{HasOpened, OpenedBefore}
 use Rattle.rh_outproxy_puts.specs.Puts.{OpensServer}
-use Rattle.rh_moments.specs.Moments.{AreJoined, IsJoined, IsMoment, Moves, Numbers, out_behind, passages, server_behind}
+use Rattle.rh_moments.specs.Moments.{AreJoined, AreMade, IsMoment, Moves, Numbers, out_behind, passages, server_behind}
 use Rattle.rh_moments.proofs.Joining.{co_back, os_back}
 use Rattle.rh_moments.proofs.Read.{front_count, front_has}
 use Rattle.rh_server_expects.proofs.Logs.{counted_some, has_so, leg_of_all, some_counted}
@@ -109,3 +110,24 @@ module _ (numbers : Numbers) (reader : ℕ → ℕ) (moves : Moves)
       (by_stage server.role.stage (out_put at_server.is_conn_c1 server)
       (waits_for at_server.is_conn_c1 server.role) (out_came at_server.is_conn_a2 server)
       turns.server.conn_c1 turns.server.conn_a2 (c1_put has)) none
+
+-- ---- a client that was opened before it put anything
+
+-- what is known of each moment
+pub record Known (numbers : Numbers) : Type 0 where
+  pub opens : (moves : Moves) → AreMade numbers moves → OpensOuts numbers moves
+  pub turns : (moves : Moves) → AreMade numbers moves → OpensByTurns numbers moves
+
+pub never_early : (numbers : Numbers) (reader : ℕ → ℕ) (moves : Moves)
+    → IsMoment numbers reader moves → Known numbers
+    → OpenedBefore numbers.client moves.client (co 1) → ⊥
+never_early numbers reader moves moment known early =
+    let past = moment.client_past early.past early.later early.front in
+    let before = past.0.moves_then in
+    let now = past.0.then_joined in
+    not_early numbers past.0.reader_then before now.joined (known.opens before now.made)
+    (known.turns before now.made)
+    (subst (λ (ms : List EndMove). HasOpened (client_moved numbers.client ms).passage.came)
+    (sym past.1) early.opened)
+    (subst (λ (ms : List EndMove).
+    of_leg (co 1) (client_moved numbers.client ms).passage.put ≡ []) (sym past.1) early.none)
