@@ -109,7 +109,7 @@ drawn_behind low middle high legs more a b = record {
   count = λ none.
       let first = a.count none in
       let rest = b.count (a.others none) in
-      let sum = length_append legs more in
+      let sum = length-append legs more in
       omega (arith, first, rest, sum);
 }
 
