@@ -231,11 +231,11 @@ same_but_times s t sound same =
           (subst (Grows (record (sides s).outs { limit = None; next_limit = None })) (sym outs)
           (grows_self (record (sides s).outs { limit = None; next_limit = None })
           (record {
-        first = sound.outs.first;
-        behind = sound.outs.behind;
-        now_last = sound.outs.now_last;
-        next_last = sound.outs.next_last;
-      })));
+            first = sound.outs.first;
+            behind = sound.outs.behind;
+            now_last = sound.outs.now_last;
+            next_last = sound.outs.next_last;
+          })));
     }
   where
     untimed : (x y : Side) → Grows (record x { limit = None; next_limit = None })

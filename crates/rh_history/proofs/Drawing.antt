@@ -89,14 +89,14 @@ draw_is_drawn cookies leg = record {
 }
 
 -- no leg came up, and no cookie was drawn
-none_drawn : (cookies : Cookies) → AreDrawnFor [] cookies cookies
+pub none_drawn : (cookies : Cookies) → AreDrawnFor [] cookies cookies
 none_drawn cookies = record {
   numbers = λ left. omega arith;
   others = λ none. none;
   count = λ none. omega arith;
 }
 
-drawn_behind : (low middle high : Cookies) (legs more : List (Leg × Cookie))
+pub drawn_behind : (low middle high : Cookies) (legs more : List (Leg × Cookie))
     → AreDrawnFor legs low middle → AreDrawnFor more middle high
     → AreDrawnFor (legs ++ more) low high
 drawn_behind low middle high legs more a b = record {
@@ -109,7 +109,7 @@ drawn_behind low middle high legs more a b = record {
   count = λ none.
       let first = a.count none in
       let rest = b.count (a.others none) in
-      let sum = length_append legs more in
+      let sum = length-append legs more in
       omega (arith, first, rest, sum);
 }
 
