@@ -1,8 +1,6 @@
 -- all cookies of connections that came at the server are the client's, and those of OUT channels
 -- are the ones with which their legs came up
 use Rattle.std.proofs.Common.{◌≡◌, ◌⊎◌, ℕ, suc, ◌≤◌, Bool, true, false, if◌then◌else◌, List, [], ◌∷◌, ◌++◌, refl, sym, ap, ◌∙◌, subst, arith, inl, inr}
-use Rattle.std.proofs.lemmas.Slice.Eq.{bytes_eq-Decides}
-use Rattle.std.specs.Prelude.{bytes_eq}
 use Rattle.rh_rts.specs.declared.command.Cookie.{Cookie}
 use Rattle.rh_sig.specs.declared.named.Named.{Named}
 use Rattle.rh_sig.specs.declared.named.Named.TheVariants.{ConnA2, ConnB1, ConnB2, OutR1A4}
@@ -21,22 +19,12 @@ use Rattle.rh_moments.specs.Moments.{AreJoined, Moves, Numbers, client_behind, i
 use Rattle.rh_moments.proofs.Joining.{in_front, is_front}
 use Rattle.rh_moments.proofs.Read.{front_one}
 use Rattle.rh_server_expects.specs.Connecting.{asks, connects, ConnectsForWhatCame}
+use Rattle.rh_server_expects.proofs.Cookies.{cookie_same, is_same, same_cookie}
 use Rattle.rh_server_expects.proofs.Logs.{counted_some, leg_at, some_counted, some_leg}
 use Rattle.rh_server_expects.proofs.Moment as at
 use Rattle.rh_server_expects.proofs.Moment.{OpensOuts}
 
--- ---- cookies
-
-abbrev is_same : Cookie → Cookie → Bool
-is_same a b = bytes_eq a.0 b.0
-
-same_cookie : (a b : Cookie) → is_same a b ≡ true → a ≡ b
-same_cookie a b e =
-    let of : List ℕ → Cookie = λ bytes. record { 0 = bytes } in
-    ap of ((bytes_eq-Decides a.0 b.0).0 e)
-
-cookie_same : (a b : Cookie) → a ≡ b → is_same a b ≡ true
-cookie_same a b e = (bytes_eq-Decides a.0 b.0).1 (ap (λ (c : Cookie). c.0) e)
+-- ---- packets
 
 module _ (cookie : Cookie) where
   connects_same : (m : Named) → Connects cookie m → connects (is_same cookie) m ≡ true
