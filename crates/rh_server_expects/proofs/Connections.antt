@@ -35,7 +35,7 @@ module _ (cookie : Cookie) where
   connects_same m h = absurd h
 
   -- CONN/B1 of this connection
-  abbrev Asks : Named → Type 0
+  abbrev pub Asks : Named → Type 0
   Asks (ConnB1 version connection channel lifetime keepalive group) = cookie ≡ connection
   Asks m = ⊥
 
@@ -57,7 +57,7 @@ module _ (cookie : Cookie) where
     asked_same front leg (Packet m) h (inl is) = absurd is
     asked_same front leg (Packet m) h (inr has) = absurd has
 
-    all_same : (leg : Leg) (front log : List OnLeg) → EachBehind (NamesIn of) front log
+    pub all_same : (leg : Leg) (front log : List OnLeg) → EachBehind (NamesIn of) front log
         → HasOne Asks (of_leg leg log) → of ≡ cookie
     all_same leg front [] h has = absurd has
     all_same leg front (one ∷ log) h has =

@@ -1,7 +1,14 @@
 mod InProxies
-pub mod Logs
-pub mod Opened
-pub mod Moment
+mod Logs
+mod Cookies
+mod Opened
+mod Moment
 mod Early
 mod Connections
 mod Ahead
+mod InOrder
+mod Fronts
+mod Confirms
+mod Confirmed
+mod Streams
+mod InAhead

@@ -8,5 +8,5 @@ pub mod expects;
 pub mod in_proxies;
 
 pub use early::a_client_is_never_opened_early;
-pub use expects::a_server_expects_its_out_proxies;
+pub use expects::{a_server_expects_its_in_proxies, a_server_expects_its_out_proxies};
 pub use in_proxies::an_in_proxy_connects_as_it_was_asked;
