@@ -35,29 +35,18 @@ use Rattle.rh_server_expects.specs.Expected.{ExpectsThose, OpensOrConfirms}
 use Rattle.rh_server_expects.proofs.Confirmed.{Confirming, next_is, one_asked}
 use Rattle.rh_server_expects.proofs.Confirms.{is_leg}
 use Rattle.rh_server_expects.proofs.Connections.{Asks, Connecting, all_same, channel_is, connection_is}
-use Rattle.rh_server_expects.proofs.Logs.{counted_some, some_counted, some_leg}
+use Rattle.rh_server_expects.proofs.FirstIn.{IsB1, IsB2, b1_first, is_b2}
+use Rattle.rh_server_expects.proofs.Logs.{some_counted, some_leg}
 use Rattle.rh_server_expects.proofs.Moment.{OpensOuts}
-use Rattle.rh_server_expects.proofs.Streams.{IsB1, IsB2, IsBehind, IsFirstPacket, IsLaterPacket, b2_asked, first_one, next_packet}
+use Rattle.rh_server_expects.proofs.Streams.{IsFirstPacket, IsLaterPacket, b2_asked, connects_b1, first_one, next_packet}
 
 -- ---- packets
-
-is_b2 : (m : Named) → at_server.is_conn_b2 m ≡ true → IsB2 m
-is_b2 (ConnB2 version connection channel window timeout group address padding) e = tt
-is_b2 m e = absurd cc
-
-b1_counts : (m : Named) → IsB1 m → at_client.is_conn_b1 m ≡ true
-b1_counts (ConnB1 version connection channel lifetime keepalive group) h = refl
-b1_counts m h = absurd h
 
 b1_asks : (connection channel group : Cookie) (m : Named)
     → puts.Connects connection channel group m → Asks connection m
 b1_asks connection channel group
     (ConnB1 version of own lifetime keepalive in_group) h = sym h.0
 b1_asks connection channel group m h = absurd h
-
-among_one : (n k count : ℕ) → count ≡ at_client.once_if (at_client.is_among 1 k n) → 1 ≤ count
-    → k ≤ 1 → n ≡ 1
-among_one n k count e some one = grind (arith, nat_tests, e, some, one)
 
 -- ---- what else is known of a moment
 
@@ -95,17 +84,13 @@ module _ (numbers : Numbers) (reader : ℕ → ℕ) (moves : Moves)
 
   -- ---- CONN/B2
 
-  -- CONN/B1 is on the first channel alone
-  b1_first : (n : ℕ) → HasOne IsB1 (of_leg (ci n) client_put) → n ≡ 1
-  b1_first n has =
-      among_one n (at_client.total at_client.is_conn_b1 ClientIn client_put)
-      (count_of at_client.is_conn_b1 (of_leg (ci n) client_put)) (ins.client.begins_on (ci n))
-      (counted_some IsB1 at_client.is_conn_b1 b1_counts (of_leg (ci n) client_put) has)
-      ins.client.once
+  b1_alone : (n : ℕ) → HasOne IsB1 (of_leg (ci n) client_put) → n ≡ 1
+  b1_alone =
+      b1_first numbers.client.connection (client_behind numbers moves).passage ins.client
 
   b2_first : (n : ℕ) → HasOne IsB2 (of_leg (is_leg n) (proxy n).put) → n ≡ 1
   b2_first n has =
-      b1_first n
+      b1_alone n
       (asked_front IsB1 n
       (b2_asked (numbers.ins n) (proxy n).came (of_leg (is_leg n) (proxy n).put) (stream n) has))
 
@@ -159,15 +144,12 @@ module _ (numbers : Numbers) (reader : ℕ → ℕ) (moves : Moves)
         → CameFirst (numbers.ins n).number (puts.Connects connection channel group) (proxy n).came
         → n ≡ 1
     b2_number connection channel group first =
-        b1_first n
-        (one_so (puts.Connects connection channel group) IsB1 so (of_leg (ci n) client_put)
+        b1_alone n
+        (one_so (puts.Connects connection channel group) IsB1
+        (connects_b1 connection channel group) (of_leg (ci n) client_put)
         (asked_front (puts.Connects connection channel group) n
         (first_one (puts.Connects connection channel group)
         (of_leg (ci (numbers.ins n).number) (proxy n).came) first)))
-      where
-        so : (m : Named) → puts.Connects connection channel group m → IsB1 m
-        so (ConnB1 version of own lifetime keepalive in_group) h = tt
-        so m h = absurd h
 
     -- ---- none is unexpected
 

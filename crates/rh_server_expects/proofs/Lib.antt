@@ -3,7 +3,8 @@ mod Logs
 mod Cookies
 mod Opened
 mod Moment
-mod Early
+mod FirstIn
+mod NotEarly
 mod Connections
 mod Ahead
 mod InOrder

@@ -15,6 +15,7 @@ use Rattle.rh_passages.proofs.Messages.{has_last, one_so}
 use Rattle.rh_inproxy_puts.specs.Puts as puts
 use Rattle.rh_inproxy_puts.specs.Puts.{ci, CameFirst, IsFirst, IsFront, IsPing, IsPlainPacket, IsRest, IsStream}
 use Rattle.rh_moments.proofs.Read.{front_has}
+use Rattle.rh_server_expects.proofs.FirstIn.{IsB1, IsB2}
 
 -- ---- packets
 
@@ -38,15 +39,7 @@ which_one P (Packet m ∷ ms) (inl is) = (m, inl refl, is)
 which_one P (Packet m ∷ ms) (inr has) =
     let one = which_one P ms has in (one.0, inr one.1, one.2)
 
-abbrev pub IsB2 : Named → Type 0
-IsB2 (ConnB2 version connection channel window timeout group address padding) = Unit {0}
-IsB2 packet = ⊥
-
-abbrev pub IsB1 : Named → Type 0
-IsB1 (ConnB1 version connection channel lifetime keepalive group) = Unit {0}
-IsB1 packet = ⊥
-
-connects_b1 : (connection channel group : Cookie) (m : Named)
+pub connects_b1 : (connection channel group : Cookie) (m : Named)
     → puts.Connects connection channel group m → IsB1 m
 connects_b1 connection channel group
     (ConnB1 version of own lifetime keepalive in_group) h = tt
