@@ -13,3 +13,4 @@ mod Confirms
 mod Confirmed
 mod Streams
 mod InAhead
+mod NoPing

@@ -6,7 +6,9 @@
 pub mod early;
 pub mod expects;
 pub mod in_proxies;
+pub mod pings;
 
 pub use early::a_client_is_never_opened_early;
 pub use expects::{a_server_expects_its_in_proxies, a_server_expects_its_out_proxies};
 pub use in_proxies::an_in_proxy_connects_as_it_was_asked;
+pub use pings::no_ping_goes_first_to_a_server;
