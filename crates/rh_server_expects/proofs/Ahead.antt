@@ -37,6 +37,7 @@ use Rattle.rh_server_expects.proofs.NotEarly.{is_a2}
 use Rattle.rh_server_expects.proofs.Logs.{counted_some, some_counted, some_leg}
 use Rattle.rh_server_expects.proofs.Moment as at
 use Rattle.rh_server_expects.proofs.Moment.{IsA2, OpensOuts}
+use Rattle.rh_server_expects.proofs.Refused.{not_other, nothing_before, one_before}
 use Rattle.rh_server_expects.proofs.Opened as opened
 use Rattle.rh_server_expects.proofs.Opened.{IsFirstPacket, IsLaterPacket, IsNext, next_packet, no_acks, no_pdu}
 
@@ -92,18 +93,9 @@ module _ (numbers : Numbers) (reader : ℕ → ℕ) (moves : Moves)
   abbrev IsLater : Named → Type 0
   IsLater m = IsLaterPacket (numbers.outs n) asked came m
 
-  nothing_before : came ≡ [] → 1 ≤ packets came → ⊥
-  nothing_before none later = let is = ap packets none in omega (arith, is, later)
-
-  -- the number of a cookie that is expected, and of what comes
-  not_other : (cookie expected got : Cookie) → expected ≡ cookie → IsOther cookie expected got
-      → ⊥
-  not_other cookie expected got e other = other.differs (e ∙ other.is_got)
-
   -- ---- CONN/A2
 
-  a2_alone : came ≡ [] → n ≡ 1
-      → 1 ≤ out_came is_conn_a2 server → ⊥
+  a2_alone : came ≡ [] → n ≡ 1 → 1 ≤ out_came is_conn_a2 server → ⊥
   a2_alone none e some =
       let leg = some_leg IsA2 OutServer server.came
       (some_counted IsA2 is_conn_a2 is_a2 (of_kind OutServer server.came) some) in
@@ -217,7 +209,7 @@ module _ (numbers : Numbers) (reader : ℕ → ℕ) (moves : Moves)
 
       by : UnexpectedOut server (os_leg n)
           (ConnA2 version connection channel lifetime window) → ⊥
-      by (inl later) = nothing_before first.none later
+      by (inl later) = nothing_before came first.none later
       by (inr (inl elsewhere)) = elsewhere new
       by (inr (inr some)) = a2_alone first.none new some
   first_unexpected (OutR1A4 version connection predecessor successor lifetime window timeout)
@@ -228,7 +220,7 @@ module _ (numbers : Numbers) (reader : ℕ → ℕ) (moves : Moves)
 
       by : UnexpectedOut server (os_leg n)
           (OutR1A4 version connection predecessor successor lifetime window timeout) → ⊥
-      by (inl later) = nothing_before first.none later
+      by (inl later) = nothing_before came first.none later
       by (inr (inl elsewhere)) = elsewhere due.place
       by (inr (inr answered)) = due.wanted answered
   first_unexpected m first u = absurd first.opens
@@ -239,7 +231,7 @@ module _ (numbers : Numbers) (reader : ℕ → ℕ) (moves : Moves)
     where
       by : UnexpectedOut server (os_leg n)
           (Ack received available channel) → ⊥
-      by (inl first) = let is = ap packets later.behind in omega (arith, is, first)
+      by (inl first) = one_before came later.packet later.rest later.behind first
       by (inr unbegun) =
           ack_begun later.cookie later.packet later.rest later.behind later.opens unbegun.0
           unbegun.1

@@ -149,7 +149,7 @@ module _ (numbers : Numbers) (reader : ℕ → ℕ) (moves : Moves)
           let put : out_put at_server.is_out_r1_a5 (server_behind numbers past.0.moves_then).passage
           ≡ out_put at_server.is_out_r1_a5 p =
           ap (out_put at_server.is_out_r1_a5) now
-          ∙ ap (λ (log : List OnLeg). at_server.often at_server.is_out_r1_a5 OutServer log) more.2 in
+          ∙ ap (at_server.often at_server.is_out_r1_a5 OutServer) more.2 in
           let left = one_left p (law.turns front) in
           subst (λ (x : Passage Server). InOrder Comes 1 (confirmed x.came)) (sym same)
           (subst (λ (log : List OnLeg). InOrder Comes 1 (confirmed log)) (sym more.1)

@@ -38,6 +38,7 @@ use Rattle.rh_server_expects.proofs.Connections.{Asks, Connecting, all_same, cha
 use Rattle.rh_server_expects.proofs.FirstIn.{IsB1, IsB2, b1_first, is_b2}
 use Rattle.rh_server_expects.proofs.Logs.{some_counted, some_leg}
 use Rattle.rh_server_expects.proofs.Moment.{OpensOuts}
+use Rattle.rh_server_expects.proofs.Refused.{not_other, nothing_before, one_before}
 use Rattle.rh_server_expects.proofs.Streams.{IsFirstPacket, IsLaterPacket, b2_asked, connects_b1, first_one, next_packet}
 
 -- ---- packets
@@ -113,12 +114,6 @@ module _ (numbers : Numbers) (reader : ℕ → ℕ) (moves : Moves)
     abbrev IsLater : Named → Type 0
     IsLater m = IsLaterPacket (numbers.ins n) (proxy n).came came m
 
-    nothing_before : came ≡ [] → 1 ≤ packets came → ⊥
-    nothing_before none later = let is = ap packets none in omega (arith, is, later)
-
-    one_before : (m : Named) → IsLater m → packets came ≡ 0 → ⊥
-    one_before m later first = let is = ap packets later.stands in omega (arith, is, first)
-
     b2_alone : came ≡ [] → n ≡ 1 → 1 ≤ in_came at_server.is_conn_b2 server → ⊥
     b2_alone none e some =
         let leg = some_leg IsB2 InServer server.came
@@ -163,7 +158,7 @@ module _ (numbers : Numbers) (reader : ℕ → ℕ) (moves : Moves)
 
         by : UnexpectedIn server (is_leg n)
             (ConnB2 version connection channel window timeout group address padding) → ⊥
-        by (inl later) = nothing_before new.none later
+        by (inl later) = nothing_before came new.none later
         by (inr (inl elsewhere)) = elsewhere number
         by (inr (inr some)) = b2_alone new.none number some
     new_unexpected (AckTo to received window cookie) is new u = absurd new.first
@@ -179,13 +174,13 @@ module _ (numbers : Numbers) (reader : ℕ → ℕ) (moves : Moves)
       where
         by : UnexpectedIn server (is_leg n) (AckTo to received window cookie)
             → IsPlainPacket (proxy n).came (AckTo to received window cookie) → ⊥
-        by (inl first) plain = one_before (AckTo to received window cookie) later first
+        by (inl first) plain = one_before came later.packet later.rest later.stands first
         by (inr elsewhere) (inl own) = elsewhere.0 own.0
         by (inr elsewhere) (inr other) = elsewhere.1 other.0
     later_unexpected (OutR1A8 to successor) is ahead later u = by u
       where
         by : UnexpectedIn server (is_leg n) (OutR1A8 to successor) → ⊥
-        by (inl first) = one_before (OutR1A8 to successor) later first
+        by (inl first) = one_before came later.packet later.rest later.stands first
         by (inr (inl elsewhere)) = elsewhere later.behind.0
         by (inr (inr answered)) =
             let asked = one_asked numbers reader moves moment confirming n to successor ahead in
@@ -195,14 +190,11 @@ module _ (numbers : Numbers) (reader : ℕ → ℕ) (moves : Moves)
     -- ---- nor of another cookie
 
     module _ (expected got : Cookie) where
-      not_other : (cookie : Cookie) → expected ≡ cookie → IsOther cookie expected got → ⊥
-      not_other cookie e other = other.differs (e ∙ other.is_got)
-
       new_mismatch : (m : Named) → OpensOrConfirms m → IsNew m
           → MismatchIn server m expected got → ⊥
       new_mismatch (ConnB2 version connection channel window timeout group address padding) is new
           bad =
-          not_other connection
+          not_other connection expected got
           (sym (connection_is numbers reader moves moment.now.joined opens ins expected
           (inl bad.1)) ∙ b2_connection connection channel group new.first.4) bad.0
       new_mismatch (AckTo to received window cookie) is new bad = bad
@@ -216,7 +208,7 @@ module _ (numbers : Numbers) (reader : ℕ → ℕ) (moves : Moves)
           ahead later bad = later.behind
       later_mismatch (AckTo to received window cookie) is ahead later bad = bad
       later_mismatch (OutR1A8 to successor) is ahead later bad =
-          not_other successor
+          not_other successor expected got
           (moment.now.cookies.one (co (suc (suc (out_put at_server.is_out_r1_a9 server)))) expected
           successor
           (channel_is numbers reader moves moment.now.joined opens ins

@@ -1,6 +1,7 @@
 mod InProxies
 mod Logs
 mod Cookies
+mod Refused
 mod Opened
 mod Moment
 mod FirstIn

@@ -106,7 +106,8 @@ module _ (numbers : Numbers) (reader : ℕ → ℕ) (moves : Moves)
       → of_leg (co 1) (at.client numbers reader moves joined opens).put ≡ [] → ⊥
   a1_put some none =
       let server = at.server numbers reader moves joined opens in
-      let on = at.on_some numbers reader moves joined opens at.IsA2 (λ received available channel is. is)
+      let on = at.on_some numbers reader moves joined opens at.IsA2
+      (λ received available channel is. is)
       (some_counted at.IsA2 at_server.is_conn_a2 is_a2 (of_kind OutServer server.came) some) in
       let first = at.a2_on_first numbers reader moves joined opens on.0 on.1 in
       by on.0 first on.1.cookie on.1.packet on.1.opens on.1.so
@@ -147,13 +148,14 @@ module _ (numbers : Numbers) (reader : ℕ → ℕ) (moves : Moves)
       let on = some_leg IsB2 InServer server.came
       (some_counted IsB2 at_server.is_conn_b2 is_b2 (of_kind InServer server.came) some) in
       let proxy = in_behind numbers moves on.0 in
-      let put = counted_some IsB2 (connects any) b2_connects (of_leg (leg_at InServer on.0) proxy.put)
-      (front_one IsB2 (of_leg (leg_at InServer on.0) server.came)
-      (of_leg (leg_at InServer on.0) proxy.put) (is_front reader (passages numbers moves) joined on.0)
-      on.1) in
-      let paid = turns.ins on.0 any (leg_at InServer on.0) in
+      let is = leg_at InServer on.0 in
+      let put = counted_some IsB2 (connects any) b2_connects (of_leg is proxy.put)
+      (front_one IsB2 (of_leg is server.came) (of_leg is proxy.put)
+      (is_front reader (passages numbers moves) joined on.0) on.1) in
+      let paid = turns.ins on.0 any is in
       let from = some_leg IsB1 ClientIn proxy.came
-      (some_counted IsB1 (asks any) asks_b1 (of_kind ClientIn proxy.came) (omega (arith, put, paid))) in
+      (some_counted IsB1 (asks any) asks_b1 (of_kind ClientIn proxy.came)
+      (omega (arith, put, paid))) in
       let has = front_one IsB1 (of_leg (leg_at ClientIn from.0) proxy.came)
       (of_leg (ci from.0) client.put) (in_front reader (passages numbers moves) joined on.0 from.0)
       from.1 in

@@ -15,7 +15,8 @@ use Rattle.rh_passages.specs.Passing.{HasOne}
 use Rattle.rh_passages.proofs.Messages.{last_one_so}
 use Rattle.rh_proxy_counts.specs.OutCounts.{NamesNew, NamesSuccessor}
 use Rattle.rh_client_puts.specs.Puts.{Begins, IsBegun, IsChannel, IsPacket, OutRest, out_way}
-use Rattle.rh_outproxy_puts.specs.Puts.{AcksPacket, BeginsServer, IsAck, IsToServer, OpensServer}
+use Rattle.rh_outproxy_puts.specs.Puts.{AcksPacket, IsAck, IsToServer, OpensServer}
+use Rattle.rh_server_expects.proofs.Refused.{same_packet}
 
 -- ---- an OUT channel of the client
 
@@ -231,16 +232,14 @@ module _ (config : OutProxyConfig) (asked : List Message) where
   last_ack cookie [] message h = h.0
   last_ack cookie (x ∷ rest) message h = last_ack cookie rest message h.1
 
-  same_packet : (a b : Named) → Packet a ≡ Packet b → b ≡ a
-  same_packet a b e = cc
-
   pub next_packet : (came : List Message) (m : Named)
-      → IsToServer config asked (came ++ Packet m ∷ []) → IsFirstPacket came m ⊎ IsLaterPacket came m
+      → IsToServer config asked (came ++ Packet m ∷ [])
+      → IsFirstPacket came m ⊎ IsLaterPacket came m
   next_packet [] m h =
       inl (record {
         none = refl;
         cookie = h.cookie;
-        opens = subst (OpensServer config asked h.cookie) (same_packet m h.packet h.is) h.opens;
+        opens = subst (OpensServer config asked h.cookie) (sym (same_packet m h.packet h.is)) h.opens;
       })
   next_packet (first ∷ rest) m h =
       inr (record {

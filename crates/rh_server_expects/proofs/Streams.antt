@@ -16,11 +16,9 @@ use Rattle.rh_inproxy_puts.specs.Puts as puts
 use Rattle.rh_inproxy_puts.specs.Puts.{ci, CameFirst, IsFirst, IsFront, IsPing, IsPlainPacket, IsRest, IsStream}
 use Rattle.rh_moments.proofs.Read.{front_has}
 use Rattle.rh_server_expects.proofs.FirstIn.{IsB1, IsB2}
+use Rattle.rh_server_expects.proofs.Refused.{same_packet}
 
 -- ---- packets
-
-same_packet : (a b : Named) → Packet a ≡ Packet b → a ≡ b
-same_packet a b e = cc
 
 -- what came first came
 pub first_one : (Is : Named → Type 0) (ms : List Message) → IsFront Is ms → HasOne Is ms
