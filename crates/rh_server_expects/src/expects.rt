@@ -1,15 +1,12 @@
 //! What a server expects of its proxies. These functions do nothing: their contracts are the laws.
 
 ghost use Rattle.std.specs.Prelude.{ℕ};
-ghost use Rattle.rh_shell.specs.Moves.{started};
 ghost use Rattle.rh_shell.specs.Wires.{of_leg};
-ghost use Rattle.rh_inproxy.specs.Machine as in_proxy;
-ghost use Rattle.rh_inproxy.specs.State as in_state;
 ghost use Rattle.rh_server.specs.Servers.{rules};
 ghost use Rattle.rh_reading.specs.Reading.{all_read_of};
 ghost use Rattle.rh_proxy_counts.specs.InCounts.{is_leg};
 ghost use Rattle.rh_proxy_counts.specs.OutCounts.{os_leg};
-ghost use Rattle.rh_inproxy_puts.specs.Puts.{ArePutUp};
+ghost use Rattle.rh_inproxy_puts.specs.Puts.{PutsInOrder};
 ghost use Rattle.rh_moments.specs.Expecting.{Expects};
 ghost use Rattle.rh_moments.specs.Moments.{IsMoment, Moves, Numbers};
 ghost use Rattle.rh_moments.specs.Moments.{in_behind, out_behind, server_behind};
@@ -19,7 +16,6 @@ use crate::early::a_client_is_never_opened_early;
 use crate::in_proxies::an_in_proxy_connects_as_it_was_asked;
 use rh_client_counts::{a_client_names_its_in_channels, a_client_replaces_out_channels_one_by_one};
 use rh_client_puts::{a_client_opens_out_channels_in_order, a_client_switches_in_order};
-use rh_inproxy_puts::an_in_proxy_puts_in_order;
 use rh_outproxy_puts::an_out_proxy_opens_to_the_server_first;
 use rh_proxy_counts::an_in_proxy_puts_for_what_came;
 use rh_rounds::replacements_go_round;
@@ -47,16 +43,15 @@ pub fn a_server_expects_its_out_proxies()
     replacements_go_round();
 }
 
-/// At each moment of a virtual connection whose in proxies put only on legs that are up, of what an
-/// in proxy put a server refuses no CONN/B2, no acknowledgement with a destination and no OUT_R1/A8
-/// that comes next as unexpected, or for its cookie. CONN/B2 comes first and once, on the first
-/// leg, with the client's connection; the others behind it or behind IN_R1/A2. OUT_R1/A8 comes
-/// where OUT_R1/A5 was put for it, and in the order of the channels that the client switches to
-/// (MS-RPCH 3.2.5; replacement is this profile's).
+/// At each moment of a virtual connection whose in proxies put in order, as they do where they put
+/// only on legs that are up: of what an in proxy put a server refuses no CONN/B2, no acknowledgement
+/// with a destination and no OUT_R1/A8 that comes next as unexpected, or for its cookie. CONN/B2
+/// comes first and once, on the first leg, with the client's connection; the others behind it or
+/// behind IN_R1/A2. OUT_R1/A8 comes where OUT_R1/A5 was put for it, and in the order of the channels
+/// that the client switches to (MS-RPCH 3.2.5; replacement is this profile's).
 pub fn a_server_expects_its_in_proxies()
     ensures { (numbers : Numbers) (reader : ℕ → ℕ) (moves : Moves) → IsMoment numbers reader moves
-        → ((m : ℕ) → ArePutUp in_proxy.rules (started (in_state.first (numbers.ins m)))
-        (moves.ins m))
+        → ((m : ℕ) → PutsInOrder (numbers.ins m) (in_behind numbers moves m))
         → (n : ℕ) → ExpectsThose OpensOrConfirms rules (server_behind numbers moves).passage
         (is_leg n) (all_read_of (of_leg (is_leg n) (in_behind numbers moves n).put)) }
 {
@@ -65,7 +60,6 @@ pub fn a_server_expects_its_in_proxies()
     a_client_switches_in_order();
     an_in_proxy_connects_as_it_was_asked();
     an_in_proxy_puts_for_what_came();
-    an_in_proxy_puts_in_order();
     an_out_proxy_opens_to_the_server_first();
     a_server_replaces_out_channels_one_by_one();
     what_a_server_refuses();

@@ -5,7 +5,7 @@ use Rattle.rh_server_expects.proofs.InAhead.{expects_those}
 use Rattle.rh_server_expects.proofs.expects.a_server_expects_its_in_proxies.Goals as goal
 
 pub returns : goal.returns
-returns c numbers reader moves moment up =
+returns c numbers reader moves moment in_order =
     let made = moment.now.made in
     expects_those numbers reader moves moment
     (record {
@@ -31,6 +31,6 @@ returns c numbers reader moves moment up =
     })
     (record {
       refuses = c.what_a_server_refuses.ensures numbers.window moves.server made.server;
-      puts = λ m. c.an_in_proxy_puts_in_order.ensures (numbers.ins m) (moves.ins m) (up m);
+      puts = in_order;
       number = made.in_number;
     })
