@@ -1,11 +1,10 @@
 -- what comes next from an out proxy is what the server expects
-use Rattle.std.proofs.Common.{◌≡◌, ◌⊎◌, ℕ, zero, suc, ◌+◌, ◌<◌, ◌≤◌, nat_lt, nat_le, ◌&&◌, Bool, true, false, IsTrue, List, [], ◌∷◌, ◌++◌, Err, inl, inr, refl, sym, ap, ◌∙◌, subst, arith}
+use Rattle.std.proofs.Common.{◌≡◌, ◌⊎◌, ℕ, suc, ◌+◌, ◌<◌, ◌≤◌, nat_lt, Bool, true, false, IsTrue, List, [], ◌∷◌, ◌++◌, Err, inl, inr, refl, sym, ap, ◌∙◌, subst, arith}
 use Rattle.std.proofs.lemmas.Bool.Decides.{nat_tests}
 use mathlib.Core.List.{IsPrefix}
 use Rattle.rh_rts.specs.declared.command.Cookie.{Cookie}
 use Rattle.rh_sig.specs.declared.named.Named.{Named}
 use Rattle.rh_sig.specs.declared.named.Named.TheVariants.{Ack, ConnA2, OutR1A3, OutR1A4}
-use Rattle.rh_line.specs.declared.leg.Leg.{Leg}
 use Rattle.rh_line.specs.declared.leg.LegKind.TheVariants.{OutServer}
 use Rattle.rh_shell.specs.declared.answers.Count.{Count}
 use Rattle.rh_shell.specs.declared.answers.Refused.{Refused}
@@ -25,10 +24,10 @@ use Rattle.rh_client_counts.specs.Replacing.{ReplacesOuts, out_asked}
 use Rattle.rh_server_counts.specs.Counting.{is_conn_a2, is_out_r1_a1, is_out_r1_a4, is_out_r1_a9, out_came, out_put}
 use Rattle.rh_server_counts.specs.Replacing.{AreInTurn, ArePutInTurn}
 use Rattle.rh_server_rows.specs.Cookies.{IsOutChannel, OpensOut}
-use Rattle.rh_server_rows.specs.Refusing.{IsOther, MismatchOut, RefusesFor, UnexpectedOut}
+use Rattle.rh_server_rows.specs.Refusing.{MismatchOut, RefusesFor, UnexpectedOut}
 use Rattle.rh_proxy_counts.specs.OutCounts.{os_leg, NamesSuccessor}
 use Rattle.rh_client_puts.specs.Puts.{OpenedBefore}
-use Rattle.rh_outproxy_puts.specs.Puts.{IsAck, OpensServer}
+use Rattle.rh_outproxy_puts.specs.Puts.{OpensServer}
 use Rattle.rh_rounds.specs.Rounds.{GoRound}
 use Rattle.rh_moments.specs.Expecting.{Expects, IsAmiss}
 use Rattle.rh_moments.specs.Moments.{AreJoined, HaveCookies, Moves, Numbers, client_behind, out_behind, passages, server_behind}
@@ -38,7 +37,6 @@ use Rattle.rh_server_expects.proofs.Logs.{counted_some, some_counted, some_leg}
 use Rattle.rh_server_expects.proofs.Moment as at
 use Rattle.rh_server_expects.proofs.Moment.{IsA2, OpensOuts}
 use Rattle.rh_server_expects.proofs.Refused.{not_other, nothing_before, one_before}
-use Rattle.rh_server_expects.proofs.Opened as opened
 use Rattle.rh_server_expects.proofs.Opened.{IsFirstPacket, IsLaterPacket, IsNext, next_packet, no_acks, no_pdu}
 
 -- ---- numbers

@@ -1,6 +1,6 @@
 -- at each moment of a virtual connection OUT_R1/A8 came at the server in the order of the channels,
 -- and the next one is that of the next channel
-use Rattle.std.proofs.Common.{◌≡◌, ◌⊎◌, ℕ, suc, ◌+◌, ◌≤◌, Bool, true, List, [], ◌∷◌, ◌++◌, length, append_assoc, inl, inr, refl, sym, ap, ◌∙◌, subst, arith}
+use Rattle.std.proofs.Common.{◌≡◌, ℕ, suc, ◌+◌, ◌≤◌, Bool, true, List, [], ◌∷◌, ◌++◌, length, append_assoc, inl, inr, refl, sym, ap, ◌∙◌, subst, arith}
 use mathlib.Core.List.{IsPrefix}
 use Rattle.rh_rts.specs.declared.command.Cookie.{Cookie}
 use Rattle.rh_sig.specs.declared.named.Named.{Named}
@@ -8,7 +8,7 @@ use Rattle.rh_sig.specs.declared.named.Named.TheVariants.{OutR1A8}
 use Rattle.rh_line.specs.declared.leg.Leg.{Leg}
 use Rattle.rh_line.specs.declared.leg.LegKind.TheVariants.{ClientIn, ClientOut, InServer, OutServer}
 use Rattle.rh_shell.specs.Moves.{OnLeg, EndMove, EndPassage, Passage, all_end_moved, end_moved, end_started}
-use Rattle.rh_shell.specs.Rules.{Message, Packet}
+use Rattle.rh_shell.specs.Rules.{Packet}
 use Rattle.rh_shell.specs.Wires.{of_leg}
 use Rattle.rh_client.specs.State.{co}
 use Rattle.rh_server.specs.Servers.{acts, first, rules as server_rules}
@@ -18,7 +18,6 @@ use Rattle.rh_passages.specs.Passing.{count_of, of_kind}
 use Rattle.rh_passages.specs.Rising.{HasComeUp}
 use Rattle.rh_passages.proofs.Messages.{count_append}
 use Rattle.rh_chains.specs.Sums.{count_on}
-use Rattle.rh_client_counts.specs.Counting as at_client
 use Rattle.rh_proxy_counts.specs.InCounts.{PutsForWhatCame}
 use Rattle.rh_proxy_counts.specs.Kinds as at_proxy
 use Rattle.rh_server_counts.specs.Counting as at_server

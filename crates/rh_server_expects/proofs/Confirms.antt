@@ -1,5 +1,5 @@
 -- OUT_R1/A8 comes at the server in the order of the channels: each for the OUT_R1/A7 of its turn
-use Rattle.std.proofs.Common.{◌≡◌, ◌⊎◌, ℕ, suc, ◌+◌, ◌≤◌, ◌==◌, Bool, true, false, if◌then◌else◌, List, [], ◌∷◌, ◌++◌, length, inl, inr, refl, sym, ap, ◌∙◌, subst, arith}
+use Rattle.std.proofs.Common.{◌≡◌, ℕ, suc, ◌+◌, ◌≤◌, ◌==◌, Bool, true, false, if◌then◌else◌, List, [], ◌∷◌, ◌++◌, refl, sym, ap, ◌∙◌, subst, arith}
 use Rattle.std.proofs.lemmas.Bool.Decides.{nat_tests}
 use Rattle.std.proofs.lemmas.List.{append-nil}
 use mathlib.Core.List.{IsPrefix}
@@ -9,17 +9,12 @@ use Rattle.rh_sig.specs.declared.named.Named.TheVariants.{OutR1A7, OutR1A8}
 use Rattle.rh_line.specs.declared.leg.Leg.{Leg}
 use Rattle.rh_line.specs.declared.leg.LegKind.{LegKind}
 use Rattle.rh_line.specs.declared.leg.LegKind.TheVariants.{ClientIn, InServer}
-use Rattle.rh_shell.specs.Moves.{OnLeg, EndMove, EndPassage, Passage, all_end_moved, end_moved, end_started}
+use Rattle.rh_shell.specs.Moves.{OnLeg}
 use Rattle.rh_shell.specs.Rules.{Message, Text, Pdu, Packet}
-use Rattle.rh_shell.specs.Shells.{is_of, same_leg}
+use Rattle.rh_shell.specs.Shells.{is_of}
 use Rattle.rh_shell.specs.Wires.{of_leg}
-use Rattle.rh_client.specs.declared.state.ClientRole.{ClientRole}
-use Rattle.rh_client.specs.State.{co}
-use Rattle.rh_server.specs.Servers as servers
-use Rattle.rh_server.specs.States.{Server}
 use Rattle.rh_reading.specs.Reading.{all_read_of}
 use Rattle.rh_passages.specs.Passing.{count_of, of_kind}
-use Rattle.rh_passages.specs.Rising.{HasComeUp}
 use Rattle.rh_passages.proofs.Messages.{kind_more, leg_more}
 use Rattle.rh_chains.specs.Sums.{count_on}
 use Rattle.rh_chains.proofs.Along.{by_in_proxies}
@@ -27,17 +22,11 @@ use Rattle.rh_client_counts.specs.Counting as at_client
 use Rattle.rh_proxy_counts.specs.InCounts.{PutsForWhatCame}
 use Rattle.rh_proxy_counts.specs.Kinds as at_proxy
 use Rattle.rh_server_counts.specs.Counting as at_server
-use Rattle.rh_server_counts.specs.Counting.{in_came, out_put}
-use Rattle.rh_server_counts.specs.Replacing.{AreInTurn}
-use Rattle.rh_client_puts.specs.Puts.{SwitchesInOrder}
-use Rattle.rh_rounds.specs.Rounds.{GoRound}
 use Rattle.rh_rounds.proofs.Fronts.{are_fronts}
-use Rattle.rh_moments.specs.Moments.{AreJoined, AreMade, HaveCookies, IsMoment, IsPast, Moves, Numbers, client_behind, in_behind, passages, server_behind}
-use Rattle.rh_moments.proofs.Joining.{is_front}
+use Rattle.rh_moments.specs.Moments.{AreJoined, Moves, Numbers, client_behind, in_behind, passages}
 use Rattle.rh_moments.proofs.Read.{front_count}
 use Rattle.rh_server_expects.proofs.Cookies.{is_same}
-use Rattle.rh_server_expects.proofs.Fronts.{all_fronts, behind_all, one_more}
-use Rattle.rh_server_expects.proofs.InOrder.{AreOwn, InOrder, all_confirmed, all_switched, append_names, confirmed_often, confirms, how_often, in_order_so, last_in_order, named_in, next_in_order, switched_in_order, switched_often, switches}
+use Rattle.rh_server_expects.proofs.InOrder.{AreOwn, InOrder, all_confirmed, all_switched, append_names, confirmed_often, confirms, how_often, named_in, next_in_order, switched_often, switches}
 
 -- ---- counts
 

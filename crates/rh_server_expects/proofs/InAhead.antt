@@ -1,16 +1,13 @@
 -- what comes next from an in proxy is what the server expects, of packets that open the connection,
 -- acknowledge and confirm
-use Rattle.std.proofs.Common.{◌≡◌, ◌⊎◌, ℕ, suc, ◌+◌, ◌≤◌, ◌&&◌, Bool, true, IsTrue, List, [], ◌∷◌, ◌++◌, Err, inl, inr, refl, sym, ap, ◌∙◌, subst, arith}
-use Rattle.std.proofs.lemmas.Bool.Decides.{nat_tests}
+use Rattle.std.proofs.Common.{◌≡◌, ◌⊎◌, ℕ, suc, ◌+◌, ◌≤◌, List, [], ◌∷◌, ◌++◌, inl, inr, sym, ◌∙◌, subst, arith}
 use mathlib.Core.List.{IsPrefix}
 use Rattle.rh_rts.specs.declared.command.Cookie.{Cookie}
 use Rattle.rh_sig.specs.declared.named.Named.{Named}
 use Rattle.rh_sig.specs.declared.named.Named.TheVariants.{AckTo, ConnB1, ConnB2, OutR1A8}
-use Rattle.rh_line.specs.declared.leg.LegKind.TheVariants.{ClientIn, InServer}
-use Rattle.rh_shell.specs.declared.answers.Count.{Count}
-use Rattle.rh_shell.specs.declared.answers.Refused.{Refused}
+use Rattle.rh_line.specs.declared.leg.LegKind.TheVariants.{InServer}
 use Rattle.rh_shell.specs.declared.answers.Refused.TheVariants as refused
-use Rattle.rh_shell.specs.Moves.{OnLeg, Passage, is_in_use}
+use Rattle.rh_shell.specs.Moves.{OnLeg, Passage}
 use Rattle.rh_shell.specs.Rules.{Message, Packet}
 use Rattle.rh_shell.specs.Wires.{of_leg}
 use Rattle.rh_client.specs.State.{ci, co}
@@ -18,16 +15,13 @@ use Rattle.rh_inproxy.specs.State.{InProxy}
 use Rattle.rh_server.specs.Servers.{rules as server_rules}
 use Rattle.rh_server.specs.States.{Server}
 use Rattle.rh_reading.specs.Reading.{all_read_of}
-use Rattle.rh_passages.specs.Counted.{packets, Tells}
-use Rattle.rh_passages.specs.Passing.{count_of, HasOne, of_kind}
+use Rattle.rh_passages.specs.Passing.{HasOne, of_kind}
 use Rattle.rh_passages.proofs.Messages.{one_so}
-use Rattle.rh_client_counts.specs.Counting as at_client
 use Rattle.rh_server_counts.specs.Counting as at_server
 use Rattle.rh_server_counts.specs.Counting.{in_came, out_put}
-use Rattle.rh_server_rows.specs.Refusing.{IsOther, MismatchIn, RefusesFor, UnexpectedIn}
+use Rattle.rh_server_rows.specs.Refusing.{MismatchIn, RefusesFor, UnexpectedIn}
 use Rattle.rh_inproxy_puts.specs.Puts as puts
-use Rattle.rh_inproxy_puts.specs.Puts.{CameFirst, IsFirst, IsPlainPacket, IsStream, PutsInOrder}
-use Rattle.rh_moments.specs.Expecting.{IsAmiss}
+use Rattle.rh_inproxy_puts.specs.Puts.{CameFirst, IsPlainPacket, IsStream, PutsInOrder}
 use Rattle.rh_moments.specs.Moments.{IsMoment, Moves, Numbers, client_behind, in_behind, passages, server_behind}
 use Rattle.rh_moments.proofs.Joining.{in_front, is_front}
 use Rattle.rh_moments.proofs.Read.{front_one}

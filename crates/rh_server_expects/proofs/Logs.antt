@@ -1,5 +1,5 @@
 -- packets of a log: on which leg they stand, and how many of them pass a test
-use Rattle.std.proofs.Common.{◌≡◌, ◌⊎◌, ℕ, suc, ◌+◌, ◌≤◌, Bool, true, false, if◌then◌else◌, List, [], ◌∷◌, ◌++◌, inl, inr, refl, sym, ap, subst, arith}
+use Rattle.std.proofs.Common.{◌≡◌, ◌⊎◌, ℕ, suc, ◌≤◌, Bool, true, false, if◌then◌else◌, List, [], ◌∷◌, inl, inr, refl, sym, subst, arith}
 use Rattle.std.proofs.lemmas.Bool.Decides.{nat_tests}
 use Rattle.rh_sig.specs.declared.named.Named.{Named}
 use Rattle.rh_line.specs.declared.leg.Leg.{Leg}
@@ -10,7 +10,7 @@ use Rattle.rh_shell.specs.Shells.{is_of, same_leg}
 use Rattle.rh_shell.specs.Wires.{of_leg}
 use Rattle.rh_passages.specs.Passing.{count_of, of_kind, Has, HasOne}
 use Rattle.rh_passages.proofs.Messages.{one_more_so}
-use Rattle.rh_chains.specs.Sums.{count_on, sum_below}
+use Rattle.rh_chains.specs.Sums.{count_on}
 use Rattle.rh_chains.proofs.Summing.{some_legs}
 
 -- ---- tests

@@ -1,5 +1,5 @@
 -- where CONN/C2 came at the client, CONN/A2 came at the server: so the client had put CONN/A1
-use Rattle.std.proofs.Common.{◌≡◌, ◌⊎◌, ℕ, ◌+◌, ◌≤◌, Bool, true, List, [], refl, sym, arith, subst}
+use Rattle.std.proofs.Common.{◌≡◌, ℕ, ◌+◌, ◌≤◌, Bool, true, List, [], refl, sym, arith, subst}
 use Rattle.rh_rts.specs.declared.command.Cookie.{Cookie}
 use Rattle.rh_sig.specs.declared.named.Named.{Named}
 use Rattle.rh_sig.specs.declared.named.Named.TheVariants.{ConnA2, ConnB1, ConnB2, ConnC1, ConnC2}
@@ -13,8 +13,7 @@ use Rattle.rh_client.specs.Order.{client_moved}
 use Rattle.rh_client.specs.State.{ci, co}
 use Rattle.rh_server.specs.declared.state.Stage.{Stage}
 use Rattle.rh_server.specs.declared.state.Stage.TheVariants.{Waits, OutCame, InCame, Open, Ended}
-use Rattle.rh_passages.specs.Passing.{count_of, HasOne, of_kind}
-use Rattle.rh_passages.proofs.Messages.{one_so}
+use Rattle.rh_passages.specs.Passing.{HasOne, of_kind}
 use Rattle.rh_proxy_counts.specs.Kinds as at_proxy
 use Rattle.rh_proxy_counts.specs.OutCounts.{co_leg, os_leg, ForwardsWhatCame, NamesNew}
 use Rattle.rh_server_counts.specs.Counting as at_server
@@ -28,7 +27,6 @@ use Rattle.rh_moments.proofs.Read.{front_count, front_has, front_one}
 use Rattle.rh_server_expects.specs.Connecting.{asks, connects, ConnectsForWhatCame}
 use Rattle.rh_server_expects.proofs.FirstIn.{IsB1, IsB2, b1_first, is_b2}
 use Rattle.rh_server_expects.proofs.Logs.{counted_some, has_so, leg_at, leg_of_all, some_counted, some_leg}
-use Rattle.rh_server_expects.proofs.Opened.{IsOpening}
 use Rattle.rh_server_expects.proofs.Moment as at
 use Rattle.rh_server_expects.proofs.Moment.{OpensOuts}
 

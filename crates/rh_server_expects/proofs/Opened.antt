@@ -5,14 +5,13 @@ use mathlib.Core.List.{IsPrefix}
 use Rattle.rh_rts.specs.declared.command.Cookie.{Cookie}
 use Rattle.rh_http.specs.declared.config.ClientConfig.{ClientConfig}
 use Rattle.rh_sig.specs.declared.named.Named.{Named}
-use Rattle.rh_sig.specs.declared.named.Named.TheVariants.{Ack, ConnA2, OutR1A3, OutR1A4, OutR2C1}
+use Rattle.rh_sig.specs.declared.named.Named.TheVariants.{Ack, ConnA2, OutR1A4, OutR2C1}
 use Rattle.rh_line.specs.declared.leg.Leg.{Leg}
 use Rattle.rh_shell.specs.Rules.{Message, Text, Pdu, Packet}
 use Rattle.rh_client.specs.State.{co}
 use Rattle.rh_outproxy.specs.declared.state.OutProxyConfig.{OutProxyConfig}
 use Rattle.rh_reading.specs.Reading.{all_read_of, read_of}
 use Rattle.rh_passages.specs.Passing.{HasOne}
-use Rattle.rh_passages.proofs.Messages.{last_one_so}
 use Rattle.rh_proxy_counts.specs.OutCounts.{NamesNew, NamesSuccessor}
 use Rattle.rh_client_puts.specs.Puts.{Begins, IsBegun, IsChannel, IsPacket, OutRest, out_way}
 use Rattle.rh_outproxy_puts.specs.Puts.{AcksPacket, IsAck, IsToServer, OpensServer}

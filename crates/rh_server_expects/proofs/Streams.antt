@@ -13,7 +13,7 @@ use Rattle.rh_reading.specs.Reading.{all_read_of, read_of}
 use Rattle.rh_passages.specs.Passing.{Has, HasOne}
 use Rattle.rh_passages.proofs.Messages.{has_last, one_so}
 use Rattle.rh_inproxy_puts.specs.Puts as puts
-use Rattle.rh_inproxy_puts.specs.Puts.{ci, CameFirst, IsFirst, IsFront, IsPing, IsPlainPacket, IsRest, IsStream}
+use Rattle.rh_inproxy_puts.specs.Puts.{ci, IsFirst, IsFront, IsPing, IsPlainPacket, IsRest, IsStream}
 use Rattle.rh_moments.proofs.Read.{front_has}
 use Rattle.rh_server_expects.proofs.FirstIn.{IsB1, IsB2}
 use Rattle.rh_server_expects.proofs.Refused.{same_packet}

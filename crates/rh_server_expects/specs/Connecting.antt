@@ -1,5 +1,5 @@
 -- an in proxy speaks to the server for the connections of its client (MS-RPCH 2.2.4)
-use Rattle.std.specs.Prelude.{◌≤◌, Bool, true, false}
+use Rattle.std.specs.Prelude.{◌≤◌, Bool, false}
 use Rattle.rh_rts.specs.declared.command.Cookie.{Cookie}
 use Rattle.rh_sig.specs.declared.named.Named.{Named}
 use Rattle.rh_sig.specs.declared.named.Named.TheVariants.{ConnA2, ConnB1, ConnB2}
