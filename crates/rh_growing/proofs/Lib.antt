@@ -1,0 +1,3 @@
+pub mod Based
+pub mod Nodes
+pub mod Ends
