@@ -612,8 +612,7 @@ module _ {S : Type 0} (rules : Rules S) (acts : Acts S) (first : S) (rooms : Roo
       (fits events event before accepted.0
       (turn_front (happened whole) (happened later)
       (subst HearsInTurn (happened_append whole later) turns))) in
-      let more = loosed whole base next in
-      (
+      let more = loosed whole base next in (
         stream_of whole more,
         next.at.on,
         grows whole later more

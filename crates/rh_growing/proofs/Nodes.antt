@@ -118,8 +118,7 @@ module _ {S : Type 0} (rules : Rules S) (first : S) (rooms : Rooms) (pipe : Leg 
       (ran_with rules pipe Sound (Unit {0}) anyhow anyhow Reached (GoesOn ran.moves) s heard drawn
       up ran (record { at = ran.at; on = prefix_self ran.moves }) ran.lifted) fit in
       subst (λ (x : Shell S). (next : RanBy Reached x more_events) × IsPrefix ran.moves next.moves)
-      (sym (events_append rules start events (event ∷ [])))
-      (
+      (sym (events_append rules start events (event ∷ []))) (
         ran_with rules pipe Sound (Unit {0}) anyhow anyhow (GoesOn ran.moves) Reached t
             (λ leg. heard_on leg more_events) (λ leg. drawn_on rules start leg more_events)
             (λ leg. came_up leg more_events) goes goes.at.at goes.lifted,
@@ -169,8 +168,7 @@ module _ {S : Type 0} (rules : Rules S) (first : S) (rooms : Rooms) (pipe : Leg 
   grows events [] ran before accepted turn = tt
   grows events (event ∷ later) ran before accepted turn =
       let next = one_more events event ran
-      (fits events later event before accepted.0 turn) in
-      (
+      (fits events later event before accepted.0 turn) in (
         stream_of (events ++ event ∷ []) next.0,
         next.1,
         grows (events ++ event ∷ []) later next.0

@@ -1,0 +1,7 @@
+mod Lists
+mod Legal
+mod Once
+mod Family
+mod Made
+mod Joins
+mod Pasts
