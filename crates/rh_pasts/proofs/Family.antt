@@ -270,44 +270,44 @@ module _ {K : Type 0} (m : Makers K InProxy OutProxy) where
         in_proxy.rooms (in_pipe (numbers.ins n)) ((all_noted rules m deeds w nothing changes).ins n))
         (grown_out : (n : ℕ) → Growing out_proxy.rules (new_proxy (numbers.outs n)) ROOMS
         (down.proxy_reads (numbers.outs n)) ((all_noted rules m deeds w nothing changes).outs n))
-        where
-      abbrev start : Flows numbers nothing
-      start = record {
-        client = grown_client.start;
-        server = grown_server.start;
-        ins = λ n. (grown_in n).start;
-        outs = λ n. (grown_out n).start;
-      }
+      where
+        abbrev start : Flows numbers nothing
+        start = record {
+          client = grown_client.start;
+          server = grown_server.start;
+          ins = λ n. (grown_in n).start;
+          outs = λ n. (grown_out n).start;
+        }
 
-      start_on : GrowOn w nothing changes start
-      start_on = record {
-        client = subst (λ x. EndGrows client.rules client.acts (client_state.first numbers.client)
-            client.rooms down.client_reads [] x grown_client.start)
-            (all_later (at_end side.Client who.Client) (λ h. h.client) (λ u h change. refl) w
-            nothing changes) grown_client.grows;
-        server = subst (λ x. EndGrows server.rules server.acts (server.first numbers.window)
-            server.rooms down.server_reads [] x grown_server.start)
-            (all_later (at_end side.Server who.Server) (λ h. h.server) (λ u h change. refl) w
-            nothing changes) grown_server.grows;
-        ins = λ n. subst (λ x. Grows in_proxy.rules (in_state.first (numbers.ins n)) in_proxy.rooms
-            (in_pipe (numbers.ins n)) [] x (grown_in n).start)
-            (all_later (at_in n) (λ h. h.ins n) (λ u h change. refl) w nothing changes)
-            (grown_in n).grows;
-        outs = λ n. subst (λ x. Grows out_proxy.rules (new_proxy (numbers.outs n)) ROOMS
-            (down.proxy_reads (numbers.outs n)) [] x (grown_out n).start)
-            (all_later (at_out n) (λ h. h.outs n) (λ u h change. refl) w nothing changes)
-            (grown_out n).grows;
-      }
+        start_on : GrowOn w nothing changes start
+        start_on = record {
+          client = subst (λ x. EndGrows client.rules client.acts (client_state.first numbers.client)
+              client.rooms down.client_reads [] x grown_client.start)
+              (all_later (at_end side.Client who.Client) (λ h. h.client) (λ u h change. refl) w
+              nothing changes) grown_client.grows;
+          server = subst (λ x. EndGrows server.rules server.acts (server.first numbers.window)
+              server.rooms down.server_reads [] x grown_server.start)
+              (all_later (at_end side.Server who.Server) (λ h. h.server) (λ u h change. refl) w
+              nothing changes) grown_server.grows;
+          ins = λ n. subst (λ x. Grows in_proxy.rules (in_state.first (numbers.ins n)) in_proxy.rooms
+              (in_pipe (numbers.ins n)) [] x (grown_in n).start)
+              (all_later (at_in n) (λ h. h.ins n) (λ u h change. refl) w nothing changes)
+              (grown_in n).grows;
+          outs = λ n. subst (λ x. Grows out_proxy.rules (new_proxy (numbers.outs n)) ROOMS
+              (down.proxy_reads (numbers.outs n)) [] x (grown_out n).start)
+              (all_later (at_out n) (λ h. h.outs n) (λ u h change. refl) w nothing changes)
+              (grown_out n).grows;
+        }
 
-      family_by : Family w changes
-      family_by = record {
-        start = start;
-        client = grown_client.none;
-        server = grown_server.none;
-        ins = λ n. (grown_in n).none;
-        outs = λ n. (grown_out n).none;
-        all = all_grow w nothing changes start start_on;
-      }
+        family_by : Family w changes
+        family_by = record {
+          start = start;
+          client = grown_client.none;
+          server = grown_server.none;
+          ins = λ n. (grown_in n).none;
+          outs = λ n. (grown_out n).none;
+          all = all_grow w nothing changes start start_on;
+        }
 
   pub family : AllRise → (w : OurWorld) (ours : AreOurs m w.company w.cast)
       (changes : List Change) → LegsComeUpOnce rules m deeds w.company w.cast

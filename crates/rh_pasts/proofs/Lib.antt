@@ -5,3 +5,4 @@ mod Family
 mod Made
 mod Joins
 mod Pasts
+mod Moments

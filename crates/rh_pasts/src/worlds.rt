@@ -27,9 +27,10 @@ use rh_proxies_begin::{
 };
 use rh_reading::{what_is_read_is_fine, what_was_put_is_read};
 use rh_server::{ServerRole, what_a_server_puts_reads_back};
+use rh_streams::{a_nodes_stream, an_ends_stream};
 use rh_traced::{
     a_recording_of_roles_is_known, channels_come_up_in_order, legs_of_roles_come_up_once,
-    what_is_heard_was_drawn_before,
+    proxies_are_numbered, what_is_heard_was_drawn_before,
 };
 use rh_unused::{
     a_leg_that_a_client_left_stays_unused, a_leg_that_a_server_left_stays_unused,
@@ -49,6 +50,10 @@ pub fn a_world_of_roles_is_at_a_moment<K>()
 {
     what_was_put_is_read();
     what_is_read_is_fine();
+    an_ends_stream::<ClientRole>();
+    an_ends_stream::<ServerRole>();
+    a_nodes_stream::<InProxyRole>();
+    a_nodes_stream::<OutProxyRole>();
     an_ends_stream_grows::<ClientRole>();
     an_ends_stream_grows::<ServerRole>();
     a_nodes_stream_grows::<InProxyRole>();
@@ -74,5 +79,6 @@ pub fn a_world_of_roles_is_at_a_moment<K>()
     a_leg_is_read_at_its_ends::<K, ClientRole, ServerRole, InProxyRole, OutProxyRole>();
     a_recording_of_roles_is_known::<K>();
     legs_of_roles_come_up_once::<K>();
+    proxies_are_numbered::<K, ClientRole, ServerRole, InProxyRole, OutProxyRole>();
     channels_come_up_in_order::<K, ClientRole, ServerRole, InProxyRole, OutProxyRole>();
 }
