@@ -98,10 +98,10 @@ grown_trans numbers h g k f next end a b = record {
 }
 
 module _ {K : Type 0} (m : Makers K InProxy OutProxy) where
-  abbrev OurWorld : Type 0
+  abbrev pub OurWorld : Type 0
   OurWorld = World K ClientRole Server InProxy OutProxy
 
-  abbrev after : OurWorld → Change → OurWorld
+  abbrev pub after : OurWorld → Change → OurWorld
   after u change = changed rules m deeds u change
 
   -- ---- what happens at a node by changes

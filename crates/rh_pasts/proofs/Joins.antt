@@ -63,10 +63,10 @@ same_end readers others node no OutServer n side.Server e = e
 module _ {K : Type 0} (reads : Reads) (m : Makers K InProxy OutProxy)
     (w u : World K ClientRole Server InProxy OutProxy) (ours : AreOurs m w.company w.cast)
     (h : History) (flowing : IsFlowing (numbers_of ours) w u h) where
-  abbrev f : Flows (numbers_of ours) h
+  abbrev pub f : Flows (numbers_of ours) h
   f = flowing.flows
 
-  abbrev passed : routes.Passages
+  abbrev pub passed : routes.Passages
   passed = all reads m w u ours h flowing
 
   -- by this history nodes heard what others had drawn here

@@ -1,5 +1,5 @@
 -- along changes each front of the moves of an end was all of them at a moment before
-use Rattle.std.proofs.Common.{◌≡◌, ◌≢◌, ◌⊎◌, inl, inr, ℕ, suc, ◌++◌, List, [], ◌∷◌, refl, sym, ap, ◌∙◌, subst}
+use Rattle.std.proofs.Common.{◌≡◌, ◌≢◌, ◌⊎◌, inl, inr, ℕ, suc, ◌++◌, List, [], ◌∷◌, Bool, refl, sym, ap, ◌∙◌, subst}
 use Rattle.std.specs.List.{AllByRecursion}
 use Rattle.std.specs.declared.option.Option.{Option}
 use Rattle.std.proofs.lemmas.Bool.{cases_eq}
@@ -56,7 +56,7 @@ use Rattle.rh_pasts.proofs.Made.{made, moves_with}
 
 -- ---- the readers of IN channels
 
-pub read_in_turn : (readers : List ℕ) (is_there : ℕ → _) → AreRead readers is_there
+pub read_in_turn : (readers : List ℕ) (is_there : ℕ → Bool) → AreRead readers is_there
     → ReadInTurn (reader_of readers)
 read_in_turn readers is_there read = record { none = read.none; next = next }
   where
@@ -110,7 +110,7 @@ module _ {K : Type 0} (m : Makers K InProxy OutProxy) (w : OurWorld K)
         → (let v = changed rules m deeds u change in AreRead v.readers (is_made v.company))
 
   module _ (law : Laws) where
-    abbrev after : OurWorld K → Change → OurWorld K
+    abbrev pub after : OurWorld K → Change → OurWorld K
     after u change = changed rules m deeds u change
 
     -- ---- what is known on the way
@@ -140,10 +140,10 @@ module _ {K : Type 0} (m : Makers K InProxy OutProxy) (w : OurWorld K)
 
     module _ (u : OurWorld K) (h : History) (f : Flows (numbers_of ours) h) (is : Here u h f)
       where
-        abbrev flowing : IsFlowing (numbers_of ours) w u h
+        abbrev pub flowing : IsFlowing (numbers_of ours) w u h
         flowing = flowing_at u h f is
 
-        drew_here : (leg : Leg) (dir : Dir)
+        pub drew_here : (leg : Leg) (dir : Dir)
             → IsPrefix (heard_on leg (events_of h (end_node u.readers leg (receiver dir))))
             (drawn_by rules m deeds w.company w.cast h (end_node u.readers leg (sender dir)) leg)
         drew_here leg dir =
@@ -153,7 +153,7 @@ module _ {K : Type 0} (m : Makers K InProxy OutProxy) (w : OurWorld K)
             (law.drawn u h is.traced leg dir)
 
         -- all that was heard by now
-        abbrev heard_now : HeardOf law.reads m w u ours h flowing h
+        abbrev pub heard_now : HeardOf law.reads m w u ours h flowing h
         heard_now = record {
           readers = u.readers;
           drew = drew_here;
@@ -161,16 +161,16 @@ module _ {K : Type 0} (m : Makers K InProxy OutProxy) (w : OurWorld K)
         }
 
         module _ (change : Change) (may : MayChange rules u change) where
-          abbrev v : OurWorld K
+          abbrev pub v : OurWorld K
           v = after u change
 
-          abbrev g : History
+          abbrev pub g : History
           g = noted u h change
 
-          traced_next : IsTraced rules m deeds w.company v g
+          pub traced_next : IsTraced rules m deeds w.company v g
           traced_next = change_is_traced rules m deeds w.company u h is.traced is.once change may
 
-          drew_before : (leg : Leg) (dir : Dir)
+          pub drew_before : (leg : Leg) (dir : Dir)
               → IsPrefix (heard_on leg (events_of g (end_node v.readers leg (receiver dir))))
               (drawn_by rules m deeds w.company w.cast h (end_node u.readers leg (sender dir)) leg)
           drew_before leg dir =
@@ -180,7 +180,7 @@ module _ {K : Type 0} (m : Makers K InProxy OutProxy) (w : OurWorld K)
               is.cast (law.before u h is.traced is.once change may leg dir)
 
           -- and by the next change
-          abbrev heard_next : HeardOf law.reads m w u ours h flowing g
+          abbrev pub heard_next : HeardOf law.reads m w u ours h flowing g
           heard_next = record {
             readers = v.readers;
             drew = drew_before;
@@ -265,10 +265,10 @@ module _ {K : Type 0} (m : Makers K InProxy OutProxy) (w : OurWorld K)
         (each_of client_legible.HasCookieAtEnd front is.0
         (subst client_legible.HaveCookies (sym is.1) sized)).0
 
-    abbrev Growth : (u : OurWorld K) (h : History) → List Change → Flows (numbers_of ours) h → Type 0
+    abbrev pub Growth : (u : OurWorld K) (h : History) → List Change → Flows (numbers_of ours) h → Type 0
     Growth u h changes f = AllGrow m (numbers_of ours) u h changes f
 
-    abbrev end_of : (u : OurWorld K) (h : History) (changes : List Change)
+    abbrev pub end_of : (u : OurWorld K) (h : History) (changes : List Change)
         (f : Flows (numbers_of ours) h) → Growth u h changes f
         → Flows (numbers_of ours) (all_noted rules m deeds u h changes)
     end_of u h changes f all = last m (numbers_of ours) u h changes f all
