@@ -19,9 +19,9 @@ use Rattle.rh_shell.specs.declared.rooms.Rooms.{Rooms}
 use Rattle.rh_shell.specs.Carrying.{accepted, handed_by, spelled}
 use Rattle.rh_shell.specs.Ends.{cause_of, give_where, given_by as told_of, take_where, close_where, recycle_where, with_role}
 use Rattle.rh_shell.specs.Moves.{Move, Up, HeadCame, PduCame, PacketCame, Puts, IsDrawn, Marks, Pings, Moves, EndMove, EndPassage, Gives, Takes, Closes, Recycles, Passage, MayEndMove, MayMove, all_end_moved, end_moved, end_started, is_in_use, moved}
-use Rattle.rh_shell.specs.Moving.{EndEvent, EndLeads, Event, Happens, IsClosed, IsGiven, IsRecycled, IsTaken, after_end_event, after_end_events, after_event}
+use Rattle.rh_shell.specs.Moving.{EndEvent, EndLeads, Event, Happens, Hears, IsClosed, IsGiven, IsRecycled, IsTaken, after_end_event, after_end_events, after_event}
 use Rattle.rh_shell.specs.Rules.{Rules, Acts}
-use Rattle.rh_shell.specs.Shells.{Shell, begun, may_up, state_of}
+use Rattle.rh_shell.specs.Shells.{Shell, begun, state_of}
 use Rattle.rh_shell.specs.Wires.{of_leg}
 use Rattle.rh_passages.specs.Counted.{AreCountedAtEnd, IsCounted, IsCountedAtEnd}
 use Rattle.rh_passages.specs.Rising.{AreUpFirst, CameUpWith, HasComeUp, IsUpFirst}
