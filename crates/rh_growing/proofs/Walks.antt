@@ -15,7 +15,8 @@ use Rattle.rh_growing.specs.Growing.{EndGrows, Grows}
 module _ {S : Type 0} (rules : Rules S) (first : S) (rooms : Rooms) (pipe : Leg → Option Pipe)
   where
     -- a stream behind these, whose moves begin with those of the other, and then these come
-    abbrev pub Goes : (events behind later : List Event) → Stream rules first rooms pipe events → Type 0
+    abbrev pub Goes : (events behind later : List Event) → Stream rules first rooms pipe events
+        → Type 0
     Goes events behind later stream =
         (next : Stream rules first rooms pipe behind)
         × IsPrefix stream.leads.moves next.leads.moves

@@ -15,7 +15,6 @@ use Rattle.rh_shell.specs.declared.rooms.Rooms.{Rooms}
 use Rattle.rh_shell.specs.Moving.{EndEvent, Event, Happens}
 use Rattle.rh_shell.specs.Rules.{Acts, Rules}
 use Rattle.rh_shell.specs.Shells.{Shell, begun}
-use Rattle.rh_nodes.specs.Company.{Company}
 use Rattle.rh_nodes.specs.Opening.{Makers}
 use Rattle.rh_nodes.specs.World.{World}
 use Rattle.rh_client.specs.declared.state.ClientRole.{ClientRole}
@@ -267,7 +266,8 @@ module _ {K : Type 0} (m : Makers K InProxy OutProxy) where
         (grown_server : EndGrowing server.rules server.acts (server.first numbers.window)
         server.rooms down.server_reads (all_noted rules m deeds w nothing changes).server)
         (grown_in : (n : ℕ) → Growing in_proxy.rules (in_state.first (numbers.ins n))
-        in_proxy.rooms (in_pipe (numbers.ins n)) ((all_noted rules m deeds w nothing changes).ins n))
+        in_proxy.rooms (in_pipe (numbers.ins n))
+        ((all_noted rules m deeds w nothing changes).ins n))
         (grown_out : (n : ℕ) → Growing out_proxy.rules (new_proxy (numbers.outs n)) ROOMS
         (down.proxy_reads (numbers.outs n)) ((all_noted rules m deeds w nothing changes).outs n))
       where

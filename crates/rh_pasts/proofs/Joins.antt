@@ -1,6 +1,6 @@
 -- what came at each node is of what was put at the other end of its leg, also where one end heard
 -- what comes by the next change: that was drawn before
-use Rattle.std.proofs.Common.{◌≡◌, ℕ, List, [], refl, sym, ap, ◌∙◌, subst}
+use Rattle.std.proofs.Common.{◌≡◌, ℕ, List, [], sym, ap, ◌∙◌, subst}
 use Rattle.std.specs.declared.option.Option.{Option}
 use mathlib.Core.List.{IsPrefix}
 use Rattle.rh_order.proofs.ItemLists.{nil_front}
@@ -15,9 +15,8 @@ use Rattle.rh_line.specs.declared.leg.LegKind.{LegKind}
 use Rattle.rh_line.specs.declared.leg.LegKind.TheVariants.{ClientOut, OutServer, ClientIn, InServer}
 use Rattle.rh_record.specs.declared.answer.Who.{Who}
 use Rattle.rh_record.specs.declared.answer.Who.TheVariants as who
-use Rattle.rh_shell.specs.Moves.{EndMove, EndPassage, Passage, all_end_moved, end_started}
+use Rattle.rh_shell.specs.Moves.{EndMove, EndPassage, Passage, end_started}
 use Rattle.rh_shell.specs.Moving.{Event}
-use Rattle.rh_shell.specs.Rules.{Message}
 use Rattle.rh_shell.specs.Wires.{of_leg}
 use Rattle.rh_nodes.specs.Opening.{Makers}
 use Rattle.rh_nodes.specs.Readers.{reader_of}
@@ -51,14 +50,14 @@ use Rattle.rh_pasts.proofs.Made.{moves_with}
 same_end : (readers others : List ℕ) (node : Who) → ((k : ℕ) → who.In k ≡ node → ⊥)
     → (kind : LegKind) (n : ℕ) (end : Side) → end_node readers (leg_at kind n) end ≡ node
     → end_node others (leg_at kind n) end ≡ node
-same_end readers others node no ClientIn n side.Client e = e
-same_end readers others node no ClientIn n side.Server e = absurd (no (reader_of readers n) e)
-same_end readers others node no InServer n side.Client e = e
-same_end readers others node no InServer n side.Server e = e
-same_end readers others node no ClientOut n side.Client e = e
-same_end readers others node no ClientOut n side.Server e = e
-same_end readers others node no OutServer n side.Client e = e
-same_end readers others node no OutServer n side.Server e = e
+same_end readers others node never ClientIn n side.Client e = e
+same_end readers others node never ClientIn n side.Server e = absurd (never (reader_of readers n) e)
+same_end readers others node never InServer n side.Client e = e
+same_end readers others node never InServer n side.Server e = e
+same_end readers others node never ClientOut n side.Client e = e
+same_end readers others node never ClientOut n side.Server e = e
+same_end readers others node never OutServer n side.Client e = e
+same_end readers others node never OutServer n side.Server e = e
 
 module _ {K : Type 0} (reads : Reads) (m : Makers K InProxy OutProxy)
     (w u : World K ClientRole Server InProxy OutProxy) (ours : AreOurs m w.company w.cast)

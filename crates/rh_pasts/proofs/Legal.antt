@@ -1,11 +1,9 @@
 -- what the nodes put may go on its pipe, as long as what came to them is fine
-use Rattle.std.proofs.Common.{◌≡◌, ℕ, zero, suc, List, [], ◌∷◌, sym, ◌∙◌, ap, subst}
+use Rattle.std.proofs.Common.{◌≡◌, ℕ, zero, suc, List, [], ◌∷◌, if◌then◌else◌, refl, sym, ap, subst}
 use Rattle.std.specs.List.{AllByRecursion}
-use mathlib.Core.List.{IsPrefix}
 use Rattle.rh_window.specs.Sides.{IsWindow}
 use Rattle.rh_line.specs.declared.leg.Leg.{Leg}
 use Rattle.rh_shell.specs.Moves.{EndMove, EndPassage, Move, Moves, Up, HeadCame, PduCame, PacketCame, Puts, IsDrawn, Marks, Pings, Gives, Takes, Closes, Recycles, OnLeg, Passage, all_end_moved, all_moved, end_started, started}
-use Rattle.rh_shell.specs.Shells.{same_leg}
 use Rattle.rh_shell.specs.Wires.{of_leg}
 use Rattle.rh_legible.specs.Legible.{AreLegible, IsLegible}
 use Rattle.rh_http.specs.declared.config.ClientConfig.{ClientConfig}

@@ -1,14 +1,12 @@
 -- what holds of the moves of an end holds of each front of them, and the logs of a front are fronts
 use Rattle.std.proofs.Common.{◌≡◌, ◌⊎◌, inl, inr, List, [], ◌∷◌, ◌++◌, Bool, true, false, if◌then◌else◌, Some, None, Ok, Err, refl, sym, ap, ◌∙◌, subst}
-use Rattle.std.specs.List.{AllByRecursion}
 use Rattle.std.specs.declared.option.Option.{Option}
-use Rattle.std.specs.declared.result.Result.{Result}
 use Rattle.std.proofs.lemmas.List.Concat.{flat_map-append}
 use mathlib.Core.List.{IsPrefix}
 use Rattle.rh_order.proofs.Prefixes.{prefix_more, prefix_self, prefix_trans}
 use Rattle.rh_rts.specs.declared.command.Cookie.{Cookie}
 use Rattle.rh_line.specs.declared.leg.Leg.{Leg}
-use Rattle.rh_shell.specs.Moves.{AreAllowedAtEnd, EndMove, EndPassage, OnLeg, Passage, all_end_moved, end_moved}
+use Rattle.rh_shell.specs.Moves.{AreAllowedAtEnd, EndMove, EndPassage, OnLeg, all_end_moved, end_moved}
 use Rattle.rh_shell.specs.Rules.{Acts, Message, Row, Rules}
 use Rattle.rh_shell.specs.Shells.{same_leg}
 use Rattle.rh_shell.specs.Wires.{of_leg}

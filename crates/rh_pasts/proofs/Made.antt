@@ -1,5 +1,5 @@
 -- the moves that a stream leads by, and each front of those of an end, are made as they may be
-use Rattle.std.proofs.Common.{ℕ, List, [], subst}
+use Rattle.std.proofs.Common.{List, []}
 use mathlib.Core.List.{IsPrefix}
 use Rattle.rh_shell.specs.Moves.{AreAllowedAtEnd, EndMove, end_started}
 use Rattle.rh_shell.specs.Rules.{Acts, Rules}

@@ -1,10 +1,9 @@
 -- behind all changes a world of roles is at a moment
-use Rattle.std.proofs.Common.{◌≡◌, ℕ, List, [], ◌∷◌, refl, sym, ap, ◌∙◌, subst}
+use Rattle.std.proofs.Common.{◌≡◌, List, [], ◌∷◌, refl, sym, subst}
 use Rattle.std.specs.List.{AllByRecursion}
 use mathlib.Core.List.{IsPrefix}
 use Rattle.rh_order.proofs.Prefixes.{prefix_self}
-use Rattle.rh_rts.specs.declared.command.Cookie.{Cookie}
-use Rattle.rh_line.specs.declared.leg.Leg.{Leg}
+use Rattle.rh_text.specs.declared.ends.Side.TheVariants as side
 use Rattle.rh_shell.specs.Moves.{EndMove}
 use Rattle.rh_shell.specs.Moving.{ComesUp, Event, Hears, Ends, Breaks, Draws, Ticks}
 use Rattle.rh_nodes.specs.Opening.{Makers}
@@ -25,11 +24,10 @@ use Rattle.rh_fifo.specs.Flows.{Flows, IsFlowing, numbers_of}
 use Rattle.rh_client_hops.specs.Premises.{AreDistinct}
 use Rattle.rh_moments.specs.Moments.{HaveCookies, IsMoment}
 use Rattle.rh_pasts.specs.Pasts.{HasMoment, moves_of, numbers}
-use Rattle.rh_pasts.proofs.Family.{Family, family}
+use Rattle.rh_pasts.proofs.Family.{Family, family, grown_last, last}
 use Rattle.rh_pasts.proofs.Legal.{have_cookies}
 use Rattle.rh_pasts.proofs.Once.{comes_up_under_one}
-use Rattle.rh_pasts.proofs.Pasts.{AreSized, Here, Laws, OurWorld, Whole, client_pasts, first_is, flowing_at, heard_now, joined_then, last_is, server_pasts}
-use Rattle.rh_pasts.proofs.Family.{grown_last, last}
+use Rattle.rh_pasts.proofs.Pasts.{AreSized, Here, Laws, OurWorld, Whole, first_is, flowing_at, heard_now, joined_then, last_is, pasts}
 
 whole_cookie : (event : Event) → HasWholeCookie event → ComesUpWith IsCookie event
 whole_cookie (ComesUp leg cookie) is = is
@@ -119,11 +117,11 @@ module _ {K : Type 0} (m : Makers K InProxy OutProxy) (w : OurWorld K) (new : Is
               (grown_last m (numbers_of ours) u h [] f tt) (prefix_self asked)
               (prefix_self served) have;
           client_past = λ front later is.
-              client_pasts m w ours law w nothing by.leads.changes streams.start streams.all first
+              pasts m w ours law side.Client w nothing by.leads.changes streams.start streams.all first
               by.leads.allowed sized have front
               (from_none streams.start.client.leads.moves front streams.client) (later, sym is);
           server_past = λ front later is.
-              server_pasts m w ours law w nothing by.leads.changes streams.start streams.all first
+              pasts m w ours law side.Server w nothing by.leads.changes streams.start streams.all first
               by.leads.allowed sized have front
               (from_none streams.start.server.leads.moves front streams.server) (later, sym is);
         }

@@ -4,7 +4,7 @@ use Rattle.rh_rts.specs.declared.command.Cookie.{Cookie}
 use Rattle.rh_line.specs.declared.leg.Leg.{Leg}
 use Rattle.rh_shell.specs.Moving.{ComesUp, EndEvent, Happens, IsClosed, IsGiven, IsRecycled, IsTaken, after_end_events}
 use Rattle.rh_shell.specs.Rules.{Acts, Rules}
-use Rattle.rh_shell.specs.Shells.{Shell, may_up, same_leg}
+use Rattle.rh_shell.specs.Shells.{Shell, may_up}
 use Rattle.rh_passages.specs.Rising.{CameUpWith}
 use Rattle.rh_history.specs.Carried.{AreAcceptedAtEnd, ComesUpOnceAtEnd, IsAcceptedAtEnd, came_up, happened}
 use Rattle.rh_history.proofs.Appended.{came_append, end_accepted_append, happened_append}

@@ -1,20 +1,17 @@
 -- along changes each front of the moves of an end was all of them at a moment before
-use Rattle.std.proofs.Common.{◌≡◌, ◌≢◌, ◌⊎◌, inl, inr, ℕ, suc, ◌++◌, List, [], ◌∷◌, Bool, refl, sym, ap, ◌∙◌, subst}
-use Rattle.std.specs.List.{AllByRecursion}
+use Rattle.std.proofs.Common.{◌≡◌, ◌≢◌, ◌⊎◌, inl, inr, ℕ, suc, ◌-◌, List, [], ◌∷◌, Bool, true, arith, refl, sym, ap, ◌∙◌, subst}
 use Rattle.std.specs.declared.option.Option.{Option}
 use Rattle.std.proofs.lemmas.Bool.{cases_eq}
 use mathlib.Core.List.{IsPrefix}
-use Rattle.rh_order.proofs.Prefixes.{prefix_both, prefix_self, prefix_trans}
+use Rattle.rh_order.proofs.Prefixes.{prefix_self}
 use Rattle.rh_text.specs.declared.ends.Dir.{Dir}
 use Rattle.rh_text.specs.declared.ends.Side.{Side}
+use Rattle.rh_text.specs.declared.ends.Side.TheVariants as side
 use Rattle.rh_sig.specs.declared.name.Pipe.{Pipe}
 use Rattle.rh_line.specs.declared.leg.Leg.{Leg}
-use Rattle.rh_record.specs.declared.answer.Who.{Who}
 use Rattle.rh_shell.specs.Moves.{EndMove, EndPassage, OnLeg, Passage, all_end_moved, all_moved, end_started, started}
-use Rattle.rh_shell.specs.Moving.{EndEvent, Event}
 use Rattle.rh_legible.specs.Legible.{AreLegible}
 use Rattle.rh_nodes.specs.declared.place.Place.{Place}
-use Rattle.rh_nodes.specs.Company.{Company}
 use Rattle.rh_nodes.specs.Opening.{Makers}
 use Rattle.rh_nodes.specs.Readers.{reader_of}
 use Rattle.rh_nodes.specs.Wires.{receiver, sender}
@@ -35,18 +32,18 @@ use Rattle.rh_server.specs.Servers as server
 use Rattle.rh_server.specs.States.{Server}
 use Rattle.rh_history.specs.Carried.{IsTraced, LegsComeUpOnce, drawn_by, end_node, events_of, heard_on}
 use Rattle.rh_history.specs.Changes.{AreAllowed, Change, MayChange, all_changed, changed}
-use Rattle.rh_history.specs.Histories.{History, IsNew, IsRun, all_noted, noted, nothing}
+use Rattle.rh_history.specs.Histories.{History, IsRun, all_noted, noted, nothing}
 use Rattle.rh_history.proofs.Leading.{cast_stays}
 use Rattle.rh_history.proofs.Tracing.{change_is_traced}
 use Rattle.rh_streams.proofs.Ways.{each_of}
 use Rattle.rh_traced.specs.Numbers.{AreRead, is_made}
 use Rattle.rh_traced.specs.Ours.{AreOurs, deeds, rules}
-use Rattle.rh_fifo.specs.Flows.{AllFine, AllLegible, Flows, IsFlowing, numbers_of}
+use Rattle.rh_fifo.specs.Flows.{AllLegible, Flows, IsFlowing, numbers_of}
 use Rattle.rh_fifo.specs.Premises.{AreInRange}
 use Rattle.rh_fifo.proofs.Heard.{heard_fine}
 use Rattle.rh_fifo.proofs.Starting.{Beginning, starts}
 use Rattle.rh_client_hops.proofs.Joined.{AreAlone, Reads}
-use Rattle.rh_moments.specs.Moments.{HaveCookies, IsJoined, IsMoment, IsPast, Moves, ReadInTurn}
+use Rattle.rh_moments.specs.Moments.{HaveCookies, IsJoined, IsPast, Moves, ReadInTurn}
 use Rattle.rh_pasts.specs.Pasts.{numbers}
 use Rattle.rh_pasts.proofs.Family.{AllGrow, AllRise, Grown, grown_last, last}
 use Rattle.rh_pasts.proofs.Joins.{HeardOf, are_joined}
@@ -60,15 +57,21 @@ pub read_in_turn : (readers : List ℕ) (is_there : ℕ → Bool) → AreRead re
     → ReadInTurn (reader_of readers)
 read_in_turn readers is_there read = record { none = read.none; next = next }
   where
+    before : (n : ℕ) → suc n - 1 ≡ n
+    before n = omega arith
+
     by : (n : ℕ) → (reader_of readers (suc n) ≡ 0) ⊎ (reader_of readers (suc n) ≢ 0)
         → (reader_of readers (suc n) ≡ 0) ⊎ ((reader_of readers (suc n) ≡ suc n)
         ⊎ (reader_of readers (suc n) ≡ reader_of readers n))
     by n (inl none) = inl none
     by n (inr some) = inr (one ((read.each (suc n) some).either))
       where
-        one : {P Q R : Type 0} → (P × Q) ⊎ R → P ⊎ R
-        one (inl both) = inl both.0
-        one (inr other) = inr other
+        one : ((reader_of readers (suc n) ≡ suc n) × (is_there (suc n) ≡ true))
+            ⊎ (reader_of readers (suc n) ≡ reader_of readers (suc n - 1))
+            → (reader_of readers (suc n) ≡ suc n)
+            ⊎ (reader_of readers (suc n) ≡ reader_of readers n)
+        one (inl own) = inl own.0
+        one (inr other) = inr (other ∙ ap (reader_of readers) (before n))
 
     next : (n : ℕ) → (reader_of readers (suc n) ≡ 0) ⊎ ((reader_of readers (suc n) ≡ suc n)
         ⊎ (reader_of readers (suc n) ≡ reader_of readers n))
@@ -149,7 +152,8 @@ module _ {K : Type 0} (m : Makers K InProxy OutProxy) (w : OurWorld K)
         drew_here leg dir =
             subst (λ (c : K).
             IsPrefix (heard_on leg (events_of h (end_node u.readers leg (receiver dir))))
-            (drawn_by rules m deeds w.company c h (end_node u.readers leg (sender dir)) leg)) is.cast
+            (drawn_by rules m deeds w.company c h (end_node u.readers leg (sender dir)) leg))
+            is.cast
             (law.drawn u h is.traced leg dir)
 
         -- all that was heard by now
@@ -247,13 +251,47 @@ module _ {K : Type 0} (m : Makers K InProxy OutProxy) (w : OurWorld K)
     abbrev pub Whole : (e : History) → Flows (numbers_of ours) e → Moves
     Whole e end = moves_with ours e end end.client.leads.moves end.server.leads.moves
 
-    abbrev pub ClientPast : (e : History) → Flows (numbers_of ours) e → List EndMove → Type 0
-    ClientPast e end front =
-        (past : IsPast (numbers ours) (Whole e end)) × (past.moves_then.client ≡ front)
+    -- the moves of an end, by its stream and at a moment
+    abbrev pub end_moves : Side → (h : History) → Flows (numbers_of ours) h → List EndMove
+    end_moves side.Client h f = f.client.leads.moves
+    end_moves side.Server h f = f.server.leads.moves
 
-    abbrev pub ServerPast : (e : History) → Flows (numbers_of ours) e → List EndMove → Type 0
-    ServerPast e end front =
-        (past : IsPast (numbers ours) (Whole e end)) × (past.moves_then.server ≡ front)
+    abbrev pub moves_at : Side → Moves → List EndMove
+    moves_at side.Client moves = moves.client
+    moves_at side.Server moves = moves.server
+
+    end_grown : (which : Side) (h g : History) (f : Flows (numbers_of ours) h)
+        (next : Flows (numbers_of ours) g) → Grown (numbers_of ours) h g f next
+        → IsPrefix (end_moves which h f) (end_moves which g next)
+    end_grown side.Client h g f next grown = grown.client
+    end_grown side.Server h g f next grown = grown.server
+
+    -- these were all moves of the end at a moment before
+    abbrev pub EndPast : Side → (e : History) → Flows (numbers_of ours) e → List EndMove → Type 0
+    EndPast which e end front =
+        (past : IsPast (numbers ours) (Whole e end)) × (moves_at which past.moves_then ≡ front)
+
+    -- at one on the way, where the end had gone on
+    past_by : (which : Side) (u : OurWorld K) (h : History) (f : Flows (numbers_of ours) h)
+        (is : Here u h f) (k : History)
+        (heard : HeardOf law.reads m w u ours h (flowing_at u h f is) k)
+        (later : Flows (numbers_of ours) k) (front : List EndMove)
+        → IsPrefix (end_moves which h f) front → IsPrefix front (end_moves which k later)
+        → (e : History) (end : Flows (numbers_of ours) e) → Grown (numbers_of ours) h e f end
+        → IsPrefix front (end_moves which e end) → HaveCookies end.client.leads.moves
+        → EndPast which e end front
+    past_by side.Client u h f is k heard later front on within e end grown inside cookies =
+        let served = f.server.leads.moves in (
+          past u h f is k h heard (heard_now u h f is) front served later f on within
+              (prefix_self served) (prefix_self served) e end grown inside grown.server cookies,
+          refl,
+        )
+    past_by side.Server u h f is k heard later front on within e end grown inside cookies =
+        let asked = f.client.leads.moves in (
+          past u h f is h k (heard_now u h f is) heard asked front f later (prefix_self asked)
+              (prefix_self asked) on within e end grown grown.client inside cookies,
+          refl,
+        )
 
     -- the cookies of the client's legs have 16 bytes
     abbrev pub AreSized : (e : History) → Flows (numbers_of ours) e → Type 0
@@ -265,7 +303,8 @@ module _ {K : Type 0} (m : Makers K InProxy OutProxy) (w : OurWorld K)
         (each_of client_legible.HasCookieAtEnd front is.0
         (subst client_legible.HaveCookies (sym is.1) sized)).0
 
-    abbrev pub Growth : (u : OurWorld K) (h : History) → List Change → Flows (numbers_of ours) h → Type 0
+    abbrev pub Growth : (u : OurWorld K) (h : History) → List Change → Flows (numbers_of ours) h
+        → Type 0
     Growth u h changes f = AllGrow m (numbers_of ours) u h changes f
 
     abbrev pub end_of : (u : OurWorld K) (h : History) (changes : List Change)
@@ -302,91 +341,41 @@ module _ {K : Type 0} (m : Makers K InProxy OutProxy) (w : OurWorld K)
         last_is (after u change) (noted u h change) changes all.0 all.2
         (then_is u h change changes f all is allowed.0 sized) allowed.1 sized
 
-    pub client_pasts : (u : OurWorld K) (h : History) (changes : List Change)
+    pub pasts : (which : Side) (u : OurWorld K) (h : History) (changes : List Change)
         (f : Flows (numbers_of ours) h) (all : Growth u h changes f) → Here u h f
         → AreAllowed rules m deeds u changes
         → AreSized (all_noted rules m deeds u h changes) (end_of u h changes f all)
         → HaveCookies (end_of u h changes f all).client.leads.moves → (front : List EndMove)
-        → IsPrefix f.client.leads.moves front
-        → IsPrefix front (end_of u h changes f all).client.leads.moves
-        → ClientPast (all_noted rules m deeds u h changes) (end_of u h changes f all) front
-    client_pasts u h [] f all is allowed sized cookies front on within =
-        let now = heard_now u h f is in
-        let served = f.server.leads.moves in (
-          past u h f is h h now now front served f f on within (prefix_self served)
-              (prefix_self served) h f (grows_to u h [] f all) within (prefix_self served) cookies,
-          refl,
-        )
-    client_pasts u h (change ∷ changes) f all is allowed sized cookies front on within =
-        by (one_front front all.0.client.leads.moves end.client.leads.moves within
-        (grows_to (after u change) (noted u h change) changes all.0 all.2).client)
+        → IsPrefix (end_moves which h f) front
+        → IsPrefix front (end_moves which (all_noted rules m deeds u h changes)
+        (end_of u h changes f all))
+        → EndPast which (all_noted rules m deeds u h changes) (end_of u h changes f all) front
+    pasts which u h [] f all is allowed sized cookies front on within =
+        past_by which u h f is h (heard_now u h f is) f front on within h f
+        (grows_to u h [] f all) within cookies
+    pasts which u h (change ∷ changes) f all is allowed sized cookies front on within =
+        by (one_front front (end_moves which (noted u h change) all.0) (end_moves which
+        (all_noted rules m deeds u h (change ∷ changes)) (end_of u h (change ∷ changes) f all))
+        within (end_grown which (noted u h change)
+        (all_noted rules m deeds u h (change ∷ changes)) all.0
+        (end_of u h (change ∷ changes) f all)
+        (grows_to (after u change) (noted u h change) changes all.0 all.2)))
         (λ behind.
-        client_pasts (after u change) (noted u h change) changes all.0 all.2
+        pasts which (after u change) (noted u h change) changes all.0 all.2
         (then_is u h change changes f all is allowed.0 sized) allowed.1 sized cookies front behind
         within)
       where
-        end : Flows (numbers_of ours) (all_noted rules m deeds u h (change ∷ changes))
-        end = end_of u h (change ∷ changes) f all
-
-        grown : Grown (numbers_of ours) h (all_noted rules m deeds u h (change ∷ changes)) f end
-        grown = grows_to u h (change ∷ changes) f all
-
-        by : IsPrefix front all.0.client.leads.moves ⊎ IsPrefix all.0.client.leads.moves front
-            → (IsPrefix all.0.client.leads.moves front
-            → ClientPast (all_noted rules m deeds u h (change ∷ changes)) end front)
-            → ClientPast (all_noted rules m deeds u h (change ∷ changes)) end front
+        by : IsPrefix front (end_moves which (noted u h change) all.0)
+            ⊎ IsPrefix (end_moves which (noted u h change) all.0) front
+            → (IsPrefix (end_moves which (noted u h change) all.0) front
+            → EndPast which (all_noted rules m deeds u h (change ∷ changes))
+            (end_of u h (change ∷ changes) f all) front)
+            → EndPast which (all_noted rules m deeds u h (change ∷ changes))
+            (end_of u h (change ∷ changes) f all) front
         by (inl before) later =
-            let served = f.server.leads.moves in (
-              past u h f is (noted u h change) h (heard_next u h f is change allowed.0)
-                  (heard_now u h f is) front served all.0 f on before (prefix_self served)
-                  (prefix_self served) (all_noted rules m deeds u h (change ∷ changes)) end grown
-                  within grown.server cookies,
-              refl,
-            )
-        by (inr behind) later = later behind
-
-    pub server_pasts : (u : OurWorld K) (h : History) (changes : List Change)
-        (f : Flows (numbers_of ours) h) (all : Growth u h changes f) → Here u h f
-        → AreAllowed rules m deeds u changes
-        → AreSized (all_noted rules m deeds u h changes) (end_of u h changes f all)
-        → HaveCookies (end_of u h changes f all).client.leads.moves → (front : List EndMove)
-        → IsPrefix f.server.leads.moves front
-        → IsPrefix front (end_of u h changes f all).server.leads.moves
-        → ServerPast (all_noted rules m deeds u h changes) (end_of u h changes f all) front
-    server_pasts u h [] f all is allowed sized cookies front on within =
-        let now = heard_now u h f is in
-        let asked = f.client.leads.moves in (
-          past u h f is h h now now asked front f f (prefix_self asked) (prefix_self asked) on within
-              h f (grows_to u h [] f all) (prefix_self asked) within cookies,
-          refl,
-        )
-    server_pasts u h (change ∷ changes) f all is allowed sized cookies front on within =
-        by (one_front front all.0.server.leads.moves end.server.leads.moves within
-        (grows_to (after u change) (noted u h change) changes all.0 all.2).server)
-        (λ behind.
-        server_pasts (after u change) (noted u h change) changes all.0 all.2
-        (then_is u h change changes f all is allowed.0 sized) allowed.1 sized cookies front behind
-        within)
-      where
-        end : Flows (numbers_of ours) (all_noted rules m deeds u h (change ∷ changes))
-        end = end_of u h (change ∷ changes) f all
-
-        grown : Grown (numbers_of ours) h (all_noted rules m deeds u h (change ∷ changes)) f end
-        grown = grows_to u h (change ∷ changes) f all
-
-        by : IsPrefix front all.0.server.leads.moves ⊎ IsPrefix all.0.server.leads.moves front
-            → (IsPrefix all.0.server.leads.moves front
-            → ServerPast (all_noted rules m deeds u h (change ∷ changes)) end front)
-            → ServerPast (all_noted rules m deeds u h (change ∷ changes)) end front
-        by (inl before) later =
-            let asked = f.client.leads.moves in (
-              past u h f is h (noted u h change) (heard_now u h f is)
-                  (heard_next u h f is change allowed.0) asked front f all.0 (prefix_self asked)
-                  (prefix_self asked) on before
-                  (all_noted rules m deeds u h (change ∷ changes)) end grown grown.client within
-                  cookies,
-              refl,
-            )
+            past_by which u h f is (noted u h change) (heard_next u h f is change allowed.0) all.0
+            front on before (all_noted rules m deeds u h (change ∷ changes))
+            (end_of u h (change ∷ changes) f all) (grows_to u h (change ∷ changes) f all) within cookies
         by (inr behind) later = later behind
 
     -- ---- before any change

@@ -1,3 +1,4 @@
+use Rattle.std.proofs.Common.{[], refl}
 use Rattle.rh_nodes.specs.Opening.{Makers}
 use Rattle.rh_nodes.specs.World.{World}
 use Rattle.rh_client.specs.declared.state.ClientRole.{ClientRole}
