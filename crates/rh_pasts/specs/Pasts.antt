@@ -1,5 +1,4 @@
 -- the moment of a virtual connection at which a world of roles is (MS-RPCH 3.2; profile)
-use Rattle.std.specs.Prelude.{◌≡◌, ℕ}
 use Rattle.rh_nodes.specs.Company.{Company}
 use Rattle.rh_nodes.specs.Opening.{Makers}
 use Rattle.rh_nodes.specs.Readers.{reader_of}
