@@ -15,3 +15,4 @@ mod Confirmed
 mod Streams
 mod InAhead
 mod NoPing
+mod Upward
