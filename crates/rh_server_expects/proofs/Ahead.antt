@@ -32,10 +32,10 @@ use Rattle.rh_rounds.specs.Rounds.{GoRound}
 use Rattle.rh_moments.specs.Expecting.{Expects, IsAmiss}
 use Rattle.rh_moments.specs.Moments.{AreJoined, HaveCookies, Moves, Numbers, client_behind, out_behind, passages, server_behind}
 use Rattle.rh_server_expects.proofs.Connections.{Connecting, channel_is, connection_is}
-use Rattle.rh_server_expects.proofs.NotEarly.{is_a2}
+use Rattle.rh_server_expects.proofs.NotEarly.{passes_conn_a2}
 use Rattle.rh_server_expects.proofs.Logs.{counted_some, some_counted, some_leg}
 use Rattle.rh_server_expects.proofs.Moment as at
-use Rattle.rh_server_expects.proofs.Moment.{IsA2, OpensOuts}
+use Rattle.rh_server_expects.proofs.Moment.{IsConnA2, OpensOuts}
 use Rattle.rh_server_expects.proofs.Refused.{not_other, nothing_before, one_before}
 use Rattle.rh_server_expects.proofs.Opened.{IsFirstPacket, IsLaterPacket, IsNext, next_packet, no_acks, no_pdu}
 
@@ -56,11 +56,11 @@ beyond n k least none = by (nat_lt n (2 + k)) refl
 
 -- ---- packets
 
-names_a3 : (connection predecessor successor : Cookie) (m : Named)
+names_out_r1_a3 : (connection predecessor successor : Cookie) (m : Named)
     → NamesSuccessor connection predecessor successor m → is_out_r1_a3 m ≡ true
-names_a3 connection predecessor successor
+names_out_r1_a3 connection predecessor successor
     (OutR1A3 version other before own window) h = refl
-names_a3 connection predecessor successor m h = absurd h
+names_out_r1_a3 connection predecessor successor m h = absurd h
 
 -- ---- what else is known of a moment
 
@@ -93,15 +93,15 @@ module _ (numbers : Numbers) (reader : ℕ → ℕ) (moves : Moves)
 
   -- ---- CONN/A2
 
-  a2_alone : came ≡ [] → n ≡ 1 → 1 ≤ out_came is_conn_a2 server → ⊥
-  a2_alone none e some =
-      let leg = some_leg IsA2 OutServer server.came
-      (some_counted IsA2 is_conn_a2 is_a2 (of_kind OutServer server.came) some) in
-      let first = at.a2_on_first numbers reader moves joined opens leg.0
-      (at.on_leg numbers reader moves joined opens IsA2 (λ received available channel is. is) leg.0
-      leg.1) in
-      subst (HasOne IsA2) none
-      (subst (λ (k : ℕ). HasOne IsA2 (of_leg (os_leg k) server.came)) (first ∙ sym e) leg.1)
+  conn_a2_alone : came ≡ [] → n ≡ 1 → 1 ≤ out_came is_conn_a2 server → ⊥
+  conn_a2_alone none e some =
+      let leg = some_leg IsConnA2 OutServer server.came
+      (some_counted IsConnA2 is_conn_a2 passes_conn_a2 (of_kind OutServer server.came) some) in
+      let first = at.conn_a2_on_first numbers reader moves joined opens leg.0
+      (at.on_leg numbers reader moves joined opens IsConnA2 (λ received available channel is. is)
+      leg.0 leg.1) in
+      subst (HasOne IsConnA2) none
+      (subst (λ (k : ℕ). HasOne IsConnA2 (of_leg (os_leg k) server.came)) (first ∙ sym e) leg.1)
 
   -- ---- OUT_R1/A4
 
@@ -111,12 +111,12 @@ module _ (numbers : Numbers) (reader : ℕ → ℕ) (moves : Moves)
     wanted : out_put is_out_r1_a1 server
         ≤ out_came is_out_r1_a4 server → ⊥
 
-  a4_due : (connection predecessor successor : Cookie) → came ≡ []
+  out_r1_a4_due : (connection predecessor successor : Cookie) → came ≡ []
       → HasOne (NamesSuccessor connection predecessor successor) asked → IsDue
-  a4_due connection predecessor successor none has =
+  out_r1_a4_due connection predecessor successor none has =
       let client = (client_behind numbers moves).passage in
       let put = counted_some (NamesSuccessor connection predecessor successor) is_out_r1_a3
-      (names_a3 connection predecessor successor) (of_leg (co n) client.put)
+      (names_out_r1_a3 connection predecessor successor) (of_leg (co n) client.put)
       (at.asked_front numbers reader moves joined opens
       (NamesSuccessor connection predecessor successor) n has) in
       let stands = among n (out_asked client) (count_of is_out_r1_a3 (of_leg (co n) client.put))
@@ -124,16 +124,17 @@ module _ (numbers : Numbers) (reader : ℕ → ℕ) (moves : Moves)
       let behind = beyond n (out_came is_out_r1_a4 server) stands.0
       (λ (less : n < 2 + out_came is_out_r1_a4 server).
       let one = law.on_legs.a4.each n stands.0 less in
-      let zero' = ap (count_of is_out_r1_a4) none in omega (arith, one, zero')) in
+      let nothing = ap (count_of is_out_r1_a4) none in omega (arith, one, nothing)) in
       let less = stands.1 in
-      let a3 = law.round.outs.a3_behind_a2 in
-      let a2 = law.round.outs.a2_behind_a1 in
-      let a1 = law.in_turn.a1_behind_a9 in
-      let a9 = law.in_turn.a9_behind_a8 in
-      let a8 = law.in_turn.a8_behind_a5 in
-      let a5 = law.in_turn.a5_behind_a4 in record {
-        place = omega (arith, behind, less, a3, a2, a1, a9, a8, a5);
-        wanted = λ no'. omega (arith, behind, less, a3, a2, a1, a9, a8, a5, no');
+      let asks = law.round.outs.a3_behind_a2 in
+      let wishes = law.round.outs.a2_behind_a1 in
+      let one = law.in_turn.a1_behind_a9 in
+      let ends = law.in_turn.a9_behind_a8 in
+      let confirms = law.in_turn.a8_behind_a5 in
+      let answers = law.in_turn.a5_behind_a4 in record {
+        place = omega (arith, behind, less, asks, wishes, one, ends, confirms, answers);
+        wanted = λ all.
+            omega (arith, behind, less, asks, wishes, one, ends, confirms, answers, all);
       }
 
   -- the channel before it is the one that the server writes on
@@ -168,12 +169,12 @@ module _ (numbers : Numbers) (reader : ℕ → ℕ) (moves : Moves)
   ack_begun : (cookie : Cookie) (m : Named) (rest : List Message) → came ≡ Packet m ∷ rest
       → OpensServer (numbers.outs n) asked cookie m
       → count_of is_conn_a2 came ≡ 0 → count_of is_out_r1_a4 came ≡ 0 → ⊥
-  ack_begun cookie (ConnA2 version connection channel lifetime window) rest e h a2 a4 =
-      let is = ap (count_of is_conn_a2) e in omega (arith, is, a2)
+  ack_begun cookie (ConnA2 version connection channel lifetime window) rest e h new next
+      = let is = ap (count_of is_conn_a2) e in omega (arith, is, new)
   ack_begun cookie (OutR1A4 version connection predecessor successor lifetime window timeout) rest e
-      h a2 a4 =
-      let is = ap (count_of is_out_r1_a4) e in omega (arith, is, a4)
-  ack_begun cookie m rest e h a2 a4 = absurd h
+      h new next =
+      let is = ap (count_of is_out_r1_a4) e in omega (arith, is, next)
+  ack_begun cookie m rest e h new next = absurd h
 
   opens_one : (expected cookie : Cookie) (m : Named)
       → OpensServer (numbers.outs n) asked cookie m → OpensOut expected m → expected ≡ cookie
@@ -209,12 +210,12 @@ module _ (numbers : Numbers) (reader : ℕ → ℕ) (moves : Moves)
           (ConnA2 version connection channel lifetime window) → ⊥
       by (inl later) = nothing_before came first.none later
       by (inr (inl elsewhere)) = elsewhere new
-      by (inr (inr some)) = a2_alone first.none new some
+      by (inr (inr some)) = conn_a2_alone first.none new some
   first_unexpected (OutR1A4 version connection predecessor successor lifetime window timeout)
       first u = by u
     where
       due : IsDue
-      due = a4_due connection predecessor successor first.none first.opens.5
+      due = out_r1_a4_due connection predecessor successor first.none first.opens.5
 
       by : UnexpectedOut server (os_leg n)
           (OutR1A4 version connection predecessor successor lifetime window timeout) → ⊥
@@ -265,7 +266,8 @@ module _ (numbers : Numbers) (reader : ℕ → ℕ) (moves : Moves)
         by (inr bad) =
             not_other predecessor expected got
             (predecessor_is connection predecessor successor expected
-            (a4_due connection predecessor successor first.none first.opens.5) next bad.1) bad.0
+            (out_r1_a4_due connection predecessor successor first.none first.opens.5) next bad.1)
+            bad.0
     first_mismatch m first bad = absurd first.opens
 
     later_mismatch : (m : Named) → IsLater m → Mismatch m → ⊥

@@ -58,11 +58,11 @@ come_up_more (move ∷ a) b leg cookie (inr rest) = inr (come_up_more a b leg co
 one_left : (p : Passage Server) → AreInTurn p
     → out_put at_server.is_out_r1_a5 p ≤ suc (in_came at_server.is_out_r1_a8 p)
 one_left p h =
-    let a9 = h.a9_behind_a8 in
-    let a5 = h.a5_behind_a4 in
-    let a4 = h.a4_behind_a1 in
-    let a1 = h.a1_behind_a9 in
-    omega (arith, a9, a5, a4, a1)
+    let ends = h.a9_behind_a8 in
+    let answers = h.a5_behind_a4 in
+    let begins = h.a4_behind_a1 in
+    let one = h.a1_behind_a9 in
+    omega (arith, ends, answers, begins, one)
 
 module _ (numbers : Numbers) (reader : ℕ → ℕ) (moves : Moves)
     (moment : IsMoment numbers reader moves) (law : Confirming numbers) where
@@ -79,7 +79,7 @@ module _ (numbers : Numbers) (reader : ℕ → ℕ) (moves : Moves)
   confirmed log = named_in confirms (of_kind InServer log)
 
   abbrev switched : Moves → List Cookie
-  switched then' = named_in switches (of_kind ClientIn (client_behind numbers then').passage.put)
+  switched these = named_in switches (of_kind ClientIn (client_behind numbers these).passage.put)
 
   asked_at : (past : IsPast numbers moves) → InOrder Comes 1 (switched past.moves_then)
   asked_at past =
@@ -104,20 +104,20 @@ module _ (numbers : Numbers) (reader : ℕ → ℕ) (moves : Moves)
       ≤ suc (count_of at_server.is_out_r1_a8 (of_kind InServer before))
       → InOrder Comes 1 (confirmed before) → InOrder Comes 1 (confirmed (before ++ one ∷ []))
   more_at past before one came left known =
-      let then' = past.moves_then in
+      let these = past.moves_then in
       let joined = past.then_joined.joined in
-      let outs = (law.round past.reader_then then' past.then_joined.made joined).outs in
-      let a7 = outs.a7_behind_a6 in
-      let a6 = outs.a6_behind_a5 in
-      more_in_order numbers past.reader_then then' joined (law.paid then' past.then_joined.made)
-      Comes are (asked_at past) before known (omega (arith, left, a7, a6)) one
+      let outs = (law.round past.reader_then these past.then_joined.made joined).outs in
+      let switched = outs.a7_behind_a6 in
+      let answered = outs.a6_behind_a5 in
+      more_in_order numbers past.reader_then these joined (law.paid these past.then_joined.made)
+      Comes are (asked_at past) before known (omega (arith, left, switched, answered)) one
       (λ of k.
       subst (λ (log : List OnLeg). count_on (at_proxy.is_out_r1_a8 of) InServer log k
-      ≤ count_on (at_proxy.is_out_r1_a8 of) InServer (in_behind numbers then' k).put k) came
+      ≤ count_on (at_proxy.is_out_r1_a8 of) InServer (in_behind numbers these k).put k) came
       (front_count (at_proxy.is_out_r1_a8 of)
-      (of_leg (is_leg k) (server_behind numbers then').passage.came)
-      (of_leg (is_leg k) (in_behind numbers then' k).put)
-      (is_front past.reader_then (passages numbers then') joined k)))
+      (of_leg (is_leg k) (server_behind numbers these).passage.came)
+      (of_leg (is_leg k) (in_behind numbers these k).put)
+      (is_front past.reader_then (passages numbers these) joined k)))
 
   next_front : (front : List EndMove) (move : EndMove) (later : List EndMove)
       → moves.server ≡ front ++ move ∷ later → IsAt front → IsAt (front ++ move ∷ [])
@@ -193,30 +193,30 @@ module _ (numbers : Numbers) (reader : ℕ → ℕ) (moves : Moves)
         (kind_here InServer server.came one true refl) in
         let both = count_append at_server.is_out_r1_a8 (of_kind InServer server.came)
         (Packet (OutR1A8 to cookie) ∷ []) in
-        let a7 = round.outs.a7_behind_a6 in
-        let a6 = round.outs.a6_behind_a5 in
-        omega (arith, all, more, both, a7, a6)
+        let switched = round.outs.a7_behind_a6 in
+        let answered = round.outs.a6_behind_a5 in
+        omega (arith, all, more, both, switched, answered)
 
     -- it is that of the channel behind the writing one
     pub next_is : Comes (suc (suc (out_put at_server.is_out_r1_a9 server))) cookie
     next_is =
         let left = one_left server (law.turns moves.server) in
-        let a7 = round.outs.a7_behind_a6 in
-        let a6 = round.outs.a6_behind_a5 in
-        let a9 = (law.turns moves.server).a9_behind_a8 in
-        let a5 = (law.turns moves.server).a5_behind_a4 in
-        let a4 = (law.turns moves.server).a4_behind_a1 in
-        let a1 = (law.turns moves.server).a1_behind_a9 in
-        let asked' = one_asked in
+        let switched = round.outs.a7_behind_a6 in
+        let answered = round.outs.a6_behind_a5 in
+        let ends = (law.turns moves.server).a9_behind_a8 in
+        let answers = (law.turns moves.server).a5_behind_a4 in
+        let begins = (law.turns moves.server).a4_behind_a1 in
+        let one = (law.turns moves.server).a1_behind_a9 in
+        let more = one_asked in
         let all = all_confirmed (of_kind InServer server.came) in
         let last = last_in_order Comes 1 (confirmed server.came) cookie
         (next_confirms numbers reader moves moment.now.joined paid Comes are
         (switched_in_order (HasComeUp moves.client) 1
         (of_kind ClientIn (client_behind numbers moves).passage.put)
         (law.switches moves moment.now.made)) server.came in_order
-        (omega (arith, left, a7, a6)) (is_leg n) to cookie refl
+        (omega (arith, left, switched, answered)) (is_leg n) to cookie refl
         (within_now (at_proxy.is_out_r1_a8 (is_same cookie)))) in
         let same : suc (1 + length (confirmed server.came))
         ≡ suc (suc (out_put at_server.is_out_r1_a9 server)) =
-        omega (arith, all, asked', a9, a5, a4, a1) in
+        omega (arith, all, more, ends, answers, begins, one) in
         subst (λ (k : ℕ). Comes k cookie) same last

@@ -49,13 +49,13 @@ same_counts one other is (Packet m ∷ ms) =
 abbrev pub any : Cookie → Bool
 any cookie = true
 
-any_a7 : (m : Named) → at_proxy.is_out_r1_a7 any m ≡ at_client.is_out_r1_a7 m
-any_a7 (OutR1A7 to successor) = refl
-any_a7 m = refl
+any_out_r1_a7 : (m : Named) → at_proxy.is_out_r1_a7 any m ≡ at_client.is_out_r1_a7 m
+any_out_r1_a7 (OutR1A7 to successor) = refl
+any_out_r1_a7 m = refl
 
-any_a8 : (m : Named) → at_proxy.is_out_r1_a8 any m ≡ at_server.is_out_r1_a8 m
-any_a8 (OutR1A8 to successor) = refl
-any_a8 m = refl
+any_out_r1_a8 : (m : Named) → at_proxy.is_out_r1_a8 any m ≡ at_server.is_out_r1_a8 m
+any_out_r1_a8 (OutR1A8 to successor) = refl
+any_out_r1_a8 m = refl
 
 -- ---- a message more
 
@@ -118,11 +118,12 @@ module _ (numbers : Numbers) (reader : ℕ → ℕ) (moves : Moves)
       → count_of at_server.is_out_r1_a8 (of_kind InServer log)
       ≤ count_of at_client.is_out_r1_a7 put
   all_within log each =
-      let a8 = same_counts (at_proxy.is_out_r1_a8 any) at_server.is_out_r1_a8 any_a8
+      let came = same_counts (at_proxy.is_out_r1_a8 any) at_server.is_out_r1_a8 any_out_r1_a8
       (of_kind InServer log) in
-      let a7 = same_counts (at_proxy.is_out_r1_a7 any) at_client.is_out_r1_a7 any_a7 put in
+      let all = same_counts (at_proxy.is_out_r1_a7 any) at_client.is_out_r1_a7 any_out_r1_a7
+      put in
       let some = within any log each in
-      omega (arith, a8, a7, some)
+      omega (arith, came, all, some)
 
   -- one more that is within them, where no more than one is left, is that of the next channel
   module _ (Comes : ℕ → Cookie → Type 0) (are : AreOwn Comes)
@@ -152,10 +153,10 @@ module _ (numbers : Numbers) (reader : ℕ → ℕ) (moves : Moves)
         let some = within (is_same c) (before ++ (leg, Packet (OutR1A8 to c)) ∷ []) each in
         let one = often_one c leg to e in
         let all = switched_often c put in
-        let a7 = all_switched put in
-        let a8 = all_confirmed (of_kind InServer before) in
+        let switched = all_switched put in
+        let confirmed = all_confirmed (of_kind InServer before) in
         next_in_order Comes are c 1 (named_in switches put) ys asked known
-        (omega (arith, left, a7, a8)) (omega (arith, some, one, all))
+        (omega (arith, left, switched, confirmed)) (omega (arith, some, one, all))
 
     -- a message more, whatever it is
     pub more_in_order : (one : OnLeg)

@@ -15,28 +15,28 @@ use Rattle.rh_client_counts.specs.Naming.{NamesIns}
 use Rattle.rh_server_counts.specs.Counting.{is_conn_b2}
 use Rattle.rh_server_expects.proofs.Logs.{counted_some}
 
-abbrev pub IsB2 : Named → Type 0
-IsB2 (ConnB2 version connection channel window timeout group address padding) = Unit {0}
-IsB2 packet = ⊥
+abbrev pub IsConnB2 : Named → Type 0
+IsConnB2 (ConnB2 version connection channel window timeout group address padding) = Unit {0}
+IsConnB2 packet = ⊥
 
-abbrev pub IsB1 : Named → Type 0
-IsB1 (ConnB1 version connection channel lifetime keepalive group) = Unit {0}
-IsB1 packet = ⊥
+abbrev pub IsConnB1 : Named → Type 0
+IsConnB1 (ConnB1 version connection channel lifetime keepalive group) = Unit {0}
+IsConnB1 packet = ⊥
 
-pub is_b2 : (m : Named) → is_conn_b2 m ≡ true → IsB2 m
-is_b2 (ConnB2 version connection channel window timeout group address padding) e = tt
-is_b2 m e = absurd cc
+pub passes_conn_b2 : (m : Named) → is_conn_b2 m ≡ true → IsConnB2 m
+passes_conn_b2 (ConnB2 version connection channel window timeout group address padding) e = tt
+passes_conn_b2 m e = absurd cc
 
-b1_counts : (m : Named) → IsB1 m → is_conn_b1 m ≡ true
-b1_counts (ConnB1 version connection channel lifetime keepalive group) h = refl
-b1_counts m h = absurd h
+conn_b1_counts : (m : Named) → IsConnB1 m → is_conn_b1 m ≡ true
+conn_b1_counts (ConnB1 version connection channel lifetime keepalive group) h = refl
+conn_b1_counts m h = absurd h
 
 among_one : (n k count : ℕ) → count ≡ once_if (is_among 1 k n) → 1 ≤ count → k ≤ 1 → n ≡ 1
 among_one n k count e some one = grind (arith, nat_tests, e, some, one)
 
-pub b1_first : (connection : Cookie) (client : Passage ClientRole) → NamesIns connection client
-    → (n : ℕ) → HasOne IsB1 (of_leg (ci n) client.put) → n ≡ 1
-b1_first connection client law n has =
+pub conn_b1_first : (connection : Cookie) (client : Passage ClientRole) → NamesIns connection client
+    → (n : ℕ) → HasOne IsConnB1 (of_leg (ci n) client.put) → n ≡ 1
+conn_b1_first connection client law n has =
     among_one n (total is_conn_b1 ClientIn client.put)
     (count_of is_conn_b1 (of_leg (ci n) client.put)) (law.begins_on (ci n))
-    (counted_some IsB1 is_conn_b1 b1_counts (of_leg (ci n) client.put) has) law.once
+    (counted_some IsConnB1 is_conn_b1 conn_b1_counts (of_leg (ci n) client.put) has) law.once

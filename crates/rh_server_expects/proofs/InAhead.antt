@@ -29,19 +29,19 @@ use Rattle.rh_server_expects.specs.Expected.{ExpectsThose, OpensOrConfirms}
 use Rattle.rh_server_expects.proofs.Confirmed.{Confirming, next_is, one_asked}
 use Rattle.rh_server_expects.proofs.Confirms.{is_leg}
 use Rattle.rh_server_expects.proofs.Connections.{Asks, Connecting, all_same, channel_is, connection_is}
-use Rattle.rh_server_expects.proofs.FirstIn.{IsB1, IsB2, b1_first, is_b2}
+use Rattle.rh_server_expects.proofs.FirstIn.{IsConnB1, IsConnB2, conn_b1_first, passes_conn_b2}
 use Rattle.rh_server_expects.proofs.Logs.{some_counted, some_leg}
 use Rattle.rh_server_expects.proofs.Moment.{OpensOuts}
 use Rattle.rh_server_expects.proofs.Refused.{not_other, nothing_before, one_before}
-use Rattle.rh_server_expects.proofs.Streams.{IsFirstPacket, IsLaterPacket, b2_asked, connects_b1, first_one, next_packet}
+use Rattle.rh_server_expects.proofs.Streams.{IsFirstPacket, IsLaterPacket, conn_b2_asked, connects_conn_b1, first_one, next_packet}
 
 -- ---- packets
 
-b1_asks : (connection channel group : Cookie) (m : Named)
+conn_b1_asks : (connection channel group : Cookie) (m : Named)
     → puts.Connects connection channel group m → Asks connection m
-b1_asks connection channel group
+conn_b1_asks connection channel group
     (ConnB1 version of own lifetime keepalive in_group) h = sym h.0
-b1_asks connection channel group m h = absurd h
+conn_b1_asks connection channel group m h = absurd h
 
 -- ---- what else is known of a moment
 
@@ -79,20 +79,21 @@ module _ (numbers : Numbers) (reader : ℕ → ℕ) (moves : Moves)
 
   -- ---- CONN/B2
 
-  b1_alone : (n : ℕ) → HasOne IsB1 (of_leg (ci n) client_put) → n ≡ 1
-  b1_alone =
-      b1_first numbers.client.connection (client_behind numbers moves).passage ins.client
+  conn_b1_alone : (n : ℕ) → HasOne IsConnB1 (of_leg (ci n) client_put) → n ≡ 1
+  conn_b1_alone =
+      conn_b1_first numbers.client.connection (client_behind numbers moves).passage ins.client
 
-  b2_first : (n : ℕ) → HasOne IsB2 (of_leg (is_leg n) (proxy n).put) → n ≡ 1
-  b2_first n has =
-      b1_alone n
-      (asked_front IsB1 n
-      (b2_asked (numbers.ins n) (proxy n).came (of_leg (is_leg n) (proxy n).put) (stream n) has))
+  conn_b2_first : (n : ℕ) → HasOne IsConnB2 (of_leg (is_leg n) (proxy n).put) → n ≡ 1
+  conn_b2_first n has =
+      conn_b1_alone n
+      (asked_front IsConnB1 n
+      (conn_b2_asked (numbers.ins n) (proxy n).came (of_leg (is_leg n) (proxy n).put) (stream n)
+      has))
 
-  b2_came_first : (n : ℕ) → HasOne IsB2 (of_leg (is_leg n) server.came) → n ≡ 1
-  b2_came_first n has =
-      b2_first n
-      (front_one IsB2 (of_leg (is_leg n) server.came) (of_leg (is_leg n) (proxy n).put)
+  conn_b2_came_first : (n : ℕ) → HasOne IsConnB2 (of_leg (is_leg n) server.came) → n ≡ 1
+  conn_b2_came_first n has =
+      conn_b2_first n
+      (front_one IsConnB2 (of_leg (is_leg n) server.came) (of_leg (is_leg n) (proxy n).put)
       (is_front reader (passages numbers moves) moment.now.joined n) has)
 
   module _ (n : ℕ) where
@@ -108,34 +109,35 @@ module _ (numbers : Numbers) (reader : ℕ → ℕ) (moves : Moves)
     abbrev IsLater : Named → Type 0
     IsLater m = IsLaterPacket (numbers.ins n) (proxy n).came came m
 
-    b2_alone : came ≡ [] → n ≡ 1 → 1 ≤ in_came at_server.is_conn_b2 server → ⊥
-    b2_alone none e some =
-        let leg = some_leg IsB2 InServer server.came
-        (some_counted IsB2 at_server.is_conn_b2 is_b2 (of_kind InServer server.came) some) in
-        subst (HasOne IsB2) none
-        (subst (λ (k : ℕ). HasOne IsB2 (of_leg (is_leg k) server.came))
-        (b2_came_first leg.0 leg.1 ∙ sym e) leg.1)
+    conn_b2_alone : came ≡ [] → n ≡ 1 → 1 ≤ in_came at_server.is_conn_b2 server → ⊥
+    conn_b2_alone none e some =
+        let leg = some_leg IsConnB2 InServer server.came
+        (some_counted IsConnB2 at_server.is_conn_b2 passes_conn_b2 (of_kind InServer server.came)
+        some) in
+        subst (HasOne IsConnB2) none
+        (subst (λ (k : ℕ). HasOne IsConnB2 (of_leg (is_leg k) server.came))
+        (conn_b2_came_first leg.0 leg.1 ∙ sym e) leg.1)
 
     -- it names the client's connection
-    b2_connection : (connection channel group : Cookie)
+    conn_b2_connection : (connection channel group : Cookie)
         → CameFirst (numbers.ins n).number (puts.Connects connection channel group) (proxy n).came
         → numbers.client.connection ≡ connection
-    b2_connection connection channel group first =
+    conn_b2_connection connection channel group first =
         all_same connection numbers.client.connection (ci n) [] client_put ins.client.names
         (asked_front (Asks connection) n
         (one_so (puts.Connects connection channel group) (Asks connection)
-        (b1_asks connection channel group)
+        (conn_b1_asks connection channel group)
         (of_leg (ci (numbers.ins n).number) (proxy n).came)
         (first_one (puts.Connects connection channel group)
         (of_leg (ci (numbers.ins n).number) (proxy n).came) first)))
 
-    b2_number : (connection channel group : Cookie)
+    conn_b2_number : (connection channel group : Cookie)
         → CameFirst (numbers.ins n).number (puts.Connects connection channel group) (proxy n).came
         → n ≡ 1
-    b2_number connection channel group first =
-        b1_alone n
-        (one_so (puts.Connects connection channel group) IsB1
-        (connects_b1 connection channel group) (of_leg (ci n) client_put)
+    conn_b2_number connection channel group first =
+        conn_b1_alone n
+        (one_so (puts.Connects connection channel group) IsConnB1
+        (connects_conn_b1 connection channel group) (of_leg (ci n) client_put)
         (asked_front (puts.Connects connection channel group) n
         (first_one (puts.Connects connection channel group)
         (of_leg (ci (numbers.ins n).number) (proxy n).came) first)))
@@ -148,13 +150,13 @@ module _ (numbers : Numbers) (reader : ℕ → ℕ) (moves : Moves)
         u = by u
       where
         number : n ≡ 1
-        number = b2_number connection channel group new.first.4
+        number = conn_b2_number connection channel group new.first.4
 
         by : UnexpectedIn server (is_leg n)
             (ConnB2 version connection channel window timeout group address padding) → ⊥
         by (inl later) = nothing_before came new.none later
         by (inr (inl elsewhere)) = elsewhere number
-        by (inr (inr some)) = b2_alone new.none number some
+        by (inr (inr some)) = conn_b2_alone new.none number some
     new_unexpected (AckTo to received window cookie) is new u = absurd new.first
     new_unexpected (OutR1A8 to successor) is new u = absurd new.first
     new_unexpected m is new u = absurd is
@@ -190,7 +192,7 @@ module _ (numbers : Numbers) (reader : ℕ → ℕ) (moves : Moves)
           bad =
           not_other connection expected got
           (sym (connection_is numbers reader moves moment.now.joined opens ins expected
-          (inl bad.1)) ∙ b2_connection connection channel group new.first.4) bad.0
+          (inl bad.1)) ∙ conn_b2_connection connection channel group new.first.4) bad.0
       new_mismatch (AckTo to received window cookie) is new bad = bad
       new_mismatch (OutR1A8 to successor) is new bad = absurd new.first
       new_mismatch m is new bad = absurd is

@@ -9,8 +9,8 @@ use Rattle.rh_proxy_counts.proofs.InProxyOwes.{Leads}
 use Rattle.rh_proxy_counts.proofs.InProxyPays.{in_proxy_pays}
 use Rattle.rh_server_expects.specs.Connecting.{asks, connects, ConnectsForWhatCame}
 
-b1_leads : (of : Cookie → Bool) → Leads (asks of) (connects of) 0
-b1_leads of = record {
+conn_b1_leads : (of : Cookie → Bool) → Leads (asks of) (connects of) 0
+conn_b1_leads of = record {
   connects = λ version lifetime keepalive window timeout connection channel group address padding.
       omega arith;
   replaces = λ version window timeout connection predecessor channel. omega arith;
@@ -25,5 +25,5 @@ b1_leads of = record {
 pub in_proxy_connects : (config : InProxyConfig) (moves : List Move)
     → ConnectsForWhatCame (all_moved proxy_rules (started (first config)) moves)
 in_proxy_connects config moves of leg =
-    let paid = in_proxy_pays (asks of) (connects of) 0 (b1_leads of) config moves leg in
+    let paid = in_proxy_pays (asks of) (connects of) 0 (conn_b1_leads of) config moves leg in
     omega (arith, paid)

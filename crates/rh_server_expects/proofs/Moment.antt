@@ -29,9 +29,9 @@ use Rattle.rh_server_expects.proofs.Opened.{IsOpening, came_to_server, opening}
 
 -- ---- packets that open the first channel
 
-abbrev pub IsA2 : Named → Type 0
-IsA2 (ConnA2 version connection channel lifetime window) = Unit {0}
-IsA2 packet = ⊥
+abbrev pub IsConnA2 : Named → Type 0
+IsConnA2 (ConnA2 version connection channel lifetime window) = Unit {0}
+IsConnA2 packet = ⊥
 
 -- ---- a moment
 
@@ -122,9 +122,9 @@ module _ (numbers : Numbers) (reader : ℕ → ℕ) (moves : Moves)
   -- ---- CONN/A2
 
   -- it came on the first leg, for a CONN/A1 of the client
-  pub a2_on_first : (n : ℕ) → IsOpening (numbers.outs n) (asked_on n) IsA2 → n ≡ 1
-  a2_on_first n one = by one.packet (is_right n one.cookie one.packet one.opens) one.so
+  pub conn_a2_on_first : (n : ℕ) → IsOpening (numbers.outs n) (asked_on n) IsConnA2 → n ≡ 1
+  conn_a2_on_first n one = by one.packet (is_right n one.cookie one.packet one.opens) one.so
     where
-      by : (m : Named) → IsRight n m → IsA2 m → n ≡ 1
+      by : (m : Named) → IsRight n m → IsConnA2 m → n ≡ 1
       by (ConnA2 version connection channel lifetime window) h is = h.first
       by m h is = absurd is

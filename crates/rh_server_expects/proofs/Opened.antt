@@ -238,7 +238,8 @@ module _ (config : OutProxyConfig) (asked : List Message) where
       inl (record {
         none = refl;
         cookie = h.cookie;
-        opens = subst (OpensServer config asked h.cookie) (sym (same_packet m h.packet h.is)) h.opens;
+        opens = subst (OpensServer config asked h.cookie) (sym (same_packet m h.packet h.is))
+            h.opens;
       })
   next_packet (first ∷ rest) m h =
       inr (record {

@@ -15,7 +15,7 @@ use Rattle.rh_passages.proofs.Messages.{has_last, one_so}
 use Rattle.rh_inproxy_puts.specs.Puts as puts
 use Rattle.rh_inproxy_puts.specs.Puts.{ci, IsFirst, IsFront, IsPing, IsPlainPacket, IsRest, IsStream}
 use Rattle.rh_moments.proofs.Read.{front_has}
-use Rattle.rh_server_expects.proofs.FirstIn.{IsB1, IsB2}
+use Rattle.rh_server_expects.proofs.FirstIn.{IsConnB1, IsConnB2}
 use Rattle.rh_server_expects.proofs.Refused.{same_packet}
 
 -- ---- packets
@@ -37,11 +37,11 @@ which_one P (Packet m ∷ ms) (inl is) = (m, inl refl, is)
 which_one P (Packet m ∷ ms) (inr has) =
     let one = which_one P ms has in (one.0, inr one.1, one.2)
 
-pub connects_b1 : (connection channel group : Cookie) (m : Named)
-    → puts.Connects connection channel group m → IsB1 m
-connects_b1 connection channel group
+pub connects_conn_b1 : (connection channel group : Cookie) (m : Named)
+    → puts.Connects connection channel group m → IsConnB1 m
+connects_conn_b1 connection channel group
     (ConnB1 version of own lifetime keepalive in_group) h = tt
-connects_b1 connection channel group m h = absurd h
+connects_conn_b1 connection channel group m h = absurd h
 
 module _ (config : InProxyConfig) (log : List OnLeg) where
   -- ---- behind the first packet
@@ -151,25 +151,25 @@ module _ (config : InProxyConfig) (log : List OnLeg) where
 
   -- ---- CONN/B2
 
-  no_b2 : (m : Named) → IsBehind m → IsB2 m → ⊥
-  no_b2 (ConnB2 version connection channel window timeout group address padding) h is = h
-  no_b2 m h is = is
+  no_conn_b2 : (m : Named) → IsBehind m → IsConnB2 m → ⊥
+  no_conn_b2 (ConnB2 version connection channel window timeout group address padding) h is = h
+  no_conn_b2 m h is = is
 
-  first_b2 : (m : Named) → IsFirst config log m → IsB2 m
-      → HasOne IsB1 (of_leg (ci config.number) log)
-  first_b2 (ConnB2 version connection channel window timeout group address padding) h is =
-      one_so (puts.Connects connection channel group) IsB1 (connects_b1 connection channel group)
-      (of_leg (ci config.number) log)
+  first_conn_b2 : (m : Named) → IsFirst config log m → IsConnB2 m
+      → HasOne IsConnB1 (of_leg (ci config.number) log)
+  first_conn_b2 (ConnB2 version connection channel window timeout group address padding) h is =
+      one_so (puts.Connects connection channel group) IsConnB1
+      (connects_conn_b1 connection channel group) (of_leg (ci config.number) log)
       (first_one (puts.Connects connection channel group) (of_leg (ci config.number) log) h.4)
-  first_b2 m h is = absurd is
+  first_conn_b2 m h is = absurd is
 
   -- where it was put, CONN/B1 came first
-  pub b2_asked : (put : List Message) → IsStream config log put → HasOne IsB2 put
-      → HasOne IsB1 (of_leg (ci config.number) log)
-  b2_asked [] h has = absurd has
-  b2_asked (Text bytes ∷ rest) h has = absurd h.0
-  b2_asked (Pdu pdu ∷ rest) h has = absurd h.0
-  b2_asked (Packet m ∷ rest) h (inl is) = first_b2 m h.0 is
-  b2_asked (Packet m ∷ rest) h (inr has) =
-      let one = which_one IsB2 rest has in
-      absurd (no_b2 one.0 (rest_behind config.number one.0 rest h.1 one.1) one.2)
+  pub conn_b2_asked : (put : List Message) → IsStream config log put → HasOne IsConnB2 put
+      → HasOne IsConnB1 (of_leg (ci config.number) log)
+  conn_b2_asked [] h has = absurd has
+  conn_b2_asked (Text bytes ∷ rest) h has = absurd h.0
+  conn_b2_asked (Pdu pdu ∷ rest) h has = absurd h.0
+  conn_b2_asked (Packet m ∷ rest) h (inl is) = first_conn_b2 m h.0 is
+  conn_b2_asked (Packet m ∷ rest) h (inr has) =
+      let one = which_one IsConnB2 rest has in
+      absurd (no_conn_b2 one.0 (rest_behind config.number one.0 rest h.1 one.1) one.2)

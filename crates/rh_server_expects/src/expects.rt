@@ -44,11 +44,11 @@ pub fn a_server_expects_its_out_proxies()
 }
 
 /// At each moment of a virtual connection whose in proxies put in order, as they do where they put
-/// only on legs that are up: of what an in proxy put a server refuses no CONN/B2, no acknowledgement
-/// with a destination and no OUT_R1/A8 that comes next as unexpected, or for its cookie. CONN/B2
-/// comes first and once, on the first leg, with the client's connection; the others behind it or
-/// behind IN_R1/A2. OUT_R1/A8 comes where OUT_R1/A5 was put for it, and in the order of the channels
-/// that the client switches to (MS-RPCH 3.2.5; replacement is this profile's).
+/// nothing on a leg before it is up: of what an in proxy put a server refuses no CONN/B2, no
+/// acknowledgement with a destination and no OUT_R1/A8 that comes next as unexpected, or for its
+/// cookie. CONN/B2 comes first and once, on the first leg, with the client's connection; the others
+/// behind it or behind IN_R1/A2. OUT_R1/A8 comes where OUT_R1/A5 was put for it, and in the order
+/// of the channels that the client switches to (MS-RPCH 3.2.5; replacement is this profile's).
 pub fn a_server_expects_its_in_proxies()
     ensures { (numbers : Numbers) (reader : ℕ → ℕ) (moves : Moves) → IsMoment numbers reader moves
         → ((m : ℕ) → PutsInOrder (numbers.ins m) (in_behind numbers moves m))

@@ -1,5 +1,5 @@
-//! What an in proxy puts to the server: for which connections, and in which order. These functions do
-//! nothing: their contracts are the laws.
+//! What an in proxy puts to the server: for which connections, and in which order. These functions
+//! do nothing: their contracts are the laws.
 
 ghost use Rattle.std.specs.Prelude.{List};
 ghost use Rattle.rh_shell.specs.Moves.{Move, all_moved, started};
