@@ -1,0 +1,4 @@
+mod Fronts
+mod Channels
+mod Known
+mod Announces
