@@ -17,18 +17,12 @@ use Rattle.rh_passages.specs.Rising.{HasComeUp}
 use Rattle.rh_client.specs.Order.{client_moved}
 use Rattle.rh_client.specs.State.{ci}
 use Rattle.rh_client_puts.specs.Puts.{Begins, Direction, IsBegun, IsBehind, IsBehindPacket, IsPacket, OpenedBefore, OpensInChannels, in_way}
+use Rattle.rh_inproxy_rows.specs.Refusing.{NamesConnection}
 use Rattle.rh_inproxy_expects.proofs.Fronts.{HasFirst, IsRead, next_stands, read_first, read_so}
 
 no_next : (came : List Message) (m : Message) → IsPrefix (came ++ m ∷ []) [] → ⊥
 no_next [] m p = let e = p.1 in cc
 no_next (x ∷ came) m p = let e = p.1 in cc
-
--- CONN/B1 or IN_R1/A1 of this connection
-abbrev pub OfConnection : Cookie → Named → Type 0
-OfConnection cookie (named.ConnB1 version connection channel lifetime keepalive group) =
-    connection ≡ cookie
-OfConnection cookie (named.InR1A1 version connection predecessor channel) = connection ≡ cookie
-OfConnection cookie packet = ⊥
 
 module _ (config : ClientConfig) (moves : List EndMove) (opens : OpensInChannels config moves) where
   abbrev pub put : ℕ → List Message
@@ -146,20 +140,20 @@ module _ (config : ClientConfig) (moves : List EndMove) (opens : OpensInChannels
       (up_by first.0 first.2 cookie first.3.0 first.3.1)
 
   no_connection : (cookie : Cookie) (Next : Cookie → Type 0) (m : Named) → IsBehindPacket Next m
-      → OfConnection cookie m → ⊥
+      → NamesConnection cookie m → ⊥
   no_connection cookie Next (named.ConnB1 version connection channel lifetime keepalive group) h is =
       h
   no_connection cookie Next (named.InR1A1 version connection predecessor channel) h is = h
   no_connection cookie Next m h is = is
 
-  pub connection_by : (k : ℕ) (m : Named) (cookie : Cookie) → Begin k m → OfConnection cookie m
+  pub connection_by : (k : ℕ) (m : Named) (cookie : Cookie) → Begin k m → NamesConnection cookie m
       → config.connection ≡ cookie
-  connection_by zero m cookie h is = subst (OfConnection cookie) h.is is
-  connection_by (suc k) m cookie h is = subst (OfConnection cookie) h.is is
+  connection_by zero m cookie h is = subst (NamesConnection cookie) h.is is
+  connection_by (suc k) m cookie h is = subst (NamesConnection cookie) h.is is
 
   -- and each names the client's connection
-  pub connection_is : (n : ℕ) (cookie : Cookie) → HasOne (OfConnection cookie) (put n)
+  pub connection_is : (n : ℕ) (cookie : Cookie) → HasOne (NamesConnection cookie) (put n)
       → config.connection ≡ cookie
   connection_is n cookie has =
-      let first = first_is (OfConnection cookie) (no_connection cookie) n has in
+      let first = first_is (NamesConnection cookie) (no_connection cookie) n has in
       connection_by first.0 first.2 cookie first.3.0 first.3.1

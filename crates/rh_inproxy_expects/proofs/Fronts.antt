@@ -7,7 +7,7 @@ use Rattle.rh_shell.specs.Hearing.{is_ping}
 use Rattle.rh_shell.specs.Rules.{Message, Text, Pdu, Packet}
 use Rattle.rh_reading.specs.Reading.{all_read_of}
 use Rattle.rh_passages.specs.Counted.{packets}
-use Rattle.rh_passages.specs.Passing.{count_of, HasOne}
+use Rattle.rh_passages.specs.Passing.{count_of, Has, HasOne}
 use Rattle.rh_client_puts.specs.Puts.{IsPacket}
 
 -- ---- a front
@@ -190,3 +190,37 @@ same_counts one other so (Packet named ∷ ms) =
     subst (λ (b : Bool). (if one named then suc (count_of one ms) else count_of one ms)
     ≡ (if b then suc (count_of other ms) else count_of other ms)) (so named)
     (ap (λ (k : ℕ). if one named then suc k else k) (same_counts one other so ms))
+
+pub has_counts : (m : Named) (test : Named → Bool) → test m ≡ true → (ms : List Message)
+    → Has m ms → 1 ≤ count_of test ms
+has_counts m test e [] h = absurd h
+has_counts m test e (Text bytes ∷ ms) (inl is) = absurd cc
+has_counts m test e (Text bytes ∷ ms) (inr h) = has_counts m test e ms h
+has_counts m test e (Pdu pdu ∷ ms) (inl is) = absurd cc
+has_counts m test e (Pdu pdu ∷ ms) (inr h) = has_counts m test e ms h
+has_counts m test e (Packet named ∷ ms) h =
+    by (test named) refl h (has_counts m test e ms)
+  where
+    by : (b : Bool) → test named ≡ b → (Packet named ≡ Packet m) ⊎ Has m ms
+        → (Has m ms → 1 ≤ count_of test ms)
+        → 1 ≤ (if b then suc (count_of test ms) else count_of test ms)
+    by true f h rest = omega arith
+    by false f (inl is) rest = absurd (let same : named ≡ m = cc in let yes = ap test same in cc)
+    by false f (inr h) rest = rest h
+
+-- no Ping is read
+abbrev pub IsNoPing : Message → Type 0
+IsNoPing (Text bytes) = Unit {0}
+IsNoPing (Pdu pdu) = Unit {0}
+IsNoPing (Packet named) = is_ping named ≡ false
+
+pub read_no_ping : (ms : List Message) → AllByRecursion IsNoPing (all_read_of ms)
+read_no_ping [] = tt
+read_no_ping (Text bytes ∷ ms) = read_no_ping ms
+read_no_ping (Pdu pdu ∷ ms) = (tt, read_no_ping ms)
+read_no_ping (Packet named ∷ ms) = by (is_ping named) refl (read_no_ping ms)
+  where
+    by : (b : Bool) → is_ping named ≡ b → AllByRecursion IsNoPing (all_read_of ms)
+        → AllByRecursion IsNoPing ((if b then [] else Packet named ∷ []) ++ all_read_of ms)
+    by true e rest = rest
+    by false e rest = (e, rest)

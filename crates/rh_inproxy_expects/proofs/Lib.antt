@@ -1,4 +1,6 @@
+mod Read
 mod Fronts
 mod Channels
+mod OnClient
 mod Known
 mod Announces
