@@ -4,3 +4,4 @@ mod Channels
 mod OnClient
 mod Known
 mod Announces
+mod OnServer
