@@ -5,3 +5,4 @@ mod OnClient
 mod Known
 mod Announces
 mod OnServer
+mod Past
