@@ -6,3 +6,4 @@ mod Known
 mod Announces
 mod OnServer
 mod Past
+mod Counts
