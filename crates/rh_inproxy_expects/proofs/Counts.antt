@@ -28,7 +28,7 @@ use Rattle.rh_chains.specs.Sums.{count_on, sum_below}
 use Rattle.rh_chains.specs.Ways.{AreFronts, Logs, total}
 use Rattle.rh_chains.proofs.Along.{by_in_proxies, by_proxies}
 use Rattle.rh_chains.proofs.Summing.{all_legs}
-use Rattle.rh_inproxy_expects.specs.Rounds.{announced}
+use Rattle.rh_rounds.specs.Rounds.{announced}
 use Rattle.rh_inproxy_expects.proofs.Fronts.{same_counts}
 
 -- ---- tests

@@ -1,4 +1,3 @@
-mod Read
 mod Fronts
 mod Channels
 mod OnClient
@@ -7,3 +6,5 @@ mod Announces
 mod OnServer
 mod Past
 mod Counts
+mod Early
+mod Untold

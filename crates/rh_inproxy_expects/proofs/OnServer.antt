@@ -18,7 +18,7 @@ use Rattle.rh_proxy_counts.specs.InCounts.{PutsForWhatCame, is_leg}
 use Rattle.rh_proxy_counts.specs.Kinds.{is_conn_b1, is_conn_b2, is_in_r1_a1, is_in_r1_a6, opens_server}
 use Rattle.rh_inproxy_rows.specs.Refusing.{MismatchOnServer, UnexpectedOnServer, any, ci_leg}
 use Rattle.rh_inproxy_expects.specs.Announcing.{AnnouncesWhatCame, CameOn, Connects, IsFor, Replaces}
-use Rattle.rh_inproxy_expects.proofs.Read.{front_one}
+use Rattle.rh_moments.proofs.Read.{front_one}
 use Rattle.rh_inproxy_expects.proofs.Fronts.{HasFirst, IsRead, counts_one, next_so, next_stands, one_counts}
 
 -- ---- what a server answers an in proxy

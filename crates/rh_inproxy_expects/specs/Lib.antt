@@ -1,3 +1,2 @@
 pub mod Announcing
-pub mod Ends
-pub mod Rounds
+pub mod Expected
