@@ -124,7 +124,7 @@ some_below f (suc n) some = by (f n) refl (some_below f n)
     by zero e rest = rest (omega (arith, some, e))
     by (suc k) e rest = (n, omega (arith, e))
 
-some_on : (test : Named → Bool) (kind : LegKind) (log : List OnLeg) → 1 ≤ total test kind log
+pub some_on : (test : Named → Bool) (kind : LegKind) (log : List OnLeg) → 1 ≤ total test kind log
     → (n : ℕ) × (1 ≤ count_on test kind log n)
 some_on test kind log some =
     let legs = all_legs test kind log in

@@ -63,7 +63,7 @@ pub record Answers (came read : List Message) : Type 0 where
 
 -- ---- lemmas
 
-one_there : (P : Named → Type 0) (ms : List Message) → HasOne P ms
+pub one_there : (P : Named → Type 0) (ms : List Message) → HasOne P ms
     → (m : Named) × (Has m ms × P m)
 one_there P [] h = absurd h
 one_there P (Text bytes ∷ ms) h =
@@ -90,7 +90,7 @@ replaces_so : (connection predecessor successor : Cookie) (m : Named)
 replaces_so connection predecessor successor (named.InR1A1 version of before own) is = refl
 replaces_so connection predecessor successor m is = absurd is
 
-replaces_begin : (connection predecessor successor : Cookie) (m : Named)
+pub replaces_begin : (connection predecessor successor : Cookie) (m : Named)
     → Replaces connection predecessor successor m → BeginsIn successor m
 replaces_begin connection predecessor successor (named.InR1A1 version of before own) is = is.2
 replaces_begin connection predecessor successor m is = absurd is

@@ -1,2 +1,3 @@
 pub mod Announcing
 pub mod Expected
+pub mod Ends

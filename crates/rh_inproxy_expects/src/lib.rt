@@ -1,6 +1,9 @@
-//! In proxies take what comes next.
+//! In proxies take what comes next. Its functions do nothing of their own: their contracts are the
+//! laws.
 #![tactic(auto)]
 
 pub mod announcing;
+pub mod opening;
 
 pub use announcing::an_in_proxy_announces_what_came;
+pub use opening::no_client_is_opened_early;
