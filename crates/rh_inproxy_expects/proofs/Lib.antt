@@ -8,3 +8,4 @@ mod Past
 mod Counts
 mod Early
 mod Untold
+mod Expects
