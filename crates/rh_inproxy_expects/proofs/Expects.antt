@@ -23,7 +23,7 @@ use Rattle.rh_passages.specs.Rising.{HasComeUp}
 use Rattle.rh_passages.proofs.Messages.{has_last}
 use Rattle.rh_client_counts.specs.Replacing.{ReplacesIns}
 use Rattle.rh_client_puts.specs.Puts.{OpenedBefore}
-use Rattle.rh_inproxy_expects.specs.Ends.{EndsAll, EndsByInR1A5, EndsOnce}
+use Rattle.rh_client_turns.specs.Ends.{EndsAll, EndsByInR1A5, EndsOnce}
 use Rattle.rh_proxy_counts.specs.InCounts.{is_leg}
 use Rattle.rh_inproxy_rows.specs.Refusing.{IsUntold, Mismatch, RefusesFor, Unexpected, UnexpectedPdu}
 use Rattle.rh_moments.specs.Expecting.{Expects, IsAhead, IsAmiss}

@@ -4,6 +4,7 @@ mod OnClient
 mod Known
 mod Announces
 mod OnServer
+mod Answered
 mod Past
 mod Counts
 mod Early

@@ -20,7 +20,7 @@ use Rattle.rh_passages.proofs.Messages.{has_last}
 use Rattle.rh_client.specs.Order.{client_moved}
 use Rattle.rh_client.specs.State.{ci}
 use Rattle.rh_client_puts.specs.Puts.{IsBehind, IsBehindPacket, IsPacket, OpenedBefore, OpensInChannels}
-use Rattle.rh_inproxy_expects.specs.Ends.{EndsByInR1A5, EndsOnce, EndsAll, HasNoPdu, IsNoEnd, IsNoPdu}
+use Rattle.rh_client_turns.specs.Ends.{EndsByInR1A5, EndsOnce, EndsAll, HasNoPdu, IsNoEnd, IsNoPdu}
 use Rattle.rh_proxy_counts.specs.Kinds.{is_in_r1_a5}
 use Rattle.rh_inproxy_rows.specs.Refusing.{HasPacket, HasPdu, HasPduIn, IsEnded, IsLeft, IsNew, IsUntold, MismatchOnClient, NamesConnection, UnexpectedOnClient}
 use Rattle.rh_moments.proofs.Read.{front_has, front_one}
