@@ -3,7 +3,9 @@
 #![tactic(auto)]
 
 pub mod announcing;
+pub mod expecting;
 pub mod opening;
 
 pub use announcing::an_in_proxy_announces_what_came;
+pub use expecting::an_in_proxy_expects_what_comes;
 pub use opening::no_client_is_opened_early;
