@@ -1,5 +1,5 @@
 -- what is read of a server's leg to an in proxy
-use Rattle.std.proofs.Common.{◌≡◌, ◌⊎◌, ℕ, ◌≤◌, Bool, true, false, List, [], ◌∷◌, inl, inr, refl, sym, subst}
+use Rattle.std.proofs.Common.{◌≡◌, ℕ, true, List, [], ◌∷◌, inl, inr, refl, sym, subst}
 use Rattle.std.specs.List.{AllByRecursion}
 use Rattle.rh_rts.specs.declared.command.Cookie.{Cookie}
 use Rattle.rh_sig.specs.declared.named.Named.{Named}
@@ -8,16 +8,15 @@ use Rattle.rh_shell.specs.Moves.{OnLeg}
 use Rattle.rh_shell.specs.Rules.{Message, Text, Pdu, Packet}
 use Rattle.rh_shell.specs.Wires.{of_leg}
 use Rattle.rh_reading.specs.Reading.{all_read_of}
-use Rattle.rh_passages.specs.Passing.{HasOne}
 use Rattle.rh_passages.proofs.Messages.{one_so}
 use Rattle.rh_client_puts.specs.Puts.{IsPacket}
 use Rattle.rh_proxy_counts.specs.InCounts.{is_leg}
 use Rattle.rh_proxy_counts.specs.Kinds as at_proxy
 use Rattle.rh_server_counts.specs.Counting as at_server
 use Rattle.rh_server_puts.specs.Copying.{Begins}
-use Rattle.rh_server_turns.specs.Answers.{AcksOn, AnswersOn, Came, TellsOn}
+use Rattle.rh_server_turns.specs.Answers.{AcksOn, AnswersOn, TellsOn}
 use Rattle.rh_inproxy_expects.proofs.Fronts.{counts_one}
-use Rattle.rh_inproxy_expects.proofs.OnServer.{Answers, Is, IsAnswer, IsOther, OpensIt, Tells, is_in_r1_a2}
+use Rattle.rh_inproxy_expects.proofs.OnServer.{Answers, Is, IsAnswer, IsOther, Tells, is_in_r1_a2}
 
 -- ---- tests that are the same
 

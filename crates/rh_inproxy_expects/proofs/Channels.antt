@@ -1,5 +1,5 @@
 -- what is read of a client's IN channel: the packet that begins it, and those behind it
-use Rattle.std.proofs.Common.{◌≡◌, ◌⊎◌, ℕ, zero, suc, ◌≤◌, false, List, [], ◌∷◌, ◌++◌, inl, inr, refl, sym, ap, ◌∙◌, subst}
+use Rattle.std.proofs.Common.{◌≡◌, ◌⊎◌, ℕ, zero, suc, false, List, [], ◌∷◌, ◌++◌, inl, inr, refl, sym, ap, subst}
 use Rattle.std.specs.List.{AllByRecursion}
 use mathlib.Core.List.{IsPrefix}
 use Rattle.rh_rts.specs.declared.command.Cookie.{Cookie}
@@ -141,8 +141,7 @@ module _ (config : ClientConfig) (moves : List EndMove) (opens : OpensInChannels
 
   no_connection : (cookie : Cookie) (Next : Cookie → Type 0) (m : Named) → IsBehindPacket Next m
       → NamesConnection cookie m → ⊥
-  no_connection cookie Next (named.ConnB1 version connection channel lifetime keepalive group) h is =
-      h
+  no_connection cookie Next (named.ConnB1 version of channel lifetime keepalive group) h is = h
   no_connection cookie Next (named.InR1A1 version connection predecessor channel) h is = h
   no_connection cookie Next m h is = is
 

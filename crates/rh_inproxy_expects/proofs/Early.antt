@@ -1,30 +1,28 @@
 -- no client is opened before it put the first packet of its first channels
-use Rattle.std.proofs.Common.{◌≡◌, ℕ, zero, suc, ◌+◌, ◌≤◌, Bool, true, false, List, [], ◌∷◌, ◌++◌, refl, sym, ap, ◌∙◌, subst, arith}
+use Rattle.std.proofs.Common.{◌≡◌, ℕ, zero, suc, ◌+◌, ◌≤◌, Bool, true, List, [], ◌++◌, refl, ap, subst, arith}
 use Rattle.std.proofs.lemmas.Bool.Decides.{nat_tests}
-use Rattle.rh_http.specs.declared.config.ClientConfig.{ClientConfig}
 use Rattle.rh_sig.specs.declared.named.Named.{Named}
 use Rattle.rh_sig.specs.declared.named.Named.TheVariants as named
 use Rattle.rh_line.specs.declared.leg.Leg.{Leg}
 use Rattle.rh_line.specs.declared.leg.LegKind.{LegKind}
 use Rattle.rh_line.specs.declared.leg.LegKind.TheVariants.{ClientIn, ClientOut}
-use Rattle.rh_shell.specs.Moves.{EndMove, OnLeg, Passage}
+use Rattle.rh_shell.specs.Moves.{EndMove, OnLeg}
 use Rattle.rh_shell.specs.Shells.{is_of}
 use Rattle.rh_shell.specs.Wires.{of_leg}
-use Rattle.rh_client.specs.declared.state.ClientRole.{ClientRole}
 use Rattle.rh_client.specs.Order.{client_moved}
 use Rattle.rh_client.specs.State.{ci, co}
 use Rattle.rh_passages.specs.Passing.{count_of}
-use Rattle.rh_client_counts.specs.Counting.{StandsOnEach, is_conn_a1, is_conn_b1, is_conn_c2, once_if, total}
+use Rattle.rh_client_counts.specs.Counting.{StandsOnEach, is_conn_a1, is_conn_b1, is_conn_c2, total}
 use Rattle.rh_client_counts.specs.Naming.{NamesIns, NamesOuts}
 use Rattle.rh_client_counts.specs.Opening.{opened}
 use Rattle.rh_client_puts.specs.Puts.{HasOpened, OpenedBefore}
 use Rattle.rh_proxy_counts.specs.InCounts.{PutsForWhatCame}
 use Rattle.rh_proxy_counts.specs.OutCounts.{ForwardsWhatCame, OpensWhatCame}
 use Rattle.rh_server_counts.specs.Opening.{OpensOnce}
-use Rattle.rh_chains.specs.Sums.{count_on, sum_below}
+use Rattle.rh_chains.specs.Sums.{count_on}
 use Rattle.rh_chains.proofs.Summing.{some_legs}
 use Rattle.rh_rounds.proofs.Fronts.{are_fronts}
-use Rattle.rh_moments.specs.Moments.{AreMade, IsMoment, IsPast, Moves, Numbers, Passages, client_behind, in_behind, out_behind, passages, server_behind}
+use Rattle.rh_moments.specs.Moments.{AreMade, IsMoment, IsPast, Moves, Numbers, client_behind, in_behind, out_behind, passages, server_behind}
 use Rattle.rh_inproxy_expects.proofs.Counts.{opened_behind}
 use Rattle.rh_inproxy_expects.proofs.Fronts.{has_counts}
 

@@ -1,5 +1,5 @@
 -- an in proxy expects what comes next on its legs
-use Rattle.std.proofs.Common.{◌≡◌, ◌⊎◌, ℕ, zero, suc, ◌≤◌, List, [], ◌∷◌, ◌++◌, inl, inr, refl, sym, ap, ◌∙◌, subst, arith, Err}
+use Rattle.std.proofs.Common.{◌≡◌, ◌⊎◌, ℕ, zero, ◌≤◌, List, [], ◌∷◌, ◌++◌, inl, inr, subst, arith, Err}
 use Rattle.std.specs.Prelude.{IsTrue}
 use mathlib.Core.List.{IsPrefix}
 use Rattle.rh_rts.specs.declared.command.Cookie.{Cookie}
@@ -9,7 +9,7 @@ use Rattle.rh_line.specs.declared.leg.Leg.{Leg}
 use Rattle.rh_shell.specs.declared.answers.Count.{Count}
 use Rattle.rh_shell.specs.declared.answers.Refused.{Refused}
 use Rattle.rh_shell.specs.declared.answers.Refused.TheVariants as refused
-use Rattle.rh_shell.specs.Moves.{EndMove, OnLeg, Passage, is_in_use}
+use Rattle.rh_shell.specs.Moves.{EndMove, Passage, is_in_use}
 use Rattle.rh_shell.specs.Rules.{Message, Pdu, Packet}
 use Rattle.rh_shell.specs.Wires.{of_leg}
 use Rattle.rh_client.specs.Order.{AreAllowedMoves, client_moved}
@@ -27,7 +27,7 @@ use Rattle.rh_client_turns.specs.Ends.{EndsAll, EndsByInR1A5, EndsOnce}
 use Rattle.rh_proxy_counts.specs.InCounts.{is_leg}
 use Rattle.rh_inproxy_rows.specs.Refusing.{IsUntold, Mismatch, RefusesFor, Unexpected, UnexpectedPdu}
 use Rattle.rh_moments.specs.Expecting.{Expects, IsAhead, IsAmiss}
-use Rattle.rh_moments.specs.Moments.{IsJoined, IsMoment, Moves, Numbers, Passages, ReadInTurn, client_behind, in_behind, passages, server_behind}
+use Rattle.rh_moments.specs.Moments.{IsJoined, IsMoment, Moves, Numbers, Passages, ReadInTurn, client_behind, in_behind, passages}
 use Rattle.rh_moments.proofs.Joining.{in_front, is_front}
 use Rattle.rh_moments.proofs.Read.{front_has, front_one}
 use Rattle.rh_inproxy_expects.specs.Expected.{AreReadWhereUp}

@@ -14,7 +14,7 @@ use Rattle.rh_shell.specs.Wires.{of_leg}
 use Rattle.rh_inproxy.specs.State.{InProxy}
 use Rattle.rh_reading.specs.Reading.{all_read_of}
 use Rattle.rh_passages.specs.Counted.{packets}
-use Rattle.rh_passages.specs.Passing.{BeginsIn, Has, HasOne, HasBegunIn, count_of}
+use Rattle.rh_passages.specs.Passing.{BeginsIn, Has, HasBegunIn}
 use Rattle.rh_passages.specs.Rising.{HasComeUp}
 use Rattle.rh_passages.proofs.Messages.{has_last}
 use Rattle.rh_client.specs.Order.{client_moved}
@@ -22,11 +22,10 @@ use Rattle.rh_client.specs.State.{ci}
 use Rattle.rh_client_puts.specs.Puts.{IsBehind, IsBehindPacket, IsPacket, OpenedBefore, OpensInChannels}
 use Rattle.rh_client_turns.specs.Ends.{EndsByInR1A5, EndsOnce, EndsAll, HasNoPdu, IsNoEnd, IsNoPdu}
 use Rattle.rh_proxy_counts.specs.Kinds.{is_in_r1_a5}
-use Rattle.rh_inproxy_rows.specs.Refusing.{HasPacket, HasPdu, HasPduIn, IsEnded, IsLeft, IsNew, IsUntold, MismatchOnClient, NamesConnection, UnexpectedOnClient}
+use Rattle.rh_inproxy_rows.specs.Refusing.{HasPacket, HasPduIn, IsEnded, IsLeft, IsNew, IsUntold, MismatchOnClient, NamesConnection, UnexpectedOnClient}
 use Rattle.rh_moments.proofs.Read.{front_has, front_one}
 use Rattle.rh_inproxy_expects.proofs.Fronts.{AreBehind, HasFirst, IsNoPing, are_behind, first_counts, front_so, has_counts, next_behind, next_so, read_behind, read_no_ping, read_so}
-use Rattle.rh_inproxy_expects.proofs.Channels as channels
-use Rattle.rh_inproxy_expects.proofs.Channels.{Begin, Comes, IsNext, Next, begun_up, comes_next, connection_by, connection_is, put}
+use Rattle.rh_inproxy_expects.proofs.Channels.{Begin, IsNext, Next, begun_up, comes_next, connection_by, connection_is, put}
 
 -- ---- marks
 

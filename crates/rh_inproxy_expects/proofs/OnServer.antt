@@ -1,5 +1,5 @@
 -- what comes next on the leg to the server is expected there, and names the cookie that is
-use Rattle.std.proofs.Common.{◌≡◌, ◌⊎◌, ℕ, suc, ◌≤◌, Bool, true, false, List, [], ◌∷◌, ◌++◌, inl, inr, refl, sym, ap, ◌∙◌, subst, arith}
+use Rattle.std.proofs.Common.{◌≡◌, ◌⊎◌, ℕ, ◌≤◌, Bool, true, false, List, [], ◌∷◌, ◌++◌, inl, inr, refl, sym, ap, ◌∙◌, subst, arith}
 use Rattle.std.specs.List.{AllByRecursion}
 use mathlib.Core.List.{IsPrefix}
 use Rattle.rh_rts.specs.declared.command.Cookie.{Cookie}
@@ -7,7 +7,7 @@ use Rattle.rh_sig.specs.declared.named.Named.{Named}
 use Rattle.rh_sig.specs.declared.named.Named.TheVariants as named
 use Rattle.rh_line.specs.declared.leg.LegKind.TheVariants.{ClientIn}
 use Rattle.rh_shell.specs.Rules.{Message, Text, Pdu, Packet}
-use Rattle.rh_shell.specs.Moves.{OnLeg, Passage}
+use Rattle.rh_shell.specs.Moves.{Passage}
 use Rattle.rh_shell.specs.Wires.{of_leg}
 use Rattle.rh_inproxy.specs.State.{InProxy}
 use Rattle.rh_reading.specs.Reading.{all_read_of}
@@ -17,14 +17,11 @@ use Rattle.rh_client_puts.specs.Puts.{IsPacket}
 use Rattle.rh_proxy_counts.specs.InCounts.{PutsForWhatCame, is_leg}
 use Rattle.rh_proxy_counts.specs.Kinds.{is_conn_b1, is_conn_b2, is_in_r1_a1, is_in_r1_a6, opens_server}
 use Rattle.rh_inproxy_rows.specs.Refusing.{MismatchOnServer, UnexpectedOnServer, any, ci_leg}
-use Rattle.rh_inproxy_expects.specs.Announcing.{AnnouncesWhatCame, CameOn, Connects, IsFor, Replaces}
+use Rattle.rh_inproxy_expects.specs.Announcing.{AnnouncesWhatCame, Connects, IsFor, Replaces}
 use Rattle.rh_moments.proofs.Read.{front_one}
-use Rattle.rh_inproxy_expects.proofs.Fronts.{HasFirst, IsRead, counts_one, next_so, next_stands, one_counts}
+use Rattle.rh_inproxy_expects.proofs.Fronts.{HasFirst, IsRead, next_so, next_stands, one_counts}
 
 -- ---- what a server answers an in proxy
-
-abbrev pub IsConnB2 : Named → Type 0
-IsConnB2 m = is_conn_b2 m ≡ true
 
 abbrev pub is_in_r1_a2 : Named → Bool
 is_in_r1_a2 (named.InR1A2 version connection predecessor successor window timeout) = true
@@ -51,7 +48,7 @@ IsAnswer came (named.Ack received window cookie) = HasOne (Tells cookie) came
 IsAnswer came packet = ⊥
 
 abbrev pub OpensIt : Message → Type 0
-OpensIt message = IsPacket (λ (m : Named). opens_server m ≡ true) message
+OpensIt message = IsPacket (Is opens_server) message
 
 abbrev pub IsOther : Message → Type 0
 IsOther message = IsPacket (λ (m : Named). opens_server m ≡ false) message

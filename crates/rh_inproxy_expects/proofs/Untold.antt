@@ -1,17 +1,13 @@
 -- where IN_R1/A5 comes next, its in proxy told the server of the next channel
-use Rattle.std.proofs.Common.{◌≡◌, ◌⊎◌, ℕ, zero, suc, ◌+◌, ◌<◌, ◌≤◌, ◌&&◌, Bool, true, false, List, [], ◌∷◌, ◌++◌, inl, inr, refl, sym, ap, ◌∙◌, subst, arith}
-use Rattle.std.proofs.lemmas.Bool.{and_parts}
+use Rattle.std.proofs.Common.{◌≡◌, ◌⊎◌, ℕ, zero, suc, ◌+◌, ◌<◌, ◌≤◌, Bool, true, List, [], ◌∷◌, ◌++◌, inl, inr, refl, sym, ap, ◌∙◌, subst, arith}
 use Rattle.std.proofs.lemmas.Bool.Decides.{nat_tests}
 use Rattle.std.proofs.lemmas.Slice.Eq.{bytes_eq-Decides}
-use Rattle.std.specs.Prelude.{IsTrue}
-use mathlib.Core.List.{IsPrefix}
 use Rattle.rh_rts.specs.declared.command.Cookie.{Cookie}
-use Rattle.rh_http.specs.declared.config.ClientConfig.{ClientConfig}
 use Rattle.rh_sig.specs.declared.named.Named.{Named}
 use Rattle.rh_sig.specs.declared.named.Named.TheVariants as named
 use Rattle.rh_line.specs.declared.leg.Leg.{Leg}
 use Rattle.rh_line.specs.declared.leg.LegKind.{LegKind}
-use Rattle.rh_line.specs.declared.leg.LegKind.TheVariants.{ClientIn, InServer}
+use Rattle.rh_line.specs.declared.leg.LegKind.TheVariants.{ClientIn}
 use Rattle.rh_shell.specs.Moves.{EndMove, OnLeg, Passage, started}
 use Rattle.rh_shell.specs.Shells.{is_of}
 use Rattle.rh_shell.specs.Wires.{of_leg}
@@ -19,25 +15,24 @@ use Rattle.rh_client.specs.Order.{AreAllowedMoves, client_moved}
 use Rattle.rh_client.specs.State.{ci}
 use Rattle.rh_inproxy.specs.Machine.{rules}
 use Rattle.rh_inproxy.specs.State.{InProxy, first, same_cookie}
-use Rattle.rh_reading.specs.Reading.{all_read_of}
-use Rattle.rh_passages.specs.Passing.{BeginsIn, Has, HasOne, HasBegunIn, count_of}
+use Rattle.rh_passages.specs.Passing.{BeginsIn, Has, HasOne, HasBegunIn}
 use Rattle.rh_passages.specs.Rising.{HasComeUp}
-use Rattle.rh_passages.proofs.Messages.{has_last, one_so}
-use Rattle.rh_client_counts.specs.Counting.{StandsOnEach, is_in_r1_a1, is_in_r1_a5, is_among, once_if, total}
+use Rattle.rh_passages.proofs.Messages.{one_so}
+use Rattle.rh_client_counts.specs.Counting.{StandsOnEach, is_in_r1_a1, is_in_r1_a5, total}
 use Rattle.rh_client_counts.specs.Replacing.{ReplacesIns, in_answered, in_asked}
-use Rattle.rh_client_puts.specs.Puts.{IsBehindPacket, OpensInChannels}
+use Rattle.rh_client_puts.specs.Puts.{OpensInChannels}
 use Rattle.rh_proxy_counts.specs.InCounts.{PutsForWhatCame, is_leg}
 use Rattle.rh_proxy_counts.specs.Kinds as at_proxy
 use Rattle.rh_inproxy_rows.specs.Refusing.{IsUntold}
 use Rattle.rh_chains.specs.Sums.{count_on}
 use Rattle.rh_rounds.specs.Rounds.{GoRound, announced}
 use Rattle.rh_rounds.proofs.Fronts.{are_fronts}
-use Rattle.rh_moments.specs.Moments.{AreMade, IsJoined, IsMoment, IsPast, Moves, Numbers, Passages, ReadInTurn, client_behind, in_behind, passages, server_behind}
+use Rattle.rh_moments.specs.Moments.{IsJoined, IsMoment, IsPast, Moves, Numbers, Passages, ReadInTurn, client_behind, in_behind, passages, server_behind}
 use Rattle.rh_moments.proofs.Joining.{in_front, in_reads, is_front}
-use Rattle.rh_moments.proofs.Read.{front_count, front_has, front_one}
-use Rattle.rh_inproxy_expects.specs.Announcing.{AnnouncesWhatCame, CameOn, IsFor, Replaces}
+use Rattle.rh_moments.proofs.Read.{front_one}
+use Rattle.rh_inproxy_expects.specs.Announcing.{AnnouncesWhatCame, IsFor, Replaces}
 use Rattle.rh_inproxy_expects.specs.Expected.{AreReadWhereUp}
-use Rattle.rh_inproxy_expects.proofs.Channels.{Begin, begun_up, first_is}
+use Rattle.rh_inproxy_expects.proofs.Channels.{begun_up}
 use Rattle.rh_inproxy_expects.proofs.Counts.{each_announced, some_on}
 use Rattle.rh_inproxy_expects.proofs.Early.{on_kind}
 use Rattle.rh_inproxy_expects.proofs.Fronts.{counts_one, has_counts, one_counts}

@@ -12,6 +12,8 @@ ghost use Rattle.rh_moments.specs.Moments.{IsMoment, Moves, Numbers};
 ghost use Rattle.rh_moments.specs.Moments.{client_behind, in_behind, server_behind};
 ghost use Rattle.rh_inproxy_expects.specs.Expected.{AreReadWhereUp};
 
+use crate::announcing::an_in_proxy_announces_what_came;
+use crate::opening::no_client_is_opened_early;
 use rh_client_counts::a_client_replaces_in_channels_one_by_one;
 use rh_client_puts::a_client_opens_in_channels_in_order;
 use rh_client_turns::{no_pdu_follows_end, nothing_follows_in_r1_a5};
@@ -19,9 +21,6 @@ use rh_inproxy_rows::what_an_in_proxy_refuses;
 use rh_proxy_counts::an_in_proxy_puts_for_what_came;
 use rh_rounds::replacements_go_round;
 use rh_server_turns::a_server_answers_in_order;
-
-use crate::announcing::an_in_proxy_announces_what_came;
-use crate::opening::no_client_is_opened_early;
 
 /// At each moment of a virtual connection: on the legs of a client that it reads, and on its leg to
 /// the server, an in proxy refuses nothing that comes next there as unexpected, or for its cookie.
