@@ -20,7 +20,7 @@ use rh_client_turns::{no_pdu_follows_end, nothing_follows_in_r1_a5};
 use rh_inproxy_rows::what_an_in_proxy_refuses;
 use rh_proxy_counts::an_in_proxy_puts_for_what_came;
 use rh_rounds::replacements_go_round;
-use rh_server_turns::a_server_answers_in_order;
+use rh_server_turns::a_server_answers_in_proxies_in_order;
 
 /// At each moment of a virtual connection: on the legs of a client that it reads, and on its leg to
 /// the server, an in proxy refuses nothing that comes next there as unexpected, or for its cookie.
@@ -46,5 +46,5 @@ pub fn an_in_proxy_expects_what_comes()
     what_an_in_proxy_refuses();
     an_in_proxy_puts_for_what_came();
     replacements_go_round();
-    a_server_answers_in_order();
+    a_server_answers_in_proxies_in_order();
 }

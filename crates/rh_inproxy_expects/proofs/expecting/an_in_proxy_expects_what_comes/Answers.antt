@@ -21,7 +21,7 @@ returns c = record {
       (refuses numbers moves moment.now.made m)
       (read_answers m (server_behind numbers moves).passage.came
       (of_leg (is_leg m) (server_behind numbers moves).passage.put)
-      ((c.a_server_answers_in_order.ensures numbers.window moves.server).order m));
+      ((c.a_server_answers_in_proxies_in_order.ensures numbers.window moves.server).order m));
 }
   where
     laws : (numbers : Numbers) (reader : ℕ → ℕ) (moves : Moves)
