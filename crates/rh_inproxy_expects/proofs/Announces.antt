@@ -498,12 +498,12 @@ is_there m x true (inr rest) = absurd rest
 is_there m x false h = absurd h
 
 module _ (n : ℕ) where
-  abbrev Announces : List OnLeg → List OnLeg → Type 0
+  abbrev pub Announces : List OnLeg → List OnLeg → Type 0
   Announces came put = (m : Named) → Has m (of_leg (is_leg n) put) → IsFor n came m
 
-  record Holds (s : InProxy) (came put : List OnLeg) : Type 0 where
-    knows : Knows n (seen s) came
-    announces : Announces came put
+  pub record Holds (s : InProxy) (came put : List OnLeg) : Type 0 where
+    pub knows : Knows n (seen s) came
+    pub announces : Announces came put
 
   same : (s t : InProxy) (came put : List OnLeg) → Stays n s t → Holds s came put
       → Holds t came put
@@ -537,7 +537,7 @@ module _ (n : ℕ) where
       by new m (inl before) = h.announces m before
       by new m (inr here) = new m (is_there m one.1 (same_leg leg (is_leg n)) here)
 
-  steps : StepsKeep proxy_rules Holds
+  pub steps : StepsKeep proxy_rules Holds
   steps = record {
     up = λ s leg cookie came put h. same s (up s leg) came put (up_stays n s leg) h;
     head = λ s leg text came put h.
@@ -559,11 +559,14 @@ module _ (n : ℕ) where
         same s (ping s leg) came put (same_stays n s (ping s leg) (same_ping s leg)) h;
   }
 
+pub starts : (config : InProxyConfig) → Holds config.number (first config) [] []
+starts config = record {
+  knows = record { number = refl; opened = (refl, refl); waits = refl };
+  announces = λ m has. absurd has;
+}
+
 pub announces_what_came : (config : InProxyConfig) (moves : List Move)
     → AnnouncesWhatCame config.number (all_moved proxy_rules (started (first config)) moves)
 announces_what_came config moves =
     (moves_keep proxy_rules (Holds config.number) (steps config.number) (started (first config))
-    moves (record {
-      knows = record { number = refl; opened = (refl, refl); waits = refl };
-      announces = λ m has. absurd has;
-    })).announces
+    moves (starts config)).announces

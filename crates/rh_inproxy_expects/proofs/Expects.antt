@@ -108,7 +108,7 @@ module _ (numbers : Numbers)
   -- ---- on a ci leg
 
   module _ (rest : Rest numbers moves) (m n : ℕ) (reads : reader n ≡ m) (least : 1 ≤ m)
-      (up_reads : AreReadWhereUp numbers reader moves) where
+      (up_reads : AreReadWhereUp reader moves) where
     abbrev p : Passage InProxy
     p = in_behind numbers moves m
 

@@ -3,6 +3,8 @@ mod Channels
 mod OnClient
 mod Known
 mod Announces
+mod Newest
+mod Raised
 mod OnServer
 mod Answered
 mod Past

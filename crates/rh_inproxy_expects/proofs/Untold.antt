@@ -31,7 +31,7 @@ use Rattle.rh_moments.specs.Moments.{IsJoined, IsMoment, IsPast, Moves, Numbers,
 use Rattle.rh_moments.proofs.Joining.{in_front, in_reads, is_front}
 use Rattle.rh_moments.proofs.Read.{front_one}
 use Rattle.rh_inproxy_expects.specs.Announcing.{AnnouncesWhatCame, IsFor, Replaces}
-use Rattle.rh_inproxy_expects.specs.Expected.{AreReadWhereUp}
+use Rattle.rh_inproxy_expects.specs.Expected.{AreReadWhereUp, CameUpByMoves}
 use Rattle.rh_inproxy_expects.proofs.Channels.{begun_up}
 use Rattle.rh_inproxy_expects.proofs.Counts.{each_announced, some_on}
 use Rattle.rh_inproxy_expects.proofs.Early.{on_kind}
@@ -126,6 +126,7 @@ pub record Laws (numbers : Numbers) (reader : ℕ → ℕ) (moves : Moves) : Typ
   pub puts : (m : ℕ) → PutsForWhatCame m (in_behind numbers moves m)
   pub rounds : GoRound (client_behind numbers moves).passage (server_behind numbers moves).passage
   pub announces : (m : ℕ) → AnnouncesWhatCame m (in_behind numbers moves m)
+  pub raised : (m : ℕ) → CameUpByMoves (moves.ins m) (in_behind numbers moves m)
 
 module _ (numbers : Numbers)
     (laws : (reader : ℕ → ℕ) (moves : Moves) → IsJoined numbers reader moves
@@ -204,7 +205,7 @@ module _ (numbers : Numbers)
 
   -- ---- at its reader
 
-  module _ (m n : ℕ) (reads : reader n ≡ m) (up_reads : AreReadWhereUp numbers reader moves) where
+  module _ (m n : ℕ) (reads : reader n ≡ m) (up_reads : AreReadWhereUp reader moves) where
     abbrev p : Passage InProxy
     p = in_behind numbers moves m
 
@@ -232,7 +233,7 @@ module _ (numbers : Numbers)
 
     not_untold : Announced n → IsUntold m p n → ⊥
     not_untold a untold =
-        let at_m = up_reads m (suc n) untold.0 in
+        let at_m = up_reads m (suc n) (here.raised m (suc n) untold.0) in
         let same : a.by ≡ m = sym (announced_reads a) ∙ at_m in
         let one = one_there (Tells a.cookie) (of_leg (is_leg m) p.put)
         (subst (λ (j : ℕ). HasOne (Tells a.cookie)

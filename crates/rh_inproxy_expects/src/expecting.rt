@@ -13,6 +13,7 @@ ghost use Rattle.rh_moments.specs.Moments.{client_behind, in_behind, server_behi
 ghost use Rattle.rh_inproxy_expects.specs.Expected.{AreReadWhereUp};
 
 use crate::announcing::an_in_proxy_announces_what_came;
+use crate::legs::an_in_proxys_legs_came_up;
 use crate::opening::no_client_is_opened_early;
 use rh_client_counts::a_client_replaces_in_channels_one_by_one;
 use rh_client_puts::a_client_opens_in_channels_in_order;
@@ -24,11 +25,11 @@ use rh_server_turns::a_server_answers_in_proxies_in_order;
 
 /// At each moment of a virtual connection: on the legs of a client that it reads, and on its leg to
 /// the server, an in proxy refuses nothing that comes next there as unexpected, or for its cookie.
-/// Where IN_R1/A5 comes on a ci leg, the server was told of the next one, if that came up at this
-/// proxy (profile).
+/// Of ci legs that is said where those that came up at an in proxy are those that it reads: where
+/// IN_R1/A5 comes next, the server was told of the next channel (profile).
 pub fn an_in_proxy_expects_what_comes()
     ensures client { (numbers : Numbers) (reader : ℕ → ℕ) (moves : Moves)
-        → IsMoment numbers reader moves → AreReadWhereUp numbers reader moves
+        → IsMoment numbers reader moves → AreReadWhereUp reader moves
         → (m n : ℕ) → reader n ≡ m → 1 ≤ m
         → Expects rules (in_behind numbers moves m) (ci n)
         (all_read_of (of_leg (ci n) (client_behind numbers moves).passage.put)) }
@@ -38,6 +39,7 @@ pub fn an_in_proxy_expects_what_comes()
         (all_read_of (of_leg (is_leg m) (server_behind numbers moves).passage.put)) }
 {
     an_in_proxy_announces_what_came();
+    an_in_proxys_legs_came_up();
     no_client_is_opened_early();
     a_client_replaces_in_channels_one_by_one();
     a_client_opens_in_channels_in_order();

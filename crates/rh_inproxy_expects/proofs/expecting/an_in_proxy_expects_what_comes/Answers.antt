@@ -21,7 +21,8 @@ returns c = record {
       (refuses numbers moves moment.now.made m)
       (read_answers m (server_behind numbers moves).passage.came
       (of_leg (is_leg m) (server_behind numbers moves).passage.put)
-      ((c.a_server_answers_in_proxies_in_order.ensures numbers.window moves.server).order m));
+      ((c.a_server_answers_in_proxies_in_order.ensures numbers.window moves.server
+      moment.now.made.server).order m));
 }
   where
     laws : (numbers : Numbers) (reader : ℕ → ℕ) (moves : Moves)
@@ -39,6 +40,7 @@ returns c = record {
           subst (λ (k : ℕ). AnnouncesWhatCame k (in_behind numbers moves m))
           (now.made.in_number m)
           (c.an_in_proxy_announces_what_came.ensures (numbers.ins m) (moves.ins m));
+      raised = λ m. c.an_in_proxys_legs_came_up.ensures (numbers.ins m) (moves.ins m);
     }
 
     refuses : (numbers : Numbers) (moves : Moves) → AreMade numbers moves → (m : ℕ)
