@@ -1,0 +1,6 @@
+mod Standing
+mod Facts
+mod Changes
+mod Rows
+mod Putting
+mod Laws
