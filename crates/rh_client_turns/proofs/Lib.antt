@@ -4,3 +4,4 @@ mod Changes
 mod Rows
 mod Putting
 mod Laws
+mod Begun

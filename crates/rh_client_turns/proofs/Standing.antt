@@ -2,7 +2,7 @@
 use Rattle.std.proofs.Common.{◌≡◌, ◌⊎◌, ℕ, suc, ◌<◌, ◌≤◌, ◌&&◌, ◌==◌, true, false, true≢false, List, [], ◌∷◌, ◌++◌, arith, inl, inr, refl, sym, ◌∙◌, subst}
 use Rattle.std.proofs.lemmas.Bool.{false≢true}
 use Rattle.rh_sig.specs.declared.named.Named.{Named}
-use Rattle.rh_sig.specs.declared.named.Named.TheVariants.{ConnA1, ConnB1, InR1A1, InR1A5, OutR1A3, OutR1A7, OutR2C1, EndA1, AckTo, Ping}
+use Rattle.rh_sig.specs.declared.named.Named.TheVariants.{ConnA1, ConnB1, InR1A1, InR1A5, OutR1A3, OutR1A7, OutR2C1, EndA1, AckTo, KeepAlive, Ping}
 use Rattle.rh_line.specs.declared.leg.Leg.{Leg}
 use Rattle.rh_line.specs.declared.leg.LegKind.{LegKind}
 use Rattle.rh_line.specs.declared.leg.LegKind.TheVariants.{ClientOut}
@@ -15,6 +15,7 @@ use Rattle.rh_passages.specs.Passing.{Has}
 use Rattle.rh_client.specs.State.{ci}
 use Rattle.rh_client_turns.specs.Turns.{Turn, behind, IsNear, PacketStands, Stands, StandFrom, WritesInTurn, first_turn}
 use Rattle.rh_client_turns.specs.Ends.{IsNoPdu, HasNoPdu, IsNoEnd, HasNoEnd, EndsByInR1A5, EndsOnce, EndsAll}
+use Rattle.rh_client_turns.specs.Asking.{PutsNoKeepAlive}
 
 -- ---- on which leg
 
@@ -238,3 +239,21 @@ module _ (n m : ℕ) (less : n < m) where
 
 pub ends_all : (put : List OnLeg) → WritesInTurn put → EndsAll put
 ends_all put h n m less has = ended_all n m less first_turn put h has
+
+-- ---- KeepAlive
+
+no_keep_alives : (t : Turn) (log : List OnLeg) (leg : Leg) (keepalive : ℕ) → StandFrom t log
+    → Has (KeepAlive keepalive) (of_leg leg log) → ⊥
+no_keep_alives t [] leg keepalive h has = has
+no_keep_alives t ((on, m) ∷ log) leg keepalive h has =
+    let later = no_keep_alives (behind t m) log leg keepalive h.1 in
+    by_test (λ (ms : List Message). Has (KeepAlive keepalive) ms → ⊥) (same_leg on leg)
+    (m ∷ of_leg leg log) (of_leg leg log) (λ here is. by later is) (λ other is. later is) has
+  where
+    by : (Has (KeepAlive keepalive) (of_leg leg log) → ⊥)
+        → Has (KeepAlive keepalive) (m ∷ of_leg leg log) → ⊥
+    by later (inl is) = subst (λ (x : Message). Stands t (on, x)) is h.0
+    by later (inr rest) = later rest
+
+pub puts_no_keep_alive : (put : List OnLeg) → WritesInTurn put → PutsNoKeepAlive put
+puts_no_keep_alive put h leg keepalive has = no_keep_alives first_turn put leg keepalive h has
