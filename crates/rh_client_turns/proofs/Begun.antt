@@ -1,5 +1,5 @@
 -- what each channel of a client begins with, and what stands behind it
-use Rattle.std.proofs.Common.{◌≡◌, ◌≤◌, ◌⊎◌, ℕ, zero, suc, List, [], ◌∷◌, ◌++◌, arith, inl, inr, refl, sym, subst}
+use Rattle.std.proofs.Common.{◌≡◌, ◌⊎◌, ℕ, zero, suc, List, [], ◌∷◌, ◌++◌, arith, inl, inr, refl, sym, subst}
 use Rattle.std.specs.List.{AllByRecursion}
 use Rattle.rh_rts.specs.declared.command.Cookie.{Cookie}
 use Rattle.rh_http.specs.declared.config.ClientConfig.{ClientConfig}
@@ -16,6 +16,7 @@ use Rattle.rh_passages.proofs.Messages.{each_so}
 use Rattle.rh_client.specs.State.{ci, co}
 use Rattle.rh_client.specs.Order.{client_moved}
 use Rattle.rh_client_puts.specs.Puts.{Begins, IsBegun, IsChannel, IsPacket, IsBehind, IsBehindPacket, OpenedBefore, OpensInChannels, OpensOutChannels, OutRest, in_way, out_way}
+use Rattle.rh_client_turns.proofs.Lists.{nothing, head_of, tail_of, each_at}
 use Rattle.rh_client_turns.specs.Asking.{AsksIn, AsksOut, IsNoAskPacket, IsNoAsk, IsText, AsksOnce, AsksFirst, AsksOnceOnEach, AsksFirstOnEach}
 
 -- ---- from what the channels begin with
@@ -121,21 +122,6 @@ module _ (config : ClientConfig) (moves : List EndMove) where
       }
 
 -- ---- before all others
-
-head_of : {X : Type 0} (x y : X) (xs ys : List X) → x ∷ xs ≡ y ∷ ys → x ≡ y
-head_of x y xs ys e = cc
-
-tail_of : {X : Type 0} (x y : X) (xs ys : List X) → x ∷ xs ≡ y ∷ ys → xs ≡ ys
-tail_of x y xs ys e = cc
-
-nothing : {X : Type 0} (before later : List X) (x : X) → [] ≡ before ++ x ∷ later → ⊥
-nothing [] later x e = cc
-nothing (y ∷ before) later x e = cc
-
-each_at : {X : Type 0} (P : X → Type 0) (before later : List X) (x : X)
-    → AllByRecursion P (before ++ x ∷ later) → P x
-each_at P [] later x h = h.0
-each_at P (y ∷ before) later x h = each_at P before later x h.1
 
 no_packet : (text : Message) → IsText text → packets (text ∷ []) ≡ 0
 no_packet (Text bytes) h = refl

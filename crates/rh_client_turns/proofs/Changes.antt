@@ -1,5 +1,5 @@
 -- what is under way at a client changes, and its turn doesn't
-use Rattle.std.proofs.Common.{◌≡◌, ℕ, suc, ◌+◌, nat_lt, Bool, true, false, List, Ok, Err, arith, refl, ap}
+use Rattle.std.proofs.Common.{◌+◌, nat_lt, Bool, true, false, List, Ok, Err, arith}
 use Rattle.std.specs.declared.result.Result.{Result}
 use Rattle.rh_order.proofs.ByNumber.{by_test}
 use Rattle.rh_shell.specs.declared.answers.Phase.TheVariants as phase

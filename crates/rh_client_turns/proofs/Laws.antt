@@ -1,5 +1,5 @@
 -- a client writes in turn, whatever moves it makes
-use Rattle.std.proofs.Common.{◌≡◌, ℕ, ◌+◌, ◌==◌, nat_le, Bool, true, false, List, [], ◌∷◌, ◌++◌, length, Ok, Err, refl, sym, ◌∙◌}
+use Rattle.std.proofs.Common.{◌≡◌, ℕ, ◌+◌, ◌==◌, nat_le, true, false, List, [], ◌∷◌, ◌++◌, length, Ok, Err, refl, sym, ◌∙◌}
 use Rattle.std.proofs.lemmas.Bool.{false≢true}
 use Rattle.std.specs.declared.result.Result.{Result}
 use Rattle.rh_rts.specs.declared.command.Cookie.{Cookie}
@@ -25,7 +25,7 @@ use Rattle.rh_client.specs.Client.{acts, pdu_by, packet_by}
 use Rattle.rh_client.specs.Client.{rules as client_rules}
 use Rattle.rh_client.specs.Order.{client_moved, client_started}
 use Rattle.rh_client_turns.specs.Turns.{WritesInTurn}
-use Rattle.rh_client_turns.proofs.Facts.{IsSo, view, Holds, starts}
+use Rattle.rh_client_turns.proofs.Facts.{view, Holds, starts}
 use Rattle.rh_client_turns.proofs.Changes.{So, recycle_so, passed_so}
 use Rattle.rh_client_turns.proofs.Rows.{row_so, pdu_so, packet_so}
 use Rattle.rh_client_turns.proofs.Putting.{puts}

@@ -1,9 +1,9 @@
 -- a client puts in turn
-use Rattle.std.proofs.Common.{◌≡◌, ℕ, suc, ◌+◌, ◌==◌, ◌&&◌, nat_le, not, Bool, true, false, if◌then◌else◌, List, [], ◌∷◌, ◌++◌, length, Some, None, Ok, Err, inl, inr, refl, sym, ap, ◌∙◌, subst}
+use Rattle.std.proofs.Common.{◌≡◌, ℕ, suc, ◌==◌, ◌&&◌, not, Bool, true, false, if◌then◌else◌, List, [], ◌∷◌, ◌++◌, Some, None, inl, inr, refl, sym, ap, ◌∙◌, subst}
 use Rattle.std.proofs.lemmas.Bool.{false≢true, and_parts, not-true}
 use Rattle.std.specs.Option.{is_some}
 use Rattle.std.specs.declared.option.Option.{Option}
-use Rattle.rh_http.specs.Texts.{in_request, out_request}
+use Rattle.rh_http.specs.Texts.{in_request}
 use Rattle.rh_keep.specs.Meters.{may_put, fits}
 use Rattle.rh_window.specs.declared.recv_window.Ack.{Ack}
 use Rattle.rh_sig.specs.declared.named.Named.TheVariants as named
@@ -34,7 +34,7 @@ use Rattle.rh_client.specs.Acknowledging.{ack_due}
 use Rattle.rh_client.specs.InReplacement.{handed_over}
 use Rattle.rh_client.specs.Putting.{Pick, or_else, put_conn_b1, put_in_r1_a1, put_current, put_out_successor, put_out, due_by, put_due, ack_by, put_ack_of, put_ack, lets_pdu, pdu_by, put_pdu, is_end_due, put_end, put_ping, put_successor_ping, put_next, put_writing, put_in_successor, put_in, settled_pick, put_by}
 use Rattle.rh_client_turns.specs.Turns.{Turn, behind, behind_all, first_turn, Stands}
-use Rattle.rh_client_turns.proofs.Facts.{IsSo, View, view, Holds, idle, idles, more, quiet}
+use Rattle.rh_client_turns.proofs.Facts.{view, Holds, idle, idles, more, quiet}
 use Rattle.rh_client_turns.proofs.Changes.{So, settled_so, after_in_so}
 
 module _ (came put : List OnLeg) where

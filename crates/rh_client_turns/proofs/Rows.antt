@@ -34,7 +34,7 @@ use Rattle.rh_client.specs.InReplacement.{answer_at, answer_by, answered, on_in_
 use Rattle.rh_client.specs.OutReplacement.{a2_by, on_out_r1_a2, a6_at, a6_by, on_out_r1_a6, passed, a10_at, a10_by, on_out_r1_a10}
 use Rattle.rh_client.specs.Ending.{end_channel, end_on, on_end_b2}
 use Rattle.rh_client.specs.Client.{pdu_by, on_packet, packet_by}
-use Rattle.rh_client_turns.proofs.Facts.{IsSo, view, Holds, idles, replacing}
+use Rattle.rh_client_turns.proofs.Facts.{Holds, idles}
 use Rattle.rh_client_turns.proofs.Changes.{So, begin_out_so, passed_so}
 
 -- whether the row takes it or not

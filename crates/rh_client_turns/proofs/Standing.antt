@@ -13,8 +13,9 @@ use Rattle.rh_shell.specs.Shells.{kind_number, same_leg}
 use Rattle.rh_shell.specs.Wires.{of_leg}
 use Rattle.rh_passages.specs.Passing.{Has}
 use Rattle.rh_client.specs.State.{ci}
+use Rattle.rh_client_turns.proofs.Lists.{nothing, head_of, tail_of, each_at, split, split_more}
 use Rattle.rh_client_turns.specs.Turns.{Turn, behind, IsNear, PacketStands, Stands, StandFrom, WritesInTurn, first_turn}
-use Rattle.rh_client_turns.specs.Ends.{IsNoPdu, HasNoPdu, IsNoEnd, HasNoEnd, EndsByInR1A5, EndsOnce, EndsAll}
+use Rattle.rh_client_turns.specs.Ends.{IsNoPdu, HasNoPdu, IsNoEnd, HasNoEnd, EndsByInR1A5, EndsOnce, EndsAll, FollowNoEnd}
 use Rattle.rh_client_turns.specs.Asking.{PutsNoKeepAlive}
 
 -- ---- on which leg
@@ -85,16 +86,6 @@ none_below t ((leg, m) ∷ log) n h l =
     (λ other. none_below (behind t m) log n h.1 (omega (arith, more, l)))
 
 -- ---- behind a packet of a ci leg
-
-nothing : {X : Type 0} (before later : List X) (x : X) → [] ≡ before ++ x ∷ later → ⊥
-nothing [] later x e = cc
-nothing (y ∷ before) later x e = cc
-
-head_of : {X : Type 0} (x y : X) (xs ys : List X) → x ∷ xs ≡ y ∷ ys → x ≡ y
-head_of x y xs ys e = cc
-
-tail_of : {X : Type 0} (x y : X) (xs ys : List X) → x ∷ xs ≡ y ∷ ys → xs ≡ ys
-tail_of x y xs ys e = cc
 
 module _ (mark : Named) (n : ℕ) (Later : List Message → Type 0)
     (so : (t : Turn) (leg : Leg) (log : List OnLeg) → same_leg leg (ci n) ≡ true
@@ -239,6 +230,27 @@ module _ (n m : ℕ) (less : n < m) where
 
 pub ends_all : (put : List OnLeg) → WritesInTurn put → EndsAll put
 ends_all put h n m less has = ended_all n m less first_turn put h has
+
+-- ---- by what stands before a message
+
+pub follow_no_end : (put : List OnLeg) → WritesInTurn put → FollowNoEnd put
+follow_no_end put h = record {
+  any = λ n before later m successor e has.
+      let there = split (InR1A5 successor) before has in
+      let none = ends_by_in_r1_a5 put h n there.before (there.later ++ m ∷ later) successor
+      (split_more (InR1A5 successor) (of_leg (ci n) put) before (m ∷ later) there e) in
+      nothing there.later later m (sym none);
+  pdu = λ n before later bytes e has.
+      let there = split EndA1 before has in
+      let so = ends_once put h n there.before (there.later ++ Pdu bytes ∷ later)
+      (split_more EndA1 (of_leg (ci n) put) before (Pdu bytes ∷ later) there e) in
+      each_at IsNoPdu there.later later (Pdu bytes) so.0;
+  end_a1 = λ n before later e has.
+      let there = split EndA1 before has in
+      let so = ends_once put h n there.before (there.later ++ Packet EndA1 ∷ later)
+      (split_more EndA1 (of_leg (ci n) put) before (Packet EndA1 ∷ later) there e) in
+      each_at IsNoEnd there.later later (Packet EndA1) so.1;
+}
 
 -- ---- KeepAlive
 

@@ -2,7 +2,6 @@
 -- (MS-RPCH 2.2.4; successors are this profile's)
 use Rattle.std.specs.Prelude.{ℕ, suc, ◌≡◌, ◌≤◌, ◌⊎◌, ◌++◌, List, [], ◌∷◌}
 use Rattle.std.specs.List.{AllByRecursion}
-use Rattle.rh_rts.specs.declared.command.Cookie.{Cookie}
 use Rattle.rh_sig.specs.declared.named.Named.{Named}
 use Rattle.rh_sig.specs.declared.named.Named.TheVariants.{ConnA1, ConnB1, InR1A1, OutR1A3, OutR2C1, KeepAlive}
 use Rattle.rh_shell.specs.Rules.{Message, Text, Pdu, Packet}

@@ -6,7 +6,7 @@ ghost use Rattle.rh_http.specs.declared.config.ClientConfig.{ClientConfig};
 ghost use Rattle.rh_shell.specs.Moves.{EndMove};
 ghost use Rattle.rh_client.specs.Order.{client_moved};
 ghost use Rattle.rh_client_turns.specs.Asking.{PutsNoKeepAlive};
-ghost use Rattle.rh_client_turns.specs.Ends.{EndsAll, EndsByInR1A5, EndsOnce};
+ghost use Rattle.rh_client_turns.specs.Ends.{EndsAll, EndsByInR1A5, EndsOnce, FollowNoEnd};
 ghost use Rattle.rh_client_turns.specs.Turns.{WritesInTurn};
 
 /// Whatever moves a client makes, allowed or not: RPC PDUs, CONN/B1, IN_R1/A5, OUT_R1/A7, END/A1
@@ -36,6 +36,15 @@ pub fn no_pdu_follows_end()
         → EndsOnce (client_moved config moves).passage.put }
     ensures all { (config : ClientConfig) (moves : List EndMove)
         → EndsAll (client_moved config moves).passage.put }
+{
+    a_client_writes_in_turn();
+}
+
+/// Whatever moves a client makes: before a message that it puts on a ci leg stands no IN_R1/A5
+/// there, and before an RPC PDU or END/A1 no END/A1 (profile).
+pub fn no_message_follows_an_end()
+    ensures { (config : ClientConfig) (moves : List EndMove)
+        → FollowNoEnd (client_moved config moves).passage.put }
 {
     a_client_writes_in_turn();
 }
