@@ -72,25 +72,25 @@ module _ (config : ClientConfig) (moves : List EndMove) where
 
   -- ---- OUT channels
 
-  abbrev IsC1 : Message → Type 0
-  IsC1 m = m ≡ Packet OutR2C1
+  abbrev IsOutR2C1 : Message → Type 0
+  IsOutR2C1 m = m ≡ Packet OutR2C1
 
   out_asks : (n : ℕ) (named : Named) → Begins (out_way config) Comes Early n named
       → AsksOut (suc n) named
   out_asks zero named h = subst (AsksOut 1) (sym h.is) refl
   out_asks (suc n) named h = subst (AsksOut (suc (suc n))) (sym h.is) (omega arith)
 
-  out_rest : (n : ℕ) (rest : List Message) → OutRest n rest → AllByRecursion IsC1 rest
-  out_rest zero rest h = subst (AllByRecursion IsC1) (sym h) tt
-  out_rest (suc n) rest (inl h) = subst (AllByRecursion IsC1) (sym h) tt
-  out_rest (suc n) rest (inr h) = subst (AllByRecursion IsC1) (sym h) (refl, tt)
+  out_rest : (n : ℕ) (rest : List Message) → OutRest n rest → AllByRecursion IsOutR2C1 rest
+  out_rest zero rest h = subst (AllByRecursion IsOutR2C1) (sym h) tt
+  out_rest (suc n) rest (inl h) = subst (AllByRecursion IsOutR2C1) (sym h) tt
+  out_rest (suc n) rest (inr h) = subst (AllByRecursion IsOutR2C1) (sym h) (refl, tt)
 
   out_once : (n : ℕ) (ms : List Message) → IsChannel (out_way config) Comes Early n ms
-      → AsksOnce (AsksOut n) IsC1 ms
-  out_once zero ms h = subst (AsksOnce (AsksOut 0) IsC1) (sym h) tt
+      → AsksOnce (AsksOut n) IsOutR2C1 ms
+  out_once zero ms h = subst (AsksOnce (AsksOut 0) IsOutR2C1) (sym h) tt
   out_once (suc n) ms h =
       let way = out_way config in
-      begun_asks (way.request n) (Begins way Comes Early n) (AsksOut (suc n)) (way.Rest n) IsC1
+      begun_asks (way.request n) (Begins way Comes Early n) (AsksOut (suc n)) (way.Rest n) IsOutR2C1
       (out_asks n) (out_rest n) ms h
 
   -- ---- once
@@ -117,7 +117,7 @@ module _ (config : ClientConfig) (moves : List EndMove) where
             (behind_so (λ (cookie : Cookie). Comes (ci (suc n)) cookie)) (of_leg (ci n) put)
             (in_once n (of_leg (ci n) put) (ins n));
         outs = λ n.
-            once_so (AsksOut n) IsC1 IsNoAsk (λ m e. subst IsNoAsk (sym e) tt)
+            once_so (AsksOut n) IsOutR2C1 IsNoAsk (λ m e. subst IsNoAsk (sym e) tt)
             (of_leg (co n) put) (out_once n (of_leg (co n) put) (outs n));
       }
 
@@ -205,7 +205,7 @@ asks_first_on_each config moves ins outs =
           (Follows config moves n) (λ named is. is) ms (in_once config moves n ms (ins n));
       outs = λ n.
           let ms = of_leg (co n) put in
-          asks_first (AsksOut n) (λ (named : Named). named ≡ OutR2C1) (IsC1 config moves)
+          asks_first (AsksOut n) (λ (named : Named). named ≡ OutR2C1) (IsOutR2C1 config moves)
           (λ named e. packet_is named OutR2C1 e) ms (out_once config moves n ms (outs n));
     }
   where

@@ -6,3 +6,4 @@ mod Rows
 mod Putting
 mod Laws
 mod Begun
+mod NoPing

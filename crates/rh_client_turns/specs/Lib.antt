@@ -1,3 +1,4 @@
 pub mod Turns
 pub mod Ends
 pub mod Asking
+pub mod Pings

@@ -39,9 +39,9 @@ behind_all t (one ∷ log) = behind_all (behind t one.1) log
 abbrev pub IsNear : Turn → Leg → Type 0
 IsNear t leg = (leg ≡ ci t.writing) ⊎ (leg ≡ ci (suc t.writing))
 
--- CONN/B1, IN_R1/A5, OUT_R1/A7, END/A1 and acknowledgements stand on the channel that is written on,
--- END/A1 once; IN_R1/A1 on its successor; Pings on either; and CONN/A1, OUT_R1/A3 and OUT_R2/C1 on
--- co legs (MS-RPCH 2.2.4)
+-- CONN/B1, IN_R1/A5, OUT_R1/A7, END/A1 and acknowledgements stand on the channel that is written
+-- on, END/A1 once; IN_R1/A1 on its successor; Pings on either; and CONN/A1, OUT_R1/A3 and OUT_R2/C1
+-- on co legs (MS-RPCH 2.2.4)
 abbrev pub PacketStands : Turn → Leg → Named → Type 0
 PacketStands t leg (ConnB1 version connection channel lifetime keepalive group) =
     leg ≡ ci t.writing
@@ -57,8 +57,8 @@ PacketStands t leg (OutR1A3 version connection predecessor successor window) =
 PacketStands t leg OutR2C1 = leg.kind ≡ ClientOut
 PacketStands t leg packet = ⊥
 
--- RPC PDUs stand on the channel that is written on, behind no END/A1; and texts, which are requests,
--- on that one, on its successor, and on co legs
+-- RPC PDUs stand on the channel that is written on, behind no END/A1; and texts, which are
+-- requests, on that one, on its successor, and on co legs
 abbrev pub Stands : Turn → OnLeg → Type 0
 Stands t (leg, Text bytes) = IsNear t leg ⊎ (leg.kind ≡ ClientOut)
 Stands t (leg, Pdu pdu) = (leg ≡ ci t.writing) × (t.over ≡ false)
