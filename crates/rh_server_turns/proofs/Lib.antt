@@ -6,3 +6,5 @@ mod Owned
 mod Room
 mod FirstLegs
 mod Opening
+mod InView
+mod Quiet
