@@ -8,3 +8,6 @@ mod FirstLegs
 mod Opening
 mod InView
 mod Quiet
+mod InLogs
+mod InPlaces
+mod InKept
