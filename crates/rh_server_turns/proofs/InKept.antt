@@ -132,7 +132,7 @@ module _ (n : ℕ) (came : List OnLeg) where
     legs = once_map number_of n (So x log) (So y log) ins so h.legs;
   }
 
-  leaves_on : (at new : Stage) (s : InStage) (l : Leaving)
+  pub leaves_on : (at new : Stage) (s : InStage) (l : Leaving)
       → (is_opening at ≡ false → is_opening new ≡ false) → LeavesBy at s l → LeavesBy new s l
   leaves_on at new s leaving.Stays moves h = tt
   leaves_on at new s leaving.InR1B1 moves h = (h.0, moves h.1, h.2)

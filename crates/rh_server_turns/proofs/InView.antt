@@ -4,7 +4,6 @@ use Rattle.std.specs.Prelude.{IfSome, slice_get}
 use Rattle.std.specs.declared.option.Option.{Option}
 use Rattle.rh_sig.specs.declared.named.Named.{Named}
 use Rattle.rh_sig.specs.declared.named.Named.TheVariants as named
-use Rattle.rh_line.specs.Lines.{Line}
 use Rattle.rh_line.specs.Queue.{front_length}
 use Rattle.rh_order.proofs.ByNumber.{by_test}
 use Rattle.rh_shell.specs.declared.due.Due.{Due}
@@ -20,8 +19,6 @@ use Rattle.rh_server.specs.Putting.{Pick, or_else, gate_at, counts, was_put, wai
 
 pub record InView : Type 0 where
   pub at : Stage
-  pub line : Line
-  -- the legs of the current and of the next channel, and their cookies
   pub current : InChannel
   pub next : InChannel
   pub newest : ℕ
@@ -31,7 +28,6 @@ pub record InView : Type 0 where
 abbrev pub view_at : Stage → Server → InView
 view_at at s = record {
   at = at;
-  line = s.line;
   current = s.current;
   next = s.next;
   newest = s.newest_in;

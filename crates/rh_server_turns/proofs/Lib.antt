@@ -11,3 +11,4 @@ mod Quiet
 mod InLogs
 mod InPlaces
 mod InKept
+mod InRows
