@@ -60,7 +60,7 @@ untold : (leg : InLeg) → is_opened leg.stage ≡ false → is_told leg ≡ fal
 untold leg e = ap (λ (b : Bool). b && is_nothing leg.tells) e
 
 -- what comes now
-came_now : (test : Named → Bool) (m : ℕ) (packet : Named) (came : List OnLeg)
+pub came_now : (test : Named → Bool) (m : ℕ) (packet : Named) (came : List OnLeg)
     → test packet ≡ true → Came test m (came ++ (leg_at InServer m, Packet packet) ∷ [])
 came_now test m packet came passes =
     let all : often_at test InServer m (came ++ one ∷ [])
@@ -75,7 +75,7 @@ came_now test m packet came passes =
     one : OnLeg
     one = (leg_at InServer m, Packet packet)
 
-begins_now : (cookie : Cookie) (m : ℕ) (packet : Named) (came : List OnLeg)
+pub begins_now : (cookie : Cookie) (m : ℕ) (packet : Named) (came : List OnLeg)
     → Begins cookie packet
     → CameAt InServer m (Begins cookie) (came ++ (leg_at InServer m, Packet packet) ∷ [])
 begins_now cookie m packet came begins =
@@ -139,7 +139,7 @@ module _ (n : ℕ) where
     no_leaves at new x y leaving.Lost shut h = tt
 
     -- the channel of a leg waits
-    waits_so : (x : Top) (leg : InLeg) (cookie : Cookie) (window timeout : ℕ) (ended : Bool)
+    pub waits_so : (x : Top) (leg : InLeg) (cookie : Cookie) (window timeout : ℕ) (ended : Bool)
         → is_opened leg.stage ≡ false → (is_begun x.at ≡ false → ⊥)
         → CameAt InServer n (Begins cookie) came × Came is_in_r1_a2 n came
         → So n came x log leg
@@ -269,7 +269,7 @@ module _ (n : ℕ) where
         (λ apart a. record { next = a.next; current = λ e k. apart (k ∙ sym number) }) h
 
     -- IN_R1/A2 was taken
-    announces : (s : Server) (leg : InLeg) (cookie : Cookie) (window timeout : ℕ)
+    pub announces : (s : Server) (leg : InLeg) (cookie : Cookie) (window timeout : ℕ)
         → Found s.ins leg → is_fresh leg.stage ≡ true → is_begun s.stage ≡ true
         → CameAt InServer leg.number (Begins cookie) came × Came is_in_r1_a2 leg.number came
         → FineNow s → FineNow (announced s leg cookie window timeout)
@@ -286,7 +286,7 @@ module _ (n : ℕ) where
         (λ apart w q. q) (λ apart a. a) h)
 
     -- IN_R1/A6 was taken
-    leaves_fine : (s : Server) (leg : InLeg) → Found s.ins leg → has_left leg.leaving ≡ false
+    pub leaves_fine : (s : Server) (leg : InLeg) → Found s.ins leg → has_left leg.leaving ≡ false
         → leg.number ≡ s.current.leg → is_opening s.stage ≡ false → is_begun s.stage ≡ true
         → Came is_in_r1_a6 leg.number came → FineNow s
         → FineNow (with_in s (record leg { leaving = leaving.InR1B1 }))

@@ -12,3 +12,4 @@ mod InLogs
 mod InPlaces
 mod InKept
 mod InRows
+mod InTakes
