@@ -174,6 +174,12 @@ module _ (n : ℕ) (came : List OnLeg) where
       true≢false (sym (test_same n)
       ∙ ap (λ (k : ℕ). k == n) e ∙ absent_at number_of n ins f.place leg f.at none)
 
+  pub leg_at_place : (x : Top) (newest : ℕ) (ins : List InLeg) (log : List Message) (leg : InLeg)
+      → Found ins leg → n ≡ leg.number → Kept x newest ins log → So x log leg
+  leg_at_place x newest ins log leg f is h =
+      once_at number_of n (So x log) ins f.place leg f.at
+      (ap (λ (k : ℕ). k == n) (sym is) ∙ test_same n) h.legs
+
   pub set_kept : (x y : Top) (newest : ℕ) (ins : List InLeg) (log : List Message) (leg z : InLeg)
       → Found ins leg → z.number ≡ leg.number → (n ≡ leg.number → So x log leg → So y log z)
       → ((n ≡ leg.number → ⊥) → (w : InLeg) → So x log w → So y log w)
@@ -225,9 +231,7 @@ module _ (n : ℕ) (came : List OnLeg) where
       p = placed ins leg f
 
       both : AnswersOn n came (log ++ m ∷ []) × So x (log ++ m ∷ []) z
-      both =
-          here (once_at number_of n (So x log) ins f.place leg f.at
-          (ap (λ (k : ℕ). k == n) (sym is) ∙ test_same n) h.legs)
+      both = here (leg_at_place x newest ins log leg f is h)
 
   -- a leg goes
   pub gone_kept : (x : Top) (newest : ℕ) (ins : List InLeg) (log : List Message)

@@ -13,3 +13,5 @@ mod InPlaces
 mod InKept
 mod InRows
 mod InTakes
+mod InPuts
+mod InMoves
