@@ -1,15 +1,13 @@
 -- what was put on an is leg, by what the server keeps of it
 use Rattle.std.proofs.Common.{◌≡◌, ℕ, ◌==◌, ◌<◌, ◌+◌, ◌&&◌, Bool, true, false, true≢false, List, [], ◌∷◌, ◌++◌, Some, None, arith, refl, sym, ap, ◌∙◌, subst}
 use Rattle.std.proofs.lemmas.Bool.{false≢true}
-use Rattle.std.specs.Prelude.{slice_get, slice_set, remove}
 use Rattle.std.specs.declared.option.Option.{Option}
 use Rattle.rh_rts.specs.declared.command.Cookie.{Cookie}
 use Rattle.rh_line.specs.declared.leg.LegKind.TheVariants.{InServer}
-use Rattle.rh_order.proofs.ByNumber.{same_number, other_number, test_same, test_other}
+use Rattle.rh_order.proofs.ByNumber.{same_number, test_same, test_other}
 use Rattle.rh_shell.specs.Moves.{OnLeg}
 use Rattle.rh_shell.specs.Rules.{Message}
-use Rattle.rh_server.specs.declared.state.Greeting.{Greeting}
-use Rattle.rh_server.specs.declared.state.Greeting.TheVariants.{Due, Put}
+use Rattle.rh_server.specs.declared.state.Greeting.TheVariants.{Put}
 use Rattle.rh_server.specs.declared.state.InLeg.{InLeg}
 use Rattle.rh_server.specs.declared.state.InStage.{InStage}
 use Rattle.rh_server.specs.declared.state.InStage.TheVariants as in_stage
@@ -19,7 +17,7 @@ use Rattle.rh_server.specs.declared.state.Stage.{Stage}
 use Rattle.rh_server.specs.declared.state.Stage.TheVariants as stage
 use Rattle.rh_server.specs.declared.state.Tells.{Tells}
 use Rattle.rh_server.specs.declared.state.Tells.TheVariants as tells
-use Rattle.rh_server.specs.States.{Server, has_left, is_fresh, in_place, removed_at, set_at}
+use Rattle.rh_server.specs.States.{has_left, is_fresh, in_place, removed_at, set_at}
 use Rattle.rh_server.specs.Opening.{in_leg_up}
 use Rattle.rh_server_counts.specs.Counting.{is_conn_b2, is_in_r1_a2, is_in_r1_a6}
 use Rattle.rh_server_puts.specs.Copying.{Begins, CameAt}
@@ -38,6 +36,13 @@ is_begun (stage.OutCame connection) = false
 is_begun (stage.InCame connection window timeout) = true
 is_begun (stage.Open connection) = true
 is_begun stage.Ended = true
+
+pub begun_if : (x : Stage) → is_opening x ≡ false → is_begun x ≡ true
+begun_if stage.Waits e = absurd (true≢false e)
+begun_if (stage.OutCame connection) e = absurd (true≢false e)
+begun_if (stage.InCame connection window timeout) e = refl
+begun_if (stage.Open connection) e = refl
+begun_if stage.Ended e = refl
 
 abbrev pub is_opened : InStage → Bool
 is_opened in_stage.Fresh = false

@@ -6,7 +6,7 @@ use Rattle.rh_sig.specs.declared.named.Named.TheVariants as named
 use Rattle.rh_line.specs.declared.leg.LegKind.TheVariants.{InServer}
 use Rattle.rh_shell.specs.Hearing.{greeting as greeting_text}
 use Rattle.rh_shell.specs.Moves.{OnLeg}
-use Rattle.rh_shell.specs.Rules.{Message, Text, Pdu, Packet}
+use Rattle.rh_shell.specs.Rules.{Message, Text, Packet}
 use Rattle.rh_shell.specs.Wires.{of_leg}
 use Rattle.rh_passages.specs.Passing.{count_of}
 use Rattle.rh_passages.proofs.Messages.{all_append, count_append, leg_more}

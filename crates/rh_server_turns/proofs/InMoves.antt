@@ -1,5 +1,5 @@
 -- a server's moves keep what it knows of its is legs
-use Rattle.std.proofs.Common.{◌≡◌, ℕ, ◌+◌, ◌==◌, ◌&&◌, Bool, true, false, not, List, [], ◌∷◌, ◌++◌, Some, None, Ok, Err, refl, rules, sym, ap, ◌∙◌, subst}
+use Rattle.std.proofs.Common.{◌≡◌, ℕ, ◌+◌, ◌==◌, ◌&&◌, Bool, true, false, List, [], ◌∷◌, Some, None, Ok, Err, refl, rules, subst}
 use Rattle.std.proofs.lemmas.Bool.{false≢true, and_parts}
 use Rattle.std.specs.Prelude.{IfSome, IsTrue}
 use Rattle.std.specs.declared.option.Option.{Option}
@@ -16,7 +16,6 @@ use Rattle.rh_shell.specs.Rules.{Message, Pdu, Packet, Row}
 use Rattle.rh_shell.specs.Moves.{OnLeg, Move, Up, HeadCame, PduCame, PacketCame, Puts, IsDrawn, Marks, Pings, MayMove, Passage, EndMove, Moves, Gives, Takes, Closes, Recycles, EndPassage, MayEndMove, AreAllowedAtEnd, is_at_work, is_in_use, moved, taken_by, put_by, end_moved, end_now_at, end_started, given_by, with_first, all_end_moved}
 use Rattle.rh_shell.specs.Wires.{of_leg}
 use Rattle.rh_server.specs.declared.state.InLeg.{InLeg}
-use Rattle.rh_server.specs.declared.state.InStage.{InStage}
 use Rattle.rh_server.specs.declared.state.Leaving.{Leaving}
 use Rattle.rh_server.specs.declared.state.Leaving.TheVariants as leaving
 use Rattle.rh_server.specs.States.{Server, has_left, is_waiting, stays, in_leg, in_place, with_in, without_in, without_out}
@@ -38,7 +37,7 @@ use Rattle.rh_server_turns.proofs.InRows.{Alive, Fine, in_use, moved_fine, same_
 use Rattle.rh_server_turns.proofs.InTakes.{Holds, packet_row, pdu_row}
 use Rattle.rh_server_turns.proofs.InPuts.{puts, settled_fine}
 use Rattle.rh_server_turns.proofs.Quiet.{is_opening, quiet_opening, Quiet}
-use Rattle.rh_server_turns.proofs.Reaching.{Reached, reached_keep}
+use Rattle.rh_server_turns.proofs.Reaching.{reached_keep}
 
 give_same : (s : Server) (bytes : List ℕ) → view (give s bytes).0 ≡ view s
 give_same s bytes = search rules
@@ -125,10 +124,10 @@ module _ (n : ℕ) where
         (λ at q. record {
           early = q.early;
           told = λ g. let t = q.told g in (
-                t.0,
-                subst (λ (b : Bool). Written n came b log)
-                    (stays_on leg.leaving (and_parts (is_waiting leg.stage) _ e).1) t.1,
-              );
+            t.0,
+            subst (λ (b : Bool). Written n came b log)
+                (stays_on leg.leaving (and_parts (is_waiting leg.stage) _ e).1) t.1,
+          );
           begun = q.begun;
           tells = q.tells;
           leaves = tt;

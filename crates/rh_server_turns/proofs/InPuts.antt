@@ -1,15 +1,13 @@
 -- what a server puts keeps what it knows of its is legs
-use Rattle.std.proofs.Common.{◌≡◌, ℕ, ◌+◌, ◌==◌, ◌&&◌, ◌||◌, Bool, true, false, not, if◌then◌else◌, List, [], ◌∷◌, ◌++◌, Some, None, refl, rules, sym, ap, ◌∙◌, subst}
+use Rattle.std.proofs.Common.{◌≡◌, ℕ, ◌==◌, ◌&&◌, Bool, true, false, not, List, [], ◌∷◌, ◌++◌, Some, None, refl, rules, sym, ap, ◌∙◌, subst}
 use Rattle.std.proofs.lemmas.Bool.{false≢true, true≢false, and_parts, or_parts}
 use Rattle.std.proofs.lemmas.List.{append-nil}
 use Rattle.std.specs.Prelude.{IfSome, slice_get}
 use Rattle.std.specs.declared.option.Option.{Option}
 use Rattle.rh_rts.specs.declared.command.Cookie.{Cookie}
-use Rattle.rh_sig.specs.declared.named.Named.{Named}
 use Rattle.rh_sig.specs.declared.named.Named.TheVariants as named
 use Rattle.rh_window.specs.declared.recv_window.Ack.{Ack}
 use Rattle.rh_line.specs.Lines.{after_tell, after_told, due}
-use Rattle.rh_line.specs.declared.leg.Leg.{Leg}
 use Rattle.rh_line.specs.declared.leg.LegKind.{LegKind}
 use Rattle.rh_line.specs.declared.leg.LegKind.TheVariants.{ClientOut, OutServer, ClientIn, InServer}
 use Rattle.rh_line.specs.declared.which.Which.TheVariants.{Current}
@@ -18,7 +16,7 @@ use Rattle.rh_passages.proofs.Logs.{PutKeeps}
 use Rattle.rh_passages.proofs.Messages.{leg_more}
 use Rattle.rh_shell.specs.Hearing.{greeting as greeting_text}
 use Rattle.rh_shell.specs.NearEnds.{is_ended}
-use Rattle.rh_shell.specs.Rules.{Message, Text, Pdu, Packet}
+use Rattle.rh_shell.specs.Rules.{Message, Text, Packet}
 use Rattle.rh_shell.specs.Moves.{OnLeg, is_at_work}
 use Rattle.rh_shell.specs.Wires.{of_leg}
 use Rattle.rh_server.specs.declared.state.Edge.TheVariants.{Told}
@@ -34,10 +32,10 @@ use Rattle.rh_server.specs.declared.state.Stage.{Stage}
 use Rattle.rh_server.specs.declared.state.Stage.TheVariants as stage
 use Rattle.rh_server.specs.declared.state.Tells.{Tells}
 use Rattle.rh_server.specs.declared.state.Tells.TheVariants as tells
-use Rattle.rh_server.specs.States.{Server, has_left, is_due, is_open, is_shut, phase_of, stays, in_at, in_leg, in_place, out_place, with_in}
+use Rattle.rh_server.specs.States.{Server, has_left, is_due, is_open, is_shut, phase_of, stays, in_leg, in_place, out_place, with_in}
 use Rattle.rh_server.specs.OutReplacement.{wished}
 use Rattle.rh_server.specs.Ending.{completed, is_complete, settled}
-use Rattle.rh_server.specs.Putting.{Pick, or_else, put_in_greeting, told_by, was_current, put_tells_by, put_tells, put_b1_by, put_b1, ack_due, put_ack_by, put_ack, put_in_by, out_greeting_at, put_out_greeting, next_out, settled_pick, put_open, put_out_at, put_by as put_by_kind}
+use Rattle.rh_server.specs.Putting.{Pick, or_else, told_by, was_current, put_tells_by, put_tells, put_b1_by, put_b1, ack_due, put_ack_by, put_ack, put_in_by, out_greeting_at, put_out_greeting, next_out, settled_pick, put_open, put_out_at, put_by as put_by_kind}
 use Rattle.rh_server.specs.Servers.{rules as server_rules}
 use Rattle.rh_server_counts.specs.Counting.{leg_at}
 use Rattle.rh_server_puts.specs.Copying.{Begins, CameAt}
@@ -45,10 +43,10 @@ use Rattle.rh_server_puts.specs.Greeting.{is}
 use Rattle.rh_server_puts.proofs.Each.{number_found}
 use Rattle.rh_server_puts.proofs.Numbered.{once_map}
 use Rattle.rh_server_turns.specs.Answers.{AcksAt, AnswersOn, TellsAt}
-use Rattle.rh_server_turns.proofs.InView.{InView, Alone, view, out_alone}
+use Rattle.rh_server_turns.proofs.InView.{Alone, view, out_alone}
 use Rattle.rh_server_turns.proofs.InLogs.{Base, IsTold, Written, acked, base_answers, greeted, left, told, told_answers}
 use Rattle.rh_server_turns.proofs.InPlaces.{Found, found_at}
-use Rattle.rh_server_turns.proofs.InKept.{is_begun, is_opened, is_nothing, is_told, BegunBy, Kept, LeavesBy, So, TellsBy, Top, leg_at_place, number_of, put_kept, set_kept, top_of}
+use Rattle.rh_server_turns.proofs.InKept.{is_begun, is_opened, is_nothing, is_told, BegunBy, Kept, LeavesBy, So, TellsBy, Top, begun_if, leg_at_place, number_of, put_kept, set_kept, top_of}
 use Rattle.rh_server_turns.proofs.InRows.{Alive, Fine, same_fine, stage_fine}
 use Rattle.rh_server_turns.proofs.InTakes.{Holds}
 use Rattle.rh_server_turns.proofs.Quiet.{is_opening, no_ack, Quiet}
@@ -69,13 +67,6 @@ opening_if (stage.OutCame connection) work shut = refl
 opening_if (stage.InCame connection window timeout) work shut = refl
 opening_if (stage.Open connection) work shut = absurd (true≢false shut)
 opening_if stage.Ended work shut = absurd (false≢true work)
-
-begun_if : (x : Stage) → is_opening x ≡ false → is_begun x ≡ true
-begun_if stage.Waits e = absurd (true≢false e)
-begun_if (stage.OutCame connection) e = absurd (true≢false e)
-begun_if (stage.InCame connection window timeout) e = refl
-begun_if (stage.Open connection) e = refl
-begun_if stage.Ended e = refl
 
 open_begun : (x : Stage) → is_open x ≡ true → true ≡ is_begun x
 open_begun stage.Waits e = absurd (false≢true e)
@@ -143,9 +134,11 @@ module _ (n : ℕ) where
       legs = once_map number_of n (So n came x log) (So n came x (log ++ m ∷ [])) ins
           (λ w q. record {
             early = λ e. absurd (base_told w.greeting log (q.early e) was);
-            told = λ e.
-                ((q.told e).0, either (has_left w.leaving) (log ++ m ∷ [])
-                (acked n came log m was acks));
+            told = λ e. (
+              (q.told e).0,
+              either (has_left w.leaving) (log ++ m ∷ [])
+                  (acked n came log m was acks),
+            );
             begun = q.begun;
             tells = q.tells;
             leaves = q.leaves;

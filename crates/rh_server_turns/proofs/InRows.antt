@@ -1,23 +1,14 @@
 -- a server's rows keep what it knows of its is legs
-use Rattle.std.proofs.Common.{◌≡◌, ℕ, ◌+◌, ◌≤◌, ◌==◌, ◌&&◌, ◌||◌, Bool, true, false, not, if◌then◌else◌, List, [], ◌∷◌, ◌++◌, Some, None, Ok, Err, arith, refl, rules, sym, ap, ◌∙◌, subst}
-use Rattle.std.proofs.lemmas.Bool.{false≢true, true≢false, and_parts}
+use Rattle.std.proofs.Common.{◌≡◌, ℕ, ◌+◌, ◌&&◌, ◌||◌, Bool, true, false, not, if◌then◌else◌, List, [], ◌∷◌, ◌++◌, Some, None, arith, refl, sym, ap, ◌∙◌, subst}
+use Rattle.std.proofs.lemmas.Bool.{false≢true, true≢false}
 use Rattle.std.specs.Prelude.{IfSome, IsTrue}
 use Rattle.std.specs.declared.option.Option.{Option}
 use Rattle.rh_rts.specs.declared.command.Cookie.{Cookie}
 use Rattle.rh_sig.specs.declared.named.Named.{Named}
-use Rattle.rh_sig.specs.declared.named.Named.TheVariants as named
-use Rattle.rh_line.specs.Lines.{after_finish}
-use Rattle.rh_line.specs.declared.leg.Leg.{Leg}
-use Rattle.rh_line.specs.declared.leg.LegKind.{LegKind}
-use Rattle.rh_line.specs.declared.leg.LegKind.TheVariants.{ClientOut, OutServer, ClientIn, InServer}
-use Rattle.rh_line.specs.declared.which.Which.{Which}
-use Rattle.rh_line.specs.declared.which.Which.TheVariants.{Current, Next}
-use Rattle.rh_order.proofs.ByNumber.{by_test, same_number}
+use Rattle.rh_line.specs.declared.leg.LegKind.TheVariants.{InServer}
+use Rattle.rh_order.proofs.ByNumber.{by_test}
 use Rattle.rh_passages.specs.Passing.{count_of}
-use Rattle.rh_passages.proofs.Logs.{RowKeeps}
 use Rattle.rh_passages.proofs.Messages.{count_append, leg_more}
-use Rattle.rh_shell.specs.declared.answers.Count.{Count}
-use Rattle.rh_shell.specs.declared.answers.Refused.TheVariants as refused
 use Rattle.rh_shell.specs.Rules.{Message, Packet}
 use Rattle.rh_shell.specs.Moves.{OnLeg, is_at_work, is_in_use}
 use Rattle.rh_shell.specs.Wires.{of_leg}
@@ -28,27 +19,23 @@ use Rattle.rh_server.specs.declared.state.InStage.TheVariants as in_stage
 use Rattle.rh_server.specs.declared.state.Leaving.{Leaving}
 use Rattle.rh_server.specs.declared.state.Leaving.TheVariants as leaving
 use Rattle.rh_server.specs.declared.state.Stage.{Stage}
-use Rattle.rh_server.specs.declared.state.Stage.TheVariants as stage
 use Rattle.rh_server.specs.declared.state.Tells.{Tells}
 use Rattle.rh_server.specs.declared.state.Tells.TheVariants as tells
 use Rattle.rh_server.specs.declared.out_line.Kind.TheVariants as kinds
 use Rattle.rh_server.specs.OutLines.{waits}
-use Rattle.rh_server.specs.States.{Server, has_left, is_fresh, is_lost, same_cookie, in_leg, in_place, with_in}
-use Rattle.rh_server.specs.Opening.{Done, took, refuse, unexpected, is_first, opens, first_in, with_first_in, with_first_out, conn_a2_at, on_conn_a2, conn_b2_at, on_conn_b2}
-use Rattle.rh_server.specs.Acknowledging.{channel_at}
-use Rattle.rh_server.specs.InReplacement.{opens_next, opens_leg, first_waiting, waiting_place, next_opened, becomes_current, moved_if, announced, in_r1_a2_by, in_r1_a2_at, on_in_r1_a2, leaves_by, leaves, hands_over, on_in_r1_a6, in_r2_a2_on, on_in_r2_a2}
-use Rattle.rh_server.specs.Ending.{in_is_done, end_a2_on_leg, end_a2_waiting, is_over_on, end_a2_at, on_end_a2}
-use Rattle.rh_server.specs.Servers.{on_is, on_os, packet_by}
+use Rattle.rh_server.specs.States.{Server, has_left, is_fresh, is_lost, in_leg, with_in}
+use Rattle.rh_server.specs.Opening.{first_in}
+use Rattle.rh_server.specs.InReplacement.{opens_next, opens_leg, first_waiting, waiting_place, next_opened, becomes_current, moved_if, announced}
+use Rattle.rh_server.specs.Ending.{in_is_done}
 use Rattle.rh_server.specs.Servers.{rules as server_rules}
 use Rattle.rh_server_counts.specs.Counting.{is_conn_b2, is_in_r1_a2, is_in_r1_a6, leg_at, often_at}
 use Rattle.rh_server_puts.specs.Copying.{Begins, CameAt}
-use Rattle.rh_server_puts.specs.Greeting.{is}
-use Rattle.rh_server_puts.proofs.Each.{came_last, has_one, number_found, own_leg}
+use Rattle.rh_server_puts.proofs.Each.{came_last, has_one, own_leg}
 use Rattle.rh_server_turns.specs.Answers.{Came}
 use Rattle.rh_server_turns.proofs.InView.{InView, view, view_at}
 use Rattle.rh_server_turns.proofs.InPlaces.{Found, found_at}
 use Rattle.rh_server_turns.proofs.InLogs.{Written}
-use Rattle.rh_server_turns.proofs.InKept.{is_begun, is_opened, is_nothing, is_told, Top, top_of, BegunBy, TellsBy, LeavesBy, So, Apart, Kept, leaves_on, top_kept, stage_kept, newer_kept, set_kept, more_kept}
+use Rattle.rh_server_turns.proofs.InKept.{is_begun, is_opened, is_nothing, is_told, Top, top_of, BegunBy, TellsBy, LeavesBy, So, Kept, leaves_on, top_kept, stage_kept, set_kept}
 use Rattle.rh_server_turns.proofs.Quiet.{is_opening}
 
 fresh_unopened : (x : InStage) → is_fresh x ≡ true → is_opened x ≡ false

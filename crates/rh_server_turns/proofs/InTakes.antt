@@ -16,7 +16,7 @@ use Rattle.rh_order.proofs.ByNumber.{by_test, same_number}
 use Rattle.rh_passages.proofs.Logs.{RowKeeps}
 use Rattle.rh_shell.specs.declared.answers.Count.{Count}
 use Rattle.rh_shell.specs.declared.answers.Refused.TheVariants as refused
-use Rattle.rh_shell.specs.Rules.{Message, Pdu, Packet}
+use Rattle.rh_shell.specs.Rules.{Pdu, Packet}
 use Rattle.rh_shell.specs.Moves.{OnLeg}
 use Rattle.rh_shell.specs.Waiting.{Waiting, forwarded, takes}
 use Rattle.rh_shell.specs.Wires.{of_leg}
@@ -40,16 +40,9 @@ use Rattle.rh_server_puts.proofs.Each.{number_found}
 use Rattle.rh_server_turns.specs.Answers.{Came}
 use Rattle.rh_server_turns.proofs.InView.{view, view_at}
 use Rattle.rh_server_turns.proofs.InPlaces.{Found, found_at}
-use Rattle.rh_server_turns.proofs.InKept.{is_begun, is_opened, Kept, top_of, BegunBy, more_kept, newer_kept, set_kept}
+use Rattle.rh_server_turns.proofs.InKept.{is_begun, is_opened, Kept, begun_if, top_of, BegunBy, more_kept, newer_kept, set_kept}
 use Rattle.rh_server_turns.proofs.InRows.{Alive, Fine, announces, begins_now, came_now, first_fine, leaves_fine, moved_fine, same_fine, stage_fine, waits_so}
 use Rattle.rh_server_turns.proofs.Quiet.{is_opening, Quiet}
-
-opened_begun : (x : Stage) → is_opening x ≡ false → is_begun x ≡ true
-opened_begun stage.Waits e = absurd (true≢false e)
-opened_begun (stage.OutCame connection) e = absurd (true≢false e)
-opened_begun (stage.InCame connection window timeout) e = refl
-opened_begun (stage.Open connection) e = refl
-opened_begun stage.Ended e = refl
 
 out_view : (s : Server) (new : Stage) (b : Cookie) (c d : ℕ)
     → view_at new (with_first_out s b c d) ≡ view_at new s
@@ -226,7 +219,7 @@ module _ (n : ℕ) where
           let shut = opening e (is_opening s.stage) refl in
           leaves_fine n (came ++ one ∷ []) (of_leg (is n) put) s leg f alive
           (number ∙ same_number m s.current.leg (and_parts (m == s.current.leg) _ e).0) shut
-          (opened_begun s.stage shut)
+          (begun_if s.stage shut)
           (subst (λ (k : ℕ). Came is_in_r1_a6 k (came ++ one ∷ [])) (sym number)
           (came_now is_in_r1_a6 m packet came is_a6))
           (more s came put one h)

@@ -1,5 +1,5 @@
 -- while a server opens, nothing came on its line, and no acknowledgement is due
-use Rattle.std.proofs.Common.{◌≡◌, ℕ, ◌+◌, ◌==◌, ◌&&◌, ◌||◌, List, [], ◌∷◌, ◌++◌, Bool, true, false, not, nat_lt, Some, None, Ok, Err, arith, refl, rules, sym, ap, ◌∙◌, subst}
+use Rattle.std.proofs.Common.{◌≡◌, ℕ, ◌==◌, ◌&&◌, List, [], Bool, true, false, not, nat_lt, Some, None, Ok, Err, arith, refl, rules, sym, ap, ◌∙◌, subst}
 use Rattle.std.proofs.lemmas.Bool.{false≢true, true≢false, and_parts}
 use Rattle.std.proofs.lemmas.Bool.Decides.{nat_tests}
 use Rattle.std.specs.Prelude.{IfSome, slice_get}
@@ -10,7 +10,7 @@ use Rattle.rh_sig.specs.declared.named.Named.TheVariants as named
 use Rattle.rh_window.specs.Sides.{Receiver}
 use Rattle.rh_window.specs.Receiving as windows
 use Rattle.rh_window.specs.declared.recv_window.Ack.{Ack}
-use Rattle.rh_line.specs.Lines.{Line, due, after_end, after_tell, after_told, after_take, taken as line_taken}
+use Rattle.rh_line.specs.Lines.{Line, due, after_end, after_tell, after_take, taken as line_taken}
 use Rattle.rh_line.specs.declared.leg.Leg.{Leg}
 use Rattle.rh_line.specs.declared.leg.LegKind.{LegKind}
 use Rattle.rh_line.specs.declared.leg.LegKind.TheVariants.{ClientOut, OutServer, ClientIn, InServer}
@@ -23,8 +23,6 @@ use Rattle.rh_shell.specs.Rules.{Message, Pdu, Packet}
 use Rattle.rh_shell.specs.Moves.{OnLeg, EndMove, end_started, all_end_moved}
 use Rattle.rh_server.specs.declared.state.InLeg.{InLeg}
 use Rattle.rh_server.specs.declared.state.OutLeg.{OutLeg}
-use Rattle.rh_server.specs.declared.state.InStage.{InStage}
-use Rattle.rh_server.specs.declared.state.InStage.TheVariants as in_stage
 use Rattle.rh_server.specs.declared.state.Edge.TheVariants.{Told}
 use Rattle.rh_server.specs.declared.state.Leaving.{Leaving}
 use Rattle.rh_server.specs.declared.state.Leaving.TheVariants as leaving
@@ -35,12 +33,12 @@ use Rattle.rh_server.specs.declared.state.Tells.TheVariants as tells
 use Rattle.rh_server.specs.declared.out_line.Kind.TheVariants as kinds
 use Rattle.rh_server.specs.OutLines.{waits}
 use Rattle.rh_server.specs.States.{Server, is_open, is_due, is_shut, same_cookie, in_leg, out_place, without_in, without_out}
-use Rattle.rh_server.specs.Opening.{Done, took, refuse, unexpected, is_first, up, opens, with_first_out, with_first_in, conn_a2_at, on_conn_a2, conn_b2_at, on_conn_b2}
+use Rattle.rh_server.specs.Opening.{Done, took, unexpected, is_first, up, opens, with_first_out, with_first_in, conn_a2_at, on_conn_a2, conn_b2_at, on_conn_b2}
 use Rattle.rh_server.specs.Acknowledging.{on_pdu, channel_at}
 use Rattle.rh_server.specs.InReplacement.{take, moved_if, in_r1_a2_at, on_in_r1_a2, on_in_r1_a6}
 use Rattle.rh_server.specs.OutReplacement.{recycle, wished}
-use Rattle.rh_server.specs.Ending.{give, settled, completed, is_complete, drawn_by, in_is_drawn, lost_in, mark_by, with_ack_dropped, is_over_on, end_a2_on_leg, end_a2_waiting, end_a2_at, on_end_a2}
-use Rattle.rh_server.specs.Putting.{Pick, or_else, put_in_greeting, told_by, was_current, put_tells_by, put_tells, put_b1_by, put_b1, put_ack_by, put_ack, ack_due, put_in_by, put_out_greeting, out_greeting_at, next_out, settled_pick, put_open, put_out_place, put_out_at, put_by as put_by_kind}
+use Rattle.rh_server.specs.Ending.{give, settled, completed, is_complete, drawn_by, in_is_drawn, lost_in, mark_by, with_ack_dropped, is_over_on, end_a2_waiting, end_a2_at, on_end_a2}
+use Rattle.rh_server.specs.Putting.{Pick, or_else, put_in_greeting, told_by, was_current, put_tells_by, put_tells, put_b1_by, put_b1, put_ack_by, put_ack, ack_due, put_in_by, put_out_greeting, out_greeting_at, next_out, settled_pick, put_open, put_out_at, put_by as put_by_kind}
 use Rattle.rh_server.specs.Servers.{acts, first, on_is, on_os, packet_by, pdu_by}
 use Rattle.rh_server.specs.Servers.{rules as server_rules}
 use Rattle.rh_server_turns.proofs.InView.{InView, Alone, out_alone}

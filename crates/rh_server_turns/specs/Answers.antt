@@ -1,13 +1,12 @@
 -- what a server puts on an is leg, in which order and for what (MS-RPCH 3.2.5; replacement is this
 -- profile's)
 use Rattle.std.specs.Prelude.{ℕ, ◌≡◌, ◌⊎◌, ◌≤◌, ◌+◌, List, [], ◌∷◌, Bool, true, false}
-use Rattle.rh_rts.specs.declared.command.Cookie.{Cookie}
 use Rattle.rh_sig.specs.declared.named.Named.{Named}
 use Rattle.rh_sig.specs.declared.named.Named.TheVariants.{ConnB3, InR1B1, InR1B2, Ack}
 use Rattle.rh_line.specs.declared.leg.LegKind.TheVariants.{InServer}
 use Rattle.rh_shell.specs.Hearing.{greeting}
 use Rattle.rh_shell.specs.Moves.{OnLeg, Passage}
-use Rattle.rh_shell.specs.Rules.{Message, Text, Pdu, Packet}
+use Rattle.rh_shell.specs.Rules.{Message, Text, Packet}
 use Rattle.rh_shell.specs.Wires.{of_leg}
 use Rattle.rh_server.specs.States.{Server}
 use Rattle.rh_server_counts.specs.Counting.{is_conn_b2, is_conn_b3, is_in_r1_a2, is_in_r1_a6, often_at}
