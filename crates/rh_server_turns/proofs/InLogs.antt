@@ -1,6 +1,7 @@
 -- what was put on an is leg, and a message more
 use Rattle.std.proofs.Common.{◌≡◌, ◌⊎◌, ℕ, suc, ◌+◌, ◌≤◌, List, [], ◌∷◌, ◌++◌, Bool, true, false, inl, inr, arith, refl, sym, ap, ◌∙◌, subst}
 use Rattle.std.specs.List.{AllByRecursion}
+use Rattle.rh_rts.specs.declared.command.Cookie.{Cookie}
 use Rattle.rh_sig.specs.declared.named.Named.{Named}
 use Rattle.rh_sig.specs.declared.named.Named.TheVariants as named
 use Rattle.rh_line.specs.declared.leg.LegKind.TheVariants.{InServer}
@@ -8,12 +9,12 @@ use Rattle.rh_shell.specs.Hearing.{greeting as greeting_text}
 use Rattle.rh_shell.specs.Moves.{OnLeg}
 use Rattle.rh_shell.specs.Rules.{Message, Text, Packet}
 use Rattle.rh_shell.specs.Wires.{of_leg}
-use Rattle.rh_passages.specs.Passing.{count_of}
+use Rattle.rh_passages.specs.Passing.{Has, count_of}
 use Rattle.rh_passages.proofs.Messages.{all_append, count_append, leg_more}
 use Rattle.rh_server.specs.declared.state.Greeting.{Greeting}
 use Rattle.rh_server.specs.declared.state.Greeting.TheVariants.{Due, Put}
-use Rattle.rh_server_counts.specs.Counting.{is_conn_b3, is_in_r1_a6, leg_at, often_at}
-use Rattle.rh_server_puts.specs.Copying.{Begins}
+use Rattle.rh_server_counts.specs.Counting.{is_conn_b2, is_conn_b3, is_in_r1_a2, is_in_r1_a6, leg_at, often_at}
+use Rattle.rh_server_puts.specs.Copying.{Begins, CameAt}
 use Rattle.rh_server_puts.proofs.Each.{came_more}
 use Rattle.rh_server_turns.specs.Answers.{Came, TellsAt, AcksAt, LeavesAt, AcksOn, TellsOn, AnswersOn, is_in_r1_b1, is_in_r1_b2}
 
@@ -167,6 +168,27 @@ module _ (n : ℕ) (came : List OnLeg) where
       let none = acks_tell ms h.1 in omega (arith, none)
   tells_tell (m ∷ ms) h = absurd h.0
 
+  -- CONN/B3 is for CONN/B2, and IN_R1/B2 for IN_R1/A2
+  abbrev pub TellsFor : List Message → Type 0
+  TellsFor ms =
+      (count_of is_conn_b3 ms ≤ often_at is_conn_b2 InServer n came)
+      × (count_of is_in_r1_b2 ms ≤ often_at is_in_r1_a2 InServer n came)
+
+  tells_for : (ms : List Message) → TellsOn n came ms → TellsFor ms
+  tells_for [] h = (omega arith, omega arith)
+  tells_for (Packet (named.ConnB3 size version) ∷ ms) h =
+      let none = acks_tell ms h.1 in let for_it = h.0.1 in
+      (omega (arith, none, for_it), omega (arith, none))
+  tells_for (Packet (named.InR1B2 size) ∷ ms) h =
+      let none = acks_tell ms h.1 in let for_it = h.0 in
+      (omega (arith, none), omega (arith, none, for_it))
+  tells_for (m ∷ ms) h = absurd h.0
+
+  pub answers_for : (ms : List Message) → AnswersOn n came ms → TellsFor ms
+  answers_for [] h = (omega arith, omega arith)
+  answers_for (g ∷ ms) h =
+      subst (λ (m : Message). TellsFor (m ∷ ms)) (sym h.0) (tells_for ms h.1)
+
   tells_leave : (ms : List Message) → TellsOn n came ms → Leaves ms
   tells_leave [] h = inl refl
   tells_leave (Packet (named.ConnB3 size version) ∷ ms) h = acks_leave ms h.1
@@ -199,3 +221,32 @@ module _ (n : ℕ) (came : List OnLeg) where
       by : Leaves ms → count_of is_in_r1_b1 ms ≤ often_at is_in_r1_a6 InServer n came
       by (inl none) = omega (arith, none)
       by (inr one) = let is = one.0 in let came = one.1 in omega (arith, is, came)
+
+-- ---- cookies
+
+module _ (n : ℕ) (came : List OnLeg) (received window : ℕ) (cookie : Cookie) where
+  abbrev ack : Named
+  ack = named.Ack received window cookie
+
+  acks_begun : (ms : List Message) → AcksOn n came ms → Has ack ms
+      → CameAt InServer n (Begins cookie) came
+  acks_begun [] h has = absurd has
+  acks_begun (m ∷ ms) (inl h) (inl is) = subst (AcksAt n came) is h.0
+  acks_begun (m ∷ ms) (inl h) (inr rest) = acks_begun ms h.1 rest
+  acks_begun (m ∷ ms) (inr h) (inl is) = absurd (subst (LeavesAt n came) is h.0)
+  acks_begun (m ∷ ms) (inr h) (inr rest) = absurd (subst (Has ack) h.1 rest)
+
+  tells_begun : (ms : List Message) → TellsOn n came ms → Has ack ms
+      → CameAt InServer n (Begins cookie) came
+  tells_begun [] h has = absurd has
+  tells_begun (m ∷ ms) h (inl is) = absurd (subst (TellsAt n came) is h.0)
+  tells_begun (m ∷ ms) h (inr rest) = acks_begun ms h.1 rest
+
+  pub answers_begun : (ms : List Message) → AnswersOn n came ms → Has ack ms
+      → CameAt InServer n (Begins cookie) came
+  answers_begun [] h has = absurd has
+  answers_begun (m ∷ ms) h (inl is) = absurd (apart (sym h.0 ∙ is))
+    where
+      apart : Text greeting_text ≡ Packet (named.Ack received window cookie) → ⊥
+      apart e = cc
+  answers_begun (m ∷ ms) h (inr rest) = tells_begun ms h.1 rest

@@ -30,7 +30,7 @@ use Rattle.rh_server_counts.specs.Counting.{leg_at}
 use Rattle.rh_server_puts.specs.Greeting.{is}
 use Rattle.rh_server_turns.specs.Answers.{AnswersOn, AnswersInOrder}
 use Rattle.rh_server_turns.proofs.InView.{view}
-use Rattle.rh_server_turns.proofs.InLogs.{Written, answers_tell, leaves_for, leaves_once}
+use Rattle.rh_server_turns.proofs.InLogs.{Written, answers_begun, answers_for, answers_tell, leaves_for, leaves_once}
 use Rattle.rh_server_turns.proofs.InPlaces.{Found, found_at}
 use Rattle.rh_server_turns.proofs.InKept.{gone_kept, kept_start, set_kept, top_of, up_kept}
 use Rattle.rh_server_turns.proofs.InRows.{Alive, Fine, in_use, moved_fine, same_fine}
@@ -234,12 +234,14 @@ pub answers_in_order : (window : ℕ) (moves : List EndMove)
     → AnswersInOrder (all_end_moved server_rules acts (end_started (first window)) moves).passage
 answers_in_order window moves may =
     let p = (all_end_moved server_rules acts (end_started (first window)) moves).passage in
-    record {
-      order = λ n. answers_on n window moves may;
-      tells_once = λ n.
-          answers_tell n p.came (of_leg (is n) p.put) (answers_on n window moves may);
-      leaves_once = λ n.
-          leaves_once n p.came (of_leg (is n) p.put) (answers_on n window moves may);
-      leaves_for = λ n.
-          leaves_for n p.came (of_leg (is n) p.put) (answers_on n window moves may);
+    let on = λ (n : ℕ). answers_on n window moves may in
+    let log = λ (n : ℕ). of_leg (is n) p.put in record {
+      order = on;
+      acks = λ n received available cookie has.
+          answers_begun n p.came received available cookie (log n) (on n) has;
+      tells_once = λ n. answers_tell n p.came (log n) (on n);
+      conn_b3 = λ n. (answers_for n p.came (log n) (on n)).0;
+      in_r1_b2 = λ n. (answers_for n p.came (log n) (on n)).1;
+      leaves_once = λ n. leaves_once n p.came (log n) (on n);
+      in_r1_b1 = λ n. leaves_for n p.came (log n) (on n);
     }

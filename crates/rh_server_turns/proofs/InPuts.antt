@@ -231,10 +231,10 @@ module _ (n : ℕ) where
         untold false = refl
 
     -- IN_R1/B1
-    b1_put : x.leaving ≡ leaving.InR1B1 → (So n came top log x → is_nothing x.tells ≡ true)
+    in_r1_b1_put : x.leaving ≡ leaving.InR1B1 → (So n came top log x → is_nothing x.tells ≡ true)
         → Holds n (with_in s (record x { leaving = leaving.Left })) came
         (put ++ (is m, Packet named.InR1B1) ∷ [])
-    b1_put at plain =
+    in_r1_b1_put at plain =
         leg_put (record x { leaving = leaving.Left }) (Packet named.InR1B1) refl
         (λ q.
         let leaves = subst (LeavesBy n came s.stage x.stage) at q.leaves in
@@ -300,14 +300,14 @@ module _ (n : ℕ) where
       rest_put : (So n came top log x → x.leaving ≡ leaving.InR1B1 → is_nothing x.tells ≡ true)
           → (x.number ≡ s.current.leg → is_opening s.stage ≡ false → is_nothing x.tells ≡ true)
           → InPuts (or_else (put_b1 s x) (put_ack s x))
-      rest_put plain_b1 plain_ack = by x.leaving refl
+      rest_put plain_left plain_acked = by x.leaving refl
         where
           acks : InPuts (put_ack s x)
-          acks = ack_put (ack_due s x) refl (ack_on s x) plain_ack
+          acks = ack_put (ack_due s x) refl (ack_on s x) plain_acked
 
           by : (l : Leaving) → x.leaving ≡ l → InPuts (or_else (put_b1_by s x l) (put_ack s x))
           by leaving.Stays at = acks
-          by leaving.InR1B1 at = b1_put at (λ q. plain_b1 q at)
+          by leaving.InR1B1 at = in_r1_b1_put at (λ q. plain_left q at)
           by leaving.Left at = acks
           by leaving.Lost at = acks
 

@@ -220,8 +220,8 @@ module _ (n : ℕ) where
         → CameAt InServer 1 (Begins cookie) came → Came is_conn_b2 1 came → FineNow s
         → Kept n came (top_of (view_at new (first_in s cookie o)))
         (first_in s cookie o).newest_in (first_in s cookie o).ins log
-    first_fine s new cookie None alive f number opening begun goes begins b2 h = absurd alive
-    first_fine s new cookie (Some leg) alive f number opening begun goes begins b2 h =
+    first_fine s new cookie None alive f number opening begun goes begins conn_b2 h = absurd alive
+    first_fine s new cookie (Some leg) alive f number opening begun goes begins conn_b2 h =
         set_kept n came (top_of (view s))
         (record (top_of (view s)) { at = new; current = 1; cookie = cookie })
         s.newest_in s.ins log leg
@@ -235,7 +235,7 @@ module _ (n : ℕ) where
           tells = (
             refl,
             is ∙ number,
-            subst (λ (k : ℕ). Came is_conn_b2 k came) (sym (is ∙ number)) b2,
+            subst (λ (k : ℕ). Came is_conn_b2 k came) (sym (is ∙ number)) conn_b2,
           );
           leaves = no_leaves s.stage new leg.stage in_stage.Opened leg.leaving shut q.leaves;
           next = λ e. absurd (false≢true (sym shut ∙ (q.next e).0));
@@ -277,7 +277,7 @@ module _ (n : ℕ) where
         → leg.number ≡ s.current.leg → is_opening s.stage ≡ false → is_begun s.stage ≡ true
         → Came is_in_r1_a6 leg.number came → FineNow s
         → FineNow (with_in s (record leg { leaving = leaving.InR1B1 }))
-    leaves_fine s leg f stays current opening begun a6 h =
+    leaves_fine s leg f stays current opening begun in_r1_a6 h =
         set_kept n came (top_of (view s)) (top_of (view s)) s.newest_in s.ins log leg
         (record leg { leaving = leaving.InR1B1 }) f refl
         (λ is q. record {
@@ -287,7 +287,7 @@ module _ (n : ℕ) where
           begun = q.begun;
           tells = q.tells;
           leaves = (
-            subst (λ (k : ℕ). Came is_in_r1_a6 k came) (sym is) a6,
+            subst (λ (k : ℕ). Came is_in_r1_a6 k came) (sym is) in_r1_a6,
             opening,
             (q.current begun (is ∙ current)).0,
           );

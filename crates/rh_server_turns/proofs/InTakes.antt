@@ -103,7 +103,7 @@ module _ (n : ℕ) where
       (packet : Named) (came put : List OnLeg) → Begins b packet → is_conn_b2 packet ≡ true
       → Alive (in_leg m s.ins) → Holds s came put
       → RowKeeps Holds (leg_at InServer m, Packet packet) came put (on_conn_b2 s m count a b c d)
-  conn_b2_row s m count v a b c d packet came put begins is_b2 alive h =
+  conn_b2_row s m count v a b c d packet came put begins passes alive h =
       by_test (Row m) (is_first count && ((m == 1) && not (waits kinds.ConnC1 s.waiting)))
       (conn_b2_at s s.stage a b c d) (unexpected s)
       (λ t.
@@ -123,7 +123,7 @@ module _ (n : ℕ) where
           first_fine n (came ++ (leg_at InServer 1, Packet packet) ∷ []) (of_leg (is n) put) s new
           b (in_leg 1 s.ins) alive (found_at s.ins (in_place 1 s.ins))
           (number_found 1 s.ins (in_place 1 s.ins) refl) opening begun goes
-          (begins_now b 1 packet came begins) (came_now is_conn_b2 1 packet came is_b2)
+          (begins_now b 1 packet came begins) (came_now is_conn_b2 1 packet came passes)
           (more s came put (leg_at InServer 1, Packet packet) h)
 
       by : (x : Stage) → s.stage ≡ x → Alive (in_leg 1 s.ins)
@@ -143,7 +143,7 @@ module _ (n : ℕ) where
       → Holds s came put
       → RowKeeps Holds (leg_at InServer m, Packet packet) came put
       (on_in_r1_a2 s m count a b c d e)
-  in_r1_a2_row s m count a b c d e packet came put begins is_a2 h =
+  in_r1_a2_row s m count a b c d e packet came put begins passes h =
       by_test Row _ (in_r1_a2_at s s.stage m a b c d e) (unexpected s) (λ t. by s.stage refl)
       (λ t. h)
     where
@@ -166,7 +166,7 @@ module _ (n : ℕ) where
           (not-false (is_fresh leg.stage) t) (ap is_begun at)
           (subst (λ (k : ℕ). CameAt InServer k (Begins c) (came ++ one ∷ [])
           × Came is_in_r1_a2 k (came ++ one ∷ [])) (sym number)
-          (begins_now c m packet came begins, came_now is_in_r1_a2 m packet came is_a2))
+          (begins_now c m packet came begins, came_now is_in_r1_a2 m packet came passes))
           (more s came put one h))))
 
       by : (x : Stage) → s.stage ≡ x → Row (in_r1_a2_at s x m a b c d e)
@@ -182,7 +182,7 @@ module _ (n : ℕ) where
       (came put : List OnLeg) → is_in_r1_a6 packet ≡ true → Alive (in_leg m s.ins)
       → (is_opening s.stage ≡ true → Quiet s.line) → Holds s came put
       → RowKeeps Holds (leg_at InServer m, Packet packet) came put (on_in_r1_a6 s m successor)
-  in_r1_a6_row s m successor packet came put is_a6 alive quiet h =
+  in_r1_a6_row s m successor packet came put passes alive quiet h =
       by_test Row test
       (if same_cookie s.next.cookie successor then took (hands_over s m)
       else refuse s (refused.Cookie s.next.cookie successor)) (unexpected s)
@@ -221,7 +221,7 @@ module _ (n : ℕ) where
           (number ∙ same_number m s.current.leg (and_parts (m == s.current.leg) _ e).0) shut
           (begun_if s.stage shut)
           (subst (λ (k : ℕ). Came is_in_r1_a6 k (came ++ one ∷ [])) (sym number)
-          (came_now is_in_r1_a6 m packet came is_a6))
+          (came_now is_in_r1_a6 m packet came passes))
           (more s came put one h)
 
   in_r2_a2_row : (s : Server) (m : ℕ) (count : Count) (successor : Cookie) (packet : Named)

@@ -1,7 +1,7 @@
-mod Splits
+pub mod Splits
 mod OnTurn
 mod Found
-mod Reaching
+pub mod Reaching
 mod Owned
 mod Room
 mod FirstLegs

@@ -133,8 +133,8 @@ conn_a2_fine s n count a b c d h =
         stage_fine s (record (with_first_out s b c d) { stage = stage.OutCame a })
         (out_line s b c d) (λ e. ap is_opening is) h
     by (stage.InCame known window timeout) is =
-        by_test Row (same_cookie known a) (took (opens (with_first_out s b c d) known window timeout))
-        _ (λ e f. absurd (false≢true f)) (λ e. h)
+        by_test Row (same_cookie known a)
+        (took (opens (with_first_out s b c d) known window timeout)) _ (λ e f. absurd (false≢true f)) (λ e. h)
     by (stage.OutCame known) is = h
     by (stage.Open known) is = h
     by stage.Ended is = h
@@ -162,9 +162,9 @@ conn_b2_fine s n count a b c d h =
     by (stage.Open known) is = h
     by stage.Ended is = h
 
-a2_stage : (s : Server) (n : ℕ) (x : Stage) (a b c : Cookie) (d e : ℕ)
+in_r1_a2_stage : (s : Server) (n : ℕ) (x : Stage) (a b c : Cookie) (d e : ℕ)
     → (in_r1_a2_at s x n a b c d e).0.stage ≡ s.stage
-a2_stage s n x a b c d e = search rules
+in_r1_a2_stage s n x a b c d e = search rules
 
 in_r1_a2_fine : (s : Server) (n : ℕ) (count : Count) (a b c : Cookie) (d e : ℕ) → Fine s
     → Fine (on_in_r1_a2 s n count a b c d e).0
@@ -178,14 +178,14 @@ in_r1_a2_fine s n count a b c d e h =
     by : (x : Stage) → s.stage ≡ x → Row (in_r1_a2_at s x n a b c d e)
     by (stage.Open known) is =
         open_fine s (in_r1_a2_at s (stage.Open known) n a b c d e).0
-        (a2_stage s n (stage.Open known) a b c d e) (ap is_open is)
+        (in_r1_a2_stage s n (stage.Open known) a b c d e) (ap is_open is)
     by stage.Waits is = h
     by (stage.OutCame known) is = h
     by (stage.InCame known window timeout) is = h
     by stage.Ended is = h
 
-a6_stage : (s : Server) (n : ℕ) (a : Cookie) → (on_in_r1_a6 s n a).0.stage ≡ s.stage
-a6_stage s n a = search rules
+in_r1_a6_stage : (s : Server) (n : ℕ) (a : Cookie) → (on_in_r1_a6 s n a).0.stage ≡ s.stage
+in_r1_a6_stage s n a = search rules
 
 in_r1_a6_fine : (s : Server) (n : ℕ) (a : Cookie) → Fine s → Fine (on_in_r1_a6 s n a).0
 in_r1_a6_fine s n a h = by (is_opening s.stage) refl
@@ -206,7 +206,7 @@ in_r1_a6_fine s n a h = by (is_opening s.stage) refl
     by true is =
         by_test Row test _ (unexpected s)
         (λ e. absurd (true≢false (sym (has e) ∙ (h is).alone))) (λ e. h)
-    by false is = λ e. absurd (false≢true (sym is ∙ ap is_opening (sym (a6_stage s n a)) ∙ e))
+    by false is = λ e. absurd (false≢true (sym is ∙ ap is_opening (sym (in_r1_a6_stage s n a)) ∙ e))
 
 end_quiet : (line : Line) (which : Which) → Quiet line → Quiet (after_end line which)
 end_quiet line Current q =
@@ -309,7 +309,7 @@ module _ (s : Server) (h : Fine s) where
       or_fine (put_in_greeting s leg) _
       (by_test PickFine (is_due leg.greeting) _ None (λ e. h) (λ e. tt))
       (or_fine (put_tells s leg) _ (told leg.tells)
-      (or_fine (put_b1 s leg) (put_ack s leg) (b1 leg.leaving) (ack (ack_due s leg) refl)))
+      (or_fine (put_b1 s leg) (put_ack s leg) (leaves leg.leaving) (ack (ack_due s leg) refl)))
     where
       told : (t : Tells) → PickFine (put_tells_by s leg t)
       told tells.Nothing = tt
@@ -317,11 +317,11 @@ module _ (s : Server) (h : Fine s) where
       told tells.InR1B2 =
           by_test PickFine (was_current s leg) _ None (λ e. told_fine leg.number) (λ e. tt)
 
-      b1 : (x : Leaving) → PickFine (put_b1_by s leg x)
-      b1 leaving.Stays = tt
-      b1 leaving.InR1B1 = h
-      b1 leaving.Left = tt
-      b1 leaving.Lost = tt
+      leaves : (x : Leaving) → PickFine (put_b1_by s leg x)
+      leaves leaving.Stays = tt
+      leaves leaving.InR1B1 = h
+      leaves leaving.Left = tt
+      leaves leaving.Lost = tt
 
       ack : (o : Option Ack) → ack_due s leg ≡ o → PickFine (put_ack_by s o)
       ack None is = tt

@@ -1,6 +1,7 @@
 -- what a server puts on an is leg, in which order and for what (MS-RPCH 3.2.5; replacement is this
 -- profile's)
 use Rattle.std.specs.Prelude.{ℕ, ◌≡◌, ◌⊎◌, ◌≤◌, ◌+◌, List, [], ◌∷◌, Bool, true, false}
+use Rattle.rh_rts.specs.declared.command.Cookie.{Cookie}
 use Rattle.rh_sig.specs.declared.named.Named.{Named}
 use Rattle.rh_sig.specs.declared.named.Named.TheVariants.{ConnB3, InR1B1, InR1B2, Ack}
 use Rattle.rh_line.specs.declared.leg.LegKind.TheVariants.{InServer}
@@ -8,6 +9,7 @@ use Rattle.rh_shell.specs.Hearing.{greeting}
 use Rattle.rh_shell.specs.Moves.{OnLeg, Passage}
 use Rattle.rh_shell.specs.Rules.{Message, Text, Packet}
 use Rattle.rh_shell.specs.Wires.{of_leg}
+use Rattle.rh_passages.specs.Passing.{Has}
 use Rattle.rh_server.specs.States.{Server}
 use Rattle.rh_server_counts.specs.Counting.{is_conn_b2, is_conn_b3, is_in_r1_a2, is_in_r1_a6, often_at}
 use Rattle.rh_server_puts.specs.Copying.{Begins, CameAt}
@@ -63,9 +65,17 @@ AnswersOn n came (first ∷ rest) = (first ≡ Text greeting) × TellsOn n came 
 
 pub record AnswersInOrder (p : Passage Server) : Type 0 where
   pub order : (n : ℕ) → AnswersOn n p.came (of_leg (is n) p.put)
-  -- so by counts
+  -- so an acknowledgement has a cookie that came there
+  pub acks : (n received window : ℕ) (cookie : Cookie)
+      → Has (Ack received window cookie) (of_leg (is n) p.put)
+      → CameAt InServer n (Begins cookie) p.came
+  -- and by counts
   pub tells_once : (n : ℕ)
       → often_at is_conn_b3 InServer n p.put + often_at is_in_r1_b2 InServer n p.put ≤ 1
+  pub conn_b3 : (n : ℕ)
+      → often_at is_conn_b3 InServer n p.put ≤ often_at is_conn_b2 InServer n p.came
+  pub in_r1_b2 : (n : ℕ)
+      → often_at is_in_r1_b2 InServer n p.put ≤ often_at is_in_r1_a2 InServer n p.came
   pub leaves_once : (n : ℕ) → often_at is_in_r1_b1 InServer n p.put ≤ 1
-  pub leaves_for : (n : ℕ)
+  pub in_r1_b1 : (n : ℕ)
       → often_at is_in_r1_b1 InServer n p.put ≤ often_at is_in_r1_a6 InServer n p.came
