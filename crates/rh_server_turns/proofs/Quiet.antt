@@ -134,7 +134,8 @@ conn_a2_fine s n count a b c d h =
         (out_line s b c d) (λ e. ap is_opening is) h
     by (stage.InCame known window timeout) is =
         by_test Row (same_cookie known a)
-        (took (opens (with_first_out s b c d) known window timeout)) _ (λ e f. absurd (false≢true f)) (λ e. h)
+        (took (opens (with_first_out s b c d) known window timeout)) _
+        (λ e f. absurd (false≢true f)) (λ e. h)
     by (stage.OutCame known) is = h
     by (stage.Open known) is = h
     by stage.Ended is = h
