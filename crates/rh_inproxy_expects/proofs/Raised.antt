@@ -1,15 +1,13 @@
 -- each ci leg of an in proxy that was up came up by one of its moves
-use Rattle.std.proofs.Common.{◌≡◌, ◌⊎◌, ℕ, suc, ◌+◌, ◌≤◌, ◌==◌, ◌&&◌, ◌||◌, Bool, true, false, if◌then◌else◌, List, [], ◌∷◌, Some, None, Ok, Err, inl, inr, refl, sym, ap, ◌∙◌, subst, arith}
+use Rattle.std.proofs.Common.{◌≡◌, ◌⊎◌, ℕ, suc, ◌≤◌, ◌==◌, ◌||◌, Bool, true, false, if◌then◌else◌, List, [], ◌∷◌, Some, None, Ok, Err, inl, inr, refl, sym, ap, subst, arith}
 use Rattle.std.proofs.lemmas.Bool.{and_parts}
 use Rattle.std.proofs.lemmas.Bool.Decides.{nat_tests}
-use Rattle.std.specs.Prelude.{IsTrue, nat_le}
 use Rattle.std.specs.List.{list_any}
 use Rattle.std.specs.declared.option.Option.{Option}
-use Rattle.rh_rts.specs.declared.command.Cookie.{Cookie}
 use Rattle.rh_line.specs.declared.leg.Leg.{Leg}
 use Rattle.rh_order.proofs.ByNumber.{by_test}
 use Rattle.rh_shell.specs.Moves.{Move, Up, HeadCame, PduCame, PacketCame, Puts, IsDrawn, Marks, Pings, OnLeg, Passage, all_moved, moved, put_by, started, taken_by}
-use Rattle.rh_shell.specs.Rules.{Message, Pdu, Packet, Row}
+use Rattle.rh_shell.specs.Rules.{Message, Pdu, Packet}
 use Rattle.rh_shell.specs.Shells.{same_leg}
 use Rattle.rh_streams.specs.Streams.{is_up_on}
 use Rattle.rh_client.specs.State.{ci}
