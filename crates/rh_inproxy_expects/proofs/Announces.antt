@@ -203,8 +203,8 @@ module _ (n : ℕ) (s : InProxy) where
           let now = follows (line.after_finish s.line).has_next s.current (Joined leg Follows) in
           freed o now.0.number (is_absent now.1) came some h
 
-  a5_stays : (which : Which) (cookie : Cookie) → Keeps (on_in_r1_a5 s which cookie)
-  a5_stays which cookie =
+  in_r1_a5_stays : (which : Which) (cookie : Cookie) → Keeps (on_in_r1_a5 s which cookie)
+  in_r1_a5_stays which cookie =
       by_test Keeps (has_a5 s which) (unexpected s) (hand_over s which cookie) (λ e came h. h)
       (λ e. by which)
     where
@@ -223,7 +223,7 @@ module _ (n : ℕ) (s : InProxy) where
   channel_stays which (named.KeepAlive keepalive) =
       same_stays (on_keep_alive s which keepalive).0 (same_keep_alive s which keepalive)
   channel_stays which named.EndA1 = same_stays (on_end_a1 s which).0 (same_end s which)
-  channel_stays which (named.InR1A5 successor) = a5_stays which successor
+  channel_stays which (named.InR1A5 successor) = in_r1_a5_stays which successor
   channel_stays which m = λ came h. h
 
   by_channel_stays : (o : Option Which) (m : Named) → Keeps (on_channel_by s o m)

@@ -20,17 +20,17 @@ use Rattle.rh_inproxy_expects.proofs.OnServer.{Answers, Is, IsAnswer, IsOther, T
 
 -- ---- tests that are the same
 
-a6_is : (m : Named) → at_server.is_in_r1_a6 m ≡ true → at_proxy.is_in_r1_a6 m ≡ true
-a6_is (named.InR1A6 successor) e = refl
-a6_is m e = absurd cc
+in_r1_a6_is : (m : Named) → at_server.is_in_r1_a6 m ≡ true → at_proxy.is_in_r1_a6 m ≡ true
+in_r1_a6_is (named.InR1A6 successor) e = refl
+in_r1_a6_is m e = absurd cc
 
-b2_is : (m : Named) → at_server.is_conn_b2 m ≡ true → at_proxy.is_conn_b2 m ≡ true
-b2_is (named.ConnB2 version connection channel window timeout group address padding) e = refl
-b2_is m e = absurd cc
+conn_b2_is : (m : Named) → at_server.is_conn_b2 m ≡ true → at_proxy.is_conn_b2 m ≡ true
+conn_b2_is (named.ConnB2 version connection channel window timeout group address padding) e = refl
+conn_b2_is m e = absurd cc
 
-a2_is : (m : Named) → at_server.is_in_r1_a2 m ≡ true → is_in_r1_a2 m ≡ true
-a2_is (named.InR1A2 version connection predecessor successor window timeout) e = refl
-a2_is m e = absurd cc
+in_r1_a2_is : (m : Named) → at_server.is_in_r1_a2 m ≡ true → is_in_r1_a2 m ≡ true
+in_r1_a2_is (named.InR1A2 version connection predecessor successor window timeout) e = refl
+in_r1_a2_is m e = absurd cc
 
 tells_so : (cookie : Cookie) (m : Named) → Begins cookie m → Tells cookie m
 tells_so cookie (named.ConnB2 version connection channel window timeout group address padding) is =
@@ -60,7 +60,7 @@ module _ (n : ℕ) (log : List OnLeg) where
   read_acks (Packet named.InR1B1 ∷ ms) (inr h) =
       subst (λ (rest : List Message). Each (all_read_of (Packet named.InR1B1 ∷ rest))
       × Others (all_read_of (Packet named.InR1B1 ∷ rest))) (sym h.1)
-      ((counts_one (Is at_proxy.is_in_r1_a6) at_server.is_in_r1_a6 a6_is came h.0, tt), (refl, tt))
+      ((counts_one (Is at_proxy.is_in_r1_a6) at_server.is_in_r1_a6 in_r1_a6_is came h.0, tt), (refl, tt))
   read_acks (m ∷ ms) (inl h) = absurd h.0
   read_acks (m ∷ ms) (inr h) = absurd h.0
 
@@ -69,13 +69,13 @@ module _ (n : ℕ) (log : List OnLeg) where
   read_tells (Packet (named.ConnB3 size version) ∷ ms) h =
       let rest = read_acks ms h.1 in
       record {
-        each = (counts_one (Is at_proxy.is_conn_b2) at_server.is_conn_b2 b2_is came h.0.1, rest.0);
+        each = (counts_one (Is at_proxy.is_conn_b2) at_server.is_conn_b2 conn_b2_is came h.0.1, rest.0);
         order = (refl, rest.1);
       }
   read_tells (Packet (named.InR1B2 size) ∷ ms) h =
       let rest = read_acks ms h.1 in
       record {
-        each = (counts_one (Is is_in_r1_a2) at_server.is_in_r1_a2 a2_is came h.0, rest.0);
+        each = (counts_one (Is is_in_r1_a2) at_server.is_in_r1_a2 in_r1_a2_is came h.0, rest.0);
         order = (refl, rest.1);
       }
   read_tells (m ∷ ms) h = absurd h.0

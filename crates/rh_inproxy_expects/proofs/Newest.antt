@@ -138,8 +138,8 @@ module _ (s : InProxy) where
       ∙ ap (newest_by s.current) (sym e)))
       (λ t. refl)
 
-  a5_same : (which : Which) (cookie : Cookie) → Keeps (on_in_r1_a5 s which cookie)
-  a5_same which cookie =
+  in_r1_a5_same : (which : Which) (cookie : Cookie) → Keeps (on_in_r1_a5 s which cookie)
+  in_r1_a5_same which cookie =
       by_test Keeps (has_a5 s which) (unexpected s) (hand_over s which cookie) (λ e. refl)
       (λ e. by which)
     where
@@ -157,7 +157,7 @@ module _ (s : InProxy) where
       (unexpected s) (λ e. forward_same (named.OutR1A8 2 successor)) (λ e. refl)
   channel_same which (named.KeepAlive keepalive) = same_keep_alive s which keepalive
   channel_same which named.EndA1 = same_end s which
-  channel_same which (named.InR1A5 successor) = a5_same which successor
+  channel_same which (named.InR1A5 successor) = in_r1_a5_same which successor
   channel_same which m = refl
 
   by_channel_same : (o : Option Which) (m : Named) → Keeps (on_channel_by s o m)

@@ -37,9 +37,9 @@ end_is : (m : Named) → is_end_a1 m ≡ true → named.EndA1 ≡ m
 end_is named.EndA1 e = refl
 end_is m e = absurd cc
 
-a5_is : (m : Named) → is_in_r1_a5 m ≡ true → (successor : Cookie) × (m ≡ named.InR1A5 successor)
-a5_is (named.InR1A5 successor) e = (successor, refl)
-a5_is m e = absurd cc
+in_r1_a5_is : (m : Named) → is_in_r1_a5 m ≡ true → (successor : Cookie) × (m ≡ named.InR1A5 successor)
+in_r1_a5_is (named.InR1A5 successor) e = (successor, refl)
+in_r1_a5_is m e = absurd cc
 
 abbrev Never : Message → Type 0
 Never m = ⊥
@@ -92,11 +92,11 @@ module _ (config : ClientConfig) (moves : List EndMove) (first : ℕ) (p : Passa
 
   -- ---- nothing stands behind IN_R1/A5, and no RPC PDU behind END
 
-  behind_a5 : (n : ℕ) → AreBehind is_in_r1_a5 Never (all_read_of (puts n))
-  behind_a5 n =
+  behind_in_r1_a5 : (n : ℕ) → AreBehind is_in_r1_a5 Never (all_read_of (puts n))
+  behind_in_r1_a5 n =
       read_behind is_in_r1_a5 Never (puts n)
       (are_behind is_in_r1_a5 Never (puts n) (λ before later m e is.
-      let mark = a5_is m e in
+      let mark = in_r1_a5_is m e in
       nothing later (h.left n before later mark.0
       (is ∙ ap (λ (x : Named). before ++ Packet x ∷ later) mark.1))))
 
@@ -116,7 +116,7 @@ module _ (config : ClientConfig) (moves : List EndMove) (first : ℕ) (p : Passa
   module _ (n : ℕ) (m : Message) (ahead : IsPrefix (came n ++ m ∷ []) (all_read_of (puts n))) where
     not_left : IsLeft p n → ⊥
     not_left left =
-        next_behind is_in_r1_a5 Never (came n) (all_read_of (puts n)) m (behind_a5 n) ahead left
+        next_behind is_in_r1_a5 Never (came n) (all_read_of (puts n)) m (behind_in_r1_a5 n) ahead left
 
     late_behind : IsEnded p n → IsLate m
     late_behind ended =
