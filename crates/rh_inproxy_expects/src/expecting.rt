@@ -25,8 +25,9 @@ use rh_server_turns::a_server_answers_in_proxies_in_order;
 
 /// At each moment of a virtual connection: on the legs of a client that it reads, and on its leg to
 /// the server, an in proxy refuses nothing that comes next there as unexpected, or for its cookie.
-/// Of ci legs that is said where those that came up at an in proxy are those that it reads: where
-/// IN_R1/A5 comes next, the server was told of the next channel (profile).
+/// Of ci legs that is said where each that came up at an in proxy is one that it reads, as it is in
+/// each world: else the next one might be up there with no first packet to come, and IN_R1/A5 on
+/// the one before it would be unexpected (profile).
 pub fn an_in_proxy_expects_what_comes()
     ensures client { (numbers : Numbers) (reader : ℕ → ℕ) (moves : Moves)
         → IsMoment numbers reader moves → AreReadWhereUp reader moves
