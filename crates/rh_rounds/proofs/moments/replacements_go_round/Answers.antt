@@ -6,7 +6,7 @@ use Rattle.rh_rounds.proofs.Rounding.{AreCounted, go_round}
 use Rattle.rh_rounds.proofs.moments.replacements_go_round.Goals as goal
 
 pub returns : goal.returns
-returns g c numbers reader moves made joined =
+returns c numbers reader moves made joined =
     go_round reader (passages numbers moves) joined (counted numbers moves made)
   where
     counted : (numbers : Numbers) (moves : Moves) → AreMade numbers moves
