@@ -1,5 +1,5 @@
--- an out proxy puts to its client no RPC PDU that did not come from the server, and behind END/B2 no
--- RPC PDU and no END/B2
+-- an out proxy puts RPC PDUs to its client only where some came from the server, and behind END/B2
+-- no RPC PDU and no other END/B2
 use Rattle.std.proofs.Common.{◌≡◌, ◌⊎◌, inl, inr, ℕ, ◌||◌, Bool, true, false, List, [], ◌∷◌, ◌++◌, refl, sym, ap, ◌∙◌, subst}
 use Rattle.std.proofs.lemmas.List.{append_assoc}
 use mathlib.Core.List.{IsPrefix}

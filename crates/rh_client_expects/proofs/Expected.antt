@@ -1,5 +1,5 @@
 -- whatever comes next at a client on an OUT channel, it refuses nothing of it as unexpected
-use Rattle.std.proofs.Common.{◌≡◌, ◌⊎◌, inl, inr, ℕ, ◌+◌, ◌<◌, ◌≤◌, List, [], ◌∷◌, ◌++◌, Err, refl, sym, subst, arith}
+use Rattle.std.proofs.Common.{◌≡◌, inl, inr, ℕ, ◌<◌, ◌≤◌, List, [], Err, refl, sym, subst, arith}
 use Rattle.std.specs.Prelude.{IsTrue}
 use Rattle.rh_sig.specs.declared.named.Named.{Named}
 use Rattle.rh_sig.specs.declared.named.Named.TheVariants as named
@@ -8,7 +8,7 @@ use Rattle.rh_shell.specs.declared.answers.Count.{Count}
 use Rattle.rh_shell.specs.declared.answers.Refused.{Refused}
 use Rattle.rh_shell.specs.declared.answers.Refused.TheVariants as refused
 use Rattle.rh_shell.specs.Moves.{Passage, is_in_use}
-use Rattle.rh_shell.specs.Rules.{Message, Text, Pdu, Packet}
+use Rattle.rh_shell.specs.Rules.{Message, Pdu, Packet}
 use Rattle.rh_shell.specs.Wires.{of_leg}
 use Rattle.rh_reading.specs.Reading.{all_read_of}
 use Rattle.rh_passages.specs.Counted.{Tells, packets}
@@ -18,15 +18,14 @@ use Rattle.rh_client.specs.declared.state.ClientRole.{ClientRole}
 use Rattle.rh_client.specs.Client.{rules}
 use Rattle.rh_client.specs.State.{co}
 use Rattle.rh_client_counts.specs.Opening.{opened}
-use Rattle.rh_client_counts.specs.Replacing.{out_asked, out_wanted}
 use Rattle.rh_client_rows.specs.Refusing.{Refuses, UnexpectedOn, UnexpectedPduBy, is_conn_a3}
-use Rattle.rh_outproxy_puts.specs.Puts.{OpensClient, PassesPacket}
+use Rattle.rh_outproxy_puts.specs.Puts.{OpensClient}
 use Rattle.rh_proxy_counts.specs.OutCounts.{co_leg, os_leg}
 use Rattle.rh_moments.specs.Expecting.{Expects, IsAmiss}
 use Rattle.rh_moments.specs.Moments.{IsJoined, IsMoment, Moves, Numbers, Passages, passages}
 use Rattle.rh_client_expects.proofs.Facts.{IsNext, answers_in_r1, answers_in_r2, answers_out, ends, finishes_out, is_first, is_open, is_unopened, switched_to, wants_out}
 use Rattle.rh_client_expects.proofs.Known.{Laws, puts_at}
-use Rattle.rh_client_expects.proofs.Next.{Next, Opens, OpeningNext, Passes, PassingNext, TimeoutNext, next_of}
+use Rattle.rh_client_expects.proofs.Next.{Next, OpeningNext, Passes, PassingNext, TimeoutNext, next_of}
 
 module _ (laws : Laws) (numbers : Numbers) (reader : ℕ → ℕ) (moves : Moves)
     (moment : IsMoment numbers reader moves) where
@@ -83,9 +82,9 @@ module _ (laws : Laws) (numbers : Numbers) (reader : ℕ → ℕ) (moves : Moves
         (laws.wanted numbers reader moves moment) (named.OutR1A2 to) refl ahead in
         let behind = wants.behind in
         elim late [
-          inl last ↦ wants.numbered last
+          | inl last ↦ wants.numbered last
           | inr other ↦ elim other [
-            inl less ↦ wants.alone less
+            | inl less ↦ wants.alone less
             | inr at ↦ let here = at.0 in let same = at.1 in omega (arith, behind, here, same)
           ]
         ]

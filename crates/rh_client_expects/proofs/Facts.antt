@@ -1,25 +1,22 @@
 -- what is known at a moment of a message that comes next on an OUT channel of the client
-use Rattle.std.proofs.Common.{◌≡◌, ◌⊎◌, inl, inr, ℕ, zero, suc, ◌+◌, ◌<◌, ◌≤◌, Bool, true, false, if◌then◌else◌, List, [], ◌∷◌, ◌++◌, refl, sym, ap, ◌∙◌, subst, arith}
+use Rattle.std.proofs.Common.{◌≡◌, ◌⊎◌, inl, inr, ℕ, zero, suc, ◌+◌, ◌<◌, ◌≤◌, Bool, true, false, if◌then◌else◌, List, [], ◌∷◌, ◌++◌, refl, sym, subst, arith}
 use Rattle.std.proofs.lemmas.Bool.Decides.{nat_tests}
 use mathlib.Core.List.{IsPrefix}
-use Rattle.rh_rts.specs.declared.command.Cookie.{Cookie}
 use Rattle.rh_sig.specs.declared.named.Named.{Named}
 use Rattle.rh_sig.specs.declared.named.Named.TheVariants as named
-use Rattle.rh_line.specs.declared.leg.Leg.{Leg}
 use Rattle.rh_line.specs.declared.leg.LegKind.TheVariants.{ClientOut, OutServer}
 use Rattle.rh_shell.specs.Moves.{Passage}
 use Rattle.rh_shell.specs.Rules.{Message, Text, Pdu, Packet}
 use Rattle.rh_shell.specs.Wires.{of_leg}
 use Rattle.rh_reading.specs.Reading.{all_read_of}
 use Rattle.rh_passages.specs.Passing.{count_of, of_kind, Has, HasOne}
-use Rattle.rh_chains.specs.Sums.{count_on}
 use Rattle.rh_client.specs.declared.channels.TheConstants.{LAST_NUMBER}
 use Rattle.rh_client.specs.declared.state.ClientRole.{ClientRole}
 use Rattle.rh_client.specs.State.{co}
 use Rattle.rh_client_counts.specs.Counting as at_client
 use Rattle.rh_client_counts.specs.Counting.{StandsOnEach, is_among, once_if, total}
-use Rattle.rh_client_counts.specs.Opening.{OpensOnce, opened}
-use Rattle.rh_client_counts.specs.Replacing.{AsksWhereWanted, ReplacesOuts, in_asked, in_answered, out_wanted, out_asked, out_answered, out_switched, out_finished}
+use Rattle.rh_client_counts.specs.Opening.{opened}
+use Rattle.rh_client_counts.specs.Replacing.{ReplacesOuts, in_asked, in_answered, out_wanted, out_asked, out_answered, out_switched, out_finished}
 use Rattle.rh_order.specs.Items.{Item}
 use Rattle.rh_outproxy.specs.Order.{to_client}
 use Rattle.rh_outproxy_puts.specs.Puts.{OpensNew, OpensSuccessor}
@@ -30,9 +27,9 @@ use Rattle.rh_server_counts.specs.Counting.{IsOnEachFrom, out_put}
 use Rattle.rh_server_counts.specs.Replacing.{ArePutInTurn}
 use Rattle.rh_server_puts.specs.Puts.{os}
 use Rattle.rh_moments.specs.Moments.{IsJoined, Moves, Numbers, Passages, passages}
-use Rattle.rh_moments.proofs.Joining.{co_back, co_front, os_back}
-use Rattle.rh_moments.proofs.Read.{front_count, front_one}
-use Rattle.rh_rounds.specs.Rounds.{GoRound, InGoesRound, OutGoesRound}
+use Rattle.rh_moments.proofs.Joining.{co_front, os_back}
+use Rattle.rh_moments.proofs.Read.{front_one}
+use Rattle.rh_rounds.specs.Rounds.{GoRound}
 use Rattle.rh_client_expects.proofs.Ahead.{HasPdu, front_pdu, one_pdu, pdu_last}
 use Rattle.rh_client_expects.proofs.Ends.{IsHandover, ends_last, is_channel, pdu_came}
 use Rattle.rh_client_expects.proofs.InTurn.{IsBehind, is_behind}

@@ -10,7 +10,7 @@ use Rattle.rh_client.specs.State.{first}
 use Rattle.rh_client_counts.specs.Counting.{StandsOnEach, is_out_r1_a2}
 use Rattle.rh_client_counts.specs.Replacing.{out_asked, out_wanted}
 use Rattle.rh_client_counts.proofs.Standing.{stands_none, stands_on}
-use Rattle.rh_moments.specs.Moments.{IsMoment, IsPast, Moves, Numbers, client_behind, server_behind}
+use Rattle.rh_moments.specs.Moments.{IsMoment, Moves, Numbers, client_behind, server_behind}
 use Rattle.rh_client_expects.proofs.GoingRound.{RoundLaws, are_asked}
 use Rattle.rh_client_expects.proofs.Wishes.{AreAsked, brings, brought}
 
@@ -59,7 +59,8 @@ module _ (laws : RoundLaws) (numbers : Numbers) (reader : ℕ → ℕ) (moves : 
       all_later (front ++ move ∷ []) later (e ∙ sym (append_assoc front (move ∷ []) later))
       (one_later front later move e stood)
 
-  pub wanted_in_turn : StandsOnEach is_out_r1_a2 ClientOut 1 (client_behind numbers moves).passage.came
+  pub wanted_in_turn :
+      StandsOnEach is_out_r1_a2 ClientOut 1 (client_behind numbers moves).passage.came
   wanted_in_turn =
       all_later [] moves.client refl
       (stands_on is_out_r1_a2 ClientOut 1 0 [] (stands_none is_out_r1_a2 ClientOut 1))

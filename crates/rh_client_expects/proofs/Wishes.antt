@@ -1,5 +1,5 @@
 -- OUT_R1/A2 comes at the client once on each OUT channel from the first on
-use Rattle.std.proofs.Common.{◌≡◌, ℕ, ◌+◌, ◌≤◌, Bool, true, false, if◌then◌else◌, suc, List, [], ◌∷◌, ◌++◌, Some, None, Ok, Err, refl, sym, ap, ◌∙◌, subst, arith}
+use Rattle.std.proofs.Common.{◌≡◌, ℕ, ◌+◌, ◌≤◌, Bool, true, false, if◌then◌else◌, List, [], ◌∷◌, ◌++◌, Some, None, Ok, Err, refl, sym, ap, ◌∙◌, subst, arith}
 use Rattle.std.specs.declared.option.Option.{Option}
 use Rattle.std.specs.declared.result.Result.{Result}
 use Rattle.rh_sig.specs.declared.named.Named.{Named}
@@ -18,7 +18,7 @@ use Rattle.rh_client.specs.declared.state.ClientRole.{ClientRole}
 use Rattle.rh_client.specs.State.{Done, co}
 use Rattle.rh_client.specs.Client.{acts, rules, packet_by, packet_on, pdu_by}
 use Rattle.rh_client.specs.Acknowledging.{on_pdu}
-use Rattle.rh_client_counts.specs.Counting.{StandsOnEach, is_out_r1_a2, total}
+use Rattle.rh_client_counts.specs.Counting.{StandsOnEach, is_out_r1_a2}
 use Rattle.rh_client_counts.specs.Replacing.{out_asked, out_wanted}
 use Rattle.rh_client_counts.proofs.Standing.{passes, stands_next, stands_on, stands_stays}
 use Rattle.rh_proxy_counts.proofs.Counts.{here_more}
