@@ -30,10 +30,11 @@ use Rattle.rh_moments.specs.Moments.{IsJoined, Moves, Numbers, Passages, passage
 use Rattle.rh_moments.proofs.Joining.{co_front, os_back}
 use Rattle.rh_moments.proofs.Read.{front_one}
 use Rattle.rh_rounds.specs.Rounds.{GoRound}
+use Rattle.rh_rounds.proofs.Rounding.{answers as in_answers, sum_counts}
 use Rattle.rh_client_expects.proofs.Ahead.{HasPdu, front_pdu, one_pdu, pdu_last}
 use Rattle.rh_client_expects.proofs.Ends.{IsHandover, ends_last, is_channel, pdu_came}
 use Rattle.rh_client_expects.proofs.InTurn.{IsBehind, is_behind}
-use Rattle.rh_client_expects.proofs.Forwarding.{Forwarding, answers, connection, handover, in_r1, in_r2, wishes}
+use Rattle.rh_client_expects.proofs.Forwarding.{Forwarding, answer, connection, handover, in_r1, in_r2, wish}
 use Rattle.rh_client_expects.proofs.GoingRound.{are_asked, came_of, next_of_put, replaces_at, round_at, turns_at}
 use Rattle.rh_client_expects.proofs.Known.{Laws, number_at, order_at}
 use Rattle.rh_client_expects.proofs.More.{leg_within, none_more, one_more}
@@ -65,22 +66,10 @@ opens_successor : (packet : Named) → OpensSuccessor packet
 opens_successor (named.OutR1A3 version of predecessor successor window) is = refl
 opens_successor packet is = absurd is
 
--- the answers for IN channels are of two sorts
-in_answers : (ms : List Message) → count_of at_client.is_in_a4 ms
+in_counts : (ms : List Message) → count_of at_client.is_in_a4 ms
     ≡ count_of at_proxy.is_in_r1_a4 ms + count_of at_proxy.is_in_r2_a4 ms
-in_answers [] = omega arith
-in_answers (Text bytes ∷ ms) = in_answers ms
-in_answers (Pdu pdu ∷ ms) = in_answers ms
-in_answers (Packet packet ∷ ms) = by packet (in_answers ms)
-  where
-    by : (p : Named) → count_of at_client.is_in_a4 ms
-        ≡ count_of at_proxy.is_in_r1_a4 ms + count_of at_proxy.is_in_r2_a4 ms
-        → count_of at_client.is_in_a4 (Packet p ∷ ms)
-        ≡ count_of at_proxy.is_in_r1_a4 (Packet p ∷ ms)
-        + count_of at_proxy.is_in_r2_a4 (Packet p ∷ ms)
-    by (named.InR1A4 to version window timeout) rest = omega (arith, rest)
-    by (named.InR2A4 to) rest = omega (arith, rest)
-    by p rest = rest
+in_counts =
+    sum_counts at_client.is_in_a4 at_proxy.is_in_r1_a4 at_proxy.is_in_r2_a4 in_answers
 
 -- CONN/A1 is put once, so on the first channel
 first_alone : (count here n : ℕ) → count ≤ 1 → 1 ≤ here
@@ -146,8 +135,8 @@ module _ (laws : Laws) (numbers : Numbers) (reader : ℕ → ℕ) (moves : Moves
         omega (arith, unused, here, within)
 
     -- one more is next of all that the server put for it
-    more_of : (before behind : Named → Bool) → Forwarding before behind → (packet : Named)
-        → behind packet ≡ true → IsNext (Packet packet)
+    more_of : (before behind : Named → Bool) (way : Forwarding before behind) (packet : Named)
+        → way.put packet ≡ true → IsNext (Packet packet)
         → total behind ClientOut c.came + 1 ≤ total before OutServer s.put
     more_of before behind way packet is next =
         one_more before behind OutServer ClientOut c.came s.put
@@ -160,7 +149,7 @@ module _ (laws : Laws) (numbers : Numbers) (reader : ℕ → ℕ) (moves : Moves
         none_more before behind OutServer ClientOut c.came s.put
         (came_of laws.rounds numbers reader moves moment before behind way)
 
-    pub is_unopened : (packet : Named) → at_client.is_conn_c2 packet ≡ true
+    pub is_unopened : (packet : Named) → at_proxy.is_conn_c2 packet ≡ true
         → IsNext (Packet packet) → opened c ≡ 1 → ⊥
     is_unopened packet is next one =
         let more = more_of at_server.is_conn_c1 at_client.is_conn_c2 connection packet is next in
@@ -183,7 +172,7 @@ module _ (laws : Laws) (numbers : Numbers) (reader : ℕ → ℕ) (moves : Moves
     answers_in_r1 packet is next =
         let more = more_of at_server.is_in_r1_a3 at_proxy.is_in_r1_a4 in_r1 packet is next in
         let other = no_more_of at_server.is_in_r2_a3 at_proxy.is_in_r2_a4 in_r2 in
-        let both = in_answers (of_kind ClientOut c.came) in
+        let both = in_counts (of_kind ClientOut c.came) in
         in_is_asked (omega (arith, more, other, both))
 
     pub answers_in_r2 : (packet : Named) → at_proxy.is_in_r2_a4 packet ≡ true
@@ -191,14 +180,14 @@ module _ (laws : Laws) (numbers : Numbers) (reader : ℕ → ℕ) (moves : Moves
     answers_in_r2 packet is next =
         let more = more_of at_server.is_in_r2_a3 at_proxy.is_in_r2_a4 in_r2 packet is next in
         let other = no_more_of at_server.is_in_r1_a3 at_proxy.is_in_r1_a4 in_r1 in
-        let both = in_answers (of_kind ClientOut c.came) in
+        let both = in_counts (of_kind ClientOut c.came) in
         in_is_asked (omega (arith, more, other, both))
 
     -- ---- replacements of OUT channels
 
-    turn_of : (before behind : Named → Bool) → Forwarding before behind
+    turn_of : (before behind : Named → Bool) (way : Forwarding before behind)
         → StandsOnEach behind ClientOut 1 c.came → IsOnEachFrom 1 before OutServer s.put
-        → (packet : Named) → behind packet ≡ true → IsNext (Packet packet)
+        → (packet : Named) → way.put packet ≡ true → IsNext (Packet packet)
         → IsBehind behind before c.came s.put n
     turn_of before behind way stands each packet is next =
         is_behind behind before c.came s.put stands each n
@@ -208,10 +197,10 @@ module _ (laws : Laws) (numbers : Numbers) (reader : ℕ → ℕ) (moves : Moves
       pub asked_for : out_asked c ≡ out_answered c → ⊥
       pub here : n ≡ out_answered c + 1
 
-    pub answers_out : (packet : Named) → at_client.is_out_r1_a6 packet ≡ true
+    pub answers_out : (packet : Named) → at_proxy.is_out_r1_a6 packet ≡ true
         → IsNext (Packet packet) → OutIsAnswered
     answers_out packet is next =
-        let turn = turn_of at_server.is_out_r1_a5 at_client.is_out_r1_a6 answers
+        let turn = turn_of at_server.is_out_r1_a5 at_client.is_out_r1_a6 answer
         replaces.answers_on turns.a5 packet is next in
         let those = turn.those in
         let within = turn.within in
@@ -230,7 +219,7 @@ module _ (laws : Laws) (numbers : Numbers) (reader : ℕ → ℕ) (moves : Moves
       pub switched_to : out_switched c ≡ out_finished c → ⊥
       pub here : n ≡ out_finished c + 1
 
-    pub finishes_out : (packet : Named) → at_client.is_out_r1_a10 packet ≡ true
+    pub finishes_out : (packet : Named) → at_proxy.is_out_r1_a10 packet ≡ true
         → IsNext (Packet packet) → OutIsFinished
     finishes_out packet is next =
         let turn = turn_of at_server.is_out_r1_a9 at_client.is_out_r1_a10 handover
@@ -254,9 +243,9 @@ module _ (laws : Laws) (numbers : Numbers) (reader : ℕ → ℕ) (moves : Moves
       pub behind : out_wanted c + 1 ≤ n
 
     pub wants_out : StandsOnEach at_client.is_out_r1_a2 ClientOut 1 c.came → (packet : Named)
-        → at_client.is_out_r1_a2 packet ≡ true → IsNext (Packet packet) → OutIsWanted
+        → at_proxy.is_out_r1_a2 packet ≡ true → IsNext (Packet packet) → OutIsWanted
     wants_out stands packet is next =
-        let turn = turn_of at_server.is_out_r1_a1 at_client.is_out_r1_a2 wishes stands turns.a1
+        let turn = turn_of at_server.is_out_r1_a1 at_client.is_out_r1_a2 wish stands turns.a1
         packet is next in
         let those = turn.those in
         let within = turn.within in

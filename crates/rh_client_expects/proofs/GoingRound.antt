@@ -1,6 +1,6 @@
 -- what goes round at a moment: the packets that the server puts for its client on OUT channels, and
 -- what the client puts for them
-use Rattle.std.proofs.Common.{◌≡◌, ℕ, ◌+◌, ◌≤◌, Bool, true, List, [], ◌∷◌, ◌++◌, sym, ◌∙◌, subst, arith}
+use Rattle.std.proofs.Common.{◌≡◌, ℕ, ◌+◌, ◌≤◌, Bool, true, List, [], ◌∷◌, ◌++◌, subst, arith}
 use mathlib.Core.List.{IsPrefix}
 use Rattle.rh_http.specs.declared.config.ClientConfig.{ClientConfig}
 use Rattle.rh_sig.specs.declared.named.Named.{Named}
@@ -30,7 +30,7 @@ use Rattle.rh_moments.proofs.Joining.{co_back, os_back}
 use Rattle.rh_moments.proofs.Read.{front_count}
 use Rattle.rh_rounds.specs.Rounds.{GoRound}
 use Rattle.rh_client_expects.proofs.Ahead.{ahead_counts}
-use Rattle.rh_client_expects.proofs.Forwarding.{Forwarding, same_count, wishes}
+use Rattle.rh_client_expects.proofs.Forwarding.{Forwarding, wish}
 use Rattle.rh_client_expects.proofs.Wishes.{AreAsked}
 
 -- ---- the laws
@@ -88,7 +88,7 @@ module _ (laws : RoundLaws) (numbers : Numbers) (reader : ℕ → ℕ) (moves : 
         let passes = way.passes n (all.outs n) (forwards_at n) in
         let front = front_count way.came (of_leg (os_leg n) (all.outs n).came)
         (of_leg (os_leg n) all.server.put) (os_back reader all moment.joined n) in
-        let same = same_count way.came before way.first (of_leg (os_leg n) all.server.put) in
+        let same = way.first (of_leg (os_leg n) all.server.put) in
         omega (arith, passes, front, same)
 
     pub came_of : count_on behind ClientOut all.client.came n
@@ -96,26 +96,26 @@ module _ (laws : RoundLaws) (numbers : Numbers) (reader : ℕ → ℕ) (moves : 
     came_of =
         let front = front_count way.put (of_leg (co n) all.client.came)
         (of_leg (co n) (all.outs n).put) (co_back reader all moment.joined n) in
-        let same = same_count behind way.put way.last (of_leg (co n) all.client.came) in
+        let same = way.last (of_leg (co n) all.client.came) in
         let put = from_server in
         omega (arith, front, same, put)
 
-    pub next_of_put : (packet : Named) → behind packet ≡ true
+    pub next_of_put : (packet : Named) → way.put packet ≡ true
         → IsPrefix (of_leg (co n) all.client.came ++ Packet packet ∷ [])
         (all_read_of (of_leg (co n) (all.outs n).put))
         → count_on behind ClientOut all.client.came n + 1
         ≤ count_on before OutServer all.server.put n
     next_of_put packet is ahead =
         let more = ahead_counts way.put packet (of_leg (co n) all.client.came)
-        (of_leg (co n) (all.outs n).put) (sym (way.last packet) ∙ is) ahead in
-        let same = same_count behind way.put way.last (of_leg (co n) all.client.came) in
+        (of_leg (co n) (all.outs n).put) is ahead in
+        let same = way.last (of_leg (co n) all.client.came) in
         let put = from_server in
         omega (arith, more, same, put)
 
   -- as many OUT_R1/A2 came on each OUT channel as the server put OUT_R1/A1 there at most
   pub are_asked : AreAsked all.client all.server
   are_asked = record {
-    on = came_of at_server.is_out_r1_a1 at_client.is_out_r1_a2 wishes;
+    on = came_of at_server.is_out_r1_a1 at_client.is_out_r1_a2 wish;
     each = turns_at.a1;
     one =
         let outs = round_at.outs in
