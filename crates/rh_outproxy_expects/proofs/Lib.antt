@@ -1,0 +1,4 @@
+mod Logs
+mod InGreeting
+mod Turns
+mod Fronts
