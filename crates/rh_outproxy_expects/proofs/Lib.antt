@@ -2,3 +2,6 @@ mod Logs
 mod InGreeting
 mod Turns
 mod Fronts
+mod Early
+mod Ordered
+mod Expecting

@@ -15,7 +15,7 @@ use Rattle.rh_shell.specs.Rules.{Message, Text, Pdu, Packet}
 use Rattle.rh_shell.specs.Shells.{is_of, same_leg}
 use Rattle.rh_shell.specs.Wires.{of_leg}
 use Rattle.rh_reading.specs.Reading.{all_read_of}
-use Rattle.rh_passages.specs.Passing.{count_of, of_kind, HasOne}
+use Rattle.rh_passages.specs.Passing.{count_of, of_kind, Has, HasOne}
 use Rattle.rh_passages.proofs.Messages.{count_append, count_rises, one_more_so}
 use Rattle.rh_proxy_counts.proofs.Counts.{leg_is}
 
@@ -429,3 +429,19 @@ module _ (leg : Leg) (m : Message) where
           → Split leg log c m) → Split leg ((other, x) ∷ log) came m
       by false g next = over next (passed_over other x g)
       by true g next = here next g (read_is x)
+
+-- a message in the middle of a log is on its leg
+pub here_in : (leg : Leg) (before : List OnLeg) (m : Message) (behind : List OnLeg)
+    → of_leg leg (before ++ (leg, m) ∷ behind) ≡ of_leg leg before ++ m ∷ of_leg leg behind
+here_in leg before m behind =
+    leg_append leg before ((leg, m) ∷ behind)
+    ∙ ap (λ (t : Bool).
+    of_leg leg before ++ (if t then m ∷ of_leg leg behind else of_leg leg behind))
+    (itself leg)
+  where
+    itself : (l : Leg) → same_leg l l ≡ true
+    itself l = grind (arith, nat_tests)
+
+pub has_in : (named : Named) (a b : List Message) → Has named (a ++ Packet named ∷ b)
+has_in named [] b = inl refl
+has_in named (m ∷ a) b = inr (has_in named a b)

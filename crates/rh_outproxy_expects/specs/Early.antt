@@ -3,6 +3,7 @@ use Rattle.std.specs.Prelude.{◌≡◌, ℕ, List, true}
 use Rattle.std.specs.List.{AllByRecursion}
 use Rattle.rh_sig.specs.declared.named.Named.{Named}
 use Rattle.rh_sig.specs.declared.named.Named.TheVariants.{AckTo, ConnA2}
+use Rattle.rh_sig.specs.Values.{IsLifetime}
 use Rattle.rh_line.specs.declared.leg.LegKind.TheVariants.{ClientIn}
 use Rattle.rh_shell.specs.Rules.{Message}
 use Rattle.rh_shell.specs.Moves.{OnLeg, Passage}
@@ -13,6 +14,7 @@ use Rattle.rh_server.specs.States.{Server}
 use Rattle.rh_client_counts.specs.Counting.{is_greeting}
 use Rattle.rh_server_counts.specs.Counting.{in_came, is_ack_to, is_conn_c1, out_put}
 use Rattle.rh_server_counts.specs.BeforeC1.{HaveRoom}
+use Rattle.rh_moments.specs.Moments.{Numbers}
 
 -- ---- an in proxy
 
@@ -32,11 +34,14 @@ PutsQuietly p = HasGreeted p.came → AllByRecursion (OfPacket IsQuiet) p.put
 
 -- ---- a server
 
--- no acknowledgement with a destination came before CONN/C1 was put, and what CONN/A2 told has room
--- for it
-pub record IsNotEarly (p : Passage Server) : Type 0 where
-  pub acks : (to : ℕ) → in_came (is_ack_to to) p ≡ 0
-  pub room : HaveRoom p.came
+-- no acknowledgement with a destination came before CONN/C1 was put
+abbrev pub IsNotEarly : Passage Server → Type 0
+IsNotEarly p = out_put is_conn_c1 p ≡ 0 → (to : ℕ) → in_came (is_ack_to to) p ≡ 0
 
-abbrev pub IsNotEarlyBefore : Passage Server → Type 0
-IsNotEarlyBefore p = out_put is_conn_c1 p ≡ 0 → IsNotEarly p
+-- and the lifetime that CONN/A2 told until then has room for it
+abbrev pub HasRoomForC1 : Passage Server → Type 0
+HasRoomForC1 p = out_put is_conn_c1 p ≡ 0 → HaveRoom p.came
+
+-- out proxies tell lifetimes that are in range (MS-RPCH 2.2.3.5)
+abbrev pub HaveLifetimes : Numbers → Type 0
+HaveLifetimes numbers = (n : ℕ) → IsLifetime (numbers.outs n).lifetime

@@ -1,0 +1,553 @@
+-- what comes next to an out proxy from its server is no reason to refuse it
+use Rattle.std.proofs.Common.{◌≡◌, ◌⊎◌, ℕ, zero, suc, ◌+◌, ◌<◌, ◌≤◌, ◌==◌, Bool, true, false, if◌then◌else◌, ◌&&◌, List, [], ◌∷◌, ◌++◌, Err, inl, inr, refl, sym, ap, ◌∙◌, subst, arith}
+use Rattle.std.proofs.lemmas.Bool.{false≢true, true≢false}
+use Rattle.std.proofs.lemmas.Bool.Decides.{nat_tests}
+use Rattle.std.proofs.lemmas.List.{append_assoc}
+use Rattle.std.specs.Prelude.{IsTrue}
+use Rattle.std.specs.List.{AllByRecursion}
+use mathlib.Core.List.{IsPrefix}
+use Rattle.rh_text.specs.declared.ends.Dir.TheVariants.{U, D}
+use Rattle.rh_rts.specs.declared.command.Cookie.{Cookie}
+use Rattle.rh_http.specs.declared.config.ClientConfig.{ClientConfig}
+use Rattle.rh_window.specs.Sides.{IsWindow}
+use Rattle.rh_sig.specs.declared.named.Named.{Named}
+use Rattle.rh_sig.specs.declared.named.Named.TheVariants as named
+use Rattle.rh_line.specs.declared.leg.Leg.{Leg}
+use Rattle.rh_line.specs.declared.leg.LegKind.TheVariants.{ClientOut, OutServer, ClientIn, InServer}
+use Rattle.rh_shell.specs.declared.answers.Count.{Count}
+use Rattle.rh_shell.specs.declared.answers.Refused.{Refused}
+use Rattle.rh_shell.specs.declared.answers.Refused.TheVariants as refused
+use Rattle.rh_shell.specs.Moves.{EndMove, Move, OnLeg, Passage, all_moved, started}
+use Rattle.rh_shell.specs.Rules.{Message, Text, Pdu, Packet}
+use Rattle.rh_shell.specs.Wires.{of_leg}
+use Rattle.rh_reading.specs.Reading.{all_read_of}
+use Rattle.rh_passages.specs.Passing.{count_of, of_kind, BeginsOut, Has, HasBegunOut, HasOn, HasOne}
+use Rattle.rh_passages.specs.Counted.{Tells, packets}
+use Rattle.rh_passages.proofs.Messages.{count_append, one_so}
+use Rattle.rh_outproxy.specs.Machine.{rules as out_rules}
+use Rattle.rh_outproxy.specs.OutProxy.{OutProxy}
+use Rattle.rh_server.specs.States.{no_cookie}
+use Rattle.rh_server.specs.declared.state.Stage.{Stage}
+use Rattle.rh_server.specs.declared.state.Stage.TheVariants as stage
+use Rattle.rh_client_counts.specs.Counting as at_client
+use Rattle.rh_client_counts.specs.Naming.{NamesOuts}
+use Rattle.rh_server_counts.specs.Counting as at_server
+use Rattle.rh_server_counts.specs.Opening.{since_conn_a2, since_open}
+use Rattle.rh_server_puts.specs.Copying.{Copies}
+use Rattle.rh_server_puts.specs.Greeting.{IsFrame}
+use Rattle.rh_server_puts.specs.Puts.{Turn, behind_all, first_turn, os, PacketStands, Stands}
+use Rattle.rh_server_rows.specs.Cookies.{IsOutChannel, OpensOut}
+use Rattle.rh_proxy_counts.specs.Kinds as at_proxy
+use Rattle.rh_proxy_counts.specs.OutCounts.{IsOpenedBy, NamesNew, NamesSuccessor, OpensAsAsked, OpensWhatCame}
+use Rattle.rh_outproxy_rows.specs.Refusing.{CarriesNone, IsUnjoined, MismatchFromServer, PassesNone, RefusesFor, TakesNone, UnexpectedFromServer, from_client, from_server}
+use Rattle.rh_moments.specs.Expecting.{Expects, IsAhead, IsAmiss}
+use Rattle.rh_moments.specs.Moments.{IsMoment, Moves, Numbers, Passages, passages}
+use Rattle.rh_outproxy_expects.specs.Early.{HaveLifetimes}
+use Rattle.rh_outproxy_expects.proofs.Early.{same_c1}
+use Rattle.rh_outproxy_expects.proofs.Logs.{all_behind, at, find, has_in, here_in, front_counts, front_one, leg_append, leg_counts, read_all_count, same_counts, some_leg, split, Split}
+use Rattle.rh_outproxy_expects.proofs.Ordered.{EarlyLaws, ServerLaws, c1_before, c1_on, c1_writing, handed_over, none_before_c1, one_behind, stand_until, stands, writing}
+use Rattle.rh_outproxy_expects.proofs.Turns.{HasEnded, ended_on}
+
+-- ---- tests that are the same
+
+same_a9 : (n : Named) → at_proxy.is_out_r1_a9 n ≡ at_server.is_out_r1_a9 n
+same_a9 named.OutR1A9 = refl
+same_a9 packet = refl
+
+same_a4 : (n : Named) → at_server.is_out_r1_a4 n ≡ at_proxy.is_out_r1_a4 n
+same_a4 (named.OutR1A4 version connection predecessor successor lifetime window timeout) = refl
+same_a4 packet = refl
+
+same_a2 : (n : Named) → at_server.is_conn_a2 n ≡ at_proxy.is_conn_a2 n
+same_a2 (named.ConnA2 version connection channel lifetime window) = refl
+same_a2 packet = refl
+
+same_a1 : (n : Named) → at_proxy.is_conn_a1 n ≡ at_client.is_conn_a1 n
+same_a1 (named.ConnA1 version connection channel window) = refl
+same_a1 packet = refl
+
+-- ---- channels that begin
+
+one_has : (P : Named → Type 0) (ms : List Message) → HasOne P ms
+    → (n : Named) × (Has n ms × P n)
+one_has P [] h = absurd h
+one_has P (Text bytes ∷ ms) h = let rest = one_has P ms h in (rest.0, inr rest.1, rest.2)
+one_has P (Pdu pdu ∷ ms) h = let rest = one_has P ms h in (rest.0, inr rest.1, rest.2)
+one_has P (Packet packet ∷ ms) (inl is) = (packet, inl refl, is)
+one_has P (Packet packet ∷ ms) (inr more) =
+    let rest = one_has P ms more in (rest.0, inr rest.1, rest.2)
+
+-- by CONN/A1 or by OUT_R1/A3
+begun_counts : (cookie : Cookie) (ms : List Message) → HasBegunOut cookie ms
+    → (1 ≤ count_of at_proxy.is_conn_a1 ms) ⊎ (1 ≤ count_of at_proxy.is_out_r1_a3 ms)
+begun_counts cookie [] h = absurd h
+begun_counts cookie (Text bytes ∷ ms) h = begun_counts cookie ms h
+begun_counts cookie (Pdu pdu ∷ ms) h = begun_counts cookie ms h
+begun_counts cookie (Packet (named.ConnA1 version connection channel window) ∷ ms) h =
+    inl (omega arith)
+begun_counts cookie
+    (Packet (named.OutR1A3 version connection predecessor channel window) ∷ ms) h =
+    inr (omega arith)
+begun_counts cookie (Packet packet ∷ ms) (inl none) = absurd none
+begun_counts cookie (Packet packet ∷ ms) (inr more) = begun_counts cookie ms more
+
+begun_new : (connection channel cookie : Cookie) → channel ≡ cookie → (ms : List Message)
+    → HasOne (NamesNew connection channel) ms → HasBegunOut cookie ms
+begun_new connection channel cookie same ms h =
+    one_so (NamesNew connection channel) (BeginsOut cookie) so ms h
+  where
+    so : (n : Named) → NamesNew connection channel n → BeginsOut cookie n
+    so (named.ConnA1 version other own window) is = is.1 ∙ same
+    so packet is = absurd is
+
+begun_successor : (connection predecessor successor cookie : Cookie) → successor ≡ cookie
+    → (ms : List Message) → HasOne (NamesSuccessor connection predecessor successor) ms
+    → HasBegunOut cookie ms
+begun_successor connection predecessor successor cookie same ms h =
+    one_so (NamesSuccessor connection predecessor successor) (BeginsOut cookie) so ms h
+  where
+    so : (n : Named) → NamesSuccessor connection predecessor successor n → BeginsOut cookie n
+    so (named.OutR1A3 version other before own window) is = is.2 ∙ same
+    so packet is = absurd is
+
+-- it began as the client asked
+begun_so : (cookie : Cookie) (came : List Message) (n : Named) → OpensOut cookie n
+    → IsOpenedBy came n → HasBegunOut cookie came
+begun_so cookie came (named.ConnA2 version connection channel lifetime window) opens is =
+    begun_new connection channel cookie opens came is
+begun_so cookie came
+    (named.OutR1A4 version connection predecessor successor lifetime window timeout) opens is =
+    begun_successor connection predecessor successor cookie opens came is
+begun_so cookie came packet opens is = absurd opens
+
+-- where CONN/C1 was put or is due, CONN/A2 came
+opened_by_a2 : (s : Stage) → 1 ≤ since_open s → since_conn_a2 s ≡ 1
+opened_by_a2 stage.Waits open' = absurd (omega (arith, open'))
+opened_by_a2 (stage.OutCame connection) open' = absurd (omega (arith, open'))
+opened_by_a2 (stage.InCame connection window timeout) open' = absurd (omega (arith, open'))
+opened_by_a2 (stage.Open connection) open' = refl
+opened_by_a2 stage.Ended open' = absurd (omega (arith, open'))
+
+-- ---- at a moment
+
+-- what the other roles see to
+pub record SeeToIt (numbers : Numbers) (moves : Moves) : Type 0 where
+  pub client : NamesOuts numbers.client.connection (passages numbers moves).client
+  pub opens : (n : ℕ) → OpensWhatCame n ((passages numbers moves).outs n)
+  pub asked : (n : ℕ) → OpensAsAsked n ((passages numbers moves).outs n)
+  pub refuses : (n : ℕ) → RefusesFor n (moves.outs n) ((passages numbers moves).outs n)
+  -- an acknowledgement to an out proxy has the cookie of the channel of its leg
+  pub acks : (n received available : ℕ) (cookie : Cookie)
+      → Has (named.AckTo 3 received available cookie)
+      (of_leg (os n) (passages numbers moves).server.put)
+      → IsOutChannel n cookie (passages numbers moves).server.came
+
+module _ (numbers : Numbers) (reader : ℕ → ℕ) (moves : Moves) (server : ServerLaws)
+    (early : EarlyLaws) (lifetimes : HaveLifetimes numbers)
+    (moment : IsMoment numbers reader moves) (see : SeeToIt numbers moves) where
+  abbrev all : Passages
+  all = passages numbers moves
+
+  up_counts : (test : Named → Bool) (n : ℕ)
+      → count_of test (of_leg (os n) all.server.came) ≤ count_of test (of_leg (os n) (all.outs n).put)
+  up_counts test n =
+      front_counts test (of_leg (os n) all.server.came) (of_leg (os n) (all.outs n).put)
+      (moment.now.joined.front (os n) U)
+
+  -- OUT_R1/A4 that came at the server is for an OUT_R1/A3 that came at the proxy
+  a3_came : (n : ℕ) → 1 ≤ count_of at_server.is_out_r1_a4 (of_leg (os n) all.server.came)
+      → 1 ≤ count_of at_proxy.is_out_r1_a3 (from_client n (all.outs n))
+  a3_came n some =
+      let way = up_counts at_server.is_out_r1_a4 n in
+      let same = same_counts at_server.is_out_r1_a4 at_proxy.is_out_r1_a4 same_a4
+      (of_leg (os n) (all.outs n).put) in
+      let opens = (see.opens n).successor in
+      omega (arith, some, way, same, opens)
+
+  -- CONN/A1 comes at the first proxy
+  first_by_a1 : (n : ℕ) → 1 ≤ count_of at_proxy.is_conn_a1 (from_client n (all.outs n)) → n ≡ 1
+  first_by_a1 n some =
+      let way = front_counts at_proxy.is_conn_a1 (from_client n (all.outs n))
+      (of_leg (at ClientOut n) all.client.put) (moment.now.joined.front (at ClientOut n) U) in
+      let same = same_counts at_proxy.is_conn_a1 at_client.is_conn_a1 same_a1
+      (of_leg (at ClientOut n) all.client.put) in
+      let stands = see.client.begins_on (at ClientOut n) in
+      let once = see.client.once in
+      by (at_client.total at_client.is_conn_a1 ClientOut all.client.put) once
+      (omega (arith, some, way, same, stands))
+    where
+      by : (total : ℕ) → total ≤ 1
+          → 1 ≤ at_client.once_if (true && at_client.is_among 1 total n) → n ≡ 1
+      by total once more = grind (arith, nat_tests, once, more)
+
+  -- and so does CONN/A2
+  a1_came : 1 ≤ at_server.out_came at_server.is_conn_a2 all.server
+      → 1 ≤ count_of at_proxy.is_conn_a1 (from_client 1 (all.outs 1))
+  a1_came some =
+      let on = some_leg at_server.is_conn_a2 OutServer all.server.came some in
+      let came = here on.0 on.1 in
+      subst (λ (k : ℕ). 1 ≤ count_of at_proxy.is_conn_a1 (from_client k (all.outs k)))
+      (first_by_a1 on.0 came) came
+    where
+      here : (n : ℕ) → 1 ≤ count_of at_server.is_conn_a2 (of_leg (os n) all.server.came)
+          → 1 ≤ count_of at_proxy.is_conn_a1 (from_client n (all.outs n))
+      here n more =
+          let way = up_counts at_server.is_conn_a2 n in
+          let same = same_counts at_server.is_conn_a2 at_proxy.is_conn_a2 same_a2
+          (of_leg (os n) (all.outs n).put) in
+          let opens = (see.opens n).connection in
+          omega (arith, more, way, same, opens)
+
+  -- an OUT channel that began at the server began as the client asked
+  begun_at : (n : ℕ) (cookie : Cookie) → IsOutChannel n cookie all.server.came
+      → HasBegunOut cookie (from_client n (all.outs n))
+  begun_at n cookie is =
+      let put = front_one (OpensOut cookie) (of_leg (os n) all.server.came)
+      (of_leg (os n) (all.outs n).put) (moment.now.joined.front (os n) U) is in
+      let one = one_has (OpensOut cookie) (of_leg (os n) (all.outs n).put) put in
+      begun_so cookie (from_client n (all.outs n)) one.0 one.2 (see.asked n one.0 one.1)
+
+  module _ (n : ℕ) (m : Message)
+      (next : Split (os n) all.server.put (of_leg (os n) (all.outs n).came) m) where
+    abbrev p : Passage OutProxy
+    p = all.outs n
+
+    before : List OnLeg
+    before = next.before
+
+    turn : Turn
+    turn = behind_all first_turn next.before
+
+    -- what came is what was put before
+    came_counts : (test : Named → Bool) → test named.Ping ≡ false
+        → count_of test (from_server n p) ≡ count_of test (of_leg (os n) next.before)
+    came_counts test other =
+        sym (ap (count_of test) next.came_before)
+        ∙ read_all_count test other (of_leg (os n) next.before)
+
+    abbrev Standing : Type 0
+    Standing = Stands (behind_all first_turn next.before) (os n, m)
+
+    stand : Standing
+    stand =
+        stands numbers reader moves server early lifetimes moment n m next.before next.behind
+        next.is
+
+    is_writing : (behind_all first_turn next.before).writing
+        ≡ suc (count_of at_server.is_out_r1_a9 (of_kind OutServer next.before))
+    is_writing =
+        writing numbers reader moves server early lifetimes moment n m next.before next.behind
+        next.is
+
+    -- CONN/C1 came, where this is the first channel
+    c1_came : n ≡ 1 → 1 ≤ count_of at_server.is_conn_c1 (of_kind OutServer next.before)
+        → 1 ≤ count_of at_proxy.is_conn_c1 (from_server n p)
+    c1_came first some =
+        let on = subst (λ (k : ℕ).
+        1 ≤ count_of at_server.is_conn_c1 (of_leg (os k) next.before)) (sym first)
+        (c1_on numbers reader moves server early lifetimes moment next.before
+        ((os n, m) ∷ next.behind) next.is some) in
+        let same = same_counts at_server.is_conn_c1 at_proxy.is_conn_c1 same_c1
+        (of_leg (os n) next.before) in
+        let came = came_counts at_proxy.is_conn_c1 refl in
+        omega (arith, on, same, came)
+
+    -- behind OUT_R1/A9 on other legs the channel of this one began
+    a3_on : 2 ≤ n → n ≡ (behind_all first_turn next.before).writing
+        → 1 ≤ count_of at_proxy.is_out_r1_a3 (from_client n p)
+    a3_on later on =
+        let w = is_writing in
+        let order = server.order numbers.window moves.server in
+        let legs = server.legs numbers.window moves.server in
+        let now = one_behind numbers reader moves server early lifetimes moment
+        at_server.is_out_r1_a9 n m next.before next.behind in
+        let put = ap (λ (l : List OnLeg). count_of at_server.is_out_r1_a9 (of_kind OutServer l))
+        next.is in
+        let a = order.a9_behind_a8 in
+        let b = order.a8_behind_a5 in
+        let c = order.a5_behind_a4 in
+        let one = legs.a4.each n later (omega (arith, later, on, w, now, put, a, b, c)) in
+        a3_came n (omega (arith, one))
+
+    -- ---- where it writes
+
+    abbrev IsOn : Type 0
+    IsOn = n ≡ (behind_all first_turn next.before).writing
+
+    abbrev IsNoC1 : Type 0
+    IsNoC1 = count_of at_server.is_conn_c1 (m ∷ []) ≡ 0
+
+    c1_went : IsFrame m → IsNoC1
+        → 1 ≤ count_of at_server.is_conn_c1 (of_kind OutServer next.before)
+    c1_went =
+        c1_before numbers reader moves server early lifetimes moment n m next.before next.behind
+        next.is
+
+    -- OUT_R1/A3 or CONN/C1 came
+    is_joined : IsOn → IsFrame m → IsNoC1 → IsUnjoined n p → ⊥
+    is_joined on frame other unjoined =
+        by (count_of at_server.is_out_r1_a9 (of_kind OutServer next.before)) refl
+      where
+        by : (c : ℕ) → count_of at_server.is_out_r1_a9 (of_kind OutServer next.before) ≡ c → ⊥
+        by zero e =
+            let w = is_writing in
+            let c1 = c1_came (omega (arith, on, w, e)) (c1_went frame other) in
+            let none = unjoined.1 in
+            omega (arith, c1, none)
+        by (suc c) e =
+            let w = is_writing in
+            let a3 = a3_on (omega (arith, on, w, e)) on in
+            let none = unjoined.0 in
+            omega (arith, a3, none)
+
+    -- and no OUT_R1/A9
+    carries : IsOn → IsFrame m → IsNoC1 → CarriesNone n p → ⊥
+    carries on frame other (inl unjoined) = is_joined on frame other unjoined
+    carries on frame other (inr handed) =
+        let came = came_counts at_proxy.is_out_r1_a9 refl in
+        let same = same_counts at_proxy.is_out_r1_a9 at_server.is_out_r1_a9 same_a9
+        (of_leg (os n) next.before) in
+        let past = handed_over numbers reader moves server early lifetimes moment n m next.before
+        next.behind next.is (omega (arith, handed, came, same)) in
+        omega (arith, on, past)
+
+    has_ended : 1 ≤ count_of at_proxy.is_end_b1 (from_server n p)
+        → HasEnded n (behind_all first_turn next.before)
+    has_ended some =
+        let came = came_counts at_proxy.is_end_b1 refl in
+        ended_on n first_turn next.before
+        (stand_until numbers reader moves server early lifetimes moment n m next.before next.behind
+        next.is)
+        (omega (arith, some, came))
+
+    -- ---- what it copies
+
+    copied : Copies numbers.window all.server.came (os n, m)
+    copied =
+        (all_behind (Copies numbers.window all.server.came) next.before
+        ((os n, m) ∷ next.behind)
+        (subst (AllByRecursion (Copies numbers.window all.server.came)) next.is
+        (server.copies numbers.window moves.server))).0
+
+    -- an acknowledgement to the proxy is for the channel that its client began
+    ack_begun : (to received available : ℕ) (cookie : Cookie) → to ≡ 3
+        → m ≡ Packet (named.AckTo to received available cookie)
+        → HasBegunOut cookie (from_client n p)
+    ack_begun to received available cookie is e =
+        begun_at n cookie (see.acks n received available cookie
+        (subst (λ (k : ℕ). Has (named.AckTo k received available cookie) (of_leg (os n) put)) is
+        (subst (Has (named.AckTo to received available cookie)) (sym on_leg)
+        (has_in (named.AckTo to received available cookie) (of_leg (os n) next.before)
+        (of_leg (os n) next.behind)))))
+      where
+        put : List OnLeg
+        put = all.server.put
+
+        on_leg : of_leg (os n) put
+            ≡ of_leg (os n) next.before
+            ++ Packet (named.AckTo to received available cookie) ∷ of_leg (os n) next.behind
+        on_leg =
+            ap (of_leg (os n)) next.is ∙ here_in (os n) next.before m next.behind
+            ∙ ap (λ (x : Message). of_leg (os n) next.before ++ x ∷ of_leg (os n) next.behind) e
+
+    ack_joined : (to received available : ℕ) (cookie : Cookie) → to ≡ 3
+        → m ≡ Packet (named.AckTo to received available cookie) → IsUnjoined n p → ⊥
+    ack_joined to received available cookie is e unjoined =
+        by (begun_counts cookie (from_client n p) (ack_begun to received available cookie is e))
+      where
+        by : (1 ≤ count_of at_proxy.is_conn_a1 (from_client n p))
+            ⊎ (1 ≤ count_of at_proxy.is_out_r1_a3 (from_client n p)) → ⊥
+        by (inl a1) =
+            let c1 = c1_came (first_by_a1 n a1) (c1_went (subst IsFrame (sym e) tt)
+            (ap (λ (x : Message). count_of at_server.is_conn_c1 (x ∷ [])) e)) in
+            let none = unjoined.1 in
+            omega (arith, c1, none)
+        by (inr a3) = let none = unjoined.0 in omega (arith, a3, none)
+
+    -- ---- CONN/C1
+
+    c1_expected : (packet : Named) → m ≡ Packet packet → at_server.is_conn_c1 packet ≡ true
+        → IsOn
+        → (count_of at_proxy.is_conn_a1 (from_client n p) ≡ 0)
+        ⊎ (1 ≤ count_of at_proxy.is_conn_c1 (from_server n p)) → ⊥
+    c1_expected packet e is on reason = by reason
+      where
+        some : 1 ≤ count_of at_server.is_conn_c1 (m ∷ [])
+        some =
+            let same = ap (λ (x : Message). count_of at_server.is_conn_c1 (x ∷ [])) e in
+            let one = ap (λ (t : Bool). if t then 1 else 0) is in
+            omega (arith, same, one)
+
+        first : n ≡ 1
+        first =
+            on ∙ c1_writing numbers reader moves server early lifetimes moment n m next.before
+            next.behind next.is some
+
+        by : (count_of at_proxy.is_conn_a1 (from_client n p) ≡ 0)
+            ⊎ (1 ≤ count_of at_proxy.is_conn_c1 (from_server n p)) → ⊥
+        by (inl none) =
+            let opens = server.opens numbers.window moves.server in
+            let put = ap (λ (l : List OnLeg). count_of at_server.is_conn_c1 (of_kind OutServer l))
+            next.is in
+            let both = one_behind numbers reader moves server early lifetimes moment
+            at_server.is_conn_c1 n m next.before next.behind in
+            let due = opens.conn_c1 in
+            let a2 = opened_by_a2 all.server.role.stage (omega (arith, due, put, both, some)) in
+            let came = opens.conn_a2 in
+            let a1 = subst (λ (k : ℕ). 1 ≤ count_of at_proxy.is_conn_a1 (from_client k (all.outs k)))
+            (sym first) (a1_came (omega (arith, came, a2))) in
+            omega (arith, a1, none)
+        by (inr again) =
+            let came = came_counts at_proxy.is_conn_c1 refl in
+            let same = same_counts at_server.is_conn_c1 at_proxy.is_conn_c1 same_c1
+            (of_leg (os n) next.before) in
+            let legs = leg_counts at_server.is_conn_c1 OutServer n next.before in
+            let none = none_before_c1 numbers reader moves server early lifetimes moment n m
+            next.before next.behind next.is some in
+            omega (arith, again, came, same, legs, none)
+
+    -- ---- packets
+
+    module _ (packet : Named) (e : m ≡ Packet packet) where
+      frame_is : IsFrame m
+      frame_is = subst IsFrame (sym e) tt
+
+      stands_as : PacketStands (behind_all first_turn next.before) (os n) packet
+      stands_as = subst (λ (x : Message). Stands (behind_all first_turn next.before) (os n, x)) e stand
+
+      copies_as : Copies numbers.window all.server.came (os n, Packet packet)
+      copies_as =
+          subst (λ (x : Message). Copies numbers.window all.server.came (os n, x)) e copied
+
+      on_it : os n ≡ os (behind_all first_turn next.before).writing → IsOn
+      on_it same = ap (λ (l : Leg). l.number) same
+
+      no_c1 : at_server.is_conn_c1 packet ≡ false → IsNoC1
+      no_c1 other =
+          ap (λ (x : Message). count_of at_server.is_conn_c1 (x ∷ [])) e
+          ∙ ap (λ (t : Bool). if t then 1 else 0) other
+
+      passes : os n ≡ os (behind_all first_turn next.before).writing → (to : ℕ) → to ≡ 0
+          → at_server.is_conn_c1 packet ≡ false → PassesNone n p to → ⊥
+      passes on to is other (inl apart) = apart is
+      passes on to is other (inr none) = carries (on_it on) frame_is (no_c1 other) none
+
+    expected : (packet : Named) → m ≡ Packet packet → UnexpectedFromServer n p packet → ⊥
+    expected (named.ConnC1 version window timeout) e reason =
+        c1_expected (named.ConnC1 version window timeout) e refl
+        (on_it (named.ConnC1 version window timeout) e
+        (stands_as (named.ConnC1 version window timeout) e)) reason
+    expected (named.AckTo to received available cookie) e (inl own) =
+        ack_joined to received available cookie own.0 e own.1
+    expected (named.AckTo to received available cookie) e (inr other) =
+        by (stands_as packet e) (copies_as packet e).0
+      where
+        packet : Named
+        packet = named.AckTo to received available cookie
+
+        by : PacketStands (behind_all first_turn next.before) (os n)
+            (named.AckTo to received available cookie)
+            → (to ≡ 0) ⊎ (to ≡ 3) → ⊥
+        by (inl on) (inl client) = passes packet e on to client refl other.1
+        by (inr proxy) (inl client) = other.0 proxy.0
+        by stands' (inr proxy) = other.0 proxy
+    expected (named.InR1A3 to version window timeout) e reason =
+        passes (named.InR1A3 to version window timeout) e
+        (stands_as (named.InR1A3 to version window timeout) e) to
+        (copies_as (named.InR1A3 to version window timeout) e).0.0 refl reason
+    expected (named.InR2A3 to) e reason =
+        passes (named.InR2A3 to) e (stands_as (named.InR2A3 to) e) to
+        (copies_as (named.InR2A3 to) e) refl reason
+    expected (named.OutR1A1 to) e reason =
+        passes (named.OutR1A1 to) e (stands_as (named.OutR1A1 to) e) to
+        (copies_as (named.OutR1A1 to) e) refl reason
+    expected (named.OutR1A5 to version timeout) e reason =
+        passes (named.OutR1A5 to version timeout) e
+        (stands_as (named.OutR1A5 to version timeout) e) to
+        (copies_as (named.OutR1A5 to version timeout) e).0.0 refl reason
+    expected named.OutR1A9 e reason =
+        carries (on_it named.OutR1A9 e (stands_as named.OutR1A9 e)) (frame_is named.OutR1A9 e)
+        (no_c1 named.OutR1A9 e refl) reason
+    expected named.EndB1 e (inl none) =
+        carries (on_it named.EndB1 e (stands_as named.EndB1 e).0) (frame_is named.EndB1 e)
+        (no_c1 named.EndB1 e refl) none
+    expected named.EndB1 e (inr some) =
+        by (on_it named.EndB1 e (stands_as named.EndB1 e).0) (has_ended some).1
+      where
+        by : IsOn → (n < (behind_all first_turn next.before).writing)
+            ⊎ (((behind_all first_turn next.before).writing ≡ n)
+            × ((behind_all first_turn next.before).ended ≡ true)) → ⊥
+        by on (inl less) = omega (arith, on, less)
+        by on (inr here) = false≢true (sym (stands_as named.EndB1 e).1 ∙ here.1)
+    expected (named.ConnB3 size version) e reason =
+        let kind = stands_as (named.ConnB3 size version) e in absurd cc
+    expected named.InR1B1 e reason = let kind = stands_as named.InR1B1 e in absurd cc
+    expected (named.InR1B2 size) e reason = let kind = stands_as (named.InR1B2 size) e in absurd cc
+    expected (named.Ack received window cookie) e reason =
+        let kind = stands_as (named.Ack received window cookie) e in absurd cc
+    expected packet e reason = stands_as packet e
+
+    cookie_expected : (packet : Named) (wanted got : Cookie) → m ≡ Packet packet
+        → MismatchFromServer n p wanted got packet → ⊥
+    cookie_expected (named.AckTo to received available cookie) wanted got e reason =
+        reason.3 (subst (λ (c : Cookie). HasBegunOut c (from_client n p)) (sym reason.1)
+        (ack_begun to received available cookie reason.0 e))
+    cookie_expected packet wanted got e reason = reason
+
+    -- ---- RPC PDUs
+
+    pdu_expected : (bytes : List ℕ) → m ≡ Pdu bytes → TakesNone n p → ⊥
+    pdu_expected bytes e reason = by reason
+      where
+        stands_pdu : Stands (behind_all first_turn next.before) (os n, Pdu bytes)
+        stands_pdu =
+            subst (λ (x : Message). Stands (behind_all first_turn next.before) (os n, x)) e stand
+
+        by : TakesNone n p → ⊥
+        by (inl none) =
+            carries (ap (λ (l : Leg). l.number) stands_pdu.0) (subst IsFrame (sym e) tt)
+            (ap (λ (x : Message). count_of at_server.is_conn_c1 (x ∷ [])) e) none
+        by (inr some) = false≢true (sym stands_pdu.1 ∙ (has_ended some).0)
+
+  -- ---- what is refused
+
+  ahead : (n : ℕ) (m : Message)
+      → IsAhead (all.outs n) (os n) (all_read_of (of_leg (os n) all.server.put)) m
+      → Split (os n) all.server.put (of_leg (os n) (all.outs n).came) m
+  ahead n m front =
+      split (os n) m all.server.put (of_leg (os n) (all.outs n).came) front.0
+      (sym front.1 ∙ append_assoc (of_leg (os n) (all.outs n).came) (m ∷ []) front.0)
+
+  pub expects : (n : ℕ)
+      → Expects out_rules (all.outs n) (os n) (all_read_of (of_leg (os n) all.server.put))
+  expects n = record {
+    packet = λ count packet why used up tells next refuses amiss.
+        by_packet count packet why up tells (ahead n (Packet packet) next) refuses amiss;
+    pdu = λ count bytes why used up next refuses amiss.
+        by_pdu count bytes why up (ahead n (Pdu bytes) next) refuses amiss;
+  }
+    where
+      by_packet : (count : Count) (packet : Named) (why : Refused)
+          → out_rules.was_up (all.outs n).role (os n) ≡ true
+          → Tells count (packets (of_leg (os n) (all.outs n).came))
+          → Split (os n) all.server.put (of_leg (os n) (all.outs n).came) (Packet packet)
+          → (out_rules.packet (all.outs n).role (os n) count packet).1 ≡ Err why → IsAmiss why
+          → ⊥
+      by_packet count packet refused.Unexpected up tells next refuses amiss =
+          expected n (Packet packet) next packet refl
+          ((see.refuses n).packet (os n) count packet up tells refuses)
+      by_packet count packet (refused.Cookie wanted got) up tells next refuses amiss =
+          cookie_expected n (Packet packet) next packet wanted got refl
+          ((see.refuses n).cookie (os n) count packet wanted got refuses)
+      by_packet count packet why up tells next refuses amiss = amiss
+
+      by_pdu : (count : Count) (bytes : List ℕ) (why : Refused)
+          → out_rules.was_up (all.outs n).role (os n) ≡ true
+          → Split (os n) all.server.put (of_leg (os n) (all.outs n).came) (Pdu bytes)
+          → (out_rules.pdu (all.outs n).role (os n) count bytes).1 ≡ Err why → IsAmiss why → ⊥
+      by_pdu count bytes refused.Unexpected up next refuses amiss =
+          pdu_expected n (Pdu bytes) next bytes refl
+          ((see.refuses n).pdu (os n) count bytes up refuses)
+      by_pdu count bytes (refused.Cookie wanted got) up next refuses amiss =
+          (see.refuses n).pdu_cookie (os n) count bytes wanted got refuses
+      by_pdu count bytes why up next refuses amiss = amiss
