@@ -6,7 +6,6 @@ use Rattle.std.proofs.lemmas.Bool.Decides.{nat_tests}
 use Rattle.std.specs.Prelude.{IsTrue}
 use Rattle.std.specs.List.{AllByRecursion}
 use mathlib.Core.List.{IsPrefix}
-use Rattle.rh_text.specs.declared.ends.Dir.TheVariants.{U, D}
 use Rattle.rh_text.specs.declared.ends.Side.{Side}
 use Rattle.rh_text.specs.declared.ends.Side.TheVariants as side
 use Rattle.rh_rts.specs.declared.command.Cookie.{Cookie}
@@ -22,7 +21,7 @@ use Rattle.rh_record.specs.declared.answer.Who.TheVariants as who
 use Rattle.rh_shell.specs.Moves.{OnLeg, Passage}
 use Rattle.rh_shell.specs.Rules.{Message, Text, Pdu, Packet}
 use Rattle.rh_shell.specs.Wires.{of_leg}
-use Rattle.rh_reading.specs.Reading.{all_read_of}
+use Rattle.rh_nodes.specs.Settling.{leg_at}
 use Rattle.rh_passages.specs.Passing.{count_of, of_kind}
 use Rattle.rh_passages.proofs.Messages.{each_so}
 use Rattle.rh_chains.specs.Ways.{total}
@@ -37,9 +36,11 @@ use Rattle.rh_server_counts.specs.BeforeC1.{HasRoom, HasRoomIn, HaveRoom}
 use Rattle.rh_proxy_counts.specs.Kinds as at_proxy
 use Rattle.rh_proxy_counts.specs.OutCounts.{co_leg, os_leg, ForwardsWhatCame}
 use Rattle.rh_outproxy_puts.specs.Puts.{AcksPacket, IsAck, IsToServer, OpensServer, PutsToServer}
-use Rattle.rh_moments.specs.Moments.{AreJoined, IsJoined, Moves, Numbers, Passages, end_of, passages}
+use Rattle.rh_moments.specs.Moments.{AreJoined, Passages, end_of}
+use Rattle.rh_moments.proofs.Joining.{co_back, in_front, is_front, os_back, os_front}
+use Rattle.rh_moments.proofs.Read.{front_count}
 use Rattle.rh_outproxy_expects.specs.Early.{HasGreeted, HaveLifetimes, IsQuiet, IsNotEarly, HasRoomForC1, PutsQuietly}
-use Rattle.rh_outproxy_expects.proofs.Logs.{at, front_counts, front_each, kind_by_legs, leg_of_kind, leg_of_log, log_by_legs, Of, same_counts}
+use Rattle.rh_outproxy_expects.proofs.Logs.{front_each, kind_by_legs, leg_of_kind, leg_of_log, log_by_legs, Of, same_counts}
 
 -- ---- tests that are the same
 
@@ -120,30 +121,6 @@ module _ (config : OutProxyConfig) (is : IsLifetime config.lifetime) where
 
 -- ---- at a moment
 
--- what came at an in proxy on a channel of the client is of what that put there
-module _ (reader : ℕ → ℕ) (all : Passages) (joined : AreJoined reader all) where
-  pub in_front : (m n : ℕ) → IsPrefix (of_leg (at ClientIn n) (all.ins m).came)
-      (all_read_of (of_leg (at ClientIn n) all.client.put))
-  in_front m n = by (cases_eq (reader n) m)
-    where
-      apart_at : (reader n ≡ m → ⊥) → (end : Side)
-          → end_of reader (at ClientIn n) end ≡ who.In m → ⊥
-      apart_at apart side.Client e = absurd cc
-      apart_at apart side.Server e = apart (let same = e in cc)
-
-      by : (reader n ≡ m) ⊎ (reader n ≡ m → ⊥)
-          → IsPrefix (of_leg (at ClientIn n) (all.ins m).came)
-          (all_read_of (of_leg (at ClientIn n) all.client.put))
-      by (inl is) =
-          subst (λ (k : ℕ). IsPrefix (of_leg (at ClientIn n) (all.ins k).came)
-          (all_read_of (of_leg (at ClientIn n) all.client.put))) is
-          (joined.front (at ClientIn n) U)
-      by (inr apart) =
-          subst (λ (ms : List Message).
-          IsPrefix ms (all_read_of (of_leg (at ClientIn n) all.client.put)))
-          (sym (joined.elsewhere (who.In m) (at ClientIn n) (apart_at apart)))
-          (all_read_of (of_leg (at ClientIn n) all.client.put), refl)
-
 -- what the roles see to
 pub record SeeToIt (all : Passages) : Type 0 where
   pub client : OpensOnce all.client
@@ -156,11 +133,11 @@ module _ (reader : ℕ → ℕ) (all : Passages) (joined : AreJoined reader all)
   no_c2 =
       let way = by_proxies at_proxy.is_conn_c1 at_proxy.is_conn_c2 OutServer ClientOut
       all.client.came all.server.put (λ n. (all.outs n).came) (λ n. (all.outs n).put)
-      (λ n. front_counts at_proxy.is_conn_c2 (of_leg (at ClientOut n) all.client.came)
-      (of_leg (at ClientOut n) (all.outs n).put) (joined.front (at ClientOut n) D))
+      (λ n. front_count at_proxy.is_conn_c2 (of_leg (leg_at ClientOut n) all.client.came)
+      (of_leg (leg_at ClientOut n) (all.outs n).put) (co_back reader all joined n))
       (λ n. (see.outs n).connection)
-      (λ n. front_counts at_proxy.is_conn_c1 (of_leg (at OutServer n) (all.outs n).came)
-      (of_leg (at OutServer n) all.server.put) (joined.front (at OutServer n) D)) in
+      (λ n. front_count at_proxy.is_conn_c1 (of_leg (leg_at OutServer n) (all.outs n).came)
+      (of_leg (leg_at OutServer n) all.server.put) (os_back reader all joined n)) in
       let c1 = same_counts at_server.is_conn_c1 at_proxy.is_conn_c1 same_c1
       (of_kind OutServer all.server.put) in
       let c2 = same_counts at_client.is_conn_c2 at_proxy.is_conn_c2 same_c2
@@ -170,15 +147,15 @@ module _ (reader : ℕ → ℕ) (all : Passages) (joined : AreJoined reader all)
   greeted : (m : ℕ) → HasGreeted (all.ins m).came
   greeted m =
       kind_by_legs IsGreeting ClientIn (all.ins m).came
-      (λ n. front_each IsGreeting (of_leg (at ClientIn n) (all.ins m).came)
-      (of_leg (at ClientIn n) all.client.put) (in_front reader all joined m n)
+      (λ n. front_each IsGreeting (of_leg (leg_at ClientIn n) (all.ins m).came)
+      (of_leg (leg_at ClientIn n) all.client.put) (in_front reader all joined m n)
       (leg_of_kind IsGreeting ClientIn n all.client.put (see.client.unused no_c2).greets))
 
-  quiet_on : (m : ℕ) → AllByRecursion IsQuietMessage (of_leg (at InServer m) all.server.came)
+  quiet_on : (m : ℕ) → AllByRecursion IsQuietMessage (of_leg (leg_at InServer m) all.server.came)
   quiet_on m =
-      front_each IsQuietMessage (of_leg (at InServer m) all.server.came)
-      (of_leg (at InServer m) (all.ins m).put) (joined.front (at InServer m) U)
-      (leg_of_log IsQuietMessage (at InServer m) (all.ins m).put
+      front_each IsQuietMessage (of_leg (leg_at InServer m) all.server.came)
+      (of_leg (leg_at InServer m) (all.ins m).put) (is_front reader all joined m)
+      (leg_of_log IsQuietMessage (leg_at InServer m) (all.ins m).put
       (each_so (OfPacket IsQuiet) (Of IsQuietMessage) quiet_so (all.ins m).put
       (see.ins m (greeted m))))
 
@@ -187,7 +164,7 @@ module _ (reader : ℕ → ℕ) (all : Passages) (joined : AreJoined reader all)
       none_acks to (of_kind InServer all.server.came)
       (kind_by_legs IsQuietMessage InServer all.server.came quiet_on)
 
-  pub has_room : (outs : (n : ℕ) → AllByRecursion LeavesRoom (of_leg (at OutServer n) (all.outs n).put))
+  pub has_room : (outs : (n : ℕ) → AllByRecursion LeavesRoom (of_leg (leg_at OutServer n) (all.outs n).put))
       → HaveRoom all.server.came
   has_room outs =
       each_so (Of LeavesRoom) HasRoomIn room_so all.server.came
@@ -199,20 +176,20 @@ module _ (reader : ℕ → ℕ) (all : Passages) (joined : AreJoined reader all)
           subst (AllByRecursion LeavesRoom) (sym (joined.elsewhere who.Server leg apart)) tt
 
       on : (kind : LegKind) (n : ℕ)
-          → AllByRecursion LeavesRoom (of_leg (at kind n) all.server.came)
+          → AllByRecursion LeavesRoom (of_leg (leg_at kind n) all.server.came)
       on InServer n =
           each_so IsQuietMessage LeavesRoom quiet_leaves_room
-          (of_leg (at InServer n) all.server.came) (quiet_on n)
+          (of_leg (leg_at InServer n) all.server.came) (quiet_on n)
       on OutServer n =
-          front_each LeavesRoom (of_leg (at OutServer n) all.server.came)
-          (of_leg (at OutServer n) (all.outs n).put) (joined.front (at OutServer n) U) (outs n)
-      on ClientIn n = nowhere (at ClientIn n) (at_ends n)
+          front_each LeavesRoom (of_leg (leg_at OutServer n) all.server.came)
+          (of_leg (leg_at OutServer n) (all.outs n).put) (os_front reader all joined n) (outs n)
+      on ClientIn n = nowhere (leg_at ClientIn n) (at_ends n)
         where
-          at_ends : (k : ℕ) (end : Side) → end_of reader (at ClientIn k) end ≡ who.Server → ⊥
+          at_ends : (k : ℕ) (end : Side) → end_of reader (leg_at ClientIn k) end ≡ who.Server → ⊥
           at_ends k side.Client e = absurd cc
           at_ends k side.Server e = absurd cc
-      on ClientOut n = nowhere (at ClientOut n) (at_ends n)
+      on ClientOut n = nowhere (leg_at ClientOut n) (at_ends n)
         where
-          at_ends : (k : ℕ) (end : Side) → end_of reader (at ClientOut k) end ≡ who.Server → ⊥
+          at_ends : (k : ℕ) (end : Side) → end_of reader (leg_at ClientOut k) end ≡ who.Server → ⊥
           at_ends k side.Client e = absurd cc
           at_ends k side.Server e = absurd cc

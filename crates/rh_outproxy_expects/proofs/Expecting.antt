@@ -1,12 +1,11 @@
 -- what comes next to an out proxy from its server is no reason to refuse it
 use Rattle.std.proofs.Common.{◌≡◌, ◌⊎◌, ℕ, zero, suc, ◌+◌, ◌<◌, ◌≤◌, ◌==◌, Bool, true, false, if◌then◌else◌, ◌&&◌, List, [], ◌∷◌, ◌++◌, Err, inl, inr, refl, sym, ap, ◌∙◌, subst, arith}
-use Rattle.std.proofs.lemmas.Bool.{false≢true, true≢false}
+use Rattle.std.proofs.lemmas.Bool.{false≢true, and_parts}
 use Rattle.std.proofs.lemmas.Bool.Decides.{nat_tests}
 use Rattle.std.proofs.lemmas.List.{append_assoc}
-use Rattle.std.specs.Prelude.{IsTrue}
+use Rattle.std.specs.Prelude.{nat_le, nat_lt}
 use Rattle.std.specs.List.{AllByRecursion}
 use mathlib.Core.List.{IsPrefix}
-use Rattle.rh_text.specs.declared.ends.Dir.TheVariants.{U, D}
 use Rattle.rh_rts.specs.declared.command.Cookie.{Cookie}
 use Rattle.rh_http.specs.declared.config.ClientConfig.{ClientConfig}
 use Rattle.rh_window.specs.Sides.{IsWindow}
@@ -20,6 +19,7 @@ use Rattle.rh_shell.specs.declared.answers.Refused.TheVariants as refused
 use Rattle.rh_shell.specs.Moves.{EndMove, Move, OnLeg, Passage, all_moved, started}
 use Rattle.rh_shell.specs.Rules.{Message, Text, Pdu, Packet}
 use Rattle.rh_shell.specs.Wires.{of_leg}
+use Rattle.rh_nodes.specs.Settling.{leg_at}
 use Rattle.rh_reading.specs.Reading.{all_read_of}
 use Rattle.rh_passages.specs.Passing.{count_of, of_kind, BeginsOut, Has, HasBegunOut, HasOn, HasOne}
 use Rattle.rh_passages.specs.Counted.{Tells, packets}
@@ -42,9 +42,11 @@ use Rattle.rh_proxy_counts.specs.OutCounts.{IsOpenedBy, NamesNew, NamesSuccessor
 use Rattle.rh_outproxy_rows.specs.Refusing.{CarriesNone, IsUnjoined, MismatchFromServer, PassesNone, RefusesFor, TakesNone, UnexpectedFromServer, from_client, from_server}
 use Rattle.rh_moments.specs.Expecting.{Expects, IsAhead, IsAmiss}
 use Rattle.rh_moments.specs.Moments.{IsMoment, Moves, Numbers, Passages, passages}
+use Rattle.rh_moments.proofs.Joining.{co_front, os_front}
+use Rattle.rh_moments.proofs.Read.{front_count, front_one}
 use Rattle.rh_outproxy_expects.specs.Early.{HaveLifetimes}
 use Rattle.rh_outproxy_expects.proofs.Early.{same_c1}
-use Rattle.rh_outproxy_expects.proofs.Logs.{all_behind, at, find, has_in, here_in, front_counts, front_one, leg_append, leg_counts, read_all_count, same_counts, some_leg, split, Split}
+use Rattle.rh_outproxy_expects.proofs.Logs.{all_behind, has_in, here_in, leg_counts, read_all_count, same_counts, some_leg, split, Split}
 use Rattle.rh_outproxy_expects.proofs.Ordered.{EarlyLaws, ServerLaws, c1_before, c1_on, c1_writing, handed_over, none_before_c1, one_behind, stand_until, stands, writing}
 use Rattle.rh_outproxy_expects.proofs.Turns.{HasEnded, ended_on}
 
@@ -71,11 +73,11 @@ same_a1 packet = refl
 one_has : (P : Named → Type 0) (ms : List Message) → HasOne P ms
     → (n : Named) × (Has n ms × P n)
 one_has P [] h = absurd h
-one_has P (Text bytes ∷ ms) h = let rest = one_has P ms h in (rest.0, inr rest.1, rest.2)
-one_has P (Pdu pdu ∷ ms) h = let rest = one_has P ms h in (rest.0, inr rest.1, rest.2)
-one_has P (Packet packet ∷ ms) (inl is) = (packet, inl refl, is)
+one_has P (Text bytes ∷ ms) h = let rest = one_has P ms h in (rest.0, (inr rest.1.0, rest.1.1))
+one_has P (Pdu pdu ∷ ms) h = let rest = one_has P ms h in (rest.0, (inr rest.1.0, rest.1.1))
+one_has P (Packet packet ∷ ms) (inl is) = (packet, (inl refl, is))
 one_has P (Packet packet ∷ ms) (inr more) =
-    let rest = one_has P ms more in (rest.0, inr rest.1, rest.2)
+    let rest = one_has P ms more in (rest.0, (inr rest.1.0, rest.1.1))
 
 -- by CONN/A1 or by OUT_R1/A3
 begun_counts : (cookie : Cookie) (ms : List Message) → HasBegunOut cookie ms
@@ -126,7 +128,23 @@ opened_by_a2 stage.Waits open' = absurd (omega (arith, open'))
 opened_by_a2 (stage.OutCame connection) open' = absurd (omega (arith, open'))
 opened_by_a2 (stage.InCame connection window timeout) open' = absurd (omega (arith, open'))
 opened_by_a2 (stage.Open connection) open' = refl
-opened_by_a2 stage.Ended open' = absurd (omega (arith, open'))
+opened_by_a2 stage.Ended open' = refl
+
+-- one that stands on the legs from the first on stands on the first
+counted : (b : Bool) → 1 ≤ at_client.once_if b → b ≡ true
+counted true more = refl
+counted false more = absurd (omega (arith, more))
+
+first_number : (total n : ℕ) → total ≤ 1 → nat_le 1 n ≡ true → nat_lt n (1 + total) ≡ true
+    → n ≡ 1
+first_number total n once least most = grind (arith, nat_tests, once, least, most)
+
+only_first : (total n : ℕ) → total ≤ 1
+    → 1 ≤ at_client.once_if (true && at_client.is_among 1 total n) → n ≡ 1
+only_first total n once more =
+    let parts = and_parts (nat_le 1 n) (nat_lt n (1 + total))
+    (counted (at_client.is_among 1 total n) more) in
+    first_number total n once parts.0 parts.1
 
 -- ---- at a moment
 
@@ -151,8 +169,8 @@ module _ (numbers : Numbers) (reader : ℕ → ℕ) (moves : Moves) (server : Se
   up_counts : (test : Named → Bool) (n : ℕ)
       → count_of test (of_leg (os n) all.server.came) ≤ count_of test (of_leg (os n) (all.outs n).put)
   up_counts test n =
-      front_counts test (of_leg (os n) all.server.came) (of_leg (os n) (all.outs n).put)
-      (moment.now.joined.front (os n) U)
+      front_count test (of_leg (os n) all.server.came) (of_leg (os n) (all.outs n).put)
+      (os_front reader all moment.now.joined n)
 
   -- OUT_R1/A4 that came at the server is for an OUT_R1/A3 that came at the proxy
   a3_came : (n : ℕ) → 1 ≤ count_of at_server.is_out_r1_a4 (of_leg (os n) all.server.came)
@@ -167,18 +185,14 @@ module _ (numbers : Numbers) (reader : ℕ → ℕ) (moves : Moves) (server : Se
   -- CONN/A1 comes at the first proxy
   first_by_a1 : (n : ℕ) → 1 ≤ count_of at_proxy.is_conn_a1 (from_client n (all.outs n)) → n ≡ 1
   first_by_a1 n some =
-      let way = front_counts at_proxy.is_conn_a1 (from_client n (all.outs n))
-      (of_leg (at ClientOut n) all.client.put) (moment.now.joined.front (at ClientOut n) U) in
+      let way = front_count at_proxy.is_conn_a1 (from_client n (all.outs n))
+      (of_leg (leg_at ClientOut n) all.client.put) (co_front reader all moment.now.joined n) in
       let same = same_counts at_proxy.is_conn_a1 at_client.is_conn_a1 same_a1
-      (of_leg (at ClientOut n) all.client.put) in
-      let stands = see.client.begins_on (at ClientOut n) in
+      (of_leg (leg_at ClientOut n) all.client.put) in
+      let stands = see.client.begins_on (leg_at ClientOut n) in
       let once = see.client.once in
-      by (at_client.total at_client.is_conn_a1 ClientOut all.client.put) once
+      only_first (at_client.total at_client.is_conn_a1 ClientOut all.client.put) n once
       (omega (arith, some, way, same, stands))
-    where
-      by : (total : ℕ) → total ≤ 1
-          → 1 ≤ at_client.once_if (true && at_client.is_among 1 total n) → n ≡ 1
-      by total once more = grind (arith, nat_tests, once, more)
 
   -- and so does CONN/A2
   a1_came : 1 ≤ at_server.out_came at_server.is_conn_a2 all.server
@@ -203,9 +217,9 @@ module _ (numbers : Numbers) (reader : ℕ → ℕ) (moves : Moves) (server : Se
       → HasBegunOut cookie (from_client n (all.outs n))
   begun_at n cookie is =
       let put = front_one (OpensOut cookie) (of_leg (os n) all.server.came)
-      (of_leg (os n) (all.outs n).put) (moment.now.joined.front (os n) U) is in
+      (of_leg (os n) (all.outs n).put) (os_front reader all moment.now.joined n) is in
       let one = one_has (OpensOut cookie) (of_leg (os n) (all.outs n).put) put in
-      begun_so cookie (from_client n (all.outs n)) one.0 one.2 (see.asked n one.0 one.1)
+      begun_so cookie (from_client n (all.outs n)) one.0 one.1.1 (see.asked n one.0 one.1.0)
 
   module _ (n : ℕ) (m : Message)
       (next : Split (os n) all.server.put (of_leg (os n) (all.outs n).came) m) where
@@ -375,7 +389,7 @@ module _ (numbers : Numbers) (reader : ℕ → ℕ) (moves : Moves) (server : Se
         some : 1 ≤ count_of at_server.is_conn_c1 (m ∷ [])
         some =
             let same = ap (λ (x : Message). count_of at_server.is_conn_c1 (x ∷ [])) e in
-            let one = ap (λ (t : Bool). if t then 1 else 0) is in
+            let one = ap {B = ℕ} (λ (t : Bool). if t then 1 else 0) is in
             omega (arith, same, one)
 
         first : n ≡ 1

@@ -14,13 +14,11 @@ use Rattle.rh_shell.specs.Moves.{OnLeg}
 use Rattle.rh_shell.specs.Rules.{Message, Text, Pdu, Packet}
 use Rattle.rh_shell.specs.Shells.{is_of, same_leg}
 use Rattle.rh_shell.specs.Wires.{of_leg}
+use Rattle.rh_nodes.specs.Settling.{leg_at}
 use Rattle.rh_reading.specs.Reading.{all_read_of}
-use Rattle.rh_passages.specs.Passing.{count_of, of_kind, Has, HasOne}
-use Rattle.rh_passages.proofs.Messages.{count_append, count_rises, one_more_so}
+use Rattle.rh_passages.specs.Passing.{count_of, of_kind, Has}
+use Rattle.rh_passages.proofs.Messages.{count_append}
 use Rattle.rh_proxy_counts.proofs.Counts.{leg_is}
-
-abbrev pub at : LegKind → ℕ → Leg
-at kind n = record { kind = kind; number = n }
 
 -- ---- a log in two parts
 
@@ -62,15 +60,15 @@ module _ (P : Message → Type 0) where
   Each ms = AllByRecursion P ms
 
   pub leg_of_kind : (kind : LegKind) (n : ℕ) (log : List OnLeg) → Each (of_kind kind log)
-      → Each (of_leg (at kind n) log)
+      → Each (of_leg (leg_at kind n) log)
   leg_of_kind kind n [] all = tt
   leg_of_kind kind n (one ∷ log) all =
-      by (is_of kind one.0) (same_leg one.0 (at kind n)) refl refl (leg_of_kind kind n log) all
+      by (is_of kind one.0) (same_leg one.0 (leg_at kind n)) refl refl (leg_of_kind kind n log) all
     where
-      by : (k l : Bool) → is_of kind one.0 ≡ k → same_leg one.0 (at kind n) ≡ l
-          → (Each (of_kind kind log) → Each (of_leg (at kind n) log))
+      by : (k l : Bool) → is_of kind one.0 ≡ k → same_leg one.0 (leg_at kind n) ≡ l
+          → (Each (of_kind kind log) → Each (of_leg (leg_at kind n) log))
           → Each (if k then one.1 ∷ of_kind kind log else of_kind kind log)
-          → Each (if l then one.1 ∷ of_leg (at kind n) log else of_leg (at kind n) log)
+          → Each (if l then one.1 ∷ of_leg (leg_at kind n) log else of_leg (leg_at kind n) log)
       by true true e f rest more = (more.0, rest more.1)
       by true false e f rest more = rest more.1
       by false false e f rest more = rest more
@@ -86,16 +84,16 @@ module _ (P : Message → Type 0) where
       by false more = more
 
   pub kind_by_legs : (kind : LegKind) (log : List OnLeg)
-      → ((n : ℕ) → Each (of_leg (at kind n) log)) → Each (of_kind kind log)
+      → ((n : ℕ) → Each (of_leg (leg_at kind n) log)) → Each (of_kind kind log)
   kind_by_legs kind [] each = tt
   kind_by_legs kind (one ∷ log) each =
       by (is_of kind one.0) refl
-      (kind_by_legs kind log (λ n. less (at kind n) one log (each n)))
+      (kind_by_legs kind log (λ n. less (leg_at kind n) one log (each n)))
     where
-      here : same_leg one.0 (at kind one.0.number) ≡ true → P one.1
+      here : same_leg one.0 (leg_at kind one.0.number) ≡ true → P one.1
       here e =
-          (subst (λ (t : Bool). Each (if t then one.1 ∷ of_leg (at kind one.0.number) log
-          else of_leg (at kind one.0.number) log)) e (each one.0.number)).0
+          (subst (λ (t : Bool). Each (if t then one.1 ∷ of_leg (leg_at kind one.0.number) log
+          else of_leg (leg_at kind one.0.number) log)) e (each one.0.number)).0
 
       by : (k : Bool) → is_of kind one.0 ≡ k → Each (of_kind kind log)
           → Each (if k then one.1 ∷ of_kind kind log else of_kind kind log)
@@ -154,17 +152,17 @@ module _ (test : Named → Bool) where
   head_counts m ms = count_append test (m ∷ []) ms
 
   pub leg_counts : (kind : LegKind) (n : ℕ) (log : List OnLeg)
-      → count (of_leg (at kind n) log) ≤ count (of_kind kind log)
+      → count (of_leg (leg_at kind n) log) ≤ count (of_kind kind log)
   leg_counts kind n [] = omega arith
   leg_counts kind n (one ∷ log) =
-      by (is_of kind one.0) (same_leg one.0 (at kind n)) refl refl (leg_counts kind n log)
+      by (is_of kind one.0) (same_leg one.0 (leg_at kind n)) refl refl (leg_counts kind n log)
     where
-      by : (k l : Bool) → is_of kind one.0 ≡ k → same_leg one.0 (at kind n) ≡ l
-          → count (of_leg (at kind n) log) ≤ count (of_kind kind log)
-          → count (if l then one.1 ∷ of_leg (at kind n) log else of_leg (at kind n) log)
+      by : (k l : Bool) → is_of kind one.0 ≡ k → same_leg one.0 (leg_at kind n) ≡ l
+          → count (of_leg (leg_at kind n) log) ≤ count (of_kind kind log)
+          → count (if l then one.1 ∷ of_leg (leg_at kind n) log else of_leg (leg_at kind n) log)
           ≤ count (if k then one.1 ∷ of_kind kind log else of_kind kind log)
       by true true e f rest =
-          let a = head_counts one.1 (of_leg (at kind n) log) in
+          let a = head_counts one.1 (of_leg (leg_at kind n) log) in
           let b = head_counts one.1 (of_kind kind log) in
           omega (arith, a, b, rest)
       by true false e f rest =
@@ -174,66 +172,50 @@ module _ (test : Named → Bool) where
 
   -- where one is on the legs of a kind, it is on one of them
   pub some_leg : (kind : LegKind) (log : List OnLeg) → 1 ≤ count (of_kind kind log)
-      → (n : ℕ) × (1 ≤ count (of_leg (at kind n) log))
+      → (n : ℕ) × (1 ≤ count (of_leg (leg_at kind n) log))
   some_leg kind [] some = absurd (omega (arith, some))
   some_leg kind (one ∷ log) some = by (is_of kind one.0) refl (some_leg kind log) some
     where
-      longer : (n : ℕ) → 1 ≤ count (of_leg (at kind n) log)
-          → 1 ≤ count (of_leg (at kind n) (one ∷ log))
-      longer n more = on (same_leg one.0 (at kind n))
+      longer : (n : ℕ) → 1 ≤ count (of_leg (leg_at kind n) log)
+          → 1 ≤ count (of_leg (leg_at kind n) (one ∷ log))
+      longer n more = on (same_leg one.0 (leg_at kind n))
         where
           on : (t : Bool)
-              → 1 ≤ count (if t then one.1 ∷ of_leg (at kind n) log else of_leg (at kind n) log)
+              → 1 ≤ count (if t then one.1 ∷ of_leg (leg_at kind n) log else of_leg (leg_at kind n) log)
           on true =
-              let a = head_counts one.1 (of_leg (at kind n) log) in omega (arith, a, more)
+              let a = head_counts one.1 (of_leg (leg_at kind n) log) in omega (arith, a, more)
           on false = more
 
-      on_longer : (n : ℕ) × (1 ≤ count (of_leg (at kind n) log))
-          → (n : ℕ) × (1 ≤ count (of_leg (at kind n) (one ∷ log)))
+      on_longer : (n : ℕ) × (1 ≤ count (of_leg (leg_at kind n) log))
+          → (n : ℕ) × (1 ≤ count (of_leg (leg_at kind n) (one ∷ log)))
       on_longer found = (found.0, longer found.0 found.1)
 
-      here : same_leg one.0 (at kind one.0.number) ≡ true → 1 ≤ count (one.1 ∷ [])
-          → 1 ≤ count (of_leg (at kind one.0.number) (one ∷ log))
+      here : same_leg one.0 (leg_at kind one.0.number) ≡ true → 1 ≤ count (one.1 ∷ [])
+          → 1 ≤ count (of_leg (leg_at kind one.0.number) (one ∷ log))
       here e counts =
-          subst (λ (t : Bool). 1 ≤ count (if t then one.1 ∷ of_leg (at kind one.0.number) log
-          else of_leg (at kind one.0.number) log)) (sym e)
-          (let a = head_counts one.1 (of_leg (at kind one.0.number) log) in
+          subst (λ (t : Bool). 1 ≤ count (if t then one.1 ∷ of_leg (leg_at kind one.0.number) log
+          else of_leg (leg_at kind one.0.number) log)) (sym e)
+          (let a = head_counts one.1 (of_leg (leg_at kind one.0.number) log) in
           omega (arith, a, counts))
 
-      of_one : (c : ℕ) → count (one.1 ∷ []) ≡ c → same_leg one.0 (at kind one.0.number) ≡ true
-          → (1 ≤ count (of_kind kind log) → (n : ℕ) × (1 ≤ count (of_leg (at kind n) log)))
+      of_one : (c : ℕ) → count (one.1 ∷ []) ≡ c → same_leg one.0 (leg_at kind one.0.number) ≡ true
+          → (1 ≤ count (of_kind kind log) → (n : ℕ) × (1 ≤ count (of_leg (leg_at kind n) log)))
           → 1 ≤ count (one.1 ∷ of_kind kind log)
-          → (n : ℕ) × (1 ≤ count (of_leg (at kind n) (one ∷ log)))
+          → (n : ℕ) × (1 ≤ count (of_leg (leg_at kind n) (one ∷ log)))
       of_one zero none e rest more =
           on_longer (rest
           (let a = head_counts one.1 (of_kind kind log) in omega (arith, a, none, more)))
       of_one (suc c) is e rest more = (one.0.number, here e (omega (arith, is)))
 
       by : (k : Bool) → is_of kind one.0 ≡ k
-          → (1 ≤ count (of_kind kind log) → (n : ℕ) × (1 ≤ count (of_leg (at kind n) log)))
+          → (1 ≤ count (of_kind kind log) → (n : ℕ) × (1 ≤ count (of_leg (leg_at kind n) log)))
           → 1 ≤ count (if k then one.1 ∷ of_kind kind log else of_kind kind log)
-          → (n : ℕ) × (1 ≤ count (of_leg (at kind n) (one ∷ log)))
+          → (n : ℕ) × (1 ≤ count (of_leg (leg_at kind n) (one ∷ log)))
       by true e rest more =
           of_one (count (one.1 ∷ [])) refl (grind (arith, nat_tests, e)) rest more
       by false e rest more = on_longer (rest more)
 
-  -- what is read of them
-  pub read_counts : (ms : List Message) → count (all_read_of ms) ≤ count ms
-  read_counts [] = omega arith
-  read_counts (Text bytes ∷ ms) = read_counts ms
-  read_counts (Pdu pdu ∷ ms) = read_counts ms
-  read_counts (Packet named ∷ ms) = by (is_ping named) (read_counts ms)
-    where
-      by : (t : Bool) → count (all_read_of ms) ≤ count ms
-          → count ((if t then [] else Packet named ∷ []) ++ all_read_of ms)
-          ≤ count (Packet named ∷ ms)
-      by true rest = let a = head_counts (Packet named) ms in omega (arith, rest, a)
-      by false rest =
-          let a = head_counts (Packet named) ms in
-          let b = head_counts (Packet named) (all_read_of ms) in
-          omega (arith, rest, a, b)
-
-  -- only Pings are lost
+  -- of what is read only Pings are lost
   pub read_all_count : test Ping ≡ false → (ms : List Message) → count (all_read_of ms) ≡ count ms
   read_all_count other [] = refl
   read_all_count other (Text bytes ∷ ms) = read_all_count other ms
@@ -244,14 +226,6 @@ module _ (test : Named → Bool) where
   read_all_count other (Packet named ∷ ms) =
       ap (λ (n : ℕ). if test named then suc n else n) (read_all_count other ms)
 
-  pub front_counts : (came put : List Message) → IsPrefix came (all_read_of put)
-      → count came ≤ count put
-  front_counts came put front =
-      let read = read_counts put in
-      let more = count_append test came front.0 in
-      let same = ap (count_of test) front.1 in
-      omega (arith, read, more, same)
-
 -- tests that are the same
 pub same_counts : (one other : Named → Bool) → ((named : Named) → one named ≡ other named)
     → (ms : List Message) → count_of one ms ≡ count_of other ms
@@ -261,27 +235,6 @@ same_counts one other is (Pdu pdu ∷ ms) = same_counts one other is ms
 same_counts one other is (Packet named ∷ ms) =
     ap (λ (t : Bool). if t then suc (count_of one ms) else count_of one ms) (is named)
     ∙ ap (λ (n : ℕ). if other named then suc n else n) (same_counts one other is ms)
-
--- ---- what is so of one of them
-
-module _ (P : Named → Type 0) where
-  pub read_one : (put : List Message) → HasOne P (all_read_of put) → HasOne P put
-  read_one [] has = has
-  read_one (Text bytes ∷ put) has = read_one put has
-  read_one (Pdu pdu ∷ put) has = read_one put has
-  read_one (Packet other ∷ put) has = by (is_ping other) (read_one put) has
-    where
-      by : (t : Bool) → (HasOne P (all_read_of put) → HasOne P put)
-          → HasOne P ((if t then [] else Packet other ∷ []) ++ all_read_of put)
-          → HasOne P (Packet other ∷ put)
-      by true rest more = inr (rest more)
-      by false rest (inl is) = inl is
-      by false rest (inr more) = inr (rest more)
-
-  pub front_one : (came put : List Message) → IsPrefix came (all_read_of put) → HasOne P came
-      → HasOne P put
-  front_one came put p has =
-      read_one put (subst (HasOne P) p.1 (one_more_so P came p.0 has))
 
 -- ---- a message in a log
 

@@ -1,5 +1,5 @@
 -- what a server put before each message, at a moment
-use Rattle.std.proofs.Common.{◌≡◌, ◌⊎◌, ℕ, zero, suc, ◌+◌, ◌<◌, ◌≤◌, ◌==◌, Bool, true, false, List, [], ◌∷◌, ◌++◌, inl, inr, refl, sym, ap, ◌∙◌, subst, arith}
+use Rattle.std.proofs.Common.{◌≡◌, ◌⊎◌, ℕ, zero, suc, ◌+◌, ◌<◌, ◌≤◌, ◌==◌, Bool, true, false, if◌then◌else◌, List, [], ◌∷◌, ◌++◌, inl, inr, refl, sym, ap, ◌∙◌, subst, arith}
 use Rattle.std.proofs.lemmas.Bool.{false≢true}
 use Rattle.std.proofs.lemmas.Bool.Decides.{nat_tests}
 use Rattle.std.proofs.lemmas.List.{append_assoc}
@@ -10,9 +10,11 @@ use Rattle.rh_sig.specs.declared.named.Named.{Named}
 use Rattle.rh_sig.specs.declared.named.Named.TheVariants.{AckTo, ConnC1}
 use Rattle.rh_line.specs.declared.leg.Leg.{Leg}
 use Rattle.rh_line.specs.declared.leg.LegKind.TheVariants.{OutServer, InServer}
+use Rattle.rh_order.proofs.ByNumber.{test_same}
 use Rattle.rh_shell.specs.Moves.{AreAllowedAtEnd, EndMove, EndPassage, OnLeg, Passage, all_end_moved, end_started}
 use Rattle.rh_shell.specs.Rules.{Message, Text, Pdu, Packet}
 use Rattle.rh_shell.specs.Wires.{of_leg}
+use Rattle.rh_nodes.specs.Settling.{leg_at}
 use Rattle.rh_passages.specs.Passing.{count_of, of_kind, Has}
 use Rattle.rh_passages.proofs.Messages.{count_append}
 use Rattle.rh_server.specs.Servers.{acts, first, rules}
@@ -27,7 +29,7 @@ use Rattle.rh_server_puts.specs.Puts.{behind_all, first_turn, os, Stands, StandF
 use Rattle.rh_moments.specs.Moments.{IsJoined, IsMoment, Moves, Numbers, server_behind}
 use Rattle.rh_outproxy_expects.specs.Early.{HaveLifetimes, HasRoomForC1, IsNotEarly}
 use Rattle.rh_outproxy_expects.proofs.Fronts.{front_of}
-use Rattle.rh_outproxy_expects.proofs.Logs.{all_behind, at, find, kind_append, leg_counts, some_leg}
+use Rattle.rh_outproxy_expects.proofs.Logs.{all_behind, find, kind_append, leg_counts, some_leg}
 use Rattle.rh_outproxy_expects.proofs.Turns.{none_before, stand_before, stands_in, writing_is}
 
 -- what passed a server by these moves
@@ -68,11 +70,7 @@ has_counts test named passes (m ∷ ms) has =
     more rest = let both = count_append test (m ∷ []) ms in omega (arith, rest, both)
 
     here : count_of test (Packet named ∷ []) ≡ 1
-    here = ap (λ (t : Bool). count_if t) passes
-      where
-        count_if : Bool → ℕ
-        count_if true = 1
-        count_if false = 0
+    here = ap (λ (t : Bool). if t then 1 else 0) passes
 
     by : (m ≡ Packet named) ⊎ Has named ms → (Has named ms → 1 ≤ count_of test ms)
         → 1 ≤ count_of test (m ∷ ms)
@@ -94,17 +92,17 @@ module _ (numbers : Numbers) (reader : ℕ → ℕ) (moves : Moves) (server : Se
 
   -- a moment at which just these messages had been put
   pub record At (log : List OnLeg) : Type 0 where
-    pub then : Moves
+    pub moves_then : Moves
     pub reader_then : ℕ → ℕ
-    pub joined : IsJoined numbers reader_then then
-    pub put : (server_by window then.server).put ≡ log
+    pub joined : IsJoined numbers reader_then moves_then
+    pub put : (server_by window moves_then.server).put ≡ log
 
   pub at_front : (log more : List OnLeg) → now.put ≡ log ++ more → At log
   at_front log more e =
       let just = front_of rules acts (end_started (first window)) moves.server log more e in
       let past = moment.server_past just.front just.later just.is in
       record {
-        then = past.0.moves_then;
+        moves_then = past.0.moves_then;
         reader_then = past.0.reader_then;
         joined = past.0.then_joined;
         put = ap (λ (ms : List EndMove). (server_by window ms).put) past.1 ∙ just.put;
@@ -112,31 +110,31 @@ module _ (numbers : Numbers) (reader : ℕ → ℕ) (moves : Moves) (server : Se
 
   module _ (log : List OnLeg) (a : At log) (none : count_of is_conn_c1 (of_kind OutServer log) ≡ 0)
       where
-    none_then : out_put is_conn_c1 (server_by window a.then.server) ≡ 0
+    none_then : out_put is_conn_c1 (server_by window a.moves_then.server) ≡ 0
     none_then = ap (λ (l : List OnLeg). count_of is_conn_c1 (of_kind OutServer l)) a.put ∙ none
 
     -- then only greetings and acknowledgements to out proxies went on os legs
     pub may_go : AllByRecursion MayGoBefore (of_kind OutServer log)
     may_go =
         subst (λ (l : List OnLeg). AllByRecursion MayGoBefore (of_kind OutServer l)) a.put
-        (server.c1_first window a.then.server a.joined.made.server
-        (early.room numbers a.reader_then a.then a.joined lifetimes none_then)
-        (early.acks numbers a.reader_then a.then a.joined none_then 0) none_then)
+        (server.c1_first window a.moves_then.server a.joined.made.server
+        (early.room numbers a.reader_then a.moves_then a.joined lifetimes none_then)
+        (early.acks numbers a.reader_then a.moves_then a.joined none_then 0) none_then)
 
     -- and the latter none either
     pub copied_none : (n : ℕ) (before : List OnLeg) (to received available : ℕ) (cookie : Cookie)
         → log ≡ before ++ (os n, Packet (AckTo to received available cookie)) ∷ [] → ⊥
     copied_none n before to received available cookie e =
-        let copies = subst (AllByRecursion (Copies window (server_by window a.then.server).came))
-        (a.put ∙ e) (server.copies window a.then.server) in
-        let one = (all_behind (Copies window (server_by window a.then.server).came) before
+        let copies = subst (AllByRecursion (Copies window (server_by window a.moves_then.server).came))
+        (a.put ∙ e) (server.copies window a.moves_then.server) in
+        let one = (all_behind (Copies window (server_by window a.moves_then.server).came) before
         ((os n, Packet (AckTo to received available cookie)) ∷ []) copies).0 in
         let has = one.1 in
         let some = has_counts (is_ack_to to) (AckTo to received available cookie)
-        (grind (arith, nat_tests))
-        (of_leg (at InServer has.0) (server_by window a.then.server).came) has.1 in
-        let all = leg_counts (is_ack_to to) InServer has.0 (server_by window a.then.server).came in
-        let no_one = early.acks numbers a.reader_then a.then a.joined none_then to in
+        (test_same to)
+        (of_leg (leg_at InServer has.0) (server_by window a.moves_then.server).came) has.1 in
+        let all = leg_counts (is_ack_to to) InServer has.0 (server_by window a.moves_then.server).came in
+        let no_one = early.acks numbers a.reader_then a.moves_then a.joined none_then to in
         absurd (omega (arith, some, all, no_one))
 
   -- ---- CONN/C1 goes first
@@ -235,9 +233,9 @@ module _ (numbers : Numbers) (reader : ℕ → ℕ) (moves : Moves) (server : Se
         let here = ap (λ (l : List OnLeg). count_of is_out_r1_a9 (of_leg (os n) l)) a.put in
         let all = ap (λ (l : List OnLeg). count_of is_out_r1_a9 (of_kind OutServer l)) a.put in
         let least = below
-        (often is_out_r1_a9 OutServer (server_by window a.then.server).put)
-        (often_at is_out_r1_a9 OutServer n (server_by window a.then.server).put)
-        ((server.legs window a.then.server).a9.behind n) (omega (arith, some, here)) in
+        (often is_out_r1_a9 OutServer (server_by window a.moves_then.server).put)
+        (often_at is_out_r1_a9 OutServer n (server_by window a.moves_then.server).put)
+        ((server.legs window a.moves_then.server).a9.behind n) (omega (arith, some, here)) in
         let w = writing in
         omega (arith, least, all, w)
       where
