@@ -1,0 +1,4 @@
+pub mod Channels
+pub mod Acks
+pub mod Opened
+pub mod Numbers
