@@ -5,3 +5,4 @@ mod Fronts
 mod Early
 mod Ordered
 mod Expecting
+mod Zeros
