@@ -1,32 +1,28 @@
 -- what comes next to an out proxy from its server is no reason to refuse it
-use Rattle.std.proofs.Common.{◌≡◌, ◌⊎◌, ℕ, zero, suc, ◌+◌, ◌<◌, ◌≤◌, ◌==◌, Bool, true, false, if◌then◌else◌, ◌&&◌, List, [], ◌∷◌, ◌++◌, Err, inl, inr, refl, sym, ap, ◌∙◌, subst, arith}
+use Rattle.std.proofs.Common.{◌≡◌, ◌⊎◌, ℕ, zero, suc, ◌+◌, ◌<◌, ◌≤◌, Bool, true, false, if◌then◌else◌, ◌&&◌, List, [], ◌∷◌, ◌++◌, Err, inl, inr, refl, sym, ap, ◌∙◌, subst, arith}
 use Rattle.std.proofs.lemmas.Bool.{false≢true, and_parts}
 use Rattle.std.proofs.lemmas.Bool.Decides.{nat_tests}
 use Rattle.std.proofs.lemmas.List.{append_assoc}
 use Rattle.std.specs.Prelude.{nat_le, nat_lt}
 use Rattle.std.specs.List.{AllByRecursion}
-use mathlib.Core.List.{IsPrefix}
 use Rattle.rh_rts.specs.declared.command.Cookie.{Cookie}
-use Rattle.rh_http.specs.declared.config.ClientConfig.{ClientConfig}
-use Rattle.rh_window.specs.Sides.{IsWindow}
 use Rattle.rh_sig.specs.declared.named.Named.{Named}
 use Rattle.rh_sig.specs.declared.named.Named.TheVariants as named
 use Rattle.rh_line.specs.declared.leg.Leg.{Leg}
-use Rattle.rh_line.specs.declared.leg.LegKind.TheVariants.{ClientOut, OutServer, ClientIn, InServer}
+use Rattle.rh_line.specs.declared.leg.LegKind.TheVariants.{ClientOut, OutServer}
 use Rattle.rh_shell.specs.declared.answers.Count.{Count}
 use Rattle.rh_shell.specs.declared.answers.Refused.{Refused}
 use Rattle.rh_shell.specs.declared.answers.Refused.TheVariants as refused
-use Rattle.rh_shell.specs.Moves.{EndMove, Move, OnLeg, Passage, all_moved, started}
+use Rattle.rh_shell.specs.Moves.{OnLeg, Passage}
 use Rattle.rh_shell.specs.Rules.{Message, Text, Pdu, Packet}
 use Rattle.rh_shell.specs.Wires.{of_leg}
 use Rattle.rh_nodes.specs.Settling.{leg_at}
 use Rattle.rh_reading.specs.Reading.{all_read_of}
-use Rattle.rh_passages.specs.Passing.{count_of, of_kind, BeginsOut, Has, HasBegunOut, HasOn, HasOne}
+use Rattle.rh_passages.specs.Passing.{count_of, of_kind, BeginsOut, Has, HasBegunOut, HasOne}
 use Rattle.rh_passages.specs.Counted.{Tells, packets}
-use Rattle.rh_passages.proofs.Messages.{count_append, one_so}
+use Rattle.rh_passages.proofs.Messages.{one_so}
 use Rattle.rh_outproxy.specs.Machine.{rules as out_rules}
 use Rattle.rh_outproxy.specs.OutProxy.{OutProxy}
-use Rattle.rh_server.specs.States.{no_cookie}
 use Rattle.rh_server.specs.declared.state.Stage.{Stage}
 use Rattle.rh_server.specs.declared.state.Stage.TheVariants as stage
 use Rattle.rh_client_counts.specs.Counting as at_client
@@ -45,7 +41,7 @@ use Rattle.rh_moments.specs.Moments.{IsMoment, Moves, Numbers, Passages, passage
 use Rattle.rh_moments.proofs.Joining.{co_front, os_front}
 use Rattle.rh_moments.proofs.Read.{front_count, front_one}
 use Rattle.rh_outproxy_expects.specs.Early.{HaveLifetimes}
-use Rattle.rh_outproxy_expects.proofs.Early.{same_c1}
+use Rattle.rh_outproxy_expects.proofs.NotEarly.{same_c1}
 use Rattle.rh_outproxy_expects.proofs.Logs.{all_behind, has_in, here_in, leg_counts, read_all_count, same_counts, some_leg, split, Split}
 use Rattle.rh_outproxy_expects.proofs.Ordered.{EarlyLaws, ServerLaws, c1_before, c1_on, c1_writing, handed_over, none_before_c1, one_behind, stand_until, stands, writing}
 use Rattle.rh_outproxy_expects.proofs.Turns.{HasEnded, ended_on}

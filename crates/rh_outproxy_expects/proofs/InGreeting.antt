@@ -24,10 +24,8 @@ use Rattle.rh_line.specs.declared.leg.LegKind.TheVariants.{ClientIn}
 use Rattle.rh_order.proofs.ByNumber.{by_test}
 use Rattle.rh_shell.specs.declared.answers.Count.{Count}
 use Rattle.rh_shell.specs.declared.due.Due.{Due}
-use Rattle.rh_shell.specs.declared.due.Origin.TheVariants.{Forwarded}
-use Rattle.rh_shell.specs.Rules.{Message, Text, Pdu, Packet}
+use Rattle.rh_shell.specs.Rules.{Message, Pdu, Packet}
 use Rattle.rh_shell.specs.Moves.{Move, OnLeg, all_moved, started}
-use Rattle.rh_shell.specs.Shells.{is_of}
 use Rattle.rh_shell.specs.Waiting as waits
 use Rattle.rh_inproxy.specs.declared.state.InProxyConfig.{InProxyConfig}
 use Rattle.rh_inproxy.specs.declared.state.Entry.{Entry}
@@ -44,8 +42,8 @@ use Rattle.rh_inproxy.specs.State.{InProxy, first, channel_of, has_a5, is_client
 use Rattle.rh_inproxy.specs.Opening.{announcement, first_by, put_first, echo_by, put_echo, up, head, drawn}
 use Rattle.rh_inproxy.specs.Acknowledging.{ack_due, ack_by, current_ack, next_ack, put_acks, forwarded, forward_by}
 use Rattle.rh_inproxy.specs.Ending.{put_end, mark, settled, settled_pick, is_newest}
-use Rattle.rh_inproxy.specs.InReplacement.{told_by, put_in_r2_a2, one_less, put_in_r1_a6}
-use Rattle.rh_inproxy.specs.Passing.{passed, next_pdu, put_pdu, pdu_by, on_pdu}
+use Rattle.rh_inproxy.specs.InReplacement.{told_by, put_in_r2_a2, put_in_r1_a6}
+use Rattle.rh_inproxy.specs.Passing.{passed, next_pdu, put_pdu, pdu_by}
 use Rattle.rh_inproxy.specs.Putting.{put as put_of, next, waiting_by, put_waiting, put_control, put_early, put_stream, put_behind, put_mark}
 use Rattle.rh_inproxy.specs.Time.{put_ping, ping}
 use Rattle.rh_inproxy.specs.Machine as machine

@@ -2,7 +2,7 @@ mod Logs
 mod InGreeting
 mod Turns
 mod Fronts
-mod Early
+mod NotEarly
 mod Ordered
 mod Expecting
 mod Zeros

@@ -1,5 +1,5 @@
 -- what a server put before each message, at a moment
-use Rattle.std.proofs.Common.{◌≡◌, ◌⊎◌, ℕ, zero, suc, ◌+◌, ◌<◌, ◌≤◌, ◌==◌, Bool, true, false, if◌then◌else◌, List, [], ◌∷◌, ◌++◌, inl, inr, refl, sym, ap, ◌∙◌, subst, arith}
+use Rattle.std.proofs.Common.{◌≡◌, ◌⊎◌, ℕ, zero, suc, ◌+◌, ◌<◌, ◌≤◌, Bool, true, false, if◌then◌else◌, List, [], ◌∷◌, ◌++◌, inl, inr, refl, sym, ap, ◌∙◌, subst, arith}
 use Rattle.std.proofs.lemmas.Bool.{false≢true}
 use Rattle.std.proofs.lemmas.Bool.Decides.{nat_tests}
 use Rattle.std.proofs.lemmas.List.{append_assoc}
@@ -11,7 +11,7 @@ use Rattle.rh_sig.specs.declared.named.Named.TheVariants.{AckTo, ConnC1}
 use Rattle.rh_line.specs.declared.leg.Leg.{Leg}
 use Rattle.rh_line.specs.declared.leg.LegKind.TheVariants.{OutServer, InServer}
 use Rattle.rh_order.proofs.ByNumber.{test_same}
-use Rattle.rh_shell.specs.Moves.{AreAllowedAtEnd, EndMove, EndPassage, OnLeg, Passage, all_end_moved, end_started}
+use Rattle.rh_shell.specs.Moves.{AreAllowedAtEnd, EndMove, OnLeg, Passage, all_end_moved, end_started}
 use Rattle.rh_shell.specs.Rules.{Message, Text, Pdu, Packet}
 use Rattle.rh_shell.specs.Wires.{of_leg}
 use Rattle.rh_nodes.specs.Settling.{leg_at}
@@ -109,33 +109,33 @@ module _ (numbers : Numbers) (reader : ℕ → ℕ) (moves : Moves) (server : Se
       }
 
   module _ (log : List OnLeg) (a : At log) (none : count_of is_conn_c1 (of_kind OutServer log) ≡ 0)
-      where
-    none_then : out_put is_conn_c1 (server_by window a.moves_then.server) ≡ 0
-    none_then = ap (λ (l : List OnLeg). count_of is_conn_c1 (of_kind OutServer l)) a.put ∙ none
+    where
+      none_then : out_put is_conn_c1 (server_by window a.moves_then.server) ≡ 0
+      none_then = ap (λ (l : List OnLeg). count_of is_conn_c1 (of_kind OutServer l)) a.put ∙ none
 
-    -- then only greetings and acknowledgements to out proxies went on os legs
-    pub may_go : AllByRecursion MayGoBefore (of_kind OutServer log)
-    may_go =
-        subst (λ (l : List OnLeg). AllByRecursion MayGoBefore (of_kind OutServer l)) a.put
-        (server.c1_first window a.moves_then.server a.joined.made.server
-        (early.room numbers a.reader_then a.moves_then a.joined lifetimes none_then)
-        (early.acks numbers a.reader_then a.moves_then a.joined none_then 0) none_then)
+      -- then only greetings and acknowledgements to out proxies went on os legs
+      pub may_go : AllByRecursion MayGoBefore (of_kind OutServer log)
+      may_go =
+          subst (λ (l : List OnLeg). AllByRecursion MayGoBefore (of_kind OutServer l)) a.put
+          (server.c1_first window a.moves_then.server a.joined.made.server
+          (early.room numbers a.reader_then a.moves_then a.joined lifetimes none_then)
+          (early.acks numbers a.reader_then a.moves_then a.joined none_then 0) none_then)
 
-    -- and the latter none either
-    pub copied_none : (n : ℕ) (before : List OnLeg) (to received available : ℕ) (cookie : Cookie)
-        → log ≡ before ++ (os n, Packet (AckTo to received available cookie)) ∷ [] → ⊥
-    copied_none n before to received available cookie e =
-        let copies = subst (AllByRecursion (Copies window (server_by window a.moves_then.server).came))
-        (a.put ∙ e) (server.copies window a.moves_then.server) in
-        let one = (all_behind (Copies window (server_by window a.moves_then.server).came) before
-        ((os n, Packet (AckTo to received available cookie)) ∷ []) copies).0 in
-        let has = one.1 in
-        let some = has_counts (is_ack_to to) (AckTo to received available cookie)
-        (test_same to)
-        (of_leg (leg_at InServer has.0) (server_by window a.moves_then.server).came) has.1 in
-        let all = leg_counts (is_ack_to to) InServer has.0 (server_by window a.moves_then.server).came in
-        let no_one = early.acks numbers a.reader_then a.moves_then a.joined none_then to in
-        absurd (omega (arith, some, all, no_one))
+      -- and the latter none either
+      pub copied_none : (n : ℕ) (before : List OnLeg) (to received available : ℕ) (cookie : Cookie)
+          → log ≡ before ++ (os n, Packet (AckTo to received available cookie)) ∷ [] → ⊥
+      copied_none n before to received available cookie e =
+          let copies = subst (AllByRecursion (Copies window (server_by window a.moves_then.server).came))
+          (a.put ∙ e) (server.copies window a.moves_then.server) in
+          let one = (all_behind (Copies window (server_by window a.moves_then.server).came) before
+          ((os n, Packet (AckTo to received available cookie)) ∷ []) copies).0 in
+          let has = one.1 in
+          let some = has_counts (is_ack_to to) (AckTo to received available cookie)
+          (test_same to)
+          (of_leg (leg_at InServer has.0) (server_by window a.moves_then.server).came) has.1 in
+          let all = leg_counts (is_ack_to to) InServer has.0 (server_by window a.moves_then.server).came in
+          let no_one = early.acks numbers a.reader_then a.moves_then a.joined none_then to in
+          absurd (omega (arith, some, all, no_one))
 
   -- ---- CONN/C1 goes first
 

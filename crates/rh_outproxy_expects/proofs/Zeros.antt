@@ -1,16 +1,12 @@
 -- no acknowledgement to an out proxy has the cookie that stands for none, where no OUT channel of
 -- the client has it
-use Rattle.std.proofs.Common.{◌≡◌, ℕ, List, refl}
+use Rattle.std.proofs.Common.{ℕ, refl}
 use Rattle.rh_rts.specs.declared.command.Cookie.{Cookie}
 use Rattle.rh_sig.specs.declared.named.Named.TheVariants.{AckTo}
-use Rattle.rh_line.specs.declared.leg.Leg.{Leg}
 use Rattle.rh_line.specs.declared.leg.LegKind.TheVariants.{OutServer, ClientIn, InServer}
-use Rattle.rh_shell.specs.Moves.{EndMove, Passage}
 use Rattle.rh_shell.specs.Wires.{of_leg}
 use Rattle.rh_nodes.specs.Settling.{leg_at}
 use Rattle.rh_passages.specs.Passing.{Has}
-use Rattle.rh_passages.specs.Rising.{HasComeUp}
-use Rattle.rh_client.specs.State.{co}
 use Rattle.rh_acks.specs.Acks.{IsPassedOn, PassesOn}
 use Rattle.rh_acks.proofs.Found.{has_found}
 use Rattle.rh_moments.specs.Moments.{AreJoined, Passages}

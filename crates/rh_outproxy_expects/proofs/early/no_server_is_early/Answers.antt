@@ -3,7 +3,7 @@ use Rattle.rh_shell.specs.Wires.{of_leg}
 use Rattle.rh_proxy_counts.specs.OutCounts.{co_leg, os_leg, ForwardsWhatCame}
 use Rattle.rh_outproxy_puts.specs.Puts.{IsToServer}
 use Rattle.rh_moments.specs.Moments.{AreMade, Moves, Numbers, out_behind, passages}
-use Rattle.rh_outproxy_expects.proofs.Early.{SeeToIt, has_room, no_acks, server_leaves}
+use Rattle.rh_outproxy_expects.proofs.NotEarly.{SeeToIt, has_room, no_acks, server_leaves}
 use Rattle.rh_outproxy_expects.proofs.early.no_server_is_early.Goals as goal
 
 pub returns-clause-acks : goal.returns-clause-acks

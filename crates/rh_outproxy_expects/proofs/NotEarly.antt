@@ -1,24 +1,21 @@
 -- no acknowledgement comes to a server before it put CONN/C1: the client puts none before CONN/C2
 -- came
-use Rattle.std.proofs.Common.{◌≡◌, ◌⊎◌, ℕ, ◌≤◌, ◌==◌, Bool, true, false, List, [], ◌∷◌, inl, inr, refl, sym, subst, arith}
-use Rattle.std.proofs.lemmas.Bool.{cases_eq}
+use Rattle.std.proofs.Common.{◌≡◌, ℕ, true, List, [], ◌∷◌, refl, sym, subst, arith}
 use Rattle.std.proofs.lemmas.Bool.Decides.{nat_tests}
 use Rattle.std.specs.Prelude.{IsTrue}
 use Rattle.std.specs.List.{AllByRecursion}
-use mathlib.Core.List.{IsPrefix}
 use Rattle.rh_text.specs.declared.ends.Side.{Side}
 use Rattle.rh_text.specs.declared.ends.Side.TheVariants as side
 use Rattle.rh_rts.specs.declared.command.Cookie.{Cookie}
-use Rattle.rh_http.specs.declared.config.ClientConfig.{ClientConfig}
 use Rattle.rh_sig.specs.declared.named.Named.{Named}
-use Rattle.rh_sig.specs.declared.named.Named.TheVariants.{ConnC1, ConnC2, ConnA2, OutR1A4, Ack, AckTo}
+use Rattle.rh_sig.specs.declared.named.Named.TheVariants.{ConnC1, ConnC2, ConnA2, AckTo}
 use Rattle.rh_sig.specs.Values.{IsLifetime}
 use Rattle.rh_keep.specs.Meters.{started as metered, may_put}
 use Rattle.rh_line.specs.declared.leg.Leg.{Leg}
 use Rattle.rh_line.specs.declared.leg.LegKind.{LegKind}
 use Rattle.rh_line.specs.declared.leg.LegKind.TheVariants.{ClientOut, OutServer, ClientIn, InServer}
 use Rattle.rh_record.specs.declared.answer.Who.TheVariants as who
-use Rattle.rh_shell.specs.Moves.{OnLeg, Passage}
+use Rattle.rh_shell.specs.Moves.{OnLeg}
 use Rattle.rh_shell.specs.Rules.{Message, Text, Pdu, Packet}
 use Rattle.rh_shell.specs.Wires.{of_leg}
 use Rattle.rh_nodes.specs.Settling.{leg_at}
@@ -28,18 +25,17 @@ use Rattle.rh_chains.specs.Ways.{total}
 use Rattle.rh_chains.proofs.Along.{by_proxies}
 use Rattle.rh_acks.specs.Acks.{OfPacket}
 use Rattle.rh_outproxy.specs.declared.state.OutProxyConfig.{OutProxyConfig}
-use Rattle.rh_outproxy.specs.OutProxy.{OutProxy}
 use Rattle.rh_client_counts.specs.Counting as at_client
 use Rattle.rh_client_counts.specs.Opening.{OpensOnce}
 use Rattle.rh_server_counts.specs.Counting as at_server
 use Rattle.rh_server_counts.specs.BeforeC1.{HasRoom, HasRoomIn, HaveRoom}
 use Rattle.rh_proxy_counts.specs.Kinds as at_proxy
-use Rattle.rh_proxy_counts.specs.OutCounts.{co_leg, os_leg, ForwardsWhatCame}
-use Rattle.rh_outproxy_puts.specs.Puts.{AcksPacket, IsAck, IsToServer, OpensServer, PutsToServer}
+use Rattle.rh_proxy_counts.specs.OutCounts.{ForwardsWhatCame}
+use Rattle.rh_outproxy_puts.specs.Puts.{IsAck, IsToServer, OpensServer}
 use Rattle.rh_moments.specs.Moments.{AreJoined, Passages, end_of}
 use Rattle.rh_moments.proofs.Joining.{co_back, in_front, is_front, os_back, os_front}
 use Rattle.rh_moments.proofs.Read.{front_count}
-use Rattle.rh_outproxy_expects.specs.Early.{HasGreeted, HaveLifetimes, IsQuiet, IsNotEarly, HasRoomForC1, PutsQuietly}
+use Rattle.rh_outproxy_expects.specs.Early.{HasGreeted, IsQuiet, PutsQuietly}
 use Rattle.rh_outproxy_expects.proofs.Logs.{front_each, kind_by_legs, leg_of_kind, leg_of_log, log_by_legs, Of, same_counts}
 
 -- ---- tests that are the same
@@ -111,7 +107,7 @@ module _ (config : OutProxyConfig) (is : IsLifetime config.lifetime) where
   ack_leaves cookie (Packet (ConnA2 version connection channel lifetime window)) h = absurd h
   ack_leaves cookie (Packet named) h = tt
 
-  server_leaves : (came put : List Message) → IsToServer config came put
+  pub server_leaves : (came put : List Message) → IsToServer config came put
       → AllByRecursion LeavesRoom put
   server_leaves came [] h = tt
   server_leaves came (first ∷ rest) h = (
