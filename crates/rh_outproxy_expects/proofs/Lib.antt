@@ -6,3 +6,4 @@ mod NotEarly
 mod Ordered
 mod Expecting
 mod Zeros
+mod Opening
