@@ -1,5 +1,5 @@
 -- what comes next to an out proxy from its server is no reason to refuse it
-use Rattle.std.proofs.Common.{◌≡◌, ◌⊎◌, ℕ, zero, suc, ◌+◌, ◌<◌, ◌≤◌, Bool, true, false, if◌then◌else◌, ◌&&◌, List, [], ◌∷◌, ◌++◌, Err, inl, inr, refl, sym, ap, ◌∙◌, subst, arith}
+use Rattle.std.proofs.Common.{◌≡◌, ◌⊎◌, ℕ, zero, suc, ◌+◌, ◌≤◌, Bool, true, false, if◌then◌else◌, ◌&&◌, List, [], ◌∷◌, ◌++◌, Err, inl, inr, refl, sym, ap, ◌∙◌, subst, arith}
 use Rattle.std.proofs.lemmas.Bool.{false≢true, and_parts}
 use Rattle.std.proofs.lemmas.Bool.Decides.{nat_tests}
 use Rattle.std.proofs.lemmas.List.{append_assoc}
@@ -8,8 +8,8 @@ use Rattle.std.specs.List.{AllByRecursion}
 use Rattle.rh_rts.specs.declared.command.Cookie.{Cookie}
 use Rattle.rh_sig.specs.declared.named.Named.{Named}
 use Rattle.rh_sig.specs.declared.named.Named.TheVariants as named
-use Rattle.rh_line.specs.declared.leg.Leg.{Leg}
 use Rattle.rh_line.specs.declared.leg.LegKind.TheVariants.{ClientOut, OutServer}
+use Rattle.rh_order.proofs.ByNumber.{test_other}
 use Rattle.rh_shell.specs.declared.answers.Count.{Count}
 use Rattle.rh_shell.specs.declared.answers.Refused.{Refused}
 use Rattle.rh_shell.specs.declared.answers.Refused.TheVariants as refused
@@ -31,26 +31,22 @@ use Rattle.rh_server_counts.specs.Counting as at_server
 use Rattle.rh_server_counts.specs.Opening.{since_conn_a2, since_open}
 use Rattle.rh_server_puts.specs.Copying.{Copies}
 use Rattle.rh_server_puts.specs.Greeting.{IsFrame}
-use Rattle.rh_server_puts.specs.Puts.{Turn, behind_all, first_turn, os, PacketStands, Stands}
+use Rattle.rh_server_puts.specs.Puts.{behind_all, first_turn, os, PacketStands, Stands}
 use Rattle.rh_server_rows.specs.Cookies.{IsOutChannel, OpensOut}
 use Rattle.rh_proxy_counts.specs.Kinds as at_proxy
 use Rattle.rh_proxy_counts.specs.OutCounts.{IsOpenedBy, NamesNew, NamesSuccessor, OpensAsAsked, OpensWhatCame}
 use Rattle.rh_outproxy_rows.specs.Refusing.{CarriesNone, IsUnjoined, MismatchFromServer, PassesNone, RefusesFor, TakesNone, UnexpectedFromServer, from_client, from_server}
+use Rattle.rh_server_turns.specs.Channels.{IsToOutProxy, IsWritten, MayFollowEnd}
 use Rattle.rh_moments.specs.Expecting.{Expects, IsAhead, IsAmiss}
 use Rattle.rh_moments.specs.Moments.{IsMoment, Moves, Numbers, Passages, passages}
 use Rattle.rh_moments.proofs.Joining.{co_front, os_front}
 use Rattle.rh_moments.proofs.Read.{front_count, front_one}
 use Rattle.rh_outproxy_expects.specs.Early.{HaveLifetimes}
 use Rattle.rh_outproxy_expects.proofs.NotEarly.{same_c1}
-use Rattle.rh_outproxy_expects.proofs.Logs.{all_behind, has_in, here_in, leg_counts, read_all_count, same_counts, some_leg, split, Split}
-use Rattle.rh_outproxy_expects.proofs.Ordered.{EarlyLaws, ServerLaws, c1_before, c1_on, c1_writing, handed_over, none_before_c1, one_behind, stand_until, stands, writing}
-use Rattle.rh_outproxy_expects.proofs.Turns.{HasEnded, ended_on}
+use Rattle.rh_outproxy_expects.proofs.Logs.{all_behind, has_in, here_in, leg_counts, part, read_all_count, same_counts, some_leg, split, Split}
+use Rattle.rh_outproxy_expects.proofs.Ordered.{EarlyLaws, ServerLaws, c1_before, c1_on, c1_on_first, none_before_c1, one_behind, stands}
 
 -- ---- tests that are the same
-
-same_a9 : (n : Named) → at_proxy.is_out_r1_a9 n ≡ at_server.is_out_r1_a9 n
-same_a9 named.OutR1A9 = refl
-same_a9 packet = refl
 
 same_a4 : (n : Named) → at_server.is_out_r1_a4 n ≡ at_proxy.is_out_r1_a4 n
 same_a4 (named.OutR1A4 version connection predecessor successor lifetime window timeout) = refl
@@ -63,6 +59,26 @@ same_a2 packet = refl
 same_a1 : (n : Named) → at_proxy.is_conn_a1 n ≡ at_client.is_conn_a1 n
 same_a1 (named.ConnA1 version connection channel window) = refl
 same_a1 packet = refl
+
+a9_is : (n : Named) → at_proxy.is_out_r1_a9 n ≡ true → n ≡ named.OutR1A9
+a9_is named.OutR1A9 e = refl
+a9_is packet e = absurd (false≢true e)
+
+end_is : (n : Named) → at_proxy.is_end_b1 n ≡ true → n ≡ named.EndB1
+end_is named.EndB1 e = refl
+end_is packet e = absurd (false≢true e)
+
+-- ---- what is written
+
+written_frame : (m : Message) → IsWritten m → IsFrame m
+written_frame (Text bytes) written = absurd written
+written_frame (Pdu pdu) written = tt
+written_frame (Packet packet) written = tt
+
+written_or_passed : (m : Message) → IsWritten m → IsToOutProxy m → ⊥
+written_or_passed (Text bytes) written passed = written
+written_or_passed (Pdu pdu) written passed = passed
+written_or_passed (Packet packet) written passed = false≢true (sym written ∙ passed)
 
 -- ---- channels that begin
 
@@ -163,7 +179,8 @@ module _ (numbers : Numbers) (reader : ℕ → ℕ) (moves : Moves) (server : Se
   all = passages numbers moves
 
   up_counts : (test : Named → Bool) (n : ℕ)
-      → count_of test (of_leg (os n) all.server.came) ≤ count_of test (of_leg (os n) (all.outs n).put)
+      → count_of test (of_leg (os n) all.server.came)
+      ≤ count_of test (of_leg (os n) (all.outs n).put)
   up_counts test n =
       front_count test (of_leg (os n) all.server.came) (of_leg (os n) (all.outs n).put)
       (os_front reader all moment.now.joined n)
@@ -222,12 +239,6 @@ module _ (numbers : Numbers) (reader : ℕ → ℕ) (moves : Moves) (server : Se
     abbrev p : Passage OutProxy
     p = all.outs n
 
-    before : List OnLeg
-    before = next.before
-
-    turn : Turn
-    turn = behind_all first_turn next.before
-
     -- what came is what was put before
     came_counts : (test : Named → Bool) → test named.Ping ≡ false
         → count_of test (from_server n p) ≡ count_of test (of_leg (os n) next.before)
@@ -235,18 +246,9 @@ module _ (numbers : Numbers) (reader : ℕ → ℕ) (moves : Moves) (server : Se
         sym (ap (count_of test) next.came_before)
         ∙ read_all_count test other (of_leg (os n) next.before)
 
-    abbrev Standing : Type 0
-    Standing = Stands (behind_all first_turn next.before) (os n, m)
-
-    stand : Standing
+    stand : Stands (behind_all first_turn next.before) (os n, m)
     stand =
         stands numbers reader moves server early lifetimes moment n m next.before next.behind
-        next.is
-
-    is_writing : (behind_all first_turn next.before).writing
-        ≡ suc (count_of at_server.is_out_r1_a9 (of_kind OutServer next.before))
-    is_writing =
-        writing numbers reader moves server early lifetimes moment n m next.before next.behind
         next.is
 
     -- CONN/C1 came, where this is the first channel
@@ -262,11 +264,20 @@ module _ (numbers : Numbers) (reader : ℕ → ℕ) (moves : Moves) (server : Se
         let came = came_counts at_proxy.is_conn_c1 refl in
         omega (arith, on, same, came)
 
-    -- behind OUT_R1/A9 on other legs the channel of this one began
-    a3_on : 2 ≤ n → n ≡ (behind_all first_turn next.before).writing
-        → 1 ≤ count_of at_proxy.is_out_r1_a3 (from_client n p)
-    a3_on later on =
-        let w = is_writing in
+    -- ---- where it writes: behind as many OUT_R1/A9 as there are channels before this one
+
+    abbrev IsOn : Type 0
+    IsOn = n ≡ suc (count_of at_server.is_out_r1_a9 (of_kind OutServer next.before))
+
+    is_on : IsWritten m → IsOn
+    is_on written =
+        (server.begun numbers.window moves.server).in_turn n m next.before next.behind next.is
+        written
+
+    -- so the channel of this leg began
+    a3_on : 2 ≤ n → IsWritten m → 1 ≤ count_of at_proxy.is_out_r1_a3 (from_client n p)
+    a3_on later written =
+        let on = is_on written in
         let order = server.order numbers.window moves.server in
         let legs = server.legs numbers.window moves.server in
         let now = one_behind numbers reader moves server early lifetimes moment
@@ -276,13 +287,8 @@ module _ (numbers : Numbers) (reader : ℕ → ℕ) (moves : Moves) (server : Se
         let a = order.a9_behind_a8 in
         let b = order.a8_behind_a5 in
         let c = order.a5_behind_a4 in
-        let one = legs.a4.each n later (omega (arith, later, on, w, now, put, a, b, c)) in
+        let one = legs.a4.each n later (omega (arith, later, on, now, put, a, b, c)) in
         a3_came n (omega (arith, one))
-
-    -- ---- where it writes
-
-    abbrev IsOn : Type 0
-    IsOn = n ≡ (behind_all first_turn next.before).writing
 
     abbrev IsNoC1 : Type 0
     IsNoC1 = count_of at_server.is_conn_c1 (m ∷ []) ≡ 0
@@ -294,41 +300,61 @@ module _ (numbers : Numbers) (reader : ℕ → ℕ) (moves : Moves) (server : Se
         next.is
 
     -- OUT_R1/A3 or CONN/C1 came
-    is_joined : IsOn → IsFrame m → IsNoC1 → IsUnjoined n p → ⊥
-    is_joined on frame other unjoined =
+    is_joined : IsWritten m → IsNoC1 → IsUnjoined n p → ⊥
+    is_joined written other unjoined =
         by (count_of at_server.is_out_r1_a9 (of_kind OutServer next.before)) refl
       where
         by : (c : ℕ) → count_of at_server.is_out_r1_a9 (of_kind OutServer next.before) ≡ c → ⊥
         by zero e =
-            let w = is_writing in
-            let c1 = c1_came (omega (arith, on, w, e)) (c1_went frame other) in
+            let on = is_on written in
+            let c1 = c1_came (omega (arith, on, e)) (c1_went (written_frame m written) other) in
             let none = unjoined.1 in
             omega (arith, c1, none)
         by (suc c) e =
-            let w = is_writing in
-            let a3 = a3_on (omega (arith, on, w, e)) on in
+            let on = is_on written in
+            let a3 = a3_on (omega (arith, on, e)) written in
             let none = unjoined.0 in
             omega (arith, a3, none)
 
-    -- and no OUT_R1/A9
-    carries : IsOn → IsFrame m → IsNoC1 → CarriesNone n p → ⊥
-    carries on frame other (inl unjoined) = is_joined on frame other unjoined
-    carries on frame other (inr handed) =
-        let came = came_counts at_proxy.is_out_r1_a9 refl in
-        let same = same_counts at_proxy.is_out_r1_a9 at_server.is_out_r1_a9 same_a9
-        (of_leg (os n) next.before) in
-        let past = handed_over numbers reader moves server early lifetimes moment n m next.before
-        next.behind next.is (omega (arith, handed, came, same)) in
-        omega (arith, on, past)
+    -- this message on the leg, and a packet before it
+    on_leg : of_leg (os n) all.server.put
+        ≡ of_leg (os n) next.before ++ m ∷ of_leg (os n) next.behind
+    on_leg = ap (of_leg (os n)) next.is ∙ here_in (os n) next.before m next.behind
 
-    has_ended : 1 ≤ count_of at_proxy.is_end_b1 (from_server n p)
-        → HasEnded n (behind_all first_turn next.before)
-    has_ended some =
+    behind_part : (P : Message → Type 0) (a b : List Message) (x : Message)
+        → of_leg (os n) next.before ≡ a ++ x ∷ b
+        → ((after : List Message) → of_leg (os n) all.server.put ≡ a ++ x ∷ after
+        → AllByRecursion P after) → P m
+    behind_part P a b x e each =
+        (all_behind P b (m ∷ of_leg (os n) next.behind)
+        (each (b ++ m ∷ of_leg (os n) next.behind)
+        (on_leg
+        ∙ ap (λ (ms : List Message). ms ++ m ∷ of_leg (os n) next.behind) e
+        ∙ append_assoc a (x ∷ b) (m ∷ of_leg (os n) next.behind)))).0
+
+    -- no OUT_R1/A9 came
+    carries : IsWritten m → IsNoC1 → CarriesNone n p → ⊥
+    carries written other (inl unjoined) = is_joined written other unjoined
+    carries written other (inr handed) =
+        let came = came_counts at_proxy.is_out_r1_a9 refl in
+        let found = part at_proxy.is_out_r1_a9 (of_leg (os n) next.before)
+        (omega (arith, handed, came)) in
+        written_or_passed m written
+        (behind_part IsToOutProxy found.before found.behind (Packet named.OutR1A9)
+        (found.is ∙ ap (λ (x : Named). found.before ++ Packet x ∷ found.behind)
+        (a9_is found.named found.passes))
+        (λ after. (server.begun numbers.window moves.server).behind_out_r1_a9 n found.before after))
+
+    -- behind END/B1 no RPC PDU and no END/B1 comes
+    follows_end : 1 ≤ count_of at_proxy.is_end_b1 (from_server n p) → MayFollowEnd m
+    follows_end some =
         let came = came_counts at_proxy.is_end_b1 refl in
-        ended_on n first_turn next.before
-        (stand_until numbers reader moves server early lifetimes moment n m next.before next.behind
-        next.is)
-        (omega (arith, some, came))
+        let found = part at_proxy.is_end_b1 (of_leg (os n) next.before)
+        (omega (arith, some, came)) in
+        behind_part MayFollowEnd found.before found.behind (Packet named.EndB1)
+        (found.is ∙ ap (λ (x : Named). found.before ++ Packet x ∷ found.behind)
+        (end_is found.named found.passes))
+        (λ after. (server.begun numbers.window moves.server).behind_end n found.before after)
 
     -- ---- what it copies
 
@@ -345,19 +371,17 @@ module _ (numbers : Numbers) (reader : ℕ → ℕ) (moves : Moves) (server : Se
         → HasBegunOut cookie (from_client n p)
     ack_begun to received available cookie is e =
         begun_at n cookie (see.acks n received available cookie
-        (subst (λ (k : ℕ). Has (named.AckTo k received available cookie) (of_leg (os n) put)) is
-        (subst (Has (named.AckTo to received available cookie)) (sym on_leg)
+        (subst (λ (k : ℕ). Has (named.AckTo k received available cookie)
+        (of_leg (os n) all.server.put)) is
+        (subst (Has (named.AckTo to received available cookie)) (sym here)
         (has_in (named.AckTo to received available cookie) (of_leg (os n) next.before)
         (of_leg (os n) next.behind)))))
       where
-        put : List OnLeg
-        put = all.server.put
-
-        on_leg : of_leg (os n) put
+        here : of_leg (os n) all.server.put
             ≡ of_leg (os n) next.before
             ++ Packet (named.AckTo to received available cookie) ∷ of_leg (os n) next.behind
-        on_leg =
-            ap (of_leg (os n)) next.is ∙ here_in (os n) next.before m next.behind
+        here =
+            on_leg
             ∙ ap (λ (x : Message). of_leg (os n) next.before ++ x ∷ of_leg (os n) next.behind) e
 
     ack_joined : (to received available : ℕ) (cookie : Cookie) → to ≡ 3
@@ -377,10 +401,10 @@ module _ (numbers : Numbers) (reader : ℕ → ℕ) (moves : Moves) (server : Se
     -- ---- CONN/C1
 
     c1_expected : (packet : Named) → m ≡ Packet packet → at_server.is_conn_c1 packet ≡ true
-        → IsOn
+        → IsWritten m
         → (count_of at_proxy.is_conn_a1 (from_client n p) ≡ 0)
         ⊎ (1 ≤ count_of at_proxy.is_conn_c1 (from_server n p)) → ⊥
-    c1_expected packet e is on reason = by reason
+    c1_expected packet e is written reason = by reason
       where
         some : 1 ≤ count_of at_server.is_conn_c1 (m ∷ [])
         some =
@@ -390,8 +414,8 @@ module _ (numbers : Numbers) (reader : ℕ → ℕ) (moves : Moves) (server : Se
 
         first : n ≡ 1
         first =
-            on ∙ c1_writing numbers reader moves server early lifetimes moment n m next.before
-            next.behind next.is some
+            c1_on_first numbers reader moves server early lifetimes moment n m next.before
+            next.behind next.is some written
 
         by : (count_of at_proxy.is_conn_a1 (from_client n p) ≡ 0)
             ⊎ (1 ≤ count_of at_proxy.is_conn_c1 (from_server n p)) → ⊥
@@ -404,7 +428,8 @@ module _ (numbers : Numbers) (reader : ℕ → ℕ) (moves : Moves) (server : Se
             let due = opens.conn_c1 in
             let a2 = opened_by_a2 all.server.role.stage (omega (arith, due, put, both, some)) in
             let came = opens.conn_a2 in
-            let a1 = subst (λ (k : ℕ). 1 ≤ count_of at_proxy.is_conn_a1 (from_client k (all.outs k)))
+            let a1 = subst (λ (k : ℕ).
+            1 ≤ count_of at_proxy.is_conn_a1 (from_client k (all.outs k)))
             (sym first) (a1_came (omega (arith, came, a2))) in
             omega (arith, a1, none)
         by (inr again) =
@@ -423,72 +448,57 @@ module _ (numbers : Numbers) (reader : ℕ → ℕ) (moves : Moves) (server : Se
       frame_is = subst IsFrame (sym e) tt
 
       stands_as : PacketStands (behind_all first_turn next.before) (os n) packet
-      stands_as = subst (λ (x : Message). Stands (behind_all first_turn next.before) (os n, x)) e stand
+      stands_as =
+          subst (λ (x : Message). Stands (behind_all first_turn next.before) (os n, x)) e stand
 
       copies_as : Copies numbers.window all.server.came (os n, Packet packet)
       copies_as =
           subst (λ (x : Message). Copies numbers.window all.server.came (os n, x)) e copied
 
-      on_it : os n ≡ os (behind_all first_turn next.before).writing → IsOn
-      on_it same = ap (λ (l : Leg). l.number) same
+      written_as : at_server.is_ack_to 3 packet ≡ false → IsWritten m
+      written_as other = subst IsWritten (sym e) other
 
       no_c1 : at_server.is_conn_c1 packet ≡ false → IsNoC1
       no_c1 other =
           ap (λ (x : Message). count_of at_server.is_conn_c1 (x ∷ [])) e
           ∙ ap (λ (t : Bool). if t then 1 else 0) other
 
-      passes : os n ≡ os (behind_all first_turn next.before).writing → (to : ℕ) → to ≡ 0
+      passes : at_server.is_ack_to 3 packet ≡ false → (to : ℕ) → to ≡ 0
           → at_server.is_conn_c1 packet ≡ false → PassesNone n p to → ⊥
-      passes on to is other (inl apart) = apart is
-      passes on to is other (inr none) = carries (on_it on) frame_is (no_c1 other) none
+      passes other to is no_conn_c1 (inl apart) = apart is
+      passes other to is no_conn_c1 (inr none) =
+          carries (written_as other) (no_c1 no_conn_c1) none
 
     expected : (packet : Named) → m ≡ Packet packet → UnexpectedFromServer n p packet → ⊥
     expected (named.ConnC1 version window timeout) e reason =
         c1_expected (named.ConnC1 version window timeout) e refl
-        (on_it (named.ConnC1 version window timeout) e
-        (stands_as (named.ConnC1 version window timeout) e)) reason
+        (written_as (named.ConnC1 version window timeout) e refl) reason
     expected (named.AckTo to received available cookie) e (inl own) =
         ack_joined to received available cookie own.0 e own.1
     expected (named.AckTo to received available cookie) e (inr other) =
-        by (stands_as packet e) (copies_as packet e).0
+        by (copies_as packet e).0
       where
         packet : Named
         packet = named.AckTo to received available cookie
 
-        by : PacketStands (behind_all first_turn next.before) (os n)
-            (named.AckTo to received available cookie)
-            → (to ≡ 0) ⊎ (to ≡ 3) → ⊥
-        by (inl on) (inl client) = passes packet e on to client refl other.1
-        by (inr proxy) (inl client) = other.0 proxy.0
-        by stands' (inr proxy) = other.0 proxy
+        by : (to ≡ 0) ⊎ (to ≡ 3) → ⊥
+        by (inl client) = passes packet e (test_other to 3 other.0) to client refl other.1
+        by (inr proxy) = other.0 proxy
     expected (named.InR1A3 to version window timeout) e reason =
-        passes (named.InR1A3 to version window timeout) e
-        (stands_as (named.InR1A3 to version window timeout) e) to
+        passes (named.InR1A3 to version window timeout) e refl to
         (copies_as (named.InR1A3 to version window timeout) e).0.0 refl reason
     expected (named.InR2A3 to) e reason =
-        passes (named.InR2A3 to) e (stands_as (named.InR2A3 to) e) to
-        (copies_as (named.InR2A3 to) e) refl reason
+        passes (named.InR2A3 to) e refl to (copies_as (named.InR2A3 to) e) refl reason
     expected (named.OutR1A1 to) e reason =
-        passes (named.OutR1A1 to) e (stands_as (named.OutR1A1 to) e) to
-        (copies_as (named.OutR1A1 to) e) refl reason
+        passes (named.OutR1A1 to) e refl to (copies_as (named.OutR1A1 to) e) refl reason
     expected (named.OutR1A5 to version timeout) e reason =
-        passes (named.OutR1A5 to version timeout) e
-        (stands_as (named.OutR1A5 to version timeout) e) to
+        passes (named.OutR1A5 to version timeout) e refl to
         (copies_as (named.OutR1A5 to version timeout) e).0.0 refl reason
     expected named.OutR1A9 e reason =
-        carries (on_it named.OutR1A9 e (stands_as named.OutR1A9 e)) (frame_is named.OutR1A9 e)
-        (no_c1 named.OutR1A9 e refl) reason
+        carries (written_as named.OutR1A9 e refl) (no_c1 named.OutR1A9 e refl) reason
     expected named.EndB1 e (inl none) =
-        carries (on_it named.EndB1 e (stands_as named.EndB1 e).0) (frame_is named.EndB1 e)
-        (no_c1 named.EndB1 e refl) none
-    expected named.EndB1 e (inr some) =
-        by (on_it named.EndB1 e (stands_as named.EndB1 e).0) (has_ended some).1
-      where
-        by : IsOn → (n < (behind_all first_turn next.before).writing)
-            ⊎ (((behind_all first_turn next.before).writing ≡ n)
-            × ((behind_all first_turn next.before).ended ≡ true)) → ⊥
-        by on (inl less) = omega (arith, on, less)
-        by on (inr here) = false≢true (sym (stands_as named.EndB1 e).1 ∙ here.1)
+        carries (written_as named.EndB1 e refl) (no_c1 named.EndB1 e refl) none
+    expected named.EndB1 e (inr some) = subst MayFollowEnd e (follows_end some)
     expected (named.ConnB3 size version) e reason =
         let kind = stands_as (named.ConnB3 size version) e in absurd cc
     expected named.InR1B1 e reason = let kind = stands_as named.InR1B1 e in absurd cc
@@ -507,17 +517,10 @@ module _ (numbers : Numbers) (reader : ℕ → ℕ) (moves : Moves) (server : Se
     -- ---- RPC PDUs
 
     pdu_expected : (bytes : List ℕ) → m ≡ Pdu bytes → TakesNone n p → ⊥
-    pdu_expected bytes e reason = by reason
-      where
-        stands_pdu : Stands (behind_all first_turn next.before) (os n, Pdu bytes)
-        stands_pdu =
-            subst (λ (x : Message). Stands (behind_all first_turn next.before) (os n, x)) e stand
-
-        by : TakesNone n p → ⊥
-        by (inl none) =
-            carries (ap (λ (l : Leg). l.number) stands_pdu.0) (subst IsFrame (sym e) tt)
-            (ap (λ (x : Message). count_of at_server.is_conn_c1 (x ∷ [])) e) none
-        by (inr some) = false≢true (sym stands_pdu.1 ∙ (has_ended some).0)
+    pdu_expected bytes e (inl none) =
+        carries (subst IsWritten (sym e) tt)
+        (ap (λ (x : Message). count_of at_server.is_conn_c1 (x ∷ [])) e) none
+    pdu_expected bytes e (inr some) = subst MayFollowEnd e (follows_end some)
 
   -- ---- what is refused
 

@@ -179,7 +179,8 @@ module _ (test : Named → Bool) where
       longer n more = on (same_leg one.0 (leg_at kind n))
         where
           on : (t : Bool)
-              → 1 ≤ count (if t then one.1 ∷ of_leg (leg_at kind n) log else of_leg (leg_at kind n) log)
+              → 1 ≤ count (if t then one.1 ∷ of_leg (leg_at kind n) log
+              else of_leg (leg_at kind n) log)
           on true =
               let a = head_counts one.1 (of_leg (leg_at kind n) log) in omega (arith, a, more)
           on false = more
@@ -280,6 +281,37 @@ module _ (leg : Leg) (test : Named → Bool) where
       by true e (Packet named) rest more =
           first named (test named) refl (leg_is other leg e) rest more
       by false e x rest more = one_before (other, x) log (rest more)
+
+-- a packet among messages
+pub record Part (ms : List Message) (test : Named → Bool) : Type 0 where
+  pub before : List Message
+  pub named : Named
+  pub behind : List Message
+  pub is : ms ≡ before ++ Packet named ∷ behind
+  pub passes : test named ≡ true
+
+module _ (test : Named → Bool) where
+  part_behind : (m : Message) (ms : List Message) → Part ms test → Part (m ∷ ms) test
+  part_behind m ms part = record {
+    before = m ∷ part.before;
+    named = part.named;
+    behind = part.behind;
+    is = ap (λ (l : List Message). m ∷ l) part.is;
+    passes = part.passes;
+  }
+
+  pub part : (ms : List Message) → 1 ≤ count_of test ms → Part ms test
+  part [] some = absurd (omega (arith, some))
+  part (Text bytes ∷ ms) some = part_behind (Text bytes) ms (part ms some)
+  part (Pdu pdu ∷ ms) some = part_behind (Pdu pdu) ms (part ms some)
+  part (Packet named ∷ ms) some = by (test named) refl (part ms) some
+    where
+      by : (t : Bool) → test named ≡ t → (1 ≤ count_of test ms → Part ms test)
+          → 1 ≤ (if t then suc (count_of test ms) else count_of test ms)
+          → Part (Packet named ∷ ms) test
+      by true passes rest more =
+          record { before = []; named = named; behind = ms; is = refl; passes = passes }
+      by false fails rest more = part_behind (Packet named) ms (rest more)
 
 -- the next of what is read of a leg, and what was put before it
 pub record Split (leg : Leg) (log : List OnLeg) (came : List Message) (m : Message)

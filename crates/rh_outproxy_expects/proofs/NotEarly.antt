@@ -7,6 +7,7 @@ use Rattle.std.specs.List.{AllByRecursion}
 use Rattle.rh_text.specs.declared.ends.Side.{Side}
 use Rattle.rh_text.specs.declared.ends.Side.TheVariants as side
 use Rattle.rh_rts.specs.declared.command.Cookie.{Cookie}
+use Rattle.rh_http.specs.declared.config.ClientConfig.{ClientConfig}
 use Rattle.rh_sig.specs.declared.named.Named.{Named}
 use Rattle.rh_sig.specs.declared.named.Named.TheVariants.{ConnC1, ConnC2, ConnA2, AckTo}
 use Rattle.rh_sig.specs.Values.{IsLifetime}
@@ -15,7 +16,7 @@ use Rattle.rh_line.specs.declared.leg.Leg.{Leg}
 use Rattle.rh_line.specs.declared.leg.LegKind.{LegKind}
 use Rattle.rh_line.specs.declared.leg.LegKind.TheVariants.{ClientOut, OutServer, ClientIn, InServer}
 use Rattle.rh_record.specs.declared.answer.Who.TheVariants as who
-use Rattle.rh_shell.specs.Moves.{OnLeg}
+use Rattle.rh_shell.specs.Moves.{AreAllowedAtEnd, EndMove, Move, OnLeg, all_end_moved, all_moved, end_started, started}
 use Rattle.rh_shell.specs.Rules.{Message, Text, Pdu, Packet}
 use Rattle.rh_shell.specs.Wires.{of_leg}
 use Rattle.rh_nodes.specs.Settling.{leg_at}
@@ -24,7 +25,14 @@ use Rattle.rh_passages.proofs.Messages.{each_so}
 use Rattle.rh_chains.specs.Ways.{total}
 use Rattle.rh_chains.proofs.Along.{by_proxies}
 use Rattle.rh_acks.specs.Acks.{OfPacket}
+use Rattle.rh_client.specs.Client as clients
+use Rattle.rh_client.specs.State as client_state
+use Rattle.rh_inproxy.specs.declared.state.InProxyConfig.{InProxyConfig}
+use Rattle.rh_inproxy.specs.Machine as in_proxy
+use Rattle.rh_inproxy.specs.State as in_state
+use Rattle.rh_outproxy.specs.Machine as out_proxy
 use Rattle.rh_outproxy.specs.declared.state.OutProxyConfig.{OutProxyConfig}
+use Rattle.rh_outproxy.specs.OutProxy.{new_proxy}
 use Rattle.rh_client_counts.specs.Counting as at_client
 use Rattle.rh_client_counts.specs.Opening.{OpensOnce}
 use Rattle.rh_server_counts.specs.Counting as at_server
@@ -32,7 +40,7 @@ use Rattle.rh_server_counts.specs.BeforeC1.{HasRoom, HasRoomIn, HaveRoom}
 use Rattle.rh_proxy_counts.specs.Kinds as at_proxy
 use Rattle.rh_proxy_counts.specs.OutCounts.{ForwardsWhatCame}
 use Rattle.rh_outproxy_puts.specs.Puts.{IsAck, IsToServer, OpensServer}
-use Rattle.rh_moments.specs.Moments.{AreJoined, Passages, end_of}
+use Rattle.rh_moments.specs.Moments.{AreJoined, AreMade, Moves, Numbers, Passages, end_of, out_behind, passages}
 use Rattle.rh_moments.proofs.Joining.{co_back, in_front, is_front, os_back, os_front}
 use Rattle.rh_moments.proofs.Read.{front_count}
 use Rattle.rh_outproxy_expects.specs.Early.{HasGreeted, IsQuiet, PutsQuietly}
@@ -123,6 +131,27 @@ pub record SeeToIt (all : Passages) : Type 0 where
   pub ins : (m : ℕ) → PutsQuietly (all.ins m)
   pub outs : (n : ℕ) → ForwardsWhatCame n (all.outs n)
 
+pub record Laws : Type 0 where
+  pub client : (config : ClientConfig) (moves : List EndMove)
+      → AreAllowedAtEnd clients.rules clients.acts (end_started (client_state.first config)) moves
+      → OpensOnce (all_end_moved clients.rules clients.acts
+      (end_started (client_state.first config)) moves).passage
+  pub ins : (config : InProxyConfig) (moves : List Move)
+      → PutsQuietly (all_moved in_proxy.rules (started (in_state.first config)) moves)
+  pub outs : (config : OutProxyConfig) (moves : List Move)
+      → ForwardsWhatCame config.number
+      (all_moved out_proxy.rules (started (new_proxy config)) moves)
+
+pub see_to_it : Laws → (numbers : Numbers) (moves : Moves) → AreMade numbers moves
+    → SeeToIt (passages numbers moves)
+see_to_it laws numbers moves made = record {
+  client = laws.client numbers.client moves.client made.client;
+  ins = λ m. laws.ins (numbers.ins m) (moves.ins m);
+  outs = λ n.
+      subst (λ (k : ℕ). ForwardsWhatCame k (out_behind numbers moves n)) (made.out_number n)
+      (laws.outs (numbers.outs n) (moves.outs n));
+}
+
 module _ (reader : ℕ → ℕ) (all : Passages) (joined : AreJoined reader all)
     (see : SeeToIt all) (none : at_server.out_put at_server.is_conn_c1 all.server ≡ 0) where
   no_c2 : total at_client.is_conn_c2 ClientOut all.client.came ≡ 0
@@ -160,7 +189,8 @@ module _ (reader : ℕ → ℕ) (all : Passages) (joined : AreJoined reader all)
       none_acks to (of_kind InServer all.server.came)
       (kind_by_legs IsQuietMessage InServer all.server.came quiet_on)
 
-  pub has_room : (outs : (n : ℕ) → AllByRecursion LeavesRoom (of_leg (leg_at OutServer n) (all.outs n).put))
+  pub has_room : (outs : (n : ℕ)
+      → AllByRecursion LeavesRoom (of_leg (leg_at OutServer n) (all.outs n).put))
       → HaveRoom all.server.came
   has_room outs =
       each_so (Of LeavesRoom) HasRoomIn room_so all.server.came

@@ -1,14 +1,11 @@
 -- what a server put before each message, at a moment
-use Rattle.std.proofs.Common.{◌≡◌, ◌⊎◌, ℕ, zero, suc, ◌+◌, ◌<◌, ◌≤◌, Bool, true, false, if◌then◌else◌, List, [], ◌∷◌, ◌++◌, inl, inr, refl, sym, ap, ◌∙◌, subst, arith}
+use Rattle.std.proofs.Common.{◌≡◌, ◌⊎◌, ℕ, zero, suc, ◌+◌, ◌≤◌, Bool, true, if◌then◌else◌, List, [], ◌∷◌, ◌++◌, inl, inr, refl, sym, ap, ◌∙◌, subst, arith}
 use Rattle.std.proofs.lemmas.Bool.{false≢true}
-use Rattle.std.proofs.lemmas.Bool.Decides.{nat_tests}
 use Rattle.std.proofs.lemmas.List.{append_assoc}
 use Rattle.std.specs.List.{AllByRecursion}
-use Rattle.std.specs.Prelude.{nat_le}
 use Rattle.rh_rts.specs.declared.command.Cookie.{Cookie}
 use Rattle.rh_sig.specs.declared.named.Named.{Named}
 use Rattle.rh_sig.specs.declared.named.Named.TheVariants.{AckTo, ConnC1}
-use Rattle.rh_line.specs.declared.leg.Leg.{Leg}
 use Rattle.rh_line.specs.declared.leg.LegKind.TheVariants.{OutServer, InServer}
 use Rattle.rh_order.proofs.ByNumber.{test_same}
 use Rattle.rh_shell.specs.Moves.{AreAllowedAtEnd, EndMove, OnLeg, Passage, all_end_moved, end_started}
@@ -20,17 +17,18 @@ use Rattle.rh_passages.proofs.Messages.{count_append}
 use Rattle.rh_server.specs.Servers.{acts, first, rules}
 use Rattle.rh_server.specs.States.{Server}
 use Rattle.rh_server_counts.specs.BeforeC1.{HaveRoom, MayGoBefore}
-use Rattle.rh_server_counts.specs.Counting.{in_came, is_ack_to, is_conn_c1, is_out_r1_a9, often, often_at, out_put}
+use Rattle.rh_server_counts.specs.Counting.{in_came, is_ack_to, is_conn_c1, out_put}
 use Rattle.rh_server_counts.specs.Opening.{OpensOnce}
 use Rattle.rh_server_counts.specs.Replacing.{AreInTurn, ArePutInTurn}
 use Rattle.rh_server_puts.specs.Copying.{Copies, CopiesWhatCame}
 use Rattle.rh_server_puts.specs.Greeting.{IsFrame}
 use Rattle.rh_server_puts.specs.Puts.{behind_all, first_turn, os, Stands, StandFrom, WritesInTurn}
+use Rattle.rh_server_turns.specs.Channels.{IsWritten, WritesOnBegun}
 use Rattle.rh_moments.specs.Moments.{IsJoined, IsMoment, Moves, Numbers, server_behind}
 use Rattle.rh_outproxy_expects.specs.Early.{HaveLifetimes, HasRoomForC1, IsNotEarly}
 use Rattle.rh_outproxy_expects.proofs.Fronts.{front_of}
 use Rattle.rh_outproxy_expects.proofs.Logs.{all_behind, find, kind_append, leg_counts, some_leg}
-use Rattle.rh_outproxy_expects.proofs.Turns.{none_before, stand_before, stands_in, writing_is}
+use Rattle.rh_outproxy_expects.proofs.Turns.{none_before, stands_in}
 
 -- what passed a server by these moves
 abbrev pub server_by : ℕ → List EndMove → Passage Server
@@ -48,6 +46,7 @@ pub record ServerLaws : Type 0 where
   pub order : (window : ℕ) (moves : List EndMove) → AreInTurn (server_by window moves)
   pub legs : (window : ℕ) (moves : List EndMove) → ArePutInTurn (server_by window moves)
   pub writes : (window : ℕ) (moves : List EndMove) → WritesInTurn (server_by window moves).put
+  pub begun : (window : ℕ) (moves : List EndMove) → WritesOnBegun (server_by window moves)
   pub copies : (window : ℕ) (moves : List EndMove)
       → CopiesWhatCame window (server_by window moves)
 
@@ -125,15 +124,15 @@ module _ (numbers : Numbers) (reader : ℕ → ℕ) (moves : Moves) (server : Se
       pub copied_none : (n : ℕ) (before : List OnLeg) (to received available : ℕ) (cookie : Cookie)
           → log ≡ before ++ (os n, Packet (AckTo to received available cookie)) ∷ [] → ⊥
       copied_none n before to received available cookie e =
-          let copies = subst (AllByRecursion (Copies window (server_by window a.moves_then.server).came))
-          (a.put ∙ e) (server.copies window a.moves_then.server) in
-          let one = (all_behind (Copies window (server_by window a.moves_then.server).came) before
+          let p = server_by window a.moves_then.server in
+          let copies = subst (AllByRecursion (Copies window p.came)) (a.put ∙ e)
+          (server.copies window a.moves_then.server) in
+          let one = (all_behind (Copies window p.came) before
           ((os n, Packet (AckTo to received available cookie)) ∷ []) copies).0 in
           let has = one.1 in
           let some = has_counts (is_ack_to to) (AckTo to received available cookie)
-          (test_same to)
-          (of_leg (leg_at InServer has.0) (server_by window a.moves_then.server).came) has.1 in
-          let all = leg_counts (is_ack_to to) InServer has.0 (server_by window a.moves_then.server).came in
+          (test_same to) (of_leg (leg_at InServer has.0) p.came) has.1 in
+          let all = leg_counts (is_ack_to to) InServer has.0 p.came in
           let no_one = early.acks numbers a.reader_then a.moves_then a.joined none_then to in
           absurd (omega (arith, some, all, no_one))
 
@@ -164,15 +163,6 @@ module _ (numbers : Numbers) (reader : ℕ → ℕ) (moves : Moves) (server : Se
     stands =
         stands_in first_turn before (os n, m) behind
         (subst (StandFrom first_turn) is (server.writes window moves.server))
-
-    pub stand_until : StandFrom first_turn before
-    stand_until =
-        stand_before first_turn before ((os n, m) ∷ behind)
-        (subst (StandFrom first_turn) is (server.writes window moves.server))
-
-    pub writing : (behind_all first_turn before).writing
-        ≡ suc (count_of is_out_r1_a9 (of_kind OutServer before))
-    writing = let w = writing_is first_turn before stand_until in omega (arith, w)
 
     -- anything but a greeting and CONN/C1 goes behind CONN/C1
     pub c1_before : IsFrame m → count_of is_conn_c1 (m ∷ []) ≡ 0
@@ -217,43 +207,17 @@ module _ (numbers : Numbers) (reader : ℕ → ℕ) (moves : Moves) (server : Se
         omega (arith, once, both, all, some)
 
     -- so it goes on the first leg
-    pub c1_writing : 1 ≤ count_of is_conn_c1 (m ∷ [])
-        → (behind_all first_turn before).writing ≡ 1
-    c1_writing some =
+    pub c1_on_first : 1 ≤ count_of is_conn_c1 (m ∷ []) → IsWritten m → n ≡ 1
+    c1_on_first some written =
         let a = at_front before ((os n, m) ∷ behind) is in
         let none = none_before (of_kind OutServer before) (may_go before a (none_before_c1 some)) in
-        let w = writing in
-        omega (arith, none, w)
-
-    -- OUT_R1/A9 went only on legs before the one that writes
-    pub handed_over : 1 ≤ count_of is_out_r1_a9 (of_leg (os n) before)
-        → n < (behind_all first_turn before).writing
-    handed_over some =
-        let a = at_front before ((os n, m) ∷ behind) is in
-        let here = ap (λ (l : List OnLeg). count_of is_out_r1_a9 (of_leg (os n) l)) a.put in
-        let all = ap (λ (l : List OnLeg). count_of is_out_r1_a9 (of_kind OutServer l)) a.put in
-        let least = below
-        (often is_out_r1_a9 OutServer (server_by window a.moves_then.server).put)
-        (often_at is_out_r1_a9 OutServer n (server_by window a.moves_then.server).put)
-        ((server.legs window a.moves_then.server).a9.behind n) (omega (arith, some, here)) in
-        let w = writing in
-        omega (arith, least, all, w)
-      where
-        below : (all here : ℕ) → (1 + all ≤ n → here ≡ 0) → 1 ≤ here → n < 1 + all
-        below all here none more = by (nat_le (1 + all) n) refl
-          where
-            by : (t : Bool) → nat_le (1 + all) n ≡ t → n < 1 + all
-            by true e =
-                let no_one = none (grind (arith, nat_tests, e)) in
-                absurd (omega (arith, no_one, more))
-            by false e = grind (arith, nat_tests, e)
+        let on = (server.begun window moves.server).in_turn n m before behind is written in
+        omega (arith, none, on)
 
   c1_leg : (n : ℕ) (named : Named) (before behind : List OnLeg)
       → now.put ≡ before ++ (os n, Packet named) ∷ behind → is_conn_c1 named ≡ true → n ≡ 1
   c1_leg n (ConnC1 version window' timeout) before behind is e =
-      let stand = stands n (Packet (ConnC1 version window' timeout)) before behind is in
-      let w = c1_writing n (Packet (ConnC1 version window' timeout)) before behind is (omega arith) in
-      ap (λ (l : Leg). l.number) stand ∙ w
+      c1_on_first n (Packet (ConnC1 version window' timeout)) before behind is (omega arith) refl
   c1_leg n named before behind is e = absurd (false≢true e)
 
   -- CONN/C1 among those before stands on the first leg

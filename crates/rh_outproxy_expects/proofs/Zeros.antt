@@ -17,8 +17,10 @@ module _ (reader : ℕ → ℕ) (all : Passages) (joined : AreJoined reader all)
     (server : PassesOn InServer 3 all.server) (ins : (m : ℕ) → PassesOn ClientIn 3 (all.ins m))
     (n received available : ℕ) (cookie : Cookie) where
   -- one that the server put for an out proxy was put by the client
-  pub from_client : Has (AckTo 3 received available cookie) (of_leg (leg_at OutServer n) all.server.put)
-      → (k : ℕ) × Has (AckTo 3 received available cookie) (of_leg (leg_at ClientIn k) all.client.put)
+  pub from_client :
+      Has (AckTo 3 received available cookie) (of_leg (leg_at OutServer n) all.server.put)
+      → (k : ℕ)
+      × Has (AckTo 3 received available cookie) (of_leg (leg_at ClientIn k) all.client.put)
   from_client has =
       let came = has_found (IsPassedOn InServer 3 all.server.came)
       (AckTo 3 received available cookie) (leg_at OutServer n) all.server.put server has refl in

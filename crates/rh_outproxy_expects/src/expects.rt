@@ -20,7 +20,7 @@ use rh_server_counts::{
     a_server_opens_once, a_server_puts_conn_c1_first, a_server_replaces_out_channels_one_by_one,
 };
 use rh_server_puts::{a_server_copies_what_came, a_server_writes_in_turn};
-use rh_server_turns::a_server_passes_acks_on_their_leg;
+use rh_server_turns::{a_server_passes_acks_on_their_leg, a_server_writes_on_channels_that_began};
 
 /// At each moment of a virtual connection: what is next of all that the server put on the leg of an
 /// out proxy, that proxy refuses neither as unexpected nor for its cookie, if the client's window
@@ -46,5 +46,6 @@ pub fn an_out_proxy_expects_its_server()
     a_server_replaces_out_channels_one_by_one();
     a_server_copies_what_came();
     a_server_writes_in_turn();
+    a_server_writes_on_channels_that_began();
     a_server_passes_acks_on_their_leg();
 }

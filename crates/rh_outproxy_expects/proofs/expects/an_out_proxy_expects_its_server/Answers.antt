@@ -29,6 +29,7 @@ returns c = λ numbers reader moves moment fit.
       order = c.a_server_replaces_out_channels_one_by_one.ensures.order;
       legs = c.a_server_replaces_out_channels_one_by_one.ensures.legs;
       writes = c.a_server_writes_in_turn.ensures;
+      begun = c.a_server_writes_on_channels_that_began.ensures;
       copies = c.a_server_copies_what_came.ensures;
     }
 
