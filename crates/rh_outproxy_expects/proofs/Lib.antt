@@ -7,3 +7,4 @@ mod Ordered
 mod Expecting
 mod Zeros
 mod Opening
+mod Asking
