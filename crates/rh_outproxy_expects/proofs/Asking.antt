@@ -207,7 +207,8 @@ module _ (config : OutProxyConfig) (pipes : HasPipes rules (new_proxy config) (o
 
     moved_on : (before : List Move) (move : Move)
         → moved rules (at before) move ≡ at (before ++ move ∷ [])
-    moved_on before move = sym (all_moved_append rules (started (new_proxy config)) before (move ∷ []))
+    moved_on before move =
+        sym (all_moved_append rules (started (new_proxy config)) before (move ∷ []))
 
     module _ (k : ℕ) where
       abbrev n : ℕ
