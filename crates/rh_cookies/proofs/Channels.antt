@@ -1,7 +1,6 @@
 -- a leg of the client comes up once, and has the number of a channel
-use Rattle.std.proofs.Common.{◌≡◌, ◌⊎◌, ◌≤◌, ℕ, suc, ◌+◌, ◌==◌, ◌&&◌, ◌||◌, nat_lt, Bool, true, false, true≢false, if◌then◌else◌, List, [], ◌∷◌, ◌++◌, inl, inr, arith, refl, sym, ap, ◌∙◌, subst, append_assoc, append-nil}
+use Rattle.std.proofs.Common.{◌≡◌, ◌≤◌, ℕ, suc, ◌+◌, ◌==◌, ◌&&◌, ◌||◌, nat_lt, Bool, true, false, true≢false, if◌then◌else◌, List, [], ◌∷◌, ◌++◌, inl, inr, arith, refl, sym, ap, ◌∙◌, subst, append_assoc, append-nil}
 use Rattle.std.proofs.lemmas.Bool.Decides.{nat_tests}
-use Rattle.std.specs.Prelude.{IsTrue}
 use Rattle.std.specs.List.{AllByRecursion}
 use Rattle.rh_rts.specs.declared.command.Cookie.{Cookie}
 use Rattle.rh_http.specs.declared.config.ClientConfig.{ClientConfig}
@@ -11,8 +10,7 @@ use Rattle.rh_line.specs.declared.leg.LegKind.TheVariants.{ClientIn, ClientOut, 
 use Rattle.rh_shell.specs.Moving as moving
 use Rattle.rh_shell.specs.Moving.{EndEvent, Happens, IsGiven, IsTaken, IsClosed, IsRecycled, after_event, after_end_event, after_end_events}
 use Rattle.rh_shell.specs.Shells.{Shell, may_up, same_leg}
-use Rattle.rh_shell.proofs.Leading.{leg_is}
-use Rattle.rh_nodes.specs.Settling.{leg_at}
+use Rattle.rh_streams.proofs.Ends.{leg_is}
 use Rattle.rh_client.specs.declared.channels.TheConstants.{LAST_NUMBER}
 use Rattle.rh_client.specs.declared.state.ClientRole.{ClientRole}
 use Rattle.rh_client.specs.Channels.{is_up}
@@ -64,10 +62,6 @@ never_up leg (moving.Ends other ∷ events) none = never_up leg events none
 never_up leg (moving.Breaks other ∷ events) none = never_up leg events none
 never_up leg (moving.Draws other room ∷ events) none = never_up leg events none
 never_up leg (moving.Ticks now ∷ events) none = never_up leg events none
-
-from_true : (b : Bool) → IsTrue b → b ≡ true
-from_true true h = refl
-from_true false h = absurd h
 
 -- ---- the number of a leg that was up
 
@@ -161,7 +155,7 @@ module _ (config : ClientConfig) (law : ClientLaws config) where
           → AllByRecursion (IsBelow (suc LAST_NUMBER)) (legs_up (happened later))
           → AllByRecursion (IsBelow (suc LAST_NUMBER)) (legs_up (happened (event ∷ later)))
       by (Happens (moving.ComesUp leg cookie)) may rest =
-          (one_below front leg cookie (from_true _ may), rest)
+          (one_below front leg cookie may, rest)
       by (Happens (moving.Hears leg piece)) may rest = rest
       by (Happens (moving.Ends leg)) may rest = rest
       by (Happens (moving.Breaks leg)) may rest = rest
@@ -207,7 +201,7 @@ module _ (config : ClientConfig) (law : ClientLaws config) where
       → IsAcceptedAtEnd client.rules (node front) event → often leg front ≤ 1
       → often leg front + often leg (event ∷ []) ≤ 1
   once_more leg front (Happens (moving.ComesUp other cookie)) accepted may before =
-      risen_once leg other cookie front accepted (from_true _ may) before
+      risen_once leg other cookie front accepted may before
   once_more leg front (Happens (moving.Hears other piece)) accepted may before =
       omega (arith, before)
   once_more leg front (Happens (moving.Ends other)) accepted may before = omega (arith, before)

@@ -35,17 +35,18 @@ rises f g each (suc n) =
 one_more : (f g : ℕ → ℕ) (j : ℕ) → ((k : ℕ) → f k ≤ g k) → suc (f j) ≤ g j → (n : ℕ)
     → suc j ≤ n → suc (sum_below f n) ≤ sum_below g n
 one_more f g j each here zero below = absurd (omega (arith, below))
-one_more f g j each here (suc n) below = by (j == n) refl
+one_more f g j each here (suc n) below = by (j == n) refl (one_more f g j each here n)
   where
-    by : (b : Bool) → (j == n) ≡ b → suc (sum_below f n + f n) ≤ sum_below g n + g n
-    by true is =
+    by : (b : Bool) → (j == n) ≡ b → (suc j ≤ n → suc (sum_below f n) ≤ sum_below g n)
+        → suc (sum_below f n + f n) ≤ sum_below g n + g n
+    by true is before =
         let same : j ≡ n = grind (arith, nat_tests, is) in
         let rest = rises f g each n in
         let one : suc (f n) ≤ g n = subst (λ (k : ℕ). suc (f k) ≤ g k) same here in
         omega (arith, rest, one)
-    by false apart =
+    by false apart before =
         let less : suc j ≤ n = grind (arith, nat_tests, apart, below) in
-        let rest = one_more f g j each here n less in
+        let rest = before less in
         let one = each n in
         omega (arith, rest, one)
 
@@ -64,12 +65,6 @@ more_times leg other legs = by (same_leg other leg)
     by : (b : Bool) → times leg legs ≤ (if b then suc (times leg legs) else times leg legs)
     by true = omega arith
     by false = omega arith
-
-same_itself : (leg : Leg) → same_leg leg leg ≡ true
-same_itself leg = by leg.kind
-  where
-    by : (kind : LegKind) → same_leg (leg_at kind leg.number) (leg_at kind leg.number) ≡ true
-    by kind = search
 
 here_in : (n : ℕ) (legs : List Leg)
     → suc (on_both legs n) ≤ on_both (leg_at ClientIn n ∷ legs) n

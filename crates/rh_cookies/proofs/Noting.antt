@@ -1,8 +1,6 @@
 -- each leg of the client that comes up by a change comes up by an event of the client
 use Rattle.std.proofs.Common.{◌≡◌, ℕ, ◌+◌, List, [], ◌∷◌, ◌++◌, length, length-append, map, arith, refl, ap, ◌∙◌}
-use Rattle.rh_text.specs.declared.ends.Side.{Side}
 use Rattle.rh_text.specs.declared.ends.Side.TheVariants as side
-use Rattle.rh_rts.specs.declared.command.Cookie.{Cookie}
 use Rattle.rh_line.specs.declared.leg.Leg.{Leg}
 use Rattle.rh_record.specs.declared.answer.Who.{Who}
 use Rattle.rh_record.specs.declared.answer.Who.TheVariants as who
@@ -12,7 +10,7 @@ use Rattle.rh_nodes.specs.declared.event.Event.{Event}
 use Rattle.rh_nodes.specs.declared.event.Event.TheVariants.{Comes, Ends, Breaks, Passes}
 use Rattle.rh_nodes.specs.Company.{Rulebook}
 use Rattle.rh_nodes.specs.Giving.{Deeds}
-use Rattle.rh_nodes.specs.Opening.{Makers, reader_before}
+use Rattle.rh_nodes.specs.Opening.{Makers}
 use Rattle.rh_nodes.specs.Wires.{receiver, sender}
 use Rattle.rh_nodes.specs.World.{World, at}
 use Rattle.rh_history.specs.Carried.{happened}

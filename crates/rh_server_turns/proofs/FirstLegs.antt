@@ -115,12 +115,12 @@ module _ (test : Named → Bool) (kind : LegKind) where
 
 -- ---- both packets
 
-abbrev TakesA2 : OnLeg → Done → Type 0
-TakesA2 one x = TakesFirst is_conn_a2 OutServer one x
+abbrev TakesConnA2 : OnLeg → Done → Type 0
+TakesConnA2 one x = TakesFirst is_conn_a2 OutServer one x
 
-a2_row : (s : Server) (n : ℕ) (count : Count) (m : Named) (k : LegKind)
-    → TakesA2 (leg_at k n, Packet m) (packet_by s n count m k)
-a2_row s n count (named.ConnA2 v a b c d) OutServer =
+conn_a2_row : (s : Server) (n : ℕ) (count : Count) (m : Named) (k : LegKind)
+    → TakesConnA2 (leg_at k n, Packet m) (packet_by s n count m k)
+conn_a2_row s n count (named.ConnA2 v a b c d) OutServer =
     by_test (Row n) (is_first count && ((n == 1) && not (waits kinds.ConnC1 s.waiting)))
     (conn_a2_at s s.stage a b c d) (unexpected s)
     (λ e. subst (λ (i : ℕ). Row i (conn_a2_at s s.stage a b c d)) (sym (same_number n 1
@@ -130,21 +130,21 @@ a2_row s n count (named.ConnA2 v a b c d) OutServer =
     (λ e. tt)
   where
     Row : ℕ → Done → Type 0
-    Row i x = TakesA2 (leg_at OutServer i, Packet (named.ConnA2 v a b c d)) x
-a2_row s n count (named.ConnA2 v a b c d) InServer =
+    Row i x = TakesConnA2 (leg_at OutServer i, Packet (named.ConnA2 v a b c d)) x
+conn_a2_row s n count (named.ConnA2 v a b c d) InServer =
     takes_here is_conn_a2 OutServer (leg_at InServer n, Packet (named.ConnA2 v a b c d))
     (packet_by s n count (named.ConnA2 v a b c d) InServer) refl
-a2_row s n count (named.ConnA2 v a b c d) ClientIn = tt
-a2_row s n count (named.ConnA2 v a b c d) ClientOut = tt
-a2_row s n count m k =
+conn_a2_row s n count (named.ConnA2 v a b c d) ClientIn = tt
+conn_a2_row s n count (named.ConnA2 v a b c d) ClientOut = tt
+conn_a2_row s n count m k =
     takes_other is_conn_a2 OutServer (leg_at k n) (Packet m) (packet_by s n count m k) refl
 
-abbrev TakesB2 : OnLeg → Done → Type 0
-TakesB2 one x = TakesFirst is_conn_b2 InServer one x
+abbrev TakesConnB2 : OnLeg → Done → Type 0
+TakesConnB2 one x = TakesFirst is_conn_b2 InServer one x
 
-b2_row : (s : Server) (n : ℕ) (count : Count) (m : Named) (k : LegKind)
-    → TakesB2 (leg_at k n, Packet m) (packet_by s n count m k)
-b2_row s n count (named.ConnB2 v a b c d e f g) InServer =
+conn_b2_row : (s : Server) (n : ℕ) (count : Count) (m : Named) (k : LegKind)
+    → TakesConnB2 (leg_at k n, Packet m) (packet_by s n count m k)
+conn_b2_row s n count (named.ConnB2 v a b c d e f g) InServer =
     by_test (Row n) (is_first count && ((n == 1) && not (waits kinds.ConnC1 s.waiting)))
     (conn_b2_at s s.stage a b c d) (unexpected s)
     (λ t. subst (λ (i : ℕ). Row i (conn_b2_at s s.stage a b c d)) (sym (same_number n 1
@@ -154,21 +154,21 @@ b2_row s n count (named.ConnB2 v a b c d e f g) InServer =
     (λ t. tt)
   where
     Row : ℕ → Done → Type 0
-    Row i x = TakesB2 (leg_at InServer i, Packet (named.ConnB2 v a b c d e f g)) x
-b2_row s n count (named.ConnB2 v a b c d e f g) OutServer =
+    Row i x = TakesConnB2 (leg_at InServer i, Packet (named.ConnB2 v a b c d e f g)) x
+conn_b2_row s n count (named.ConnB2 v a b c d e f g) OutServer =
     takes_here is_conn_b2 InServer (leg_at OutServer n, Packet (named.ConnB2 v a b c d e f g))
     (packet_by s n count (named.ConnB2 v a b c d e f g) OutServer) refl
-b2_row s n count (named.ConnB2 v a b c d e f g) ClientIn = tt
-b2_row s n count (named.ConnB2 v a b c d e f g) ClientOut = tt
-b2_row s n count m k =
+conn_b2_row s n count (named.ConnB2 v a b c d e f g) ClientIn = tt
+conn_b2_row s n count (named.ConnB2 v a b c d e f g) ClientOut = tt
+conn_b2_row s n count m k =
     takes_other is_conn_b2 InServer (leg_at k n) (Packet m) (packet_by s n count m k) refl
 
 pub conn_a2_first : (window : ℕ) (moves : List EndMove)
     → AreFirst is_conn_a2 OutServer
     (all_end_moved server_rules acts (end_started (first window)) moves).passage.came
-conn_a2_first window moves = first_so is_conn_a2 OutServer a2_row window moves
+conn_a2_first window moves = first_so is_conn_a2 OutServer conn_a2_row window moves
 
 pub conn_b2_first : (window : ℕ) (moves : List EndMove)
     → AreFirst is_conn_b2 InServer
     (all_end_moved server_rules acts (end_started (first window)) moves).passage.came
-conn_b2_first window moves = first_so is_conn_b2 InServer b2_row window moves
+conn_b2_first window moves = first_so is_conn_b2 InServer conn_b2_row window moves

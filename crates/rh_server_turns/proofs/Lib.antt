@@ -1,8 +1,17 @@
-mod Splits
+pub mod Splits
 mod OnTurn
 mod Found
-mod Reaching
+pub mod Reaching
 mod Owned
 mod Room
 mod FirstLegs
 mod Opening
+mod InView
+mod Quiet
+mod InLogs
+mod InPlaces
+mod InKept
+mod InRows
+mod InTakes
+mod InPuts
+mod InMoves

@@ -20,8 +20,8 @@ use Rattle.rh_server_puts.specs.Puts.{Turn, behind, behind_all, first_turn, os, 
 use Rattle.rh_server_turns.specs.Channels.{IsWritten, IsToOutProxy, MayFollowEnd, WritesOnBegun}
 use Rattle.rh_server_turns.proofs.Splits.{kind_append, leg_is, split}
 
-abbrev a9s : List OnLeg → ℕ
-a9s log = often is_out_r1_a9 OutServer log
+abbrev out_r1_a9s : List OnLeg → ℕ
+out_r1_a9s log = often is_out_r1_a9 OutServer log
 
 -- ---- the turn
 
@@ -38,16 +38,16 @@ unseen test m ms false none = refl
 
 -- it moves on with each OUT_R1/A9
 counts : (t : Turn) (leg : Leg) (m : Message) (log : List OnLeg) → Stands t (leg, m)
-    → t.writing + a9s ((leg, m) ∷ log) ≡ (behind t m).writing + a9s log
+    → t.writing + out_r1_a9s ((leg, m) ∷ log) ≡ (behind t m).writing + out_r1_a9s log
 counts t leg (Packet named.OutR1A9) log h =
-    subst (λ (l : Leg). t.writing + a9s ((l, Packet named.OutR1A9) ∷ log)
-    ≡ suc t.writing + a9s log) (sym h) (omega arith)
+    subst (λ (l : Leg). t.writing + out_r1_a9s ((l, Packet named.OutR1A9) ∷ log)
+    ≡ suc t.writing + out_r1_a9s log) (sym h) (omega arith)
 counts t leg m log h =
     ap (λ (k : ℕ). t.writing + k)
     (unseen is_out_r1_a9 m (of_kind OutServer log) (is_of OutServer leg) refl)
 
 all_counts : (t : Turn) (log : List OnLeg) → StandFrom t log
-    → t.writing + a9s log ≡ (behind_all t log).writing
+    → t.writing + out_r1_a9s log ≡ (behind_all t log).writing
 all_counts t [] h = omega arith
 all_counts t ((leg, m) ∷ log) h =
     counts t leg m log h.0 ∙ all_counts (behind t m) log h.1
@@ -195,14 +195,14 @@ module _ (p : Passage Server) (turns : WritesInTurn p.put) (greets : GreetsFirst
       stand_behind first_turn front (one ∷ back) (subst (StandFrom first_turn) e turns)
 
   turn_at : (front : List OnLeg) (one : OnLeg) (back : List OnLeg) → p.put ≡ front ++ one ∷ back
-      → (behind_all first_turn front).writing ≡ suc (a9s front)
+      → (behind_all first_turn front).writing ≡ suc (out_r1_a9s front)
   turn_at front one back e =
       let all = all_counts first_turn front
       (stand_before first_turn front (one ∷ back) (subst (StandFrom first_turn) e turns)) in
       omega (arith, all)
 
   in_turn : (n : ℕ) (m : Message) (front back : List OnLeg)
-      → p.put ≡ front ++ (os n, m) ∷ back → IsWritten m → n ≡ suc (a9s front)
+      → p.put ≡ front ++ (os n, m) ∷ back → IsWritten m → n ≡ suc (out_r1_a9s front)
   in_turn n m front back e written =
       written_here (behind_all first_turn front) n m (at_split front (os n, m) back e).0 written
       ∙ turn_at front (os n, m) back e
@@ -234,9 +234,9 @@ module _ (p : Passage Server) (turns : WritesInTurn p.put) (greets : GreetsFirst
   }
     where
       fewer : (front : List OnLeg) (one : OnLeg) (back : List OnLeg)
-          → p.put ≡ front ++ one ∷ back → a9s front ≤ a9s p.put
+          → p.put ≡ front ++ one ∷ back → out_r1_a9s front ≤ out_r1_a9s p.put
       fewer front one back e =
-          subst (λ (log : List OnLeg). a9s front ≤ a9s log) (sym e)
-          (subst (λ (ms : List Message). a9s front ≤ count_of is_out_r1_a9 ms)
+          subst (λ (log : List OnLeg). out_r1_a9s front ≤ out_r1_a9s log) (sym e)
+          (subst (λ (ms : List Message). out_r1_a9s front ≤ count_of is_out_r1_a9 ms)
           (sym (kind_append OutServer front (one ∷ back)))
           (count_rises is_out_r1_a9 (of_kind OutServer front) (of_kind OutServer (one ∷ back))))

@@ -30,18 +30,18 @@ no_frame [] (Packet packet) behind frame all = all.0
 no_frame (x ∷ before) m behind frame all = no_frame before m behind frame all.1
 
 module _ (p : Passage Server) (once : OpensOnce p)
-    (first_a2 : often_at is_conn_a2 OutServer 1 p.came ≡ out_came is_conn_a2 p)
-    (first_b2 : often_at is_conn_b2 InServer 1 p.came ≡ in_came is_conn_b2 p) where
+    (first_conn_a2 : often_at is_conn_a2 OutServer 1 p.came ≡ out_came is_conn_a2 p)
+    (first_conn_b2 : often_at is_conn_b2 InServer 1 p.came ≡ in_came is_conn_b2 p) where
   opened_by : (b : Bool) → nat_le (out_came is_conn_a2 p + in_came is_conn_b2 p) 1 ≡ b
       → (AllByRecursion IsText (of_kind OutServer p.put) → ⊥) → IsOpened p
   opened_by true e written =
       let few : out_came is_conn_a2 p + in_came is_conn_b2 p ≤ 1 = grind (arith, nat_tests, e) in
       absurd (written (once.early few).greetings)
   opened_by false e written =
-      let a2 = once.conn_a2_once in
-      let b2 = once.conn_b2_once in record {
-        conn_a2 = grind (arith, nat_tests, e, first_a2, a2, b2);
-        conn_b2 = grind (arith, nat_tests, e, first_b2, a2, b2);
+      let conn_a2 = once.conn_a2_once in
+      let conn_b2 = once.conn_b2_once in record {
+        conn_a2 = grind (arith, nat_tests, e, first_conn_a2, conn_a2, conn_b2);
+        conn_b2 = grind (arith, nat_tests, e, first_conn_b2, conn_a2, conn_b2);
       }
 
   opened : (AllByRecursion IsText (of_kind OutServer p.put) → ⊥) → IsOpened p
@@ -50,8 +50,8 @@ module _ (p : Passage Server) (once : OpensOnce p)
 
   pub opens_first : OpensFirst p
   opens_first = record {
-    conn_a2 = first_a2;
-    conn_b2 = first_b2;
+    conn_a2 = first_conn_a2;
+    conn_b2 = first_conn_b2;
     conn_c1 = λ put.
         opened (λ texts.
         let none = no_packets is_conn_c1 (of_kind OutServer p.put) texts in

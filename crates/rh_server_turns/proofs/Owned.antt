@@ -130,7 +130,8 @@ module _ (s : Server) (came : List OnLeg) (n : ℕ)
   own_by : (o : Option Cookie) (cookie : Cookie) → out_cookie n s.outs ≡ o
       → cookie ≡ cookie_or_none o → Own came n cookie
   own_by None cookie at is = inr is
-  own_by (Some channel) cookie at is = inl (knows cookie (at ∙ ap (λ (c : Cookie). Some c) (sym is)))
+  own_by (Some channel) cookie at is =
+      inl (knows cookie (at ∙ ap (λ (c : Cookie). Some c) (sym is)))
 
   let_owns : (leg : OutLeg) → out_cookie n s.outs ≡ leg.cookie → (packet : Named)
       → lets_packet (gate s leg) packet ≡ true → OwnsAt came OutServer n (Packet packet)

@@ -98,9 +98,9 @@ recycle_fits s h =
 
 -- ---- rows
 
-a4_fits : (s : Server) (n : ℕ) (count : Count) (a b c : Cookie) (d e f : ℕ) → Fits s
+out_r1_a4_fits : (s : Server) (n : ℕ) (count : Count) (a b c : Cookie) (d e f : ℕ) → Fits s
     → Fits (on_out_r1_a4 s n count a b c d e f).0
-a4_fits s n count a b c d e f h =
+out_r1_a4_fits s n count a b c d e f h =
     by_test Answers (may_answer s n count) (out_r1_a4_at s s.stage n a b c d e f) (unexpected s)
     (λ g. by_stage s.stage (asked s.replacement h
     (and_parts (is_asked s.replacement) _ (and_parts (n == s.writing + 1) _
@@ -139,9 +139,9 @@ a4_fits s n count a b c d e f h =
     by_stage (stage.InCame connection in_window timeout) less = h
     by_stage stage.Ended less = h
 
-a8_fits : (s : Server) (count : Count) (to : ℕ) (successor : Cookie) → Fits s
+out_r1_a8_fits : (s : Server) (count : Count) (to : ℕ) (successor : Cookie) → Fits s
     → Fits (on_out_r1_a8 s count to successor).0
-a8_fits s count to successor h =
+out_r1_a8_fits s count to successor h =
     by_test Confirms (not (is_first count) && ((to == 2) && not (waits kind.OutR1 s.waiting)))
     (out_r1_a8_at s successor s.replacement) (unexpected s) (λ e. by_stage s.replacement h)
     (λ e. h)
@@ -160,12 +160,12 @@ a8_fits s count to successor h =
 
 is_fits : (s : Server) (n : ℕ) (count : Count) (m : Named) → Fits s
     → Fits (on_is s n count m).0
-is_fits s n count (named.OutR1A8 a b) h = a8_fits s count a b h
+is_fits s n count (named.OutR1A8 a b) h = out_r1_a8_fits s count a b h
 is_fits s n count m h = same_fits s (on_is s n count m).0 (search rules) h
 
 os_fits : (s : Server) (n : ℕ) (count : Count) (m : Named) → Fits s
     → Fits (on_os s n count m).0
-os_fits s n count (named.OutR1A4 v a b c d e f) h = a4_fits s n count a b c d e f h
+os_fits s n count (named.OutR1A4 v a b c d e f) h = out_r1_a4_fits s n count a b c d e f h
 os_fits s n count m h = same_fits s (on_os s n count m).0 (search rules) h
 
 packet_fits : (s : Server) (n : ℕ) (count : Count) (m : Named) (k : LegKind) → Fits s

@@ -1,4 +1,4 @@
-//! On which OUT channels a server writes. Its functions do nothing: their contracts are the laws.
+//! On which OUT channels a server writes. Its function does nothing: its contract is the law.
 
 ghost use Rattle.std.specs.Prelude.{List, ℕ};
 ghost use Rattle.rh_shell.specs.Moves.{EndMove, all_end_moved, end_started};

@@ -1,19 +1,13 @@
-use Rattle.std.proofs.Common.{◌≡◌, ◌≤◌, ℕ, suc, ◌+◌, List, [], length, arith, sym, subst}
+use Rattle.std.proofs.Common.{◌≡◌, suc, true, false, [], arith, subst}
 use Rattle.rh_line.specs.declared.leg.Leg.{Leg}
-use Rattle.rh_shell.specs.Moving.{EndEvent}
-use Rattle.rh_shell.specs.Shells.{Shell}
-use Rattle.rh_nodes.specs.Opening.{Makers}
-use Rattle.rh_nodes.specs.World.{World}
+use Rattle.rh_shell.specs.Moving.{after_end_events}
+use Rattle.rh_shell.specs.Shells.{Shell, may_up}
 use Rattle.rh_client.specs.declared.channels.TheConstants.{LAST_NUMBER}
 use Rattle.rh_client.specs.declared.state.ClientRole.{ClientRole}
 use Rattle.rh_client.specs.Client as client
-use Rattle.rh_inproxy.specs.State.{InProxy}
-use Rattle.rh_outproxy.specs.OutProxy.{OutProxy}
-use Rattle.rh_server.specs.States.{Server}
-use Rattle.rh_history.specs.Carried.{AreAcceptedAtEnd, happened}
-use Rattle.rh_history.specs.Drawn.{DrawnByLines, all_risen}
-use Rattle.rh_history.specs.Histories.{IsNew, all_noted, nothing}
-use Rattle.rh_traced.specs.Ours.{AreOurs, deeds, rules}
+use Rattle.rh_history.specs.Carried.{AreAcceptedAtEnd, came_up, happened}
+use Rattle.rh_history.specs.Histories.{all_noted, nothing}
+use Rattle.rh_traced.specs.Ours.{deeds, rules}
 use Rattle.rh_cookies.specs.Rising.{legs_up}
 use Rattle.rh_cookies.proofs.Channels.{ClientLaws, all_below, all_once}
 use Rattle.rh_cookies.proofs.Counting.{no_more_than}
@@ -35,7 +29,9 @@ returns g c m w v new ours others by =
       comes = c.a_clients_leg_comes_up_once.ensures.comes ours.config;
       numbers = c.a_clients_leg_comes_up_once.ensures.numbers ours.config;
       once = λ front leg.
-          subst (λ (s : Shell ClientRole). AreAcceptedAtEnd client.rules client.acts s front → _)
+          subst (λ (s : Shell ClientRole). AreAcceptedAtEnd client.rules client.acts s front
+          → came_up leg (happened front) ≡ true
+          → may_up client.rules (after_end_events client.rules client.acts s front) leg ≡ false)
           ours.client
           ((c.legs_of_roles_come_up_once.ensures m w.company w.cast ours).client.once front leg);
     } in

@@ -1,4 +1,4 @@
-use Rattle.std.proofs.Common.{◌≡◌, arith, refl}
+use Rattle.std.proofs.Common.{arith, refl}
 use Rattle.rh_bounds.proofs.Reached.{IsRecorded, acted_is_recorded, behind_lines, prepared_is_recorded, reached_draws}
 use Rattle.rh_fifo.proofs.Recorded.{new, ours}
 use Rattle.rh_world.specs.declared.any_world.AnyWorld.{AnyWorld}
