@@ -1,0 +1,4 @@
+mod Echoes
+mod Standing
+mod Serving
+mod Served
