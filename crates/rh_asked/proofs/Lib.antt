@@ -1,4 +1,4 @@
-mod Echoes
+mod EchoTexts
 mod Standing
 mod Serving
 mod Served

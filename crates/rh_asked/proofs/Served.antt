@@ -15,7 +15,7 @@ use Rattle.rh_outproxy.specs.Putting.{ping_room}
 use Rattle.rh_outproxy_puts.specs.Puts.{IsEcho, IsNew, IsOpening, IsPassed, IsSuccessor, IsToClient, response}
 use Rattle.rh_reading.specs.Well.{Answers, IsWellText, TextIsWell}
 use Rattle.rh_asked.specs.Asking.{IsServed}
-use Rattle.rh_asked.proofs.Echoes.{IsNoEcho}
+use Rattle.rh_asked.proofs.EchoTexts.{IsNoEcho}
 use Rattle.rh_asked.proofs.Serving.{NoEchoes}
 
 -- ---- no answer to an echo request
@@ -69,7 +69,7 @@ module _ (config : OutProxyConfig) (well : Answers)
   new_well came [] is = tt
   new_well came (text ∷ []) is = (first_well text is, tt)
   new_well came (text ∷ first ∷ rest) is =
-      (first_well text is.0, subst Well (sym is.1) tt, opening_well came rest is.2)
+      (first_well text is.0, (subst Well (sym is.1) tt, opening_well came rest is.2))
 
   successor_well : (came put : List Message) → IsSuccessor config came put
       → AllByRecursion Well put

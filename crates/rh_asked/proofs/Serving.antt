@@ -43,7 +43,7 @@ use Rattle.rh_proxy_counts.specs.OutCounts.{co_leg}
 use Rattle.rh_reading.specs.Reading.{IsWholeText}
 use Rattle.rh_streams.specs.Turns.{Stages, none_up, stages_after, IsInTurn, AreInTurn, AreInTurnFrom}
 use Rattle.rh_asked.specs.Asking.{AsksNoEcho}
-use Rattle.rh_asked.proofs.Echoes.{IsNoEcho, other_message}
+use Rattle.rh_asked.proofs.EchoTexts.{IsNoEcho, other_message}
 use Rattle.rh_asked.proofs.Standing.{Seen, seen, same_pdu, same_packet, same_mark, itself, Stands, starts, move_stands}
 
 abbrev is_echo : Answer → Bool
