@@ -1,5 +1,5 @@
 -- the answer to an echo request is no response of success alone
-use Rattle.std.proofs.Common.{◌≡◌, ℕ, ◌+◌, ◌<◌, List, [], ◌∷◌, ◌++◌, length, length-append, take, true, false, true≢false, arith, refl, sym, ap, ◌∙◌}
+use Rattle.std.proofs.Common.{◌≡◌, ℕ, ◌+◌, ◌<◌, List, [], ◌∷◌, length, length-append, take, true, true≢false, arith, refl, sym, ap, ◌∙◌}
 use Rattle.std.proofs.Math.Seq.{take-append_seam}
 use Rattle.rh_http.specs.Texts.{response_text, echo_length}
 use Rattle.rh_shell.specs.Intakes.{ends_head, is_whole_head}

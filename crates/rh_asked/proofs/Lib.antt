@@ -1,4 +1,7 @@
 mod EchoTexts
-mod Standing
+pub mod Standing
 mod Serving
 mod Served
+pub mod Requests
+mod Ahead
+mod Expecting

@@ -1,6 +1,6 @@
 -- what holds of an out proxy whose moves are in their turn: no leg but its client's begins with a
 -- head, and frames come there behind a request that it took
-use Rattle.std.proofs.Common.{◌≡◌, ℕ, Bool, true, false, true≢false, if◌then◌else◌, List, [], ◌∷◌, ◌++◌, Some, None, is_some, Ok, Err, refl, sym, ap, ◌∙◌, subst, arith, rules}
+use Rattle.std.proofs.Common.{◌≡◌, ℕ, Bool, true, false, true≢false, if◌then◌else◌, List, [], ◌∷◌, Some, None, is_some, Ok, Err, refl, sym, ap, ◌∙◌, arith, rules}
 use Rattle.std.proofs.lemmas.Bool.Decides.{nat_tests}
 use Rattle.std.specs.Prelude.{nat_le, IfSome}
 use Rattle.std.specs.declared.option.Option.{Option}
@@ -14,7 +14,6 @@ use Rattle.rh_sig.specs.declared.named.Named.{Named}
 use Rattle.rh_window.specs.declared.recv_window.Ack.{Ack}
 use Rattle.rh_line.specs.declared.leg.Leg.{Leg}
 use Rattle.rh_order.proofs.ByNumber.{by_test}
-use Rattle.rh_shell.specs.declared.answers.Behind.TheVariants.{Frames, PassedOver}
 use Rattle.rh_shell.specs.declared.answers.Count.{Count}
 use Rattle.rh_shell.specs.declared.answers.HeadRefused.{HeadRefused}
 use Rattle.rh_shell.specs.declared.answers.HeadTaken.{HeadTaken}
@@ -39,7 +38,7 @@ use Rattle.rh_outproxy.specs.Machine.{pdu, packet, on_co, on_os}
 use Rattle.rh_outproxy.specs.Machine.{rules as proxy_rules}
 use Rattle.rh_proxy_counts.specs.OutCounts.{co_leg}
 use Rattle.rh_proxy_counts.proofs.Counts.{leg_is}
-use Rattle.rh_streams.specs.Turns.{Stages, none_up, with_stage, behind_head, stages_after, takes_frames, IsInTurn, AreInTurn, AreInTurnFrom}
+use Rattle.rh_streams.specs.Turns.{Stages, none_up, with_stage, behind_head, stages_after, takes_frames}
 use Rattle.rh_streams.proofs.Staging.{all_stages}
 
 -- ---- what rows leave alone
@@ -85,13 +84,13 @@ core s = record { config = s.config; request = s.request }
 abbrev pub seen_core : Seen → Core
 seen_core x = record { config = x.config; request = x.request }
 
-same_up : (s : OutProxy) (leg : Leg) (cookie : Cookie) → core (up s leg cookie) ≡ core s
+pub same_up : (s : OutProxy) (leg : Leg) (cookie : Cookie) → core (up s leg cookie) ≡ core s
 same_up s leg cookie = search rules
 
-same_drawn : (s : OutProxy) (leg : Leg) → core (drawn s leg) ≡ core s
+pub same_drawn : (s : OutProxy) (leg : Leg) → core (drawn s leg) ≡ core s
 same_drawn s leg = search rules
 
-abbrev IsQuiet : OutProxy → Pick → Type 0
+abbrev pub IsQuiet : OutProxy → Pick → Type 0
 IsQuiet s pick = IfSome pick (λ (one : OutProxy × Message). core one.0 ≡ core s)
 
 or_quiet : (s : OutProxy) (a b : Pick) → IsQuiet s a → IsQuiet s b → IsQuiet s (or_else a b)
@@ -119,7 +118,7 @@ quiet_first s = search rules
 quiet_ack : (s : OutProxy) (o : Option Cookie) (a : Option Ack) → IsQuiet s (ack_by s o a)
 quiet_ack s o a = search rules
 
-same_put : (s : OutProxy) (leg : Leg) → IsQuiet s (put_of s leg)
+pub same_put : (s : OutProxy) (leg : Leg) → IsQuiet s (put_of s leg)
 same_put s leg =
     by_test (IsQuiet s) (is_co s leg) (next_co s) (if is_os s leg then next_os s else None)
     (λ e. or_quiet s (put_answer s) _ (quiet_answer s s.answer)

@@ -3,5 +3,7 @@
 #![tactic(auto)]
 
 pub mod echoes;
+pub mod expects;
 
 pub use echoes::{an_out_proxy_answers_echoes_alone, what_an_out_proxy_serves_reads_well};
+pub use expects::an_out_proxy_expects_its_client;
