@@ -4,4 +4,4 @@ mod Serving
 mod Served
 pub mod Requests
 mod Ahead
-mod Expecting
+pub mod Expecting

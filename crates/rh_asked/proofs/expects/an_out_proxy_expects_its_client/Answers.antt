@@ -12,8 +12,7 @@ use Rattle.rh_asked.proofs.Expecting.{expects}
 use Rattle.rh_asked.proofs.expects.an_out_proxy_expects_its_client.Goals as goal
 
 pub returns : goal.returns
-returns c = λ numbers reader moves joined n asked.
-    let made = joined.made in
+returns c = λ numbers moves made n asked.
     let config = numbers.outs n in
     let p = out_behind numbers moves n in
     let own = made.out_number n in

@@ -1,0 +1,3 @@
+mod OwnHeads
+mod Named
+mod Framed
