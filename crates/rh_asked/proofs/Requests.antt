@@ -1,4 +1,5 @@
--- where each head that came is the client's request, an out proxy was told the length of its channel
+-- where each head that came is the client's request, an out proxy was told the length of its
+-- channel
 use Rattle.std.proofs.Common.{◌≡◌, ℕ, zero, suc, true, false, List, [], ◌∷◌, Some, None, is_some, Ok, Err, refl, sym, ap, ◌∙◌, subst, arith, rules}
 use Rattle.std.proofs.lemmas.Bool.{eq-eqb}
 use Rattle.std.specs.List.{AllByRecursion}

@@ -1,5 +1,5 @@
--- which channel's request a head is, by the length that it tells (MS-RPCH 2.1.2; successors are this
--- profile's)
+-- which channel's request a head is, by the length that it tells (MS-RPCH 2.1.2; successors are
+-- this profile's)
 use Rattle.std.specs.Prelude.{◌≡◌, ℕ, suc, List, true, false, is_some, Ok}
 use Rattle.std.specs.List.{AllByRecursion}
 use Rattle.rh_heads.specs.Verdicts.{Asked, request_verdict}
@@ -9,8 +9,8 @@ use Rattle.rh_outproxy.specs.OutProxy.{OutProxy}
 use Rattle.rh_proxy_counts.specs.OutCounts.{co_leg}
 use Rattle.rh_client_puts.specs.Puts.{out_length}
 
--- the text is read as a request for the OUT channel of this number: the first is new, and each other
--- a successor
+-- the text is read as a request for the OUT channel of this number: the first is new, and each
+-- other a successor
 pub record AsksFor (n : ℕ) (text : List ℕ) : Type 0 where
   pub below : ℕ
   pub number : n ≡ suc below

@@ -1,5 +1,5 @@
-//! What an out proxy puts to a client that asks for no echo. These functions only call the laws that
-//! they stand on: their contracts are the laws.
+//! What an out proxy puts to a client that asks for no echo. These functions only call the laws
+//! that they stand on: their contracts are the laws.
 
 ghost use Rattle.std.specs.Prelude.{List, Some};
 ghost use Rattle.std.specs.List.{AllByRecursion};
@@ -19,10 +19,10 @@ use rh_outproxy_puts::an_out_proxy_opens_to_its_client_in_order;
 use rh_reading::{texts_are_whole, texts_read_well};
 
 /// Where its moves are counted and in their turn, as a node makes them, and no head that came from
-/// its client asks for an echo: an out proxy puts nothing to its client; or, where CONN/A1 came from
-/// there, a front of the response, CONN/A3, Pings, CONN/C2, and what passes; or, where OUT_R1/A3
-/// came, a front of the response and what passes (MS-RPCH 2.1.2, 2.2.4; successors are this
-/// profile's).
+/// its client asks for an echo: an out proxy puts nothing to its client; or, where CONN/A1 came
+/// from there, a front of the response, CONN/A3, Pings, CONN/C2, and what passes; or, where
+/// OUT_R1/A3 came, a front of the response and what passes (MS-RPCH 2.1.2, 2.2.4; successors are
+/// this profile's).
 pub fn an_out_proxy_answers_echoes_alone()
     ensures { (config : OutProxyConfig) (moves : List Move)
         → AreAllowed rules (started (new_proxy config)) moves

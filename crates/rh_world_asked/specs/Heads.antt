@@ -1,5 +1,5 @@
--- the heads that come to the out proxies of a world from their client (MS-RPCH 2.1.2; successors are
--- this profile's)
+-- the heads that come to the out proxies of a world from their client (MS-RPCH 2.1.2; successors
+-- are this profile's)
 use Rattle.std.specs.Prelude.{◌≡◌, ℕ, suc, List, true}
 use Rattle.rh_http.specs.declared.config.ClientConfig.{ClientConfig}
 use Rattle.rh_http.specs.Texts.{out_request}

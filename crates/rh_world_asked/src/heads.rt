@@ -1,5 +1,5 @@
-//! The heads that come to the out proxies of a world of roles. This function only calls the laws that
-//! it stands on: its contract is the law.
+//! The heads that come to the out proxies of a world of roles. This function only calls the laws
+//! that it stands on: its contract is the law.
 
 ghost use Rattle.std.specs.Prelude.{ℕ};
 ghost use Rattle.std.specs.List.{AllByRecursion};

@@ -2,10 +2,12 @@
 //! functions only call the laws that they stand on: their contracts are the laws.
 #![tactic(auto)]
 
+pub mod expects;
 pub mod heads;
 pub mod names;
 pub mod nodes;
 
+pub use expects::an_out_proxy_of_a_world_expects_its_client;
 pub use heads::an_out_proxy_hears_its_clients_request;
 pub use names::what_comes_to_a_client_has_a_name;
 pub use nodes::{

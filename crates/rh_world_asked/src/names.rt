@@ -1,5 +1,5 @@
-//! What comes to the client of a world of roles on its OUT channels. This function only calls the laws
-//! that it stands on: its contract is the law.
+//! What comes to the client of a world of roles on its OUT channels. This function only calls the
+//! laws that it stands on: its contract is the law.
 
 ghost use Rattle.std.specs.Prelude.{ℕ, Some};
 ghost use Rattle.rh_text.specs.declared.ends.Dir.TheVariants.{D};
