@@ -2,7 +2,7 @@
 use Rattle.std.specs.Prelude.{◌≡◌, ◌≤◌, ◌++◌, ℕ, List, [], ◌∷◌, true}
 use Rattle.rh_http.specs.declared.fault.HttpFault.{HttpFault}
 use Rattle.rh_line.specs.declared.cause.Cause.{Cause}
-use Rattle.rh_line.specs.declared.cause.Cause.TheVariants.{BadFrame, BadHead, BadPacket, BodyOver, HttpRefused, OutOfRange, Silent, WindowExceeded}
+use Rattle.rh_line.specs.declared.cause.Cause.TheVariants.{BadFrame, BadHead, BadPacket, BodyOver, CookieMismatch, HttpRefused, OutOfRange, Silent, Unexpected, WindowExceeded}
 use Rattle.rh_line.specs.declared.leg.Leg.{Leg}
 use Rattle.rh_line.specs.declared.leg.LegKind.TheVariants.{ClientIn, ClientOut, InServer, OutServer}
 use Rattle.rh_nodes.specs.Settling.{leg_at}
@@ -12,6 +12,7 @@ use Rattle.rh_record.specs.declared.answer.Who.{Who}
 use Rattle.rh_record.specs.declared.answer.Who.TheVariants as who
 use Rattle.rh_record.specs.declared.line.Line.{Line}
 use Rattle.rh_record.specs.declared.line.Line.TheVariants.{First}
+use Rattle.rh_rts.specs.declared.command.Cookie.{Cookie}
 use Rattle.rh_rts.specs.declared.fault.RtsFault.{RtsFault}
 use Rattle.rh_window.specs.declared.fault.TheConstants.{FLOW_CONTROL_ACK}
 use Rattle.rh_history.specs.Closes.{IsOneOf, closings_of}
@@ -110,6 +111,26 @@ pub record ClientHopsHold (world : AnyWorld) (line : Line) : Type 0 where
       → IsOneOf (NodeClosed (who.Out k) (OutOfRange leg command value))
       (step world line).1 → ⊥
 
+-- nor one of an in proxy for what came out of its turn, or named another cookie; nor one of an out
+-- proxy or the server for what came so between the two, or of the client for a cookie
+pub record ComesAsExpected (world : AnyWorld) (line : Line) : Type 0 where
+  pub in_unexpected : (k : ℕ) (leg : Leg) (place : ℕ)
+      → IsOneOf (NodeClosed (who.In k) (Unexpected leg place)) (step world line).1 → ⊥
+  pub in_cookie : (k : ℕ) (leg : Leg) (expected got : Cookie)
+      → IsOneOf (NodeClosed (who.In k) (CookieMismatch leg expected got)) (step world line).1 → ⊥
+  pub out_unexpected : (k n place : ℕ)
+      → IsOneOf (NodeClosed (who.Out k) (Unexpected (os_leg n) place)) (step world line).1 → ⊥
+  pub out_cookie : (k n : ℕ) (expected got : Cookie)
+      → IsOneOf (NodeClosed (who.Out k) (CookieMismatch (os_leg n) expected got))
+      (step world line).1 → ⊥
+  pub server_unexpected : (n place : ℕ)
+      → IsOneOf (NodeClosed who.Server (Unexpected (os_leg n) place)) (step world line).1 → ⊥
+  pub server_cookie : (n : ℕ) (expected got : Cookie)
+      → IsOneOf (NodeClosed who.Server (CookieMismatch (os_leg n) expected got))
+      (step world line).1 → ⊥
+  pub client_cookie : (leg : Leg) (expected got : Cookie)
+      → IsOneOf (NodeClosed who.Client (CookieMismatch leg expected got)) (step world line).1 → ⊥
+
 -- at every line of the report what an end took is a front of what the other end gave, each PDU
 -- once and in order, and all of it at a clean end; and a report of roles counts what it tells.
 -- Behind each front of the lines no more is held for a channel than its window, nothing stands
@@ -136,5 +157,7 @@ pub record Claims (lines : List Line) : Type 0 where
       → HopsHold (after Before before) line
   pub client_hops : (before behind : List Line) (line : Line) → lines ≡ before ++ line ∷ behind
       → ClientHopsHold (after Before before) line
+  pub expected : (before behind : List Line) (line : Line) → lines ≡ before ++ line ∷ behind
+      → ComesAsExpected (after Before before) line
   pub once : (node : Who) → closings_of node (run lines) ≤ 1
   pub named : NamesIt (run lines)

@@ -13,6 +13,11 @@ use rh_closes::{
     each_cause_of_a_recording_shows, each_close_of_a_recording_shows,
     only_a_client_of_a_recording_is_refused,
 };
+use rh_expected::{
+    a_client_of_a_recording_refuses_no_cookie, no_in_proxy_of_a_recording_refuses_what_comes,
+    no_out_proxy_of_a_recording_refuses_its_server,
+    no_server_of_a_recording_refuses_its_out_proxies,
+};
 use rh_fifo::every_recording_is_ordered;
 use rh_honest::{
     no_node_of_a_recording_closes_for_bad_bytes,
@@ -29,8 +34,9 @@ use rh_refused::a_refused_client_of_a_recording_lost_its_server;
 /// unless a leg is lost. No more is held for a channel than its window, and each node is reported
 /// as closed once at most, by a line whose answers show why; each later answer of that end names
 /// the same cause (MS-RPCH 3.2). No node closes for bytes that read badly, for a body that is too
-/// long, or for the window of a hop: of one that lies on one leg, and of one between the client and
-/// its proxies until the count of cookies comes to 2^64 - 1.
+/// long, or for the window of a hop, on one leg or between the client and its proxies; no in proxy
+/// for what comes out of its turn or names another cookie, nor an out proxy or the server for what
+/// passes between the two, nor the client for a cookie.
 pub fn recordings_keep_to_their_claims()
     ensures { (lines : List Line) → Claims lines }
 {
@@ -46,6 +52,10 @@ pub fn recordings_keep_to_their_claims()
     no_body_of_a_recording_is_too_long();
     no_hop_on_one_leg_closes_a_node_of_a_recording();
     no_hop_of_a_client_closes_a_node_of_a_recording();
+    no_in_proxy_of_a_recording_refuses_what_comes();
+    no_out_proxy_of_a_recording_refuses_its_server();
+    no_server_of_a_recording_refuses_its_out_proxies();
+    a_client_of_a_recording_refuses_no_cookie();
     every_recording_keeps_what_is_on_its_way();
     a_node_of_a_recording_falls_silent();
     a_recording_reports_a_node_closed_once();

@@ -54,6 +54,19 @@ returns c = λ lines. record {
     out_range =
         c.no_hop_of_a_client_closes_a_node_of_a_recording.ensures.out_range before line;
   };
+  expected = λ before behind line is. record {
+    in_unexpected =
+        c.no_in_proxy_of_a_recording_refuses_what_comes.ensures.unexpected before line;
+    in_cookie = c.no_in_proxy_of_a_recording_refuses_what_comes.ensures.cookie before line;
+    out_unexpected =
+        c.no_out_proxy_of_a_recording_refuses_its_server.ensures.unexpected before line;
+    out_cookie = c.no_out_proxy_of_a_recording_refuses_its_server.ensures.cookie before line;
+    server_unexpected =
+        c.no_server_of_a_recording_refuses_its_out_proxies.ensures.unexpected before line;
+    server_cookie =
+        c.no_server_of_a_recording_refuses_its_out_proxies.ensures.cookie before line;
+    client_cookie = c.a_client_of_a_recording_refuses_no_cookie.ensures before line;
+  };
   once = c.a_recording_reports_a_node_closed_once.ensures lines;
   named = c.an_end_of_a_recording_names_its_cause.ensures lines;
 }
