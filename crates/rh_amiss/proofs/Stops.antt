@@ -208,7 +208,7 @@ module _ (readings : Readings) {S : Type 0} (rules : Rules S) (leg : Leg) (pipe 
       (heard_is : heard ≡ past ++ byte.front)
       (next_is : next ≡ past ++ (byte.front ++ byte.byte ∷ []))
       (fits : ReadsWell well pipe next) (front : IsPrefix (messages_read pipe next) all) where
-    one_more : next ≡ heard ++ byte.byte ∷ []
+    pub one_more : next ≡ heard ++ byte.byte ∷ []
     one_more =
         next_is ∙ sym (append_assoc past byte.front (byte.byte ∷ []))
         ∙ ap (λ (xs : List ℕ). xs ++ byte.byte ∷ []) (sym heard_is)
