@@ -151,7 +151,7 @@ module _ {K : Type 0} (roles : RolesKnow) (law_reads : Reads) (readings : Readin
         → ((end : NearEnd) → s.course ≡ Going → end_at s leg ≡ Some end
         → KnowsEnd its s.role (read_on leg.kind dir) leg heard end)
         → Then its k p s heard
-        → AmissNext its p leg
+        → AmissNext its p leg (read_on leg.kind dir)
         (put_there law_reads readings m w v ours law Holds flow by leg dir may k)
     next its k p s heard knows was =
         amiss_next its p s was.role leg (read_on leg.kind dir) r amiss
@@ -204,7 +204,7 @@ module _ {K : Type 0} (roles : RolesKnow) (law_reads : Reads) (readings : Readin
 
       pub in_next : (k : ℕ) × AmissNext in_proxy.rules
           ((passages law_reads readings m w v ours law Holds flow by leg dir may k).ins n) leg
-          (put_there law_reads readings m w v ours law Holds flow by leg dir may k)
+          (read_on leg.kind dir) (put_there law_reads readings m w v ours law Holds flow by leg dir may k)
       in_next =
           let was = in_then law_reads readings m w v ours law Holds flow by leg dir may r named why
           tells count node here law_node n is shell up there closes in (
@@ -254,7 +254,7 @@ module _ {K : Type 0} (roles : RolesKnow) (law_reads : Reads) (readings : Readin
 
       pub out_next : (k : ℕ) × AmissNext out_proxy.rules
           ((passages law_reads readings m w v ours law Holds flow by leg dir may k).outs n) leg
-          (put_there law_reads readings m w v ours law Holds flow by leg dir may k)
+          (read_on leg.kind dir) (put_there law_reads readings m w v ours law Holds flow by leg dir may k)
       out_next =
           let was = out_then law_reads readings m w v ours law Holds flow by leg dir may r named why
           tells count node here law_node n is shell up there closes in (
@@ -301,7 +301,7 @@ module _ {K : Type 0} (roles : RolesKnow) (law_reads : Reads) (readings : Readin
 
       pub server_next : (k : ℕ) × AmissNext server.rules
           (passages law_reads readings m w v ours law Holds flow by leg dir may k).server leg
-          (put_there law_reads readings m w v ours law Holds flow by leg dir may k)
+          (read_on leg.kind dir) (put_there law_reads readings m w v ours law Holds flow by leg dir may k)
       server_next =
           let was = server_then law_reads readings m w v ours law Holds flow by leg dir may r named
           why tells count node here law_node is closes in (

@@ -8,7 +8,7 @@ use Rattle.rh_shell.specs.declared.answers.Count.{Count}
 use Rattle.rh_shell.specs.declared.answers.Count.TheVariants as count
 use Rattle.rh_shell.specs.declared.answers.Refused.{Refused}
 use Rattle.rh_shell.specs.declared.course.Course.TheVariants.{Going}
-use Rattle.rh_shell.specs.Hearing.{is_zero}
+use Rattle.rh_shell.specs.Hearing.{is_upward, is_zero}
 use Rattle.rh_shell.specs.Moves.{Passage, is_in_use}
 use Rattle.rh_shell.specs.NearEnds.{NearEnd, is_ended, is_marked, is_over}
 use Rattle.rh_shell.specs.Rules.{Message, Text, Pdu, Packet, Rules}
@@ -79,15 +79,18 @@ module _ {S : Type 0} (rules : Rules S) (p : Passage S) (s : Shell S) (role : p.
 
   pub amiss_next : (PingsFirst pipe r at.end.count heard b
       → packets (messages_read pipe heard) ≡ 0 → HasNoPingFirst put → ⊥)
-      → AmissNext rules p leg put
+      → AmissNext rules p leg pipe put
   amiss_next pings = by at.how
     where
       by : RefusesAhead rules s.role leg r at.end.count (of_leg leg p.came) (all_read_of put)
-          ⊎ PingsFirst pipe r at.end.count heard b → AmissNext rules p leg put
+          ⊎ PingsFirst pipe r at.end.count heard b → AmissNext rules p leg pipe put
       by (inl next) = inl (refused next)
       by (inr ping) =
-          inr (pings ping (no_packets at.end.count (packets (messages_read pipe heard)) ping.none
-          counts))
+          inr (
+            ping.upward,
+            pings ping (no_packets at.end.count (packets (messages_read pipe heard)) ping.none
+                counts),
+          )
 
 -- ---- what expects that refuses nothing so
 
@@ -105,8 +108,9 @@ refuses_none rules p leg all expects next (Packet named) e =
     (subst (IsAhead p leg all) e next.ahead)
     (subst (RefusesBy rules p.role leg next.count next.why) e next.refuses) next.amiss
 
-pub never_amiss : {S : Type 0} (rules : Rules S) (p : Passage S) (leg : Leg) (put : List Message)
-    → Expects rules p leg (all_read_of put) → HasNoPingFirst put → AmissNext rules p leg put → ⊥
-never_amiss rules p leg put expects first (inl next) =
+pub never_amiss : {S : Type 0} (rules : Rules S) (p : Passage S) (leg : Leg) (pipe : Option Pipe)
+    (put : List Message) → Expects rules p leg (all_read_of put)
+    → (is_upward pipe ≡ true → HasNoPingFirst put) → AmissNext rules p leg pipe put → ⊥
+never_amiss rules p leg pipe put expects first (inl next) =
     refuses_none rules p leg (all_read_of put) expects next next.message refl
-never_amiss rules p leg put expects first (inr pinged) = pinged first
+never_amiss rules p leg pipe put expects first (inr pinged) = pinged.1 (first pinged.0)

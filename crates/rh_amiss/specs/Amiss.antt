@@ -1,13 +1,15 @@
 -- a node that closes since it was not the turn of what came, or another cookie was named (MS-RPCH
 -- 3.2): its role refuses the next message that was put at the other end of the leg
-use Rattle.std.specs.Prelude.{◌≡◌, ◌⊎◌, ◌++◌, ℕ, List, [], ◌∷◌, IsTrue, Some, None, Err}
+use Rattle.std.specs.Prelude.{◌≡◌, ◌⊎◌, ◌++◌, ℕ, List, [], ◌∷◌, IsTrue, true, Some, None, Err}
 use Rattle.std.specs.declared.option.Option.{Option}
+use Rattle.rh_sig.specs.declared.name.Pipe.{Pipe}
 use Rattle.rh_line.specs.declared.cause.Cause.{Cause}
 use Rattle.rh_line.specs.declared.cause.Cause.TheVariants as cause
 use Rattle.rh_line.specs.declared.leg.Leg.{Leg}
 use Rattle.rh_shell.specs.declared.answers.Count.{Count}
 use Rattle.rh_shell.specs.declared.answers.Refused.{Refused}
 use Rattle.rh_shell.specs.declared.answers.Refused.TheVariants as refused
+use Rattle.rh_shell.specs.Hearing.{is_upward}
 use Rattle.rh_shell.specs.Moves.{Passage, is_in_use}
 use Rattle.rh_shell.specs.Rules.{Message, Text, Pdu, Packet, Rules}
 use Rattle.rh_shell.specs.Wires.{of_leg}
@@ -41,7 +43,9 @@ pub record NextIsAmiss {S : Type 0} (rules : Rules S) (p : Passage S) (leg : Leg
   pub amiss : IsAmiss why
   pub refuses : RefusesBy rules p.role leg count why message
 
--- or the first packet that was put there is a Ping, with which none begins towards the server
-abbrev pub AmissNext : {S : Type 0} → Rules S → Passage S → Leg → List Message → Type 0
-AmissNext rules p leg put =
-    NextIsAmiss rules p leg (all_read_of put) ⊎ (HasNoPingFirst put → ⊥)
+-- or it is so of the first packet that was put on a leg towards the server: that is a Ping
+abbrev pub AmissNext : {S : Type 0} → Rules S → Passage S → Leg → Option Pipe → List Message
+    → Type 0
+AmissNext rules p leg pipe put =
+    NextIsAmiss rules p leg (all_read_of put)
+    ⊎ ((is_upward pipe ≡ true) × (HasNoPingFirst put → ⊥))

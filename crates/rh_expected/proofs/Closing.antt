@@ -1,0 +1,309 @@
+-- whatever a change of a world is, it closes no node since what came was not to come there, as far
+-- as its role expects what comes at each moment
+use Rattle.std.proofs.Common.{◌≡◌, ℕ, List, refl, sym, ◌∙◌, subst}
+use Rattle.std.specs.Prelude.{Some, None}
+use Rattle.rh_text.specs.declared.ends.Dir.{Dir}
+use Rattle.rh_text.specs.declared.ends.Dir.TheVariants.{U, D}
+use Rattle.rh_sig.specs.declared.name.Pipe.TheVariants.{CiU, IsD, OsU, OsD}
+use Rattle.rh_line.specs.declared.cause.Cause.{Cause}
+use Rattle.rh_line.specs.declared.cause.Cause.TheVariants as cause
+use Rattle.rh_line.specs.declared.leg.Leg.{Leg}
+use Rattle.rh_line.specs.declared.leg.LegKind.{LegKind}
+use Rattle.rh_line.specs.declared.leg.LegKind.TheVariants.{ClientOut, OutServer, ClientIn, InServer}
+use Rattle.rh_record.specs.declared.answer.Who.{Who}
+use Rattle.rh_record.specs.declared.answer.Who.TheVariants as who
+use Rattle.rh_shell.specs.declared.answers.Refused.{Refused}
+use Rattle.rh_shell.specs.Moves.{EndPassage, Passage}
+use Rattle.rh_shell.specs.Rules.{Message, Rules}
+use Rattle.rh_shell.specs.Shells.{Shell}
+use Rattle.rh_shell.specs.Wires.{of_leg}
+use Rattle.rh_nodes.specs.declared.event.Event.{Event}
+use Rattle.rh_nodes.specs.declared.event.Event.TheVariants.{Comes}
+use Rattle.rh_nodes.specs.declared.place.Place.{Place}
+use Rattle.rh_nodes.specs.declared.place.Place.TheVariants.{Absent, Here, Gone}
+use Rattle.rh_nodes.specs.Company as company
+use Rattle.rh_nodes.specs.Legs as legs
+use Rattle.rh_nodes.specs.Opening.{Makers}
+use Rattle.rh_nodes.specs.Places as places
+use Rattle.rh_nodes.specs.Readers.{reader_of}
+use Rattle.rh_nodes.specs.Settling.{leg_at}
+use Rattle.rh_nodes.specs.Wires.{receiver}
+use Rattle.rh_nodes.specs.World.{World, at}
+use Rattle.rh_client.specs.declared.state.ClientRole.{ClientRole}
+use Rattle.rh_client.specs.State.{ci}
+use Rattle.rh_inproxy.specs.Machine as in_proxy
+use Rattle.rh_inproxy.specs.State.{InProxy}
+use Rattle.rh_outproxy.specs.Machine as out_proxy
+use Rattle.rh_outproxy.specs.OutProxy.{OutProxy}
+use Rattle.rh_server.specs.Servers as server
+use Rattle.rh_server.specs.States.{Server}
+use Rattle.rh_causes.specs.Closings.{ClosesWith, MayClose}
+use Rattle.rh_history.specs.Carried.{happened}
+use Rattle.rh_history.specs.Changes.{Change, IsFed, MayChange}
+use Rattle.rh_history.specs.Closes.{ClosesNode}
+use Rattle.rh_history.specs.Histories.{in_place, out_place}
+use Rattle.rh_history.proofs.Numbers.{answered}
+use Rattle.rh_reading.specs.Reading.{all_read_of}
+use Rattle.rh_traced.specs.Cookies.{ByChanges}
+use Rattle.rh_traced.specs.Ours.{AreOurs, deeds, rules}
+use Rattle.rh_ordered.specs.Premises.{history_at}
+use Rattle.rh_fifo.specs.Flows.{IsFlowing, numbers_of}
+use Rattle.rh_causes.specs.Reasons.{ComesAmiss}
+use Rattle.rh_honest.proofs.Closing.{EachComes, IsOfPiece, by_fed}
+use Rattle.rh_honest.proofs.Fed.{told_what, told_who}
+use Rattle.rh_hops.specs.Hops.{is_leg, os_leg}
+use Rattle.rh_hops.proofs.Moment.{Laws, NodeLaws, known}
+use Rattle.rh_hops.proofs.Stopping.{Readings}
+use Rattle.rh_client_hops.specs.Premises.{AreDistinct}
+use Rattle.rh_client_hops.proofs.Honest.{distinct_behind}
+use Rattle.rh_client_hops.proofs.Joined.{Reads}
+use Rattle.rh_moments.specs.Expecting.{Expects, HasNoPingFirst, IsAmiss}
+use Rattle.rh_moments.specs.Moments.{IsMoment, Moves, in_behind, out_behind, server_behind}
+use Rattle.rh_amiss.specs.Amiss.{amiss_by}
+use Rattle.rh_amiss.proofs.AtNodes.{RolesKnow, in_next, out_next, server_next}
+use Rattle.rh_amiss.proofs.Moments.{AllFlow, OfStreams, flowing, flows, story, world}
+use Rattle.rh_amiss.proofs.Next.{never_amiss}
+use Rattle.rh_expected.specs.Roles.{InProxiesExpect, OutProxiesExpect, ServersExpect, moves_of, numbers}
+
+-- ---- the laws that this stands on
+
+abbrev ClosesAmiss : {S : Type 0} → Rules S → Type 0
+ClosesAmiss {S} rules =
+    (node : Shell S) (event : Event) (why : Cause) → ClosesWith rules node event why
+    → MayClose rules node event why
+
+pub record NodesLaws : Type 0 where
+  pub comes : EachComes
+  pub outs_amiss : ClosesAmiss out_proxy.rules
+  pub server_amiss : ClosesAmiss server.rules
+  pub server : NodeLaws server.rules
+  pub ins : NodeLaws in_proxy.rules
+  pub outs : NodeLaws out_proxy.rules
+
+-- the streams of a world are those of its moment
+abbrev pub IsAtMoment : {K : Type 0} {m : Makers K InProxy OutProxy}
+    {w : World K ClientRole Server InProxy OutProxy} (ours : AreOurs m w.company w.cast)
+    → OfStreams (numbers_of ours) w
+IsAtMoment ours u h f =
+    AreDistinct (happened h.client) → IsMoment (numbers ours) (reader_of u.readers) (moves_of f)
+
+in_number : (a b : ℕ) → who.In a ≡ who.In b → a ≡ b
+in_number a b e = cc
+
+out_number : (a b : ℕ) → who.Out a ≡ who.Out b → a ≡ b
+out_number a b e = cc
+
+module _ {K : Type 0} (roles : RolesKnow) (nodes : NodesLaws) (reads : Reads) (readings : Readings)
+    (m : Makers K InProxy OutProxy) (w : World K ClientRole Server InProxy OutProxy)
+    (ours : AreOurs m w.company w.cast) (law : Laws m w ours)
+    (flow : AllFlow m w ours (IsAtMoment ours))
+    (v : World K ClientRole Server InProxy OutProxy) (by : ByChanges rules m deeds w v)
+    (distinct : AreDistinct (happened (history_at m w v by.leads).client)) where
+  abbrev May : Leg → Dir → Type 0
+  May leg dir = MayChange rules v (IsFed leg dir 0)
+
+  abbrev event : Leg → Dir → ℕ → Event
+  event leg dir count = Comes leg (legs.take_out leg dir count v.legs).1
+
+  -- ---- the moment before the byte
+
+  module _ (leg : Leg) (dir : Dir) (may : May leg dir) (count : ℕ) where
+    abbrev then_flows : IsFlowing (numbers_of ours) w
+        (world reads readings m w v ours law (IsAtMoment ours) flow by leg dir (λ k. may) count)
+        (story reads readings m w v ours law (IsAtMoment ours) flow by leg dir (λ k. may) count)
+    then_flows =
+        flows reads readings m w v ours law (IsAtMoment ours) flow by leg dir (λ k. may) count
+
+    moment : IsMoment (numbers ours) (reader_of v.readers) (moves_of then_flows)
+    moment =
+        (flowing reads readings m w v ours law (IsAtMoment ours) flow by leg dir (λ k. may)
+        count).holds
+        (distinct_behind w.company.client v (history_at m w v by.leads) leg dir count
+        (known m w v ours law by leg dir (λ k. may)).traced.runs.client distinct)
+
+  -- ---- what is told to a node
+
+  module _ (why : Cause) (r : Refused) (tells : amiss_by why ≡ Some r) (amiss : IsAmiss r)
+      (of_piece : (event : Event) → IsOfPiece event why) where
+    -- a node that the piece is told to closes so
+    abbrev Fed : Who → Type 0
+    Fed node =
+        (leg : Leg) (dir : Dir) (count : ℕ) → May leg dir → at v leg (receiver dir) ≡ node
+        → (company.tell rules v.company node (event leg dir count)).1 ≡ Some why → ⊥
+
+    fed : (node : Who) → Fed node → (leg : Leg) (dir : Dir) (count : ℕ)
+        → MayChange rules v (IsFed leg dir count)
+        → ClosesNode rules v (IsFed leg dir count) node why → ⊥
+    fed node never leg dir count may is =
+        never leg dir count may (told_who _ _ _ _ is.told)
+        (subst (λ (e : Event). (company.tell rules v.company node e).1 ≡ Some why)
+        (sym (told_what _ _ _ _ is.told)) is.closes)
+
+    -- ---- an in proxy
+
+    module _ (expects : InProxiesExpect (numbers ours)) (k : ℕ) where
+      -- on each leg that it has
+      in_at : (leg : Leg) (dir : Dir) (count : ℕ) (node : Shell InProxy) (up : ℕ)
+          → in_place v.company k ≡ Here node up → May leg dir
+          → at v leg (receiver dir) ≡ who.In k
+          → ClosesWith in_proxy.rules node (event leg dir count) why → ⊥
+      in_at leg = per leg.kind leg.number
+        where
+          per : (kind : LegKind) (n : ℕ) (dir : Dir) (count : ℕ) (node : Shell InProxy) (up : ℕ)
+              → in_place v.company k ≡ Here node up → May (leg_at kind n) dir
+              → at v (leg_at kind n) (receiver dir) ≡ who.In k
+              → ClosesWith in_proxy.rules node (event (leg_at kind n) dir count) why → ⊥
+          per ClientIn n U count node up there may here closes =
+              let next = in_next roles reads readings m w v ours law (IsAtMoment ours) flow by
+              (ci n) U (λ j. may) r amiss (λ e. refl) why tells count (who.In k) here nodes.ins k
+              refl node up there closes in
+              let flowed = then_flows (ci n) U may next.0 in
+              let moves : Moves = moves_of flowed in
+              let now = moment (ci n) U may next.0 in
+              let put = of_leg (ci n) flowed.flows.client.passage.passage.put in
+              never_amiss in_proxy.rules (flowed.flows.ins k).passage (ci n) (Some CiU) put
+              (subst (λ (p : Passage InProxy).
+              Expects in_proxy.rules p (ci n) (all_read_of put)) (flowed.flows.ins k).leads.reached
+              (subst (λ (p : EndPassage ClientRole).
+              Expects in_proxy.rules (in_behind (numbers ours) moves k) (ci n)
+              (all_read_of (of_leg (ci n) p.passage.put))) flowed.flows.client.leads.reached
+              (expects.client (reader_of v.readers) moves now k n
+              (in_number (reader_of v.readers n) k here)))) (λ upward.
+              subst (λ (p : EndPassage ClientRole). HasNoPingFirst (of_leg (ci n) p.passage.put))
+              flowed.flows.client.leads.reached
+              (expects.first (reader_of v.readers) moves now n)) next.1
+          per InServer n D count node up there may here closes =
+              let next = in_next roles reads readings m w v ours law (IsAtMoment ours) flow by
+              (is_leg n) D (λ j. may) r amiss (λ e. refl) why tells count (who.In k) here nodes.ins
+              k refl node up there closes in
+              let flowed = then_flows (is_leg n) D may next.0 in
+              let moves : Moves = moves_of flowed in
+              let now = moment (is_leg n) D may next.0 in
+              let put = of_leg (is_leg n) flowed.flows.server.passage.passage.put in
+              never_amiss in_proxy.rules (flowed.flows.ins k).passage (is_leg n) (Some IsD) put
+              (subst (λ (j : ℕ). Expects in_proxy.rules (flowed.flows.ins j).passage (is_leg n)
+              (all_read_of put)) (in_number n k here)
+              (subst (λ (p : Passage InProxy).
+              Expects in_proxy.rules p (is_leg n) (all_read_of put))
+              (flowed.flows.ins n).leads.reached
+              (subst (λ (p : EndPassage Server).
+              Expects in_proxy.rules (in_behind (numbers ours) moves n) (is_leg n)
+              (all_read_of (of_leg (is_leg n) p.passage.put))) flowed.flows.server.leads.reached
+              (expects.server (reader_of v.readers) moves now n)))) (λ upward. absurd cc) next.1
+          per ClientIn n D count node up there may here closes = absurd cc
+          per InServer n U count node up there may here closes = absurd cc
+          per ClientOut n U count node up there may here closes = absurd cc
+          per ClientOut n D count node up there may here closes = absurd cc
+          per OutServer n U count node up there may here closes = absurd cc
+          per OutServer n D count node up there may here closes = absurd cc
+
+      in_fed : Fed (who.In k)
+      in_fed leg dir count may here closes =
+          per (in_place v.company k) refl
+          (sym (answered Absent (places.tell in_proxy.rules (event leg dir count)) None refl
+          v.company.ins k) ∙ closes)
+        where
+          per : (place : Place InProxy) → in_place v.company k ≡ place
+              → (places.tell in_proxy.rules (event leg dir count) place).1 ≡ Some why → ⊥
+          per Absent there closes = absurd cc
+          per (Gone now) there closes = absurd cc
+          per (Here node up) there closes = in_at leg dir count node up there may here closes
+
+      pub no_in_amiss : (change : Change) → MayChange rules v change
+          → ClosesNode rules v change (who.In k) why → ⊥
+      no_in_amiss change may is =
+          by_fed v (who.In k) why ⊥ (fed (who.In k) in_fed) nodes.comes change may is
+          (of_piece is.event)
+
+    -- ---- an os leg, where the cause names that
+
+    module _ (n : ℕ) (on : (S : Type 0) (its : Rules S) (node : Shell S) (leg : Leg)
+        (piece : List ℕ) → ComesAmiss its node leg piece why → os_leg n ≡ leg) where
+      -- an out proxy
+      module _ (expects : OutProxiesExpect (numbers ours)) (k : ℕ) where
+        out_at : (dir : Dir) (count : ℕ) (node : Shell OutProxy) (up : ℕ)
+            → out_place v.company k ≡ Here node up → May (os_leg n) dir
+            → at v (os_leg n) (receiver dir) ≡ who.Out k
+            → ClosesWith out_proxy.rules node (event (os_leg n) dir count) why → ⊥
+        out_at U count node up there may here closes = absurd cc
+        out_at D count node up there may here closes =
+            let next = out_next roles reads readings m w v ours law (IsAtMoment ours) flow by
+            (os_leg n) D (λ j. may) r amiss (λ e. refl) why tells count (who.Out k) here
+            nodes.outs k refl node up there closes in
+            let flowed = then_flows (os_leg n) D may next.0 in
+            let moves : Moves = moves_of flowed in
+            let now = moment (os_leg n) D may next.0 in
+            let put = of_leg (os_leg n) flowed.flows.server.passage.passage.put in
+            never_amiss out_proxy.rules (flowed.flows.outs k).passage (os_leg n) (Some OsD) put
+            (subst (λ (j : ℕ). Expects out_proxy.rules (flowed.flows.outs j).passage (os_leg n)
+            (all_read_of put)) (out_number n k here)
+            (subst (λ (p : Passage OutProxy).
+            Expects out_proxy.rules p (os_leg n) (all_read_of put))
+            (flowed.flows.outs n).leads.reached
+            (subst (λ (p : EndPassage Server).
+            Expects out_proxy.rules (out_behind (numbers ours) moves n) (os_leg n)
+            (all_read_of (of_leg (os_leg n) p.passage.put))) flowed.flows.server.leads.reached
+            (expects.server (reader_of v.readers) moves now n)))) (λ upward. absurd cc) next.1
+
+        out_fed : Fed (who.Out k)
+        out_fed leg dir count may here closes =
+            per (out_place v.company k) refl
+            (sym (answered Absent (places.tell out_proxy.rules (event leg dir count)) None refl
+            v.company.outs k) ∙ closes)
+          where
+            per : (place : Place OutProxy) → out_place v.company k ≡ place
+                → (places.tell out_proxy.rules (event leg dir count) place).1 ≡ Some why → ⊥
+            per Absent there closes = absurd cc
+            per (Gone now) there closes = absurd cc
+            per (Here node up) there closes =
+                subst (λ (x : Leg). May x dir → at v x (receiver dir) ≡ who.Out k
+                → ClosesWith out_proxy.rules node (event x dir count) why → ⊥)
+                (on OutProxy out_proxy.rules node leg (legs.take_out leg dir count v.legs).1
+                (nodes.outs_amiss node (event leg dir count) why closes))
+                (out_at dir count node up there) may here closes
+
+        pub no_out_amiss : (change : Change) → MayChange rules v change
+            → ClosesNode rules v change (who.Out k) why → ⊥
+        no_out_amiss change may is =
+            by_fed v (who.Out k) why ⊥ (fed (who.Out k) out_fed) nodes.comes change may is
+            (of_piece is.event)
+
+      -- the server
+      module _ (expects : ServersExpect (numbers ours)) where
+        server_at : (dir : Dir) (count : ℕ) → May (os_leg n) dir
+            → at v (os_leg n) (receiver dir) ≡ who.Server
+            → ClosesWith server.rules v.company.server (event (os_leg n) dir count) why → ⊥
+        server_at D count may here closes = absurd cc
+        server_at U count may here closes =
+            let next = server_next roles reads readings m w v ours law (IsAtMoment ours) flow by
+            (os_leg n) U (λ j. may) r amiss (λ e. refl) why tells count who.Server here
+            nodes.server refl closes in
+            let flowed = then_flows (os_leg n) U may next.0 in
+            let moves : Moves = moves_of flowed in
+            let now = moment (os_leg n) U may next.0 in
+            let put = of_leg (os_leg n) (flowed.flows.outs n).passage.put in
+            never_amiss server.rules flowed.flows.server.passage.passage (os_leg n) (Some OsU) put
+            (subst (λ (p : EndPassage Server).
+            Expects server.rules p.passage (os_leg n) (all_read_of put))
+            flowed.flows.server.leads.reached
+            (subst (λ (p : Passage OutProxy).
+            Expects server.rules (server_behind (numbers ours) moves).passage (os_leg n)
+            (all_read_of (of_leg (os_leg n) p.put))) (flowed.flows.outs n).leads.reached
+            (expects.outs (reader_of v.readers) moves now n))) (λ upward.
+            subst (λ (p : Passage OutProxy). HasNoPingFirst (of_leg (os_leg n) p.put))
+            (flowed.flows.outs n).leads.reached
+            (expects.first (reader_of v.readers) moves now n)) next.1
+
+        server_fed : Fed who.Server
+        server_fed leg dir count may here closes =
+            subst (λ (x : Leg). May x dir → at v x (receiver dir) ≡ who.Server
+            → ClosesWith server.rules v.company.server (event x dir count) why → ⊥)
+            (on Server server.rules v.company.server leg (legs.take_out leg dir count v.legs).1
+            (nodes.server_amiss v.company.server (event leg dir count) why closes))
+            (server_at dir count) may here closes
+
+        pub no_server_amiss : (change : Change) → MayChange rules v change
+            → ClosesNode rules v change who.Server why → ⊥
+        no_server_amiss change may is =
+            by_fed v who.Server why ⊥ (fed who.Server server_fed) nodes.comes change may is
+            (of_piece is.event)

@@ -1,0 +1,10 @@
+//! What comes next is expected: no change of a world of roles closes a node since a packet, an RPC
+//! PDU or a greeting came that was not to come there, or that named another cookie. Its functions do
+//! nothing: their contracts are the laws.
+#![tactic(auto)]
+
+pub mod recordings;
+pub mod worlds;
+
+pub use recordings::a_client_of_a_recording_refuses_no_cookie;
+pub use worlds::a_client_refuses_no_cookie;
