@@ -4,7 +4,7 @@ use Rattle.std.proofs.Common.{List, [], ◌∷◌, true, false}
 use Rattle.rh_record.specs.declared.line.Line.{Line}
 use Rattle.rh_record.specs.declared.line.Line.TheVariants.{First, Set, Give, Take, Close, Send, Move, OpenLeg, OpenSame, BreakLeg, EndLeg, Tick, RecycleIn, RecycleOut, Settle}
 use Rattle.rh_history.specs.Changes.{ByLines}
-use Rattle.rh_history.specs.Drawn.{AreDrawn, AreLeft, DrawnByLines, all_risen}
+use Rattle.rh_history.specs.Drawn.{AreDrawnFor, DrawnByLines, all_risen}
 use Rattle.rh_history.proofs.Drawing.{draws_none, draws_then}
 use Rattle.rh_history.proofs.Lines.{step_draws}
 use Rattle.rh_world.specs.declared.any_world.AnyWorld.{AnyWorld}
@@ -19,9 +19,8 @@ pub record IsReached (world : roles.World) : Type 0 where
   pub config : WorldConfig
   pub ranges : AreInRange config
   pub lines : ByLines roles.rules roles.makers roles.deeds (roles.begun config) world
-  pub drawn : AreLeft world.cookies
-      → AreDrawn (roles.begun config).cookies.next (all_risen lines.leads.changes)
-      world.cookies.next
+  pub drawn : AreDrawnFor (all_risen lines.leads.changes) (roles.begun config).cookies
+      world.cookies
 
 reached_by : (config : WorldConfig) → AreInRange config → (world : roles.World)
     → DrawnByLines roles.rules roles.makers roles.deeds (roles.begun config) world
@@ -94,7 +93,7 @@ prepared_is_recorded (Settings config) RecycleOut h = begun_reached config h
 prepared_is_recorded (Settings config) (Settle rounds) h = begun_reached config h
 prepared_is_recorded (Roles world) line h = h
 
-acted_is_recorded : (world : AnyWorld) (line : Line) → IsRecorded world
+pub acted_is_recorded : (world : AnyWorld) (line : Line) → IsRecorded world
     → IsRecorded (act world line).0
 acted_is_recorded Before line h = h
 acted_is_recorded (Direct world) line h = tt

@@ -11,6 +11,7 @@ use Rattle.rh_order.proofs.ByNumber.{by_test}
 use Rattle.rh_shell.specs.declared.answers.Count.{Count}
 use Rattle.rh_shell.specs.Rules.{Pdu, Packet}
 use Rattle.rh_shell.specs.Moves.{Move, Up, HeadCame, PduCame, PacketCame, Puts, IsDrawn, Marks, Pings, Passage, EndMove, EndPassage, Moves, Gives, Takes, Closes, Recycles, moved, end_moved, end_now_at}
+use Rattle.rh_client.specs.declared.channels.TheConstants.{LAST_NUMBER}
 use Rattle.rh_client.specs.declared.state.ClientRole.{ClientRole}
 use Rattle.rh_client.specs.Channels.{is_up, in_up, out_up}
 use Rattle.rh_client.specs.State.{first, is_writing, is_in_successor, is_current, is_out_successor}
@@ -84,7 +85,12 @@ up_now x sound = record {
   was = λ n h.
       more_now (nat_lt 0 n && nat_lt n x.now) (n == x.now)
       ((x.under_way && n == x.next) && x.next_up) x.now_up h;
-  sound = record { first = sound.first; behind = sound.behind };
+  sound = record {
+    first = sound.first;
+    behind = sound.behind;
+    now_last = sound.now_last;
+    next_last = sound.next_last;
+  };
 }
 
 -- its successor's is up
@@ -93,16 +99,27 @@ up_next x sound = record {
   was = λ n h.
       more_next (nat_lt 0 n && nat_lt n x.now) (n == x.now && x.now_up)
       (x.under_way && n == x.next) x.next_up h;
-  sound = record { first = sound.first; behind = sound.behind };
+  sound = record {
+    first = sound.first;
+    behind = sound.behind;
+    now_last = sound.now_last;
+    next_last = sound.next_last;
+  };
 }
 
 -- a replacement begins, where none was under way
-begins : (x : Side) → x.under_way ≡ false → IsSound x → Grows x (begun x)
-begins x e sound = record {
+begins : (x : Side) → x.under_way ≡ false → nat_lt x.now LAST_NUMBER ≡ true → IsSound x
+    → Grows x (begun x)
+begins x e last sound = record {
   was = λ n h.
       no_next (nat_lt 0 n && nat_lt n x.now) (n == x.now && x.now_up) x.under_way (n == x.next)
       x.next_up ((true && n == x.now + 1) && false) e h;
-  sound = record { first = sound.first; behind = λ f. omega arith };
+  sound = record {
+    first = sound.first;
+    behind = λ f. omega arith;
+    now_last = sound.now_last;
+    next_last = λ f. grind (arith, nat_tests, last);
+  };
 }
 
 shift_by : (n now next : ℕ) (u v w : Bool) → w ≡ true → 0 < now → now < next
@@ -121,7 +138,12 @@ shifts x e sound =
     record {
       was = λ n h.
           shift_by n x.now x.next x.now_up x.next_up x.under_way e sound.first behind h;
-      sound = record { first = omega (arith, sound.first, behind); behind = λ f. absurd cc };
+      sound = record {
+        first = omega (arith, sound.first, behind);
+        behind = λ f. absurd cc;
+        now_last = sound.next_last e;
+        next_last = λ f. absurd cc;
+      };
     }
 
 growing : StepLaws AreSound AllGrow
@@ -151,13 +173,13 @@ growing = record {
     ins = grows_self x.ins good.ins;
     outs = up_next x.outs good.outs;
   };
-  in_begins = λ x e good. record {
-    ins = begins x.ins e good.ins;
+  in_begins = λ x e last good. record {
+    ins = begins x.ins e last good.ins;
     outs = grows_self x.outs good.outs;
   };
-  out_begins = λ x e good. record {
+  out_begins = λ x e last good. record {
     ins = grows_self x.ins good.ins;
-    outs = begins x.outs e good.outs;
+    outs = begins x.outs e last good.outs;
   };
   in_shifts = λ x e good. record {
     ins = shifts x.ins e good.ins;
@@ -208,14 +230,24 @@ same_but_times s t sound same =
       outs = untimed (sides s).outs (sides t).outs
           (subst (Grows (record (sides s).outs { limit = None; next_limit = None })) (sym outs)
           (grows_self (record (sides s).outs { limit = None; next_limit = None })
-          (record { first = sound.outs.first; behind = sound.outs.behind })));
+          (record {
+            first = sound.outs.first;
+            behind = sound.outs.behind;
+            now_last = sound.outs.now_last;
+            next_last = sound.outs.next_last;
+          })));
     }
   where
     untimed : (x y : Side) → Grows (record x { limit = None; next_limit = None })
         (record y { limit = None; next_limit = None }) → Grows x y
     untimed x y g = record {
       was = g.was;
-      sound = record { first = g.sound.first; behind = g.sound.behind };
+      sound = record {
+        first = g.sound.first;
+        behind = g.sound.behind;
+        now_last = g.sound.now_last;
+        next_last = g.sound.next_last;
+      };
     }
 
 timed : (s : ClientRole) (n : ℕ) (count : Count) (packet : Named) → Sound s
@@ -365,6 +397,16 @@ client_keeps = record {
 
 pub first_is : (config : ClientConfig) → ClientIsNumbered (first config)
 first_is config = record {
-  ins = record { first = omega arith; behind = λ e. absurd cc };
-  outs = record { first = omega arith; behind = λ e. absurd cc };
+  ins = record {
+    first = omega arith;
+    behind = λ e. absurd cc;
+    now_last = omega arith;
+    next_last = λ e. absurd cc;
+  };
+  outs = record {
+    first = omega arith;
+    behind = λ e. absurd cc;
+    now_last = omega arith;
+    next_last = λ e. absurd cc;
+  };
 }

@@ -117,9 +117,11 @@ pub record StepLaws (Good : Sides → Type 0) (Step : Sides → Sides → Type 0
       → Step x (record x { outs = record (x.outs) { now_up = true } })
   pub out_next : (x : Sides) → Good x
       → Step x (record x { outs = record (x.outs) { next_up = true } })
-  pub in_begins : (x : Sides) → x.ins.under_way ≡ false → Good x
+  pub in_begins : (x : Sides) → x.ins.under_way ≡ false
+      → nat_lt x.ins.now LAST_NUMBER ≡ true → Good x
       → Step x (record x { ins = begun x.ins })
-  pub out_begins : (x : Sides) → x.outs.under_way ≡ false → Good x
+  pub out_begins : (x : Sides) → x.outs.under_way ≡ false
+      → nat_lt x.outs.now LAST_NUMBER ≡ true → Good x
       → Step x (record x { outs = begun x.outs })
   pub in_shifts : (x : Sides) → x.ins.under_way ≡ true → Good x
       → Step x (record x { ins = shifted x.ins })
@@ -161,7 +163,7 @@ module _ (Good : Sides → Type 0) (Step : Sides → Sides → Type 0) (law : St
           in_successor = unopened_in (s.writing.number + 1) s.config.lifetime;
           replacement = In in_stage.Asked w;
         }) (record s { replacement = NoneUnderWay })
-        (λ e. law.in_begins (sides (with_replacement s NoneUnderWay)) refl sound)
+        (λ e. law.in_begins (sides (with_replacement s NoneUnderWay)) refl e sound)
         (λ e. later_self (with_replacement s NoneUnderWay) sound)
 
     begin_out_later : (s : ClientRole) (w : Waits) → Sound (with_replacement s NoneUnderWay)
@@ -172,7 +174,7 @@ module _ (Good : Sides → Type 0) (Step : Sides → Sides → Type 0) (law : St
           out_successor = unopened_out (s.current.number + 1);
           replacement = Out out_stage.Asked w;
         }) (record s { replacement = NoneUnderWay })
-        (λ e. law.out_begins (sides (with_replacement s NoneUnderWay)) refl sound)
+        (λ e. law.out_begins (sides (with_replacement s NoneUnderWay)) refl e sound)
         (λ e. later_self (with_replacement s NoneUnderWay) sound)
 
     after_in_later : (s : ClientRole) (w : Bool) → Sound (with_replacement s NoneUnderWay)

@@ -74,8 +74,8 @@ telling came = record {
   in_next = λ x told. record { now = told.now; next = told.next };
   out_now = λ x told. record { now = told.now; next = told.next };
   out_next = λ x told. record { now = told.now; next = told.next };
-  in_begins = λ x e told. record { now = told.now; next = told.next };
-  out_begins = λ x e told. record { now = told.now; next = λ f t is. absurd cc };
+  in_begins = λ x e last told. record { now = told.now; next = told.next };
+  out_begins = λ x e last told. record { now = told.now; next = λ f t is. absurd cc };
   in_shifts = λ x e told. record { now = told.now; next = told.next };
   out_shifts = λ x e told. record {
     now = λ t is. told.next e t is;

@@ -1,5 +1,6 @@
 -- what holds of the numbers of a role's legs, where each is up once (profile)
 use Rattle.std.specs.Prelude.{ℕ, ◌≡◌, ◌≤◌, ◌<◌, Bool, true}
+use Rattle.rh_client.specs.declared.channels.TheConstants.{LAST_NUMBER}
 use Rattle.rh_client.specs.declared.state.ClientRole.{ClientRole}
 use Rattle.rh_client.specs.Replacements.{is_in, is_out}
 use Rattle.rh_inproxy.specs.declared.state.Successor.{Successor}
@@ -18,10 +19,12 @@ pub record AreNumbered (s : InProxy) : Type 0 where
   pub behind : IsAbove s.current.number s.successor
 
 -- the numbers of a client's channels in one direction begin with 1, and where a replacement is
--- under way the successor's is higher
+-- under way the successor's is higher; none is above the last
 pub record AreNumberedBy (now next : ℕ) (under_way : Bool) : Type 0 where
   pub first : 0 < now
   pub behind : under_way ≡ true → now < next
+  pub now_last : now ≤ LAST_NUMBER
+  pub next_last : under_way ≡ true → next ≤ LAST_NUMBER
 
 pub record ClientIsNumbered (s : ClientRole) : Type 0 where
   pub ins : AreNumberedBy s.writing.number s.in_successor.number (is_in s.replacement)

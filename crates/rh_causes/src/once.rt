@@ -54,6 +54,8 @@ pub fn an_ends_leg_comes_up_once<R: UpOnce + EndRole>()
         → WasUp R.rules (after_end_events R.rules R.acts node later) leg) }
     ensures new { (role : R) (rooms : Rooms) (events : List EndEvent) → R.holds role
         → AreNewLegsAtEnd R.rules R.acts (begun role rooms) events }
+    ensures holds { (role : R) (rooms : Rooms) (events : List EndEvent) → R.holds role
+        → R.holds (after_end_events R.rules R.acts (begun role rooms) events).role }
 {
     roles_move_by_their_rules::<R>();
     ends_move_by_their_rules::<R>();

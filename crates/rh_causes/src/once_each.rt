@@ -47,7 +47,8 @@ impl UpOnce for ServerRole {
 }
 
 /// A leg comes up at most once at a client: its ci legs and its co legs have the numbers of its IN
-/// and OUT channels, each of which has the number behind the one that it replaces.
+/// and OUT channels, each of which has the number behind the one that it replaces, and none of which
+/// is above the last number.
 pub fn a_clients_leg_comes_up_once()
     ensures moves { ComesUpOnce client.rules ClientIsNumbered }
     ensures calls { KeepsUp client.rules client.acts ClientIsNumbered }
@@ -63,6 +64,8 @@ pub fn a_clients_leg_comes_up_once()
         → WasUp client.rules (after_end_events client.rules client.acts node later) leg) }
     ensures new { (config : ClientConfig) (events : List EndEvent)
         → AreNewLegsAtEnd client.rules client.acts (client.first_client config) events }
+    ensures numbers { (config : ClientConfig) (events : List EndEvent) → ClientIsNumbered
+        (after_end_events client.rules client.acts (client.first_client config) events).role }
 {
     an_ends_leg_comes_up_once::<ClientRole>();
 }

@@ -28,7 +28,6 @@ use Rattle.rh_ordered.specs.Counted.{CountsCapped}
 use Rattle.rh_ordered.specs.Recordings.{OffersBehindFirst}
 use Rattle.rh_paths.specs.Recordings.{KeepsWays}
 use Rattle.rh_refused.specs.Reported.{ReportsBreak}
-use Rattle.rh_honest.specs.Cookies.{AreLeftIn}
 use Rattle.rh_hops.specs.Hops.{is_leg, os_leg}
 
 -- a line reports a node as closed only for what it told that node, and its answers show that
@@ -135,8 +134,7 @@ pub record Claims (lines : List Line) : Type 0 where
       → BodiesFit (after Before before) line
   pub hops : (before behind : List Line) (line : Line) → lines ≡ before ++ line ∷ behind
       → HopsHold (after Before before) line
-  pub client_hops : (before behind : List Line) (line : Line)
-      → lines ≡ before ++ line ∷ behind → AreLeftIn (step (after Before before) line).0
+  pub client_hops : (before behind : List Line) (line : Line) → lines ≡ before ++ line ∷ behind
       → ClientHopsHold (after Before before) line
   pub once : (node : Who) → closings_of node (run lines) ≤ 1
   pub named : NamesIt (run lines)

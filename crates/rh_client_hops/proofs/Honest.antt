@@ -42,7 +42,7 @@ use Rattle.rh_fifo.specs.Flows.{IsFlowing, numbers_of}
 use Rattle.rh_fifo.specs.Premises.{AreInRange}
 use Rattle.rh_client_hops.specs.Premises.{AreDistinct, HasOneWindow}
 use Rattle.rh_client_hops.proofs.Joined.{Reads, all}
-use Rattle.rh_client_hops.proofs.Read.{front_count}
+use Rattle.rh_moments.proofs.Read.{front_count}
 use Rattle.rh_client_hops.proofs.Roles.{AreApart, ClientBegins, ClientReceives, ClientSends, InProxySees, OutProxySees, ServerSees}
 use Rattle.rh_client_hops.proofs.Routes.{AreHonest, AreJoined, Passages}
 

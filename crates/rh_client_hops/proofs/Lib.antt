@@ -1,4 +1,3 @@
-pub mod Read
 pub mod Roles
 pub mod Routes
 pub mod Refusing

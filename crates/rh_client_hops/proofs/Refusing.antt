@@ -25,7 +25,7 @@ use Rattle.rh_passages.specs.Rising.{HasComeUp}
 use Rattle.rh_passages.proofs.Messages.{bytes_append, has_last}
 use Rattle.rh_hops.specs.Hops.{is_leg, os_leg}
 use Rattle.rh_hops.specs.Refusing.{RefusesMessage}
-use Rattle.rh_client_hops.proofs.Read.{front_bytes, front_has, front_one}
+use Rattle.rh_moments.proofs.Read.{front_bytes, front_has, front_one}
 use Rattle.rh_client_hops.proofs.Roles.{Acks, AcksRoom, IsFalse, IsToldIn, IsToldOut, SendsWithin, TellsProxy}
 use Rattle.rh_client_hops.proofs.Routes.{AreHonest, AreJoined, Passages, client_put, from_client, from_out, in_front, in_reads, out_front, window_is}
 

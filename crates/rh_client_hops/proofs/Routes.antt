@@ -27,7 +27,7 @@ use Rattle.rh_history.specs.Carried.{end_node}
 use Rattle.rh_reading.specs.Reading.{all_read_of}
 use Rattle.rh_passages.specs.Passing.{Has, HasOne}
 use Rattle.rh_hops.specs.Hops.{is_leg, os_leg}
-use Rattle.rh_client_hops.proofs.Read.{front_has, front_one}
+use Rattle.rh_moments.proofs.Read.{front_has, front_one}
 use Rattle.rh_client_hops.proofs.Roles.{AreApart, ClientBegins, ClientReceives, ClientSends, InProxySees, OutProxySees, ServerSees, TellsClient, TellsOutProxy, TellsServer}
 
 -- what passed the nodes

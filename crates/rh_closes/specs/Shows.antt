@@ -16,7 +16,7 @@ use Rattle.rh_nodes.specs.Wires.{sender, receiver}
 use Rattle.rh_nodes.specs.World.{World, at}
 use Rattle.rh_history.specs.Changes.{Change, Works, changed}
 use Rattle.rh_history.specs.Closes.{IsOneOf, told_by}
-use Rattle.rh_history.specs.Drawn.{AreDrawn, AreLeft, all_risen}
+use Rattle.rh_history.specs.Drawn.{AreDrawnFor, all_risen}
 
 -- the leg, which was up for the node, ended in a direction in which it puts there
 pub record ShowsLoss {K C S I O : Type 0} (answers : List Answer) (w : World K C S I O)
@@ -67,5 +67,4 @@ pub record ShownWorks {K C S I O : Type 0} (r : Rulebook C S I O) (m : Makers K 
     (d : Deeds C S) (answers : List Answer) (w v : World K C S I O) : Type 0 where
   pub works : Works r m d w v
   pub shown : AreShown r m d answers w works.leads.changes
-  pub drawn : AreLeft v.cookies
-      → AreDrawn w.cookies.next (all_risen works.leads.changes) v.cookies.next
+  pub drawn : AreDrawnFor (all_risen works.leads.changes) w.cookies v.cookies

@@ -1,7 +1,8 @@
 -- changes of one kind behind each other, by which the legs of the client come up with cookies that
 -- are drawn
-use Rattle.std.proofs.Common.{◌≡◌, ◌≤◌, ◌<◌, ◌+◌, ◌-◌, ◌^◌, ◌&&◌, ◌++◌, append_assoc, arith, Bool, ℕ, zero, suc, List, [], ◌∷◌, true, false, refl, sym, subst, ap, ◌∙◌}
+use Rattle.std.proofs.Common.{◌≡◌, ◌≤◌, ◌<◌, ◌+◌, ◌-◌, ◌^◌, ◌&&◌, ◌++◌, append_assoc, arith, Bool, ℕ, zero, suc, List, [], ◌∷◌, length-append, true, false, refl, sym, subst, ap, ◌∙◌}
 use Rattle.std.proofs.lemmas.Bool.{and_parts}
+use Rattle.std.proofs.lemmas.Bool.Decides.{nat_tests}
 use Rattle.rh_order.proofs.ByNumber.{by_test}
 use Rattle.rh_rts.specs.declared.command.Cookie.{Cookie}
 use Rattle.rh_text.specs.declared.ends.Side.TheVariants as side
@@ -14,7 +15,7 @@ use Rattle.rh_nodes.specs.Opening.{Makers}
 use Rattle.rh_nodes.specs.Time.{for_each}
 use Rattle.rh_nodes.specs.World.{World}
 use Rattle.rh_history.specs.Changes.{Change, IsTold, IsFed, IsDrawn, GoesUp, RaisesAlone, GoesDown, OpensIn, OpensOut, OpensSame, Gives, Takes, Closes, RecyclesIn, RecyclesOut, MovesTo, Draws, Reports, MayChange, changed, is_work, is_quiet}
-use Rattle.rh_history.specs.Drawn.{AreDrawn, AreLeft, DrawnByLines, DrawsBy, all_risen, risen}
+use Rattle.rh_history.specs.Drawn.{AreDrawn, AreDrawnFor, AreLeft, DrawnByLines, DrawsBy, all_risen, risen}
 use Rattle.rh_history.proofs.Working.{works_none, works_one, works_then, works_more, works_quietly, works_by_lines}
 
 -- ---- numbers that rise
@@ -62,15 +63,55 @@ past_rises others (other ∷ rest) number left =
     let first = one_rises others number (omega (arith, more, left)) in
     omega (arith, more, first)
 
-pub draw_is_drawn : (cookies : Cookies) (leg : Leg) → AreLeft (draw cookies).0
+numbers_drawn : (cookies : Cookies) (leg : Leg) → AreLeft (draw cookies).0
     → AreDrawn cookies.next ((leg, (draw cookies).1) ∷ []) (draw cookies).0.next
-draw_is_drawn cookies leg left =
+numbers_drawn cookies leg left =
     let number = past cookies.others cookies.others cookies.next in (
       number,
       past_rises cookies.others cookies.others cookies.next (omega (arith, left)),
       refl,
       omega (arith, left),
     )
+
+-- nothing is passed over where there are no others
+none_passed : (others : List ℕ) (number : ℕ) → others ≡ [] → past others others number ≡ number
+none_passed [] number is = refl
+none_passed (other ∷ rest) number is = absurd cc
+
+pub draw_is_drawn : (cookies : Cookies) (leg : Leg)
+    → AreDrawnFor ((leg, (draw cookies).1) ∷ []) cookies (draw cookies).0
+draw_is_drawn cookies leg = record {
+  numbers = numbers_drawn cookies leg;
+  others = λ none. none;
+  count = λ none.
+      let same = none_passed cookies.others cookies.next none in
+      grind (arith, nat_tests, same);
+}
+
+-- no leg came up, and no cookie was drawn
+pub none_drawn : (cookies : Cookies) → AreDrawnFor [] cookies cookies
+none_drawn cookies = record {
+  numbers = λ left. omega arith;
+  others = λ none. none;
+  count = λ none. omega arith;
+}
+
+pub drawn_behind : (low middle high : Cookies) (legs more : List (Leg × Cookie))
+    → AreDrawnFor legs low middle → AreDrawnFor more middle high
+    → AreDrawnFor (legs ++ more) low high
+drawn_behind low middle high legs more a b = record {
+  numbers = λ left.
+      let rest = b.numbers left in
+      let rises = drawn_rises middle.next high.next more rest in
+      drawn_append low.next middle.next high.next legs more
+      (a.numbers (omega (arith, rises, left))) rest;
+  others = λ none. b.others (a.others none);
+  count = λ none.
+      let first = a.count none in
+      let rest = b.count (a.others none) in
+      let sum = length-append legs more in
+      omega (arith, first, rest, sum);
+}
 
 -- ---- changes that draw no cookie and have no leg of the client up
 
@@ -86,10 +127,10 @@ is_steady change = true
 module _ {K C S I O : Type 0} (r : Rulebook C S I O) (m : Makers K I O) (d : Deeds C S) where
   abbrev pub IsStill : World K C S I O → Change → Type 0
   IsStill w change =
-      AreDrawn w.cookies.next (all_risen (change ∷ [])) (changed r m d w change).cookies.next
+      AreDrawnFor (all_risen (change ∷ [])) w.cookies (changed r m d w change).cookies
 
-  pub stands : (w : World K C S I O) → w.cookies.next ≤ w.cookies.next
-  stands w = omega arith
+  pub stands : (w : World K C S I O) → AreDrawnFor [] w.cookies w.cookies
+  stands w = none_drawn w.cookies
 
   pub steady_is_still : (w : World K C S I O) (change : Change) → is_steady change ≡ true
       → IsStill w change
@@ -122,7 +163,7 @@ module _ {K C S I O : Type 0} (r : Rulebook C S I O) (m : Makers K I O) (d : Dee
 module _ {K C S I O : Type 0} {kind : Change → Bool} (r : Rulebook C S I O) (m : Makers K I O)
     (d : Deeds C S) where
   abbrev pub draws_none : (w : World K C S I O) → DrawsBy kind r m d w w
-  draws_none w = record { works = works_none r m d w; drawn = λ left. stands r m d w }
+  draws_none w = record { works = works_none r m d w; drawn = stands r m d w }
 
   abbrev pub draws_one : (w : World K C S I O) (change : Change) → MayChange r w change
       → (is_steady change && kind change) ≡ true → DrawsBy kind r m d w (changed r m d w change)
@@ -130,22 +171,18 @@ module _ {K C S I O : Type 0} {kind : Change → Bool} (r : Rulebook C S I O) (m
       let parts = and_parts (is_steady change) (kind change) is in
       record {
         works = works_one r m d w change may parts.1;
-        drawn = λ left. steady_is_still r m d w change parts.0;
+        drawn = steady_is_still r m d w change parts.0;
       }
 
   abbrev pub draws_then : (w v u : World K C S I O) → DrawsBy kind r m d w v
       → DrawsBy kind r m d v u → DrawsBy kind r m d w u
   draws_then w v u a b = record {
     works = works_then r m d w v u a.works b.works;
-    drawn = λ left.
-        let more = b.drawn left in
-        let rises = drawn_rises v.cookies.next u.cookies.next
-        (all_risen b.works.leads.changes) more in
-        subst (λ (legs : List (Leg × Cookie)). AreDrawn w.cookies.next legs u.cookies.next)
+    drawn =
+        subst (λ (legs : List (Leg × Cookie)). AreDrawnFor legs w.cookies u.cookies)
         (sym (risen_append a.works.leads.changes b.works.leads.changes))
-        (drawn_append w.cookies.next v.cookies.next u.cookies.next
-        (all_risen a.works.leads.changes) (all_risen b.works.leads.changes)
-        (a.drawn (omega (arith, rises, left))) more);
+        (drawn_behind w.cookies v.cookies u.cookies (all_risen a.works.leads.changes)
+        (all_risen b.works.leads.changes) a.drawn b.drawn);
   }
 
   -- one more change
@@ -177,11 +214,11 @@ module _ {K C S I O : Type 0} {kind : Change → Bool} (r : Rulebook C S I O) (m
         works = works_more r m d w x change
             (works_one r m d w (Draws (draw w.cookies).0) tt is_drawn) may is;
         drawn =
-            subst (λ (legs : List (Leg × Cookie)). AreLeft (changed r m d x change).cookies
-            → AreDrawn w.cookies.next (legs ++ []) (changed r m d x change).cookies.next)
+            subst (λ (legs : List (Leg × Cookie)).
+            AreDrawnFor (legs ++ []) w.cookies (changed r m d x change).cookies)
             (sym rises)
-            (subst (λ (cookies : Cookies). AreLeft cookies
-            → AreDrawn w.cookies.next ((leg, (draw w.cookies).1) ∷ []) cookies.next) (sym stays)
+            (subst (λ (cookies : Cookies).
+            AreDrawnFor ((leg, (draw w.cookies).1) ∷ []) w.cookies cookies) (sym stays)
             (draw_is_drawn w.cookies leg));
       }
 

@@ -221,7 +221,7 @@ module _ {K C S I O : Type 0} (r : Rulebook C S I O) (m : Makers K I O) (d : Dee
       drawn =
           drawn_front w.cookies.next v.cookies.next (all_risen front) (all_risen rest)
           (subst (λ (legs : Risen). AreDrawn w.cookies.next legs v.cookies.next)
-          (ap all_risen split ∙ risen_append front rest) (by.drawn left))
+          (ap all_risen split ∙ risen_append front rest) (by.drawn.numbers left))
 
       among : (leg : Leg) → RoseWith (happened (all_noted r m d w nothing front).client) leg cookie
           → IsAmong (all_risen front) leg cookie

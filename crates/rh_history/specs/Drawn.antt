@@ -1,5 +1,5 @@
 -- the cookies with which the legs of the client come up (MS-RPCH 2.2.3.1)
-use Rattle.std.specs.Prelude.{◌≡◌, ◌≤◌, ◌<◌, ◌+◌, ◌-◌, ◌^◌, ◌++◌, ◌⊎◌, ℕ, List, [], ◌∷◌, Bool}
+use Rattle.std.specs.Prelude.{◌≡◌, ◌≤◌, ◌<◌, ◌+◌, ◌-◌, ◌^◌, ◌++◌, ◌⊎◌, ℕ, List, [], ◌∷◌, length, Bool}
 use Rattle.rh_rts.specs.declared.command.Cookie.{Cookie}
 use Rattle.rh_line.specs.declared.leg.Leg.{Leg}
 use Rattle.rh_line.specs.declared.leg.LegKind.TheVariants.{ClientIn, ClientOut}
@@ -36,12 +36,18 @@ AreDrawn low [] high = low ≤ high
 AreDrawn low (one ∷ legs) high =
     (number : ℕ) × (low ≤ number) × (one.1 ≡ cookie_of number) × AreDrawn (number + 1) legs high
 
+-- each leg of the client that came up did so with a cookie that was drawn for it, between these
+-- counts; and where no other cookies were had, none was drawn for anything else
+pub record AreDrawnFor (legs : List (Leg × Cookie)) (before after : Cookies) : Type 0 where
+  pub numbers : AreLeft after → AreDrawn before.next legs after.next
+  pub others : before.others ≡ [] → after.others ≡ []
+  pub count : before.others ≡ [] → after.next ≤ before.next + length legs
+
 -- changes of one kind, by which each leg of the client comes up with a cookie that was drawn for it
 pub record DrawsBy {K C S I O : Type 0} (kind : Change → Bool) (r : Rulebook C S I O)
     (m : Makers K I O) (d : Deeds C S) (w v : World K C S I O) : Type 0 where
   pub works : WorksBy kind r m d w v
-  pub drawn : AreLeft v.cookies
-      → AreDrawn w.cookies.next (all_risen works.leads.changes) v.cookies.next
+  pub drawn : AreDrawnFor (all_risen works.leads.changes) w.cookies v.cookies
 
 -- all of them are changes that lines make
 abbrev pub DrawnByLines : {K C S I O : Type 0} → Rulebook C S I O → Makers K I O → Deeds C S

@@ -16,7 +16,7 @@ use Rattle.rh_shell.specs.Wires.{of_leg}
 use Rattle.rh_nodes.specs.Wires.{receiver, sender}
 use Rattle.rh_nodes.specs.World.{node_at}
 use Rattle.rh_client.specs.declared.state.ClientRole.{ClientRole}
-use Rattle.rh_client.specs.Client as client
+use Rattle.rh_client.specs.Client as clients
 use Rattle.rh_client.specs.State as client_state
 use Rattle.rh_inproxy.specs.declared.state.InProxyConfig.{InProxyConfig}
 use Rattle.rh_inproxy.specs.Machine as in_proxy
@@ -25,7 +25,7 @@ use Rattle.rh_inproxy.specs.State as in_state
 use Rattle.rh_outproxy.specs.declared.state.OutProxyConfig.{OutProxyConfig}
 use Rattle.rh_outproxy.specs.Machine as out_proxy
 use Rattle.rh_outproxy.specs.OutProxy.{OutProxy, new_proxy}
-use Rattle.rh_server.specs.Servers as server
+use Rattle.rh_server.specs.Servers as servers
 use Rattle.rh_server.specs.States.{Server}
 use Rattle.rh_reading.specs.Reading.{all_read_of}
 use Rattle.rh_passages.specs.Counted.{AreCounted, AreCountedAtEnd}
@@ -57,12 +57,12 @@ pub record Passages : Type 0 where
 
 abbrev pub client_behind : Numbers → Moves → EndPassage ClientRole
 client_behind numbers moves =
-    all_end_moved client.rules client.acts (end_started (client_state.first numbers.client))
+    all_end_moved clients.rules clients.acts (end_started (client_state.first numbers.client))
     moves.client
 
 abbrev pub server_behind : Numbers → Moves → EndPassage Server
 server_behind numbers moves =
-    all_end_moved server.rules server.acts (end_started (server.first numbers.window))
+    all_end_moved servers.rules servers.acts (end_started (servers.first numbers.window))
     moves.server
 
 abbrev pub in_behind : Numbers → Moves → ℕ → Passage InProxy
@@ -125,15 +125,15 @@ pub record HaveCookies (moves : List EndMove) : Type 0 where
 
 -- the moves are allowed and in turn, with true counts
 pub record AreMade (numbers : Numbers) (moves : Moves) : Type 0 where
-  pub client : AreAllowedAtEnd client.rules client.acts
+  pub client : AreAllowedAtEnd clients.rules clients.acts
       (end_started (client_state.first numbers.client)) moves.client
-  pub client_counted : AreCountedAtEnd client.rules client.acts
+  pub client_counted : AreCountedAtEnd clients.rules clients.acts
       (end_started (client_state.first numbers.client)) moves.client
   pub client_up : AreUpFirst [] moves.client
-  pub server : AreAllowedAtEnd server.rules server.acts (end_started (server.first numbers.window))
+  pub server : AreAllowedAtEnd servers.rules servers.acts (end_started (servers.first numbers.window))
       moves.server
-  pub server_counted : AreCountedAtEnd server.rules server.acts
-      (end_started (server.first numbers.window)) moves.server
+  pub server_counted : AreCountedAtEnd servers.rules servers.acts
+      (end_started (servers.first numbers.window)) moves.server
   pub server_up : AreUpFirst [] moves.server
   pub ins : (m : ℕ)
       → AreAllowed in_proxy.rules (started (in_state.first (numbers.ins m))) (moves.ins m)

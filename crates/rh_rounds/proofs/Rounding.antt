@@ -17,7 +17,7 @@ use Rattle.rh_proxy_counts.specs.OutCounts.{ForwardsWhatCame, OpensWhatCame}
 use Rattle.rh_chains.specs.Sums.{count_on}
 use Rattle.rh_chains.specs.Ways.{AreFronts, Logs, total}
 use Rattle.rh_chains.proofs.Along.{by_in_proxies, by_proxies}
-use Rattle.rh_client_hops.proofs.Routes.{AreJoined, Passages}
+use Rattle.rh_moments.specs.Moments.{AreJoined, Passages}
 use Rattle.rh_rounds.specs.Rounds.{GoRound, InGoesRound, OutGoesRound}
 use Rattle.rh_rounds.proofs.Fronts.{are_fronts, logs_of}
 
@@ -161,13 +161,13 @@ wants packet = refl
 
 -- ---- the ways
 
-module _ (readers : List ℕ) (all : Passages) (joined : AreJoined readers all)
+module _ (reader : ℕ → ℕ) (all : Passages) (joined : AreJoined reader all)
     (known : AreCounted all) where
   abbrev l : Logs
-  l = logs_of readers all
+  l = logs_of reader all
 
   f : AreFronts l
-  f = are_fronts readers all joined
+  f = are_fronts reader all joined
 
   -- down to the client, by out proxies
   down : (before behind : Named → Bool)
@@ -205,15 +205,15 @@ module _ (readers : List ℕ) (all : Passages) (joined : AreJoined readers all)
         let same = down at_proxy.is_in_r2_a3 at_proxy.is_in_r2_a4 (λ n. (known.outs n).in_r2) in
         let sum = sum_counts at_client.is_in_a4 at_proxy.is_in_r1_a4 at_proxy.is_in_r2_a4 answers
         (of_kind ClientOut all.client.came) in
-        let r1 = same_counts at_proxy.is_in_r1_a3 at_server.is_in_r1_a3 r1_answers
+        let in_r1 = same_counts at_proxy.is_in_r1_a3 at_server.is_in_r1_a3 r1_answers
         (of_kind OutServer all.server.put) in
-        let r2 = same_counts at_proxy.is_in_r2_a3 at_server.is_in_r2_a3 r2_answers
+        let in_r2 = same_counts at_proxy.is_in_r2_a3 at_server.is_in_r2_a3 r2_answers
         (of_kind OutServer all.server.put) in
-        omega (arith, first, same, sum, r1, r2);
+        omega (arith, first, same, sum, in_r1, in_r2);
     a3_behind_a2 =
-        let r1 = known.server_ins.in_r1_at_most in
-        let r2 = known.server_ins.in_r2_at_most in
-        omega (arith, r1, r2);
+        let in_r1 = known.server_ins.in_r1_at_most in
+        let in_r2 = known.server_ins.in_r2_at_most in
+        omega (arith, in_r1, in_r2);
     a2_behind_a1 =
         let way = up (at_proxy.is_in_r1_a1 any) (at_proxy.is_in_a2 any)
         (λ m. (known.ins m).successors any) in

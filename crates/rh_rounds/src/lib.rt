@@ -2,6 +2,6 @@
 //! does nothing: its contract is the law.
 #![tactic(auto)]
 
-pub mod worlds;
+pub mod moments;
 
-pub use worlds::replacements_go_round;
+pub use moments::replacements_go_round;

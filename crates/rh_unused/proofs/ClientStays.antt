@@ -442,6 +442,16 @@ calls_keep once = record {
 
 pub first_is : (config : ClientConfig) → ClientIsNumbered (first config)
 first_is config = record {
-  ins = record { first = omega arith; behind = λ e. absurd cc };
-  outs = record { first = omega arith; behind = λ e. absurd cc };
+  ins = record {
+    first = omega arith;
+    behind = λ e. absurd cc;
+    now_last = omega arith;
+    next_last = λ e. absurd cc;
+  };
+  outs = record {
+    first = omega arith;
+    behind = λ e. absurd cc;
+    now_last = omega arith;
+    next_last = λ e. absurd cc;
+  };
 }

@@ -33,4 +33,8 @@ returns g c =
       new = λ role rooms events holds.
           new_legs_at_end rules Holds law all acts calls ends (begun role rooms) events
           (first_held rules Holds law role rooms) (first_once rules Holds law role rooms holds);
+      holds = λ role rooms events holds.
+          (run_once_at_end rules Holds law all acts calls ends (begun role rooms) events
+          (first_held rules Holds law role rooms)
+          (first_once rules Holds law role rooms holds)).are.holds;
     }

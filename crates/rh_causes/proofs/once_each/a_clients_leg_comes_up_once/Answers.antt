@@ -15,6 +15,9 @@ returns c = record {
       (first_is config);
   new = λ config events.
       c.an_ends_leg_comes_up_once.ensures.new (first config) client.rooms events (first_is config);
+  numbers = λ config events.
+      c.an_ends_leg_comes_up_once.ensures.holds (first config) client.rooms events
+      (first_is config);
 }
 
 pub an_ends_leg_comes_up_once-requires-clause-moves :

@@ -40,19 +40,19 @@ returns c = λ lines. record {
     out_window =
         c.no_hop_on_one_leg_closes_a_node_of_a_recording.ensures.out_window before line;
   };
-  client_hops = λ before behind line is left. record {
+  client_hops = λ before behind line is. record {
     in_window =
-        c.no_hop_of_a_client_closes_a_node_of_a_recording.ensures.in_window before line left;
+        c.no_hop_of_a_client_closes_a_node_of_a_recording.ensures.in_window before line;
     in_range =
-        c.no_hop_of_a_client_closes_a_node_of_a_recording.ensures.in_range before line left;
+        c.no_hop_of_a_client_closes_a_node_of_a_recording.ensures.in_range before line;
     client_window =
-        c.no_hop_of_a_client_closes_a_node_of_a_recording.ensures.client_window before line left;
+        c.no_hop_of_a_client_closes_a_node_of_a_recording.ensures.client_window before line;
     client_range =
-        c.no_hop_of_a_client_closes_a_node_of_a_recording.ensures.client_range before line left;
+        c.no_hop_of_a_client_closes_a_node_of_a_recording.ensures.client_range before line;
     out_window =
-        c.no_hop_of_a_client_closes_a_node_of_a_recording.ensures.out_window before line left;
+        c.no_hop_of_a_client_closes_a_node_of_a_recording.ensures.out_window before line;
     out_range =
-        c.no_hop_of_a_client_closes_a_node_of_a_recording.ensures.out_range before line left;
+        c.no_hop_of_a_client_closes_a_node_of_a_recording.ensures.out_range before line;
   };
   once = c.a_recording_reports_a_node_closed_once.ensures lines;
   named = c.an_end_of_a_recording_names_its_cause.ensures lines;

@@ -19,52 +19,58 @@ one_window config = λ m n. refl
 
 pub returns : goal.returns
 returns c = record {
-  in_window = λ before line left k n reached edge told.
+  in_window = λ before line k n reached edge told.
       let why = cause.WindowExceeded (ci n) reached edge in
       of_recording_apart (who.In k) why ⊥ (λ config range v by own change may closes.
       c.no_hop_of_a_client_closes_a_node.ensures.in_window roles.makers (roles.begun config)
       (new config) (ours config) range (one_window config) v by
       (own_distinct (happened (history_at roles.makers (roles.begun config) v by.leads).client) own)
-      change may k n reached edge closes) before line left
+      change may k n reached edge closes) before line
+      (c.cookies_of_a_recording_are_left.ensures before line)
       (c.each_close_of_a_recording_shows.ensures before line (who.In k) why told);
-  in_range = λ before line left k n command value told.
+  in_range = λ before line k n command value told.
       let why = cause.OutOfRange (ci n) command value in
       of_recording_apart (who.In k) why ⊥ (λ config range v by own change may closes.
       c.no_hop_of_a_client_closes_a_node.ensures.in_range roles.makers (roles.begun config)
       (new config) (ours config) range (one_window config) v by
       (own_distinct (happened (history_at roles.makers (roles.begun config) v by.leads).client) own)
-      change may k n command value closes) before line left
+      change may k n command value closes) before line
+      (c.cookies_of_a_recording_are_left.ensures before line)
       (c.each_close_of_a_recording_shows.ensures before line (who.In k) why told);
-  client_window = λ before line left n reached edge told.
+  client_window = λ before line n reached edge told.
       let why = cause.WindowExceeded (co n) reached edge in
       of_recording_apart who.Client why ⊥ (λ config range v by own change may closes.
       c.no_hop_of_a_client_closes_a_node.ensures.client_window roles.makers (roles.begun config)
       (new config) (ours config) range (one_window config) v by
       (own_distinct (happened (history_at roles.makers (roles.begun config) v by.leads).client) own)
-      change may n reached edge closes) before line left
+      change may n reached edge closes) before line
+      (c.cookies_of_a_recording_are_left.ensures before line)
       (c.each_close_of_a_recording_shows.ensures before line who.Client why told);
-  client_range = λ before line left n command value told.
+  client_range = λ before line n command value told.
       let why = cause.OutOfRange (co n) command value in
       of_recording_apart who.Client why ⊥ (λ config range v by own change may closes.
       c.no_hop_of_a_client_closes_a_node.ensures.client_range roles.makers (roles.begun config)
       (new config) (ours config) range (one_window config) v by
       (own_distinct (happened (history_at roles.makers (roles.begun config) v by.leads).client) own)
-      change may n command value closes) before line left
+      change may n command value closes) before line
+      (c.cookies_of_a_recording_are_left.ensures before line)
       (c.each_close_of_a_recording_shows.ensures before line who.Client why told);
-  out_window = λ before line left k n reached edge told.
+  out_window = λ before line k n reached edge told.
       let why = cause.WindowExceeded (co n) reached edge in
       of_recording_apart (who.Out k) why ⊥ (λ config range v by own change may closes.
       c.no_hop_of_a_client_closes_a_node.ensures.out_window roles.makers (roles.begun config)
       (new config) (ours config) range (one_window config) v by
       (own_distinct (happened (history_at roles.makers (roles.begun config) v by.leads).client) own)
-      change may k n reached edge closes) before line left
+      change may k n reached edge closes) before line
+      (c.cookies_of_a_recording_are_left.ensures before line)
       (c.each_close_of_a_recording_shows.ensures before line (who.Out k) why told);
-  out_range = λ before line left k leg command value told.
+  out_range = λ before line k leg command value told.
       let why = cause.OutOfRange leg command value in
       of_recording_apart (who.Out k) why ⊥ (λ config range v by own change may closes.
       c.no_hop_of_a_client_closes_a_node.ensures.out_range roles.makers (roles.begun config)
       (new config) (ours config) range (one_window config) v by
       (own_distinct (happened (history_at roles.makers (roles.begun config) v by.leads).client) own)
-      change may k leg command value closes) before line left
+      change may k leg command value closes) before line
+      (c.cookies_of_a_recording_are_left.ensures before line)
       (c.each_close_of_a_recording_shows.ensures before line (who.Out k) why told);
 }

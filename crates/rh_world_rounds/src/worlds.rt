@@ -38,7 +38,7 @@ use rh_traced::{a_recording_of_roles_is_known, what_is_heard_was_drawn_before};
 /// lines and half steps reach, whatever they cut, break and replace: of each packet of a
 /// replacement as many passed the ends as of the one before it, or one less. So at most one
 /// replacement of an IN channel and one of an OUT channel is on its way.
-pub fn replacements_go_round<K>()
+pub fn replacements_of_a_world_go_round<K>()
     ensures { (m : Makers K InProxy OutProxy) (w : World K ClientRole Server InProxy OutProxy)
         → IsNew w → (ours : AreOurs m w.company w.cast) → AreInRange (numbers_of ours)
         → (v : World K ClientRole Server InProxy OutProxy) (by : ByChanges rules m deeds w v)

@@ -20,16 +20,20 @@ use Rattle.rh_proxy_counts.specs.InCounts.{PutsForWhatCame}
 use Rattle.rh_proxy_counts.specs.OutCounts.{ForwardsWhatCame, OpensWhatCame}
 use Rattle.rh_client_hops.proofs.Joined.{AreAlone, Reads, all, joined_at}
 use Rattle.rh_rounds.proofs.Rounding.{AreCounted, go_round}
-use Rattle.rh_rounds.proofs.worlds.replacements_go_round.Goals as goal
+use Rattle.rh_world_rounds.proofs.Same.{same_legs, same_passages}
+use Rattle.rh_nodes.specs.Readers.{reader_of}
+use Rattle.rh_world_rounds.proofs.worlds.replacements_of_a_world_go_round.Goals as goal
 
 pub returns : goal.returns
 returns g c m w new ours ranges v by =
     let flowing = (law m w new ours ranges).flowing v by in (
       flowing,
-      go_round v.readers (all reads m w v ours (history_at m w v by.leads) flowing)
+      go_round (reader_of v.readers)
+          (same_passages (all reads m w v ours (history_at m w v by.leads) flowing))
+          (same_legs v.readers (all reads m w v ours (history_at m w v by.leads) flowing)
           (joined_at reads m w ours (law m w new ours ranges) (alone m w) v
           (history_at m w v by.leads) flowing
-          ((law m w new ours ranges).known v by.leads).traced)
+          ((law m w new ours ranges).known v by.leads).traced))
           (counted m w v ours (history_at m w v by.leads) flowing),
     )
   where
@@ -60,7 +64,7 @@ returns g c m w new ours ranges v by =
         (w v : World g.row.K.Denot ClientRole Server InProxy OutProxy)
         (ours : AreOurs m w.company w.cast) (h : History)
         (flowing : IsFlowing (numbers_of ours) w v h)
-        → AreCounted (all reads m w v ours h flowing)
+        → AreCounted (same_passages (all reads m w v ours h flowing))
     counted m w v ours h flowing =
         let client = flowing.flows.client in
         let server = flowing.flows.server in
