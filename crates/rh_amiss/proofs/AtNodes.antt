@@ -1,6 +1,6 @@
 -- a byte that closes a node of a world since what came is amiss: at the moment before it, the role
 -- of the node refuses the next message that was put at the other end of the leg
-use Rattle.std.proofs.Common.{◌≡◌, ℕ, List, [], ◌∷◌, ◌++◌, inl, inr, refl, sym, ap, ◌∙◌, subst}
+use Rattle.std.proofs.Common.{◌≡◌, ℕ, List, [], inl, inr, refl, sym, ap, ◌∙◌, subst}
 use Rattle.std.specs.Prelude.{Some}
 use Rattle.std.specs.List.{AllByRecursion}
 use Rattle.std.specs.declared.option.Option.{Option}
@@ -28,12 +28,10 @@ use Rattle.rh_nodes.specs.declared.event.Event.TheVariants.{Comes}
 use Rattle.rh_nodes.specs.declared.place.Place.TheVariants.{Here}
 use Rattle.rh_nodes.specs.Opening.{Makers}
 use Rattle.rh_nodes.specs.Readers.{reader_of}
-use Rattle.rh_nodes.specs.Wires.{receiver, sender}
+use Rattle.rh_nodes.specs.Wires.{receiver}
 use Rattle.rh_nodes.specs.World.{World, at}
 use Rattle.rh_client.specs.declared.state.ClientRole.{ClientRole}
-use Rattle.rh_client.specs.Client as client
 use Rattle.rh_client.specs.Order.{AreAllowedMoves, client_moved}
-use Rattle.rh_client.specs.State as client_state
 use Rattle.rh_inproxy.specs.declared.state.InProxyConfig.{InProxyConfig}
 use Rattle.rh_inproxy.specs.Machine as in_proxy
 use Rattle.rh_inproxy.specs.State.{InProxy}
@@ -45,15 +43,14 @@ use Rattle.rh_outproxy.specs.OutProxy.{OutProxy, new_proxy}
 use Rattle.rh_server.specs.Servers as server
 use Rattle.rh_server.specs.States.{Server}
 use Rattle.rh_causes.specs.Closings.{ClosesWith}
-use Rattle.rh_ends_begin.specs.Begins.{Asks, IsRequestOf}
-use Rattle.rh_history.specs.Carried.{AreAccepted, AreAcceptedAtEnd, ComesUpOnce, ComesUpOnceAtEnd, drawn_by, end_node, happened, heard_on}
+use Rattle.rh_ends_begin.specs.Begins.{Asks}
+use Rattle.rh_history.specs.Carried.{AreAccepted, AreAcceptedAtEnd, ComesUpOnce, ComesUpOnceAtEnd, happened, heard_on}
 use Rattle.rh_history.specs.Changes.{IsFed, MayChange}
 use Rattle.rh_history.specs.Histories.{in_place, out_place}
-use Rattle.rh_moments.specs.Expecting.{HasNoPingFirst, IsAmiss}
-use Rattle.rh_passages.specs.Counted.{packets}
+use Rattle.rh_moments.specs.Expecting.{IsAmiss}
 use Rattle.rh_proxies_begin.specs.Pipes.{in_pipe, out_pipe}
 use Rattle.rh_down.specs.Down as down
-use Rattle.rh_reading.specs.Reading.{IsWholeText, messages_read}
+use Rattle.rh_reading.specs.Reading.{IsWholeText}
 use Rattle.rh_streams.specs.Streams.{HasPipes, NeverRefuses, StaysUnused, StaysUnusedAtEnd}
 use Rattle.rh_traced.specs.Cookies.{ByChanges}
 use Rattle.rh_traced.specs.Ours.{AreOurs, deeds, rules}
@@ -63,15 +60,13 @@ use Rattle.rh_honest.proofs.Fed.{node_reads, reads_on}
 use Rattle.rh_hops.proofs.Moment.{Laws, NodeLaws}
 use Rattle.rh_hops.proofs.Stopping.{Readings}
 use Rattle.rh_client_hops.proofs.Joined.{Reads}
-use Rattle.rh_client_hops.proofs.Routes.{put_by}
 use Rattle.rh_amiss.specs.Amiss.{AmissNext, amiss_by}
 use Rattle.rh_amiss.proofs.Bytes.{HaveNames}
 use Rattle.rh_amiss.proofs.Known.{KnowsLegs, KnowsLegsAtEnd, end_knows, node_knows}
-use Rattle.rh_amiss.proofs.Moments.{AllFlow, AmissThen, OfStreams, client_then, fed_bytes, flows, in_then, once, out_then, passages, put_there, server_then, story, traced, turns, world}
+use Rattle.rh_amiss.proofs.Moments.{AllFlow, AmissThen, OfStreams, fed_bytes, flows, in_then, once, out_then, passages, put_there, server_then, story, traced, turns, world}
 use Rattle.rh_amiss.proofs.Next.{KnowsEnd, amiss_next}
 use Rattle.rh_amiss.proofs.Pings.{IsHead}
 use Rattle.rh_amiss.proofs.Sources.{leg_pinged}
-use Rattle.rh_amiss.proofs.Stops.{PingsFirst}
 
 -- ---- the laws that this stands on
 

@@ -1,6 +1,6 @@
 -- what a node that goes on knows of a leg whose end it has: the leg was up, and the end's count is
 -- of the packets that came there
-use Rattle.std.proofs.Common.{◌≡◌, ◌⊎◌, inl, inr, ℕ, List, [], ◌∷◌, ◌++◌, Bool, true, false, ◌||◌, Some, None, refl, sym, ap, ◌∙◌, subst}
+use Rattle.std.proofs.Common.{◌≡◌, ◌⊎◌, inl, inr, ℕ, List, [], ◌∷◌, ◌++◌, Bool, true, false, ◌||◌, Some, refl, sym, ap, ◌∙◌, subst}
 use Rattle.std.specs.declared.option.Option.{Option}
 use Rattle.std.proofs.lemmas.Bool.{true≢false}
 use Rattle.rh_rts.specs.declared.command.Cookie.{Cookie}
@@ -12,7 +12,7 @@ use Rattle.rh_shell.specs.Moves.{Move, Passage, end_started}
 use Rattle.rh_shell.specs.Moving.{ComesUp, EndEvent, Event, Happens, IsClosed, IsGiven, IsRecycled, IsTaken, Hears, Ends, Breaks, Draws, Ticks, after_end_event, after_end_events, after_event, after_events}
 use Rattle.rh_shell.specs.NearEnds.{NearEnd, is_over}
 use Rattle.rh_shell.specs.Rules.{Acts, Message, Rules}
-use Rattle.rh_shell.specs.Shells.{Shell, begun, end_at, may_up, same_leg}
+use Rattle.rh_shell.specs.Shells.{Shell, begun, end_at, may_up}
 use Rattle.rh_history.specs.Carried.{AreAccepted, AreAcceptedAtEnd, ComesUpOnce, ComesUpOnceAtEnd, IsAccepted, came_up, end_drawn_on, drawn_on, happened, heard_on, is_up_of}
 use Rattle.rh_history.proofs.Runs.{end_events_append, events_append}
 use Rattle.rh_causes.specs.Once.{WasUp}
@@ -193,32 +193,32 @@ module _ {S : Type 0} (rules : Rules S) (start : Shell S) (leg : Leg) where
 module _ {S : Type 0} (rules : Rules S) (first : S) (rooms : Rooms) (pipe : Leg → Option Pipe)
     (has : HasPipes rules first pipe) (unused : StaysUnused rules first)
     (once : ComesUpOnce rules (begun first rooms)) (legs : KnowsLegs rules (begun first rooms))
-    where
-  pub node_knows : (events : List Event) → AreAccepted rules (begun first rooms) events
-      → HearsInTurn events → (leg : Leg) (end : NearEnd)
-      → (let node = after_events rules (begun first rooms) events in
-      node.course ≡ Going → end_at node leg ≡ Some end
-      → KnowsEnd rules node.role (pipe leg) leg (heard_on leg events) end)
-  node_knows events accepted turn leg end going at =
-      knows_by rules (pipe leg) leg (RefusesInTurn rules first pipe leg) (Unit {0}) ran.passage
-      ran.moves (after_events rules (begun first rooms) events) (heard_on leg events)
-      (drawn_on rules (begun first rooms) leg events) (came_up leg events) ran.role (ran.kept leg)
-      end going at (was_up_by rules (begun first rooms) leg legs [] events (begun first rooms) refl
-      accepted)
-    where
-      ran : nodes.RanTo rules first rooms pipe has unused once
-          (after_events rules (begun first rooms) events) events
-      ran =
-          nodes.run rules first rooms pipe has unused once [] events (begun first rooms) refl tt
-          (ran_none rules pipe (nodes.Sound rules first rooms pipe has unused once) (Unit {0})
-          (nodes.anyhow rules first rooms pipe has unused once)
-          (nodes.IsReached rules first rooms pipe has unused once) first rooms (record {
-            allowed = tt;
-            reached = refl;
-            in_turn = tt;
-            stages = refl;
-            counted = tt;
-          })) accepted turn
+  where
+    pub node_knows : (events : List Event) → AreAccepted rules (begun first rooms) events
+        → HearsInTurn events → (leg : Leg) (end : NearEnd)
+        → (let node = after_events rules (begun first rooms) events in
+        node.course ≡ Going → end_at node leg ≡ Some end
+        → KnowsEnd rules node.role (pipe leg) leg (heard_on leg events) end)
+    node_knows events accepted turn leg end going at =
+        knows_by rules (pipe leg) leg (RefusesInTurn rules first pipe leg) (Unit {0}) ran.passage
+        ran.moves (after_events rules (begun first rooms) events) (heard_on leg events)
+        (drawn_on rules (begun first rooms) leg events) (came_up leg events) ran.role (ran.kept leg)
+        end going at (was_up_by rules (begun first rooms) leg legs [] events (begun first rooms) refl
+        accepted)
+      where
+        ran : nodes.RanTo rules first rooms pipe has unused once
+            (after_events rules (begun first rooms) events) events
+        ran =
+            nodes.run rules first rooms pipe has unused once [] events (begun first rooms) refl tt
+            (ran_none rules pipe (nodes.Sound rules first rooms pipe has unused once) (Unit {0})
+            (nodes.anyhow rules first rooms pipe has unused once)
+            (nodes.IsReached rules first rooms pipe has unused once) first rooms (record {
+              allowed = tt;
+              reached = refl;
+              in_turn = tt;
+              stages = refl;
+              counted = tt;
+            })) accepted turn
 
 -- ---- an end
 

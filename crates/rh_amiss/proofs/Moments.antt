@@ -37,7 +37,7 @@ use Rattle.rh_server.specs.States.{Server}
 use Rattle.rh_causes.specs.Closings.{ClosesWith}
 use Rattle.rh_history.specs.Carried.{IsTraced, LegsComeUpOnce, drawn_by, end_node, events_of, happened, heard_on}
 use Rattle.rh_history.specs.Changes.{Change, IsFed, MayChange, changed}
-use Rattle.rh_history.specs.Histories.{History, IsRun, all_noted, in_place, noted, nothing, out_place}
+use Rattle.rh_history.specs.Histories.{History, IsRun, in_place, noted, nothing, out_place}
 use Rattle.rh_history.proofs.Appended.{drawn_append, end_drawn_append, happened_append}
 use Rattle.rh_history.proofs.Working.{works_more}
 use Rattle.rh_proxies_begin.specs.Pipes as pipes

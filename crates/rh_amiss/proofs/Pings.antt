@@ -1,12 +1,11 @@
 -- a Ping that is whole by a byte of what was put, where no packet was read before, is the first
 -- packet that was put
-use Rattle.std.proofs.Common.{◌≡◌, ◌⊎◌, ◌<◌, ◌≤◌, inl, inr, ℕ, Bool, true, false, if◌then◌else◌, nat_lt, List, [], ◌∷◌, ◌++◌, ◌+◌, length, take, drop, get_or, Ok, arith, refl, sym, ap, ◌∙◌, subst}
-use Rattle.std.specs.Prelude.{Some, None, slice_index, ◌==◌, ◌&&◌}
+use Rattle.std.proofs.Common.{◌≡◌, ◌⊎◌, ◌<◌, ◌≤◌, inl, inr, ℕ, Bool, true, false, if◌then◌else◌, nat_lt, List, [], ◌∷◌, ◌++◌, length, take, drop, get_or, arith, refl, sym, ap, ◌∙◌, subst}
+use Rattle.std.specs.Prelude.{Some, None, ◌&&◌}
 use Rattle.std.specs.List.{AllByRecursion}
 use Rattle.std.specs.declared.option.Option.{Option}
-use Rattle.std.specs.declared.result.Result.{Result}
 use Rattle.std.proofs.lemmas.Bool.Decides.{nat_tests}
-use Rattle.std.proofs.lemmas.List.{append_assoc, append-nil, append_cancel_left, length-append, take-append-le, take_at}
+use Rattle.std.proofs.lemmas.List.{append_assoc, append-nil, length-append, take-append-le, take_at}
 use Rattle.std.proofs.lemmas.Bool.{and_parts}
 use mathlib.Core.List.{IsPrefix}
 use Rattle.rh_http.specs.declared.refusal.Refusal.{Refusal}
@@ -15,13 +14,12 @@ use Rattle.rh_http.specs.Texts.{refusal_text}
 use Rattle.rh_order.proofs.ByNumber.{by_test}
 use Rattle.rh_order.proofs.Prefixes.{prefix_trans}
 use Rattle.rh_pdu.specs.Frames.{IsFrame}
-use Rattle.rh_pdu.specs.Header.{frag_of, head_fault, rts}
+use Rattle.rh_pdu.specs.Header.{frag_of, head_fault}
 use Rattle.rh_pdu.proofs.Headers.{frag_same, head_same}
 use Rattle.rh_sig.specs.declared.name.Pipe.{Pipe}
 use Rattle.rh_sig.specs.declared.name.Pipe.TheVariants.{IsU, OsU}
 use Rattle.rh_sig.specs.declared.named.Named.{Named}
 use Rattle.rh_sig.specs.declared.named.Named.TheVariants.{Ping}
-use Rattle.rh_shell.specs.declared.reading.PacketFault.{PacketFault}
 use Rattle.rh_shell.specs.declared.stage.Stage.{Stage}
 use Rattle.rh_shell.specs.declared.stage.Stage.TheVariants as stage
 use Rattle.rh_shell.specs.Carrying.{message_in, named_messages, spelled}
@@ -32,7 +30,6 @@ use Rattle.rh_shell.specs.Readings.{packet_of}
 use Rattle.rh_shell.specs.Rules.{Message, Text, Pdu, Packet, spell}
 use Rattle.rh_legible.specs.Legible.{IsTaken, ReadsBack, taken_of}
 use Rattle.rh_passages.specs.Counted.{packets}
-use Rattle.rh_passages.specs.Passing.{count_of}
 use Rattle.rh_reading.specs.Reading.{AreNoTexts, Begins, BeginsBy, BeginsWith, IsWholeText, Reading, begin, frame_read, messages_from, messages_read, read_by, read_byte, reading, reading_after, text_read}
 use Rattle.rh_streams.proofs.Bytes.{after_append, from_append}
 use Rattle.rh_streams.specs.Streams.{IsDrawn}

@@ -1,5 +1,5 @@
 -- what a Ping that is heard on a leg towards the server says of what was put at its other end
-use Rattle.std.proofs.Common.{◌≡◌, ℕ, List, [], ◌∷◌, ◌++◌, true, inl, inr}
+use Rattle.std.proofs.Common.{◌≡◌, ℕ, List, [], ◌∷◌, ◌++◌}
 use Rattle.std.specs.Prelude.{Some}
 use Rattle.std.specs.List.{AllByRecursion}
 use Rattle.std.specs.declared.option.Option.{Option}
@@ -38,7 +38,7 @@ use Rattle.rh_history.specs.Carried.{drawn_by, drawn_on, end_drawn_on, end_node}
 use Rattle.rh_history.specs.Histories.{History}
 use Rattle.rh_moments.specs.Expecting.{HasNoPingFirst}
 use Rattle.rh_passages.specs.Counted.{packets}
-use Rattle.rh_reading.specs.Reading.{AreNoTexts, Begins, IsNoText, messages_read}
+use Rattle.rh_reading.specs.Reading.{AreNoTexts, IsNoText, messages_read}
 use Rattle.rh_streams.proofs.LegLogs.{on_leg}
 use Rattle.rh_traced.specs.Ours.{AreOurs, deeds, rules}
 use Rattle.rh_fifo.specs.Flows.{IsFlowing, numbers_of}
