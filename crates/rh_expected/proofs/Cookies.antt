@@ -15,8 +15,6 @@ use Rattle.rh_shell.specs.declared.answers.Refused.{Refused}
 use Rattle.rh_shell.specs.declared.answers.Refused.TheVariants as refused
 use Rattle.rh_shell.specs.Moves.{AreAllowedAtEnd, EndMove, EndPassage, Passage, all_end_moved, end_started}
 use Rattle.rh_shell.specs.Rules.{Message, Text, Pdu, Packet}
-use Rattle.rh_shell.specs.Wires.{of_leg}
-use Rattle.rh_reading.specs.Reading.{all_read_of}
 use Rattle.rh_nodes.specs.declared.event.Event.{Event}
 use Rattle.rh_nodes.specs.declared.event.Event.TheVariants.{Comes}
 use Rattle.rh_nodes.specs.Company as company
@@ -42,7 +40,7 @@ use Rattle.rh_hops.proofs.Moment.{Laws, NodeLaws}
 use Rattle.rh_hops.proofs.Stopping.{Readings}
 use Rattle.rh_client_hops.proofs.Joined.{Reads}
 use Rattle.rh_amiss.specs.Amiss.{RefusesBy}
-use Rattle.rh_amiss.proofs.Moments.{AllFlow, OfStreams, client_then, flows, passages}
+use Rattle.rh_amiss.proofs.Moments.{AllFlow, OfStreams, client_then, flows}
 use Rattle.rh_amiss.proofs.Stops.{PingsFirst, RefusesAhead}
 
 -- ---- the laws that this stands on

@@ -1,11 +1,12 @@
 -- what the roles expect of each other at the moments of a virtual connection (MS-RPCH 3.2; profile)
-use Rattle.std.specs.Prelude.{◌≡◌, ℕ}
+use Rattle.std.specs.Prelude.{◌≡◌, ◌≤◌, ℕ}
+use Rattle.rh_line.specs.declared.leg.Leg.{Leg}
 use Rattle.rh_shell.specs.Wires.{of_leg}
 use Rattle.rh_nodes.specs.Company.{Company}
 use Rattle.rh_nodes.specs.Opening.{Makers}
 use Rattle.rh_nodes.specs.World.{World}
 use Rattle.rh_client.specs.declared.state.ClientRole.{ClientRole}
-use Rattle.rh_client.specs.State.{ci}
+use Rattle.rh_client.specs.State.{ci, co}
 use Rattle.rh_inproxy.specs.Machine as in_proxy
 use Rattle.rh_inproxy.specs.State.{InProxy}
 use Rattle.rh_outproxy.specs.Machine as out_proxy
@@ -19,7 +20,7 @@ use Rattle.rh_fifo.specs.Flows as fifo
 use Rattle.rh_fifo.specs.Flows.{IsFlowing}
 use Rattle.rh_hops.specs.Hops.{is_leg, os_leg}
 use Rattle.rh_moments.specs.Expecting.{Expects, HasNoPingFirst}
-use Rattle.rh_moments.specs.Moments.{IsMoment, Moves, Numbers, client_behind, in_behind, out_behind, server_behind}
+use Rattle.rh_moments.specs.Moments.{Moves, Numbers, client_behind, in_behind, out_behind, server_behind}
 
 -- ---- the moment of a world
 
@@ -45,28 +46,65 @@ moves_of flowing = record {
 
 -- ---- what the roles expect at each
 
--- an in proxy what the client put on a ci leg that it reads, and the server on its is leg; and the
--- client puts no Ping first
-pub record InProxiesExpect (all : Numbers) : Type 0 where
-  pub client : (reader : ℕ → ℕ) (moves : Moves) → IsMoment all reader moves → (m n : ℕ)
-      → reader n ≡ m → Expects in_proxy.rules (in_behind all moves m) (ci n)
-      (all_read_of (of_leg (ci n) (client_behind all moves).passage.put))
-  pub first : (reader : ℕ → ℕ) (moves : Moves) → IsMoment all reader moves → (n : ℕ)
-      → HasNoPingFirst (of_leg (ci n) (client_behind all moves).passage.put)
-  pub server : (reader : ℕ → ℕ) (moves : Moves) → IsMoment all reader moves → (m : ℕ)
-      → Expects in_proxy.rules (in_behind all moves m) (is_leg m)
-      (all_read_of (of_leg (is_leg m) (server_behind all moves).passage.put))
+-- what holds of moves, by the in proxies that read the IN channels of the client
+abbrev pub Facts : Type 1
+Facts = (ℕ → ℕ) → Moves → Type 0
 
--- an out proxy what the server put on its os leg
-pub record OutProxiesExpect (all : Numbers) : Type 0 where
-  pub server : (reader : ℕ → ℕ) (moves : Moves) → IsMoment all reader moves → (n : ℕ)
-      → Expects out_proxy.rules (out_behind all moves n) (os_leg n)
-      (all_read_of (of_leg (os_leg n) (server_behind all moves).passage.put))
+-- where that holds: an in proxy expects what the client put on a ci leg that it reads
+abbrev pub InExpectsClient : Numbers → Facts → Type 0
+InExpectsClient all Holds =
+    (reader : ℕ → ℕ) (moves : Moves) → Holds reader moves → (m n : ℕ) → reader n ≡ m → 1 ≤ m
+    → Expects in_proxy.rules (in_behind all moves m) (ci n)
+    (all_read_of (of_leg (ci n) (client_behind all moves).passage.put))
 
--- the server what an out proxy put there, which puts no Ping first
-pub record ServersExpect (all : Numbers) : Type 0 where
-  pub outs : (reader : ℕ → ℕ) (moves : Moves) → IsMoment all reader moves → (n : ℕ)
-      → Expects server.rules (server_behind all moves).passage (os_leg n)
-      (all_read_of (of_leg (os_leg n) (out_behind all moves n).put))
-  pub first : (reader : ℕ → ℕ) (moves : Moves) → IsMoment all reader moves → (n : ℕ)
-      → HasNoPingFirst (of_leg (os_leg n) (out_behind all moves n).put)
+-- and what the server put on its is leg
+abbrev pub InExpectsServer : Numbers → Facts → Type 0
+InExpectsServer all Holds =
+    (reader : ℕ → ℕ) (moves : Moves) → Holds reader moves → (m : ℕ)
+    → Expects in_proxy.rules (in_behind all moves m) (is_leg m)
+    (all_read_of (of_leg (is_leg m) (server_behind all moves).passage.put))
+
+-- an out proxy expects what the client put on its co leg
+abbrev pub OutExpectsClient : Numbers → Facts → Type 0
+OutExpectsClient all Holds =
+    (reader : ℕ → ℕ) (moves : Moves) → Holds reader moves → (n : ℕ)
+    → Expects out_proxy.rules (out_behind all moves n) (co n)
+    (all_read_of (of_leg (co n) (client_behind all moves).passage.put))
+
+-- and what the server put on its os leg
+abbrev pub OutExpectsServer : Numbers → Facts → Type 0
+OutExpectsServer all Holds =
+    (reader : ℕ → ℕ) (moves : Moves) → Holds reader moves → (n : ℕ)
+    → Expects out_proxy.rules (out_behind all moves n) (os_leg n)
+    (all_read_of (of_leg (os_leg n) (server_behind all moves).passage.put))
+
+-- the server expects what an in proxy put to it
+abbrev pub ServerExpectsIn : Numbers → Facts → Type 0
+ServerExpectsIn all Holds =
+    (reader : ℕ → ℕ) (moves : Moves) → Holds reader moves → (m : ℕ)
+    → Expects server.rules (server_behind all moves).passage (is_leg m)
+    (all_read_of (of_leg (is_leg m) (in_behind all moves m).put))
+
+-- and what an out proxy put to it
+abbrev pub ServerExpectsOut : Numbers → Facts → Type 0
+ServerExpectsOut all Holds =
+    (reader : ℕ → ℕ) (moves : Moves) → Holds reader moves → (n : ℕ)
+    → Expects server.rules (server_behind all moves).passage (os_leg n)
+    (all_read_of (of_leg (os_leg n) (out_behind all moves n).put))
+
+-- ---- no Ping goes first towards the server
+
+abbrev pub ClientPutsNoPingFirst : Numbers → Facts → Type 0
+ClientPutsNoPingFirst all Holds =
+    (reader : ℕ → ℕ) (moves : Moves) → Holds reader moves → (leg : Leg)
+    → HasNoPingFirst (of_leg leg (client_behind all moves).passage.put)
+
+abbrev pub InPutsNoPingFirst : Numbers → Facts → Type 0
+InPutsNoPingFirst all Holds =
+    (reader : ℕ → ℕ) (moves : Moves) → Holds reader moves → (m : ℕ)
+    → HasNoPingFirst (of_leg (is_leg m) (in_behind all moves m).put)
+
+abbrev pub OutPutsNoPingFirst : Numbers → Facts → Type 0
+OutPutsNoPingFirst all Holds =
+    (reader : ℕ → ℕ) (moves : Moves) → Holds reader moves → (n : ℕ)
+    → HasNoPingFirst (of_leg (os_leg n) (out_behind all moves n).put)
