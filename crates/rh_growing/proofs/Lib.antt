@@ -1,0 +1,4 @@
+pub mod Based
+pub mod Nodes
+pub mod Ends
+pub mod Walks

@@ -1,0 +1,8 @@
+mod Lists
+mod Legal
+mod Once
+mod Family
+mod Made
+mod Joins
+mod Pasts
+mod Moments

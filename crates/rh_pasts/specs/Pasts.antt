@@ -1,0 +1,48 @@
+-- the moment of a virtual connection at which a world of roles is (MS-RPCH 3.2; profile)
+use Rattle.rh_nodes.specs.Company.{Company}
+use Rattle.rh_nodes.specs.Opening.{Makers}
+use Rattle.rh_nodes.specs.Readers.{reader_of}
+use Rattle.rh_nodes.specs.World.{World}
+use Rattle.rh_client.specs.declared.state.ClientRole.{ClientRole}
+use Rattle.rh_inproxy.specs.State.{InProxy}
+use Rattle.rh_outproxy.specs.OutProxy.{OutProxy}
+use Rattle.rh_server.specs.States.{Server}
+use Rattle.rh_history.specs.Carried.{happened}
+use Rattle.rh_history.specs.Histories.{History}
+use Rattle.rh_traced.specs.Cookies.{ByChanges}
+use Rattle.rh_traced.specs.Ours.{AreOurs, deeds, rules}
+use Rattle.rh_ordered.specs.Premises.{history_at}
+use Rattle.rh_fifo.specs.Flows as fifo
+use Rattle.rh_fifo.specs.Flows.{IsFlowing, numbers_of}
+use Rattle.rh_client_hops.specs.Premises.{AreDistinct}
+use Rattle.rh_moments.specs.Moments.{IsMoment, Moves, Numbers}
+
+-- the numbers with which the roles of a world were made
+abbrev pub numbers : {K : Type 0} {m : Makers K InProxy OutProxy}
+    {first : Company ClientRole Server InProxy OutProxy} {cast : K} → AreOurs m first cast → Numbers
+numbers ours = record {
+  client = ours.config;
+  window = ours.window;
+  ins = ours.in_config;
+  outs = ours.out_config;
+}
+
+-- the moves by which its streams lead
+abbrev pub moves_of : {K : Type 0} {all : fifo.Numbers}
+    {w v : World K ClientRole Server InProxy OutProxy} {h : History} → IsFlowing all w v h → Moves
+moves_of flowing = record {
+  client = flowing.flows.client.leads.moves;
+  server = flowing.flows.server.leads.moves;
+  ins = λ m. (flowing.flows.ins m).leads.moves;
+  outs = λ n. (flowing.flows.outs n).leads.moves;
+}
+
+-- each node has its stream, by whose moves the world is at a moment where no two legs of one kind
+-- came up at the client under one cookie
+pub record HasMoment {K : Type 0} (m : Makers K InProxy OutProxy)
+    (w : World K ClientRole Server InProxy OutProxy) (ours : AreOurs m w.company w.cast)
+    (v : World K ClientRole Server InProxy OutProxy) (by : ByChanges rules m deeds w v) : Type 0
+  where
+    pub flowing : IsFlowing (numbers_of ours) w v (history_at m w v by.leads)
+    pub moment : AreDistinct (happened (history_at m w v by.leads).client)
+        → IsMoment (numbers ours) (reader_of v.readers) (moves_of flowing)
