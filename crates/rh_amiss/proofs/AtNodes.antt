@@ -18,7 +18,6 @@ use Rattle.rh_shell.specs.declared.answers.Refused.{Refused}
 use Rattle.rh_shell.specs.declared.course.Course.TheVariants.{Going}
 use Rattle.rh_shell.specs.Intakes.{is_whole_head}
 use Rattle.rh_shell.specs.Moves.{EndMove, EndPassage, Passage}
-use Rattle.rh_shell.specs.Moving.{after_end_events, after_events}
 use Rattle.rh_shell.specs.NearEnds.{NearEnd}
 use Rattle.rh_shell.specs.Rules.{Message, Text, Pdu, Packet, Rules}
 use Rattle.rh_shell.specs.Shells.{Shell, begun, end_at}
@@ -44,26 +43,28 @@ use Rattle.rh_server.specs.Servers as server
 use Rattle.rh_server.specs.States.{Server}
 use Rattle.rh_causes.specs.Closings.{ClosesWith}
 use Rattle.rh_ends_begin.specs.Begins.{Asks}
-use Rattle.rh_history.specs.Carried.{AreAccepted, AreAcceptedAtEnd, ComesUpOnce, ComesUpOnceAtEnd, happened, heard_on}
+use Rattle.rh_history.specs.Carried.{IsTraced, LegsComeUpOnce, AreAccepted, AreAcceptedAtEnd, ComesUpOnce, ComesUpOnceAtEnd, happened, heard_on}
 use Rattle.rh_history.specs.Changes.{IsFed, MayChange}
-use Rattle.rh_history.specs.Histories.{in_place, out_place}
+use Rattle.rh_history.specs.Histories.{History, in_place, out_place}
 use Rattle.rh_moments.specs.Expecting.{IsAmiss}
 use Rattle.rh_proxies_begin.specs.Pipes.{in_pipe, out_pipe}
 use Rattle.rh_down.specs.Down as down
 use Rattle.rh_reading.specs.Reading.{IsWholeText}
 use Rattle.rh_streams.specs.Streams.{HasPipes, NeverRefuses, StaysUnused, StaysUnusedAtEnd}
 use Rattle.rh_traced.specs.Cookies.{ByChanges}
+use Rattle.rh_traced.specs.Turns.{HearInTurn}
 use Rattle.rh_traced.specs.Ours.{AreOurs, deeds, rules}
-use Rattle.rh_fifo.specs.Flows.{numbers_of}
+use Rattle.rh_fifo.specs.Flows.{IsFlowing, numbers_of}
 use Rattle.rh_honest.specs.Honest.{read_on, well_on}
 use Rattle.rh_honest.proofs.Fed.{node_reads, reads_on}
 use Rattle.rh_hops.proofs.Moment.{Laws, NodeLaws}
 use Rattle.rh_hops.proofs.Stopping.{Readings}
 use Rattle.rh_client_hops.proofs.Joined.{Reads}
+use Rattle.rh_client_hops.proofs.Routes.{Passages}
 use Rattle.rh_amiss.specs.Amiss.{AmissNext, amiss_by}
 use Rattle.rh_amiss.proofs.Bytes.{HaveNames}
 use Rattle.rh_amiss.proofs.Known.{KnowsLegs, KnowsLegsAtEnd, end_knows, node_knows}
-use Rattle.rh_amiss.proofs.Moments.{AllFlow, AmissThen, OfStreams, fed_bytes, flows, in_then, once, out_then, passages, put_there, server_then, story, traced, turns, world}
+use Rattle.rh_amiss.proofs.Moments.{AllFlow, AmissThen, OfStreams, fed_bytes, flows, in_shell, in_then, once, out_shell, out_then, passages, put_there, server_shell, server_then, story, traced, turns, world}
 use Rattle.rh_amiss.proofs.Next.{KnowsEnd, amiss_next}
 use Rattle.rh_amiss.proofs.Pings.{IsHead}
 use Rattle.rh_amiss.proofs.Sources.{leg_pinged}
@@ -120,12 +121,45 @@ module _ {K : Type 0} (roles : RolesKnow) (law_reads : Reads) (readings : Readin
     (Holds : OfStreams (numbers_of ours) w) (flow : AllFlow m w ours Holds)
     (by : ByChanges rules m deeds w v) (leg : Leg) (dir : Dir)
     (may : (count : ℕ) → MayChange rules v (IsFed leg dir count)) where
+  -- behind so many bytes
   module _ (k : ℕ) where
-    heads : (one : Leg) → AllByRecursion IsHead (of_leg one
-        (passages law_reads readings m w v ours law Holds flow by leg dir may k).client.put)
+    abbrev pub world_then : World K ClientRole Server InProxy OutProxy
+    world_then = world law_reads readings m w v ours law Holds flow by leg dir may k
+
+    abbrev pub story_then : History
+    story_then = story law_reads readings m w v ours law Holds flow by leg dir may k
+
+    abbrev pub flows_then : IsFlowing (numbers_of ours) w world_then story_then
+    flows_then = flows law_reads readings m w v ours law Holds flow by leg dir may k
+
+    abbrev pub passages_then : Passages
+    passages_then = passages law_reads readings m w v ours law Holds flow by leg dir may k
+
+    abbrev server_node : Shell Server
+    server_node = server_shell law_reads readings m w v ours law Holds flow by leg dir may k
+
+    abbrev in_node : ℕ → Shell InProxy
+    in_node n = in_shell law_reads readings m w v ours law Holds flow by leg dir may k n
+
+    abbrev out_node : ℕ → Shell OutProxy
+    out_node n = out_shell law_reads readings m w v ours law Holds flow by leg dir may k n
+
+    -- what was put at the other end of the leg
+    abbrev pub put_then : List Message
+    put_then = put_there law_reads readings m w v ours law Holds flow by leg dir may k
+
+    traced_then : IsTraced rules m deeds w.company world_then story_then
+    traced_then = traced law_reads readings m w v ours law Holds flow by leg dir may k
+
+    turns_then : HearInTurn story_then
+    turns_then = turns law_reads readings m w v ours law Holds flow by leg dir may k
+
+    once_then : LegsComeUpOnce rules m deeds w.company world_then.cast
+    once_then = once law_reads readings m w v ours law Holds flow by leg dir may k
+
+    heads : (one : Leg) → AllByRecursion IsHead (of_leg one passages_then.client.put)
     heads one =
-        let f = (flows law_reads readings m w v ours law Holds flow by leg dir may
-        k).flows.client in
+        let f = flows_then.flows.client in
         subst (λ (p : EndPassage ClientRole). AllByRecursion IsHead (of_leg one p.passage.put))
         f.leads.reached
         (each_so (Asks ours.config one.kind) IsHead (request_whole roles ours.config one.kind)
@@ -141,21 +175,14 @@ module _ {K : Type 0} (roles : RolesKnow) (law_reads : Reads) (readings : Readin
         count node here
 
     -- at the moment before the byte
-    next : {S : Type 0} (its : Rules S) (k : ℕ) (p : Passage S) (s : Shell S)
-        (heard : List ℕ)
+    next : {S : Type 0} (its : Rules S) (k : ℕ) (p : Passage S) (s : Shell S) (heard : List ℕ)
         → ((end : NearEnd) → s.course ≡ Going → end_at s leg ≡ Some end
         → KnowsEnd its s.role (read_on leg.kind dir) leg heard end)
-        → Then its k p s heard
-        → AmissNext its p leg (read_on leg.kind dir)
-        (put_there law_reads readings m w v ours law Holds flow by leg dir may k)
+        → Then its k p s heard → AmissNext its p leg (read_on leg.kind dir) (put_then k)
     next its k p s heard knows was =
-        amiss_next its p s was.role leg (read_on leg.kind dir) r amiss
-        (put_there law_reads readings m w v ours law Holds flow by leg dir may k) heard was.byte
+        amiss_next its p s was.role leg (read_on leg.kind dir) r amiss (put_then k) heard was.byte
         knows was.stops (λ ping none first.
-        leg_pinged law_reads m w
-        (world law_reads readings m w v ours law Holds flow by leg dir may k) ours
-        (story law_reads readings m w v ours law Holds flow by leg dir may k)
-        (flows law_reads readings m w v ours law Holds flow by leg dir may k) (heads k) r
+        leg_pinged law_reads m w (world_then k) ours (story_then k) (flows_then k) (heads k) r
         was.stops.end.count heard was.byte v.readers leg dir was.drew ping none first)
 
     reads_here : node_reads ours node leg ≡ read_on leg.kind dir
@@ -163,150 +190,107 @@ module _ {K : Type 0} (roles : RolesKnow) (law_reads : Reads) (readings : Readin
         ap (λ (x : Who). node_reads ours x leg) (sym here)
         ∙ sym (reads_on ours (reader_of v.readers leg.number) leg.number leg.kind dir)
 
+    abbrev fed : List ℕ
+    fed =
+        fed_bytes law_reads readings m w v ours law Holds flow by leg dir may r named why tells
+        count node here
+
     -- an in proxy
     module _ (law_node : NodeLaws in_proxy.rules) (n : ℕ) (is : node ≡ who.In n)
         (shell : Shell InProxy) (up : ℕ) (there : in_place v.company n ≡ Here shell up)
-        (closes : ClosesWith in_proxy.rules shell (Comes leg
-        (fed_bytes law_reads readings m w v ours law Holds flow by leg dir may r named why
-        tells count node here)) why) where
+        (closes : ClosesWith in_proxy.rules shell (Comes leg fed) why) where
       in_knows : (k : ℕ) (end : NearEnd)
-          → (let story_then = (story law_reads readings m w v ours law Holds flow by leg dir may
-          k).ins n in
-          let s = after_events in_proxy.rules (begun (in_state.first (ours.in_config n)) in_proxy.rooms) story_then in
+          → (let s = in_node k n in
           s.course ≡ Going → end_at s leg ≡ Some end
-          → KnowsEnd in_proxy.rules s.role (read_on leg.kind dir) leg (heard_on leg story_then) end)
+          → KnowsEnd in_proxy.rules s.role (read_on leg.kind dir) leg
+          (heard_on leg ((story_then k).ins n)) end)
       in_knows k end going at =
-          let events = (story law_reads readings m w v ours law Holds flow by leg dir may k).ins n in
-          let made : m.in_proxy
-          (world law_reads readings m w v ours law Holds flow by leg dir may k).cast n
+          let config = ours.in_config n in
+          let events = (story_then k).ins n in
+          let made : m.in_proxy (world_then k).cast n
           ≡ begun (in_state.first (ours.in_config n)) in_proxy.rooms =
-          ap (λ (c : K). m.in_proxy c n)
-          (flows law_reads readings m w v ours law Holds flow by leg dir may k).cast ∙ ours.ins n in
-          let node_then : Shell InProxy =
-          after_events in_proxy.rules (begun (in_state.first (ours.in_config n)) in_proxy.rooms) events in
+          ap (λ (c : K). m.in_proxy c n) (flows_then k).cast ∙ ours.ins n in
           subst (λ (pipe : Option Pipe).
-          KnowsEnd in_proxy.rules node_then.role pipe leg (heard_on leg events) end)
+          KnowsEnd in_proxy.rules (in_node k n).role pipe leg (heard_on leg events) end)
           (sym (ap (λ (x : Who). node_reads ours x leg) is) ∙ reads_here)
-          (node_knows in_proxy.rules (in_state.first (ours.in_config n)) in_proxy.rooms (in_pipe (ours.in_config n)) (roles.in_pipes (ours.in_config n))
-          (roles.in_unused (ours.in_config n))
+          (node_knows in_proxy.rules (in_state.first (ours.in_config n)) in_proxy.rooms
+          (in_pipe config) (roles.in_pipes config) (roles.in_unused config)
           (subst (λ (x : Shell InProxy). ComesUpOnce in_proxy.rules x) made
-          ((once law_reads readings m w v ours law Holds flow by leg dir may k).ins n))
-          (roles.in_legs (ours.in_config n)) events
+          ((once_then k).ins n)) (roles.in_legs config) events
           (subst (λ (x : Shell InProxy). AreAccepted in_proxy.rules x events) made
-          ((traced law_reads readings m w v ours law Holds flow by leg dir may k).accepted.ins n))
-          ((turns law_reads readings m w v ours law Holds flow by leg dir may k).ins n) leg end
-          going at)
+          ((traced_then k).accepted.ins n)) ((turns_then k).ins n) leg end going at)
 
-      pub in_next : (k : ℕ) × AmissNext in_proxy.rules
-          ((passages law_reads readings m w v ours law Holds flow by leg dir may k).ins n) leg
-          (read_on leg.kind dir) (put_there law_reads readings m w v ours law Holds flow by leg dir may k)
+      pub in_next : (k : ℕ) × AmissNext in_proxy.rules ((passages_then k).ins n) leg
+          (read_on leg.kind dir) (put_then k)
       in_next =
-          let was = in_then law_reads readings m w v ours law Holds flow by leg dir may r named why
-          tells count node here law_node n is shell up there closes in (
+          let was = in_then law_reads readings m w v ours law Holds flow by leg dir may r named
+          why tells count node here law_node n is shell up there closes in (
             was.0,
-            next in_proxy.rules was.0
-                ((passages law_reads readings m w v ours law Holds flow by leg dir may was.0).ins n)
-                (after_events in_proxy.rules (begun (in_state.first (ours.in_config n)) in_proxy.rooms)
-                ((story law_reads readings m w v ours law Holds flow by leg dir may was.0).ins n))
-                (heard_on leg
-                ((story law_reads readings m w v ours law Holds flow by leg dir may was.0).ins n))
-                (in_knows was.0) was.1,
+            next in_proxy.rules was.0 ((passages_then was.0).ins n) (in_node was.0 n)
+                (heard_on leg ((story_then was.0).ins n)) (in_knows was.0) was.1,
           )
 
     -- an out proxy
     module _ (law_node : NodeLaws out_proxy.rules) (n : ℕ) (is : node ≡ who.Out n)
         (shell : Shell OutProxy) (up : ℕ) (there : out_place v.company n ≡ Here shell up)
-        (closes : ClosesWith out_proxy.rules shell (Comes leg
-        (fed_bytes law_reads readings m w v ours law Holds flow by leg dir may r named why
-        tells count node here)) why) where
+        (closes : ClosesWith out_proxy.rules shell (Comes leg fed) why) where
       out_knows : (k : ℕ) (end : NearEnd)
-          → (let story_then = (story law_reads readings m w v ours law Holds flow by leg dir may
-          k).outs n in
-          let s = after_events out_proxy.rules (begun (new_proxy (ours.out_config n)) ROOMS) story_then in
+          → (let s = out_node k n in
           s.course ≡ Going → end_at s leg ≡ Some end
-          → KnowsEnd out_proxy.rules s.role (read_on leg.kind dir) leg (heard_on leg story_then) end)
+          → KnowsEnd out_proxy.rules s.role (read_on leg.kind dir) leg
+          (heard_on leg ((story_then k).outs n)) end)
       out_knows k end going at =
-          let events = (story law_reads readings m w v ours law Holds flow by leg dir may k).outs n in
-          let made : m.out_proxy
-          (world law_reads readings m w v ours law Holds flow by leg dir may k).cast n
+          let config = ours.out_config n in
+          let events = (story_then k).outs n in
+          let made : m.out_proxy (world_then k).cast n
           ≡ begun (new_proxy (ours.out_config n)) ROOMS =
-          ap (λ (c : K). m.out_proxy c n)
-          (flows law_reads readings m w v ours law Holds flow by leg dir may k).cast ∙ ours.outs n in
-          let node_then : Shell OutProxy =
-          after_events out_proxy.rules (begun (new_proxy (ours.out_config n)) ROOMS) events in
+          ap (λ (c : K). m.out_proxy c n) (flows_then k).cast ∙ ours.outs n in
           subst (λ (pipe : Option Pipe).
-          KnowsEnd out_proxy.rules node_then.role pipe leg (heard_on leg events) end)
+          KnowsEnd out_proxy.rules (out_node k n).role pipe leg (heard_on leg events) end)
           (sym (ap (λ (x : Who). node_reads ours x leg) is) ∙ reads_here)
-          (node_knows out_proxy.rules (new_proxy (ours.out_config n)) ROOMS (down.proxy_reads (ours.out_config n)) (out_reads roles (ours.out_config n))
-          (roles.out_unused (ours.out_config n))
+          (node_knows out_proxy.rules (new_proxy (ours.out_config n)) ROOMS
+          (down.proxy_reads config) (out_reads roles config) (roles.out_unused config)
           (subst (λ (x : Shell OutProxy). ComesUpOnce out_proxy.rules x) made
-          ((once law_reads readings m w v ours law Holds flow by leg dir may k).outs n))
-          (roles.out_legs (ours.out_config n)) events
+          ((once_then k).outs n)) (roles.out_legs config) events
           (subst (λ (x : Shell OutProxy). AreAccepted out_proxy.rules x events) made
-          ((traced law_reads readings m w v ours law Holds flow by leg dir may k).accepted.outs n))
-          ((turns law_reads readings m w v ours law Holds flow by leg dir may k).outs n) leg end
-          going at)
+          ((traced_then k).accepted.outs n)) ((turns_then k).outs n) leg end going at)
 
-      pub out_next : (k : ℕ) × AmissNext out_proxy.rules
-          ((passages law_reads readings m w v ours law Holds flow by leg dir may k).outs n) leg
-          (read_on leg.kind dir) (put_there law_reads readings m w v ours law Holds flow by leg dir may k)
+      pub out_next : (k : ℕ) × AmissNext out_proxy.rules ((passages_then k).outs n) leg
+          (read_on leg.kind dir) (put_then k)
       out_next =
-          let was = out_then law_reads readings m w v ours law Holds flow by leg dir may r named why
-          tells count node here law_node n is shell up there closes in (
+          let was = out_then law_reads readings m w v ours law Holds flow by leg dir may r named
+          why tells count node here law_node n is shell up there closes in (
             was.0,
-            next out_proxy.rules was.0
-                ((passages law_reads readings m w v ours law Holds flow by leg dir may was.0).outs n)
-                (after_events out_proxy.rules (begun (new_proxy (ours.out_config n)) ROOMS)
-                ((story law_reads readings m w v ours law Holds flow by leg dir may was.0).outs n))
-                (heard_on leg
-                ((story law_reads readings m w v ours law Holds flow by leg dir may was.0).outs n))
-                (out_knows was.0) was.1,
+            next out_proxy.rules was.0 ((passages_then was.0).outs n) (out_node was.0 n)
+                (heard_on leg ((story_then was.0).outs n)) (out_knows was.0) was.1,
           )
 
     -- the server
     module _ (law_node : NodeLaws server.rules) (is : node ≡ who.Server)
-        (closes : ClosesWith server.rules v.company.server (Comes leg
-        (fed_bytes law_reads readings m w v ours law Holds flow by leg dir may r named why
-        tells count node here)) why) where
+        (closes : ClosesWith server.rules v.company.server (Comes leg fed) why) where
       server_knows : (k : ℕ) (end : NearEnd)
-          → (let story_then = (story law_reads readings m w v ours law Holds flow by leg dir may
-          k).server in
-          let s = after_end_events server.rules server.acts
-          (begun (server.first ours.window) server.rooms) story_then in
+          → (let s = server_node k in
           s.course ≡ Going → end_at s leg ≡ Some end
           → KnowsEnd server.rules s.role (read_on leg.kind dir) leg
-          (heard_on leg (happened story_then)) end)
+          (heard_on leg (happened (story_then k).server)) end)
       server_knows k end going at =
-          let events = (story law_reads readings m w v ours law Holds flow by leg dir may k).server in
-          let node_then : Shell Server = after_end_events server.rules server.acts
-          (begun (server.first ours.window) server.rooms) events in
+          let events = (story_then k).server in
           subst (λ (pipe : Option Pipe).
-          KnowsEnd server.rules node_then.role pipe leg (heard_on leg (happened events)) end)
+          KnowsEnd server.rules (server_node k).role pipe leg (heard_on leg (happened events)) end)
           (sym (ap (λ (x : Who). node_reads ours x leg) is) ∙ reads_here)
           (end_knows server.rules server.acts (server.first ours.window) server.rooms
           down.server_reads (λ s one. refl) roles.server_refuses (roles.server_unused ours.window)
           (subst (λ (x : Shell Server). ComesUpOnceAtEnd server.rules server.acts x) ours.server
-          (once law_reads readings m w v ours law Holds flow by leg dir may k).server)
-          (roles.server_legs ours.window) events
+          (once_then k).server) (roles.server_legs ours.window) events
           (subst (λ (x : Shell Server). AreAcceptedAtEnd server.rules server.acts x events)
-          ours.server
-          (traced law_reads readings m w v ours law Holds flow by leg dir may k).accepted.server)
-          (turns law_reads readings m w v ours law Holds flow by leg dir may k).server leg end going
-          at)
+          ours.server (traced_then k).accepted.server) (turns_then k).server leg end going at)
 
-      pub server_next : (k : ℕ) × AmissNext server.rules
-          (passages law_reads readings m w v ours law Holds flow by leg dir may k).server leg
-          (read_on leg.kind dir) (put_there law_reads readings m w v ours law Holds flow by leg dir may k)
+      pub server_next : (k : ℕ) × AmissNext server.rules (passages_then k).server leg
+          (read_on leg.kind dir) (put_then k)
       server_next =
           let was = server_then law_reads readings m w v ours law Holds flow by leg dir may r named
           why tells count node here law_node is closes in (
             was.0,
-            next server.rules was.0
-                (passages law_reads readings m w v ours law Holds flow by leg dir may was.0).server
-                (after_end_events server.rules server.acts
-                (begun (server.first ours.window) server.rooms)
-                (story law_reads readings m w v ours law Holds flow by leg dir may was.0).server)
-                (heard_on leg (happened
-                (story law_reads readings m w v ours law Holds flow by leg dir may was.0).server))
-                (server_knows was.0) was.1,
+            next server.rules was.0 (passages_then was.0).server (server_node was.0)
+                (heard_on leg (happened (story_then was.0).server)) (server_knows was.0) was.1,
           )

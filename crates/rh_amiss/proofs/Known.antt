@@ -203,8 +203,8 @@ module _ {S : Type 0} (rules : Rules S) (first : S) (rooms : Rooms) (pipe : Leg 
         knows_by rules (pipe leg) leg (RefusesInTurn rules first pipe leg) (Unit {0}) ran.passage
         ran.moves (after_events rules (begun first rooms) events) (heard_on leg events)
         (drawn_on rules (begun first rooms) leg events) (came_up leg events) ran.role (ran.kept leg)
-        end going at (was_up_by rules (begun first rooms) leg legs [] events (begun first rooms) refl
-        accepted)
+        end going at
+        (was_up_by rules (begun first rooms) leg legs [] events (begun first rooms) refl accepted)
       where
         ran : nodes.RanTo rules first rooms pipe has unused once
             (after_events rules (begun first rooms) events) events

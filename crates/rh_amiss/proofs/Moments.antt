@@ -150,6 +150,26 @@ module _ {K : Type 0} (law_reads : Reads) (readings : Readings) (m : Makers K In
     abbrev pub passages : Passages
     passages = all law_reads m w world ours story flows
 
+    -- the nodes then
+    abbrev pub client_shell : Shell ClientRole
+    client_shell =
+        after_end_events client.rules client.acts
+        (begun (client_state.first ours.config) client.rooms) story.client
+
+    abbrev pub server_shell : Shell Server
+    server_shell =
+        after_end_events server.rules server.acts (begun (server.first ours.window) server.rooms)
+        story.server
+
+    abbrev pub in_shell : ℕ → Shell InProxy
+    in_shell n =
+        after_events in_proxy.rules (begun (in_state.first (ours.in_config n)) in_proxy.rooms)
+        (story.ins n)
+
+    abbrev pub out_shell : ℕ → Shell OutProxy
+    out_shell n =
+        after_events out_proxy.rules (begun (new_proxy (ours.out_config n)) ROOMS) (story.outs n)
+
     -- the messages that were put at the other end of the leg
     abbrev pub put_there : List Message
     put_there = of_leg leg (put_by passages (end_node v.readers leg (sender dir)))
@@ -254,24 +274,24 @@ module _ {K : Type 0} (law_reads : Reads) (readings : Readings) (m : Makers K In
           ∙ heard_behind leg (happened client_past) bytes
 
       pub client_then : (k : ℕ) × AmissThen client.rules k (passages k).client
-          (after_end_events client.rules client.acts (begun (client_state.first ours.config) client.rooms) (story k).client)
+          (client_shell k)
           (heard_on leg (happened (story k).client))
       client_then =
           let k = length client_byte.front in (
             k,
             then_by client.rules k (passages k).client
-                (after_end_events client.rules client.acts (begun (client_state.first ours.config) client.rooms)
-                (story k).client) (heard_on leg (happened (story k).client))
+                (client_shell k) (heard_on leg (happened (story k).client))
                 (flows k).flows.client.role
                 (end_stops readings client.rules leg (read_on leg.kind dir) r (well_on leg.kind dir)
-                named why tells (all_read_of (put_there k)) (client_state.first ours.config) client.rooms down.client_reads
+                named why tells (all_read_of (put_there k)) (client_state.first ours.config)
+                client.rooms down.client_reads
                 (sym (ap (λ (x : Who). node_reads ours x leg) is) ∙ reads_here) v.company.client
                 fed_bytes client_byte (next_heard k (k + 1))
                 (well_behind m w v ours law by leg dir may (k + 1)) (next_read k (k + 1))
                 client.acts client_past (story k).client (flows k).flows.client
                 ((known m w v ours law by leg dir may).traced.runs.client
-                ∙ ap (λ (s : Shell ClientRole). after_end_events client.rules client.acts s client_past)
-                ours.client)
+                ∙ ap (λ (s : Shell ClientRole).
+                after_end_events client.rules client.acts s client_past) ours.client)
                 (client_later k ∙ ap (λ (bytes : List ℕ).
                 client_past ++ Happens (moving.Hears leg bytes) ∷ []) client_fronts.is)
                 (client_heard k
@@ -316,17 +336,17 @@ module _ {K : Type 0} (law_reads : Reads) (readings : Readings) (m : Makers K In
           ∙ heard_behind leg (happened server_past) bytes
 
       pub server_then : (k : ℕ) × AmissThen server.rules k (passages k).server
-          (after_end_events server.rules server.acts (begun (server.first ours.window) server.rooms) (story k).server)
+          (server_shell k)
           (heard_on leg (happened (story k).server))
       server_then =
           let k = length server_byte.front in (
             k,
             then_by server.rules k (passages k).server
-                (after_end_events server.rules server.acts (begun (server.first ours.window) server.rooms)
-                (story k).server) (heard_on leg (happened (story k).server))
+                (server_shell k) (heard_on leg (happened (story k).server))
                 (flows k).flows.server.role
                 (end_stops readings server.rules leg (read_on leg.kind dir) r (well_on leg.kind dir)
-                named why tells (all_read_of (put_there k)) (server.first ours.window) server.rooms down.server_reads
+                named why tells (all_read_of (put_there k)) (server.first ours.window) server.rooms
+                down.server_reads
                 (sym (ap (λ (x : Who). node_reads ours x leg) is) ∙ reads_here) v.company.server
                 fed_bytes server_byte (next_heard k (k + 1))
                 (well_behind m w v ours law by leg dir may (k + 1)) (next_read k (k + 1))
@@ -360,7 +380,8 @@ module _ {K : Type 0} (law_reads : Reads) (readings : Readings) (m : Makers K In
           in_byte.split
 
       in_run : shell ≡ after_events in_proxy.rules
-          (begun (in_state.first (ours.in_config n)) in_proxy.rooms) ((now m w v ours law by leg dir may).ins n)
+          (begun (in_state.first (ours.in_config n)) in_proxy.rooms)
+          ((now m w v ours law by leg dir may).ins n)
       in_run =
           let h = now m w v ours law by leg dir may in
           subst (IsRun in_proxy.rules (m.in_proxy v.cast n) (h.ins n)) there
@@ -369,18 +390,19 @@ module _ {K : Type 0} (law_reads : Reads) (readings : Readings) (m : Makers K In
           (ap (λ (c : K). m.in_proxy c n) (law.flowing v by).cast ∙ ours.ins n)
 
       pub in_then : (k : ℕ) × AmissThen in_proxy.rules k ((passages k).ins n)
-          (after_events in_proxy.rules (begun (in_state.first (ours.in_config n)) in_proxy.rooms) ((story k).ins n))
+          (in_shell k n)
           (heard_on leg ((story k).ins n))
       in_then =
           let k = length in_byte.front in
           let h = now m w v ours law by leg dir may in (
             k,
             then_by in_proxy.rules k ((passages k).ins n)
-                (after_events in_proxy.rules (begun (in_state.first (ours.in_config n)) in_proxy.rooms) ((story k).ins n))
+                (in_shell k n)
                 (heard_on leg ((story k).ins n)) ((flows k).flows.ins n).role
                 (stream_stops readings in_proxy.rules leg (read_on leg.kind dir) r
                 (well_on leg.kind dir) named why tells (all_read_of (put_there k))
-                (in_state.first (ours.in_config n)) in_proxy.rooms (pipes.in_pipe (ours.in_config n))
+                (in_state.first (ours.in_config n)) in_proxy.rooms
+                (pipes.in_pipe (ours.in_config n))
                 (sym (ap (λ (x : Who). node_reads ours x leg) is) ∙ reads_here) shell fed_bytes
                 in_byte (next_heard k (k + 1))
                 (well_behind m w v ours law by leg dir may (k + 1)) (next_read k (k + 1))
@@ -421,14 +443,14 @@ module _ {K : Type 0} (law_reads : Reads) (readings : Readings) (m : Makers K In
           (ap (λ (c : K). m.out_proxy c n) (law.flowing v by).cast ∙ ours.outs n)
 
       pub out_then : (k : ℕ) × AmissThen out_proxy.rules k ((passages k).outs n)
-          (after_events out_proxy.rules (begun (new_proxy (ours.out_config n)) ROOMS) ((story k).outs n))
+          (out_shell k n)
           (heard_on leg ((story k).outs n))
       out_then =
           let k = length out_byte.front in
           let h = now m w v ours law by leg dir may in (
             k,
             then_by out_proxy.rules k ((passages k).outs n)
-                (after_events out_proxy.rules (begun (new_proxy (ours.out_config n)) ROOMS) ((story k).outs n))
+                (out_shell k n)
                 (heard_on leg ((story k).outs n)) ((flows k).flows.outs n).role
                 (stream_stops readings out_proxy.rules leg (read_on leg.kind dir) r
                 (well_on leg.kind dir) named why tells (all_read_of (put_there k))

@@ -21,8 +21,8 @@ use Rattle.rh_moments.specs.Expecting.{Expects, HasNoPingFirst, IsAhead, IsAmiss
 use Rattle.rh_amiss.specs.Amiss.{AmissNext, NextIsAmiss, RefusesBy}
 use Rattle.rh_amiss.proofs.Stops.{AmissAt, PingsFirst, RefusesAhead}
 
--- what a node that goes on knows of a leg whose end it has: it was up, and the end's count is of the
--- packets that are read there
+-- what a node that goes on knows of a leg whose end it has: the leg was up, and the end's count is
+-- of the packets that are read there
 pub record KnowsEnd {S : Type 0} (rules : Rules S) (role : S) (pipe : Option Pipe) (leg : Leg)
     (heard : List ℕ) (end : NearEnd) : Type 0 where
   pub was_up : rules.was_up role leg ≡ true

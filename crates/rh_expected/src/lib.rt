@@ -1,6 +1,6 @@
 //! What comes next is expected: no change of a world of roles closes a node since a packet, an RPC
-//! PDU or a greeting came that was not to come there, or that named another cookie. Its functions do
-//! nothing: their contracts are the laws.
+//! PDU or a greeting came that was not to come there, or that named another cookie. Its functions
+//! do nothing: their contracts are the laws.
 #![tactic(auto)]
 
 pub mod recordings;

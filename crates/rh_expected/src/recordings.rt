@@ -16,7 +16,7 @@ use rh_closes::each_close_of_a_recording_shows;
 use rh_world::WorldConfig;
 
 /// In no recording does a report tell of a client that closed with `CookieMismatch`: whatever a
-/// recording cuts, delays, breaks and replaces, and whether or not cookies are left (MS-RPCH 2.2.4).
+/// recording cuts, delays, breaks and replaces (MS-RPCH 2.2.4).
 pub fn a_client_of_a_recording_refuses_no_cookie()
     ensures { (before : List Line) (line : Line) (leg : Leg) (expected got : Cookie)
         → IsOneOf (NodeClosed AtClient (CookieMismatch leg expected got))

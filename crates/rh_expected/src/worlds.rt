@@ -1,4 +1,5 @@
-//! What comes at the client of a world of roles. This function does nothing: its contract is the law.
+//! What comes at the client of a world of roles. This function does nothing: its contract is the
+//! law.
 
 ghost use Rattle.rh_rts.specs.declared.command.Cookie.{Cookie};
 ghost use Rattle.rh_line.specs.declared.cause.Cause.TheVariants.{CookieMismatch};
@@ -35,8 +36,7 @@ use rh_traced::{a_recording_of_roles_is_known, what_is_heard_was_drawn_before};
 
 /// In each world of new roles whose numbers are in their ranges, at every moment that changes of
 /// lines and half steps reach: no further change closes the client with `CookieMismatch`, on any
-/// leg. What its proxies put names no cookie to it, and no row of its role asks for one (MS-RPCH
-/// 2.2.4).
+/// leg. No row of its role refuses a packet or an RPC PDU for its cookie (MS-RPCH 2.2.4).
 pub fn a_client_refuses_no_cookie<K>()
     ensures { (m : Makers K InProxy OutProxy)
         (w : World K ClientRole Server InProxy OutProxy) → IsNew w
