@@ -57,12 +57,12 @@ use Rattle.rh_client_hops.specs.Premises.{AreDistinct}
 use Rattle.rh_client_hops.proofs.Honest.{distinct_behind}
 use Rattle.rh_client_hops.proofs.Joined.{Reads}
 use Rattle.rh_moments.specs.Expecting.{Expects, HasNoPingFirst, IsAmiss}
-use Rattle.rh_moments.specs.Moments.{Moves, in_behind, out_behind, server_behind}
+use Rattle.rh_moments.specs.Moments.{Moves, Numbers, in_behind, out_behind, server_behind}
 use Rattle.rh_amiss.specs.Amiss.{amiss_by}
 use Rattle.rh_amiss.proofs.AtNodes.{RolesKnow, in_next, out_next, server_next}
 use Rattle.rh_amiss.proofs.Moments.{AllFlow, OfStreams, flowing, flows, story, world}
 use Rattle.rh_amiss.proofs.Next.{never_amiss}
-use Rattle.rh_expected.specs.Roles.{ClientPutsNoPingFirst, Facts, InExpectsClient, InExpectsServer, InPutsNoPingFirst, OutExpectsClient, OutExpectsServer, OutPutsNoPingFirst, ServerExpectsIn, ServerExpectsOut, moves_of, numbers}
+use Rattle.rh_expected.specs.Roles.{Facts, InExpectsClient, InExpectsServer, OutExpectsClient, OutExpectsServer, ServerExpectsIn, ServerExpectsOut, moves_of, numbers}
 
 -- ---- the laws that this stands on
 
@@ -130,6 +130,11 @@ module _ {K : Type 0} (roles : RolesKnow) (nodes : NodesLaws) (reads : Reads) (r
         (distinct_behind w.company.client v (history_at m w v by.leads) leg dir count
         (known m w v ours law by leg dir (λ k. may)).traced.runs.client distinct)
 
+  -- that holds there too
+  abbrev pub Gives : (Numbers → Facts) → Type 0
+  Gives More =
+      (reader : ℕ → ℕ) (moves : Moves) → Holds reader moves → More (numbers ours) reader moves
+
   -- there is no in proxy 0
   from_one : (k : ℕ) (node : Shell InProxy) (up : ℕ) → in_place v.company k ≡ Here node up → 1 ≤ k
   from_one zero node up there =
@@ -170,10 +175,9 @@ module _ {K : Type 0} (roles : RolesKnow) (nodes : NodesLaws) (reads : Reads) (r
           → at v leg (receiver dir) ≡ who.In k
           → ClosesWith in_proxy.rules node (event leg dir count) why → ⊥
 
-      in_at_client : InExpectsClient (numbers ours) Holds
-          → ClientPutsNoPingFirst (numbers ours) Holds → (n : ℕ) → InAt (ci n)
-      in_at_client expects first n D count node up there may here closes = absurd cc
-      in_at_client expects first n U count node up there may here closes =
+      in_at_client : Gives InExpectsClient → (n : ℕ) → InAt (ci n)
+      in_at_client expects n D count node up there may here closes = absurd cc
+      in_at_client expects n U count node up there may here closes =
           let next = in_next roles reads readings m w v ours law (AtMoment Holds ours) flow by
           (ci n) U (λ j. may) r amiss (λ e. refl) why tells count (who.In k) here nodes.ins k refl
           node up there closes in
@@ -187,12 +191,13 @@ module _ {K : Type 0} (roles : RolesKnow) (nodes : NodesLaws) (reads : Reads) (r
           (subst (λ (p : EndPassage ClientRole).
           Expects in_proxy.rules (in_behind (numbers ours) moves k) (ci n)
           (all_read_of (of_leg (ci n) p.passage.put))) flowed.flows.client.leads.reached
-          (expects (reader_of v.readers) moves now k n
+          ((expects (reader_of v.readers) moves now).next k n
           (in_number (reader_of v.readers n) k here) (from_one k node up there)))) (λ upward.
           subst (λ (p : EndPassage ClientRole). HasNoPingFirst (of_leg (ci n) p.passage.put))
-          flowed.flows.client.leads.reached (first (reader_of v.readers) moves now (ci n))) next.1
+          flowed.flows.client.leads.reached
+          ((expects (reader_of v.readers) moves now).first n)) next.1
 
-      in_at_server : InExpectsServer (numbers ours) Holds → (n : ℕ) → InAt (is_leg n)
+      in_at_server : Gives InExpectsServer → (n : ℕ) → InAt (is_leg n)
       in_at_server expects n U count node up there may here closes = absurd cc
       in_at_server expects n D count node up there may here closes =
           let next = in_next roles reads readings m w v ours law (AtMoment Holds ours) flow by
@@ -210,7 +215,7 @@ module _ {K : Type 0} (roles : RolesKnow) (nodes : NodesLaws) (reads : Reads) (r
           (subst (λ (p : EndPassage Server).
           Expects in_proxy.rules (in_behind (numbers ours) moves n) (is_leg n)
           (all_read_of (of_leg (is_leg n) p.passage.put))) flowed.flows.server.leads.reached
-          (expects (reader_of v.readers) moves now n)))) (λ upward. absurd cc) next.1
+          ((expects (reader_of v.readers) moves now).next n)))) (λ upward. absurd cc) next.1
 
       in_there : ((leg : Leg) (dir : Dir) (count : ℕ) (node : Shell InProxy) (up : ℕ)
           → in_place v.company k ≡ Here node up → May leg dir
@@ -236,30 +241,28 @@ module _ {K : Type 0} (roles : RolesKnow) (nodes : NodesLaws) (reads : Reads) (r
           (nodes.ins_amiss node (event leg dir count) why closes)) never dir count node up there
           may here closes)
 
-      pub no_in_amiss_of_client : InExpectsClient (numbers ours) Holds
-          → ClientPutsNoPingFirst (numbers ours) Holds → (n : ℕ) → NamesLeg (ci n) why
+      pub no_in_amiss_of_client : Gives InExpectsClient → (n : ℕ) → NamesLeg (ci n) why
           → (change : Change) → MayChange rules v change → ClosesNode rules v change (who.In k) why
           → ⊥
-      no_in_amiss_of_client expects first n names =
-          any (who.In k) (in_on (ci n) names (in_at_client expects first n))
+      no_in_amiss_of_client expects n names =
+          any (who.In k) (in_on (ci n) names (in_at_client expects n))
 
-      pub no_in_amiss_of_server : InExpectsServer (numbers ours) Holds → (n : ℕ)
+      pub no_in_amiss_of_server : Gives InExpectsServer → (n : ℕ)
           → NamesLeg (is_leg n) why → (change : Change) → MayChange rules v change
           → ClosesNode rules v change (who.In k) why → ⊥
       no_in_amiss_of_server expects n names =
           any (who.In k) (in_on (is_leg n) names (in_at_server expects n))
 
       -- on each leg
-      pub no_in_amiss : InExpectsClient (numbers ours) Holds
-          → ClientPutsNoPingFirst (numbers ours) Holds → InExpectsServer (numbers ours) Holds
+      pub no_in_amiss : Gives InExpectsClient → Gives InExpectsServer
           → (change : Change) → MayChange rules v change → ClosesNode rules v change (who.In k) why
           → ⊥
-      no_in_amiss client_expects first server_expects =
+      no_in_amiss client_expects server_expects =
           any (who.In k) (in_there (λ leg. per leg.kind leg.number))
         where
           per : (kind : LegKind) (n : ℕ) → InAt (leg_at kind n)
           per ClientIn n dir count node up there may here closes =
-              in_at_client client_expects first n dir count node up there may here
+              in_at_client client_expects n dir count node up there may here
               closes
           per InServer n dir count node up there may here closes =
               in_at_server server_expects n dir count node up there may here
@@ -278,10 +281,9 @@ module _ {K : Type 0} (roles : RolesKnow) (nodes : NodesLaws) (reads : Reads) (r
           → at v leg (receiver dir) ≡ who.Out k
           → ClosesWith out_proxy.rules node (event leg dir count) why → ⊥
 
-      out_at_client : OutExpectsClient (numbers ours) Holds
-          → ClientPutsNoPingFirst (numbers ours) Holds → (n : ℕ) → OutAt (co n)
-      out_at_client expects first n D count node up there may here closes = absurd cc
-      out_at_client expects first n U count node up there may here closes =
+      out_at_client : Gives OutExpectsClient → (n : ℕ) → OutAt (co n)
+      out_at_client expects n D count node up there may here closes = absurd cc
+      out_at_client expects n U count node up there may here closes =
           let next = out_next roles reads readings m w v ours law (AtMoment Holds ours) flow by
           (co n) U (λ j. may) r amiss (λ e. refl) why tells count (who.Out k) here nodes.outs k
           refl node up there closes in
@@ -297,11 +299,12 @@ module _ {K : Type 0} (roles : RolesKnow) (nodes : NodesLaws) (reads : Reads) (r
           (subst (λ (p : EndPassage ClientRole).
           Expects out_proxy.rules (out_behind (numbers ours) moves n) (co n)
           (all_read_of (of_leg (co n) p.passage.put))) flowed.flows.client.leads.reached
-          (expects (reader_of v.readers) moves now n)))) (λ upward.
+          ((expects (reader_of v.readers) moves now).next n)))) (λ upward.
           subst (λ (p : EndPassage ClientRole). HasNoPingFirst (of_leg (co n) p.passage.put))
-          flowed.flows.client.leads.reached (first (reader_of v.readers) moves now (co n))) next.1
+          flowed.flows.client.leads.reached
+          ((expects (reader_of v.readers) moves now).first n)) next.1
 
-      out_at_server : OutExpectsServer (numbers ours) Holds → (n : ℕ) → OutAt (os_leg n)
+      out_at_server : Gives OutExpectsServer → (n : ℕ) → OutAt (os_leg n)
       out_at_server expects n U count node up there may here closes = absurd cc
       out_at_server expects n D count node up there may here closes =
           let next = out_next roles reads readings m w v ours law (AtMoment Holds ours) flow by
@@ -319,7 +322,7 @@ module _ {K : Type 0} (roles : RolesKnow) (nodes : NodesLaws) (reads : Reads) (r
           (subst (λ (p : EndPassage Server).
           Expects out_proxy.rules (out_behind (numbers ours) moves n) (os_leg n)
           (all_read_of (of_leg (os_leg n) p.passage.put))) flowed.flows.server.leads.reached
-          (expects (reader_of v.readers) moves now n)))) (λ upward. absurd cc) next.1
+          ((expects (reader_of v.readers) moves now).next n)))) (λ upward. absurd cc) next.1
 
       out_there : ((leg : Leg) (dir : Dir) (count : ℕ) (node : Shell OutProxy) (up : ℕ)
           → out_place v.company k ≡ Here node up → May leg dir
@@ -344,29 +347,27 @@ module _ {K : Type 0} (roles : RolesKnow) (nodes : NodesLaws) (reads : Reads) (r
           (nodes.outs_amiss node (event leg dir count) why closes)) never dir count node up there
           may here closes)
 
-      pub no_out_amiss_of_client : OutExpectsClient (numbers ours) Holds
-          → ClientPutsNoPingFirst (numbers ours) Holds → (n : ℕ) → NamesLeg (co n) why
+      pub no_out_amiss_of_client : Gives OutExpectsClient → (n : ℕ) → NamesLeg (co n) why
           → (change : Change) → MayChange rules v change
           → ClosesNode rules v change (who.Out k) why → ⊥
-      no_out_amiss_of_client expects first n names =
-          any (who.Out k) (out_on (co n) names (out_at_client expects first n))
+      no_out_amiss_of_client expects n names =
+          any (who.Out k) (out_on (co n) names (out_at_client expects n))
 
-      pub no_out_amiss_of_server : OutExpectsServer (numbers ours) Holds → (n : ℕ)
+      pub no_out_amiss_of_server : Gives OutExpectsServer → (n : ℕ)
           → NamesLeg (os_leg n) why → (change : Change) → MayChange rules v change
           → ClosesNode rules v change (who.Out k) why → ⊥
       no_out_amiss_of_server expects n names =
           any (who.Out k) (out_on (os_leg n) names (out_at_server expects n))
 
-      pub no_out_amiss : OutExpectsClient (numbers ours) Holds
-          → ClientPutsNoPingFirst (numbers ours) Holds → OutExpectsServer (numbers ours) Holds
+      pub no_out_amiss : Gives OutExpectsClient → Gives OutExpectsServer
           → (change : Change) → MayChange rules v change
           → ClosesNode rules v change (who.Out k) why → ⊥
-      no_out_amiss client_expects first server_expects =
+      no_out_amiss client_expects server_expects =
           any (who.Out k) (out_there (λ leg. per leg.kind leg.number))
         where
           per : (kind : LegKind) (n : ℕ) → OutAt (leg_at kind n)
           per ClientOut n dir count node up there may here closes =
-              out_at_client client_expects first n dir count node up there may here
+              out_at_client client_expects n dir count node up there may here
               closes
           per OutServer n dir count node up there may here closes =
               out_at_server server_expects n dir count node up there may here
@@ -383,10 +384,10 @@ module _ {K : Type 0} (roles : RolesKnow) (nodes : NodesLaws) (reads : Reads) (r
         (dir : Dir) (count : ℕ) → May leg dir → at v leg (receiver dir) ≡ who.Server
         → ClosesWith server.rules v.company.server (event leg dir count) why → ⊥
 
-    server_at_in : ServerExpectsIn (numbers ours) Holds → InPutsNoPingFirst (numbers ours) Holds
+    server_at_in : Gives ServerExpectsIn
         → (n : ℕ) → ServerAt (is_leg n)
-    server_at_in expects first n D count may here closes = absurd cc
-    server_at_in expects first n U count may here closes =
+    server_at_in expects n D count may here closes = absurd cc
+    server_at_in expects n U count may here closes =
         let next = server_next roles reads readings m w v ours law (AtMoment Holds ours) flow by
         (is_leg n) U (λ j. may) r amiss (λ e. refl) why tells count who.Server here nodes.server
         refl closes in
@@ -401,14 +402,14 @@ module _ {K : Type 0} (roles : RolesKnow) (nodes : NodesLaws) (reads : Reads) (r
         (subst (λ (p : Passage InProxy).
         Expects server.rules (server_behind (numbers ours) moves).passage (is_leg n)
         (all_read_of (of_leg (is_leg n) p.put))) (flowed.flows.ins n).leads.reached
-        (expects (reader_of v.readers) moves now n))) (λ upward.
+        ((expects (reader_of v.readers) moves now).next n))) (λ upward.
         subst (λ (p : Passage InProxy). HasNoPingFirst (of_leg (is_leg n) p.put))
-        (flowed.flows.ins n).leads.reached (first (reader_of v.readers) moves now n)) next.1
+        (flowed.flows.ins n).leads.reached
+        ((expects (reader_of v.readers) moves now).first n)) next.1
 
-    server_at_out : ServerExpectsOut (numbers ours) Holds
-        → OutPutsNoPingFirst (numbers ours) Holds → (n : ℕ) → ServerAt (os_leg n)
-    server_at_out expects first n D count may here closes = absurd cc
-    server_at_out expects first n U count may here closes =
+    server_at_out : Gives ServerExpectsOut → (n : ℕ) → ServerAt (os_leg n)
+    server_at_out expects n D count may here closes = absurd cc
+    server_at_out expects n U count may here closes =
         let next = server_next roles reads readings m w v ours law (AtMoment Holds ours) flow by
         (os_leg n) U (λ j. may) r amiss (λ e. refl) why tells count who.Server here nodes.server
         refl closes in
@@ -423,9 +424,10 @@ module _ {K : Type 0} (roles : RolesKnow) (nodes : NodesLaws) (reads : Reads) (r
         (subst (λ (p : Passage OutProxy).
         Expects server.rules (server_behind (numbers ours) moves).passage (os_leg n)
         (all_read_of (of_leg (os_leg n) p.put))) (flowed.flows.outs n).leads.reached
-        (expects (reader_of v.readers) moves now n))) (λ upward.
+        ((expects (reader_of v.readers) moves now).next n))) (λ upward.
         subst (λ (p : Passage OutProxy). HasNoPingFirst (of_leg (os_leg n) p.put))
-        (flowed.flows.outs n).leads.reached (first (reader_of v.readers) moves now n)) next.1
+        (flowed.flows.outs n).leads.reached
+        ((expects (reader_of v.readers) moves now).first n)) next.1
 
     server_on : (l : Leg) → NamesLeg l why → ServerAt l → Fed who.Server
     server_on l names never leg dir count may here closes =
@@ -434,32 +436,29 @@ module _ {K : Type 0} (roles : RolesKnow) (nodes : NodesLaws) (reads : Reads) (r
         (nodes.server_amiss v.company.server (event leg dir count) why closes)) never dir count
         may here closes
 
-    pub no_server_amiss_of_in : ServerExpectsIn (numbers ours) Holds
-        → InPutsNoPingFirst (numbers ours) Holds → (n : ℕ) → NamesLeg (is_leg n) why
+    pub no_server_amiss_of_in : Gives ServerExpectsIn → (n : ℕ) → NamesLeg (is_leg n) why
         → (change : Change) → MayChange rules v change → ClosesNode rules v change who.Server why
         → ⊥
-    no_server_amiss_of_in expects first n names =
-        any who.Server (server_on (is_leg n) names (server_at_in expects first n))
+    no_server_amiss_of_in expects n names =
+        any who.Server (server_on (is_leg n) names (server_at_in expects n))
 
-    pub no_server_amiss_of_out : ServerExpectsOut (numbers ours) Holds
-        → OutPutsNoPingFirst (numbers ours) Holds → (n : ℕ) → NamesLeg (os_leg n) why
+    pub no_server_amiss_of_out : Gives ServerExpectsOut → (n : ℕ) → NamesLeg (os_leg n) why
         → (change : Change) → MayChange rules v change → ClosesNode rules v change who.Server why
         → ⊥
-    no_server_amiss_of_out expects first n names =
-        any who.Server (server_on (os_leg n) names (server_at_out expects first n))
+    no_server_amiss_of_out expects n names =
+        any who.Server (server_on (os_leg n) names (server_at_out expects n))
 
-    pub no_server_amiss : ServerExpectsIn (numbers ours) Holds
-        → InPutsNoPingFirst (numbers ours) Holds → ServerExpectsOut (numbers ours) Holds
-        → OutPutsNoPingFirst (numbers ours) Holds → (change : Change) → MayChange rules v change
+    pub no_server_amiss : Gives ServerExpectsIn → Gives ServerExpectsOut → (change : Change)
+        → MayChange rules v change
         → ClosesNode rules v change who.Server why → ⊥
-    no_server_amiss in_expects in_first out_expects out_first =
+    no_server_amiss in_expects out_expects =
         any who.Server (λ leg. per leg.kind leg.number)
       where
         per : (kind : LegKind) (n : ℕ) → ServerAt (leg_at kind n)
         per InServer n dir count may here closes =
-            server_at_in in_expects in_first n dir count may here closes
+            server_at_in in_expects n dir count may here closes
         per OutServer n dir count may here closes =
-            server_at_out out_expects out_first n dir count may here closes
+            server_at_out out_expects n dir count may here closes
         per ClientIn n U count may here closes = absurd cc
         per ClientIn n D count may here closes = absurd cc
         per ClientOut n U count may here closes = absurd cc

@@ -1,9 +1,9 @@
 -- what the roles expect of each other at the moments of a virtual connection (MS-RPCH 3.2; profile)
 use Rattle.std.specs.Prelude.{◌≡◌, ◌≤◌, ℕ}
-use Rattle.rh_line.specs.declared.leg.Leg.{Leg}
 use Rattle.rh_shell.specs.Wires.{of_leg}
 use Rattle.rh_nodes.specs.Company.{Company}
 use Rattle.rh_nodes.specs.Opening.{Makers}
+use Rattle.rh_nodes.specs.Readers.{reader_of}
 use Rattle.rh_nodes.specs.World.{World}
 use Rattle.rh_client.specs.declared.state.ClientRole.{ClientRole}
 use Rattle.rh_client.specs.State.{ci, co}
@@ -13,11 +13,16 @@ use Rattle.rh_outproxy.specs.Machine as out_proxy
 use Rattle.rh_outproxy.specs.OutProxy.{OutProxy}
 use Rattle.rh_server.specs.Servers as server
 use Rattle.rh_server.specs.States.{Server}
-use Rattle.rh_history.specs.Histories.{History}
+use Rattle.rh_history.specs.Carried.{happened}
+use Rattle.rh_history.specs.Histories.{History, IsNew}
 use Rattle.rh_reading.specs.Reading.{all_read_of}
-use Rattle.rh_traced.specs.Ours.{AreOurs}
+use Rattle.rh_traced.specs.Cookies.{ByChanges}
+use Rattle.rh_traced.specs.Ours.{AreOurs, deeds, rules}
+use Rattle.rh_ordered.specs.Premises.{history_at}
 use Rattle.rh_fifo.specs.Flows as fifo
 use Rattle.rh_fifo.specs.Flows.{IsFlowing}
+use Rattle.rh_fifo.specs.Premises.{AreInRange}
+use Rattle.rh_client_hops.specs.Premises.{AreDistinct}
 use Rattle.rh_hops.specs.Hops.{is_leg, os_leg}
 use Rattle.rh_moments.specs.Expecting.{Expects, HasNoPingFirst}
 use Rattle.rh_moments.specs.Moments.{Moves, Numbers, client_behind, in_behind, out_behind, server_behind}
@@ -50,61 +55,62 @@ moves_of flowing = record {
 abbrev pub Facts : Type 1
 Facts = (ℕ → ℕ) → Moves → Type 0
 
--- where that holds: an in proxy expects what the client put on a ci leg that it reads
-abbrev pub InExpectsClient : Numbers → Facts → Type 0
-InExpectsClient all Holds =
-    (reader : ℕ → ℕ) (moves : Moves) → Holds reader moves → (m n : ℕ) → reader n ≡ m → 1 ≤ m
-    → Expects in_proxy.rules (in_behind all moves m) (ci n)
-    (all_read_of (of_leg (ci n) (client_behind all moves).passage.put))
+-- an in proxy expects what the client put on a ci leg that it reads, where no Ping goes first
+pub record InExpectsClient (all : Numbers) (reader : ℕ → ℕ) (moves : Moves) : Type 0 where
+  pub next : (m n : ℕ) → reader n ≡ m → 1 ≤ m
+      → Expects in_proxy.rules (in_behind all moves m) (ci n)
+      (all_read_of (of_leg (ci n) (client_behind all moves).passage.put))
+  pub first : (n : ℕ) → HasNoPingFirst (of_leg (ci n) (client_behind all moves).passage.put)
 
 -- and what the server put on its is leg
-abbrev pub InExpectsServer : Numbers → Facts → Type 0
-InExpectsServer all Holds =
-    (reader : ℕ → ℕ) (moves : Moves) → Holds reader moves → (m : ℕ)
-    → Expects in_proxy.rules (in_behind all moves m) (is_leg m)
-    (all_read_of (of_leg (is_leg m) (server_behind all moves).passage.put))
+pub record InExpectsServer (all : Numbers) (reader : ℕ → ℕ) (moves : Moves) : Type 0 where
+  pub next : (m : ℕ) → Expects in_proxy.rules (in_behind all moves m) (is_leg m)
+      (all_read_of (of_leg (is_leg m) (server_behind all moves).passage.put))
 
--- an out proxy expects what the client put on its co leg
-abbrev pub OutExpectsClient : Numbers → Facts → Type 0
-OutExpectsClient all Holds =
-    (reader : ℕ → ℕ) (moves : Moves) → Holds reader moves → (n : ℕ)
-    → Expects out_proxy.rules (out_behind all moves n) (co n)
-    (all_read_of (of_leg (co n) (client_behind all moves).passage.put))
+pub record InExpects (all : Numbers) (reader : ℕ → ℕ) (moves : Moves) : Type 0 where
+  pub client : InExpectsClient all reader moves
+  pub server : InExpectsServer all reader moves
+
+-- an out proxy expects what the client put on its co leg, where no Ping goes first
+pub record OutExpectsClient (all : Numbers) (reader : ℕ → ℕ) (moves : Moves) : Type 0 where
+  pub next : (n : ℕ) → Expects out_proxy.rules (out_behind all moves n) (co n)
+      (all_read_of (of_leg (co n) (client_behind all moves).passage.put))
+  pub first : (n : ℕ) → HasNoPingFirst (of_leg (co n) (client_behind all moves).passage.put)
 
 -- and what the server put on its os leg
-abbrev pub OutExpectsServer : Numbers → Facts → Type 0
-OutExpectsServer all Holds =
-    (reader : ℕ → ℕ) (moves : Moves) → Holds reader moves → (n : ℕ)
-    → Expects out_proxy.rules (out_behind all moves n) (os_leg n)
-    (all_read_of (of_leg (os_leg n) (server_behind all moves).passage.put))
+pub record OutExpectsServer (all : Numbers) (reader : ℕ → ℕ) (moves : Moves) : Type 0 where
+  pub next : (n : ℕ) → Expects out_proxy.rules (out_behind all moves n) (os_leg n)
+      (all_read_of (of_leg (os_leg n) (server_behind all moves).passage.put))
 
--- the server expects what an in proxy put to it
-abbrev pub ServerExpectsIn : Numbers → Facts → Type 0
-ServerExpectsIn all Holds =
-    (reader : ℕ → ℕ) (moves : Moves) → Holds reader moves → (m : ℕ)
-    → Expects server.rules (server_behind all moves).passage (is_leg m)
-    (all_read_of (of_leg (is_leg m) (in_behind all moves m).put))
+-- the server expects what an in proxy put to it, where no Ping goes first
+pub record ServerExpectsIn (all : Numbers) (reader : ℕ → ℕ) (moves : Moves) : Type 0 where
+  pub next : (m : ℕ) → Expects server.rules (server_behind all moves).passage (is_leg m)
+      (all_read_of (of_leg (is_leg m) (in_behind all moves m).put))
+  pub first : (m : ℕ) → HasNoPingFirst (of_leg (is_leg m) (in_behind all moves m).put)
 
 -- and what an out proxy put to it
-abbrev pub ServerExpectsOut : Numbers → Facts → Type 0
-ServerExpectsOut all Holds =
-    (reader : ℕ → ℕ) (moves : Moves) → Holds reader moves → (n : ℕ)
-    → Expects server.rules (server_behind all moves).passage (os_leg n)
-    (all_read_of (of_leg (os_leg n) (out_behind all moves n).put))
+pub record ServerExpectsOut (all : Numbers) (reader : ℕ → ℕ) (moves : Moves) : Type 0 where
+  pub next : (n : ℕ) → Expects server.rules (server_behind all moves).passage (os_leg n)
+      (all_read_of (of_leg (os_leg n) (out_behind all moves n).put))
+  pub first : (n : ℕ) → HasNoPingFirst (of_leg (os_leg n) (out_behind all moves n).put)
 
--- ---- no Ping goes first towards the server
+-- ---- and in the worlds of roles
 
-abbrev pub ClientPutsNoPingFirst : Numbers → Facts → Type 0
-ClientPutsNoPingFirst all Holds =
-    (reader : ℕ → ℕ) (moves : Moves) → Holds reader moves → (leg : Leg)
-    → HasNoPingFirst (of_leg leg (client_behind all moves).passage.put)
+-- a world has streams that the roles expect so, where no two legs of one kind came up at the client
+-- under one cookie
+pub record IsExpecting (Holds : Numbers → (ℕ → ℕ) → Moves → Type 0) {K : Type 0}
+    (m : Makers K InProxy OutProxy) (w : World K ClientRole Server InProxy OutProxy)
+    (ours : AreOurs m w.company w.cast) (v : World K ClientRole Server InProxy OutProxy)
+    (by : ByChanges rules m deeds w v) : Type 0 where
+  pub flowing : IsFlowing (fifo.numbers_of ours) w v (history_at m w v by.leads)
+  pub expects : AreDistinct (happened (history_at m w v by.leads).client)
+      → Holds (numbers ours) (reader_of v.readers) (moves_of flowing)
 
-abbrev pub InPutsNoPingFirst : Numbers → Facts → Type 0
-InPutsNoPingFirst all Holds =
-    (reader : ℕ → ℕ) (moves : Moves) → Holds reader moves → (m : ℕ)
-    → HasNoPingFirst (of_leg (is_leg m) (in_behind all moves m).put)
-
-abbrev pub OutPutsNoPingFirst : Numbers → Facts → Type 0
-OutPutsNoPingFirst all Holds =
-    (reader : ℕ → ℕ) (moves : Moves) → Holds reader moves → (n : ℕ)
-    → HasNoPingFirst (of_leg (os_leg n) (out_behind all moves n).put)
+-- so it is in each world that changes of lines and half steps reach from new roles whose numbers
+-- are in their ranges
+abbrev pub WorldsExpect : Type 0 → (Numbers → (ℕ → ℕ) → Moves → Type 0) → Type 0
+WorldsExpect K Holds =
+    (m : Makers K InProxy OutProxy) (w : World K ClientRole Server InProxy OutProxy) → IsNew w
+    → (ours : AreOurs m w.company w.cast) → AreInRange (fifo.numbers_of ours)
+    → (v : World K ClientRole Server InProxy OutProxy) (by : ByChanges rules m deeds w v)
+    → IsExpecting Holds m w ours v by

@@ -3,8 +3,10 @@
 //! do nothing: their contracts are the laws.
 #![tactic(auto)]
 
+pub mod expecting;
 pub mod recordings;
 pub mod worlds;
 
+pub use expecting::no_node_refuses_what_it_expects;
 pub use recordings::a_client_of_a_recording_refuses_no_cookie;
 pub use worlds::a_client_refuses_no_cookie;
