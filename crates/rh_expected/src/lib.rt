@@ -8,5 +8,7 @@ pub mod recordings;
 pub mod worlds;
 
 pub use expecting::no_node_refuses_what_it_expects;
-pub use recordings::a_client_of_a_recording_refuses_no_cookie;
+pub use recordings::{
+    a_client_of_a_recording_refuses_no_cookie, no_node_of_a_recording_refuses_what_it_expects,
+};
 pub use worlds::a_client_refuses_no_cookie;

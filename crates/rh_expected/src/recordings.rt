@@ -1,19 +1,27 @@
-//! What comes at the client of a recording. This function does nothing: its contract is the law.
+//! What comes at the nodes of a recording. These functions do nothing: their contracts are the laws.
 
-ghost use Rattle.std.specs.Prelude.{List};
+ghost use Rattle.std.specs.Prelude.{List, ℕ};
 ghost use Rattle.rh_rts.specs.declared.command.Cookie.{Cookie};
-ghost use Rattle.rh_line.specs.declared.cause.Cause.TheVariants.{CookieMismatch};
+ghost use Rattle.rh_line.specs.declared.cause.Cause.TheVariants.{CookieMismatch, Unexpected};
 ghost use Rattle.rh_line.specs.declared.leg.Leg.{Leg};
 ghost use Rattle.rh_record.specs.declared.answer.Answer.TheVariants.{NodeClosed};
-ghost use Rattle.rh_record.specs.declared.answer.Who.TheVariants.{Client as AtClient};
+ghost use Rattle.rh_record.specs.declared.answer.Who.TheVariants.{Client as AtClient, In, Out};
+ghost use Rattle.rh_record.specs.declared.answer.Who.TheVariants.{Server as AtServer};
 ghost use Rattle.rh_record.specs.declared.line.Line.{Line};
+ghost use Rattle.rh_client.specs.State.{co};
 ghost use Rattle.rh_history.specs.Closes.{IsOneOf};
 ghost use Rattle.rh_world.specs.declared.any_world.AnyWorld.TheVariants.{Before};
+ghost use Rattle.rh_world.specs.declared.config.WorldConfig.{WorldConfig};
 ghost use Rattle.rh_world.specs.Any.{after, step};
+ghost use Rattle.rh_hops.specs.Hops.{is_leg, os_leg};
+ghost use Rattle.rh_expected.specs.Roles.{InExpects, OutExpectsClient, OutExpectsServer};
+ghost use Rattle.rh_expected.specs.Roles.{ServerExpectsIn, ServerExpectsOut, WorldsExpect};
 
+use crate::expecting::no_node_refuses_what_it_expects;
 use crate::worlds::a_client_refuses_no_cookie;
 use rh_closes::each_close_of_a_recording_shows;
-use rh_world::WorldConfig;
+use rh_cookies::cookies_of_a_recording_are_left;
+use rh_world::WorldConfig as Config;
 
 /// In no recording does a report tell of a client that closed with `CookieMismatch`: whatever a
 /// recording cuts, delays, breaks and replaces (MS-RPCH 2.2.4).
@@ -23,5 +31,45 @@ pub fn a_client_of_a_recording_refuses_no_cookie()
         (step (after Before before) line).1 → ⊥ }
 {
     each_close_of_a_recording_shows();
-    a_client_refuses_no_cookie::<WorldConfig>();
+    a_client_refuses_no_cookie::<Config>();
+}
+
+/// Where in each world of roles a node expects what comes next on a leg, no report of a recording
+/// tells that the node closed with `Unexpected` or `CookieMismatch` of that leg: each leg of the
+/// client has a cookie that no other had (MS-RPCH 2.2.3.1, 3.2; profile).
+pub fn no_node_of_a_recording_refuses_what_it_expects()
+    ensures in_unexpected { WorldsExpect WorldConfig InExpects → (before : List Line) (line : Line)
+        (k : ℕ) (leg : Leg) (place : ℕ) → IsOneOf (NodeClosed (In k) (Unexpected leg place))
+        (step (after Before before) line).1 → ⊥ }
+    ensures in_cookie { WorldsExpect WorldConfig InExpects → (before : List Line) (line : Line)
+        (k : ℕ) (leg : Leg) (expected got : Cookie) → IsOneOf (NodeClosed (In k) (CookieMismatch leg expected got))
+        (step (after Before before) line).1 → ⊥ }
+    ensures out_client_unexpected { WorldsExpect WorldConfig OutExpectsClient → (before : List Line) (line : Line)
+        (k n : ℕ) (place : ℕ) → IsOneOf (NodeClosed (Out k) (Unexpected (co n) place))
+        (step (after Before before) line).1 → ⊥ }
+    ensures out_client_cookie { WorldsExpect WorldConfig OutExpectsClient → (before : List Line) (line : Line)
+        (k n : ℕ) (expected got : Cookie) → IsOneOf (NodeClosed (Out k) (CookieMismatch (co n) expected got))
+        (step (after Before before) line).1 → ⊥ }
+    ensures out_server_unexpected { WorldsExpect WorldConfig OutExpectsServer → (before : List Line) (line : Line)
+        (k n : ℕ) (place : ℕ) → IsOneOf (NodeClosed (Out k) (Unexpected (os_leg n) place))
+        (step (after Before before) line).1 → ⊥ }
+    ensures out_server_cookie { WorldsExpect WorldConfig OutExpectsServer → (before : List Line) (line : Line)
+        (k n : ℕ) (expected got : Cookie) → IsOneOf (NodeClosed (Out k) (CookieMismatch (os_leg n) expected got))
+        (step (after Before before) line).1 → ⊥ }
+    ensures server_in_unexpected { WorldsExpect WorldConfig ServerExpectsIn → (before : List Line) (line : Line)
+        (n : ℕ) (place : ℕ) → IsOneOf (NodeClosed AtServer (Unexpected (is_leg n) place))
+        (step (after Before before) line).1 → ⊥ }
+    ensures server_in_cookie { WorldsExpect WorldConfig ServerExpectsIn → (before : List Line) (line : Line)
+        (n : ℕ) (expected got : Cookie) → IsOneOf (NodeClosed AtServer (CookieMismatch (is_leg n) expected got))
+        (step (after Before before) line).1 → ⊥ }
+    ensures server_out_unexpected { WorldsExpect WorldConfig ServerExpectsOut → (before : List Line) (line : Line)
+        (n : ℕ) (place : ℕ) → IsOneOf (NodeClosed AtServer (Unexpected (os_leg n) place))
+        (step (after Before before) line).1 → ⊥ }
+    ensures server_out_cookie { WorldsExpect WorldConfig ServerExpectsOut → (before : List Line) (line : Line)
+        (n : ℕ) (expected got : Cookie) → IsOneOf (NodeClosed AtServer (CookieMismatch (os_leg n) expected got))
+        (step (after Before before) line).1 → ⊥ }
+{
+    cookies_of_a_recording_are_left();
+    each_close_of_a_recording_shows();
+    no_node_refuses_what_it_expects::<Config>();
 }
