@@ -34,7 +34,7 @@ pub record AreCounted (all : Passages) : Type 0 where
 
 -- ---- tests that are the same
 
-abbrev once : Bool → ℕ
+abbrev pub once : Bool → ℕ
 once b = if b then 1 else 0
 
 counted : (test : Named → Bool) (named : Named) (ms : List Message)
@@ -47,7 +47,7 @@ counted test named ms = by (test named)
     by false = omega arith
 
 -- where one test is two others that are never passed together
-sum_counts : (all one other : Named → Bool)
+pub sum_counts : (all one other : Named → Bool)
     → ((named : Named) → once (all named) ≡ once (one named) + once (other named))
     → (ms : List Message) → count_of all ms ≡ count_of one ms + count_of other ms
 sum_counts all one other is [] = omega arith
@@ -70,7 +70,7 @@ none_count (Text bytes ∷ ms) = none_count ms
 none_count (Pdu pdu ∷ ms) = none_count ms
 none_count (Packet named ∷ ms) = none_count ms
 
-same_counts : (one other : Named → Bool)
+pub same_counts : (one other : Named → Bool)
     → ((named : Named) → once (one named) ≡ once (other named))
     → (ms : List Message) → count_of one ms ≡ count_of other ms
 same_counts one other is ms =
@@ -82,7 +82,7 @@ same_counts one other is ms =
 abbrev any : Cookie → Bool
 any cookie = true
 
-answers : (named : Named) → once (at_client.is_in_a4 named)
+pub answers : (named : Named) → once (at_client.is_in_a4 named)
     ≡ once (at_proxy.is_in_r1_a4 named) + once (at_proxy.is_in_r2_a4 named)
 answers (named.InR1A4 to version window timeout) = refl
 answers (named.InR2A4 to) = refl
@@ -109,32 +109,32 @@ confirms : (named : Named) → once (at_proxy.is_out_r1_a8 any named)
 confirms (named.OutR1A8 to successor) = refl
 confirms packet = refl
 
-r1_answers : (named : Named) → once (at_proxy.is_in_r1_a3 named)
+pub r1_answers : (named : Named) → once (at_proxy.is_in_r1_a3 named)
     ≡ once (at_server.is_in_r1_a3 named)
 r1_answers (named.InR1A3 to version window timeout) = refl
 r1_answers packet = refl
 
-r2_answers : (named : Named) → once (at_proxy.is_in_r2_a3 named)
+pub r2_answers : (named : Named) → once (at_proxy.is_in_r2_a3 named)
     ≡ once (at_server.is_in_r2_a3 named)
 r2_answers (named.InR2A3 to) = refl
 r2_answers packet = refl
 
-finishes : (named : Named) → once (at_proxy.is_out_r1_a10 named)
+pub finishes : (named : Named) → once (at_proxy.is_out_r1_a10 named)
     ≡ once (at_client.is_out_r1_a10 named)
 finishes (named.OutR1A10) = refl
 finishes packet = refl
 
-hands_over : (named : Named) → once (at_proxy.is_out_r1_a9 named)
+pub hands_over : (named : Named) → once (at_proxy.is_out_r1_a9 named)
     ≡ once (at_server.is_out_r1_a9 named)
 hands_over (named.OutR1A9) = refl
 hands_over packet = refl
 
-agrees : (named : Named) → once (at_proxy.is_out_r1_a6 named)
+pub agrees : (named : Named) → once (at_proxy.is_out_r1_a6 named)
     ≡ once (at_client.is_out_r1_a6 named)
 agrees (named.OutR1A6 to version timeout) = refl
 agrees packet = refl
 
-grants : (named : Named) → once (at_proxy.is_out_r1_a5 named)
+pub grants : (named : Named) → once (at_proxy.is_out_r1_a5 named)
     ≡ once (at_server.is_out_r1_a5 named)
 grants (named.OutR1A5 to version timeout) = refl
 grants packet = refl
@@ -149,12 +149,12 @@ opens_next : (named : Named) → once (at_proxy.is_out_r1_a3 named)
 opens_next (named.OutR1A3 version connection predecessor successor window) = refl
 opens_next packet = refl
 
-wishes : (named : Named) → once (at_proxy.is_out_r1_a2 named)
+pub wishes : (named : Named) → once (at_proxy.is_out_r1_a2 named)
     ≡ once (at_client.is_out_r1_a2 named)
 wishes (named.OutR1A2 to) = refl
 wishes packet = refl
 
-wants : (named : Named) → once (at_proxy.is_out_r1_a1 named)
+pub wants : (named : Named) → once (at_proxy.is_out_r1_a1 named)
     ≡ once (at_server.is_out_r1_a1 named)
 wants (named.OutR1A1 to) = refl
 wants packet = refl

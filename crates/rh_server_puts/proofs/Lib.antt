@@ -1,10 +1,10 @@
 mod Turns
 mod Writing
-mod Each
+pub mod Each
 mod Copied
 mod CopiedRows
 mod CopiedPuts
-mod Numbered
+pub mod Numbered
 mod Greets
 mod GreetsOut
 mod GreetsIn

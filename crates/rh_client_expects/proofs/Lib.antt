@@ -1,0 +1,12 @@
+pub mod More
+pub mod Ahead
+pub mod Ends
+pub mod Next
+pub mod InTurn
+pub mod Wishes
+pub mod Forwarding
+pub mod GoingRound
+pub mod Pasts
+pub mod Known
+pub mod Facts
+pub mod Expected

@@ -1,0 +1,9 @@
+mod Lists
+mod Standing
+mod Facts
+mod Changes
+mod Rows
+mod Putting
+mod Laws
+mod Begun
+mod NoPing

@@ -1,0 +1,14 @@
+mod Fronts
+mod Channels
+mod OnClient
+mod Known
+mod Announces
+mod Newest
+mod Raised
+mod OnServer
+mod Answered
+mod Past
+mod Counts
+mod Early
+mod Untold
+mod Expects

@@ -1,0 +1,10 @@
+mod Logs
+mod InGreeting
+mod Turns
+mod Fronts
+mod NotEarly
+mod Ordered
+mod Expecting
+mod Zeros
+mod Opening
+mod Asking

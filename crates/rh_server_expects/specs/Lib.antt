@@ -1,0 +1,3 @@
+pub mod Connecting
+pub mod Early
+pub mod Expected

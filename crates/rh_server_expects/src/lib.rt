@@ -1,0 +1,16 @@
+//! What a server expects: at each moment of a virtual connection it refuses nothing that comes next
+//! from its proxies as unexpected, or for its cookie. Its functions do nothing: their contracts are
+//! the laws.
+#![tactic(auto)]
+
+pub mod early;
+pub mod expects;
+pub mod in_proxies;
+pub mod pings;
+
+pub use early::a_client_is_never_opened_early;
+pub use expects::{a_server_expects_its_in_proxies, a_server_expects_its_out_proxies};
+pub use in_proxies::{
+    an_in_proxy_connects_as_it_was_asked, an_in_proxy_that_puts_nothing_early_puts_in_order,
+};
+pub use pings::no_ping_goes_first_to_a_server;

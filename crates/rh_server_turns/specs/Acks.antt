@@ -1,0 +1,18 @@
+-- for which channels a server passes acknowledgements on to out proxies (MS-RPCH 3.2.5)
+use Rattle.std.specs.Prelude.{ℕ, ◌≡◌, ◌⊎◌}
+use Rattle.rh_rts.specs.declared.command.Cookie.{Cookie}
+use Rattle.rh_sig.specs.declared.named.Named.TheVariants.{AckTo}
+use Rattle.rh_shell.specs.Moves.{Passage}
+use Rattle.rh_shell.specs.Wires.{of_leg}
+use Rattle.rh_passages.specs.Passing.{Has}
+use Rattle.rh_server.specs.States.{Server, no_cookie}
+use Rattle.rh_server_puts.specs.Puts.{os}
+use Rattle.rh_server_rows.specs.Cookies.{IsOutChannel}
+
+-- an acknowledgement to an out proxy has the cookie with which the channel of its leg began, or the
+-- one of zeros that stands for none
+abbrev pub PassesOnOwn : Passage Server → Type 0
+PassesOnOwn p =
+    (n received window : ℕ) (cookie : Cookie)
+    → Has (AckTo 3 received window cookie) (of_leg (os n) p.put)
+    → IsOutChannel n cookie p.came ⊎ (cookie ≡ no_cookie)

@@ -1,0 +1,5 @@
+pub mod Channels
+pub mod Acks
+pub mod Opened
+pub mod Numbers
+pub mod Answers
