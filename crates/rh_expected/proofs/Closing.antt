@@ -62,7 +62,8 @@ use Rattle.rh_amiss.specs.Amiss.{amiss_by}
 use Rattle.rh_amiss.proofs.AtNodes.{RolesKnow, in_next, out_next, server_next}
 use Rattle.rh_amiss.proofs.Moments.{AllFlow, OfStreams, flowing, flows, story, world}
 use Rattle.rh_amiss.proofs.Next.{never_amiss}
-use Rattle.rh_expected.specs.Roles.{Facts, InExpectsClient, InExpectsServer, OutExpectsClient, OutExpectsServer, ServerExpectsIn, ServerExpectsOut, moves_of, numbers}
+use Rattle.rh_pasts.specs.Pasts.{moves_of, numbers}
+use Rattle.rh_expected.specs.Roles.{Facts, InExpectsClient, InExpectsServer, OutExpectsClient, OutExpectsServer, ServerExpectsIn, ServerExpectsOut}
 
 -- ---- the laws that this stands on
 

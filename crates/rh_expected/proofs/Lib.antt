@@ -1,2 +1,3 @@
 pub mod Cookies
 pub mod Closing
+pub mod Facts

@@ -1,7 +1,6 @@
 -- what the roles expect of each other at the moments of a virtual connection (MS-RPCH 3.2; profile)
 use Rattle.std.specs.Prelude.{◌≡◌, ◌≤◌, ℕ}
 use Rattle.rh_shell.specs.Wires.{of_leg}
-use Rattle.rh_nodes.specs.Company.{Company}
 use Rattle.rh_nodes.specs.Opening.{Makers}
 use Rattle.rh_nodes.specs.Readers.{reader_of}
 use Rattle.rh_nodes.specs.World.{World}
@@ -14,7 +13,7 @@ use Rattle.rh_outproxy.specs.OutProxy.{OutProxy}
 use Rattle.rh_server.specs.Servers as server
 use Rattle.rh_server.specs.States.{Server}
 use Rattle.rh_history.specs.Carried.{happened}
-use Rattle.rh_history.specs.Histories.{History, IsNew}
+use Rattle.rh_history.specs.Histories.{IsNew}
 use Rattle.rh_reading.specs.Reading.{all_read_of}
 use Rattle.rh_traced.specs.Cookies.{ByChanges}
 use Rattle.rh_traced.specs.Ours.{AreOurs, deeds, rules}
@@ -24,30 +23,9 @@ use Rattle.rh_fifo.specs.Flows.{IsFlowing}
 use Rattle.rh_fifo.specs.Premises.{AreInRange}
 use Rattle.rh_client_hops.specs.Premises.{AreDistinct}
 use Rattle.rh_hops.specs.Hops.{is_leg, os_leg}
+use Rattle.rh_pasts.specs.Pasts.{moves_of, numbers}
 use Rattle.rh_moments.specs.Expecting.{Expects, HasNoPingFirst}
 use Rattle.rh_moments.specs.Moments.{Moves, Numbers, client_behind, in_behind, out_behind, server_behind}
-
--- ---- the moment of a world
-
--- the numbers with which its roles were made
-abbrev pub numbers : {K : Type 0} {m : Makers K InProxy OutProxy}
-    {first : Company ClientRole Server InProxy OutProxy} {cast : K} → AreOurs m first cast → Numbers
-numbers ours = record {
-  client = ours.config;
-  window = ours.window;
-  ins = ours.in_config;
-  outs = ours.out_config;
-}
-
--- the moves by which its streams lead
-abbrev pub moves_of : {K : Type 0} {all : fifo.Numbers}
-    {w v : World K ClientRole Server InProxy OutProxy} {h : History} → IsFlowing all w v h → Moves
-moves_of flowing = record {
-  client = flowing.flows.client.leads.moves;
-  server = flowing.flows.server.leads.moves;
-  ins = λ m. (flowing.flows.ins m).leads.moves;
-  outs = λ n. (flowing.flows.outs n).leads.moves;
-}
 
 -- ---- what the roles expect at each
 

@@ -20,7 +20,8 @@ use Rattle.rh_client_hops.proofs.Joined.{Reads}
 use Rattle.rh_moments.specs.Moments.{Moves, Numbers}
 use Rattle.rh_amiss.proofs.AtNodes.{RolesKnow}
 use Rattle.rh_amiss.proofs.Moments.{AllFlow}
-use Rattle.rh_expected.specs.Roles.{InExpects, OutExpectsClient, OutExpectsServer, ServerExpectsIn, ServerExpectsOut, WorldsExpect, numbers}
+use Rattle.rh_pasts.specs.Pasts.{numbers}
+use Rattle.rh_expected.specs.Roles.{InExpects, OutExpectsClient, OutExpectsServer, ServerExpectsIn, ServerExpectsOut, WorldsExpect}
 use Rattle.rh_expected.proofs.Closing.{AtMoment, NodesLaws, no_in_amiss, no_out_amiss_of_client, no_out_amiss_of_server, no_server_amiss_of_in, no_server_amiss_of_out}
 use Rattle.rh_expected.proofs.expecting.no_node_refuses_what_it_expects.Goals as goal
 
