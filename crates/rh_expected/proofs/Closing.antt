@@ -13,6 +13,7 @@ use Rattle.rh_record.specs.declared.answer.Who.{Who}
 use Rattle.rh_record.specs.declared.answer.Who.TheVariants as who
 use Rattle.rh_shell.specs.declared.answers.Refused.{Refused}
 use Rattle.rh_shell.specs.Moves.{EndPassage, Passage}
+use Rattle.rh_shell.specs.Moving as moving
 use Rattle.rh_shell.specs.Rules.{Rules}
 use Rattle.rh_shell.specs.Shells.{Shell}
 use Rattle.rh_shell.specs.Wires.{of_leg}
@@ -53,8 +54,6 @@ use Rattle.rh_honest.proofs.Fed.{told_what, told_who}
 use Rattle.rh_hops.specs.Hops.{is_leg, os_leg}
 use Rattle.rh_hops.proofs.Moment.{Laws, NodeLaws, known}
 use Rattle.rh_hops.proofs.Stopping.{Readings}
-use Rattle.rh_client_hops.specs.Premises.{AreDistinct}
-use Rattle.rh_client_hops.proofs.Honest.{distinct_behind}
 use Rattle.rh_client_hops.proofs.Joined.{Reads}
 use Rattle.rh_moments.specs.Expecting.{Expects, HasNoPingFirst, IsAmiss}
 use Rattle.rh_moments.specs.Moments.{Moves, Numbers, in_behind, out_behind, server_behind}
@@ -63,6 +62,7 @@ use Rattle.rh_amiss.proofs.AtNodes.{RolesKnow, in_next, out_next, server_next}
 use Rattle.rh_amiss.proofs.Moments.{AllFlow, OfStreams, flowing, flows, story, world}
 use Rattle.rh_amiss.proofs.Next.{never_amiss}
 use Rattle.rh_pasts.specs.Pasts.{moves_of, numbers}
+use Rattle.rh_expected.proofs.Facts.{IsOfCookies, came_before}
 use Rattle.rh_expected.specs.Roles.{Facts, InExpectsClient, InExpectsServer, OutExpectsClient, OutExpectsServer, ServerExpectsIn, ServerExpectsOut}
 
 -- ---- the laws that this stands on
@@ -81,13 +81,12 @@ pub record NodesLaws : Type 0 where
   pub ins : NodeLaws in_proxy.rules
   pub outs : NodeLaws out_proxy.rules
 
--- that holds of the moves by which the streams of a world lead, where no two legs of one kind came
--- up at the client under one cookie
+-- that holds of the moves by which the streams of a world lead, where its client's legs came up so
 abbrev pub AtMoment : {K : Type 0} {m : Makers K InProxy OutProxy}
-    {w : World K ClientRole Server InProxy OutProxy} → Facts
+    {w : World K ClientRole Server InProxy OutProxy} → (List moving.Event → Type 0) → Facts
     → (ours : AreOurs m w.company w.cast) → OfStreams (numbers_of ours) w
-AtMoment Holds ours u h f =
-    AreDistinct (happened h.client) → Holds (reader_of u.readers) (moves_of f)
+AtMoment Fits Holds ours u h f =
+    Fits (happened h.client) → Holds (reader_of u.readers) (moves_of f)
 
 -- a piece on another leg closes no node with a cause that names this one
 abbrev pub NamesLeg : Leg → Cause → Type 1
@@ -103,10 +102,11 @@ out_number a b e = cc
 
 module _ {K : Type 0} (roles : RolesKnow) (nodes : NodesLaws) (reads : Reads) (readings : Readings)
     (m : Makers K InProxy OutProxy) (w : World K ClientRole Server InProxy OutProxy)
-    (ours : AreOurs m w.company w.cast) (law : Laws m w ours) (Holds : Facts)
-    (flow : AllFlow m w ours (AtMoment Holds ours))
+    (ours : AreOurs m w.company w.cast) (law : Laws m w ours)
+    (Fits : List moving.Event → Type 0) (keeps : IsOfCookies Fits) (Holds : Facts)
+    (flow : AllFlow m w ours (AtMoment Fits Holds ours))
     (v : World K ClientRole Server InProxy OutProxy) (by : ByChanges rules m deeds w v)
-    (distinct : AreDistinct (happened (history_at m w v by.leads).client)) where
+    (fits : Fits (happened (history_at m w v by.leads).client)) where
   abbrev May : Leg → Dir → Type 0
   May leg dir = MayChange rules v (IsFed leg dir 0)
 
@@ -117,19 +117,21 @@ module _ {K : Type 0} (roles : RolesKnow) (nodes : NodesLaws) (reads : Reads) (r
 
   module _ (leg : Leg) (dir : Dir) (may : May leg dir) (count : ℕ) where
     abbrev then_flows : IsFlowing (numbers_of ours) w
-        (world reads readings m w v ours law (AtMoment Holds ours) flow by leg dir (λ k. may)
+        (world reads readings m w v ours law (AtMoment Fits Holds ours) flow by leg dir (λ k. may)
         count)
-        (story reads readings m w v ours law (AtMoment Holds ours) flow by leg dir (λ k. may)
+        (story reads readings m w v ours law (AtMoment Fits Holds ours) flow by leg dir (λ k. may)
         count)
     then_flows =
-        flows reads readings m w v ours law (AtMoment Holds ours) flow by leg dir (λ k. may) count
+        flows reads readings m w v ours law (AtMoment Fits Holds ours) flow by leg dir (λ k. may)
+        count
 
     moment : Holds (reader_of v.readers) (moves_of then_flows)
     moment =
-        (flowing reads readings m w v ours law (AtMoment Holds ours) flow by leg dir (λ k. may)
+        (flowing reads readings m w v ours law (AtMoment Fits Holds ours) flow by leg dir (λ k. may)
         count).holds
-        (distinct_behind w.company.client v (history_at m w v by.leads) leg dir count
-        (known m w v ours law by leg dir (λ k. may)).traced.runs.client distinct)
+        (keeps (happened (history_at m w v by.leads).client) _
+        (came_before w.company.client v (history_at m w v by.leads) leg dir count
+        (known m w v ours law by leg dir (λ k. may)).traced.runs.client) fits)
 
   -- that holds there too
   abbrev pub Gives : (Numbers → Facts) → Type 0
@@ -179,7 +181,7 @@ module _ {K : Type 0} (roles : RolesKnow) (nodes : NodesLaws) (reads : Reads) (r
       in_at_client : Gives InExpectsClient → (n : ℕ) → InAt (ci n)
       in_at_client expects n D count node up there may here closes = absurd cc
       in_at_client expects n U count node up there may here closes =
-          let next = in_next roles reads readings m w v ours law (AtMoment Holds ours) flow by
+          let next = in_next roles reads readings m w v ours law (AtMoment Fits Holds ours) flow by
           (ci n) U (λ j. may) r amiss (λ e. refl) why tells count (who.In k) here nodes.ins k refl
           node up there closes in
           let flowed = then_flows (ci n) U may next.0 in
@@ -201,7 +203,7 @@ module _ {K : Type 0} (roles : RolesKnow) (nodes : NodesLaws) (reads : Reads) (r
       in_at_server : Gives InExpectsServer → (n : ℕ) → InAt (is_leg n)
       in_at_server expects n U count node up there may here closes = absurd cc
       in_at_server expects n D count node up there may here closes =
-          let next = in_next roles reads readings m w v ours law (AtMoment Holds ours) flow by
+          let next = in_next roles reads readings m w v ours law (AtMoment Fits Holds ours) flow by
           (is_leg n) D (λ j. may) r amiss (λ e. refl) why tells count (who.In k) here nodes.ins
           k refl node up there closes in
           let flowed = then_flows (is_leg n) D may next.0 in
@@ -285,7 +287,7 @@ module _ {K : Type 0} (roles : RolesKnow) (nodes : NodesLaws) (reads : Reads) (r
       out_at_client : Gives OutExpectsClient → (n : ℕ) → OutAt (co n)
       out_at_client expects n D count node up there may here closes = absurd cc
       out_at_client expects n U count node up there may here closes =
-          let next = out_next roles reads readings m w v ours law (AtMoment Holds ours) flow by
+          let next = out_next roles reads readings m w v ours law (AtMoment Fits Holds ours) flow by
           (co n) U (λ j. may) r amiss (λ e. refl) why tells count (who.Out k) here nodes.outs k
           refl node up there closes in
           let flowed = then_flows (co n) U may next.0 in
@@ -308,7 +310,7 @@ module _ {K : Type 0} (roles : RolesKnow) (nodes : NodesLaws) (reads : Reads) (r
       out_at_server : Gives OutExpectsServer → (n : ℕ) → OutAt (os_leg n)
       out_at_server expects n U count node up there may here closes = absurd cc
       out_at_server expects n D count node up there may here closes =
-          let next = out_next roles reads readings m w v ours law (AtMoment Holds ours) flow by
+          let next = out_next roles reads readings m w v ours law (AtMoment Fits Holds ours) flow by
           (os_leg n) D (λ j. may) r amiss (λ e. refl) why tells count (who.Out k) here nodes.outs
           k refl node up there closes in
           let flowed = then_flows (os_leg n) D may next.0 in
@@ -389,8 +391,8 @@ module _ {K : Type 0} (roles : RolesKnow) (nodes : NodesLaws) (reads : Reads) (r
         → (n : ℕ) → ServerAt (is_leg n)
     server_at_in expects n D count may here closes = absurd cc
     server_at_in expects n U count may here closes =
-        let next = server_next roles reads readings m w v ours law (AtMoment Holds ours) flow by
-        (is_leg n) U (λ j. may) r amiss (λ e. refl) why tells count who.Server here nodes.server
+        let next = server_next roles reads readings m w v ours law (AtMoment Fits Holds ours) flow
+        by (is_leg n) U (λ j. may) r amiss (λ e. refl) why tells count who.Server here nodes.server
         refl closes in
         let flowed = then_flows (is_leg n) U may next.0 in
         let moves : Moves = moves_of flowed in
@@ -411,8 +413,8 @@ module _ {K : Type 0} (roles : RolesKnow) (nodes : NodesLaws) (reads : Reads) (r
     server_at_out : Gives ServerExpectsOut → (n : ℕ) → ServerAt (os_leg n)
     server_at_out expects n D count may here closes = absurd cc
     server_at_out expects n U count may here closes =
-        let next = server_next roles reads readings m w v ours law (AtMoment Holds ours) flow by
-        (os_leg n) U (λ j. may) r amiss (λ e. refl) why tells count who.Server here nodes.server
+        let next = server_next roles reads readings m w v ours law (AtMoment Fits Holds ours) flow
+        by (os_leg n) U (λ j. may) r amiss (λ e. refl) why tells count who.Server here nodes.server
         refl closes in
         let flowed = then_flows (os_leg n) U may next.0 in
         let moves : Moves = moves_of flowed in

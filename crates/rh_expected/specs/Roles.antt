@@ -1,5 +1,6 @@
 -- what the roles expect of each other at the moments of a virtual connection (MS-RPCH 3.2; profile)
-use Rattle.std.specs.Prelude.{◌≡◌, ◌≤◌, ℕ}
+use Rattle.std.specs.Prelude.{◌≡◌, ◌≤◌, ℕ, List}
+use Rattle.rh_shell.specs.Moving.{Event}
 use Rattle.rh_shell.specs.Wires.{of_leg}
 use Rattle.rh_nodes.specs.Opening.{Makers}
 use Rattle.rh_nodes.specs.Readers.{reader_of}
@@ -11,9 +12,10 @@ use Rattle.rh_inproxy.specs.State.{InProxy}
 use Rattle.rh_outproxy.specs.Machine as out_proxy
 use Rattle.rh_outproxy.specs.OutProxy.{OutProxy}
 use Rattle.rh_server.specs.Servers as server
-use Rattle.rh_server.specs.States.{Server}
+use Rattle.rh_server.specs.States.{Server, no_cookie}
 use Rattle.rh_history.specs.Carried.{happened}
 use Rattle.rh_history.specs.Histories.{IsNew}
+use Rattle.rh_passages.specs.Rising.{CameUpWith}
 use Rattle.rh_reading.specs.Reading.{all_read_of}
 use Rattle.rh_traced.specs.Cookies.{ByChanges}
 use Rattle.rh_traced.specs.Ours.{AreOurs, deeds, rules}
@@ -72,23 +74,31 @@ pub record ServerExpectsOut (all : Numbers) (reader : ℕ → ℕ) (moves : Move
       (all_read_of (of_leg (os_leg n) (out_behind all moves n).put))
   pub first : (n : ℕ) → HasNoPingFirst (of_leg (os_leg n) (out_behind all moves n).put)
 
+-- ---- the cookies of the client's legs
+
+-- no two legs of one kind came up under one cookie, and no OUT leg under the cookie of zeros, which
+-- a server takes for none (MS-RPCH 2.2.3.1; profile)
+pub record HaveCookies (events : List Event) : Type 0 where
+  pub distinct : AreDistinct events
+  pub some : (n : ℕ) → CameUpWith events (co n) no_cookie → ⊥
+
 -- ---- and in the worlds of roles
 
--- a world has streams that the roles expect so, where no two legs of one kind came up at the client
--- under one cookie
-pub record IsExpecting (Holds : Numbers → (ℕ → ℕ) → Moves → Type 0) {K : Type 0}
-    (m : Makers K InProxy OutProxy) (w : World K ClientRole Server InProxy OutProxy)
+-- a world has streams that the roles expect so, where that holds of what happened at the client
+pub record IsExpecting (Fits : List Event → Type 0) (Holds : Numbers → (ℕ → ℕ) → Moves → Type 0)
+    {K : Type 0} (m : Makers K InProxy OutProxy) (w : World K ClientRole Server InProxy OutProxy)
     (ours : AreOurs m w.company w.cast) (v : World K ClientRole Server InProxy OutProxy)
     (by : ByChanges rules m deeds w v) : Type 0 where
   pub flowing : IsFlowing (fifo.numbers_of ours) w v (history_at m w v by.leads)
-  pub expects : AreDistinct (happened (history_at m w v by.leads).client)
+  pub expects : Fits (happened (history_at m w v by.leads).client)
       → Holds (numbers ours) (reader_of v.readers) (moves_of flowing)
 
 -- so it is in each world that changes of lines and half steps reach from new roles whose numbers
 -- are in their ranges
-abbrev pub WorldsExpect : Type 0 → (Numbers → (ℕ → ℕ) → Moves → Type 0) → Type 0
-WorldsExpect K Holds =
+abbrev pub WorldsExpect : Type 0 → (List Event → Type 0) → (Numbers → (ℕ → ℕ) → Moves → Type 0)
+    → Type 0
+WorldsExpect K Fits Holds =
     (m : Makers K InProxy OutProxy) (w : World K ClientRole Server InProxy OutProxy) → IsNew w
     → (ours : AreOurs m w.company w.cast) → AreInRange (fifo.numbers_of ours)
     → (v : World K ClientRole Server InProxy OutProxy) (by : ByChanges rules m deeds w v)
-    → IsExpecting Holds m w ours v by
+    → IsExpecting Fits Holds m w ours v by

@@ -1,6 +1,7 @@
-use Rattle.std.proofs.Common.{ℕ, refl}
+use Rattle.std.proofs.Common.{ℕ, List, refl}
 use Rattle.rh_line.specs.declared.cause.Cause.TheVariants as cause
 use Rattle.rh_shell.specs.declared.answers.Refused.TheVariants as refused
+use Rattle.rh_shell.specs.Moving.{Event}
 use Rattle.rh_nodes.specs.Opening.{Makers}
 use Rattle.rh_nodes.specs.World.{World}
 use Rattle.rh_client.specs.declared.state.ClientRole.{ClientRole}
@@ -21,7 +22,9 @@ use Rattle.rh_moments.specs.Moments.{Moves, Numbers}
 use Rattle.rh_amiss.proofs.AtNodes.{RolesKnow}
 use Rattle.rh_amiss.proofs.Moments.{AllFlow}
 use Rattle.rh_pasts.specs.Pasts.{numbers}
-use Rattle.rh_expected.specs.Roles.{InExpects, OutExpectsClient, OutExpectsServer, ServerExpectsIn, ServerExpectsOut, WorldsExpect}
+use Rattle.rh_client_hops.specs.Premises.{AreDistinct}
+use Rattle.rh_expected.specs.Roles.{HaveCookies, InExpects, OutExpectsClient, OutExpectsServer, ServerExpectsIn, ServerExpectsOut, WorldsExpect}
+use Rattle.rh_expected.proofs.Facts.{distinct_of_cookies, have_of_cookies}
 use Rattle.rh_expected.proofs.Closing.{AtMoment, NodesLaws, no_in_amiss, no_out_amiss_of_client, no_out_amiss_of_server, no_server_amiss_of_in, no_server_amiss_of_out}
 use Rattle.rh_expected.proofs.expecting.no_node_refuses_what_it_expects.Goals as goal
 
@@ -29,61 +32,71 @@ pub returns : goal.returns
 returns g c = record {
   in_unexpected = λ expect m w new ours ranges v by distinct change may k leg place closes.
       no_in_amiss roles nodes reads readings m w ours (law m w new ours ranges)
-      (InExpects (numbers ours)) (flow InExpects expect m w new ours ranges) v by distinct
+      AreDistinct distinct_of_cookies
+      (InExpects (numbers ours)) (flow AreDistinct InExpects expect m w new ours ranges) v by distinct
       (cause.Unexpected leg place) (refused.Unexpected) refl tt (λ event S its shell comes. comes) k
       (λ reader moves holds. holds.client) (λ reader moves holds. holds.server) change may
       closes;
   in_cookie = λ expect m w new ours ranges v by distinct change may k leg expected got closes.
       no_in_amiss roles nodes reads readings m w ours (law m w new ours ranges)
-      (InExpects (numbers ours)) (flow InExpects expect m w new ours ranges) v by distinct
+      AreDistinct distinct_of_cookies
+      (InExpects (numbers ours)) (flow AreDistinct InExpects expect m w new ours ranges) v by distinct
       (cause.CookieMismatch leg expected got) (refused.Cookie expected got) refl tt (λ event S its shell comes. comes) k
       (λ reader moves holds. holds.client) (λ reader moves holds. holds.server) change may
       closes;
   out_client_unexpected = λ expect m w new ours ranges v by distinct change may k n place closes.
       no_out_amiss_of_client roles nodes reads readings m w ours (law m w new ours ranges)
-      (OutExpectsClient (numbers ours)) (flow OutExpectsClient expect m w new ours ranges) v by distinct
+      AreDistinct distinct_of_cookies
+      (OutExpectsClient (numbers ours)) (flow AreDistinct OutExpectsClient expect m w new ours ranges) v by distinct
       (cause.Unexpected (co n) place) (refused.Unexpected) refl tt (λ event S its shell comes. comes) k
       (λ reader moves holds. holds) n (λ S its node leg piece amiss. amiss.cause) change may
       closes;
   out_client_cookie = λ expect m w new ours ranges v by distinct change may k n expected got closes.
       no_out_amiss_of_client roles nodes reads readings m w ours (law m w new ours ranges)
-      (OutExpectsClient (numbers ours)) (flow OutExpectsClient expect m w new ours ranges) v by distinct
+      AreDistinct distinct_of_cookies
+      (OutExpectsClient (numbers ours)) (flow AreDistinct OutExpectsClient expect m w new ours ranges) v by distinct
       (cause.CookieMismatch (co n) expected got) (refused.Cookie expected got) refl tt (λ event S its shell comes. comes) k
       (λ reader moves holds. holds) n (λ S its node leg piece amiss. amiss.cause) change may
       closes;
   out_server_unexpected = λ expect m w new ours ranges v by distinct change may k n place closes.
       no_out_amiss_of_server roles nodes reads readings m w ours (law m w new ours ranges)
-      (OutExpectsServer (numbers ours)) (flow OutExpectsServer expect m w new ours ranges) v by distinct
+      HaveCookies have_of_cookies
+      (OutExpectsServer (numbers ours)) (flow HaveCookies OutExpectsServer expect m w new ours ranges) v by distinct
       (cause.Unexpected (os_leg n) place) (refused.Unexpected) refl tt (λ event S its shell comes. comes) k
       (λ reader moves holds. holds) n (λ S its node leg piece amiss. amiss.cause) change may
       closes;
   out_server_cookie = λ expect m w new ours ranges v by distinct change may k n expected got closes.
       no_out_amiss_of_server roles nodes reads readings m w ours (law m w new ours ranges)
-      (OutExpectsServer (numbers ours)) (flow OutExpectsServer expect m w new ours ranges) v by distinct
+      HaveCookies have_of_cookies
+      (OutExpectsServer (numbers ours)) (flow HaveCookies OutExpectsServer expect m w new ours ranges) v by distinct
       (cause.CookieMismatch (os_leg n) expected got) (refused.Cookie expected got) refl tt (λ event S its shell comes. comes) k
       (λ reader moves holds. holds) n (λ S its node leg piece amiss. amiss.cause) change may
       closes;
   server_in_unexpected = λ expect m w new ours ranges v by distinct change may n place closes.
       no_server_amiss_of_in roles nodes reads readings m w ours (law m w new ours ranges)
-      (ServerExpectsIn (numbers ours)) (flow ServerExpectsIn expect m w new ours ranges) v by distinct
+      AreDistinct distinct_of_cookies
+      (ServerExpectsIn (numbers ours)) (flow AreDistinct ServerExpectsIn expect m w new ours ranges) v by distinct
       (cause.Unexpected (is_leg n) place) (refused.Unexpected) refl tt (λ event S its shell comes. comes)
       (λ reader moves holds. holds) n (λ S its node leg piece amiss. amiss.cause) change may
       closes;
   server_in_cookie = λ expect m w new ours ranges v by distinct change may n expected got closes.
       no_server_amiss_of_in roles nodes reads readings m w ours (law m w new ours ranges)
-      (ServerExpectsIn (numbers ours)) (flow ServerExpectsIn expect m w new ours ranges) v by distinct
+      AreDistinct distinct_of_cookies
+      (ServerExpectsIn (numbers ours)) (flow AreDistinct ServerExpectsIn expect m w new ours ranges) v by distinct
       (cause.CookieMismatch (is_leg n) expected got) (refused.Cookie expected got) refl tt (λ event S its shell comes. comes)
       (λ reader moves holds. holds) n (λ S its node leg piece amiss. amiss.cause) change may
       closes;
   server_out_unexpected = λ expect m w new ours ranges v by distinct change may n place closes.
       no_server_amiss_of_out roles nodes reads readings m w ours (law m w new ours ranges)
-      (ServerExpectsOut (numbers ours)) (flow ServerExpectsOut expect m w new ours ranges) v by distinct
+      AreDistinct distinct_of_cookies
+      (ServerExpectsOut (numbers ours)) (flow AreDistinct ServerExpectsOut expect m w new ours ranges) v by distinct
       (cause.Unexpected (os_leg n) place) (refused.Unexpected) refl tt (λ event S its shell comes. comes)
       (λ reader moves holds. holds) n (λ S its node leg piece amiss. amiss.cause) change may
       closes;
   server_out_cookie = λ expect m w new ours ranges v by distinct change may n expected got closes.
       no_server_amiss_of_out roles nodes reads readings m w ours (law m w new ours ranges)
-      (ServerExpectsOut (numbers ours)) (flow ServerExpectsOut expect m w new ours ranges) v by distinct
+      AreDistinct distinct_of_cookies
+      (ServerExpectsOut (numbers ours)) (flow AreDistinct ServerExpectsOut expect m w new ours ranges) v by distinct
       (cause.CookieMismatch (os_leg n) expected got) (refused.Cookie expected got) refl tt (λ event S its shell comes. comes)
       (λ reader moves holds. holds) n (λ S its node leg piece amiss. amiss.cause) change may
       closes;
@@ -170,11 +183,11 @@ returns g c = record {
       drawn = c.what_is_heard_was_drawn.ensures rules m deeds w.company;
     }
 
-    flow : (Holds : Numbers → (ℕ → ℕ) → Moves → Type 0)
-        → WorldsExpect g.row.K.Denot Holds → (m : Makers g.row.K.Denot InProxy OutProxy)
+    flow : (Fits : List Event → Type 0) (Holds : Numbers → (ℕ → ℕ) → Moves → Type 0)
+        → WorldsExpect g.row.K.Denot Fits Holds → (m : Makers g.row.K.Denot InProxy OutProxy)
         (w : World g.row.K.Denot ClientRole Server InProxy OutProxy) → IsNew w
         → (ours : AreOurs m w.company w.cast) → AreInRange (numbers_of ours)
-        → AllFlow m w ours (AtMoment (Holds (numbers ours)) ours)
-    flow Holds expect m w new ours ranges u by =
+        → AllFlow m w ours (AtMoment Fits (Holds (numbers ours)) ours)
+    flow Fits Holds expect m w new ours ranges u by =
         let here = expect m w new ours ranges u by in
         record { flows = here.flowing; holds = here.expects }

@@ -44,22 +44,6 @@ returns c = record {
       (own_distinct (happened (history_at roles.makers (roles.begun config) v by.leads).client) own)
       change may k n expected got closes) before line (c.cookies_of_a_recording_are_left.ensures before line)
       (c.each_close_of_a_recording_shows.ensures before line (who.Out k) why told);
-  out_server_unexpected = λ expect before line k n place told.
-      let why = cause.Unexpected (os_leg n) place in
-      of_recording_apart (who.Out k) why ⊥ (λ config range v by own change may closes.
-      c.no_node_refuses_what_it_expects.ensures.out_server_unexpected expect roles.makers (roles.begun config)
-      (new config) (ours config) range v by
-      (own_distinct (happened (history_at roles.makers (roles.begun config) v by.leads).client) own)
-      change may k n place closes) before line (c.cookies_of_a_recording_are_left.ensures before line)
-      (c.each_close_of_a_recording_shows.ensures before line (who.Out k) why told);
-  out_server_cookie = λ expect before line k n expected got told.
-      let why = cause.CookieMismatch (os_leg n) expected got in
-      of_recording_apart (who.Out k) why ⊥ (λ config range v by own change may closes.
-      c.no_node_refuses_what_it_expects.ensures.out_server_cookie expect roles.makers (roles.begun config)
-      (new config) (ours config) range v by
-      (own_distinct (happened (history_at roles.makers (roles.begun config) v by.leads).client) own)
-      change may k n expected got closes) before line (c.cookies_of_a_recording_are_left.ensures before line)
-      (c.each_close_of_a_recording_shows.ensures before line (who.Out k) why told);
   server_in_unexpected = λ expect before line n place told.
       let why = cause.Unexpected (is_leg n) place in
       of_recording_apart (who.Server) why ⊥ (λ config range v by own change may closes.
