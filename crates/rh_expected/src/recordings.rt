@@ -19,7 +19,10 @@ ghost use Rattle.rh_expected.specs.Roles.{InExpects, OutExpectsClient, ServerExp
 ghost use Rattle.rh_expected.specs.Roles.{ServerExpectsOut, WorldsExpect};
 
 use crate::expecting::no_node_refuses_what_it_expects;
-use crate::roles::{no_in_proxy_refuses_what_comes, no_server_refuses_its_out_proxies};
+use crate::roles::{
+    no_in_proxy_refuses_what_comes, no_out_proxy_refuses_its_server,
+    no_server_refuses_its_out_proxies,
+};
 use crate::worlds::a_client_refuses_no_cookie;
 use rh_closes::each_close_of_a_recording_shows;
 use rh_cookies::cookies_of_a_recording_are_left;
@@ -52,6 +55,22 @@ pub fn no_in_proxy_of_a_recording_refuses_what_comes()
     cookies_of_a_recording_are_left();
     each_close_of_a_recording_shows();
     no_in_proxy_refuses_what_comes::<Config>();
+}
+
+/// And in none of an out proxy that closed so for what the server put: no OUT leg of the client has
+/// the cookie of zeros, which a server takes for none (MS-RPCH 3.2.4, 3.2.5; successors are this
+/// profile's).
+pub fn no_out_proxy_of_a_recording_refuses_its_server()
+    ensures unexpected { (before : List Line) (line : Line) (k n place : ℕ)
+        → IsOneOf (NodeClosed (Out k) (Unexpected (os_leg n) place))
+        (step (after Before before) line).1 → ⊥ }
+    ensures cookie { (before : List Line) (line : Line) (k n : ℕ) (expected got : Cookie)
+        → IsOneOf (NodeClosed (Out k) (CookieMismatch (os_leg n) expected got))
+        (step (after Before before) line).1 → ⊥ }
+{
+    cookies_of_a_recording_are_left();
+    each_close_of_a_recording_shows();
+    no_out_proxy_refuses_its_server::<Config>();
 }
 
 /// And in none of a server that closed so for what an out proxy put (MS-RPCH 3.2.5; successors are
