@@ -1,6 +1,6 @@
--- up to the change that closes a node of a recording no leg of its client came up under the cookie of
--- zeros, and the cookies differ
-use Rattle.std.proofs.Common.{◌≡◌, ◌<◌, ℕ, inl, inr, arith, true, List, [], ◌∷◌, ◌++◌, append_assoc, sym, ap, ◌∙◌, subst}
+-- up to the change that closes a node of a recording no leg of its client came up under the cookie
+-- of zeros, and the cookies differ
+use Rattle.std.proofs.Common.{◌≡◌, ◌<◌, inl, inr, arith, true, List, [], ◌∷◌, ◌++◌, append_assoc, sym, ap, ◌∙◌, subst}
 use Rattle.std.specs.List.{list_all}
 use Rattle.std.proofs.lemmas.Bool.{and_parts}
 use Rattle.std.proofs.lemmas.List.Folds.{list_all-append}
@@ -46,7 +46,6 @@ use Rattle.rh_honest.specs.Cookies.{AreLeftIn}
 use Rattle.rh_client_hops.proofs.Distinct.{own_distinct}
 use Rattle.rh_expected.specs.Roles.{HaveCookies}
 use Rattle.rh_expected.proofs.Zeros.{some_cookies}
-
 
 -- the two tell of the same events
 rose : (events : List Event) (leg : Leg) (cookie : Cookie)

@@ -17,7 +17,7 @@ use Rattle.rh_nodes.specs.Opening.{Makers}
 use Rattle.rh_nodes.specs.World.{World}
 use Rattle.rh_history.specs.Carried.{happened}
 use Rattle.rh_history.specs.Changes.{Change, IsTold, IsFed, IsDrawn, GoesUp, RaisesAlone, GoesDown, OpensIn, OpensOut, OpensSame, Gives, Takes, Closes, RecyclesIn, RecyclesOut, MovesTo, Draws, Reports, changed}
-use Rattle.rh_history.specs.Drawn.{AreDrawn, AreLeft, DrawsBy, HaveOwnCookies, RoseWith, all_risen, risen}
+use Rattle.rh_history.specs.Drawn.{AreDrawn, AreLeft, DrawsBy, RoseWith, all_risen, risen}
 use Rattle.rh_history.specs.Histories.{History, acts_by, all_noted, noted, nothing, to_node, told_to}
 use Rattle.rh_history.proofs.Appended.{happened_append}
 use Rattle.rh_history.proofs.Drawing.{drawn_rises, risen_append}

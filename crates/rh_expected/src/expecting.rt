@@ -1,5 +1,5 @@
-//! What comes at the proxies and the server of a world of roles, where they expect it. This function
-//! does nothing: its contract is the law.
+//! What comes at the proxies and the server of a world of roles, where they expect it. This
+//! function does nothing: its contract is the law.
 
 ghost use Rattle.std.specs.Prelude.{ℕ};
 ghost use Rattle.rh_rts.specs.declared.command.Cookie.{Cookie};
@@ -55,19 +55,21 @@ use rh_unused::{
 /// Where in each world of new roles whose numbers are in their ranges, at every moment that changes
 /// of lines and half steps reach, a node expects what comes next on a leg, and no two legs of the
 /// client of one kind came up under one cookie: no further change closes that node with
-/// `Unexpected` or `CookieMismatch` of the leg. So it is of an in proxy on each of its legs, of an out proxy on
-/// the client's and on the server's, and of the server on those of in proxies and on those of out
-/// proxies. An out proxy may expect what the server put only where no OUT leg of the client came up
-/// under the cookie of zeros (MS-RPCH 3.2; profile).
+/// `Unexpected` or `CookieMismatch` of the leg. So it is of an in proxy on each of its legs, of an
+/// out proxy on the client's and on the server's, and of the server on those of in proxies and on
+/// those of out proxies. An out proxy may expect what the server put only where no OUT leg of the
+/// client came up under the cookie of zeros (MS-RPCH 3.2; profile).
 pub fn no_node_refuses_what_it_expects<K>()
-    ensures in_unexpected { WorldsExpect K AreDistinct InExpects → (m : Makers K InProxy OutProxy)
+    ensures in_unexpected { WorldsExpect K AreDistinct InExpects
+        → (m : Makers K InProxy OutProxy)
         (w : World K ClientRole Server InProxy OutProxy) → IsNew w
         → (ours : AreOurs m w.company w.cast) → AreInRange (numbers_of ours)
         → (v : World K ClientRole Server InProxy OutProxy) (by : ByChanges rules m deeds w v)
         → AreDistinct (happened (history_at m w v by.leads).client)
         → (change : Change) → MayChange rules v change → (k : ℕ) (leg : Leg) (place : ℕ)
         → ClosesNode rules v change (In k) (Unexpected leg place) → ⊥ }
-    ensures in_cookie { WorldsExpect K AreDistinct InExpects → (m : Makers K InProxy OutProxy)
+    ensures in_cookie { WorldsExpect K AreDistinct InExpects
+        → (m : Makers K InProxy OutProxy)
         (w : World K ClientRole Server InProxy OutProxy) → IsNew w
         → (ours : AreOurs m w.company w.cast) → AreInRange (numbers_of ours)
         → (v : World K ClientRole Server InProxy OutProxy) (by : ByChanges rules m deeds w v)
@@ -75,14 +77,16 @@ pub fn no_node_refuses_what_it_expects<K>()
         → (change : Change) → MayChange rules v change → (k : ℕ) (leg : Leg)
         (expected got : Cookie)
         → ClosesNode rules v change (In k) (CookieMismatch leg expected got) → ⊥ }
-    ensures out_client_unexpected { WorldsExpect K AreDistinct OutExpectsClient → (m : Makers K InProxy OutProxy)
+    ensures out_client_unexpected { WorldsExpect K AreDistinct OutExpectsClient
+        → (m : Makers K InProxy OutProxy)
         (w : World K ClientRole Server InProxy OutProxy) → IsNew w
         → (ours : AreOurs m w.company w.cast) → AreInRange (numbers_of ours)
         → (v : World K ClientRole Server InProxy OutProxy) (by : ByChanges rules m deeds w v)
         → AreDistinct (happened (history_at m w v by.leads).client)
         → (change : Change) → MayChange rules v change → (k n place : ℕ)
         → ClosesNode rules v change (Out k) (Unexpected (co n) place) → ⊥ }
-    ensures out_client_cookie { WorldsExpect K AreDistinct OutExpectsClient → (m : Makers K InProxy OutProxy)
+    ensures out_client_cookie { WorldsExpect K AreDistinct OutExpectsClient
+        → (m : Makers K InProxy OutProxy)
         (w : World K ClientRole Server InProxy OutProxy) → IsNew w
         → (ours : AreOurs m w.company w.cast) → AreInRange (numbers_of ours)
         → (v : World K ClientRole Server InProxy OutProxy) (by : ByChanges rules m deeds w v)
@@ -90,14 +94,16 @@ pub fn no_node_refuses_what_it_expects<K>()
         → (change : Change) → MayChange rules v change → (k n : ℕ)
         (expected got : Cookie)
         → ClosesNode rules v change (Out k) (CookieMismatch (co n) expected got) → ⊥ }
-    ensures out_server_unexpected { WorldsExpect K HaveCookies OutExpectsServer → (m : Makers K InProxy OutProxy)
+    ensures out_server_unexpected { WorldsExpect K HaveCookies OutExpectsServer
+        → (m : Makers K InProxy OutProxy)
         (w : World K ClientRole Server InProxy OutProxy) → IsNew w
         → (ours : AreOurs m w.company w.cast) → AreInRange (numbers_of ours)
         → (v : World K ClientRole Server InProxy OutProxy) (by : ByChanges rules m deeds w v)
         → HaveCookies (happened (history_at m w v by.leads).client)
         → (change : Change) → MayChange rules v change → (k n place : ℕ)
         → ClosesNode rules v change (Out k) (Unexpected (os_leg n) place) → ⊥ }
-    ensures out_server_cookie { WorldsExpect K HaveCookies OutExpectsServer → (m : Makers K InProxy OutProxy)
+    ensures out_server_cookie { WorldsExpect K HaveCookies OutExpectsServer
+        → (m : Makers K InProxy OutProxy)
         (w : World K ClientRole Server InProxy OutProxy) → IsNew w
         → (ours : AreOurs m w.company w.cast) → AreInRange (numbers_of ours)
         → (v : World K ClientRole Server InProxy OutProxy) (by : ByChanges rules m deeds w v)
@@ -105,14 +111,16 @@ pub fn no_node_refuses_what_it_expects<K>()
         → (change : Change) → MayChange rules v change → (k n : ℕ)
         (expected got : Cookie)
         → ClosesNode rules v change (Out k) (CookieMismatch (os_leg n) expected got) → ⊥ }
-    ensures server_in_unexpected { WorldsExpect K AreDistinct ServerExpectsIn → (m : Makers K InProxy OutProxy)
+    ensures server_in_unexpected { WorldsExpect K AreDistinct ServerExpectsIn
+        → (m : Makers K InProxy OutProxy)
         (w : World K ClientRole Server InProxy OutProxy) → IsNew w
         → (ours : AreOurs m w.company w.cast) → AreInRange (numbers_of ours)
         → (v : World K ClientRole Server InProxy OutProxy) (by : ByChanges rules m deeds w v)
         → AreDistinct (happened (history_at m w v by.leads).client)
         → (change : Change) → MayChange rules v change → (n place : ℕ)
         → ClosesNode rules v change AtServer (Unexpected (is_leg n) place) → ⊥ }
-    ensures server_in_cookie { WorldsExpect K AreDistinct ServerExpectsIn → (m : Makers K InProxy OutProxy)
+    ensures server_in_cookie { WorldsExpect K AreDistinct ServerExpectsIn
+        → (m : Makers K InProxy OutProxy)
         (w : World K ClientRole Server InProxy OutProxy) → IsNew w
         → (ours : AreOurs m w.company w.cast) → AreInRange (numbers_of ours)
         → (v : World K ClientRole Server InProxy OutProxy) (by : ByChanges rules m deeds w v)
@@ -120,14 +128,16 @@ pub fn no_node_refuses_what_it_expects<K>()
         → (change : Change) → MayChange rules v change → (n : ℕ)
         (expected got : Cookie)
         → ClosesNode rules v change AtServer (CookieMismatch (is_leg n) expected got) → ⊥ }
-    ensures server_out_unexpected { WorldsExpect K AreDistinct ServerExpectsOut → (m : Makers K InProxy OutProxy)
+    ensures server_out_unexpected { WorldsExpect K AreDistinct ServerExpectsOut
+        → (m : Makers K InProxy OutProxy)
         (w : World K ClientRole Server InProxy OutProxy) → IsNew w
         → (ours : AreOurs m w.company w.cast) → AreInRange (numbers_of ours)
         → (v : World K ClientRole Server InProxy OutProxy) (by : ByChanges rules m deeds w v)
         → AreDistinct (happened (history_at m w v by.leads).client)
         → (change : Change) → MayChange rules v change → (n place : ℕ)
         → ClosesNode rules v change AtServer (Unexpected (os_leg n) place) → ⊥ }
-    ensures server_out_cookie { WorldsExpect K AreDistinct ServerExpectsOut → (m : Makers K InProxy OutProxy)
+    ensures server_out_cookie { WorldsExpect K AreDistinct ServerExpectsOut
+        → (m : Makers K InProxy OutProxy)
         (w : World K ClientRole Server InProxy OutProxy) → IsNew w
         → (ours : AreOurs m w.company w.cast) → AreInRange (numbers_of ours)
         → (v : World K ClientRole Server InProxy OutProxy) (by : ByChanges rules m deeds w v)

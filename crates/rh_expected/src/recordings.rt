@@ -1,4 +1,5 @@
-//! What comes at the nodes of a recording. These functions do nothing: their contracts are the laws.
+//! What comes at the nodes of a recording. These functions do nothing: their contracts are the
+//! laws.
 
 ghost use Rattle.std.specs.Prelude.{List, ℕ};
 ghost use Rattle.rh_rts.specs.declared.command.Cookie.{Cookie};
@@ -98,7 +99,8 @@ pub fn no_node_of_a_recording_refuses_what_it_expects()
         (step (after Before before) line).1 → ⊥ }
     ensures in_cookie { WorldsExpect WorldConfig AreDistinct InExpects
         → (before : List Line) (line : Line)
-        (k : ℕ) (leg : Leg) (expected got : Cookie) → IsOneOf (NodeClosed (In k) (CookieMismatch leg expected got))
+        (k : ℕ) (leg : Leg) (expected got : Cookie)
+        → IsOneOf (NodeClosed (In k) (CookieMismatch leg expected got))
         (step (after Before before) line).1 → ⊥ }
     ensures out_client_unexpected { WorldsExpect WorldConfig AreDistinct OutExpectsClient
         → (before : List Line) (line : Line)
@@ -106,7 +108,8 @@ pub fn no_node_of_a_recording_refuses_what_it_expects()
         (step (after Before before) line).1 → ⊥ }
     ensures out_client_cookie { WorldsExpect WorldConfig AreDistinct OutExpectsClient
         → (before : List Line) (line : Line)
-        (k n : ℕ) (expected got : Cookie) → IsOneOf (NodeClosed (Out k) (CookieMismatch (co n) expected got))
+        (k n : ℕ) (expected got : Cookie)
+        → IsOneOf (NodeClosed (Out k) (CookieMismatch (co n) expected got))
         (step (after Before before) line).1 → ⊥ }
     ensures server_in_unexpected { WorldsExpect WorldConfig AreDistinct ServerExpectsIn
         → (before : List Line) (line : Line)
@@ -114,7 +117,8 @@ pub fn no_node_of_a_recording_refuses_what_it_expects()
         (step (after Before before) line).1 → ⊥ }
     ensures server_in_cookie { WorldsExpect WorldConfig AreDistinct ServerExpectsIn
         → (before : List Line) (line : Line)
-        (n : ℕ) (expected got : Cookie) → IsOneOf (NodeClosed AtServer (CookieMismatch (is_leg n) expected got))
+        (n : ℕ) (expected got : Cookie)
+        → IsOneOf (NodeClosed AtServer (CookieMismatch (is_leg n) expected got))
         (step (after Before before) line).1 → ⊥ }
     ensures server_out_unexpected { WorldsExpect WorldConfig AreDistinct ServerExpectsOut
         → (before : List Line) (line : Line)
@@ -122,7 +126,8 @@ pub fn no_node_of_a_recording_refuses_what_it_expects()
         (step (after Before before) line).1 → ⊥ }
     ensures server_out_cookie { WorldsExpect WorldConfig AreDistinct ServerExpectsOut
         → (before : List Line) (line : Line)
-        (n : ℕ) (expected got : Cookie) → IsOneOf (NodeClosed AtServer (CookieMismatch (os_leg n) expected got))
+        (n : ℕ) (expected got : Cookie)
+        → IsOneOf (NodeClosed AtServer (CookieMismatch (os_leg n) expected got))
         (step (after Before before) line).1 → ⊥ }
 {
     cookies_of_a_recording_are_left();

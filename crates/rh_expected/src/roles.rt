@@ -62,8 +62,8 @@ pub fn no_in_proxy_refuses_what_comes<K>()
     a_client_puts_no_ping_first();
 }
 
-/// And none closes the server with these causes for what an out proxy put (MS-RPCH 3.2.5; successors
-/// are this profile's).
+/// And none closes the server with these causes for what an out proxy put (MS-RPCH 3.2.5;
+/// successors are this profile's).
 pub fn no_server_refuses_its_out_proxies<K>()
     ensures unexpected { (m : Makers K InProxy OutProxy)
         (w : World K ClientRole Server InProxy OutProxy) → IsNew w
