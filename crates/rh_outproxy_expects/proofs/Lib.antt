@@ -6,5 +6,3 @@ mod NotEarly
 mod Ordered
 mod Expecting
 mod Zeros
-mod Opening
-mod Asking

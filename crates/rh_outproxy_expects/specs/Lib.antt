@@ -1,3 +1,2 @@
 pub mod Early
 pub mod Premises
-pub mod Asked

@@ -2,14 +2,10 @@
 //! unexpected, or for its cookie. The contracts of its functions are the laws.
 #![tactic(auto)]
 
-pub mod asked;
-pub mod client;
 pub mod early;
 pub mod expects;
 pub mod in_proxies;
 
-pub use asked::an_out_proxy_is_asked_before_packets_come;
-pub use client::an_out_proxy_expects_its_client;
 pub use early::no_server_is_early;
 pub use expects::an_out_proxy_expects_its_server;
 pub use in_proxies::an_in_proxy_puts_quietly;

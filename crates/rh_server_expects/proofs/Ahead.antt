@@ -32,10 +32,9 @@ use Rattle.rh_rounds.specs.Rounds.{GoRound}
 use Rattle.rh_moments.specs.Expecting.{Expects, IsAmiss}
 use Rattle.rh_moments.specs.Moments.{AreJoined, HaveCookies, Moves, Numbers, client_behind, out_behind, passages, server_behind}
 use Rattle.rh_server_expects.proofs.Connections.{Connecting, channel_is, connection_is}
-use Rattle.rh_server_expects.proofs.NotEarly.{passes_conn_a2}
 use Rattle.rh_server_expects.proofs.Logs.{counted_some, some_counted, some_leg}
 use Rattle.rh_server_expects.proofs.Moment as at
-use Rattle.rh_server_expects.proofs.Moment.{IsConnA2, OpensOuts}
+use Rattle.rh_server_expects.proofs.Moment.{IsConnA2, OpensOuts, passes_conn_a2}
 use Rattle.rh_server_expects.proofs.Refused.{not_other, nothing_before, one_before}
 use Rattle.rh_server_expects.proofs.Opened.{IsFirstPacket, IsLaterPacket, IsNext, next_packet, no_acks, no_pdu}
 

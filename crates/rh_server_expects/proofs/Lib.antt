@@ -5,7 +5,6 @@ mod Refused
 mod Opened
 mod Moment
 mod FirstIn
-mod NotEarly
 mod Connections
 mod Ahead
 mod InOrder

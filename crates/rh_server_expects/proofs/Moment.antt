@@ -1,6 +1,6 @@
 -- OUT channels at a moment of a virtual connection, by what came at the server and what the client
 -- put
-use Rattle.std.proofs.Common.{◌≡◌, ℕ, List, subst}
+use Rattle.std.proofs.Common.{◌≡◌, ℕ, true, List, subst}
 use mathlib.Core.List.{IsPrefix}
 use Rattle.rh_rts.specs.declared.command.Cookie.{Cookie}
 use Rattle.rh_sig.specs.declared.named.Named.{Named}
@@ -15,6 +15,7 @@ use Rattle.rh_client.specs.State.{co}
 use Rattle.rh_outproxy.specs.OutProxy.{OutProxy}
 use Rattle.rh_server.specs.States.{Server}
 use Rattle.rh_reading.specs.Reading.{all_read_of}
+use Rattle.rh_server_counts.specs.Counting.{is_conn_a2}
 use Rattle.rh_passages.specs.Passing.{HasOne, of_kind}
 use Rattle.rh_passages.specs.Rising.{HasComeUp}
 use Rattle.rh_proxy_counts.specs.OutCounts.{co_leg, os_leg, NamesNew, NamesSuccessor}
@@ -32,6 +33,10 @@ use Rattle.rh_server_expects.proofs.Opened.{IsOpening, came_to_server, opening}
 abbrev pub IsConnA2 : Named → Type 0
 IsConnA2 (ConnA2 version connection channel lifetime window) = Unit {0}
 IsConnA2 packet = ⊥
+
+pub passes_conn_a2 : (named : Named) → is_conn_a2 named ≡ true → IsConnA2 named
+passes_conn_a2 (ConnA2 version connection channel lifetime window) passes = tt
+passes_conn_a2 packet passes = absurd cc
 
 -- ---- a moment
 

@@ -12,10 +12,10 @@ ghost use Rattle.rh_moments.specs.Moments.{IsMoment, Moves, Numbers};
 ghost use Rattle.rh_moments.specs.Moments.{in_behind, out_behind, server_behind};
 ghost use Rattle.rh_server_expects.specs.Expected.{ExpectsThose, OpensOrConfirms};
 
-use crate::early::a_client_is_never_opened_early;
 use crate::in_proxies::an_in_proxy_connects_as_it_was_asked;
 use rh_client_counts::{a_client_names_its_in_channels, a_client_replaces_out_channels_one_by_one};
 use rh_client_puts::{a_client_opens_out_channels_in_order, a_client_switches_in_order};
+use rh_inproxy_expects::no_client_is_opened_early;
 use rh_outproxy_puts::an_out_proxy_opens_to_the_server_first;
 use rh_proxy_counts::an_in_proxy_puts_for_what_came;
 use rh_rounds::replacements_go_round;
@@ -32,7 +32,7 @@ pub fn a_server_expects_its_out_proxies()
         → (n : ℕ) → Expects rules (server_behind numbers moves).passage (os_leg n)
         (all_read_of (of_leg (os_leg n) (out_behind numbers moves n).put)) }
 {
-    a_client_is_never_opened_early();
+    no_client_is_opened_early();
     a_client_names_its_in_channels();
     a_client_opens_out_channels_in_order();
     a_client_replaces_out_channels_one_by_one();

@@ -3,12 +3,10 @@
 //! the laws.
 #![tactic(auto)]
 
-pub mod early;
 pub mod expects;
 pub mod in_proxies;
 pub mod pings;
 
-pub use early::a_client_is_never_opened_early;
 pub use expects::{a_server_expects_its_in_proxies, a_server_expects_its_out_proxies};
 pub use in_proxies::{
     an_in_proxy_connects_as_it_was_asked, an_in_proxy_that_puts_nothing_early_puts_in_order,

@@ -27,5 +27,5 @@ returns c numbers reader moves moment =
           made.client;
       round = c.replacements_go_round.ensures numbers reader moves made moment.now.joined;
       cookies = moment.now.cookies;
-      late = c.a_client_is_never_opened_early.ensures.out numbers reader moves moment;
+      late = c.no_client_is_opened_early.ensures.outs numbers reader moves moment;
     })

@@ -1,0 +1,4 @@
+mod OwnHeads
+mod Named
+mod Framed
+mod Expecting
