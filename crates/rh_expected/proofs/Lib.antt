@@ -1,0 +1,5 @@
+pub mod Cookies
+pub mod Closing
+pub mod Facts
+pub mod Zeros
+pub mod Recorded

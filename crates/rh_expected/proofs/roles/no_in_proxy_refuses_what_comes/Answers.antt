@@ -1,0 +1,45 @@
+use Rattle.rh_shell.specs.Wires.{of_leg}
+use Rattle.rh_nodes.specs.Readers.{reader_of}
+use Rattle.rh_client.specs.Order.{client_moved}
+use Rattle.rh_client.specs.State.{ci}
+use Rattle.rh_ordered.specs.Premises.{history_at}
+use Rattle.rh_pasts.specs.Pasts.{moves_of, numbers}
+use Rattle.rh_client_hops.specs.Premises.{AreDistinct}
+use Rattle.rh_expected.specs.Roles.{InExpects, WorldsExpect}
+use Rattle.rh_expected.proofs.Facts.{are_read, no_ping}
+use Rattle.rh_expected.proofs.roles.no_in_proxy_refuses_what_comes.Goals as goal
+
+pub returns : goal.returns
+returns g c = record {
+  unexpected = λ m w new ours ranges v by distinct change may k leg place closes.
+      c.no_node_refuses_what_it_expects.ensures.in_unexpected worlds m w new ours ranges v by
+      distinct change may k leg place closes;
+  cookie = λ m w new ours ranges v by distinct change may k leg expected got closes.
+      c.no_node_refuses_what_it_expects.ensures.in_cookie worlds m w new ours ranges v by distinct
+      change may k leg expected got closes;
+}
+  where
+    worlds : WorldsExpect g.row.K.Denot AreDistinct InExpects
+    worlds m w new ours ranges v by =
+        let here = c.a_world_of_roles_is_at_a_moment.ensures m w new ours ranges v by in
+        let known = c.a_recording_of_roles_is_known.ensures.changes m w v new ours by.leads in
+        record {
+          flowing = here.flowing;
+          expects = λ distinct.
+              let now = here.moment distinct in
+              let moves = moves_of here.flowing in record {
+                client = record {
+                  next = c.an_in_proxy_expects_what_comes.ensures.client (numbers ours)
+                      (reader_of v.readers) moves now
+                      (are_read m w v ours (history_at m w v by.leads) known.traced here.flowing);
+                  first = λ n.
+                      no_ping (of_leg (ci n) (client_moved ours.config moves.client).passage.put)
+                      ((c.a_client_puts_no_ping_first.ensures ours.config moves.client
+                      now.now.made.client).ins n);
+                };
+                server = record {
+                  next = c.an_in_proxy_expects_what_comes.ensures.server (numbers ours)
+                      (reader_of v.readers) moves now;
+                };
+              };
+        }

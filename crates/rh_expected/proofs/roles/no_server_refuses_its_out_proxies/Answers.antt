@@ -1,0 +1,30 @@
+use Rattle.rh_nodes.specs.Readers.{reader_of}
+use Rattle.rh_pasts.specs.Pasts.{moves_of, numbers}
+use Rattle.rh_client_hops.specs.Premises.{AreDistinct}
+use Rattle.rh_expected.specs.Roles.{ServerExpectsOut, WorldsExpect}
+use Rattle.rh_expected.proofs.roles.no_server_refuses_its_out_proxies.Goals as goal
+
+pub returns : goal.returns
+returns g c = record {
+  unexpected = λ m w new ours ranges v by distinct change may n place closes.
+      c.no_node_refuses_what_it_expects.ensures.server_out_unexpected worlds m w new ours ranges v
+      by distinct change may n place closes;
+  cookie = λ m w new ours ranges v by distinct change may n expected got closes.
+      c.no_node_refuses_what_it_expects.ensures.server_out_cookie worlds m w new ours ranges v by
+      distinct change may n expected got closes;
+}
+  where
+    worlds : WorldsExpect g.row.K.Denot AreDistinct ServerExpectsOut
+    worlds m w new ours ranges v by =
+        let here = c.a_world_of_roles_is_at_a_moment.ensures m w new ours ranges v by in
+        record {
+          flowing = here.flowing;
+          expects = λ distinct.
+              let now = here.moment distinct in
+              let moves = moves_of here.flowing in record {
+                next = c.a_server_expects_its_out_proxies.ensures (numbers ours)
+                    (reader_of v.readers) moves now;
+                first = c.no_ping_goes_first_to_a_server.ensures.outs (numbers ours) moves
+                    now.now.made;
+              };
+        }

@@ -1,0 +1,104 @@
+-- what the roles expect of each other at the moments of a virtual connection (MS-RPCH 3.2; profile)
+use Rattle.std.specs.Prelude.{◌≡◌, ◌≤◌, ℕ, List}
+use Rattle.rh_shell.specs.Moving.{Event}
+use Rattle.rh_shell.specs.Wires.{of_leg}
+use Rattle.rh_nodes.specs.Opening.{Makers}
+use Rattle.rh_nodes.specs.Readers.{reader_of}
+use Rattle.rh_nodes.specs.World.{World}
+use Rattle.rh_client.specs.declared.state.ClientRole.{ClientRole}
+use Rattle.rh_client.specs.State.{ci, co}
+use Rattle.rh_inproxy.specs.Machine as in_proxy
+use Rattle.rh_inproxy.specs.State.{InProxy}
+use Rattle.rh_outproxy.specs.Machine as out_proxy
+use Rattle.rh_outproxy.specs.OutProxy.{OutProxy}
+use Rattle.rh_server.specs.Servers as server
+use Rattle.rh_server.specs.States.{Server, no_cookie}
+use Rattle.rh_history.specs.Carried.{happened}
+use Rattle.rh_history.specs.Histories.{IsNew}
+use Rattle.rh_passages.specs.Rising.{CameUpWith}
+use Rattle.rh_reading.specs.Reading.{all_read_of}
+use Rattle.rh_traced.specs.Cookies.{ByChanges}
+use Rattle.rh_traced.specs.Ours.{AreOurs, deeds, rules}
+use Rattle.rh_ordered.specs.Premises.{history_at}
+use Rattle.rh_fifo.specs.Flows as fifo
+use Rattle.rh_fifo.specs.Flows.{IsFlowing}
+use Rattle.rh_fifo.specs.Premises.{AreInRange}
+use Rattle.rh_client_hops.specs.Premises.{AreDistinct}
+use Rattle.rh_hops.specs.Hops.{is_leg, os_leg}
+use Rattle.rh_pasts.specs.Pasts.{moves_of, numbers}
+use Rattle.rh_moments.specs.Expecting.{Expects, HasNoPingFirst}
+use Rattle.rh_moments.specs.Moments.{Moves, Numbers, client_behind, in_behind, out_behind, server_behind}
+
+-- ---- what the roles expect at each
+
+-- what holds of moves, by the in proxies that read the IN channels of the client
+abbrev pub Facts : Type 1
+Facts = (ℕ → ℕ) → Moves → Type 0
+
+-- an in proxy expects what the client put on a ci leg that it reads, where no Ping goes first
+pub record InExpectsClient (all : Numbers) (reader : ℕ → ℕ) (moves : Moves) : Type 0 where
+  pub next : (m n : ℕ) → reader n ≡ m → 1 ≤ m
+      → Expects in_proxy.rules (in_behind all moves m) (ci n)
+      (all_read_of (of_leg (ci n) (client_behind all moves).passage.put))
+  pub first : (n : ℕ) → HasNoPingFirst (of_leg (ci n) (client_behind all moves).passage.put)
+
+-- and what the server put on its is leg
+pub record InExpectsServer (all : Numbers) (reader : ℕ → ℕ) (moves : Moves) : Type 0 where
+  pub next : (m : ℕ) → Expects in_proxy.rules (in_behind all moves m) (is_leg m)
+      (all_read_of (of_leg (is_leg m) (server_behind all moves).passage.put))
+
+pub record InExpects (all : Numbers) (reader : ℕ → ℕ) (moves : Moves) : Type 0 where
+  pub client : InExpectsClient all reader moves
+  pub server : InExpectsServer all reader moves
+
+-- an out proxy expects what the client put on its co leg, where no Ping goes first
+pub record OutExpectsClient (all : Numbers) (reader : ℕ → ℕ) (moves : Moves) : Type 0 where
+  pub next : (n : ℕ) → Expects out_proxy.rules (out_behind all moves n) (co n)
+      (all_read_of (of_leg (co n) (client_behind all moves).passage.put))
+  pub first : (n : ℕ) → HasNoPingFirst (of_leg (co n) (client_behind all moves).passage.put)
+
+-- and what the server put on its os leg
+pub record OutExpectsServer (all : Numbers) (reader : ℕ → ℕ) (moves : Moves) : Type 0 where
+  pub next : (n : ℕ) → Expects out_proxy.rules (out_behind all moves n) (os_leg n)
+      (all_read_of (of_leg (os_leg n) (server_behind all moves).passage.put))
+
+-- the server expects what an in proxy put to it, where no Ping goes first
+pub record ServerExpectsIn (all : Numbers) (reader : ℕ → ℕ) (moves : Moves) : Type 0 where
+  pub next : (m : ℕ) → Expects server.rules (server_behind all moves).passage (is_leg m)
+      (all_read_of (of_leg (is_leg m) (in_behind all moves m).put))
+  pub first : (m : ℕ) → HasNoPingFirst (of_leg (is_leg m) (in_behind all moves m).put)
+
+-- and what an out proxy put to it
+pub record ServerExpectsOut (all : Numbers) (reader : ℕ → ℕ) (moves : Moves) : Type 0 where
+  pub next : (n : ℕ) → Expects server.rules (server_behind all moves).passage (os_leg n)
+      (all_read_of (of_leg (os_leg n) (out_behind all moves n).put))
+  pub first : (n : ℕ) → HasNoPingFirst (of_leg (os_leg n) (out_behind all moves n).put)
+
+-- ---- the cookies of the client's legs
+
+-- no two legs of one kind came up under one cookie, and no OUT leg under the cookie of zeros, which
+-- a server takes for none (MS-RPCH 2.2.3.1; profile)
+pub record HaveCookies (events : List Event) : Type 0 where
+  pub distinct : AreDistinct events
+  pub some : (n : ℕ) → CameUpWith events (co n) no_cookie → ⊥
+
+-- ---- and in the worlds of roles
+
+-- a world has streams that the roles expect so, where that holds of what happened at the client
+pub record IsExpecting (Fits : List Event → Type 0) (Holds : Numbers → (ℕ → ℕ) → Moves → Type 0)
+    {K : Type 0} (m : Makers K InProxy OutProxy) (w : World K ClientRole Server InProxy OutProxy)
+    (ours : AreOurs m w.company w.cast) (v : World K ClientRole Server InProxy OutProxy)
+    (by : ByChanges rules m deeds w v) : Type 0 where
+  pub flowing : IsFlowing (fifo.numbers_of ours) w v (history_at m w v by.leads)
+  pub expects : Fits (happened (history_at m w v by.leads).client)
+      → Holds (numbers ours) (reader_of v.readers) (moves_of flowing)
+
+-- so it is in each world that changes of lines and half steps reach from new roles whose numbers
+-- are in their ranges
+abbrev pub WorldsExpect : Type 0 → (List Event → Type 0) → (Numbers → (ℕ → ℕ) → Moves → Type 0)
+    → Type 0
+WorldsExpect K Fits Holds =
+    (m : Makers K InProxy OutProxy) (w : World K ClientRole Server InProxy OutProxy) → IsNew w
+    → (ours : AreOurs m w.company w.cast) → AreInRange (fifo.numbers_of ours)
+    → (v : World K ClientRole Server InProxy OutProxy) (by : ByChanges rules m deeds w v)
+    → IsExpecting Fits Holds m w ours v by

@@ -1,0 +1,21 @@
+//! What comes next is expected: no change of a world of roles closes a node since a packet, an RPC
+//! PDU or a greeting came that was not to come there, or that named another cookie. Its functions
+//! do nothing: their contracts are the laws.
+#![tactic(auto)]
+
+pub mod expecting;
+pub mod recordings;
+pub mod roles;
+pub mod worlds;
+
+pub use expecting::no_node_refuses_what_it_expects;
+pub use recordings::{
+    a_client_of_a_recording_refuses_no_cookie, no_in_proxy_of_a_recording_refuses_what_comes,
+    no_node_of_a_recording_refuses_what_it_expects, no_out_proxy_of_a_recording_refuses_its_server,
+    no_server_of_a_recording_refuses_its_out_proxies,
+};
+pub use roles::{
+    no_in_proxy_refuses_what_comes, no_out_proxy_refuses_its_server,
+    no_server_refuses_its_out_proxies,
+};
+pub use worlds::a_client_refuses_no_cookie;

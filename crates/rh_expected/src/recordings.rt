@@ -1,0 +1,136 @@
+//! What comes at the nodes of a recording. These functions do nothing: their contracts are the
+//! laws.
+
+ghost use Rattle.std.specs.Prelude.{List, ℕ};
+ghost use Rattle.rh_rts.specs.declared.command.Cookie.{Cookie};
+ghost use Rattle.rh_line.specs.declared.cause.Cause.TheVariants.{CookieMismatch, Unexpected};
+ghost use Rattle.rh_line.specs.declared.leg.Leg.{Leg};
+ghost use Rattle.rh_record.specs.declared.answer.Answer.TheVariants.{NodeClosed};
+ghost use Rattle.rh_record.specs.declared.answer.Who.TheVariants.{Client as AtClient, In, Out};
+ghost use Rattle.rh_record.specs.declared.answer.Who.TheVariants.{Server as AtServer};
+ghost use Rattle.rh_record.specs.declared.line.Line.{Line};
+ghost use Rattle.rh_client.specs.State.{co};
+ghost use Rattle.rh_history.specs.Closes.{IsOneOf};
+ghost use Rattle.rh_world.specs.declared.any_world.AnyWorld.TheVariants.{Before};
+ghost use Rattle.rh_world.specs.declared.config.WorldConfig.{WorldConfig};
+ghost use Rattle.rh_world.specs.Any.{after, step};
+ghost use Rattle.rh_hops.specs.Hops.{is_leg, os_leg};
+ghost use Rattle.rh_client_hops.specs.Premises.{AreDistinct};
+ghost use Rattle.rh_expected.specs.Roles.{InExpects, OutExpectsClient, ServerExpectsIn};
+ghost use Rattle.rh_expected.specs.Roles.{ServerExpectsOut, WorldsExpect};
+
+use crate::expecting::no_node_refuses_what_it_expects;
+use crate::roles::{
+    no_in_proxy_refuses_what_comes, no_out_proxy_refuses_its_server,
+    no_server_refuses_its_out_proxies,
+};
+use crate::worlds::a_client_refuses_no_cookie;
+use rh_closes::each_close_of_a_recording_shows;
+use rh_cookies::cookies_of_a_recording_are_left;
+use rh_world::WorldConfig as Config;
+
+/// In no recording does a report tell of a client that closed with `CookieMismatch`: whatever a
+/// recording cuts, delays, breaks and replaces (MS-RPCH 2.2.4).
+pub fn a_client_of_a_recording_refuses_no_cookie()
+    ensures { (before : List Line) (line : Line) (leg : Leg) (expected got : Cookie)
+        → IsOneOf (NodeClosed AtClient (CookieMismatch leg expected got))
+        (step (after Before before) line).1 → ⊥ }
+{
+    each_close_of_a_recording_shows();
+    a_client_refuses_no_cookie::<Config>();
+}
+
+/// In no recording does a report tell of an in proxy that closed with `Unexpected` or
+/// `CookieMismatch`, on any leg: whatever a recording cuts, delays, breaks and replaces, what the
+/// client and the server put for it comes in its turn, and names the cookies that it knows (MS-RPCH
+/// 3.2.3; successors are this profile's).
+pub fn no_in_proxy_of_a_recording_refuses_what_comes()
+    ensures unexpected { (before : List Line) (line : Line) (k : ℕ) (leg : Leg) (place : ℕ)
+        → IsOneOf (NodeClosed (In k) (Unexpected leg place))
+        (step (after Before before) line).1 → ⊥ }
+    ensures cookie { (before : List Line) (line : Line) (k : ℕ) (leg : Leg)
+        (expected got : Cookie)
+        → IsOneOf (NodeClosed (In k) (CookieMismatch leg expected got))
+        (step (after Before before) line).1 → ⊥ }
+{
+    cookies_of_a_recording_are_left();
+    each_close_of_a_recording_shows();
+    no_in_proxy_refuses_what_comes::<Config>();
+}
+
+/// And in none of an out proxy that closed so for what the server put: no OUT leg of the client has
+/// the cookie of zeros, which a server takes for none (MS-RPCH 3.2.4, 3.2.5; successors are this
+/// profile's).
+pub fn no_out_proxy_of_a_recording_refuses_its_server()
+    ensures unexpected { (before : List Line) (line : Line) (k n place : ℕ)
+        → IsOneOf (NodeClosed (Out k) (Unexpected (os_leg n) place))
+        (step (after Before before) line).1 → ⊥ }
+    ensures cookie { (before : List Line) (line : Line) (k n : ℕ) (expected got : Cookie)
+        → IsOneOf (NodeClosed (Out k) (CookieMismatch (os_leg n) expected got))
+        (step (after Before before) line).1 → ⊥ }
+{
+    cookies_of_a_recording_are_left();
+    each_close_of_a_recording_shows();
+    no_out_proxy_refuses_its_server::<Config>();
+}
+
+/// And in none of a server that closed so for what an out proxy put (MS-RPCH 3.2.5; successors are
+/// this profile's).
+pub fn no_server_of_a_recording_refuses_its_out_proxies()
+    ensures unexpected { (before : List Line) (line : Line) (n place : ℕ)
+        → IsOneOf (NodeClosed AtServer (Unexpected (os_leg n) place))
+        (step (after Before before) line).1 → ⊥ }
+    ensures cookie { (before : List Line) (line : Line) (n : ℕ) (expected got : Cookie)
+        → IsOneOf (NodeClosed AtServer (CookieMismatch (os_leg n) expected got))
+        (step (after Before before) line).1 → ⊥ }
+{
+    cookies_of_a_recording_are_left();
+    each_close_of_a_recording_shows();
+    no_server_refuses_its_out_proxies::<Config>();
+}
+
+/// Where in each world of roles a node expects what comes next on a leg, no report of a recording
+/// tells that the node closed with `Unexpected` or `CookieMismatch` of that leg: each leg of the
+/// client has a cookie that no other had (MS-RPCH 2.2.3.1, 3.2; profile).
+pub fn no_node_of_a_recording_refuses_what_it_expects()
+    ensures in_unexpected { WorldsExpect WorldConfig AreDistinct InExpects
+        → (before : List Line) (line : Line)
+        (k : ℕ) (leg : Leg) (place : ℕ) → IsOneOf (NodeClosed (In k) (Unexpected leg place))
+        (step (after Before before) line).1 → ⊥ }
+    ensures in_cookie { WorldsExpect WorldConfig AreDistinct InExpects
+        → (before : List Line) (line : Line)
+        (k : ℕ) (leg : Leg) (expected got : Cookie)
+        → IsOneOf (NodeClosed (In k) (CookieMismatch leg expected got))
+        (step (after Before before) line).1 → ⊥ }
+    ensures out_client_unexpected { WorldsExpect WorldConfig AreDistinct OutExpectsClient
+        → (before : List Line) (line : Line)
+        (k n : ℕ) (place : ℕ) → IsOneOf (NodeClosed (Out k) (Unexpected (co n) place))
+        (step (after Before before) line).1 → ⊥ }
+    ensures out_client_cookie { WorldsExpect WorldConfig AreDistinct OutExpectsClient
+        → (before : List Line) (line : Line)
+        (k n : ℕ) (expected got : Cookie)
+        → IsOneOf (NodeClosed (Out k) (CookieMismatch (co n) expected got))
+        (step (after Before before) line).1 → ⊥ }
+    ensures server_in_unexpected { WorldsExpect WorldConfig AreDistinct ServerExpectsIn
+        → (before : List Line) (line : Line)
+        (n : ℕ) (place : ℕ) → IsOneOf (NodeClosed AtServer (Unexpected (is_leg n) place))
+        (step (after Before before) line).1 → ⊥ }
+    ensures server_in_cookie { WorldsExpect WorldConfig AreDistinct ServerExpectsIn
+        → (before : List Line) (line : Line)
+        (n : ℕ) (expected got : Cookie)
+        → IsOneOf (NodeClosed AtServer (CookieMismatch (is_leg n) expected got))
+        (step (after Before before) line).1 → ⊥ }
+    ensures server_out_unexpected { WorldsExpect WorldConfig AreDistinct ServerExpectsOut
+        → (before : List Line) (line : Line)
+        (n : ℕ) (place : ℕ) → IsOneOf (NodeClosed AtServer (Unexpected (os_leg n) place))
+        (step (after Before before) line).1 → ⊥ }
+    ensures server_out_cookie { WorldsExpect WorldConfig AreDistinct ServerExpectsOut
+        → (before : List Line) (line : Line)
+        (n : ℕ) (expected got : Cookie)
+        → IsOneOf (NodeClosed AtServer (CookieMismatch (os_leg n) expected got))
+        (step (after Before before) line).1 → ⊥ }
+{
+    cookies_of_a_recording_are_left();
+    each_close_of_a_recording_shows();
+    no_node_refuses_what_it_expects::<Config>();
+}

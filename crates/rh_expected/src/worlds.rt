@@ -1,0 +1,65 @@
+//! What comes at the client of a world of roles. This function does nothing: its contract is the
+//! law.
+
+ghost use Rattle.rh_rts.specs.declared.command.Cookie.{Cookie};
+ghost use Rattle.rh_line.specs.declared.cause.Cause.TheVariants.{CookieMismatch};
+ghost use Rattle.rh_line.specs.declared.leg.Leg.{Leg};
+ghost use Rattle.rh_record.specs.declared.answer.Who.TheVariants.{Client as AtClient};
+ghost use Rattle.rh_nodes.specs.Opening.{Makers};
+ghost use Rattle.rh_nodes.specs.World.{World};
+ghost use Rattle.rh_client.specs.declared.state.ClientRole.{ClientRole};
+ghost use Rattle.rh_inproxy.specs.State.{InProxy};
+ghost use Rattle.rh_outproxy.specs.OutProxy.{OutProxy};
+ghost use Rattle.rh_server.specs.States.{Server};
+ghost use Rattle.rh_history.specs.Changes.{Change, MayChange};
+ghost use Rattle.rh_history.specs.Closes.{ClosesNode};
+ghost use Rattle.rh_history.specs.Histories.{IsNew};
+ghost use Rattle.rh_traced.specs.Cookies.{ByChanges};
+ghost use Rattle.rh_traced.specs.Ours.{AreOurs, deeds, rules};
+ghost use Rattle.rh_fifo.specs.Flows.{numbers_of};
+ghost use Rattle.rh_fifo.specs.Premises.{AreInRange};
+
+use rh_causes::{a_node_closes_once, causes_come_from_their_events};
+use rh_client::ClientRole;
+use rh_client_rows::what_a_client_refuses;
+use rh_fifo::what_is_put_is_legible;
+use rh_history::what_is_heard_was_drawn;
+use rh_honest::what_is_heard_reads_well;
+use rh_inproxy::InProxyRole;
+use rh_outproxy::OutProxyRole;
+use rh_reading::{
+    a_piece_reads_well, all_that_was_put_is_read, what_is_read_is_fine, what_was_put_is_read,
+};
+use rh_server::ServerRole;
+use rh_shell::{cuts_change_nothing, first_cause_is_kept};
+use rh_traced::{a_recording_of_roles_is_known, what_is_heard_was_drawn_before};
+
+/// In each world of new roles whose numbers are in their ranges, at every moment that changes of
+/// lines and half steps reach: no further change closes the client with `CookieMismatch`, on any
+/// leg. No row of its role refuses a packet or an RPC PDU for its cookie (MS-RPCH 2.2.4).
+pub fn a_client_refuses_no_cookie<K>()
+    ensures { (m : Makers K InProxy OutProxy)
+        (w : World K ClientRole Server InProxy OutProxy) → IsNew w
+        → (ours : AreOurs m w.company w.cast) → AreInRange (numbers_of ours)
+        → (v : World K ClientRole Server InProxy OutProxy) (by : ByChanges rules m deeds w v)
+        → (change : Change) → MayChange rules v change → (leg : Leg) (expected got : Cookie)
+        → ClosesNode rules v change AtClient (CookieMismatch leg expected got) → ⊥ }
+{
+    what_a_client_refuses();
+    what_is_put_is_legible::<K>();
+    a_recording_of_roles_is_known::<K>();
+    what_is_heard_reads_well::<K>();
+    what_is_heard_was_drawn_before::<K, ClientRole, ServerRole, InProxyRole, OutProxyRole>();
+    what_is_heard_was_drawn::<K, ClientRole, ServerRole, InProxyRole, OutProxyRole>();
+    what_was_put_is_read();
+    all_that_was_put_is_read();
+    what_is_read_is_fine();
+    a_piece_reads_well();
+    cuts_change_nothing::<ClientRole>();
+    first_cause_is_kept::<ClientRole>();
+    a_node_closes_once::<ClientRole>();
+    causes_come_from_their_events::<ClientRole>();
+    causes_come_from_their_events::<ServerRole>();
+    causes_come_from_their_events::<InProxyRole>();
+    causes_come_from_their_events::<OutProxyRole>();
+}
