@@ -1,19 +1,14 @@
 -- whatever a change of a world is, it closes no out proxy since what its client put was not to come
 -- there
-use Rattle.std.proofs.Common.{◌≡◌, ◌≤◌, ℕ, zero, suc, List, arith, refl, sym, ◌∙◌, subst}
+use Rattle.std.proofs.Common.{◌≡◌, ℕ, List, refl, sym, ◌∙◌, subst}
 use Rattle.std.specs.Prelude.{Some, None}
 use Rattle.rh_text.specs.declared.ends.Dir.{Dir}
 use Rattle.rh_text.specs.declared.ends.Dir.TheVariants.{U, D}
 use Rattle.rh_line.specs.declared.cause.Cause.{Cause}
 use Rattle.rh_line.specs.declared.leg.Leg.{Leg}
-use Rattle.rh_line.specs.declared.leg.LegKind.{LegKind}
-use Rattle.rh_line.specs.declared.leg.LegKind.TheVariants.{ClientOut, OutServer, ClientIn, InServer}
-use Rattle.rh_record.specs.declared.answer.Who.{Who}
 use Rattle.rh_record.specs.declared.answer.Who.TheVariants as who
 use Rattle.rh_shell.specs.declared.answers.Refused.{Refused}
-use Rattle.rh_shell.specs.Moves.{EndPassage, Passage}
-use Rattle.rh_shell.specs.Moving as moving
-use Rattle.rh_shell.specs.Rules.{Rules}
+use Rattle.rh_shell.specs.Moves.{EndPassage}
 use Rattle.rh_shell.specs.Shells.{Shell}
 use Rattle.rh_shell.specs.Wires.{of_leg}
 use Rattle.rh_nodes.specs.declared.event.Event.{Event}
@@ -24,33 +19,26 @@ use Rattle.rh_nodes.specs.Company as company
 use Rattle.rh_nodes.specs.Legs as legs
 use Rattle.rh_nodes.specs.Opening.{Makers}
 use Rattle.rh_nodes.specs.Places as places
-use Rattle.rh_nodes.specs.Readers.{reader_of}
-use Rattle.rh_nodes.specs.Settling.{leg_at}
 use Rattle.rh_nodes.specs.Wires.{receiver}
 use Rattle.rh_nodes.specs.World.{World, at}
 use Rattle.rh_client.specs.declared.state.ClientRole.{ClientRole}
-use Rattle.rh_client.specs.State.{ci, co}
-use Rattle.rh_inproxy.specs.Machine as in_proxy
+use Rattle.rh_client.specs.State.{co}
 use Rattle.rh_inproxy.specs.State.{InProxy}
 use Rattle.rh_outproxy.specs.Machine as out_proxy
 use Rattle.rh_outproxy.specs.OutProxy.{OutProxy}
-use Rattle.rh_server.specs.Servers as server
 use Rattle.rh_server.specs.States.{Server}
-use Rattle.rh_causes.specs.Closings.{ClosesWith, MayClose}
-use Rattle.rh_history.specs.Carried.{happened}
+use Rattle.rh_causes.specs.Closings.{ClosesWith}
 use Rattle.rh_history.specs.Changes.{Change, IsFed, MayChange}
 use Rattle.rh_history.specs.Closes.{ClosesNode}
-use Rattle.rh_history.specs.Histories.{in_place, out_place}
+use Rattle.rh_history.specs.Histories.{out_place}
 use Rattle.rh_history.proofs.Numbers.{answered}
 use Rattle.rh_reading.specs.Reading.{all_read_of}
 use Rattle.rh_traced.specs.Cookies.{ByChanges}
 use Rattle.rh_traced.specs.Ours.{AreOurs, deeds, rules}
-use Rattle.rh_fifo.specs.Flows.{IsFlowing, numbers_of}
-use Rattle.rh_causes.specs.Reasons.{ComesAmiss}
-use Rattle.rh_honest.proofs.Closing.{EachComes, IsOfPiece, by_fed}
+use Rattle.rh_fifo.specs.Flows.{numbers_of}
+use Rattle.rh_honest.proofs.Closing.{IsOfPiece, by_fed}
 use Rattle.rh_honest.proofs.Fed.{told_what, told_who}
-use Rattle.rh_hops.specs.Hops.{is_leg, os_leg}
-use Rattle.rh_hops.proofs.Moment.{Laws, NodeLaws, known}
+use Rattle.rh_hops.proofs.Moment.{Laws}
 use Rattle.rh_hops.proofs.Stopping.{Readings}
 use Rattle.rh_client_hops.proofs.Joined.{Reads}
 use Rattle.rh_moments.specs.Expecting.{Expects, HasNoPingFirst, IsAmiss}
