@@ -16,6 +16,7 @@ use Rattle.rh_record.specs.declared.answer.Who.{Who}
 use Rattle.rh_record.specs.declared.answer.Who.TheVariants as who
 use Rattle.rh_shell.specs.declared.answers.Refused.{Refused}
 use Rattle.rh_shell.specs.declared.course.Course.TheVariants.{Going}
+use Rattle.rh_shell.specs.declared.stage.Stage.TheVariants as stage
 use Rattle.rh_shell.specs.Intakes.{is_whole_head}
 use Rattle.rh_shell.specs.Moves.{EndMove, EndPassage, Passage}
 use Rattle.rh_shell.specs.NearEnds.{NearEnd}
@@ -141,7 +142,7 @@ module _ {K : Type 0} (roles : RolesKnow) (law_reads : Reads) (readings : Readin
     abbrev in_node : ℕ → Shell InProxy
     in_node n = in_shell law_reads readings m w v ours law Holds flow by leg dir may k n
 
-    abbrev out_node : ℕ → Shell OutProxy
+    abbrev pub out_node : ℕ → Shell OutProxy
     out_node n = out_shell law_reads readings m w v ours law Holds flow by leg dir may k n
 
     -- what was put at the other end of the leg
@@ -264,6 +265,31 @@ module _ {K : Type 0} (roles : RolesKnow) (law_reads : Reads) (readings : Readin
             next out_proxy.rules was.0 ((passages_then was.0).outs n) (out_node was.0 n)
                 (heard_on leg ((story_then was.0).outs n)) (out_knows was.0) was.1,
           )
+
+      -- and by the leg's end, at which frames come
+      pub record OutAmiss : Type 0 where
+        pub count_then : ℕ
+        pub end : NearEnd
+        pub going : (out_node count_then n).course ≡ Going
+        pub at : end_at (out_node count_then n) leg ≡ Some end
+        pub frames : end.intake.stage ≡ stage.Frames
+        pub amiss_there : AmissNext out_proxy.rules ((passages_then count_then).outs n) leg
+            (read_on leg.kind dir) (put_then count_then)
+
+      pub out_amiss : OutAmiss
+      out_amiss =
+          let was = out_then law_reads readings m w v ours law Holds flow by leg dir may r named
+          why tells count node here law_node n is shell up there closes in
+          record {
+            count_then = was.0;
+            end = was.1.stops.end;
+            going = was.1.stops.going;
+            at = was.1.stops.at;
+            frames = was.1.stops.frames;
+            amiss_there =
+                next out_proxy.rules was.0 ((passages_then was.0).outs n) (out_node was.0 n)
+                (heard_on leg ((story_then was.0).outs n)) (out_knows was.0) was.1;
+          }
 
     -- the server
     module _ (law_node : NodeLaws server.rules) (is : node ≡ who.Server)

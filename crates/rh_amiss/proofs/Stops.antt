@@ -60,6 +60,7 @@ pub record AmissAt {S : Type 0} (rules : Rules S) (leg : Leg) (pipe : Option Pip
   pub here : end.leg ≡ leg
   pub on : is_over rules end s.role ≡ false
   pub live : is_live end.intake.stage ≡ true
+  pub frames : end.intake.stage ≡ stage.Frames
   pub came_is : came ≡ messages_read pipe heard
   pub how : RefusesAhead rules s.role leg r end.count came all ⊎ PingsFirst pipe r end.count heard b
 
@@ -122,6 +123,7 @@ module _ (readings : Readings) {S : Type 0} (rules : Rules S) (leg : Leg) (pipe 
         here = here;
         on = on;
         live = live;
+        frames = says.frames;
         came_is = (sits.reads on live).all;
         how = by says.how;
       }

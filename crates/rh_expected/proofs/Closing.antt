@@ -97,7 +97,7 @@ NamesLeg l why =
 in_number : (a b : ℕ) → who.In a ≡ who.In b → a ≡ b
 in_number a b e = cc
 
-out_number : (a b : ℕ) → who.Out a ≡ who.Out b → a ≡ b
+pub out_number : (a b : ℕ) → who.Out a ≡ who.Out b → a ≡ b
 out_number a b e = cc
 
 module _ {K : Type 0} (roles : RolesKnow) (nodes : NodesLaws) (reads : Reads) (readings : Readings)

@@ -3,3 +3,4 @@ pub mod Closing
 pub mod Facts
 pub mod Zeros
 pub mod Recorded
+pub mod AtClients

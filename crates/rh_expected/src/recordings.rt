@@ -19,6 +19,7 @@ ghost use Rattle.rh_client_hops.specs.Premises.{AreDistinct};
 ghost use Rattle.rh_expected.specs.Roles.{InExpects, OutExpectsClient, ServerExpectsIn};
 ghost use Rattle.rh_expected.specs.Roles.{ServerExpectsOut, WorldsExpect};
 
+use crate::asked::no_out_proxy_refuses_its_client;
 use crate::expecting::no_node_refuses_what_it_expects;
 use crate::roles::{
     no_in_proxy_refuses_what_comes, no_out_proxy_refuses_its_server,
@@ -72,6 +73,19 @@ pub fn no_out_proxy_of_a_recording_refuses_its_server()
     cookies_of_a_recording_are_left();
     each_close_of_a_recording_shows();
     no_out_proxy_refuses_its_server::<Config>();
+}
+
+/// Nor for what the client put (MS-RPCH 3.2.4; successors are this profile's).
+pub fn no_out_proxy_of_a_recording_refuses_its_client()
+    ensures unexpected { (before : List Line) (line : Line) (k n place : ℕ)
+        → IsOneOf (NodeClosed (Out k) (Unexpected (co n) place))
+        (step (after Before before) line).1 → ⊥ }
+    ensures cookie { (before : List Line) (line : Line) (k n : ℕ) (expected got : Cookie)
+        → IsOneOf (NodeClosed (Out k) (CookieMismatch (co n) expected got))
+        (step (after Before before) line).1 → ⊥ }
+{
+    each_close_of_a_recording_shows();
+    no_out_proxy_refuses_its_client::<Config>();
 }
 
 /// And in none of a server that closed so for what an out proxy put (MS-RPCH 3.2.5; successors are

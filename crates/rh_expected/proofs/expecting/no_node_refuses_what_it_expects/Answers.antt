@@ -33,71 +33,90 @@ returns g c = record {
   in_unexpected = λ expect m w new ours ranges v by distinct change may k leg place closes.
       no_in_amiss roles nodes reads readings m w ours (law m w new ours ranges)
       AreDistinct distinct_of_cookies
-      (InExpects (numbers ours)) (flow AreDistinct InExpects expect m w new ours ranges) v by distinct
+      (InExpects (numbers ours))
+      (flow AreDistinct InExpects expect m w new ours ranges) v by distinct
       (cause.Unexpected leg place) (refused.Unexpected) refl tt (λ event S its shell comes. comes) k
       (λ reader moves holds. holds.client) (λ reader moves holds. holds.server) change may
       closes;
   in_cookie = λ expect m w new ours ranges v by distinct change may k leg expected got closes.
       no_in_amiss roles nodes reads readings m w ours (law m w new ours ranges)
       AreDistinct distinct_of_cookies
-      (InExpects (numbers ours)) (flow AreDistinct InExpects expect m w new ours ranges) v by distinct
-      (cause.CookieMismatch leg expected got) (refused.Cookie expected got) refl tt (λ event S its shell comes. comes) k
+      (InExpects (numbers ours))
+      (flow AreDistinct InExpects expect m w new ours ranges) v by distinct
+      (cause.CookieMismatch leg expected got) (refused.Cookie expected got) refl tt
+      (λ event S its shell comes. comes) k
       (λ reader moves holds. holds.client) (λ reader moves holds. holds.server) change may
       closes;
   out_client_unexpected = λ expect m w new ours ranges v by distinct change may k n place closes.
       no_out_amiss_of_client roles nodes reads readings m w ours (law m w new ours ranges)
       AreDistinct distinct_of_cookies
-      (OutExpectsClient (numbers ours)) (flow AreDistinct OutExpectsClient expect m w new ours ranges) v by distinct
-      (cause.Unexpected (co n) place) (refused.Unexpected) refl tt (λ event S its shell comes. comes) k
+      (OutExpectsClient (numbers ours))
+      (flow AreDistinct OutExpectsClient expect m w new ours ranges) v by distinct
+      (cause.Unexpected (co n) place) (refused.Unexpected) refl tt
+      (λ event S its shell comes. comes) k
       (λ reader moves holds. holds) n (λ S its node leg piece amiss. amiss.cause) change may
       closes;
   out_client_cookie = λ expect m w new ours ranges v by distinct change may k n expected got closes.
       no_out_amiss_of_client roles nodes reads readings m w ours (law m w new ours ranges)
       AreDistinct distinct_of_cookies
-      (OutExpectsClient (numbers ours)) (flow AreDistinct OutExpectsClient expect m w new ours ranges) v by distinct
-      (cause.CookieMismatch (co n) expected got) (refused.Cookie expected got) refl tt (λ event S its shell comes. comes) k
+      (OutExpectsClient (numbers ours))
+      (flow AreDistinct OutExpectsClient expect m w new ours ranges) v by distinct
+      (cause.CookieMismatch (co n) expected got) (refused.Cookie expected got) refl tt
+      (λ event S its shell comes. comes) k
       (λ reader moves holds. holds) n (λ S its node leg piece amiss. amiss.cause) change may
       closes;
   out_server_unexpected = λ expect m w new ours ranges v by distinct change may k n place closes.
       no_out_amiss_of_server roles nodes reads readings m w ours (law m w new ours ranges)
       HaveCookies have_of_cookies
-      (OutExpectsServer (numbers ours)) (flow HaveCookies OutExpectsServer expect m w new ours ranges) v by distinct
-      (cause.Unexpected (os_leg n) place) (refused.Unexpected) refl tt (λ event S its shell comes. comes) k
+      (OutExpectsServer (numbers ours))
+      (flow HaveCookies OutExpectsServer expect m w new ours ranges) v by distinct
+      (cause.Unexpected (os_leg n) place) (refused.Unexpected) refl tt
+      (λ event S its shell comes. comes) k
       (λ reader moves holds. holds) n (λ S its node leg piece amiss. amiss.cause) change may
       closes;
   out_server_cookie = λ expect m w new ours ranges v by distinct change may k n expected got closes.
       no_out_amiss_of_server roles nodes reads readings m w ours (law m w new ours ranges)
       HaveCookies have_of_cookies
-      (OutExpectsServer (numbers ours)) (flow HaveCookies OutExpectsServer expect m w new ours ranges) v by distinct
-      (cause.CookieMismatch (os_leg n) expected got) (refused.Cookie expected got) refl tt (λ event S its shell comes. comes) k
+      (OutExpectsServer (numbers ours))
+      (flow HaveCookies OutExpectsServer expect m w new ours ranges) v by distinct
+      (cause.CookieMismatch (os_leg n) expected got) (refused.Cookie expected got) refl tt
+      (λ event S its shell comes. comes) k
       (λ reader moves holds. holds) n (λ S its node leg piece amiss. amiss.cause) change may
       closes;
   server_in_unexpected = λ expect m w new ours ranges v by distinct change may n place closes.
       no_server_amiss_of_in roles nodes reads readings m w ours (law m w new ours ranges)
       AreDistinct distinct_of_cookies
-      (ServerExpectsIn (numbers ours)) (flow AreDistinct ServerExpectsIn expect m w new ours ranges) v by distinct
-      (cause.Unexpected (is_leg n) place) (refused.Unexpected) refl tt (λ event S its shell comes. comes)
+      (ServerExpectsIn (numbers ours))
+      (flow AreDistinct ServerExpectsIn expect m w new ours ranges) v by distinct
+      (cause.Unexpected (is_leg n) place) (refused.Unexpected) refl tt
+      (λ event S its shell comes. comes)
       (λ reader moves holds. holds) n (λ S its node leg piece amiss. amiss.cause) change may
       closes;
   server_in_cookie = λ expect m w new ours ranges v by distinct change may n expected got closes.
       no_server_amiss_of_in roles nodes reads readings m w ours (law m w new ours ranges)
       AreDistinct distinct_of_cookies
-      (ServerExpectsIn (numbers ours)) (flow AreDistinct ServerExpectsIn expect m w new ours ranges) v by distinct
-      (cause.CookieMismatch (is_leg n) expected got) (refused.Cookie expected got) refl tt (λ event S its shell comes. comes)
+      (ServerExpectsIn (numbers ours))
+      (flow AreDistinct ServerExpectsIn expect m w new ours ranges) v by distinct
+      (cause.CookieMismatch (is_leg n) expected got) (refused.Cookie expected got) refl tt
+      (λ event S its shell comes. comes)
       (λ reader moves holds. holds) n (λ S its node leg piece amiss. amiss.cause) change may
       closes;
   server_out_unexpected = λ expect m w new ours ranges v by distinct change may n place closes.
       no_server_amiss_of_out roles nodes reads readings m w ours (law m w new ours ranges)
       AreDistinct distinct_of_cookies
-      (ServerExpectsOut (numbers ours)) (flow AreDistinct ServerExpectsOut expect m w new ours ranges) v by distinct
-      (cause.Unexpected (os_leg n) place) (refused.Unexpected) refl tt (λ event S its shell comes. comes)
+      (ServerExpectsOut (numbers ours))
+      (flow AreDistinct ServerExpectsOut expect m w new ours ranges) v by distinct
+      (cause.Unexpected (os_leg n) place) (refused.Unexpected) refl tt
+      (λ event S its shell comes. comes)
       (λ reader moves holds. holds) n (λ S its node leg piece amiss. amiss.cause) change may
       closes;
   server_out_cookie = λ expect m w new ours ranges v by distinct change may n expected got closes.
       no_server_amiss_of_out roles nodes reads readings m w ours (law m w new ours ranges)
       AreDistinct distinct_of_cookies
-      (ServerExpectsOut (numbers ours)) (flow AreDistinct ServerExpectsOut expect m w new ours ranges) v by distinct
-      (cause.CookieMismatch (os_leg n) expected got) (refused.Cookie expected got) refl tt (λ event S its shell comes. comes)
+      (ServerExpectsOut (numbers ours))
+      (flow AreDistinct ServerExpectsOut expect m w new ours ranges) v by distinct
+      (cause.CookieMismatch (os_leg n) expected got) (refused.Cookie expected got) refl tt
+      (λ event S its shell comes. comes)
       (λ reader moves holds. holds) n (λ S its node leg piece amiss. amiss.cause) change may
       closes;
 }

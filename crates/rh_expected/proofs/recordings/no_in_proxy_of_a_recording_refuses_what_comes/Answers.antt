@@ -13,7 +13,8 @@ returns c = record {
   unexpected = λ before line k leg place told.
       let why = cause.Unexpected leg place in
       of_recording_apart (who.In k) why ⊥ (λ config range v by own change may closes.
-      c.no_in_proxy_refuses_what_comes.ensures.unexpected roles.makers (roles.begun config) (new config) (ours config) range v
+      c.no_in_proxy_refuses_what_comes.ensures.unexpected roles.makers
+      (roles.begun config) (new config) (ours config) range v
       by (own_distinct
       (happened (history_at roles.makers (roles.begun config) v by.leads).client) own) change may
       k leg place closes) before line (c.cookies_of_a_recording_are_left.ensures before line)
@@ -21,7 +22,8 @@ returns c = record {
   cookie = λ before line k leg expected got told.
       let why = cause.CookieMismatch leg expected got in
       of_recording_apart (who.In k) why ⊥ (λ config range v by own change may closes.
-      c.no_in_proxy_refuses_what_comes.ensures.cookie roles.makers (roles.begun config) (new config) (ours config) range v
+      c.no_in_proxy_refuses_what_comes.ensures.cookie roles.makers
+      (roles.begun config) (new config) (ours config) range v
       by (own_distinct
       (happened (history_at roles.makers (roles.begun config) v by.leads).client) own) change may
       k leg expected got closes) before line (c.cookies_of_a_recording_are_left.ensures before line)

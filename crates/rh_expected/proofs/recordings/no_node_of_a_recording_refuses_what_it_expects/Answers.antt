@@ -15,10 +15,12 @@ returns c = record {
   in_unexpected = λ expect before line k leg place told.
       let why = cause.Unexpected leg place in
       of_recording_apart (who.In k) why ⊥ (λ config range v by own change may closes.
-      c.no_node_refuses_what_it_expects.ensures.in_unexpected expect roles.makers (roles.begun config)
+      c.no_node_refuses_what_it_expects.ensures.in_unexpected
+      expect roles.makers (roles.begun config)
       (new config) (ours config) range v by
       (own_distinct (happened (history_at roles.makers (roles.begun config) v by.leads).client) own)
-      change may k leg place closes) before line (c.cookies_of_a_recording_are_left.ensures before line)
+      change may k leg place closes) before line
+      (c.cookies_of_a_recording_are_left.ensures before line)
       (c.each_close_of_a_recording_shows.ensures before line (who.In k) why told);
   in_cookie = λ expect before line k leg expected got told.
       let why = cause.CookieMismatch leg expected got in
@@ -26,28 +28,34 @@ returns c = record {
       c.no_node_refuses_what_it_expects.ensures.in_cookie expect roles.makers (roles.begun config)
       (new config) (ours config) range v by
       (own_distinct (happened (history_at roles.makers (roles.begun config) v by.leads).client) own)
-      change may k leg expected got closes) before line (c.cookies_of_a_recording_are_left.ensures before line)
+      change may k leg expected got closes) before line
+      (c.cookies_of_a_recording_are_left.ensures before line)
       (c.each_close_of_a_recording_shows.ensures before line (who.In k) why told);
   out_client_unexpected = λ expect before line k n place told.
       let why = cause.Unexpected (co n) place in
       of_recording_apart (who.Out k) why ⊥ (λ config range v by own change may closes.
-      c.no_node_refuses_what_it_expects.ensures.out_client_unexpected expect roles.makers (roles.begun config)
+      c.no_node_refuses_what_it_expects.ensures.out_client_unexpected
+      expect roles.makers (roles.begun config)
       (new config) (ours config) range v by
       (own_distinct (happened (history_at roles.makers (roles.begun config) v by.leads).client) own)
-      change may k n place closes) before line (c.cookies_of_a_recording_are_left.ensures before line)
+      change may k n place closes) before line
+      (c.cookies_of_a_recording_are_left.ensures before line)
       (c.each_close_of_a_recording_shows.ensures before line (who.Out k) why told);
   out_client_cookie = λ expect before line k n expected got told.
       let why = cause.CookieMismatch (co n) expected got in
       of_recording_apart (who.Out k) why ⊥ (λ config range v by own change may closes.
-      c.no_node_refuses_what_it_expects.ensures.out_client_cookie expect roles.makers (roles.begun config)
+      c.no_node_refuses_what_it_expects.ensures.out_client_cookie
+      expect roles.makers (roles.begun config)
       (new config) (ours config) range v by
       (own_distinct (happened (history_at roles.makers (roles.begun config) v by.leads).client) own)
-      change may k n expected got closes) before line (c.cookies_of_a_recording_are_left.ensures before line)
+      change may k n expected got closes) before line
+      (c.cookies_of_a_recording_are_left.ensures before line)
       (c.each_close_of_a_recording_shows.ensures before line (who.Out k) why told);
   server_in_unexpected = λ expect before line n place told.
       let why = cause.Unexpected (is_leg n) place in
       of_recording_apart (who.Server) why ⊥ (λ config range v by own change may closes.
-      c.no_node_refuses_what_it_expects.ensures.server_in_unexpected expect roles.makers (roles.begun config)
+      c.no_node_refuses_what_it_expects.ensures.server_in_unexpected
+      expect roles.makers (roles.begun config)
       (new config) (ours config) range v by
       (own_distinct (happened (history_at roles.makers (roles.begun config) v by.leads).client) own)
       change may n place closes) before line (c.cookies_of_a_recording_are_left.ensures before line)
@@ -55,15 +63,18 @@ returns c = record {
   server_in_cookie = λ expect before line n expected got told.
       let why = cause.CookieMismatch (is_leg n) expected got in
       of_recording_apart (who.Server) why ⊥ (λ config range v by own change may closes.
-      c.no_node_refuses_what_it_expects.ensures.server_in_cookie expect roles.makers (roles.begun config)
+      c.no_node_refuses_what_it_expects.ensures.server_in_cookie
+      expect roles.makers (roles.begun config)
       (new config) (ours config) range v by
       (own_distinct (happened (history_at roles.makers (roles.begun config) v by.leads).client) own)
-      change may n expected got closes) before line (c.cookies_of_a_recording_are_left.ensures before line)
+      change may n expected got closes) before line
+      (c.cookies_of_a_recording_are_left.ensures before line)
       (c.each_close_of_a_recording_shows.ensures before line (who.Server) why told);
   server_out_unexpected = λ expect before line n place told.
       let why = cause.Unexpected (os_leg n) place in
       of_recording_apart (who.Server) why ⊥ (λ config range v by own change may closes.
-      c.no_node_refuses_what_it_expects.ensures.server_out_unexpected expect roles.makers (roles.begun config)
+      c.no_node_refuses_what_it_expects.ensures.server_out_unexpected
+      expect roles.makers (roles.begun config)
       (new config) (ours config) range v by
       (own_distinct (happened (history_at roles.makers (roles.begun config) v by.leads).client) own)
       change may n place closes) before line (c.cookies_of_a_recording_are_left.ensures before line)
@@ -71,9 +82,11 @@ returns c = record {
   server_out_cookie = λ expect before line n expected got told.
       let why = cause.CookieMismatch (os_leg n) expected got in
       of_recording_apart (who.Server) why ⊥ (λ config range v by own change may closes.
-      c.no_node_refuses_what_it_expects.ensures.server_out_cookie expect roles.makers (roles.begun config)
+      c.no_node_refuses_what_it_expects.ensures.server_out_cookie
+      expect roles.makers (roles.begun config)
       (new config) (ours config) range v by
       (own_distinct (happened (history_at roles.makers (roles.begun config) v by.leads).client) own)
-      change may n expected got closes) before line (c.cookies_of_a_recording_are_left.ensures before line)
+      change may n expected got closes) before line
+      (c.cookies_of_a_recording_are_left.ensures before line)
       (c.each_close_of_a_recording_shows.ensures before line (who.Server) why told);
 }

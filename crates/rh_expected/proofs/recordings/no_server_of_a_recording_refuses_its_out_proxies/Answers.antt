@@ -14,7 +14,8 @@ returns c = record {
   unexpected = λ before line n place told.
       let why = cause.Unexpected (os_leg n) place in
       of_recording_apart (who.Server) why ⊥ (λ config range v by own change may closes.
-      c.no_server_refuses_its_out_proxies.ensures.unexpected roles.makers (roles.begun config) (new config) (ours config) range v
+      c.no_server_refuses_its_out_proxies.ensures.unexpected roles.makers
+      (roles.begun config) (new config) (ours config) range v
       by (own_distinct
       (happened (history_at roles.makers (roles.begun config) v by.leads).client) own) change may
       n place closes) before line (c.cookies_of_a_recording_are_left.ensures before line)
@@ -22,7 +23,8 @@ returns c = record {
   cookie = λ before line n expected got told.
       let why = cause.CookieMismatch (os_leg n) expected got in
       of_recording_apart (who.Server) why ⊥ (λ config range v by own change may closes.
-      c.no_server_refuses_its_out_proxies.ensures.cookie roles.makers (roles.begun config) (new config) (ours config) range v
+      c.no_server_refuses_its_out_proxies.ensures.cookie roles.makers
+      (roles.begun config) (new config) (ours config) range v
       by (own_distinct
       (happened (history_at roles.makers (roles.begun config) v by.leads).client) own) change may
       n expected got closes) before line (c.cookies_of_a_recording_are_left.ensures before line)

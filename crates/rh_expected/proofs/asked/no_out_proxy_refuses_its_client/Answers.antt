@@ -1,0 +1,133 @@
+use Rattle.std.proofs.Common.{refl}
+use Rattle.rh_line.specs.declared.cause.Cause.TheVariants as cause
+use Rattle.rh_shell.specs.declared.answers.Refused.TheVariants as refused
+use Rattle.rh_nodes.specs.Opening.{Makers}
+use Rattle.rh_nodes.specs.World.{World}
+use Rattle.rh_client.specs.declared.state.ClientRole.{ClientRole}
+use Rattle.rh_client.specs.State.{co}
+use Rattle.rh_inproxy.specs.State.{InProxy}
+use Rattle.rh_outproxy.specs.OutProxy.{OutProxy}
+use Rattle.rh_server.specs.States.{Server}
+use Rattle.rh_history.specs.Histories.{IsNew}
+use Rattle.rh_up.proofs.Unread.{refusal_unread}
+use Rattle.rh_traced.specs.Ours.{AreOurs, deeds, rules}
+use Rattle.rh_fifo.specs.Flows.{numbers_of}
+use Rattle.rh_fifo.specs.Premises.{AreInRange}
+use Rattle.rh_hops.proofs.Moment.{Laws}
+use Rattle.rh_hops.proofs.Stopping.{Readings}
+use Rattle.rh_client_hops.proofs.Joined.{Reads}
+use Rattle.rh_amiss.proofs.AtNodes.{RolesKnow}
+use Rattle.rh_amiss.proofs.Moments.{AllFlow}
+use Rattle.rh_refused.specs.Refused.{IsPort}
+use Rattle.rh_expected.proofs.AtClients.{AtEnds, no_out_amiss_at_end}
+use Rattle.rh_expected.proofs.Closing.{NodesLaws}
+use Rattle.rh_expected.proofs.asked.no_out_proxy_refuses_its_client.Goals as goal
+
+pub returns : goal.returns
+returns g c = record {
+  unexpected = λ m w new ours ranges port v by change may k n place closes.
+      no_out_amiss_at_end roles nodes reads readings c.a_client_puts_no_ping_first.ensures m w ours
+      (law m w new ours ranges) (flow m w new ours ranges port) v by
+      (cause.Unexpected (co n) place) refused.Unexpected refl tt (λ event S its shell comes. comes)
+      k n (λ S its node leg piece amiss. amiss.cause) change may closes;
+  cookie = λ m w new ours ranges port v by change may k n expected got closes.
+      no_out_amiss_at_end roles nodes reads readings c.a_client_puts_no_ping_first.ensures m w ours
+      (law m w new ours ranges) (flow m w new ours ranges port) v by
+      (cause.CookieMismatch (co n) expected got) (refused.Cookie expected got) refl tt
+      (λ event S its shell comes. comes) k n (λ S its node leg piece amiss. amiss.cause) change may
+      closes;
+}
+  where
+    roles : RolesKnow
+    roles = record {
+      in_pipes = c.proxies_keep_their_pipes.ensures.in_proxy;
+      out_pipes = c.proxies_keep_their_pipes.ensures.out_proxy;
+      in_unused = c.a_leg_that_an_in_proxy_left_stays_unused.ensures;
+      out_unused = c.a_leg_that_an_out_proxy_left_stays_unused.ensures;
+      server_refuses = c.an_end_never_refuses.ensures.server;
+      server_unused = c.a_leg_that_a_server_left_stays_unused.ensures.calls;
+      in_legs = λ config. record {
+        comes = c.an_in_proxys_leg_comes_up_once.ensures.comes config;
+        once = c.an_in_proxys_leg_comes_up_once.ensures.once config;
+      };
+      out_legs = λ config. record {
+        comes = c.an_out_proxys_leg_comes_up_once.ensures.comes config;
+        once = c.an_out_proxys_leg_comes_up_once.ensures.once config;
+      };
+      server_legs = λ window. record {
+        comes = c.a_servers_leg_comes_up_once.ensures.comes window;
+        once = c.a_servers_leg_comes_up_once.ensures.once window;
+      };
+      asks = c.a_client_asks_by_its_requests.ensures;
+      in_request = c.texts_are_whole.ensures.in_request;
+      out_request = c.texts_are_whole.ensures.out_request;
+    }
+
+    nodes : NodesLaws
+    nodes = record {
+      comes = record {
+        client = c.causes_come_from_their_events.ensures;
+        server = c.causes_come_from_their_events-2.ensures;
+        ins = c.causes_come_from_their_events-3.ensures;
+        outs = c.causes_come_from_their_events-4.ensures;
+      };
+      server_amiss = c.events_close_with_their_causes.ensures;
+      ins_amiss = c.events_close_with_their_causes-2.ensures;
+      outs_amiss = c.events_close_with_their_causes-3.ensures;
+      server = record {
+        cuts = c.cuts_change_nothing.ensures.bytes;
+        stays = c.first_cause_is_kept.ensures;
+        closed = c.a_node_closes_once.ensures.closed;
+        again = c.a_node_closes_once.ensures.again;
+      };
+      ins = record {
+        cuts = c.cuts_change_nothing-2.ensures.bytes;
+        stays = c.first_cause_is_kept-2.ensures;
+        closed = c.a_node_closes_once-2.ensures.closed;
+        again = c.a_node_closes_once-2.ensures.again;
+      };
+      outs = record {
+        cuts = c.cuts_change_nothing-3.ensures.bytes;
+        stays = c.first_cause_is_kept-3.ensures;
+        closed = c.a_node_closes_once-3.ensures.closed;
+        again = c.a_node_closes_once-3.ensures.again;
+      };
+    }
+
+    reads : Reads
+    reads = record {
+      put = c.what_was_put_is_read.ensures;
+      fine = c.what_is_read_is_fine.ensures;
+      refusal = refusal_unread;
+    }
+
+    readings : Readings
+    readings = record {
+      put = c.what_was_put_is_read.ensures;
+      parts = c.all_that_was_put_is_read.ensures.parts;
+      piece = c.a_piece_reads_well.ensures;
+    }
+
+    law : (m : Makers g.row.K.Denot InProxy OutProxy)
+        (w : World g.row.K.Denot ClientRole Server InProxy OutProxy) → IsNew w
+        → (ours : AreOurs m w.company w.cast) → AreInRange (numbers_of ours) → Laws m w ours
+    law m w new ours ranges = record {
+      known = λ u leads. c.a_recording_of_roles_is_known.ensures.changes m w u new ours leads;
+      flowing = c.what_is_put_is_legible.ensures m w new ours ranges;
+      well = c.what_is_heard_reads_well.ensures m w new ours ranges;
+      before = c.what_is_heard_was_drawn_before.ensures rules m deeds w.company;
+      drawn = c.what_is_heard_was_drawn.ensures rules m deeds w.company;
+    }
+
+    flow : (m : Makers g.row.K.Denot InProxy OutProxy)
+        (w : World g.row.K.Denot ClientRole Server InProxy OutProxy) → IsNew w
+        → (ours : AreOurs m w.company w.cast) → AreInRange (numbers_of ours)
+        → IsPort ours.config.port → AllFlow m w ours (AtEnds ours)
+    flow m w new ours ranges port u by =
+        let here = c.what_is_put_is_legible.ensures m w new ours ranges u by in
+        record {
+          flows = here;
+          holds = λ n end.
+              c.an_out_proxy_of_a_world_expects_its_client.ensures m w new ours port u by here n
+              end;
+        }
