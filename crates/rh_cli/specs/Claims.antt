@@ -111,8 +111,8 @@ pub record ClientHopsHold (world : AnyWorld) (line : Line) : Type 0 where
       → IsOneOf (NodeClosed (who.Out k) (OutOfRange leg command value))
       (step world line).1 → ⊥
 
--- nor one of an in proxy for what came out of its turn, or named another cookie; nor one of an out
--- proxy or the server for what came so between the two, or of the client for a cookie
+-- nor one of a proxy for what came out of its turn, or named another cookie; nor of the server for
+-- what came so from an out proxy, or of the client for a cookie
 pub record ComesAsExpected (world : AnyWorld) (line : Line) : Type 0 where
   pub in_unexpected : (k : ℕ) (leg : Leg) (place : ℕ)
       → IsOneOf (NodeClosed (who.In k) (Unexpected leg place)) (step world line).1 → ⊥
@@ -122,6 +122,12 @@ pub record ComesAsExpected (world : AnyWorld) (line : Line) : Type 0 where
       → IsOneOf (NodeClosed (who.Out k) (Unexpected (os_leg n) place)) (step world line).1 → ⊥
   pub out_cookie : (k n : ℕ) (expected got : Cookie)
       → IsOneOf (NodeClosed (who.Out k) (CookieMismatch (os_leg n) expected got))
+      (step world line).1 → ⊥
+  pub out_client_unexpected : (k n place : ℕ)
+      → IsOneOf (NodeClosed (who.Out k) (Unexpected (leg_at ClientOut n) place))
+      (step world line).1 → ⊥
+  pub out_client_cookie : (k n : ℕ) (expected got : Cookie)
+      → IsOneOf (NodeClosed (who.Out k) (CookieMismatch (leg_at ClientOut n) expected got))
       (step world line).1 → ⊥
   pub server_unexpected : (n place : ℕ)
       → IsOneOf (NodeClosed who.Server (Unexpected (os_leg n) place)) (step world line).1 → ⊥

@@ -61,6 +61,10 @@ returns c = λ lines. record {
     out_unexpected =
         c.no_out_proxy_of_a_recording_refuses_its_server.ensures.unexpected before line;
     out_cookie = c.no_out_proxy_of_a_recording_refuses_its_server.ensures.cookie before line;
+    out_client_unexpected =
+        c.no_out_proxy_of_a_recording_refuses_its_client.ensures.unexpected before line;
+    out_client_cookie =
+        c.no_out_proxy_of_a_recording_refuses_its_client.ensures.cookie before line;
     server_unexpected =
         c.no_server_of_a_recording_refuses_its_out_proxies.ensures.unexpected before line;
     server_cookie =
