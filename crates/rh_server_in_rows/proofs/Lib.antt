@@ -1,0 +1,6 @@
+mod Numbered
+mod Places
+mod Tallies
+mod Kept
+mod Rows
+mod Takes

@@ -1,0 +1,87 @@
+-- what is so in a server's logs where it refuses what comes on an is leg as unexpected (MS-RPCH
+-- 3.2.5; replacement and END are this profile's)
+use Rattle.std.specs.Prelude.{ℕ, ◌≡◌, ◌⊎◌, ◌+◌, ◌≤◌, ◌<◌, List, Bool, true, false, IsTrue, Err}
+use Rattle.rh_rts.specs.declared.command.Cookie.{Cookie}
+use Rattle.rh_sig.specs.declared.named.Named.{Named}
+use Rattle.rh_sig.specs.declared.named.Named.TheVariants.{InR1B2, InR2A2, EndA2}
+use Rattle.rh_line.specs.declared.leg.LegKind.TheVariants.{InServer}
+use Rattle.rh_shell.specs.declared.answers.Count.{Count}
+use Rattle.rh_shell.specs.declared.answers.Refused.TheVariants as refused
+use Rattle.rh_shell.specs.Moves.{Passage, is_in_use}
+use Rattle.rh_shell.specs.Wires.{of_leg}
+use Rattle.rh_server.specs.States.{Server}
+use Rattle.rh_server.specs.Servers.{rules}
+use Rattle.rh_server_counts.specs.Counting.{is_conn_a2, is_conn_b2, is_conn_b3, is_end_a2, is_in_r1_a2, is_in_r1_a3, is_in_r1_a6, is_in_r2_a2, is_in_r2_a3, in_came, leg_at, often_at, out_came, out_put, waits_for}
+use Rattle.rh_passages.specs.Counted.{packets, Tells}
+
+abbrev pub is_in_r1_b2 : Named → Bool
+is_in_r1_b2 (InR1B2 size) = true
+is_in_r1_b2 packet = false
+
+-- ---- is leg n
+
+-- how often such a packet came on it, or was put there
+abbrev pub came_at : (Named → Bool) → Passage Server → ℕ → ℕ
+came_at test p n = often_at test InServer n p.came
+
+abbrev pub put_at : (Named → Bool) → Passage Server → ℕ → ℕ
+put_at test p n = often_at test InServer n p.put
+
+-- how many packets came on it
+abbrev pub came_on : Passage Server → ℕ → ℕ
+came_on p n = packets (of_leg (leg_at InServer n) p.came)
+
+-- how many began a channel there
+abbrev pub first_at : Passage Server → ℕ → ℕ
+first_at p n = came_at is_conn_b2 p n + came_at is_in_r1_a2 p n
+
+-- its channel waits until the one before is the current one: IN_R1/A2 came, some IN_R1/A3 is
+-- neither put nor due, and no window was told there
+pub record IsUnopened (p : Passage Server) (n : ℕ) : Type 0 where
+  pub announced : 1 ≤ came_at is_in_r1_a2 p n
+  pub answered : out_put is_in_r1_a3 p + waits_for is_in_r1_a3 p.role < in_came is_in_r1_a2 p
+  pub untold : put_at is_conn_b3 p n + put_at is_in_r1_b2 p n ≡ 0
+
+-- no channel of it is open: none began, it waits, or its handover mark came
+abbrev pub IsShut : Passage Server → ℕ → Type 0
+IsShut p n = (first_at p n ≡ 0) ⊎ IsUnopened p n ⊎ (1 ≤ came_at is_in_r1_a6 p n)
+
+-- CONN/A2 or CONN/B2 is still to come
+abbrev pub IsOpening : Passage Server → Type 0
+IsOpening p = out_came is_conn_a2 p + in_came is_conn_b2 p ≤ 1
+
+-- ---- why it refuses
+
+abbrev pub UnexpectedPdu : Passage Server → ℕ → Type 0
+UnexpectedPdu p n = IsOpening p ⊎ IsShut p n ⊎ (1 ≤ came_at is_end_a2 p n)
+
+-- behind a front of another leg a waiting channel takes END, once
+abbrev pub UnexpectedEnd : Passage Server → ℕ → Type 0
+UnexpectedEnd p n =
+    (came_on p n ≡ 0) ⊎ (first_at p n ≡ 0) ⊎ (1 ≤ came_at is_in_r1_a6 p n)
+    ⊎ (1 ≤ came_at is_end_a2 p n)
+
+-- the last number is given where as many is legs came up and IN_R2/A2 came as there are numbers
+abbrev pub UnexpectedInR2 : Passage Server → ℕ → Type 0
+UnexpectedInR2 p n =
+    (came_on p n ≡ 0) ⊎ IsOpening p ⊎ (out_put is_in_r2_a3 p < in_came is_in_r2_a2 p)
+    ⊎ (4294967295 ≤ p.role.newest_in) ⊎ IsShut p n
+
+-- ---- the law
+
+abbrev pub IsUsed : Passage Server → ℕ → Type 0
+IsUsed p n = IsTrue (is_in_use rules p.role (leg_at InServer n))
+
+-- what comes is refused as unexpected only where this is so
+pub record RefusesInFor (p : Passage Server) : Type 0 where
+  pub pdu : (n : ℕ) (count : Count) (bytes : List ℕ) → IsUsed p n
+      → (rules.pdu p.role (leg_at InServer n) count bytes).1 ≡ Err refused.Unexpected
+      → UnexpectedPdu p n
+  pub end_a2 : (n : ℕ) (count : Count) → IsUsed p n → Tells count (came_on p n)
+      → (rules.packet p.role (leg_at InServer n) count EndA2).1 ≡ Err refused.Unexpected
+      → UnexpectedEnd p n
+  pub in_r2_a2 : (n : ℕ) (count : Count) (successor : Cookie) → IsUsed p n
+      → Tells count (came_on p n)
+      → (rules.packet p.role (leg_at InServer n) count (InR2A2 successor)).1
+      ≡ Err refused.Unexpected
+      → UnexpectedInR2 p n
