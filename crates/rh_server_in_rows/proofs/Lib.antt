@@ -4,3 +4,7 @@ mod Tallies
 mod Kept
 mod Rows
 mod Takes
+mod Puts
+mod Steps
+mod Tests
+mod Why

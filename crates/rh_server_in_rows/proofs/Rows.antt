@@ -231,9 +231,9 @@ module _ (n : ℕ) where
             never true e = false≢true e
             never false e = false≢true e
         by (pdu ∷ pdus) =
-            settles (record s { line = record (s.line) {
+            let t : Server = record s { line = record (s.line) {
               current = released (pdu ∷ pdus) s.line.current;
-            } }) (same_fine s _ c refl h)
+            } } in settles t (same_fine s t c refl h)
 
   -- ---- a channel begins
 

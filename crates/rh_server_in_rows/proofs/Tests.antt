@@ -1,0 +1,133 @@
+-- what the tests of a row tell, and what waits
+use Rattle.std.proofs.Common.{◌≡◌, ◌⊎◌, inl, inr, ℕ, zero, suc, ◌+◌, ◌<◌, ◌≤◌, ◌&&◌, cond, nat_lt, Bool, true, false, true≢false, not, if◌then◌else◌, List, [], ◌∷◌, Some, None, Ok, Err, arith, refl, sym, ap, ◌∙◌}
+use Rattle.std.proofs.lemmas.Bool.{false≢true, and_parts}
+use Rattle.std.proofs.lemmas.Bool.Decides.{nat_tests}
+use Rattle.std.specs.Prelude.{find, slice_get}
+use Rattle.std.specs.declared.option.Option.{Option}
+use Rattle.std.specs.declared.result.Result.{Result}
+use Rattle.rh_sig.specs.declared.named.Named.{Named}
+use Rattle.rh_sig.specs.declared.named.Named.TheVariants as named
+use Rattle.rh_window.specs.declared.fault.WindowExceeded.{WindowExceeded}
+use Rattle.rh_line.specs.Lines.{by_window}
+use Rattle.rh_line.specs.declared.line_fault.LineFault.{LineFault}
+use Rattle.rh_line.specs.declared.line_fault.LineFault.TheVariants as line_fault
+use Rattle.rh_line.specs.declared.which.Which.{Which}
+use Rattle.rh_line.specs.declared.which.Which.TheVariants.{Current, Next}
+use Rattle.rh_shell.specs.declared.answers.Count.{Count}
+use Rattle.rh_shell.specs.declared.answers.Count.TheVariants as counts
+use Rattle.rh_shell.specs.declared.answers.Phase.TheVariants as phase
+use Rattle.rh_shell.specs.declared.due.Due.{Due}
+use Rattle.rh_shell.specs.declared.due.Origin.TheVariants.{Own}
+use Rattle.rh_shell.specs.NearEnds.{is_ended}
+use Rattle.rh_shell.specs.Waiting.{is_of}
+use Rattle.rh_server.specs.declared.out_line.Kind.{Kind}
+use Rattle.rh_server.specs.declared.out_line.Kind.TheVariants as kind
+use Rattle.rh_server.specs.declared.state.InLeg.{InLeg}
+use Rattle.rh_server.specs.declared.state.Stage.{Stage}
+use Rattle.rh_server.specs.declared.state.Stage.TheVariants as stage
+use Rattle.rh_server.specs.OutLines.{is_kind, is_own}
+use Rattle.rh_server.specs.States.{is_open, is_some, is_waiting, phase_of}
+use Rattle.rh_server.specs.Opening.{is_first}
+use Rattle.rh_server_counts.specs.Answering.{how_many, waits_on}
+use Rattle.rh_server_counts.specs.Counting.{is_in_r2_a3, waiting_of}
+use Rattle.rh_passages.specs.Counted.{Tells}
+
+pub one_fails : (a b : Bool) → a && b ≡ false → (a ≡ false) ⊎ (b ≡ false)
+one_fails false b e = inl refl
+one_fails true b e = inr e
+
+pub not_false : (a : Bool) → not a ≡ false → a ≡ true
+not_false true e = refl
+not_false false e = absurd (true≢false e)
+
+pub at_least : (a b : ℕ) → nat_lt a b ≡ false → b ≤ a
+at_least a b e = grind (arith, nat_tests, e)
+
+pub first_count : (count : Count) (n : ℕ) → Tells count n → is_first count ≡ true → n ≡ 0
+first_count counts.Zero n tells e = tells
+first_count counts.One n tells e = absurd (false≢true e)
+first_count counts.More n tells e = absurd (false≢true e)
+
+-- the work is not done, and the server isn't open
+pub still_opening : (x : Stage) → not (is_ended (phase_of x)) ≡ true → is_open x ≡ false
+    → phase_of x ≡ phase.Opening
+still_opening stage.Waits work shut = refl
+still_opening (stage.OutCame connection) work shut = refl
+still_opening (stage.InCame connection window timeout) work shut = refl
+still_opening (stage.Open connection) work shut = absurd (true≢false shut)
+still_opening stage.Ended work shut = absurd (false≢true work)
+
+-- ---- no channel is found
+
+pub none_current : (a f : Bool) (o : Option Which)
+    → cond (a && not f) (Some Current) o ≡ None → a ≡ true → f ≡ true
+none_current true true o e g = refl
+none_current true false o e g = absurd (cc)
+none_current false f o e g = absurd (false≢true g)
+
+pub none_next : (t h b : Bool)
+    → cond t (Some Current) (cond (h && b) (Some Next) None) ≡ None → h ≡ true → b ≡ true → ⊥
+none_next true h b e f g = absurd (cc)
+none_next false true true e f g = absurd (cc)
+none_next false true false e f g = false≢true g
+none_next false false b e f g = false≢true f
+
+-- nothing is admitted behind END
+pub is_over : (b : Bool) (x : Result (Unit {0}) WindowExceeded)
+    → cond b (Err line_fault.Over) (by_window x) ≡ Err line_fault.Over → b ≡ true
+is_over true x e = refl
+is_over false (Ok admits) e = absurd (cc)
+is_over false (Err exceeded) e = absurd (cc)
+
+-- ---- what waits
+
+-- an IN_R2/A3
+pub in_r2_a3_waits : (dues : List Due) → is_some (find (is_own kind.InR2A3) dues) ≡ true
+    → 1 ≤ waiting_of is_in_r2_a3 dues
+in_r2_a3_waits [] e = absurd (false≢true e)
+in_r2_a3_waits (due ∷ dues) e = by (is_own kind.InR2A3 due) refl e (in_r2_a3_waits dues)
+  where
+    is_a3 : (packet : Named) → is_kind kind.InR2A3 packet ≡ true → is_in_r2_a3 packet ≡ true
+    is_a3 (named.InR2A3 destination) f = refl
+    is_a3 packet f = absurd (false≢true f)
+
+    here : (u : Bool) → u ≡ true
+        → 1 ≤ (if u then suc (waiting_of is_in_r2_a3 dues) else waiting_of is_in_r2_a3 dues)
+    here true f = omega arith
+    here false f = absurd (false≢true f)
+
+    further : (u : Bool) → 1 ≤ waiting_of is_in_r2_a3 dues
+        → 1 ≤ (if u then suc (waiting_of is_in_r2_a3 dues) else waiting_of is_in_r2_a3 dues)
+    further true f = omega arith
+    further false f = f
+
+    by : (k : Bool) → is_own kind.InR2A3 due ≡ k
+        → is_some (if k then Some due else find (is_own kind.InR2A3) dues) ≡ true
+        → (is_some (find (is_own kind.InR2A3) dues) ≡ true → 1 ≤ waiting_of is_in_r2_a3 dues)
+        → 1 ≤ waiting_of is_in_r2_a3 (due ∷ dues)
+    by true is f rest =
+        here (is_in_r2_a3 due.packet)
+        (is_a3 due.packet (and_parts (is_of Own due) (is_kind kind.InR2A3 due.packet) is).1)
+    by false is f rest = further (is_in_r2_a3 due.packet) (rest f)
+
+-- a leg whose channel waits is one of them
+pub some_waits : (legs : List InLeg) (place : ℕ) (leg : InLeg) → slice_get legs place ≡ Some leg
+    → is_waiting leg.stage ≡ true → 1 ≤ how_many waits_on legs
+some_waits [] place leg at e = absurd (cc)
+some_waits (x ∷ legs) zero leg at e =
+    here (is_waiting x.stage) (ap (λ (l : InLeg). is_waiting l.stage) (one x leg at) ∙ e)
+  where
+    one : (x y : InLeg) → Some x ≡ Some y → x ≡ y
+    one x y e = cc
+
+    here : (u : Bool) → u ≡ true
+        → 1 ≤ (if u then suc (how_many waits_on legs) else how_many waits_on legs)
+    here true f = omega arith
+    here false f = absurd (false≢true f)
+some_waits (x ∷ legs) (suc place) leg at e =
+    further (is_waiting x.stage) (some_waits legs place leg at e)
+  where
+    further : (u : Bool) → 1 ≤ how_many waits_on legs
+        → 1 ≤ (if u then suc (how_many waits_on legs) else how_many waits_on legs)
+    further true f = omega arith
+    further false f = f
