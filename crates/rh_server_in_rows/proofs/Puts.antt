@@ -35,7 +35,7 @@ use Rattle.rh_server.specs.OutLines.{Gate, lets, length_of}
 use Rattle.rh_server.specs.States.{Server, is_due, is_open, is_shut, in_leg, in_place, out_place, with_in}
 use Rattle.rh_server.specs.OutReplacement.{wished}
 use Rattle.rh_server.specs.Ending.{completed, is_complete, settled}
-use Rattle.rh_server.specs.Putting.{Pick, or_else, told_by, was_current, put_tells_by, put_tells, put_b1_by, put_b1, ack_due, put_ack_by, put_ack, put_in_by, out_greeting_at, put_out_greeting, gate_at, counts, was_put, waiting_by, waiting_at, put_waiting, may_go_at, pdu_by, put_pdu, is_end_due, may_end_at, put_end, put_pdu_or_end, next_out, settled_pick, put_open, put_out_at, put_by as put_by_kind}
+use Rattle.rh_server.specs.Putting.{Pick, or_else, told_by, was_current, put_tells_by, put_tells, put_b1_by, put_b1, ack_due, put_ack_by, put_ack, put_in_by, with_out, out_greeting_at, put_out_greeting, gate_at, counts, was_put, waiting_by, waiting_at, put_waiting, may_go_at, pdu_by, put_pdu, is_end_due, may_end_at, put_end, put_pdu_or_end, next_out, settled_pick, put_open, put_out_at, put_by as put_by_kind}
 use Rattle.rh_server_counts.specs.Counting.{is_conn_b3, leg_at}
 use Rattle.rh_server_in_rows.specs.Refusing.{is_in_r1_b2}
 use Rattle.rh_server_in_rows.proofs.Places.{Found, found_at, number_found}
@@ -268,8 +268,9 @@ module _ (n : ℕ) where
         greets : (o : Option OutLeg) → OutPuts (out_greeting_at s place o)
         greets None = tt
         greets (Some leg) =
-            by_test OutPuts (is_due leg.greeting) _ None (λ e. goes _ (Text greeting_text) refl)
-            (λ e. tt)
+            let t : Server = with_out s place (record leg { greeting = greetings.Put }) in
+            by_test OutPuts (is_due leg.greeting) (Some (t, Text greeting_text)) None
+            (λ e. goes t (Text greeting_text) refl) (λ e. tt)
 
   pub puts : (s : Server) (m : ℕ) (k : LegKind) (came put : List OnLeg) → Holds n s came put
       → PutKeeps (Holds n) (leg_at k m) came put (put_by_kind s m k)

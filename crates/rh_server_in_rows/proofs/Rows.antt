@@ -231,9 +231,11 @@ module _ (n : ℕ) where
             never true e = false≢true e
             never false e = false≢true e
         by (pdu ∷ pdus) =
-            let t : Server = record s { line = record (s.line) {
-              current = released (pdu ∷ pdus) s.line.current;
-            } } in settles t (same_fine s t c refl h)
+            let t : Server = record s {
+              line = record (s.line) {
+                current = released (pdu ∷ pdus) s.line.current;
+              };
+            } in settles t (same_fine s t c refl h)
 
   -- ---- a channel begins
 

@@ -151,16 +151,16 @@ module _ (p : Passage Server) (known : (n : ℕ) → Holds n p.role p.came p.put
       where
         staged : (x : InStage) → at.leg.stage ≡ x → channel_at s n ≡ None
             → IsUnexpected (end_a2_on_leg s at.leg x) → UnexpectedEnd p n
-        staged in_stage.Fresh e on r = inr (inl (so.fresh (ap is_fresh e)))
-        staged in_stage.Opened e on r = inr (inr (inl (left_if (ap is_opened e) on)))
-        staged (in_stage.Waits window timeout ended) e on =
-            by_test (λ (d : Done). IsUnexpected d → UnexpectedEnd p n) ended (unexpected s) _
+        staged in_stage.Fresh e on = λ r. inr (inl (so.fresh (ap is_fresh e)))
+        staged in_stage.Opened e on = λ r. inr (inr (inl (left_if (ap is_opened e) on)))
+        staged (in_stage.Waits window timeout came) e on =
+            by_test (λ (d : Done). IsUnexpected d → UnexpectedEnd p n) came (unexpected s) _
             (λ f r. inr (inr (inr (so.ended (ap waits_ended e ∙ f)))))
             (λ f r. absurd (cc))
 
         by : (o : Option Which) → channel_at s n ≡ o → IsUnexpected (end_a2_at s n o)
             → UnexpectedEnd p n
-        by None on r =
+        by None on = λ r.
             staged at.leg.stage refl on
             (subst (λ (o : Option InLeg). IsUnexpected (end_a2_waiting s o)) at.is r)
         by (Some which) on =
