@@ -1,5 +1,5 @@
 -- what the tests of a row tell, and what waits
-use Rattle.std.proofs.Common.{◌≡◌, ◌⊎◌, inl, inr, ℕ, zero, suc, ◌+◌, ◌<◌, ◌≤◌, ◌&&◌, cond, nat_lt, Bool, true, false, true≢false, not, if◌then◌else◌, List, [], ◌∷◌, Some, None, Ok, Err, arith, refl, sym, ap, ◌∙◌}
+use Rattle.std.proofs.Common.{◌≡◌, ◌⊎◌, inl, inr, ℕ, zero, suc, ◌+◌, ◌<◌, ◌≤◌, ◌&&◌, ◌||◌, cond, nat_lt, Bool, true, false, true≢false, not, if◌then◌else◌, List, [], ◌∷◌, Some, None, Ok, Err, arith, refl, sym, ap, ◌∙◌}
 use Rattle.std.proofs.lemmas.Bool.{false≢true, and_parts}
 use Rattle.std.proofs.lemmas.Bool.Decides.{nat_tests}
 use Rattle.std.specs.Prelude.{find, slice_get}
@@ -26,11 +26,15 @@ use Rattle.rh_server.specs.declared.state.InLeg.{InLeg}
 use Rattle.rh_server.specs.declared.state.Stage.{Stage}
 use Rattle.rh_server.specs.declared.state.Stage.TheVariants as stage
 use Rattle.rh_server.specs.OutLines.{is_kind, is_own}
-use Rattle.rh_server.specs.States.{is_open, is_some, is_waiting, phase_of}
+use Rattle.rh_server.specs.States.{is_fresh, is_open, is_some, is_waiting, phase_of}
 use Rattle.rh_server.specs.Opening.{is_first}
 use Rattle.rh_server_counts.specs.Answering.{how_many, waits_on}
-use Rattle.rh_server_counts.specs.Counting.{is_in_r2_a3, waiting_of}
-use Rattle.rh_passages.specs.Counted.{Tells}
+use Rattle.rh_server_counts.specs.Counting.{is_conn_b2, is_in_r1_a2, is_in_r2_a3, waiting_of}
+use Rattle.rh_passages.specs.Counted.{packets, Tells}
+use Rattle.rh_passages.specs.Passing.{count_of}
+use Rattle.rh_shell.specs.Rules.{Message, Text, Pdu, Packet}
+use Rattle.rh_server.specs.InReplacement.{is_fresh_below, has_fresh_below}
+use Rattle.rh_server_in_rows.proofs.Places.{Found}
 
 pub one_fails : (a b : Bool) → a && b ≡ false → (a ≡ false) ⊎ (b ≡ false)
 one_fails false b e = inl refl
@@ -47,6 +51,11 @@ pub first_count : (count : Count) (n : ℕ) → Tells count n → is_first count
 first_count counts.Zero n tells e = tells
 first_count counts.One n tells e = absurd (false≢true e)
 first_count counts.More n tells e = absurd (false≢true e)
+
+pub later_count : (count : Count) (n : ℕ) → Tells count n → is_first count ≡ false → 1 ≤ n
+later_count counts.Zero n tells e = absurd (cc)
+later_count counts.One n tells e = omega (arith, tells)
+later_count counts.More n tells e = omega (arith, tells)
 
 -- the work is not done, and the server isn't open
 pub still_opening : (x : Stage) → not (is_ended (phase_of x)) ≡ true → is_open x ≡ false
@@ -131,3 +140,49 @@ some_waits (x ∷ legs) (suc place) leg at e =
         → 1 ≤ (if u then suc (how_many waits_on legs) else how_many waits_on legs)
     further true f = omega arith
     further false f = f
+
+-- ---- packets
+
+-- those that begin a channel are among all
+pub first_among : (ms : List Message)
+    → count_of is_conn_b2 ms + count_of is_in_r1_a2 ms ≤ packets ms
+first_among [] = omega arith
+first_among (Text bytes ∷ ms) = first_among ms
+first_among (Pdu pdu ∷ ms) = first_among ms
+first_among (Packet (named.ConnB2 v a b c d e f g) ∷ ms) =
+    let rest = first_among ms in omega (arith, rest)
+first_among (Packet (named.InR1A2 v a b c d e) ∷ ms) =
+    let rest = first_among ms in omega (arith, rest)
+first_among (Packet packet ∷ ms) = let rest = first_among ms in omega (arith, rest)
+
+-- ---- a leg below on which no packet came
+
+pub record FreshLeg (n : ℕ) (legs : List InLeg) : Type 0 where
+  pub leg : InLeg
+  pub found : Found legs leg
+  pub below : leg.number < n
+  pub fresh : is_fresh leg.stage ≡ true
+
+pub fresh_leg : (n : ℕ) (legs : List InLeg) → has_fresh_below n legs ≡ true → FreshLeg n legs
+fresh_leg n [] e = absurd (false≢true e)
+fresh_leg n (x ∷ legs) e = by (is_fresh_below n x) refl e (fresh_leg n legs)
+  where
+    less : (a b : ℕ) → nat_lt a b ≡ true → a < b
+    less a b f = grind (arith, nat_tests, f)
+
+    by : (b : Bool) → is_fresh_below n x ≡ b → b || has_fresh_below n legs ≡ true
+        → (has_fresh_below n legs ≡ true → FreshLeg n legs) → FreshLeg n (x ∷ legs)
+    by true is f rest =
+        let both = and_parts (nat_lt x.number n) (is_fresh x.stage) is in record {
+          leg = x;
+          found = record { place = 0; at = refl };
+          below = less x.number n both.0;
+          fresh = both.1;
+        }
+    by false is f rest =
+        let further = rest f in record {
+          leg = further.leg;
+          found = record { place = suc further.found.place; at = further.found.at };
+          below = further.below;
+          fresh = further.fresh;
+        }

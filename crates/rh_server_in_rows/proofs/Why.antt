@@ -1,7 +1,7 @@
 -- why a server refuses what comes on an is leg
 use Rattle.std.proofs.Common.{◌≡◌, ◌⊎◌, inl, inr, ℕ, ◌+◌, ◌<◌, ◌≤◌, ◌==◌, ◌&&◌, nat_lt, Bool, true, false, true≢false, not, List, Some, None, Ok, Err, arith, refl, sym, ap, ◌∙◌, subst}
 use Rattle.std.proofs.lemmas.Bool.{false≢true}
-use Rattle.std.specs.Prelude.{IfSome}
+use Rattle.std.specs.Prelude.{IfSome, IsTrue}
 use Rattle.std.specs.declared.option.Option.{Option}
 use Rattle.std.specs.declared.result.Result.{Result}
 use Rattle.rh_rts.specs.declared.command.Cookie.{Cookie}
@@ -14,29 +14,33 @@ use Rattle.rh_order.proofs.ByNumber.{by_test, same_number, test_same}
 use Rattle.rh_window.specs.Receiving as windows
 use Rattle.rh_shell.specs.declared.answers.Count.{Count}
 use Rattle.rh_shell.specs.declared.answers.Refused.TheVariants as refused
+use Rattle.rh_line.specs.declared.leg.LegKind.TheVariants.{InServer}
 use Rattle.rh_shell.specs.Moves.{Passage, is_at_work}
+use Rattle.rh_shell.specs.Wires.{of_leg}
 use Rattle.rh_server.specs.declared.state.InLeg.{InLeg}
 use Rattle.rh_server.specs.declared.state.InStage.{InStage}
 use Rattle.rh_server.specs.declared.state.InStage.TheVariants as in_stage
 use Rattle.rh_server.specs.declared.out_line.Kind.TheVariants as kind
+use Rattle.rh_server.specs.declared.state.Stage.{Stage}
+use Rattle.rh_server.specs.declared.state.Stage.TheVariants as stage
 use Rattle.rh_server.specs.OutLines.{waits}
-use Rattle.rh_server.specs.States.{Server, is_fresh, is_open, is_waiting, in_leg, in_place}
+use Rattle.rh_server.specs.States.{Server, is_fresh, is_open, is_some, is_waiting, same_cookie, in_at, in_leg, in_place}
 use Rattle.rh_server.specs.Opening.{Done, took, unexpected, is_first}
 use Rattle.rh_server.specs.Acknowledging.{admitted_by, admitted_on, channel_at, on_pdu}
-use Rattle.rh_server.specs.InReplacement.{in_r2_a2_on, on_in_r2_a2}
+use Rattle.rh_server.specs.InReplacement.{has_fresh_below, in_r1_a2_by, in_r1_a2_at, on_in_r1_a2, in_r2_a2_on, on_in_r2_a2}
 use Rattle.rh_server.specs.Ending.{end_a2_at, end_a2_on_leg, end_a2_waiting, is_over_on, on_end_a2, waits_ended}
 use Rattle.rh_server.specs.Servers.{rules as server_rules}
 use Rattle.rh_server_counts.specs.Answering.{AreAnswered}
 use Rattle.rh_server_counts.specs.Opening.{OpensOnce}
-use Rattle.rh_server_counts.specs.Counting.{is_end_a2, is_in_r1_a2, is_in_r1_a3, is_in_r1_a6, in_came, out_put, waits_for}
+use Rattle.rh_server_counts.specs.Counting.{is_end_a2, is_in_r1_a2, is_in_r1_a3, is_in_r1_a6, in_came, leg_at, out_put, waits_for}
 use Rattle.rh_passages.specs.Counted.{Tells}
-use Rattle.rh_server_in_rows.specs.Refusing.{IsShut, IsUnopened, IsUsed, IsOpening, RefusesInFor, UnexpectedEnd, UnexpectedInR2, UnexpectedPdu, came_at, came_on, first_at}
-use Rattle.rh_server_in_rows.proofs.Places.{Found, found_at, number_found}
+use Rattle.rh_server_in_rows.specs.Refusing.{IsFreshBelow, IsShut, IsUnopened, IsUsed, IsOpening, RefusesInFor, UnexpectedEnd, UnexpectedInR1, UnexpectedInR2, UnexpectedPdu, came_at, came_on, first_at}
+use Rattle.rh_server_in_rows.proofs.Places.{Found, Placed, found_at, number_found, placed}
 use Rattle.rh_server_in_rows.proofs.Tallies.{Tally, tally}
 use Rattle.rh_server_in_rows.proofs.Kept.{IsOpen, So, is_opened, leg_at_place, top_of}
 use Rattle.rh_server_in_rows.proofs.Takes.{Holds, IsKept, on_current, on_next}
 use Rattle.rh_server_in_rows.proofs.Steps.{in_use}
-use Rattle.rh_server_in_rows.proofs.Tests.{at_least, first_count, in_r2_a3_waits, is_over, none_current, none_next, not_false, one_fails, some_waits, still_opening}
+use Rattle.rh_server_in_rows.proofs.Tests.{at_least, first_among, first_count, fresh_leg, later_count, in_r2_a3_waits, is_over, none_current, none_next, not_false, one_fails, some_waits, still_opening}
 
 abbrev IsUnexpected : Done → Type 0
 IsUnexpected d = d.1 ≡ Err refused.Unexpected
@@ -205,10 +209,76 @@ module _ (p : Passage Server) (known : (n : ℕ) → Holds n p.role p.came p.put
         on_channel None on r = inr (inr (inr (inr (shut on))))
         on_channel (Some which) on r = absurd (cc)
 
+    -- ---- IN_R1/A2
+
+    in_r1_a2_refused : (count : Count) (a b d : Cookie) (e f : ℕ) → Tells count (came_on p n)
+        → IsUnexpected (on_in_r1_a2 s n count a b d e f) → UnexpectedInR1 p n
+    in_r1_a2_refused count a b d e f tells =
+        by_test Row (is_first count && not (has_fresh_below n s.ins))
+        (in_r1_a2_at s s.stage n a b d e f) (unexpected s) (λ t. staged s.stage refl)
+        (λ t r. first (one_fails (is_first count) (not (has_fresh_below n s.ins)) t))
+      where
+        Row : Done → Type 0
+        Row x = IsUnexpected x → UnexpectedInR1 p n
+
+        kept_at : (k : ℕ) → Placed s.ins k → IsTrue (is_some (in_leg k s.ins))
+        kept_at k q =
+            subst (λ (o : Option ℕ). IsTrue (is_some (in_at s.ins o))) (sym q.is)
+            (subst (λ (o : Option InLeg). IsTrue (is_some o)) (sym q.at) refl)
+
+        below : has_fresh_below n s.ins ≡ true → IsFreshBelow p n
+        below t =
+            let x = fresh_leg n s.ins t in record {
+              leg = x.leg.number;
+              below = x.below;
+              kept = kept_at x.leg.number (placed s.ins x.leg x.found);
+              none = (leg_at_place x.leg.number (top_of s) s.newest_in s.ins
+                  (tally x.leg.number p.came p.put) x.leg x.found refl
+                  (known x.leg.number)).fresh x.fresh;
+            }
+
+        first : (is_first count ≡ false) ⊎ (not (has_fresh_below n s.ins) ≡ false)
+            → UnexpectedInR1 p n
+        first (inl t) = inl (later_count count (came_on p n) tells t)
+        first (inr t) = inr (inr (below (not_false (has_fresh_below n s.ins) t)))
+
+        by : (known : Cookie) (o : Option InLeg) → o ≡ Some at.leg
+            → Row (in_r1_a2_by s known a b d e f o)
+        by known None is = absurd (cc)
+        by known (Some leg) is =
+            by_test Row (not (is_fresh leg.stage)) (unexpected s) _
+            (λ t r. inl (stale (ap is_fresh (same leg at.leg is) ∙ is_not (is_fresh leg.stage) t)))
+            (λ t. by_test Row (not (same_cookie known a)) _ _ (λ u r. absurd (cc))
+            (λ u. by_test Row (not (same_cookie s.newest.cookie b)) _ _ (λ w r. absurd (cc))
+            (λ w r. absurd (cc))))
+          where
+            same : (x y : InLeg) → Some x ≡ Some y → y.stage ≡ x.stage
+            same x y t = cc
+
+            is_not : (t : Bool) → not t ≡ true → t ≡ false
+            is_not true t = absurd (false≢true t)
+            is_not false t = refl
+
+            stale : is_fresh at.leg.stage ≡ false → 1 ≤ came_on p n
+            stale t =
+                let some = so.stale t in
+                let among = first_among (of_leg (leg_at InServer n) p.came) in
+                omega (arith, some, among)
+
+        staged : (x : Stage) → s.stage ≡ x → Row (in_r1_a2_at s x n a b d e f)
+        staged (stage.Open known) t = by known (in_leg n s.ins) at.is
+        staged stage.Waits t = λ r. inr (inl (is_opening (ap is_open t)))
+        staged (stage.OutCame known) t = λ r. inr (inl (is_opening (ap is_open t)))
+        staged (stage.InCame known window timeout) t =
+            λ r. inr (inl (is_opening (ap is_open t)))
+        staged stage.Ended t = λ r. inr (inl (is_opening (ap is_open t)))
+
   pub refuses_in_for : RefusesInFor p
   refuses_in_for = record {
     pdu = λ n count bytes used r. pdu_refused n used bytes r;
     end_a2 = λ n count used tells r. end_refused n used count tells r;
     in_r2_a2 = λ n count successor used tells r.
         in_r2_a2_refused n used count successor tells r;
+    in_r1_a2 = λ n count version connection predecessor successor window timeout used tells r.
+        in_r1_a2_refused n used count connection predecessor successor window timeout tells r;
   }

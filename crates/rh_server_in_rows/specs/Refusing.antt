@@ -3,13 +3,13 @@
 use Rattle.std.specs.Prelude.{ℕ, ◌≡◌, ◌⊎◌, ◌+◌, ◌≤◌, ◌<◌, List, Bool, true, false, IsTrue, Err}
 use Rattle.rh_rts.specs.declared.command.Cookie.{Cookie}
 use Rattle.rh_sig.specs.declared.named.Named.{Named}
-use Rattle.rh_sig.specs.declared.named.Named.TheVariants.{InR1B2, InR2A2, EndA2}
+use Rattle.rh_sig.specs.declared.named.Named.TheVariants.{InR1A2, InR1B2, InR2A2, EndA2}
 use Rattle.rh_line.specs.declared.leg.LegKind.TheVariants.{InServer}
 use Rattle.rh_shell.specs.declared.answers.Count.{Count}
 use Rattle.rh_shell.specs.declared.answers.Refused.TheVariants as refused
 use Rattle.rh_shell.specs.Moves.{Passage, is_in_use}
 use Rattle.rh_shell.specs.Wires.{of_leg}
-use Rattle.rh_server.specs.States.{Server}
+use Rattle.rh_server.specs.States.{Server, in_leg, is_some}
 use Rattle.rh_server.specs.Servers.{rules}
 use Rattle.rh_server_counts.specs.Counting.{is_conn_a2, is_conn_b2, is_conn_b3, is_end_a2, is_in_r1_a2, is_in_r1_a3, is_in_r1_a6, is_in_r2_a2, is_in_r2_a3, in_came, leg_at, often_at, out_came, out_put, waits_for}
 use Rattle.rh_passages.specs.Counted.{packets, Tells}
@@ -67,6 +67,16 @@ UnexpectedInR2 p n =
     (came_on p n ≡ 0) ⊎ IsOpening p ⊎ (out_put is_in_r2_a3 p < in_came is_in_r2_a2 p)
     ⊎ (4294967295 ≤ p.role.newest_in) ⊎ IsShut p n
 
+-- a leg of a lower number is kept on which no channel began
+pub record IsFreshBelow (p : Passage Server) (n : ℕ) : Type 0 where
+  pub leg : ℕ
+  pub below : leg < n
+  pub kept : IsTrue (is_some (in_leg leg p.role.ins))
+  pub none : first_at p leg ≡ 0
+
+abbrev pub UnexpectedInR1 : Passage Server → ℕ → Type 0
+UnexpectedInR1 p n = (1 ≤ came_on p n) ⊎ IsOpening p ⊎ IsFreshBelow p n
+
 -- ---- the law
 
 abbrev pub IsUsed : Passage Server → ℕ → Type 0
@@ -85,3 +95,9 @@ pub record RefusesInFor (p : Passage Server) : Type 0 where
       → (rules.packet p.role (leg_at InServer n) count (InR2A2 successor)).1
       ≡ Err refused.Unexpected
       → UnexpectedInR2 p n
+  pub in_r1_a2 : (n : ℕ) (count : Count) (version : ℕ) (connection predecessor successor : Cookie)
+      (window timeout : ℕ) → IsUsed p n → Tells count (came_on p n)
+      → (rules.packet p.role (leg_at InServer n) count
+      (InR1A2 version connection predecessor successor window timeout)).1
+      ≡ Err refused.Unexpected
+      → UnexpectedInR1 p n
