@@ -1,6 +1,9 @@
 -- the one of a number among those that are kept, and what is said of it
-use Rattle.std.proofs.Common.{◌≡◌, ℕ, zero, suc, ◌==◌, Bool, true, false, true≢false, List, [], ◌∷◌, ◌++◌, Some, refl, sym, ap, ◌∙◌, subst}
+use Rattle.std.proofs.Common.{◌≡◌, ℕ, zero, suc, ◌==◌, Bool, true, false, true≢false, List, [], ◌∷◌, ◌++◌, Some, None, refl, sym, ap, ◌∙◌, subst}
+use Rattle.std.proofs.lemmas.Bool.{or_parts}
+use Rattle.std.specs.List.{AllByRecursion, list_any}
 use Rattle.std.specs.Prelude.{slice_get, slice_set, remove}
+use Rattle.rh_order.proofs.ByNumber.{same_number}
 
 abbrev pub If : Bool → Type 0 → Type 0 → Type 0
 If true A B = A
@@ -53,6 +56,34 @@ module _ {X : Type 0} (number : X → ℕ) (n : ℕ) where
       → Absent (xs ++ x ∷ [])
   absent_push [] x other none = (other, tt)
   absent_push (y ∷ xs) x other none = (none.0, absent_push xs x other none.1)
+
+  -- ---- and the other way
+
+  pub absent_unset : (xs : List X) (i : ℕ) (x y : X) → slice_get xs i ≡ Some x
+      → number y ≡ number x → Absent (slice_set xs i y) → Absent xs
+  absent_unset [] i x y at same none = tt
+  absent_unset (z ∷ xs) zero x y at same none =
+      (ap (λ (k : ℕ). k == n) (ap number (one z x at) ∙ sym same) ∙ none.0, none.1)
+  absent_unset (z ∷ xs) (suc i) x y at same none =
+      (none.0, absent_unset xs i x y at same none.1)
+
+  pub absent_back : (xs : List X) (i : ℕ) (x : X) → slice_get xs i ≡ Some x
+      → number x == n ≡ false → Absent (remove xs i) → Absent xs
+  absent_back [] i x at other none = tt
+  absent_back (z ∷ xs) zero x at other none =
+      (subst (λ (w : X). number w == n ≡ false) (sym (one z x at)) other, none)
+  absent_back (z ∷ xs) (suc i) x at other none =
+      (none.0, absent_back xs i x at other none.1)
+
+  pub absent_missing : (xs : List X) (i : ℕ) → slice_get xs i ≡ None → Absent (remove xs i)
+      → Absent xs
+  absent_missing [] i at none = tt
+  absent_missing (z ∷ xs) zero at none = absurd cc
+  absent_missing (z ∷ xs) (suc i) at none = (none.0, absent_missing xs i at none.1)
+
+  pub absent_front : (xs : List X) (x : X) → Absent (xs ++ x ∷ []) → Absent xs
+  absent_front [] x none = tt
+  absent_front (z ∷ xs) x none = (none.0, absent_front xs x none.1)
 
   module _ (Q R : X → Type 0) where
     pub once_map : (xs : List X) → ((x : X) → Q x → R x) → Once Q xs → Once R xs
@@ -151,3 +182,23 @@ module _ {X : Type 0} (number : X → ℕ) (n : ℕ) where
       by : (b : Bool) → If b (Q y × Absent xs) (Once Q xs) → (Once Q xs → Q x) → Q x
       by true has rest = absurd (true≢false (sym is ∙ absent_at xs i x at has.1))
       by false has rest = rest has
+
+  -- with what is so of each
+  pub once_all : (Q P : X → Type 0) (xs : List X) → AllByRecursion P xs → Once Q xs
+      → Once (λ (x : X). Q x × P x × (number x ≡ n)) xs
+  once_all Q P [] all once = tt
+  once_all Q P (x ∷ xs) all once = by (number x == n) refl once (once_all Q P xs all.1)
+    where
+      by : (b : Bool) → number x == n ≡ b → If b (Q x × Absent xs) (Once Q xs)
+          → (Once Q xs → Once (λ (y : X). Q y × P y × (number y ≡ n)) xs)
+          → If b ((Q x × P x × (number x ≡ n)) × Absent xs)
+          (Once (λ (y : X). Q y × P y × (number y ≡ n)) xs)
+      by true e is rest = ((is.0, all.0, same_number (number x) n e), is.1)
+      by false e is rest = rest is
+
+-- a test that none passes
+pub none_any : {X : Type 0} (test : X → Bool) (xs : List X) → list_any test xs ≡ false
+    → AllByRecursion (λ (x : X). test x ≡ false) xs
+none_any test [] e = tt
+none_any test (x ∷ xs) e =
+    let both = or_parts (test x) (list_any test xs) e in (both.0, none_any test xs both.1)

@@ -32,7 +32,7 @@ use Rattle.rh_server.specs.declared.state.Stage.TheVariants as stage
 use Rattle.rh_server.specs.declared.state.Tells.{Tells}
 use Rattle.rh_server.specs.declared.state.Tells.TheVariants as tells
 use Rattle.rh_server.specs.OutLines.{Gate, lets, length_of}
-use Rattle.rh_server.specs.States.{Server, is_due, is_open, is_shut, in_leg, in_place, out_place, with_in}
+use Rattle.rh_server.specs.States.{Server, is_due, is_open, is_shut, stays, in_leg, in_place, out_place, with_in}
 use Rattle.rh_server.specs.OutReplacement.{wished}
 use Rattle.rh_server.specs.Ending.{completed, is_complete, settled}
 use Rattle.rh_server.specs.Putting.{Pick, or_else, told_by, was_current, put_tells_by, put_tells, put_b1_by, put_b1, ack_due, put_ack_by, put_ack, put_in_by, with_out, out_greeting_at, put_out_greeting, gate_at, counts, was_put, waiting_by, waiting_at, put_waiting, may_go_at, pdu_by, put_pdu, is_end_due, may_end_at, put_end, put_pdu_or_end, next_out, settled_pick, put_open, put_out_at, put_by as put_by_kind}
@@ -40,7 +40,7 @@ use Rattle.rh_server_counts.specs.Counting.{is_conn_b3, leg_at}
 use Rattle.rh_server_in_rows.specs.Refusing.{is_in_r1_b2}
 use Rattle.rh_server_in_rows.proofs.Places.{Found, found_at, number_found}
 use Rattle.rh_server_in_rows.proofs.Tallies.{Grows, Tally, other_put, put_grows, quiet_put, tally}
-use Rattle.rh_server_in_rows.proofs.Kept.{Kept, Look, So, Tail, is_begun, is_opened, kept_more, look, set_kept, so_more, top_of}
+use Rattle.rh_server_in_rows.proofs.Kept.{Kept, Look, So, Tail, is_begun, is_opened, kept_more, look, open_more, set_kept, so_more, top_of}
 use Rattle.rh_server_in_rows.proofs.Rows.{Fine, leg_same, same_fine}
 use Rattle.rh_server_in_rows.proofs.Takes.{Holds}
 
@@ -142,15 +142,30 @@ module _ (n : ℕ) where
           ended = q.ended;
           opened = q.opened;
           untold = λ e. absurd (due (q.untold e).0);
+          calm = q.calm;
+          current = q.current;
+          next = q.next;
+          above = q.above;
+          cookie = q.cookie;
+          positive = q.positive;
         })
         (λ apart w q. so_more n (top_of s) c d w (other apart) q)
         (λ apart. let g = other apart in (g.first, g.told))
+        (λ apart o. open_more n (top_of s) c d (other apart).left o)
+        (λ apart less a. a)
         (record {
           left = h.tail.left;
           now_over = h.tail.now_over;
           next_over = h.tail.next_over;
           followed = h.tail.followed;
           early = h.tail.early;
+          once = h.tail.once;
+          none_first = h.tail.none_first;
+          began = h.tail.began;
+          next_began = h.tail.next_began;
+          named = h.tail.named;
+          beyond = h.tail.beyond;
+          next_named = h.tail.next_named;
         }) h
       where
         c : Tally
@@ -168,16 +183,18 @@ module _ (n : ℕ) where
         quiet (Packet (named.Ack a.received a.available s.current.cookie)) refl refl
 
     rest_put : InPuts (or_else (put_b1 s x) (put_ack s x))
-    rest_put = by x.leaving
+    rest_put = by x.leaving refl
       where
-        by : (l : Leaving) → InPuts (or_else (put_b1_by s x l) (put_ack s x))
-        by leaving.Stays = ack_put (ack_due s x)
-        by leaving.InR1B1 =
+        by : (l : Leaving) → x.leaving ≡ l
+            → InPuts (or_else (put_b1_by s x l) (put_ack s x))
+        by leaving.Stays e = ack_put (ack_due s x)
+        by leaving.InR1B1 e =
             leg_same n (tally n came (put ++ (leg_at InServer m, Packet named.InR1B1) ∷ [])) s x
-            (record x { leaving = leaving.Left }) f refl refl refl
+            (record x { leaving = leaving.Left }) f refl refl refl refl
+            (λ is q shut. absurd (true≢false (sym (q.calm shut) ∙ ap stays e)))
             (quiet (Packet named.InR1B1) refl refl)
-        by leaving.Left = ack_put (ack_due s x)
-        by leaving.Lost = ack_put (ack_due s x)
+        by leaving.Left e = ack_put (ack_due s x)
+        by leaving.Lost e = ack_put (ack_due s x)
 
     frames_put : InPuts (or_else (put_tells s x) (or_else (put_b1 s x) (put_ack s x)))
     frames_put = by x.tells refl
@@ -226,7 +243,7 @@ module _ (n : ℕ) where
         (is_due x.greeting)
         (Some (with_in s (record x { greeting = greetings.Put }), Text greeting_text)) None
         (λ e. leg_same n (tally n came (put ++ (leg_at InServer m, Text greeting_text) ∷ [])) s x
-        (record x { greeting = greetings.Put }) f refl refl refl
+        (record x { greeting = greetings.Put }) f refl refl refl refl (λ is q shut. q.calm shut)
         (quiet (Text greeting_text) refl refl))
         (λ e. frames_put)
 

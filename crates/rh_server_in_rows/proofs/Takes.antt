@@ -1,6 +1,7 @@
 -- what a server takes keeps what it knows of its is legs
-use Rattle.std.proofs.Common.{◌≡◌, inl, inr, ℕ, ◌+◌, ◌≤◌, ◌==◌, ◌&&◌, cond, Bool, true, false, true≢false, not, if◌then◌else◌, List, [], ◌∷◌, ◌++◌, is_ok, Some, None, Ok, Err, arith, refl, rules, sym, ap, ◌∙◌, subst}
+use Rattle.std.proofs.Common.{◌≡◌, inl, inr, ℕ, ◌+◌, ◌≤◌, ◌<◌, ◌==◌, nat_lt, ◌&&◌, cond, Bool, true, false, true≢false, not, if◌then◌else◌, List, [], ◌∷◌, ◌++◌, is_ok, Some, None, Ok, Err, arith, refl, rules, sym, ap, ◌∙◌, subst}
 use Rattle.std.proofs.lemmas.Bool.{false≢true, and_parts, not-false}
+use Rattle.std.proofs.lemmas.Bool.Decides.{nat_tests}
 use Rattle.std.specs.Prelude.{IfSome}
 use Rattle.std.specs.declared.option.Option.{Option}
 use Rattle.std.specs.declared.result.Result.{Result}
@@ -15,7 +16,7 @@ use Rattle.rh_line.specs.declared.line_fault.LineFault.{LineFault}
 use Rattle.rh_line.specs.declared.line_fault.LineFault.TheVariants as line_fault
 use Rattle.rh_line.specs.declared.which.Which.{Which}
 use Rattle.rh_line.specs.declared.which.Which.TheVariants.{Current, Next}
-use Rattle.rh_order.proofs.ByNumber.{by_test, same_number}
+use Rattle.rh_order.proofs.ByNumber.{by_test, other_number, same_number, test_same}
 use Rattle.rh_passages.specs.Passing.{count_of}
 use Rattle.rh_passages.proofs.Logs.{RowKeeps}
 use Rattle.rh_shell.specs.declared.answers.Count.{Count}
@@ -26,6 +27,7 @@ use Rattle.rh_shell.specs.Waiting.{Waiting, forwarded, takes}
 use Rattle.rh_server.specs.declared.state.InLeg.{InLeg}
 use Rattle.rh_server.specs.declared.state.InStage.{InStage}
 use Rattle.rh_server.specs.declared.state.InStage.TheVariants as in_stage
+use Rattle.rh_server.specs.declared.state.Newest.{Newest}
 use Rattle.rh_server.specs.declared.state.Leaving.TheVariants as leaving
 use Rattle.rh_server.specs.declared.state.Stage.{Stage}
 use Rattle.rh_server.specs.declared.state.Stage.TheVariants as stage
@@ -34,13 +36,15 @@ use Rattle.rh_server.specs.OutLines.{has, waits}
 use Rattle.rh_server.specs.States.{Server, is_fresh, is_open, is_waiting, same_cookie, in_leg, in_place}
 use Rattle.rh_server.specs.Opening.{Done, took, refuse, unexpected, is_first, opens, with_first_in, first_in, with_first_out, conn_a2_at, on_conn_a2, conn_b2_at, on_conn_b2}
 use Rattle.rh_server.specs.Acknowledging.{admitted_by, admitted_on, channel_at, channel_leg, forward_by, forwards, forwards_to, forwards_writing, is_full, on_ack_to, out_server}
-use Rattle.rh_server.specs.InReplacement.{announced, in_r1_a2_by, in_r1_a2_at, on_in_r1_a2, leaves_by, leaves, hands_over, moved_if, on_in_r1_a6, in_r2_a2_on, on_in_r2_a2}
+use Rattle.rh_server.specs.InReplacement.{announced, has_fresh_below, newest_by, in_r1_a2_by, in_r1_a2_at, on_in_r1_a2, leaves_by, leaves, hands_over, moved_if, on_in_r1_a6, in_r2_a2_on, on_in_r2_a2}
 use Rattle.rh_server.specs.Ending.{end_a2_on_leg, end_a2_waiting, is_over_on, end_a2_at, on_end_a2}
 use Rattle.rh_server.specs.Servers.{on_is, on_os, packet_by, pdu_by}
 use Rattle.rh_server_counts.specs.Counting.{is_conn_b2, is_end_a2, is_in_r1_a2, is_in_r1_a6, leg_at, often_at}
+use Rattle.rh_server_in_rows.specs.Refusing.{named_by, successor_by}
+use Rattle.rh_server_in_rows.proofs.Numbered.{absent_at}
 use Rattle.rh_server_in_rows.proofs.Places.{Found, found_at, number_found}
-use Rattle.rh_server_in_rows.proofs.Tallies.{Grows, Tally, began, now_often, other_came, quiet_came, tally}
-use Rattle.rh_server_in_rows.proofs.Kept.{IsOpen, Kept, Look, So, Tail, Top, is_begun, is_opened, kept_more, look, newer_kept, set_kept, top_kept, top_of}
+use Rattle.rh_server_in_rows.proofs.Tallies.{Grows, Still, Tally, began, carried_came, carried_names, carried_other, named_at, named_own, now_often, other_came, quiet_came, tally}
+use Rattle.rh_server_in_rows.proofs.Kept.{IsOpen, Kept, Look, So, Tail, Top, is_begun, is_opened, kept_more, leg_at_place, look, newer_kept, number_of, renamed_kept, set_kept, so_top, top_kept, top_of}
 use Rattle.rh_server_in_rows.proofs.Rows.{Fine, announces, first_fine, leg_same, same_fine, settles}
 
 -- ---- which channel it is
@@ -147,6 +151,13 @@ pdu_same s m bytes OutServer = refl
 pdu_same s m bytes ClientIn = refl
 pdu_same s m bytes ClientOut = refl
 
+-- it announces no channel
+record IsQuiet (m : Message) : Type 0 where
+  b2 : count_of is_conn_b2 (m ∷ []) ≡ 0
+  a2 : count_of is_in_r1_a2 (m ∷ []) ≡ 0
+  names : Still named_by m
+  succeeds : Still successor_by m
+
 -- a leg that is kept
 abbrev pub IsKept : Option InLeg → Type 0
 IsKept None = ⊥
@@ -160,23 +171,23 @@ module _ (n : ℕ) where
   grows_fine s c d g h = kept_more n (top_of s) s.newest_in s.ins c d g h
 
   row_same : (s : Server) (leg : Leg) (m : Message) (came put : List OnLeg) (x : Done)
-      → look x.0 ≡ look s → count_of is_conn_b2 (m ∷ []) ≡ 0
-      → count_of is_in_r1_a2 (m ∷ []) ≡ 0 → Holds s came put
-      → RowKeeps Holds (leg, m) came put x
-  row_same s leg m came put (t, Ok taken) same b2 a2 h =
+      → look x.0 ≡ look s → IsQuiet m → Holds s came put → RowKeeps Holds (leg, m) came put x
+  row_same s leg m came put (t, Ok taken) same q h =
       same_fine n s t (tally n (came ++ (leg, m) ∷ []) put) same
       (grows_fine s (tally n came put) (tally n (came ++ (leg, m) ∷ []) put)
-      (quiet_came n came put leg m b2 a2) h)
-  row_same s leg m came put (t, Err why) same b2 a2 h =
+      (quiet_came n came put leg m q.b2 q.a2 q.names q.succeeds) h)
+  row_same s leg m came put (t, Err why) same q h =
       same_fine n s t (tally n came put) same h
 
   -- ---- CONN/B2
 
   conn_b2_row : (s : Server) (m : ℕ) (count : Count) (a b : Cookie) (c d : ℕ)
-      (packet : Named) (came put : List OnLeg) → is_conn_b2 packet ≡ true
+      (packet : Named) (came put : List OnLeg)
+      → count_of is_conn_b2 (Packet packet ∷ []) + count_of is_in_r1_a2 (Packet packet ∷ []) ≡ 1
+      → ((before : Option Cookie) → named_by packet before ≡ Some b)
       → IsKept (in_leg m s.ins) → Holds s came put
       → RowKeeps Holds (leg_at InServer m, Packet packet) came put (on_conn_b2 s m count a b c d)
-  conn_b2_row s m count a b c d packet came put passes kept h =
+  conn_b2_row s m count a b c d packet came put counts names kept h =
       by_test (Row m) (is_first count && ((m == 1) && not (waits kinds.ConnC1 s.waiting)))
       (conn_b2_at s s.stage a b c d) (unexpected s)
       (λ t.
@@ -191,18 +202,15 @@ module _ (n : ℕ) where
       more : List OnLeg
       more = came ++ (leg_at InServer 1, Packet packet) ∷ []
 
-      some : 1 ≤ often_at is_conn_b2 InServer 1 more + often_at is_in_r1_a2 InServer 1 more
-      some = let is = now_often is_conn_b2 1 packet came passes in omega (arith, is)
-
       on_leg : (new : Stage) → is_begun s.stage ≡ false → is_begun new ≡ true
           → (o : Option InLeg) → IsKept o → IfSome o (Found s.ins)
           → IfSome o (λ (leg : InLeg). leg.number ≡ 1)
           → Holds (record (first_in s b o) { stage = new }) more put
       on_leg new early begun None kept f number = absurd kept
       on_leg new early begun (Some leg) kept f number =
-          first_fine n s new b leg (tally n came put) (tally n more put) f number early begun
-          (λ is. began n 1 packet came put some is)
-          (λ apart. other_came n 1 came put (Packet packet) apart) h
+          first_fine n s new b leg (tally n came put) (tally n more put) f number early begun h
+          (λ is. began n 1 packet b came put counts names is)
+          (λ apart. other_came n 1 came put (Packet packet) apart)
 
       opened : (new : Stage) → is_begun s.stage ≡ false → is_begun new ≡ true
           → IsKept (in_leg 1 s.ins) → Holds (record (with_first_in s b) { stage = new }) more put
@@ -224,12 +232,19 @@ module _ (n : ℕ) where
   -- ---- IN_R1/A2
 
   in_r1_a2_row : (s : Server) (m : ℕ) (count : Count) (a b c : Cookie) (d e : ℕ)
-      (packet : Named) (came put : List OnLeg) → is_in_r1_a2 packet ≡ true → Holds s came put
+      (packet : Named) (came put : List OnLeg) → is_in_r1_a2 packet ≡ true
+      → count_of is_conn_b2 (Packet packet ∷ []) + count_of is_in_r1_a2 (Packet packet ∷ []) ≡ 1
+      → ((before : Option Cookie) → named_by packet before ≡ Some c)
+      → ((before : Option Cookie) → successor_by packet before ≡ Some c)
+      → ((k : ℕ) → Fine k s (tally k came put))
       → RowKeeps Holds (leg_at InServer m, Packet packet) came put
       (on_in_r1_a2 s m count a b c d e)
-  in_r1_a2_row s m count a b c d e packet came put passes h =
-      by_test Row _ (in_r1_a2_at s s.stage m a b c d e) (unexpected s) (λ t. by s.stage refl)
-      (λ t. h)
+  in_r1_a2_row s m count a b c d e packet came put passes counts names succeeds all =
+      by_test Row (is_first count && not (has_fresh_below m s.ins))
+      (in_r1_a2_at s s.stage m a b c d e) (unexpected s)
+      (λ t. by (not_true (has_fresh_below m s.ins) (and_parts (is_first count) _ t).1)
+      s.stage refl)
+      (λ t. all n)
     where
       one : OnLeg
       one = (leg_at InServer m, Packet packet)
@@ -243,32 +258,67 @@ module _ (n : ℕ) where
       a2 : 1 ≤ often_at is_in_r1_a2 InServer m more
       a2 = now_often is_in_r1_a2 m packet came passes
 
-      on_leg : (known : Cookie) → s.stage ≡ stage.Open known → (o : Option InLeg)
-          → IfSome o (Found s.ins) → IfSome o (λ (leg : InLeg). leg.number ≡ m)
-          → Row (in_r1_a2_by s known a b c d e o)
-      on_leg known at None f number = h
-      on_leg known at (Some leg) f number =
-          by_test Row (not (is_fresh leg.stage)) _ _ (λ t. h)
-          (λ t. by_test Row (not (same_cookie known a)) _ _ (λ u. h)
-          (λ u. by_test Row (not (same_cookie s.newest.cookie b)) _
-          (took (announced s leg c d e)) (λ w. h)
-          (λ w. announces n s leg c d e (tally n came put) (tally n more put) f
-          (not-false (is_fresh leg.stage) t) (ap is_begun at)
+      not_true : (t : Bool) → not t ≡ true → t ≡ false
+      not_true true t = absurd (false≢true t)
+      not_true false t = refl
+
+      announces_on : (known : Cookie) → s.stage ≡ stage.Open known → (leg : InLeg)
+          → Found s.ins leg → leg.number ≡ m → is_fresh leg.stage ≡ true
+          → has_fresh_below m s.ins ≡ false → Fine n (announced s leg c d e) (tally n more put)
+      announces_on known at leg f number fresh below =
+          announces n s leg c d e (tally n came put) (tally n more put) f fresh (ap is_begun at)
+          (within leg f) (higher leg f fresh (ap is_begun at))
+          (ap (λ (k : ℕ). has_fresh_below k s.ins) number ∙ below) (all n)
           (λ is. (
-            began n m packet came put (omega (arith, a2)) (is ∙ number),
+            began n m packet c came put counts names (is ∙ number),
             subst (λ (k : ℕ). 1 ≤ often_at is_in_r1_a2 InServer k more) (sym (is ∙ number)) a2,
+            subst (λ (k : ℕ). named_at successor_by k more ≡ Some c) (sym (is ∙ number))
+                (named_own successor_by m came packet ∙ succeeds (named_at successor_by m came)),
           ))
           (λ apart. other_came n m came put (Packet packet) (λ is. apart (is ∙ sym number)))
-          h)))
+        where
+          within : (leg : InLeg) → Found s.ins leg → leg.number ≤ s.newest_in
+          within leg f = by (nat_lt s.newest_in leg.number) refl
+            where
+              less : (x y : ℕ) → nat_lt x y ≡ true → x < y
+              less x y t = grind (arith, nat_tests, t)
 
-      by : (x : Stage) → s.stage ≡ x → Row (in_r1_a2_at s x m a b c d e)
-      by (stage.Open known) at =
-          on_leg known at (in_leg m s.ins) (found_at s.ins (in_place m s.ins))
+              most : (x y : ℕ) → nat_lt x y ≡ false → y ≤ x
+              most x y t = grind (arith, nat_tests, t)
+
+              by : (t : Bool) → nat_lt s.newest_in leg.number ≡ t → leg.number ≤ s.newest_in
+              by true t =
+                  let u = (all leg.number).unborn (less s.newest_in leg.number t) in
+                  absurd (true≢false (sym (test_same leg.number)
+                  ∙ absent_at number_of leg.number s.ins f.place leg f.at u.absent))
+              by false t = most s.newest_in leg.number t
+
+          higher : (leg : InLeg) → Found s.ins leg → is_fresh leg.stage ≡ true
+              → is_begun s.stage ≡ true → s.newest.leg < leg.number
+          higher leg f fresh begun =
+              (leg_at_place leg.number (top_of s) s.newest_in s.ins
+              (tally leg.number came put) leg f refl (all leg.number)).above begun fresh
+
+      on_leg : (known : Cookie) → s.stage ≡ stage.Open known → has_fresh_below m s.ins ≡ false
+          → (o : Option InLeg) → IfSome o (Found s.ins)
+          → IfSome o (λ (leg : InLeg). leg.number ≡ m) → Row (in_r1_a2_by s known a b c d e o)
+      on_leg known at below None f number = all n
+      on_leg known at below (Some leg) f number =
+          by_test Row (not (is_fresh leg.stage)) _ _ (λ t. all n)
+          (λ t. by_test Row (not (same_cookie known a)) _ _ (λ u. all n)
+          (λ u. by_test Row (not (same_cookie s.newest.cookie b)) _
+          (took (announced s leg c d e)) (λ w. all n)
+          (λ w. announces_on known at leg f number (not-false (is_fresh leg.stage) t) below)))
+
+      by : has_fresh_below m s.ins ≡ false → (x : Stage) → s.stage ≡ x
+          → Row (in_r1_a2_at s x m a b c d e)
+      by below (stage.Open known) at =
+          on_leg known at below (in_leg m s.ins) (found_at s.ins (in_place m s.ins))
           (number_found m s.ins (in_place m s.ins) refl)
-      by stage.Waits at = h
-      by (stage.OutCame known) at = h
-      by (stage.InCame known window timeout) at = h
-      by stage.Ended at = h
+      by below stage.Waits at = all n
+      by below (stage.OutCame known) at = all n
+      by below (stage.InCame known window timeout) at = all n
+      by below stage.Ended at = all n
 
   -- ---- IN_R1/A6
 
@@ -317,45 +367,66 @@ module _ (n : ℕ) where
 
       now : Fine n s d
       now = grows_fine s (tally n came put) d
-          (quiet_came n came put (leg_at InServer m) (Packet (named.InR1A6 successor)) refl refl) h
+          (quiet_came n came put (leg_at InServer m) (Packet (named.InR1A6 successor))
+          refl refl (λ before. refl) (λ before. refl)) h
 
-      left : (o : Option InLeg) → IfSome o (Found s.ins) → Fine n (leaves_by s o) d
-      left None f = now
-      left (Some leg) f =
-          leg_same n d s leg (record leg { leaving = leaving.InR1B1 }) f refl refl refl now
+      begun : test ≡ true → (b : Bool) → is_begun s.stage ≡ b → is_begun s.stage ≡ true
+      begun e true f = f
+      begun e false f = absurd (true≢false (sym (has e) ∙ (h.tail.early f).1))
 
-      top_so : (o : Option InLeg) → look (leaves_by s o)
-          ≡ record (look s) { ins = (leaves_by s o).ins }
-      top_so None = refl
-      top_so (Some leg) = refl
+      current : test ≡ true → m ≡ s.current.leg
+      current e = same_number m s.current.leg (and_parts (m == s.current.leg) _ e).0
+
+      left : test ≡ true → (o : Option InLeg) → IfSome o (Found s.ins)
+          → IfSome o (λ (leg : InLeg). leg.number ≡ m) → Fine n (leaves_by s o) d
+      left e None f number = now
+      left e (Some leg) f number =
+          leg_same n d s leg (record leg { leaving = leaving.InR1B1 }) f refl refl refl refl
+          (λ is q shut. absurd (true≢false
+          (sym (q.current (begun e (is_begun s.stage) refl) (is ∙ number ∙ current e)) ∙ shut)))
+          now
 
       finish : (e : test ≡ true) → (ins : List InLeg)
           → Kept n (top_of s) s.newest_in ins d
           → Kept n (record (top_of s) { finished = true }) s.newest_in ins d
       finish e ins k =
-          top_kept n (top_of s) (record (top_of s) { finished = true }) s.newest_in ins d
+          top_kept n (top_of s) y s.newest_in ins d
           (λ o. o)
+          (λ leg q. so_top n (top_of s) y d leg (λ o. o) q.current q.next q.above q)
+          (λ a. record { current = a.current; next = a.next; above = a.above })
           (λ t. record {
-            left = λ f is. came_here (is ∙ sym
-                (same_number m s.current.leg (and_parts (m == s.current.leg) _ e).0));
+            left = λ f is. came_here (is ∙ sym (current e));
             now_over = t.now_over;
             next_over = t.next_over;
             followed = λ f. has e;
             early = t.early;
+            once = t.once;
+            none_first = t.none_first;
+            began = t.began;
+            next_began = t.next_began;
+            named = t.named;
+            beyond = t.beyond;
+            next_named = t.next_named;
           }) k
         where
+          y : Top
+          y = record (top_of s) { finished = true }
+
           came_here : n ≡ m → 1 ≤ d.left
           came_here is =
               subst (λ (k : ℕ). 1 ≤ often_at is_in_r1_a6 InServer k more) (sym is)
               (now_often is_in_r1_a6 m (named.InR1A6 successor) came refl)
 
       finished : test ≡ true → Fine n (finishes (leaves s m)) d
-      finished e = by (in_leg m s.ins) (found_at s.ins (in_place m s.ins))
+      finished e =
+          by (in_leg m s.ins) (found_at s.ins (in_place m s.ins))
+          (number_found m s.ins (in_place m s.ins) refl)
         where
           by : (o : Option InLeg) → IfSome o (Found s.ins)
-              → Fine n (finishes (leaves_by s o)) d
-          by None f = finish e s.ins now
-          by (Some leg) f = finish e (leaves_by s (Some leg)).ins (left (Some leg) f)
+              → IfSome o (λ (leg : InLeg). leg.number ≡ m) → Fine n (finishes (leaves_by s o)) d
+          by None f number = finish e s.ins now
+          by (Some leg) f number =
+              finish e (leaves_by s (Some leg)).ins (left e (Some leg) f number)
 
   -- ---- IN_R2/A2
 
@@ -373,17 +444,47 @@ module _ (n : ℕ) where
       Row : Done → Type 0
       Row x = RowKeeps Holds one came put x
 
-      newer : Kept n (top_of s) (s.newest_in + 1) s.ins (tally n (came ++ one ∷ []) put)
-      newer =
-          newer_kept n (top_of s) s.newest_in s.ins (tally n (came ++ one ∷ []) put)
-          (grows_fine s (tally n came put) (tally n (came ++ one ∷ []) put)
-          (quiet_came n came put (leg_at InServer m) (Packet (named.InR2A2 successor)) refl refl)
-          h)
+      more : List OnLeg
+      more = came ++ one ∷ []
+
+      d : Tally
+      d = record (tally n more put) { named = named_at named_by n came }
+
+      now : Kept n (top_of s) (s.newest_in + 1) s.ins d
+      now = newer_kept n (top_of s) s.newest_in s.ins d
+          (grows_fine s (tally n came put) d (carried_came n m came put successor) h)
+
+      named : (cookie : Cookie)
+          → (is_begun s.stage ≡ true → n ≡ s.newest.leg
+          → named_at named_by n more ≡ Some cookie)
+          → Kept n (record (top_of s) { newest_cookie = cookie }) (s.newest_in + 1) s.ins
+          (tally n more put)
+      named cookie names =
+          renamed_kept n (top_of s) (s.newest_in + 1) s.ins d (named_at named_by n more) cookie
+          names now
+
+      newer : (w : Newest) → w ≡ newest_by s.newest m successor
+          → Kept n (record (top_of s) { newest_leg = w.leg; newest_cookie = w.cookie })
+          (s.newest_in + 1) s.ins (tally n more put)
+      newer w is =
+          subst (λ (v : Newest).
+          Kept n (record (top_of s) { newest_leg = v.leg; newest_cookie = v.cookie })
+          (s.newest_in + 1) s.ins (tally n more put)) (sym is)
+          (by_test (λ (v : Newest).
+          Kept n (record (top_of s) { newest_leg = v.leg; newest_cookie = v.cookie })
+          (s.newest_in + 1) s.ins (tally n more put)) (m == s.newest.leg)
+          (record (s.newest) { cookie = successor }) s.newest
+          (λ e. named successor
+          (λ b is. carried_names n m came successor (is ∙ sym (same_number m s.newest.leg e))))
+          (λ e. named s.newest.cookie
+          (λ b is. carried_other n m came successor
+          (λ same. other_number m s.newest.leg e (sym same ∙ is))
+          ∙ h.tail.named b is)))
 
       by : (which : Option Which) → Row (in_r2_a2_on s m successor which)
       by None = h
-      by (Some Current) = newer
-      by (Some Next) = newer
+      by (Some Current) = newer (newest_by s.newest m successor) refl
+      by (Some Next) = newer (newest_by s.newest m successor) refl
 
   -- ---- END/A2
 
@@ -404,7 +505,8 @@ module _ (n : ℕ) where
 
       now : Fine n s d
       now = grows_fine s (tally n came put) d
-          (quiet_came n came put (leg_at InServer m) (Packet named.EndA2) refl refl) h
+          (quiet_came n came put (leg_at InServer m) (Packet named.EndA2) refl refl
+          (λ before. refl) (λ before. refl)) h
 
       came_here : n ≡ m → 1 ≤ d.over
       came_here is =
@@ -426,8 +528,15 @@ module _ (n : ℕ) where
             ended = λ g. came_here (is ∙ number);
             opened = λ g. absurd (false≢true g);
             untold = λ g. q.untold (ap is_opened at);
+            calm = λ g. q.calm (ap is_opened at);
+            current = λ g k. sym (ap is_opened at) ∙ q.current g k;
+            next = λ g k. sym (ap is_opened at) ∙ q.next g k;
+            above = λ g k. absurd (false≢true k);
+            cookie = λ g. q.cookie (ap is_waiting at);
+            positive = q.positive;
           })
-          (λ apart w q. q) (λ apart. (refl, refl)) now.tail now)
+          (λ apart w q. q) (λ apart. (refl, refl)) (λ apart o. o) (λ apart less a. a) now.tail
+          now)
 
       on_leg : (o : Option InLeg) → IfSome o (Found s.ins)
           → IfSome o (λ (leg : InLeg). leg.number ≡ m) → Row (end_a2_waiting s o)
@@ -437,24 +546,44 @@ module _ (n : ℕ) where
       over_on : (which : Which) → channel_at s m ≡ Some which
           → Fine n (record s { line = after_end s.line which }) d
       over_on Current at =
-          top_kept n (top_of s) (record (top_of s) { now_ended = true }) s.newest_in s.ins d
+          let y : Top = record (top_of s) { now_ended = true } in
+          top_kept n (top_of s) y s.newest_in s.ins d
           (λ o. o)
+          (λ leg q. so_top n (top_of s) y d leg (λ o. o) q.current q.next q.above q)
+          (λ a. record { current = a.current; next = a.next; above = a.above })
           (λ t. record {
             left = t.left;
             now_over = λ e is. came_here (is ∙ sym (on_current s m at));
             next_over = t.next_over;
             followed = t.followed;
             early = t.early;
+            once = t.once;
+            none_first = t.none_first;
+            began = t.began;
+            next_began = t.next_began;
+            named = t.named;
+            beyond = t.beyond;
+            next_named = t.next_named;
           }) now
       over_on Next at =
-          top_kept n (top_of s) (record (top_of s) { next_ended = true }) s.newest_in s.ins d
+          let y : Top = record (top_of s) { next_ended = true } in
+          top_kept n (top_of s) y s.newest_in s.ins d
           (λ o. o)
+          (λ leg q. so_top n (top_of s) y d leg (λ o. o) q.current q.next q.above q)
+          (λ a. record { current = a.current; next = a.next; above = a.above })
           (λ t. record {
             left = t.left;
             now_over = t.now_over;
             next_over = λ e f is. came_here (is ∙ sym (on_next s m at).1);
             followed = t.followed;
             early = t.early;
+            once = t.once;
+            none_first = t.none_first;
+            began = t.began;
+            next_began = t.next_began;
+            named = t.named;
+            beyond = t.beyond;
+            next_named = t.next_named;
           }) now
 
       on_channel : (which : Option Which) → channel_at s m ≡ which → Row (end_a2_at s m which)
@@ -467,27 +596,30 @@ module _ (n : ℕ) where
   -- ---- all packets
 
   is_row : (s : Server) (m : ℕ) (count : Count) (packet : Named) (came put : List OnLeg)
-      → IsKept (in_leg m s.ins) → Holds s came put
+      → IsKept (in_leg m s.ins) → ((k : ℕ) → Fine k s (tally k came put))
       → RowKeeps Holds (leg_at InServer m, Packet packet) came put (on_is s m count packet)
-  is_row s m count (named.ConnB2 v a b c d e f g) came put kept h =
-      conn_b2_row s m count a b c d (named.ConnB2 v a b c d e f g) came put refl kept h
-  is_row s m count (named.InR1A2 v a b c d e) came put kept h =
-      in_r1_a2_row s m count a b c d e (named.InR1A2 v a b c d e) came put refl h
-  is_row s m count (named.InR1A6 a) came put kept h = in_r1_a6_row s m a came put h
-  is_row s m count (named.InR2A2 a) came put kept h = in_r2_a2_row s m count a came put h
-  is_row s m count named.EndA2 came put kept h = end_a2_row s m count came put h
-  is_row s m count (named.AckTo a b c d) came put kept h =
+  is_row s m count (named.ConnB2 v a b c d e f g) came put kept all =
+      conn_b2_row s m count a b c d (named.ConnB2 v a b c d e f g) came put refl
+      (λ before. refl) kept (all n)
+  is_row s m count (named.InR1A2 v a b c d e) came put kept all =
+      in_r1_a2_row s m count a b c d e (named.InR1A2 v a b c d e) came put refl refl
+      (λ before. refl) (λ before. refl) all
+  is_row s m count (named.InR1A6 a) came put kept all = in_r1_a6_row s m a came put (all n)
+  is_row s m count (named.InR2A2 a) came put kept all = in_r2_a2_row s m count a came put (all n)
+  is_row s m count named.EndA2 came put kept all = end_a2_row s m count came put (all n)
+  is_row s m count (named.AckTo a b c d) came put kept all =
       row_same s (leg_at InServer m) (Packet (named.AckTo a b c d)) came put
-      (on_ack_to s count a b c d) (ack_to_same s count a b c d) refl refl h
-  is_row s m count packet came put kept h =
+      (on_ack_to s count a b c d) (ack_to_same s count a b c d)
+      (record { b2 = refl; a2 = refl; names = λ before. refl; succeeds = λ before. refl }) (all n)
+  is_row s m count packet came put kept all =
       row_same s (leg_at InServer m) (Packet packet) came put (on_is s m count packet)
-      (search rules) refl refl h
+      (search rules)
+      (record { b2 = refl; a2 = refl; names = λ before. refl; succeeds = λ before. refl }) (all n)
 
   conn_a2_row : (s : Server) (m : ℕ) (count : Count) (a b : Cookie) (c d : ℕ) (packet : Named)
-      (came put : List OnLeg) → count_of is_conn_b2 (Packet packet ∷ []) ≡ 0
-      → count_of is_in_r1_a2 (Packet packet ∷ []) ≡ 0 → Holds s came put
+      (came put : List OnLeg) → IsQuiet (Packet packet) → Holds s came put
       → RowKeeps Holds (leg_at OutServer m, Packet packet) came put (on_conn_a2 s m count a b c d)
-  conn_a2_row s m count a b c d packet came put b2 a2 h =
+  conn_a2_row s m count a b c d packet came put q h =
       by_test Row (is_first count && ((m == 1) && not (waits kinds.ConnC1 s.waiting)))
       (conn_a2_at s s.stage a b c d) (unexpected s) (λ e. by s.stage refl) (λ e. h)
     where
@@ -504,7 +636,8 @@ module _ (n : ℕ) where
           (tally n (came ++ one ∷ []) put)
           (out_look s (is_begun new) b c d ∙ ap (λ (t : Bool). look_at t s) begun)
           (grows_fine s (tally n came put) (tally n (came ++ one ∷ []) put)
-          (quiet_came n came put (leg_at OutServer m) (Packet packet) b2 a2) h)
+          (quiet_came n came put (leg_at OutServer m) (Packet packet) q.b2 q.a2 q.names q.succeeds)
+          h)
 
       by : (x : Stage) → s.stage ≡ x → Row (conn_a2_at s x a b c d)
       by stage.Waits at = moves (stage.OutCame a) (sym (ap is_begun at))
@@ -520,25 +653,31 @@ module _ (n : ℕ) where
       → Holds s came put
       → RowKeeps Holds (leg_at OutServer m, Packet packet) came put (on_os s m count packet)
   os_row s m count (named.ConnA2 v a b c d) came put h =
-      conn_a2_row s m count a b c d (named.ConnA2 v a b c d) came put refl refl h
+      conn_a2_row s m count a b c d (named.ConnA2 v a b c d) came put
+      (record { b2 = refl; a2 = refl; names = λ before. refl; succeeds = λ before. refl }) h
   os_row s m count (named.ConnB2 v a b c d e f g) came put h = h
   os_row s m count (named.InR1A2 v a b c d e) came put h = h
+  os_row s m count (named.InR2A2 a) came put h = h
   os_row s m count packet came put h =
       row_same s (leg_at OutServer m) (Packet packet) came put (on_os s m count packet)
-      (search rules) refl refl h
+      (search rules)
+      (record { b2 = refl; a2 = refl; names = λ before. refl; succeeds = λ before. refl }) h
 
   pub packet_row : (s : Server) (m : ℕ) (count : Count) (packet : Named) (k : LegKind)
-      (came put : List OnLeg) → (k ≡ InServer → IsKept (in_leg m s.ins)) → Holds s came put
+      (came put : List OnLeg) → (k ≡ InServer → IsKept (in_leg m s.ins))
+      → ((j : ℕ) → Fine j s (tally j came put))
       → RowKeeps Holds (leg_at k m, Packet packet) came put (packet_by s m count packet k)
-  packet_row s m count packet InServer came put kept h =
-      is_row s m count packet came put (kept refl) h
-  packet_row s m count packet OutServer came put kept h = os_row s m count packet came put h
-  packet_row s m count packet ClientIn came put kept h = h
-  packet_row s m count packet ClientOut came put kept h = h
+  packet_row s m count packet InServer came put kept all =
+      is_row s m count packet came put (kept refl) all
+  packet_row s m count packet OutServer came put kept all =
+      os_row s m count packet came put (all n)
+  packet_row s m count packet ClientIn came put kept all = all n
+  packet_row s m count packet ClientOut came put kept all = all n
 
   pub pdu_row : (s : Server) (leg : Leg) (bytes : List ℕ) (came put : List OnLeg)
       → Holds s came put
       → RowKeeps Holds (leg, Pdu bytes) came put (pdu_by s leg.number bytes leg.kind)
   pdu_row s leg bytes came put h =
       row_same s leg (Pdu bytes) came put (pdu_by s leg.number bytes leg.kind)
-      (pdu_same s leg.number bytes leg.kind) refl refl h
+      (pdu_same s leg.number bytes leg.kind)
+      (record { b2 = refl; a2 = refl; names = λ before. refl; succeeds = λ before. refl }) h

@@ -1,13 +1,15 @@
 -- what is so in a server's logs where it refuses what comes on an is leg as unexpected (MS-RPCH
 -- 3.2.5; replacement and END are this profile's)
-use Rattle.std.specs.Prelude.{ℕ, ◌≡◌, ◌⊎◌, ◌+◌, ◌≤◌, ◌<◌, List, Bool, true, false, IsTrue, Err}
+use Rattle.std.specs.Prelude.{ℕ, ◌≡◌, ◌⊎◌, ◌+◌, ◌≤◌, ◌<◌, List, [], ◌∷◌, Bool, true, false, IsTrue, Some, None, Err}
+use Rattle.std.specs.declared.option.Option.{Option}
 use Rattle.rh_rts.specs.declared.command.Cookie.{Cookie}
 use Rattle.rh_sig.specs.declared.named.Named.{Named}
-use Rattle.rh_sig.specs.declared.named.Named.TheVariants.{InR1A2, InR1B2, InR2A2, EndA2}
+use Rattle.rh_sig.specs.declared.named.Named.TheVariants.{ConnB2, InR1A2, InR1A6, InR1B2, InR2A2, EndA2}
 use Rattle.rh_line.specs.declared.leg.LegKind.TheVariants.{InServer}
 use Rattle.rh_shell.specs.declared.answers.Count.{Count}
 use Rattle.rh_shell.specs.declared.answers.Refused.TheVariants as refused
 use Rattle.rh_shell.specs.Moves.{Passage, is_in_use}
+use Rattle.rh_shell.specs.Rules.{Message, Text, Pdu, Packet}
 use Rattle.rh_shell.specs.Wires.{of_leg}
 use Rattle.rh_server.specs.States.{Server, in_leg, is_some}
 use Rattle.rh_server.specs.Servers.{rules}
@@ -17,6 +19,30 @@ use Rattle.rh_passages.specs.Counted.{packets, Tells}
 abbrev pub is_in_r1_b2 : Named → Bool
 is_in_r1_b2 (InR1B2 size) = true
 is_in_r1_b2 packet = false
+
+-- ---- cookies of IN channels
+
+-- the cookie of the channel that a packet announces on its leg, and of the one that IN_R1/A2 does
+abbrev pub named_by : Named → Option Cookie → Option Cookie
+named_by (ConnB2 version connection cookie window timeout group address padding) before =
+    Some cookie
+named_by (InR1A2 version connection predecessor successor window timeout) before =
+    Some successor
+named_by (InR2A2 successor) before = Some successor
+named_by packet before = before
+
+abbrev pub successor_by : Named → Option Cookie → Option Cookie
+successor_by (InR1A2 version connection predecessor successor window timeout) before =
+    Some successor
+successor_by packet before = before
+
+-- what the last of these messages names
+abbrev pub last_of : (Named → Option Cookie → Option Cookie) → Option Cookie → List Message
+    → Option Cookie
+last_of pick before [] = before
+last_of pick before (Text bytes ∷ messages) = last_of pick before messages
+last_of pick before (Pdu pdu ∷ messages) = last_of pick before messages
+last_of pick before (Packet packet ∷ messages) = last_of pick (pick packet before) messages
 
 -- ---- is leg n
 
