@@ -7,4 +7,8 @@ mod Takes
 mod Puts
 mod Steps
 mod Tests
+mod Sums
+mod Counts
+mod Orders
 mod Why
+mod Replaced

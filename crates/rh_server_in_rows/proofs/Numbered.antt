@@ -29,6 +29,11 @@ module _ {X : Type 0} (number : X → ℕ) (n : ℕ) where
       subst (λ (b : Bool). If b (Q x × Absent xs) (Once Q xs)) (sym none.0)
       (absent_once Q xs none.1)
 
+  pub absent_if : (xs : List X)
+      → ((i : ℕ) (x : X) → slice_get xs i ≡ Some x → number x == n ≡ false) → Absent xs
+  absent_if [] each = tt
+  absent_if (x ∷ xs) each = (each zero x refl, absent_if xs (λ i y at. each (suc i) y at))
+
   -- ---- another takes its place
 
   pub absent_at : (xs : List X) (i : ℕ) (x : X) → slice_get xs i ≡ Some x → Absent xs

@@ -29,7 +29,7 @@ use Rattle.rh_server.specs.OutLines.{is_kind, is_own}
 use Rattle.rh_server.specs.States.{is_fresh, is_open, is_some, is_waiting, phase_of}
 use Rattle.rh_server.specs.Opening.{is_first}
 use Rattle.rh_server_counts.specs.Answering.{how_many, waits_on}
-use Rattle.rh_server_counts.specs.Counting.{is_conn_b2, is_in_r1_a2, is_in_r2_a3, waiting_of}
+use Rattle.rh_server_counts.specs.Counting.{is_conn_b2, is_in_r1_a2, is_in_r1_a3, is_in_r2_a3, waiting_of}
 use Rattle.rh_passages.specs.Counted.{packets, Tells}
 use Rattle.rh_passages.specs.Passing.{count_of}
 use Rattle.rh_shell.specs.Rules.{Message, Text, Pdu, Packet}
@@ -90,34 +90,48 @@ is_over false (Err exceeded) e = absurd (cc)
 
 -- ---- what waits
 
--- an IN_R2/A3
-pub in_r2_a3_waits : (dues : List Due) → is_some (find (is_own kind.InR2A3) dues) ≡ true
-    → 1 ≤ waiting_of is_in_r2_a3 dues
-in_r2_a3_waits [] e = absurd (false≢true e)
-in_r2_a3_waits (due ∷ dues) e = by (is_own kind.InR2A3 due) refl e (in_r2_a3_waits dues)
+-- a packet of a kind
+kind_waits : (kind : Kind) (test : Named → Bool)
+    → ((packet : Named) → is_kind kind packet ≡ true → test packet ≡ true) → (dues : List Due)
+    → is_some (find (is_own kind) dues) ≡ true → 1 ≤ waiting_of test dues
+kind_waits kind test of [] e = absurd (false≢true e)
+kind_waits kind test of (due ∷ dues) e =
+    by (is_own kind due) refl e (kind_waits kind test of dues)
   where
-    is_a3 : (packet : Named) → is_kind kind.InR2A3 packet ≡ true → is_in_r2_a3 packet ≡ true
-    is_a3 (named.InR2A3 destination) f = refl
-    is_a3 packet f = absurd (false≢true f)
-
     here : (u : Bool) → u ≡ true
-        → 1 ≤ (if u then suc (waiting_of is_in_r2_a3 dues) else waiting_of is_in_r2_a3 dues)
+        → 1 ≤ (if u then suc (waiting_of test dues) else waiting_of test dues)
     here true f = omega arith
     here false f = absurd (false≢true f)
 
-    further : (u : Bool) → 1 ≤ waiting_of is_in_r2_a3 dues
-        → 1 ≤ (if u then suc (waiting_of is_in_r2_a3 dues) else waiting_of is_in_r2_a3 dues)
+    further : (u : Bool) → 1 ≤ waiting_of test dues
+        → 1 ≤ (if u then suc (waiting_of test dues) else waiting_of test dues)
     further true f = omega arith
     further false f = f
 
-    by : (k : Bool) → is_own kind.InR2A3 due ≡ k
-        → is_some (if k then Some due else find (is_own kind.InR2A3) dues) ≡ true
-        → (is_some (find (is_own kind.InR2A3) dues) ≡ true → 1 ≤ waiting_of is_in_r2_a3 dues)
-        → 1 ≤ waiting_of is_in_r2_a3 (due ∷ dues)
+    by : (k : Bool) → is_own kind due ≡ k
+        → is_some (if k then Some due else find (is_own kind) dues) ≡ true
+        → (is_some (find (is_own kind) dues) ≡ true → 1 ≤ waiting_of test dues)
+        → 1 ≤ waiting_of test (due ∷ dues)
     by true is f rest =
-        here (is_in_r2_a3 due.packet)
-        (is_a3 due.packet (and_parts (is_of Own due) (is_kind kind.InR2A3 due.packet) is).1)
-    by false is f rest = further (is_in_r2_a3 due.packet) (rest f)
+        here (test due.packet)
+        (of due.packet (and_parts (is_of Own due) (is_kind kind due.packet) is).1)
+    by false is f rest = further (test due.packet) (rest f)
+
+pub in_r2_a3_waits : (dues : List Due) → is_some (find (is_own kind.InR2A3) dues) ≡ true
+    → 1 ≤ waiting_of is_in_r2_a3 dues
+in_r2_a3_waits = kind_waits kind.InR2A3 is_in_r2_a3 of
+  where
+    of : (packet : Named) → is_kind kind.InR2A3 packet ≡ true → is_in_r2_a3 packet ≡ true
+    of (named.InR2A3 destination) f = refl
+    of packet f = absurd (false≢true f)
+
+pub in_r1_a3_waits : (dues : List Due) → is_some (find (is_own kind.InR1A3) dues) ≡ true
+    → 1 ≤ waiting_of is_in_r1_a3 dues
+in_r1_a3_waits = kind_waits kind.InR1A3 is_in_r1_a3 of
+  where
+    of : (packet : Named) → is_kind kind.InR1A3 packet ≡ true → is_in_r1_a3 packet ≡ true
+    of (named.InR1A3 destination version window timeout) f = refl
+    of packet f = absurd (false≢true f)
 
 -- a leg whose channel waits is one of them
 pub some_waits : (legs : List InLeg) (place : ℕ) (leg : InLeg) → slice_get legs place ≡ Some leg

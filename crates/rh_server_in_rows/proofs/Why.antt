@@ -34,7 +34,7 @@ use Rattle.rh_server_counts.specs.Answering.{AreAnswered}
 use Rattle.rh_server_counts.specs.Opening.{OpensOnce}
 use Rattle.rh_server_counts.specs.Counting.{is_end_a2, is_in_r1_a2, is_in_r1_a3, is_in_r1_a6, in_came, leg_at, out_put, waits_for}
 use Rattle.rh_passages.specs.Counted.{Tells}
-use Rattle.rh_server_in_rows.specs.Refusing.{IsFreshBelow, IsShut, IsUnopened, IsUsed, IsOpening, RefusesInFor, UnexpectedEnd, UnexpectedInR1, UnexpectedInR2, UnexpectedPdu, came_at, came_on, first_at}
+use Rattle.rh_server_in_rows.specs.Refusing.{IsFreshBelow, IsShut, IsUnopened, IsUsed, IsOpening, UnexpectedEnd, UnexpectedInR1, UnexpectedInR2, UnexpectedPdu, came_at, came_on, first_at}
 use Rattle.rh_server_in_rows.proofs.Places.{Found, Placed, found_at, number_found, placed}
 use Rattle.rh_server_in_rows.proofs.Tallies.{Tally, tally}
 use Rattle.rh_server_in_rows.proofs.Kept.{IsOpen, So, is_opened, leg_at_place, top_of}
@@ -42,15 +42,15 @@ use Rattle.rh_server_in_rows.proofs.Takes.{Holds, IsKept, on_current, on_next}
 use Rattle.rh_server_in_rows.proofs.Steps.{in_use}
 use Rattle.rh_server_in_rows.proofs.Tests.{at_least, first_among, first_count, fresh_leg, later_count, in_r2_a3_waits, is_over, none_current, none_next, not_false, one_fails, some_waits, still_opening}
 
-abbrev IsUnexpected : Done → Type 0
+abbrev pub IsUnexpected : Done → Type 0
 IsUnexpected d = d.1 ≡ Err refused.Unexpected
 
 -- the leg of that number
-record Leg (legs : List InLeg) (n : ℕ) (o : Option InLeg) : Type 0 where
-  leg : InLeg
-  found : Found legs leg
-  number : leg.number ≡ n
-  is : o ≡ Some leg
+pub record Leg (legs : List InLeg) (n : ℕ) (o : Option InLeg) : Type 0 where
+  pub leg : InLeg
+  pub found : Found legs leg
+  pub number : leg.number ≡ n
+  pub is : o ≡ Some leg
 
 leg_in : (legs : List InLeg) (n : ℕ) (o : Option InLeg) → IsKept o → IfSome o (Found legs)
     → IfSome o (λ (leg : InLeg). leg.number ≡ n) → Leg legs n o
@@ -60,25 +60,25 @@ leg_in legs n (Some leg) kept found number =
 
 module _ (p : Passage Server) (known : (n : ℕ) → Holds n p.role p.came p.put)
     (answers : AreAnswered p) (opens : OpensOnce p) where
-  abbrev s : Server
+  abbrev pub s : Server
   s = p.role
 
   module _ (n : ℕ) (used : IsUsed p n) where
-    abbrev c : Tally
+    abbrev pub c : Tally
     c = tally n p.came p.put
 
-    at : Leg s.ins n (in_leg n s.ins)
+    pub at : Leg s.ins n (in_leg n s.ins)
     at = leg_in s.ins n (in_leg n s.ins) (in_use s n used).1 (found_at s.ins (in_place n s.ins))
         (number_found n s.ins (in_place n s.ins) refl)
 
-    so : So n (top_of s) c at.leg
+    pub so : So n (top_of s) c at.leg
     so = leg_at_place n (top_of s) s.newest_in s.ins c at.leg at.found (sym at.number) (known n)
 
     is_opening : is_open s.stage ≡ false → IsOpening p
     is_opening shut = opens.opening (still_opening s.stage (in_use s n used).0 shut)
 
     -- its channel waits
-    unopened : is_waiting at.leg.stage ≡ true → is_opened at.leg.stage ≡ false → IsUnopened p n
+    pub unopened : is_waiting at.leg.stage ≡ true → is_opened at.leg.stage ≡ false → IsUnopened p n
     unopened e f = record {
       announced = so.waits e;
       answered =
@@ -130,7 +130,7 @@ module _ (p : Passage Server) (known : (n : ℕ) → Holds n p.role p.came p.put
     ended Current bytes e = is_over s.line.current.ended _ e
     ended Next bytes e = is_over s.line.next.ended _ e
 
-    pdu_refused : (bytes : List ℕ) → IsUnexpected (on_pdu s n bytes) → UnexpectedPdu p n
+    pub pdu_refused : (bytes : List ℕ) → IsUnexpected (on_pdu s n bytes) → UnexpectedPdu p n
     pdu_refused bytes =
         by_test (λ (d : Done). IsUnexpected d → UnexpectedPdu p n) (is_open s.stage)
         (admitted_on s bytes (channel_at s n)) (unexpected s) (λ e. by (channel_at s n) refl)
@@ -145,7 +145,7 @@ module _ (p : Passage Server) (known : (n : ℕ) → Holds n p.role p.came p.put
 
     -- ---- END/A2
 
-    end_refused : (count : Count) → Tells count (came_on p n)
+    pub end_refused : (count : Count) → Tells count (came_on p n)
         → IsUnexpected (on_end_a2 s n count) → UnexpectedEnd p n
     end_refused count tells =
         by_test (λ (d : Done). IsUnexpected d → UnexpectedEnd p n) (is_first count)
@@ -173,7 +173,7 @@ module _ (p : Passage Server) (known : (n : ℕ) → Holds n p.role p.came p.put
 
     -- ---- IN_R2/A2
 
-    in_r2_a2_refused : (count : Count) (successor : Cookie) → Tells count (came_on p n)
+    pub in_r2_a2_refused : (count : Count) (successor : Cookie) → Tells count (came_on p n)
         → IsUnexpected (on_in_r2_a2 s n count successor) → UnexpectedInR2 p n
     in_r2_a2_refused count successor tells =
         by_test (λ (d : Done). IsUnexpected d → UnexpectedInR2 p n)
@@ -211,7 +211,7 @@ module _ (p : Passage Server) (known : (n : ℕ) → Holds n p.role p.came p.put
 
     -- ---- IN_R1/A2
 
-    in_r1_a2_refused : (count : Count) (a b d : Cookie) (e f : ℕ) → Tells count (came_on p n)
+    pub in_r1_a2_refused : (count : Count) (a b d : Cookie) (e f : ℕ) → Tells count (came_on p n)
         → IsUnexpected (on_in_r1_a2 s n count a b d e f) → UnexpectedInR1 p n
     in_r1_a2_refused count a b d e f tells =
         by_test Row (is_first count && not (has_fresh_below n s.ins))
@@ -272,13 +272,3 @@ module _ (p : Passage Server) (known : (n : ℕ) → Holds n p.role p.came p.put
         staged (stage.InCame known window timeout) t =
             λ r. inr (inl (is_opening (ap is_open t)))
         staged stage.Ended t = λ r. inr (inl (is_opening (ap is_open t)))
-
-  pub refuses_in_for : RefusesInFor p
-  refuses_in_for = record {
-    pdu = λ n count bytes used r. pdu_refused n used bytes r;
-    end_a2 = λ n count used tells r. end_refused n used count tells r;
-    in_r2_a2 = λ n count successor used tells r.
-        in_r2_a2_refused n used count successor tells r;
-    in_r1_a2 = λ n count version connection predecessor successor window timeout used tells r.
-        in_r1_a2_refused n used count connection predecessor successor window timeout tells r;
-  }

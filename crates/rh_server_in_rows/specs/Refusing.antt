@@ -14,6 +14,7 @@ use Rattle.rh_shell.specs.Wires.{of_leg}
 use Rattle.rh_server.specs.States.{Server, in_leg, is_some}
 use Rattle.rh_server.specs.Servers.{rules}
 use Rattle.rh_server_counts.specs.Counting.{is_conn_a2, is_conn_b2, is_conn_b3, is_end_a2, is_in_r1_a2, is_in_r1_a3, is_in_r1_a6, is_in_r2_a2, is_in_r2_a3, in_came, leg_at, often_at, out_came, out_put, waits_for}
+use Rattle.rh_server_rows.specs.Refusing.{IsOther}
 use Rattle.rh_passages.specs.Counted.{packets, Tells}
 
 abbrev pub is_in_r1_b2 : Named → Bool
@@ -103,6 +104,32 @@ pub record IsFreshBelow (p : Passage Server) (n : ℕ) : Type 0 where
 abbrev pub UnexpectedInR1 : Passage Server → ℕ → Type 0
 UnexpectedInR1 p n = (1 ≤ came_on p n) ⊎ IsOpening p ⊎ IsFreshBelow p n
 
+-- a channel began on a leg below, and IN_R1/A6 didn't come there
+pub record IsBehindOther (p : Passage Server) (n : ℕ) : Type 0 where
+  pub leg : ℕ
+  pub before : leg < n
+  pub began : 1 ≤ first_at p leg
+  pub stays : came_at is_in_r1_a6 p leg ≡ 0
+
+-- IN_R1/A6: each IN_R1/A3 that was put has its own, or it is another leg's turn
+abbrev pub UnexpectedLeave : Passage Server → ℕ → Type 0
+UnexpectedLeave p n =
+    (out_put is_in_r1_a3 p ≤ in_came is_in_r1_a6 p) ⊎ IsShut p n ⊎ IsBehindOther p n
+
+-- ---- cookies that are expected
+
+-- the last announcement on the newest leg names it
+pub record NewestNames (p : Passage Server) (expected : Cookie) : Type 0 where
+  pub leg : ℕ
+  pub names : last_of named_by None (of_leg (leg_at InServer leg) p.came) ≡ Some expected
+  pub newest : (n : ℕ) → leg < n → first_at p n ≡ 0
+
+-- the IN_R1/A2 on a leg behind names it
+pub record NextNames (p : Passage Server) (n : ℕ) (expected : Cookie) : Type 0 where
+  pub leg : ℕ
+  pub behind : n < leg
+  pub names : last_of successor_by None (of_leg (leg_at InServer leg) p.came) ≡ Some expected
+
 -- ---- the law
 
 abbrev pub IsUsed : Passage Server → ℕ → Type 0
@@ -127,3 +154,18 @@ pub record RefusesInFor (p : Passage Server) : Type 0 where
       (InR1A2 version connection predecessor successor window timeout)).1
       ≡ Err refused.Unexpected
       → UnexpectedInR1 p n
+  pub in_r1_a2_cookie : (n : ℕ) (count : Count) (version : ℕ)
+      (connection predecessor successor : Cookie) (window timeout : ℕ) (expected got : Cookie)
+      → (rules.packet p.role (leg_at InServer n) count
+      (InR1A2 version connection predecessor successor window timeout)).1
+      ≡ Err (refused.Cookie expected got)
+      → IsOther connection expected got
+      ⊎ (IsOther predecessor expected got × NewestNames p expected)
+  pub in_r1_a6 : (n : ℕ) (count : Count) (successor : Cookie) → IsUsed p n
+      → (rules.packet p.role (leg_at InServer n) count (InR1A6 successor)).1
+      ≡ Err refused.Unexpected
+      → UnexpectedLeave p n
+  pub in_r1_a6_cookie : (n : ℕ) (count : Count) (successor expected got : Cookie)
+      → (rules.packet p.role (leg_at InServer n) count (InR1A6 successor)).1
+      ≡ Err (refused.Cookie expected got)
+      → IsOther successor expected got × NextNames p n expected
