@@ -151,11 +151,11 @@ module _ (p : Passage Server) (known : (n : ℕ) → Holds n p.role p.came p.put
       ≤ in_came is_in_r1_a6 p + (if going then 1 else 0) + (if s.line.has_next then 1 else 0)
       + how_many waits_on s.ins
   counted =
-      let b2 = all_legs is_conn_b2 InServer p.came in
-      let a2 = all_legs is_in_r1_a2 InServer p.came in
-      let n = b2.bound + a2.bound in
-      let all1 = b2.all n (omega arith) in
-      let all2 = a2.all n (omega arith) in
+      let conn_b2 = all_legs is_conn_b2 InServer p.came in
+      let in_r1_a2 = all_legs is_in_r1_a2 InServer p.came in
+      let n = conn_b2.bound + in_r1_a2.bound in
+      let all1 = conn_b2.all n (omega arith) in
+      let all2 = in_r1_a2.all n (omega arith) in
       let firsts = sum_plus (count_on is_conn_b2 InServer p.came)
       (count_on is_in_r1_a2 InServer p.came) n in
       let up = sum_rises (λ k. (c k).first) (λ k. left k + now k + next k + waiting k) each n in
@@ -190,7 +190,7 @@ module _ (p : Passage Server) (known : (n : ℕ) → Holds n p.role p.came p.put
       none true f = absurd (true≢false f)
 
       by : (in_came is_conn_b2 p ≡ 0) ⊎ (1 ≤ in_came is_conn_b2 p) → AllLeft
-      by (inl zero_b2) = early zero_b2
+      by (inl none_came) = early none_came
       by (inr some) =
           let without = none s.line.has_next e in
           let most = at_most_one going in
@@ -204,7 +204,7 @@ module _ (p : Passage Server) (known : (n : ℕ) → Holds n p.role p.came p.put
       none false f = absurd (false≢true f)
 
       by : (in_came is_conn_b2 p ≡ 0) ⊎ (1 ≤ in_came is_conn_b2 p) → AllLeft
-      by (inl zero_b2) = early zero_b2
+      by (inl none_came) = early none_came
       by (inr some) =
           let without = none s.line.finished e in
           let most = at_most_one s.line.has_next in
@@ -214,7 +214,7 @@ module _ (p : Passage Server) (known : (n : ℕ) → Holds n p.role p.came p.put
   is_due due = by (none_or_some (in_came is_conn_b2 p))
     where
       by : (in_came is_conn_b2 p ≡ 0) ⊎ (1 ≤ in_came is_conn_b2 p) → AllLeft
-      by (inl zero_b2) = early zero_b2
+      by (inl none_came) = early none_came
       by (inr some) =
           let one = at_most_one going in
           let other = at_most_one s.line.has_next in

@@ -124,9 +124,9 @@ module _ (n : ℕ) where
     quiet : (one : Message) → count_of is_conn_b3 (one ∷ []) ≡ 0
         → count_of is_in_r1_b2 (one ∷ []) ≡ 0
         → Holds n s came (put ++ (leg_at InServer m, one) ∷ [])
-    quiet one b3 b2 =
+    quiet one conn_b3 in_r1_b2 =
         grows_fine s (tally n came put) (tally n came (put ++ (leg_at InServer m, one) ∷ []))
-        (quiet_put n came put (leg_at InServer m) one b3 b2) h
+        (quiet_put n came put (leg_at InServer m) one conn_b3 in_r1_b2) h
 
     -- CONN/B3 or IN_R1/B2
     told_put : (one : Message) → (x.tells ≡ tells.Nothing → ⊥)

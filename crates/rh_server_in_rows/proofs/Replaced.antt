@@ -25,7 +25,7 @@ use Rattle.rh_server_counts.specs.Answering.{AreAnswered}
 use Rattle.rh_server_counts.specs.Counting.{is_in_r1_a3, is_in_r1_a6, in_came, out_put}
 use Rattle.rh_server_counts.specs.Opening.{OpensOnce}
 use Rattle.rh_server_rows.specs.Refusing.{IsOther}
-use Rattle.rh_server_in_rows.specs.Refusing.{IsUsed, NewestNames, NextNames, RefusesInFor, UnexpectedLeave, IsBehindOther}
+use Rattle.rh_server_in_rows.specs.Refusing.{IsUsed, NewestNames, NextNames, RefusesInFor, UnexpectedInR1A6, IsBehindOther}
 use Rattle.rh_server_in_rows.proofs.Tallies.{Tally, tally}
 use Rattle.rh_server_in_rows.proofs.Kept.{IsOpen, is_begun, is_opened, top_of}
 use Rattle.rh_server_in_rows.proofs.Takes.{Holds}
@@ -166,13 +166,13 @@ module _ (p : Passage Server) (known : (n : ℕ) → Holds n p.role p.came p.put
       begun has false e = absurd (true≢false (sym has ∙ ((known n).tail.early e).1))
 
       elsewhere : s.line.has_next ≡ true → s.line.finished ≡ false
-          → (n ≡ s.current.leg → ⊥) → UnexpectedLeave p n
+          → (n ≡ s.current.leg → ⊥) → UnexpectedInR1A6 p n
       elsewhere has going apart = by at_leg.leg.stage refl
         where
           at_leg : Leg s.ins n (in_leg n s.ins)
           at_leg = at p known answers opens n used
 
-          opened : IsOpen n (top_of s) (tally n p.came p.put) → UnexpectedLeave p n
+          opened : IsOpen n (top_of s) (tally n p.came p.put) → UnexpectedInR1A6 p n
           opened (inl now) = absurd (apart now)
           opened (inr (inl next)) =
               let higher = orders.higher has in
@@ -185,7 +185,7 @@ module _ (p : Passage Server) (known : (n : ℕ) → Holds n p.role p.came p.put
               }))
           opened (inr (inr left)) = inr (inl (inr (inr left)))
 
-          by : (x : InStage) → at_leg.leg.stage ≡ x → UnexpectedLeave p n
+          by : (x : InStage) → at_leg.leg.stage ≡ x → UnexpectedInR1A6 p n
           by in_stage.Fresh e =
               inr (inl (inl ((so p known answers opens n used).fresh (ap is_fresh e))))
           by (in_stage.Waits window timeout ended) e =
@@ -194,7 +194,7 @@ module _ (p : Passage Server) (known : (n : ℕ) → Holds n p.role p.came p.put
           by in_stage.Opened e =
               opened ((so p known answers opens n used).opened (ap is_opened e))
 
-      in_r1_a6_refused : IsUnexpected (on_in_r1_a6 s n successor) → UnexpectedLeave p n
+      in_r1_a6_refused : IsUnexpected (on_in_r1_a6 s n successor) → UnexpectedInR1A6 p n
       in_r1_a6_refused =
           by_test Row test (if same_cookie s.next.cookie successor then took (hands_over s n)
           else refuse s (refused.Cookie s.next.cookie successor)) (unexpected s)
@@ -204,35 +204,35 @@ module _ (p : Passage Server) (known : (n : ℕ) → Holds n p.role p.came p.put
           (λ e r. first (one_fails (n == s.current.leg) _ e))
         where
           Row : Done → Type 0
-          Row x = IsUnexpected x → UnexpectedLeave p n
+          Row x = IsUnexpected x → UnexpectedInR1A6 p n
 
-          due : waiting ≡ true → UnexpectedLeave p n
+          due : waiting ≡ true → UnexpectedInR1A6 p n
           due e = inl (is_due p known answers opens (in_r1_a3_waits s.waiting.due e))
 
-          finished : s.line.finished ≡ true → UnexpectedLeave p n
+          finished : s.line.finished ≡ true → UnexpectedInR1A6 p n
           finished e = inl (is_left p known answers opens e)
 
-          alone : s.line.has_next ≡ false → UnexpectedLeave p n
+          alone : s.line.has_next ≡ false → UnexpectedInR1A6 p n
           alone e = inl (no_next p known answers opens e)
 
-          third : (s.line.has_next ≡ false) ⊎ (not waiting ≡ false) → UnexpectedLeave p n
+          third : (s.line.has_next ≡ false) ⊎ (not waiting ≡ false) → UnexpectedInR1A6 p n
           third (inl e) = alone e
           third (inr e) = due (not_false waiting e)
 
           second : (not s.line.finished ≡ false) ⊎ ((s.line.has_next && not waiting) ≡ false)
-              → UnexpectedLeave p n
+              → UnexpectedInR1A6 p n
           second (inl e) = finished (not_false s.line.finished e)
           second (inr e) = third (one_fails s.line.has_next (not waiting) e)
 
           apart : (n ≡ s.current.leg → ⊥) → (f h : Bool) → s.line.finished ≡ f
-              → s.line.has_next ≡ h → UnexpectedLeave p n
+              → s.line.has_next ≡ h → UnexpectedInR1A6 p n
           apart differ true h e g = finished e
           apart differ false false e g = alone g
           apart differ false true e g = elsewhere g e differ
 
           first : ((n == s.current.leg) ≡ false)
               ⊎ ((not s.line.finished && (s.line.has_next && not waiting)) ≡ false)
-              → UnexpectedLeave p n
+              → UnexpectedInR1A6 p n
           first (inl e) =
               apart (other_number n s.current.leg e) s.line.finished s.line.has_next refl refl
           first (inr e) = second (one_fails (not s.line.finished) _ e)

@@ -152,15 +152,15 @@ module _ (n : ℕ) (came put : List OnLeg) (one : OnLeg) where
       → named_at named_by n (came ++ one ∷ []) ≡ named_at named_by n came
       → named_at successor_by n (came ++ one ∷ []) ≡ named_at successor_by n came
       → Grows (tally n came put) more
-  came_grows b2 a2 names succeeds =
-      let m1 = often_more is_conn_b2 n came one in
-      let m2 = often_more is_in_r1_a2 n came one in
-      let m3 = often_more is_in_r1_a6 n came one in
-      let m4 = often_more is_end_a2 n came one in record {
-        first = omega (arith, m1, m2, b2, a2);
-        announced = omega (arith, m2);
-        left = omega (arith, m3);
-        over = omega (arith, m4);
+  came_grows conn_b2 in_r1_a2 names succeeds =
+      let more_conn_b2 = often_more is_conn_b2 n came one in
+      let more_in_r1_a2 = often_more is_in_r1_a2 n came one in
+      let more_in_r1_a6 = often_more is_in_r1_a6 n came one in
+      let more_end_a2 = often_more is_end_a2 n came one in record {
+        first = omega (arith, more_conn_b2, more_in_r1_a2, conn_b2, in_r1_a2);
+        announced = omega (arith, more_in_r1_a2);
+        left = omega (arith, more_in_r1_a6);
+        over = omega (arith, more_end_a2);
         told = refl;
         named = names;
         successor = succeeds;
@@ -171,14 +171,14 @@ module _ (n : ℕ) (came put : List OnLeg) (one : OnLeg) where
 
   pub put_grows : here is_conn_b3 n one ≡ 0 → here is_in_r1_b2 n one ≡ 0
       → Grows (tally n came put) told_more
-  put_grows b3 b2 =
-      let m1 = often_more is_conn_b3 n put one in
-      let m2 = often_more is_in_r1_b2 n put one in record {
+  put_grows conn_b3 in_r1_b2 =
+      let more_conn_b3 = often_more is_conn_b3 n put one in
+      let more_in_r1_b2 = often_more is_in_r1_b2 n put one in record {
         first = refl;
         announced = omega arith;
         left = omega arith;
         over = omega arith;
-        told = omega (arith, m1, m2, b3, b2);
+        told = omega (arith, more_conn_b3, more_in_r1_b2, conn_b3, in_r1_b2);
         named = refl;
         successor = refl;
       }
@@ -188,9 +188,9 @@ pub quiet_came : (n : ℕ) (came put : List OnLeg) (leg : Leg) (m : Message)
     → count_of is_conn_b2 (m ∷ []) ≡ 0 → count_of is_in_r1_a2 (m ∷ []) ≡ 0
     → Still named_by m → Still successor_by m
     → Grows (tally n came put) (tally n (came ++ (leg, m) ∷ []) put)
-quiet_came n came put leg m b2 a2 names succeeds =
-    came_grows n came put (leg, m) (none_here is_conn_b2 n leg m b2)
-    (none_here is_in_r1_a2 n leg m a2) (named_still named_by n came leg m names)
+quiet_came n came put leg m conn_b2 in_r1_a2 names succeeds =
+    came_grows n came put (leg, m) (none_here is_conn_b2 n leg m conn_b2)
+    (none_here is_in_r1_a2 n leg m in_r1_a2) (named_still named_by n came leg m names)
     (named_still successor_by n came leg m succeeds)
 
 -- IN_R2/A2 may name another cookie
@@ -200,17 +200,17 @@ pub carried_came : (n k : ℕ) (came put : List OnLeg) (successor : Cookie)
     (record (tally n (came ++ one ∷ []) put) { named = named_at named_by n came })
 carried_came n k came put successor =
     let one : OnLeg = (leg_at InServer k, Packet (InR2A2 successor)) in
-    let m1 = often_more is_conn_b2 n came one in
-    let m2 = often_more is_in_r1_a2 n came one in
-    let m3 = often_more is_in_r1_a6 n came one in
-    let m4 = often_more is_end_a2 n came one in
-    let b2 = none_here is_conn_b2 n (leg_at InServer k) (Packet (InR2A2 successor)) refl in
-    let a2 = none_here is_in_r1_a2 n (leg_at InServer k) (Packet (InR2A2 successor)) refl in
+    let more_conn_b2 = often_more is_conn_b2 n came one in
+    let more_in_r1_a2 = often_more is_in_r1_a2 n came one in
+    let more_in_r1_a6 = often_more is_in_r1_a6 n came one in
+    let more_end_a2 = often_more is_end_a2 n came one in
+    let conn_b2 = none_here is_conn_b2 n (leg_at InServer k) (Packet (InR2A2 successor)) refl in
+    let in_r1_a2 = none_here is_in_r1_a2 n (leg_at InServer k) (Packet (InR2A2 successor)) refl in
     record {
-      first = omega (arith, m1, m2, b2, a2);
-      announced = omega (arith, m2);
-      left = omega (arith, m3);
-      over = omega (arith, m4);
+      first = omega (arith, more_conn_b2, more_in_r1_a2, conn_b2, in_r1_a2);
+      announced = omega (arith, more_in_r1_a2);
+      left = omega (arith, more_in_r1_a6);
+      over = omega (arith, more_end_a2);
       told = refl;
       named = refl;
       successor = named_still successor_by n came (leg_at InServer k)
@@ -241,9 +241,9 @@ other_came n k came put m apart =
 pub quiet_put : (n : ℕ) (came put : List OnLeg) (leg : Leg) (m : Message)
     → count_of is_conn_b3 (m ∷ []) ≡ 0 → count_of is_in_r1_b2 (m ∷ []) ≡ 0
     → Grows (tally n came put) (tally n came (put ++ (leg, m) ∷ []))
-quiet_put n came put leg m b3 b2 =
-    put_grows n came put (leg, m) (none_here is_conn_b3 n leg m b3)
-    (none_here is_in_r1_b2 n leg m b2)
+quiet_put n came put leg m conn_b3 in_r1_b2 =
+    put_grows n came put (leg, m) (none_here is_conn_b3 n leg m conn_b3)
+    (none_here is_in_r1_b2 n leg m in_r1_b2)
 
 pub other_put : (n k : ℕ) (came put : List OnLeg) (m : Message) → (n ≡ k → ⊥)
     → Grows (tally n came put) (tally n came (put ++ (leg_at InServer k, m) ∷ []))
@@ -277,9 +277,9 @@ pub began : (n k : ℕ) (packet : Named) (cookie : Cookie) (came put : List OnLe
 began n k packet cookie came put counts names is =
     subst (λ (j : ℕ). Begins cookie (tally j came put)
     (tally j (came ++ (leg_at InServer k, Packet packet) ∷ []) put)) (sym is) (record {
-      first = omega (arith, m1, m2, o1, o2, counts);
-      left = omega (arith, m3);
-      over = omega (arith, m4);
+      first = omega (arith, more_conn_b2, more_in_r1_a2, own_conn_b2, own_in_r1_a2, counts);
+      left = omega (arith, more_in_r1_a6);
+      over = omega (arith, more_end_a2);
       told = refl;
       named = named_own named_by k came packet ∙ names (named_at named_by k came);
     })
@@ -287,24 +287,24 @@ began n k packet cookie came put counts names is =
     one : OnLeg
     one = (leg_at InServer k, Packet packet)
 
-    m1 : often_at is_conn_b2 InServer k (came ++ one ∷ [])
+    more_conn_b2 : often_at is_conn_b2 InServer k (came ++ one ∷ [])
         ≡ often_at is_conn_b2 InServer k came + here is_conn_b2 k one
-    m1 = often_more is_conn_b2 k came one
+    more_conn_b2 = often_more is_conn_b2 k came one
 
-    m2 : often_at is_in_r1_a2 InServer k (came ++ one ∷ [])
+    more_in_r1_a2 : often_at is_in_r1_a2 InServer k (came ++ one ∷ [])
         ≡ often_at is_in_r1_a2 InServer k came + here is_in_r1_a2 k one
-    m2 = often_more is_in_r1_a2 k came one
+    more_in_r1_a2 = often_more is_in_r1_a2 k came one
 
-    m3 : often_at is_in_r1_a6 InServer k (came ++ one ∷ [])
+    more_in_r1_a6 : often_at is_in_r1_a6 InServer k (came ++ one ∷ [])
         ≡ often_at is_in_r1_a6 InServer k came + here is_in_r1_a6 k one
-    m3 = often_more is_in_r1_a6 k came one
+    more_in_r1_a6 = often_more is_in_r1_a6 k came one
 
-    m4 : often_at is_end_a2 InServer k (came ++ one ∷ [])
+    more_end_a2 : often_at is_end_a2 InServer k (came ++ one ∷ [])
         ≡ often_at is_end_a2 InServer k came + here is_end_a2 k one
-    m4 = often_more is_end_a2 k came one
+    more_end_a2 = often_more is_end_a2 k came one
 
-    o1 : here is_conn_b2 k one ≡ count_of is_conn_b2 (Packet packet ∷ [])
-    o1 = own_here is_conn_b2 k (Packet packet)
+    own_conn_b2 : here is_conn_b2 k one ≡ count_of is_conn_b2 (Packet packet ∷ [])
+    own_conn_b2 = own_here is_conn_b2 k (Packet packet)
 
-    o2 : here is_in_r1_a2 k one ≡ count_of is_in_r1_a2 (Packet packet ∷ [])
-    o2 = own_here is_in_r1_a2 k (Packet packet)
+    own_in_r1_a2 : here is_in_r1_a2 k one ≡ count_of is_in_r1_a2 (Packet packet ∷ [])
+    own_in_r1_a2 = own_here is_in_r1_a2 k (Packet packet)

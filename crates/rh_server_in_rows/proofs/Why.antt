@@ -34,7 +34,7 @@ use Rattle.rh_server_counts.specs.Answering.{AreAnswered}
 use Rattle.rh_server_counts.specs.Opening.{OpensOnce}
 use Rattle.rh_server_counts.specs.Counting.{is_end_a2, is_in_r1_a2, is_in_r1_a3, is_in_r1_a6, in_came, leg_at, out_put, waits_for}
 use Rattle.rh_passages.specs.Counted.{Tells}
-use Rattle.rh_server_in_rows.specs.Refusing.{IsFreshBelow, IsShut, IsUnopened, IsUsed, IsOpening, UnexpectedEnd, UnexpectedInR1, UnexpectedInR2, UnexpectedPdu, came_at, came_on, first_at}
+use Rattle.rh_server_in_rows.specs.Refusing.{IsFreshBelow, IsShut, IsUnopened, IsUsed, IsOpening, UnexpectedEndA2, UnexpectedInR1A2, UnexpectedInR2A2, UnexpectedPdu, came_at, came_on, first_at}
 use Rattle.rh_server_in_rows.proofs.Places.{Found, Placed, found_at, number_found, placed}
 use Rattle.rh_server_in_rows.proofs.Tallies.{Tally, tally}
 use Rattle.rh_server_in_rows.proofs.Kept.{IsOpen, So, is_opened, leg_at_place, top_of}
@@ -146,37 +146,37 @@ module _ (p : Passage Server) (known : (n : ℕ) → Holds n p.role p.came p.put
     -- ---- END/A2
 
     pub end_refused : (count : Count) → Tells count (came_on p n)
-        → IsUnexpected (on_end_a2 s n count) → UnexpectedEnd p n
+        → IsUnexpected (on_end_a2 s n count) → UnexpectedEndA2 p n
     end_refused count tells =
-        by_test (λ (d : Done). IsUnexpected d → UnexpectedEnd p n) (is_first count)
+        by_test (λ (d : Done). IsUnexpected d → UnexpectedEndA2 p n) (is_first count)
         (unexpected s) (end_a2_at s n (channel_at s n))
         (λ e r. inl (first_count count (came_on p n) tells e))
         (λ e. by (channel_at s n) refl)
       where
         staged : (x : InStage) → at.leg.stage ≡ x → channel_at s n ≡ None
-            → IsUnexpected (end_a2_on_leg s at.leg x) → UnexpectedEnd p n
+            → IsUnexpected (end_a2_on_leg s at.leg x) → UnexpectedEndA2 p n
         staged in_stage.Fresh e on = λ r. inr (inl (so.fresh (ap is_fresh e)))
         staged in_stage.Opened e on = λ r. inr (inr (inl (left_if (ap is_opened e) on)))
         staged (in_stage.Waits window timeout came) e on =
-            by_test (λ (d : Done). IsUnexpected d → UnexpectedEnd p n) came (unexpected s) _
+            by_test (λ (d : Done). IsUnexpected d → UnexpectedEndA2 p n) came (unexpected s) _
             (λ f r. inr (inr (inr (so.ended (ap waits_ended e ∙ f)))))
             (λ f r. absurd (cc))
 
         by : (o : Option Which) → channel_at s n ≡ o → IsUnexpected (end_a2_at s n o)
-            → UnexpectedEnd p n
+            → UnexpectedEndA2 p n
         by None on = λ r.
             staged at.leg.stage refl on
             (subst (λ (o : Option InLeg). IsUnexpected (end_a2_waiting s o)) at.is r)
         by (Some which) on =
-            by_test (λ (d : Done). IsUnexpected d → UnexpectedEnd p n) (is_over_on s which)
+            by_test (λ (d : Done). IsUnexpected d → UnexpectedEndA2 p n) (is_over_on s which)
             (unexpected s) _ (λ e r. inr (inr (inr (over which on e)))) (λ e r. absurd (cc))
 
     -- ---- IN_R2/A2
 
     pub in_r2_a2_refused : (count : Count) (successor : Cookie) → Tells count (came_on p n)
-        → IsUnexpected (on_in_r2_a2 s n count successor) → UnexpectedInR2 p n
+        → IsUnexpected (on_in_r2_a2 s n count successor) → UnexpectedInR2A2 p n
     in_r2_a2_refused count successor tells =
-        by_test (λ (d : Done). IsUnexpected d → UnexpectedInR2 p n)
+        by_test (λ (d : Done). IsUnexpected d → UnexpectedInR2A2 p n)
         (not (is_first count) && (is_open s.stage && room)) _ (unexpected s)
         (λ e. on_channel (channel_at s n) refl)
         (λ e r. first (one_fails (not (is_first count)) (is_open s.stage && room) e))
@@ -188,38 +188,38 @@ module _ (p : Passage Server) (known : (n : ℕ) → Holds n p.role p.came p.put
         room = not waiting && nat_lt s.newest_in 4294967295
 
         last : (not waiting ≡ false) ⊎ (nat_lt s.newest_in 4294967295 ≡ false)
-            → UnexpectedInR2 p n
+            → UnexpectedInR2A2 p n
         last (inl e) =
             let some = in_r2_a3_waits s.waiting.due (not_false waiting e) in
             inr (inr (inl (omega (arith, some, answers.in_r2))))
         last (inr e) = inr (inr (inr (inl (at_least s.newest_in 4294967295 e))))
 
-        second : (is_open s.stage ≡ false) ⊎ (room ≡ false) → UnexpectedInR2 p n
+        second : (is_open s.stage ≡ false) ⊎ (room ≡ false) → UnexpectedInR2A2 p n
         second (inl e) = inr (inl (is_opening e))
         second (inr e) = last (one_fails (not waiting) (nat_lt s.newest_in 4294967295) e)
 
         first : (not (is_first count) ≡ false) ⊎ (is_open s.stage && room ≡ false)
-            → UnexpectedInR2 p n
+            → UnexpectedInR2A2 p n
         first (inl e) =
             inl (first_count count (came_on p n) tells (not_false (is_first count) e))
         first (inr e) = second (one_fails (is_open s.stage) room e)
 
         on_channel : (o : Option Which) → channel_at s n ≡ o
-            → IsUnexpected (in_r2_a2_on s n successor o) → UnexpectedInR2 p n
+            → IsUnexpected (in_r2_a2_on s n successor o) → UnexpectedInR2A2 p n
         on_channel None on r = inr (inr (inr (inr (shut on))))
         on_channel (Some which) on r = absurd (cc)
 
     -- ---- IN_R1/A2
 
     pub in_r1_a2_refused : (count : Count) (a b d : Cookie) (e f : ℕ) → Tells count (came_on p n)
-        → IsUnexpected (on_in_r1_a2 s n count a b d e f) → UnexpectedInR1 p n
+        → IsUnexpected (on_in_r1_a2 s n count a b d e f) → UnexpectedInR1A2 p n
     in_r1_a2_refused count a b d e f tells =
         by_test Row (is_first count && not (has_fresh_below n s.ins))
         (in_r1_a2_at s s.stage n a b d e f) (unexpected s) (λ t. staged s.stage refl)
         (λ t r. first (one_fails (is_first count) (not (has_fresh_below n s.ins)) t))
       where
         Row : Done → Type 0
-        Row x = IsUnexpected x → UnexpectedInR1 p n
+        Row x = IsUnexpected x → UnexpectedInR1A2 p n
 
         kept_at : (k : ℕ) → Placed s.ins k → IsTrue (is_some (in_leg k s.ins))
         kept_at k q =
@@ -238,7 +238,7 @@ module _ (p : Passage Server) (known : (n : ℕ) → Holds n p.role p.came p.put
             }
 
         first : (is_first count ≡ false) ⊎ (not (has_fresh_below n s.ins) ≡ false)
-            → UnexpectedInR1 p n
+            → UnexpectedInR1A2 p n
         first (inl t) = inl (later_count count (came_on p n) tells t)
         first (inr t) = inr (inr (below (not_false (has_fresh_below n s.ins) t)))
 

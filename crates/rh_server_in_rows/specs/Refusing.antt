@@ -83,14 +83,14 @@ abbrev pub UnexpectedPdu : Passage Server → ℕ → Type 0
 UnexpectedPdu p n = IsOpening p ⊎ IsShut p n ⊎ (1 ≤ came_at is_end_a2 p n)
 
 -- behind a front of another leg a waiting channel takes END, once
-abbrev pub UnexpectedEnd : Passage Server → ℕ → Type 0
-UnexpectedEnd p n =
+abbrev pub UnexpectedEndA2 : Passage Server → ℕ → Type 0
+UnexpectedEndA2 p n =
     (came_on p n ≡ 0) ⊎ (first_at p n ≡ 0) ⊎ (1 ≤ came_at is_in_r1_a6 p n)
     ⊎ (1 ≤ came_at is_end_a2 p n)
 
 -- the last number is given where as many is legs came up and IN_R2/A2 came as there are numbers
-abbrev pub UnexpectedInR2 : Passage Server → ℕ → Type 0
-UnexpectedInR2 p n =
+abbrev pub UnexpectedInR2A2 : Passage Server → ℕ → Type 0
+UnexpectedInR2A2 p n =
     (came_on p n ≡ 0) ⊎ IsOpening p ⊎ (out_put is_in_r2_a3 p < in_came is_in_r2_a2 p)
     ⊎ (4294967295 ≤ p.role.newest_in) ⊎ IsShut p n
 
@@ -101,8 +101,8 @@ pub record IsFreshBelow (p : Passage Server) (n : ℕ) : Type 0 where
   pub kept : IsTrue (is_some (in_leg leg p.role.ins))
   pub none : first_at p leg ≡ 0
 
-abbrev pub UnexpectedInR1 : Passage Server → ℕ → Type 0
-UnexpectedInR1 p n = (1 ≤ came_on p n) ⊎ IsOpening p ⊎ IsFreshBelow p n
+abbrev pub UnexpectedInR1A2 : Passage Server → ℕ → Type 0
+UnexpectedInR1A2 p n = (1 ≤ came_on p n) ⊎ IsOpening p ⊎ IsFreshBelow p n
 
 -- a channel began on a leg below, and IN_R1/A6 didn't come there
 pub record IsBehindOther (p : Passage Server) (n : ℕ) : Type 0 where
@@ -112,8 +112,8 @@ pub record IsBehindOther (p : Passage Server) (n : ℕ) : Type 0 where
   pub stays : came_at is_in_r1_a6 p leg ≡ 0
 
 -- IN_R1/A6: each IN_R1/A3 that was put has its own, or it is another leg's turn
-abbrev pub UnexpectedLeave : Passage Server → ℕ → Type 0
-UnexpectedLeave p n =
+abbrev pub UnexpectedInR1A6 : Passage Server → ℕ → Type 0
+UnexpectedInR1A6 p n =
     (out_put is_in_r1_a3 p ≤ in_came is_in_r1_a6 p) ⊎ IsShut p n ⊎ IsBehindOther p n
 
 -- ---- cookies that are expected
@@ -142,18 +142,18 @@ pub record RefusesInFor (p : Passage Server) : Type 0 where
       → UnexpectedPdu p n
   pub end_a2 : (n : ℕ) (count : Count) → IsUsed p n → Tells count (came_on p n)
       → (rules.packet p.role (leg_at InServer n) count EndA2).1 ≡ Err refused.Unexpected
-      → UnexpectedEnd p n
+      → UnexpectedEndA2 p n
   pub in_r2_a2 : (n : ℕ) (count : Count) (successor : Cookie) → IsUsed p n
       → Tells count (came_on p n)
       → (rules.packet p.role (leg_at InServer n) count (InR2A2 successor)).1
       ≡ Err refused.Unexpected
-      → UnexpectedInR2 p n
+      → UnexpectedInR2A2 p n
   pub in_r1_a2 : (n : ℕ) (count : Count) (version : ℕ) (connection predecessor successor : Cookie)
       (window timeout : ℕ) → IsUsed p n → Tells count (came_on p n)
       → (rules.packet p.role (leg_at InServer n) count
       (InR1A2 version connection predecessor successor window timeout)).1
       ≡ Err refused.Unexpected
-      → UnexpectedInR1 p n
+      → UnexpectedInR1A2 p n
   pub in_r1_a2_cookie : (n : ℕ) (count : Count) (version : ℕ)
       (connection predecessor successor : Cookie) (window timeout : ℕ) (expected got : Cookie)
       → (rules.packet p.role (leg_at InServer n) count
@@ -164,7 +164,7 @@ pub record RefusesInFor (p : Passage Server) : Type 0 where
   pub in_r1_a6 : (n : ℕ) (count : Count) (successor : Cookie) → IsUsed p n
       → (rules.packet p.role (leg_at InServer n) count (InR1A6 successor)).1
       ≡ Err refused.Unexpected
-      → UnexpectedLeave p n
+      → UnexpectedInR1A6 p n
   pub in_r1_a6_cookie : (n : ℕ) (count : Count) (successor expected got : Cookie)
       → (rules.packet p.role (leg_at InServer n) count (InR1A6 successor)).1
       ≡ Err (refused.Cookie expected got)
