@@ -6,6 +6,7 @@ mod Rows
 mod Takes
 mod Puts
 mod Steps
+mod Numbers
 mod Tests
 mod Sums
 mod Counts

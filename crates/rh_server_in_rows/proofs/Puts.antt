@@ -46,7 +46,7 @@ use Rattle.rh_server_in_rows.proofs.Takes.{Holds}
 
 -- ---- on os legs
 
-abbrev Alone : Server → Pick → Type 0
+abbrev pub Alone : Server → Pick → Type 0
 Alone s pick = IfSome pick (λ (one : Server × Message). look one.0 ≡ look s)
 
 or_alone : (s : Server) (a b : Pick) → Alone s a → Alone s b → Alone s (or_else a b)
@@ -63,7 +63,7 @@ was_put_same s place (named.AckTo to received window cookie) =
     (λ e. counts_same s place 56)
 was_put_same s place packet = counts_same s place (length_of packet)
 
-out_alone : (s : Server) (place : ℕ) → Alone s (next_out s place)
+pub out_alone : (s : Server) (place : ℕ) → Alone s (next_out s place)
 out_alone s place =
     or_alone s (put_waiting s place) (put_pdu_or_end s place)
     (waiting (gate_at s (slice_get s.outs place)))

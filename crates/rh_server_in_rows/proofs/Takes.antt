@@ -109,7 +109,7 @@ to_same s packet (Some number) =
     (forwards s number packet) (λ e. writing_same s packet)
     (λ e. forward_same s number (forwarded s.waiting packet))
 
-ack_to_same : (s : Server) (count : Count) (a b c : ℕ) (d : Cookie)
+pub ack_to_same : (s : Server) (count : Count) (a b c : ℕ) (d : Cookie)
     → look (on_ack_to s count a b c d).0 ≡ look s
 ack_to_same s count a b c d =
     by_test Same (is_first count) (unexpected s) _ (λ e. refl)
@@ -138,7 +138,7 @@ admit_same s Next pdu (Ok admits) =
 admit_same s which pdu (Err (line_fault.Window exceeded)) = refl
 admit_same s which pdu (Err line_fault.Over) = refl
 
-pdu_same : (s : Server) (m : ℕ) (bytes : List ℕ) (k : LegKind)
+pub pdu_same : (s : Server) (m : ℕ) (bytes : List ℕ) (k : LegKind)
     → look (pdu_by s m bytes k).0 ≡ look s
 pdu_same s m bytes InServer =
     by_test (λ (x : Done). look x.0 ≡ look s) (is_open s.stage)

@@ -40,7 +40,7 @@ use Rattle.rh_server_in_rows.proofs.Tallies.{Tally, tally}
 use Rattle.rh_server_in_rows.proofs.Kept.{IsOpen, So, is_opened, leg_at_place, top_of}
 use Rattle.rh_server_in_rows.proofs.Takes.{Holds, IsKept, on_current, on_next}
 use Rattle.rh_server_in_rows.proofs.Steps.{in_use}
-use Rattle.rh_server_in_rows.proofs.Tests.{at_least, first_among, first_count, fresh_leg, later_count, in_r2_a3_waits, is_over, none_current, none_next, not_false, one_fails, some_waits, still_opening}
+use Rattle.rh_server_in_rows.proofs.Tests.{FreshLeg, at_least, first_among, first_count, fresh_leg, later_count, in_r2_a3_waits, is_over, none_current, none_next, not_false, one_fails, some_waits, still_opening}
 
 abbrev pub IsUnexpected : Done → Type 0
 IsUnexpected d = d.1 ≡ Err refused.Unexpected
@@ -226,15 +226,20 @@ module _ (p : Passage Server) (known : (n : ℕ) → Holds n p.role p.came p.put
             subst (λ (o : Option ℕ). IsTrue (is_some (in_at s.ins o))) (sym q.is)
             (subst (λ (o : Option InLeg). IsTrue (is_some o)) (sym q.at) refl)
 
+        so_of : (x : FreshLeg n s.ins)
+            → So x.leg.number (top_of s) (tally x.leg.number p.came p.put) x.leg
+        so_of x =
+            leg_at_place x.leg.number (top_of s) s.newest_in s.ins
+            (tally x.leg.number p.came p.put) x.leg x.found refl (known x.leg.number)
+
         below : has_fresh_below n s.ins ≡ true → IsFreshBelow p n
         below t =
             let x = fresh_leg n s.ins t in record {
               leg = x.leg.number;
+              positive = (so_of x).positive;
               below = x.below;
               kept = kept_at x.leg.number (placed s.ins x.leg x.found);
-              none = (leg_at_place x.leg.number (top_of s) s.newest_in s.ins
-                  (tally x.leg.number p.came p.put) x.leg x.found refl
-                  (known x.leg.number)).fresh x.fresh;
+              none = (so_of x).fresh x.fresh;
             }
 
         first : (is_first count ≡ false) ⊎ (not (has_fresh_below n s.ins) ≡ false)

@@ -1,6 +1,6 @@
 -- what is so in a server's logs where it refuses what comes on an is leg as unexpected (MS-RPCH
 -- 3.2.5; replacement and END are this profile's)
-use Rattle.std.specs.Prelude.{ℕ, ◌≡◌, ◌⊎◌, ◌+◌, ◌≤◌, ◌<◌, List, [], ◌∷◌, Bool, true, false, IsTrue, Some, None, Err}
+use Rattle.std.specs.Prelude.{ℕ, ◌≡◌, ◌⊎◌, ◌+◌, ◌≤◌, ◌<◌, List, [], ◌∷◌, Bool, true, false, IsTrue, Some, None, Err, if◌then◌else◌}
 use Rattle.std.specs.declared.option.Option.{Option}
 use Rattle.rh_rts.specs.declared.command.Cookie.{Cookie}
 use Rattle.rh_sig.specs.declared.named.Named.{Named}
@@ -8,7 +8,8 @@ use Rattle.rh_sig.specs.declared.named.Named.TheVariants.{ConnB2, InR1A2, InR1A6
 use Rattle.rh_line.specs.declared.leg.LegKind.TheVariants.{InServer}
 use Rattle.rh_shell.specs.declared.answers.Count.{Count}
 use Rattle.rh_shell.specs.declared.answers.Refused.TheVariants as refused
-use Rattle.rh_shell.specs.Moves.{Passage, is_in_use}
+use Rattle.rh_shell.specs.Moves.{EndMove, Moves, Passage, Up, is_in_use}
+use Rattle.rh_shell.specs.Shells.{is_of}
 use Rattle.rh_shell.specs.Rules.{Message, Text, Pdu, Packet}
 use Rattle.rh_shell.specs.Wires.{of_leg}
 use Rattle.rh_server.specs.States.{Server, in_leg, is_some}
@@ -20,6 +21,14 @@ use Rattle.rh_passages.specs.Counted.{packets, Tells}
 abbrev pub is_in_r1_b2 : Named → Bool
 is_in_r1_b2 (InR1B2 size) = true
 is_in_r1_b2 packet = false
+
+-- ---- is legs that came up
+
+abbrev pub in_ups : List EndMove → ℕ
+in_ups [] = 0
+in_ups (Moves (Up leg cookie) ∷ moves) =
+    (if is_of InServer leg then 1 else 0) + in_ups moves
+in_ups (move ∷ moves) = in_ups moves
 
 -- ---- cookies of IN channels
 
@@ -97,6 +106,7 @@ UnexpectedInR2A2 p n =
 -- a leg of a lower number is kept on which no channel began
 pub record IsFreshBelow (p : Passage Server) (n : ℕ) : Type 0 where
   pub leg : ℕ
+  pub positive : 1 ≤ leg
   pub below : leg < n
   pub kept : IsTrue (is_some (in_leg leg p.role.ins))
   pub none : first_at p leg ≡ 0

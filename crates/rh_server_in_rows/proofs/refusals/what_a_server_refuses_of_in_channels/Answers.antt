@@ -3,13 +3,17 @@ use Rattle.rh_server.specs.Order.{has_leg}
 use Rattle.rh_server.specs.Servers.{acts, first}
 use Rattle.rh_server.specs.Servers.{rules as server_rules}
 use Rattle.rh_server.specs.States.{Server}
+use Rattle.rh_server_in_rows.proofs.Numbers.{numbers_given}
 use Rattle.rh_server_in_rows.proofs.Orders.{orders_of}
 use Rattle.rh_server_in_rows.proofs.Replaced.{refuses_in_for}
 use Rattle.rh_server_in_rows.proofs.Steps.{known}
 use Rattle.rh_server_in_rows.proofs.refusals.what_a_server_refuses_of_in_channels.Goals as goal
 
-pub returns : goal.returns
-returns c = λ window moves may.
+pub returns-clause-numbers : goal.returns-clause-numbers
+returns-clause-numbers c = numbers_given
+
+pub returns-clause-refuses : goal.returns-clause-refuses
+returns-clause-refuses c = λ window moves may.
     let p : EndPassage Server =
     all_end_moved server_rules acts (end_started (first window)) moves in
     refuses_in_for p.passage (known window moves may)
