@@ -1,9 +1,9 @@
 -- each IN_R1/A3 that was put has its IN_R1/A6, but for one
-use Rattle.std.proofs.Common.{◌≡◌, ◌⊎◌, inl, inr, ℕ, zero, suc, ◌+◌, ◌≤◌, ◌<◌, ◌==◌, ◌&&◌, Bool, true, false, true≢false, not, if◌then◌else◌, List, [], ◌∷◌, Some, None, arith, refl, sym, ap, ◌∙◌, subst}
+use Rattle.std.proofs.Common.{◌≡◌, ◌⊎◌, inl, inr, ℕ, zero, suc, ◌+◌, ◌≤◌, ◌==◌, ◌&&◌, Bool, true, false, true≢false, not, if◌then◌else◌, List, [], ◌∷◌, Some, None, arith, refl, sym, ap, ◌∙◌, subst}
 use Rattle.std.proofs.lemmas.Bool.{false≢true}
 use Rattle.std.specs.Prelude.{IfSome, slice_get}
 use Rattle.std.specs.declared.option.Option.{Option}
-use Rattle.rh_chains.specs.Sums.{sum_below, count_on}
+use Rattle.rh_chains.specs.Sums.{count_on}
 use Rattle.rh_chains.proofs.Summing.{all_legs, some_legs, sum_rises}
 use Rattle.rh_line.specs.declared.leg.LegKind.TheVariants.{InServer}
 use Rattle.rh_order.proofs.ByNumber.{same_number, test_same}

@@ -1,14 +1,13 @@
 -- what a server puts keeps what it knows of its is legs
-use Rattle.std.proofs.Common.{◌≡◌, ℕ, ◌==◌, ◌&&◌, Bool, true, false, true≢false, List, [], ◌∷◌, ◌++◌, Some, None, refl, rules, sym, ap, ◌∙◌}
+use Rattle.std.proofs.Common.{◌≡◌, ℕ, ◌==◌, ◌&&◌, Bool, true, true≢false, List, [], ◌∷◌, ◌++◌, Some, None, refl, rules, sym, ap, ◌∙◌}
 use Rattle.std.proofs.lemmas.Bool.{and_parts, false≢true}
 use Rattle.std.specs.Prelude.{IfSome, slice_get}
 use Rattle.std.specs.declared.option.Option.{Option}
 use Rattle.rh_sig.specs.declared.named.Named.{Named}
 use Rattle.rh_sig.specs.declared.named.Named.TheVariants as named
 use Rattle.rh_window.specs.declared.recv_window.Ack.{Ack}
-use Rattle.rh_line.specs.Lines.{after_tell, after_told}
+use Rattle.rh_line.specs.Lines.{after_tell}
 use Rattle.rh_line.specs.Queue.{front_length}
-use Rattle.rh_line.specs.declared.leg.Leg.{Leg}
 use Rattle.rh_line.specs.declared.leg.LegKind.{LegKind}
 use Rattle.rh_line.specs.declared.leg.LegKind.TheVariants.{ClientOut, OutServer, ClientIn, InServer}
 use Rattle.rh_line.specs.declared.which.Which.TheVariants.{Current}
@@ -40,7 +39,7 @@ use Rattle.rh_server_counts.specs.Counting.{is_conn_b3, leg_at}
 use Rattle.rh_server_in_rows.specs.Refusing.{is_in_r1_b2}
 use Rattle.rh_server_in_rows.proofs.Places.{Found, found_at, number_found}
 use Rattle.rh_server_in_rows.proofs.Tallies.{Grows, Tally, other_put, put_grows, quiet_put, tally}
-use Rattle.rh_server_in_rows.proofs.Kept.{Kept, Look, So, Tail, is_begun, is_opened, kept_more, look, open_more, set_kept, so_more, top_of}
+use Rattle.rh_server_in_rows.proofs.Kept.{is_begun, kept_more, look, open_more, set_kept, so_more, top_of}
 use Rattle.rh_server_in_rows.proofs.Rows.{Fine, leg_same, same_fine}
 use Rattle.rh_server_in_rows.proofs.Takes.{Holds}
 

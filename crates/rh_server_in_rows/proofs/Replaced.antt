@@ -1,5 +1,5 @@
 -- why a server refuses what replaces an IN channel
-use Rattle.std.proofs.Common.{◌≡◌, ◌⊎◌, inl, inr, ℕ, ◌+◌, ◌<◌, ◌≤◌, ◌==◌, ◌&&◌, Bool, true, false, true≢false, not, if◌then◌else◌, List, Some, None, Err, arith, refl, sym, ap, ◌∙◌, subst}
+use Rattle.std.proofs.Common.{◌≡◌, ◌⊎◌, inl, inr, ℕ, ◌==◌, ◌&&◌, Bool, true, false, true≢false, not, if◌then◌else◌, Some, None, Err, arith, refl, sym, ap, ◌∙◌}
 use Rattle.std.proofs.lemmas.Bool.{and_parts, false≢true}
 use Rattle.std.proofs.lemmas.Bool.Decides.{not_from_Decides}
 use Rattle.std.proofs.lemmas.Slice.Eq.{bytes_eq-Decides}
@@ -22,11 +22,10 @@ use Rattle.rh_server.specs.States.{Server, is_fresh, is_waiting, same_cookie, in
 use Rattle.rh_server.specs.Opening.{Done, took, refuse, unexpected, is_first}
 use Rattle.rh_server.specs.InReplacement.{announced, has_fresh_below, hands_over, in_r1_a2_by, in_r1_a2_at, on_in_r1_a2, on_in_r1_a6}
 use Rattle.rh_server_counts.specs.Answering.{AreAnswered}
-use Rattle.rh_server_counts.specs.Counting.{is_in_r1_a3, is_in_r1_a6, in_came, out_put}
 use Rattle.rh_server_counts.specs.Opening.{OpensOnce}
 use Rattle.rh_server_rows.specs.Refusing.{IsOther}
-use Rattle.rh_server_in_rows.specs.Refusing.{IsUsed, NewestNames, NextNames, RefusesInFor, UnexpectedInR1A6, IsBehindOther}
-use Rattle.rh_server_in_rows.proofs.Tallies.{Tally, tally}
+use Rattle.rh_server_in_rows.specs.Refusing.{IsUsed, NewestNames, NextNames, RefusesInFor, UnexpectedInR1A6}
+use Rattle.rh_server_in_rows.proofs.Tallies.{tally}
 use Rattle.rh_server_in_rows.proofs.Kept.{IsOpen, is_begun, is_opened, top_of}
 use Rattle.rh_server_in_rows.proofs.Takes.{Holds}
 use Rattle.rh_server_in_rows.proofs.Orders.{Orders}

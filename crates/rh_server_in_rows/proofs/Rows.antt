@@ -1,15 +1,13 @@
 -- a server's steps keep what it knows of its is legs
-use Rattle.std.proofs.Common.{◌≡◌, inl, inr, ℕ, ◌+◌, ◌≤◌, ◌<◌, ◌==◌, nat_lt, ◌&&◌, ◌||◌, Bool, true, false, true≢false, not, if◌then◌else◌, List, [], ◌∷◌, Some, None, arith, refl, sym, ap, ◌∙◌, subst}
+use Rattle.std.proofs.Common.{◌≡◌, inl, inr, ℕ, ◌≤◌, ◌<◌, ◌==◌, nat_lt, ◌&&◌, ◌||◌, Bool, true, false, true≢false, not, List, [], ◌∷◌, Some, None, arith, refl, sym, ap, ◌∙◌, subst}
 use Rattle.std.proofs.lemmas.Bool.{false≢true, and_parts, or_parts}
 use Rattle.std.proofs.lemmas.Bool.Decides.{nat_tests}
 use Rattle.std.specs.Prelude.{IfSome}
 use Rattle.std.specs.declared.option.Option.{Option}
 use Rattle.rh_rts.specs.declared.command.Cookie.{Cookie}
-use Rattle.rh_sig.specs.declared.named.Named.TheVariants as named
-use Rattle.rh_line.specs.Lines.{Line, after_open_next, after_take, after_finish, is_empty, released, moved_on}
+use Rattle.rh_line.specs.Lines.{Line, is_empty, released, moved_on}
 use Rattle.rh_line.specs.Lines.{settled as line_settled, taken as line_taken}
 use Rattle.rh_order.proofs.ByNumber.{by_test, other_number, same_number}
-use Rattle.rh_shell.specs.Waiting.{added}
 use Rattle.rh_server.specs.declared.state.Edge.TheVariants.{Shut}
 use Rattle.rh_server.specs.declared.state.InLeg.{InLeg}
 use Rattle.rh_server.specs.declared.state.InStage.{InStage}
@@ -18,7 +16,7 @@ use Rattle.rh_server.specs.declared.state.Stage.{Stage}
 use Rattle.rh_server.specs.declared.state.Tells.TheVariants as tells
 use Rattle.rh_server.specs.declared.out_line.Kind.TheVariants as kinds
 use Rattle.rh_server.specs.OutLines.{waits}
-use Rattle.rh_server.specs.States.{Server, is_fresh, is_waiting, stays, in_leg, in_place, set_at, with_in}
+use Rattle.rh_server.specs.States.{Server, is_fresh, is_waiting, stays, in_place, set_at, with_in}
 use Rattle.rh_server.specs.Opening.{first_in}
 use Rattle.rh_server.specs.Ending.{waits_ended}
 use Rattle.rh_server.specs.InReplacement.{opens_next, opens_leg, first_waiting, waiting_place, next_opened, becomes_current, moved_if, take, announced, is_fresh_below, has_fresh_below}

@@ -1,5 +1,5 @@
 -- a server's allowed moves keep what it knows of its is legs
-use Rattle.std.proofs.Common.{◌≡◌, ℕ, ◌+◌, ◌==◌, ◌&&◌, ◌||◌, Bool, true, false, not, List, [], ◌∷◌, Some, None, Ok, Err, refl, rules, sym, ap, ◌∙◌, subst}
+use Rattle.std.proofs.Common.{◌≡◌, ℕ, ◌+◌, ◌==◌, ◌&&◌, Bool, true, false, not, List, [], ◌∷◌, Some, None, Ok, Err, refl, rules, sym, ap, ◌∙◌, subst}
 use Rattle.std.proofs.lemmas.Bool.{and_parts, false≢true, true≢false}
 use Rattle.std.specs.Prelude.{IfSome, IsTrue}
 use Rattle.std.specs.declared.option.Option.{Option}
@@ -12,7 +12,7 @@ use Rattle.rh_order.proofs.ByNumber.{by_test, same_number}
 use Rattle.rh_passages.proofs.Logs.{RowKeeps, PutKeeps}
 use Rattle.rh_shell.specs.declared.end_role.GiveRefused.{GiveRefused}
 use Rattle.rh_shell.specs.Rules.{Message, Pdu, Packet, Row}
-use Rattle.rh_shell.specs.Moves.{OnLeg, Move, Up, HeadCame, PduCame, PacketCame, Puts, IsDrawn, Marks, Pings, MayMove, Passage, EndMove, Moves, Gives, Takes, Closes, Recycles, EndPassage, MayEndMove, AreAllowedAtEnd, is_at_work, is_in_use, moved, taken_by, put_by, end_moved, end_now_at, end_started, given_by, with_first, all_end_moved}
+use Rattle.rh_shell.specs.Moves.{Move, Up, HeadCame, PduCame, PacketCame, Puts, IsDrawn, Marks, Pings, MayMove, Passage, EndMove, Moves, Gives, Takes, Closes, Recycles, EndPassage, MayEndMove, AreAllowedAtEnd, is_at_work, is_in_use, moved, taken_by, put_by, end_moved, end_now_at, end_started, given_by, with_first, all_end_moved}
 use Rattle.rh_server.specs.declared.state.InLeg.{InLeg}
 use Rattle.rh_server.specs.declared.state.InStage.{InStage}
 use Rattle.rh_server.specs.declared.state.InStage.TheVariants as in_stage

@@ -1,5 +1,5 @@
 -- what a server takes keeps what it knows of its is legs
-use Rattle.std.proofs.Common.{◌≡◌, inl, inr, ℕ, ◌+◌, ◌≤◌, ◌<◌, ◌==◌, nat_lt, ◌&&◌, cond, Bool, true, false, true≢false, not, if◌then◌else◌, List, [], ◌∷◌, ◌++◌, is_ok, Some, None, Ok, Err, arith, refl, rules, sym, ap, ◌∙◌, subst}
+use Rattle.std.proofs.Common.{◌≡◌, ℕ, ◌+◌, ◌≤◌, ◌<◌, ◌==◌, nat_lt, ◌&&◌, cond, Bool, true, false, true≢false, not, if◌then◌else◌, List, [], ◌∷◌, ◌++◌, is_ok, Some, None, Ok, Err, arith, refl, rules, sym, ap, ◌∙◌, subst}
 use Rattle.std.proofs.lemmas.Bool.{false≢true, and_parts, not-false}
 use Rattle.std.proofs.lemmas.Bool.Decides.{nat_tests}
 use Rattle.std.specs.Prelude.{IfSome}
@@ -8,7 +8,7 @@ use Rattle.std.specs.declared.result.Result.{Result}
 use Rattle.rh_rts.specs.declared.command.Cookie.{Cookie}
 use Rattle.rh_sig.specs.declared.named.Named.{Named}
 use Rattle.rh_sig.specs.declared.named.Named.TheVariants as named
-use Rattle.rh_line.specs.Lines.{Incoming, Line, admit_verdict, admitted, after_end, after_finish, channel_verdict}
+use Rattle.rh_line.specs.Lines.{Incoming, admit_verdict, admitted, after_end, after_finish, channel_verdict}
 use Rattle.rh_line.specs.declared.leg.Leg.{Leg}
 use Rattle.rh_line.specs.declared.leg.LegKind.{LegKind}
 use Rattle.rh_line.specs.declared.leg.LegKind.TheVariants.{ClientOut, OutServer, ClientIn, InServer}
@@ -44,7 +44,7 @@ use Rattle.rh_server_in_rows.specs.Refusing.{named_by, successor_by}
 use Rattle.rh_server_in_rows.proofs.Numbered.{absent_at}
 use Rattle.rh_server_in_rows.proofs.Places.{Found, found_at, number_found}
 use Rattle.rh_server_in_rows.proofs.Tallies.{Grows, Still, Tally, began, carried_came, carried_names, carried_other, named_at, named_own, now_often, other_came, quiet_came, tally}
-use Rattle.rh_server_in_rows.proofs.Kept.{IsOpen, Kept, Look, So, Tail, Top, is_begun, is_opened, kept_more, leg_at_place, look, newer_kept, number_of, renamed_kept, set_kept, so_top, top_kept, top_of}
+use Rattle.rh_server_in_rows.proofs.Kept.{Kept, Look, Top, is_begun, is_opened, kept_more, leg_at_place, look, newer_kept, number_of, renamed_kept, set_kept, so_top, top_kept, top_of}
 use Rattle.rh_server_in_rows.proofs.Rows.{Fine, announces, first_fine, leg_same, same_fine, settles}
 
 -- ---- which channel it is

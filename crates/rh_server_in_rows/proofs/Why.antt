@@ -1,21 +1,20 @@
 -- why a server refuses what comes on an is leg
-use Rattle.std.proofs.Common.{◌≡◌, ◌⊎◌, inl, inr, ℕ, ◌+◌, ◌<◌, ◌≤◌, ◌==◌, ◌&&◌, nat_lt, Bool, true, false, true≢false, not, List, Some, None, Ok, Err, arith, refl, sym, ap, ◌∙◌, subst}
+use Rattle.std.proofs.Common.{◌≡◌, ◌⊎◌, inl, inr, ℕ, ◌≤◌, ◌==◌, ◌&&◌, nat_lt, Bool, true, false, not, List, Some, None, Ok, Err, arith, refl, sym, ap, ◌∙◌, subst}
 use Rattle.std.proofs.lemmas.Bool.{false≢true}
 use Rattle.std.specs.Prelude.{IfSome, IsTrue}
 use Rattle.std.specs.declared.option.Option.{Option}
 use Rattle.std.specs.declared.result.Result.{Result}
 use Rattle.rh_rts.specs.declared.command.Cookie.{Cookie}
-use Rattle.rh_line.specs.Lines.{admit_verdict, channel_of}
+use Rattle.rh_line.specs.Lines.{admit_verdict}
 use Rattle.rh_line.specs.declared.line_fault.LineFault.{LineFault}
 use Rattle.rh_line.specs.declared.line_fault.LineFault.TheVariants as line_fault
 use Rattle.rh_line.specs.declared.which.Which.{Which}
 use Rattle.rh_line.specs.declared.which.Which.TheVariants.{Current, Next}
-use Rattle.rh_order.proofs.ByNumber.{by_test, same_number, test_same}
-use Rattle.rh_window.specs.Receiving as windows
+use Rattle.rh_order.proofs.ByNumber.{by_test, test_same}
 use Rattle.rh_shell.specs.declared.answers.Count.{Count}
 use Rattle.rh_shell.specs.declared.answers.Refused.TheVariants as refused
 use Rattle.rh_line.specs.declared.leg.LegKind.TheVariants.{InServer}
-use Rattle.rh_shell.specs.Moves.{Passage, is_at_work}
+use Rattle.rh_shell.specs.Moves.{Passage}
 use Rattle.rh_shell.specs.Wires.{of_leg}
 use Rattle.rh_server.specs.declared.state.InLeg.{InLeg}
 use Rattle.rh_server.specs.declared.state.InStage.{InStage}
@@ -25,16 +24,15 @@ use Rattle.rh_server.specs.declared.state.Stage.{Stage}
 use Rattle.rh_server.specs.declared.state.Stage.TheVariants as stage
 use Rattle.rh_server.specs.OutLines.{waits}
 use Rattle.rh_server.specs.States.{Server, is_fresh, is_open, is_some, is_waiting, same_cookie, in_at, in_leg, in_place}
-use Rattle.rh_server.specs.Opening.{Done, took, unexpected, is_first}
+use Rattle.rh_server.specs.Opening.{Done, unexpected, is_first}
 use Rattle.rh_server.specs.Acknowledging.{admitted_by, admitted_on, channel_at, on_pdu}
 use Rattle.rh_server.specs.InReplacement.{has_fresh_below, in_r1_a2_by, in_r1_a2_at, on_in_r1_a2, in_r2_a2_on, on_in_r2_a2}
 use Rattle.rh_server.specs.Ending.{end_a2_at, end_a2_on_leg, end_a2_waiting, is_over_on, on_end_a2, waits_ended}
-use Rattle.rh_server.specs.Servers.{rules as server_rules}
 use Rattle.rh_server_counts.specs.Answering.{AreAnswered}
 use Rattle.rh_server_counts.specs.Opening.{OpensOnce}
-use Rattle.rh_server_counts.specs.Counting.{is_end_a2, is_in_r1_a2, is_in_r1_a3, is_in_r1_a6, in_came, leg_at, out_put, waits_for}
+use Rattle.rh_server_counts.specs.Counting.{is_end_a2, is_in_r1_a6, leg_at}
 use Rattle.rh_passages.specs.Counted.{Tells}
-use Rattle.rh_server_in_rows.specs.Refusing.{IsFreshBelow, IsShut, IsUnopened, IsUsed, IsOpening, UnexpectedEndA2, UnexpectedInR1A2, UnexpectedInR2A2, UnexpectedPdu, came_at, came_on, first_at}
+use Rattle.rh_server_in_rows.specs.Refusing.{IsFreshBelow, IsShut, IsUnopened, IsUsed, IsOpening, UnexpectedEndA2, UnexpectedInR1A2, UnexpectedInR2A2, UnexpectedPdu, came_at, came_on}
 use Rattle.rh_server_in_rows.proofs.Places.{Found, Placed, found_at, number_found, placed}
 use Rattle.rh_server_in_rows.proofs.Tallies.{Tally, tally}
 use Rattle.rh_server_in_rows.proofs.Kept.{IsOpen, So, is_opened, leg_at_place, top_of}

@@ -1,5 +1,5 @@
--- what is so in a server's logs where it refuses what comes on an is leg as unexpected (MS-RPCH
--- 3.2.5; replacement and END are this profile's)
+-- what is so in a server's logs where it refuses what comes on an is leg (MS-RPCH 3.2.5;
+-- replacement and END are this profile's)
 use Rattle.std.specs.Prelude.{ℕ, ◌≡◌, ◌⊎◌, ◌+◌, ◌≤◌, ◌<◌, List, [], ◌∷◌, Bool, true, false, IsTrue, Some, None, Err, if◌then◌else◌}
 use Rattle.std.specs.declared.option.Option.{Option}
 use Rattle.rh_rts.specs.declared.command.Cookie.{Cookie}
@@ -91,13 +91,13 @@ IsOpening p = out_came is_conn_a2 p + in_came is_conn_b2 p ≤ 1
 abbrev pub UnexpectedPdu : Passage Server → ℕ → Type 0
 UnexpectedPdu p n = IsOpening p ⊎ IsShut p n ⊎ (1 ≤ came_at is_end_a2 p n)
 
--- behind a front of another leg a waiting channel takes END, once
+-- a channel that waits takes END/A2 too, once
 abbrev pub UnexpectedEndA2 : Passage Server → ℕ → Type 0
 UnexpectedEndA2 p n =
     (came_on p n ≡ 0) ⊎ (first_at p n ≡ 0) ⊎ (1 ≤ came_at is_in_r1_a6 p n)
     ⊎ (1 ≤ came_at is_end_a2 p n)
 
--- the last number is given where as many is legs came up and IN_R2/A2 came as there are numbers
+-- 2^32 - 1 numbers are given, to is legs that came up and by IN_R2/A2
 abbrev pub UnexpectedInR2A2 : Passage Server → ℕ → Type 0
 UnexpectedInR2A2 p n =
     (came_on p n ≡ 0) ⊎ IsOpening p ⊎ (out_put is_in_r2_a3 p < in_came is_in_r2_a2 p)
