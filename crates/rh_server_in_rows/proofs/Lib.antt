@@ -1,0 +1,15 @@
+mod Numbered
+mod Places
+mod Tallies
+mod Kept
+mod Rows
+mod Takes
+mod Puts
+mod Steps
+mod Numbers
+mod Tests
+mod Sums
+mod Counts
+mod Orders
+mod Why
+mod Replaced
