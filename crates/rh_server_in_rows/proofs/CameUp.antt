@@ -148,9 +148,6 @@ module _ (came : ℕ → Bool) where
 
   -- ---- rows
 
-  RowUp : Done → Type 0
-  RowUp x = Fine x.0
-
   conn_b2_up : (s : Server) (m : ℕ) (count : Count) (a b : Cookie) (c d : ℕ) → Fine s
       → Fine (on_conn_b2 s m count a b c d).0
   conn_b2_up s m count a b c d h =
