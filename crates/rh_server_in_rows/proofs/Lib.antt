@@ -7,6 +7,7 @@ mod Takes
 mod Puts
 mod Steps
 mod Numbers
+mod CameUp
 mod Tests
 mod Sums
 mod Counts

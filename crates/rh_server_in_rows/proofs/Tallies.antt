@@ -52,17 +52,6 @@ pub record Grows (c d : Tally) : Type 0 where
   pub named : d.named ≡ c.named
   pub successor : d.successor ≡ c.successor
 
-pub stays_grown : (c : Tally) → Grows c c
-stays_grown c = record {
-  first = refl;
-  announced = omega arith;
-  left = omega arith;
-  over = omega arith;
-  told = refl;
-  named = refl;
-  successor = refl;
-}
-
 -- ---- a message more
 
 abbrev here : (Named → Bool) → ℕ → OnLeg → ℕ

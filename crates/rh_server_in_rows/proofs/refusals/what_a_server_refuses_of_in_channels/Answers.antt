@@ -3,11 +3,15 @@ use Rattle.rh_server.specs.Order.{has_leg}
 use Rattle.rh_server.specs.Servers.{acts, first}
 use Rattle.rh_server.specs.Servers.{rules as server_rules}
 use Rattle.rh_server.specs.States.{Server}
+use Rattle.rh_server_in_rows.proofs.CameUp.{kept_up}
 use Rattle.rh_server_in_rows.proofs.Numbers.{numbers_given}
 use Rattle.rh_server_in_rows.proofs.Orders.{orders_of}
 use Rattle.rh_server_in_rows.proofs.Replaced.{refuses_in_for}
 use Rattle.rh_server_in_rows.proofs.Steps.{known}
 use Rattle.rh_server_in_rows.proofs.refusals.what_a_server_refuses_of_in_channels.Goals as goal
+
+pub returns-clause-legs : goal.returns-clause-legs
+returns-clause-legs c = kept_up
 
 pub returns-clause-numbers : goal.returns-clause-numbers
 returns-clause-numbers c = numbers_given
