@@ -15,8 +15,7 @@ use rh_closes::{
 };
 use rh_expected::{
     a_client_of_a_recording_refuses_no_cookie, no_in_proxy_of_a_recording_refuses_what_comes,
-    no_out_proxy_of_a_recording_refuses_its_client,
-    no_out_proxy_of_a_recording_refuses_its_server,
+    no_out_proxy_of_a_recording_refuses_its_client, no_out_proxy_of_a_recording_refuses_its_server,
     no_server_of_a_recording_refuses_its_out_proxies,
 };
 use rh_fifo::every_recording_is_ordered;
