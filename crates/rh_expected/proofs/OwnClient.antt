@@ -1,6 +1,6 @@
 -- whatever a change of a world is, it closes its client for nothing that was not to come on an OUT
 -- channel, where the client expects what comes there and each packet has a name
-use Rattle.std.proofs.Common.{◌≡◌, ℕ, List, refl, sym, subst}
+use Rattle.std.proofs.Common.{◌≡◌, ℕ, refl, sym, subst}
 use Rattle.std.specs.Prelude.{Some}
 use Rattle.rh_text.specs.declared.ends.Dir.{Dir}
 use Rattle.rh_text.specs.declared.ends.Dir.TheVariants.{U, D}
@@ -18,7 +18,6 @@ use Rattle.rh_nodes.specs.declared.event.Event.TheVariants.{Comes}
 use Rattle.rh_nodes.specs.Company as company
 use Rattle.rh_nodes.specs.Legs as legs
 use Rattle.rh_nodes.specs.Opening.{Makers}
-use Rattle.rh_nodes.specs.Readers.{reader_of}
 use Rattle.rh_nodes.specs.Wires.{receiver}
 use Rattle.rh_nodes.specs.World.{World, at}
 use Rattle.rh_client.specs.declared.state.ClientRole.{ClientRole}
@@ -38,7 +37,6 @@ use Rattle.rh_reading.specs.Well.{ReadsWell, is_named}
 use Rattle.rh_traced.specs.Cookies.{ByChanges}
 use Rattle.rh_traced.specs.Ours.{AreOurs, deeds, rules}
 use Rattle.rh_ordered.specs.Premises.{history_at}
-use Rattle.rh_fifo.specs.Flows.{IsFlowing, numbers_of}
 use Rattle.rh_honest.proofs.Closing.{EachComes, by_fed}
 use Rattle.rh_honest.proofs.Fed.{told_what, told_who}
 use Rattle.rh_hops.proofs.Moment.{Laws, NodeLaws, known}
@@ -48,7 +46,7 @@ use Rattle.rh_client_hops.specs.Premises.{AreDistinct}
 use Rattle.rh_moments.specs.Expecting.{Expects}
 use Rattle.rh_moments.specs.Moments.{Moves, Numbers, client_behind, out_behind}
 use Rattle.rh_amiss.proofs.AtNodes.{ClientKnows, RolesKnow, client_next}
-use Rattle.rh_amiss.proofs.Moments.{AllFlow, flowing, flows, story, world}
+use Rattle.rh_amiss.proofs.Moments.{AllFlow, flowing}
 use Rattle.rh_amiss.proofs.Next.{never_amiss}
 use Rattle.rh_pasts.specs.Pasts.{moves_of, numbers}
 use Rattle.rh_expected.proofs.Closing.{AtMoment}

@@ -1,4 +1,3 @@
-use Rattle.std.proofs.Common.{refl}
 use Rattle.rh_nodes.specs.Opening.{Makers}
 use Rattle.rh_nodes.specs.Readers.{reader_of}
 use Rattle.rh_nodes.specs.World.{World}
