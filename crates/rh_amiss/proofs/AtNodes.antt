@@ -31,6 +31,8 @@ use Rattle.rh_nodes.specs.Readers.{reader_of}
 use Rattle.rh_nodes.specs.Wires.{receiver}
 use Rattle.rh_nodes.specs.World.{World, at}
 use Rattle.rh_client.specs.declared.state.ClientRole.{ClientRole}
+use Rattle.rh_client.specs.Client as client
+use Rattle.rh_client.specs.State as client_state
 use Rattle.rh_client.specs.Order.{AreAllowedMoves, client_moved}
 use Rattle.rh_inproxy.specs.declared.state.InProxyConfig.{InProxyConfig}
 use Rattle.rh_inproxy.specs.Machine as in_proxy
@@ -44,28 +46,29 @@ use Rattle.rh_server.specs.Servers as server
 use Rattle.rh_server.specs.States.{Server}
 use Rattle.rh_causes.specs.Closings.{ClosesWith}
 use Rattle.rh_ends_begin.specs.Begins.{Asks}
-use Rattle.rh_history.specs.Carried.{IsTraced, LegsComeUpOnce, AreAccepted, AreAcceptedAtEnd, ComesUpOnce, ComesUpOnceAtEnd, happened, heard_on}
+use Rattle.rh_history.specs.Carried.{IsTraced, LegsComeUpOnce, AreAccepted, AreAcceptedAtEnd, ComesUpOnce, ComesUpOnceAtEnd, events_of, happened, heard_on}
 use Rattle.rh_history.specs.Changes.{IsFed, MayChange}
 use Rattle.rh_history.specs.Histories.{History, in_place, out_place}
 use Rattle.rh_moments.specs.Expecting.{IsAmiss}
 use Rattle.rh_proxies_begin.specs.Pipes.{in_pipe, out_pipe}
 use Rattle.rh_down.specs.Down as down
 use Rattle.rh_reading.specs.Reading.{IsWholeText}
+use Rattle.rh_reading.specs.Well.{Answers, ReadsWell}
 use Rattle.rh_streams.specs.Streams.{HasPipes, NeverRefuses, StaysUnused, StaysUnusedAtEnd}
 use Rattle.rh_traced.specs.Cookies.{ByChanges}
 use Rattle.rh_traced.specs.Turns.{HearInTurn}
 use Rattle.rh_traced.specs.Ours.{AreOurs, deeds, rules}
 use Rattle.rh_fifo.specs.Flows.{IsFlowing, numbers_of}
-use Rattle.rh_honest.specs.Honest.{read_on, well_on}
+use Rattle.rh_honest.specs.Honest.{read_on}
 use Rattle.rh_honest.proofs.Fed.{node_reads, reads_on}
-use Rattle.rh_hops.proofs.Moment.{Laws, NodeLaws}
+use Rattle.rh_hops.proofs.Moment.{Laws, NodeLaws, behind}
 use Rattle.rh_hops.proofs.Stopping.{Readings}
 use Rattle.rh_client_hops.proofs.Joined.{Reads}
 use Rattle.rh_client_hops.proofs.Routes.{Passages}
 use Rattle.rh_amiss.specs.Amiss.{AmissNext, amiss_by}
 use Rattle.rh_amiss.proofs.Bytes.{HaveNames}
 use Rattle.rh_amiss.proofs.Known.{KnowsLegs, KnowsLegsAtEnd, end_knows, node_knows}
-use Rattle.rh_amiss.proofs.Moments.{AllFlow, AmissThen, OfStreams, fed_bytes, flows, in_shell, in_then, once, out_shell, out_then, passages, put_there, server_shell, server_then, story, traced, turns, world}
+use Rattle.rh_amiss.proofs.Moments.{AllFlow, AmissThen, OfStreams, client_shell, client_then, fed_bytes, flows, in_shell, in_then, once, out_shell, out_then, passages, put_there, server_shell, server_then, story, traced, turns, world}
 use Rattle.rh_amiss.proofs.Next.{KnowsEnd, amiss_next}
 use Rattle.rh_amiss.proofs.Pings.{IsHead}
 use Rattle.rh_amiss.proofs.Sources.{leg_pinged}
@@ -95,6 +98,14 @@ pub record RolesKnow : Type 0 where
   pub in_request : (config : ClientConfig) → IsWholeText is_whole_head (in_request config)
   pub out_request : (config : ClientConfig) (n : ℕ)
       → IsWholeText is_whole_head (out_request config n)
+
+-- and the same of a client
+pub record ClientKnows : Type 0 where
+  pub refuses : NeverRefuses client.rules
+  pub unused : (config : ClientConfig)
+      → StaysUnusedAtEnd client.rules client.acts (client_state.first config)
+  pub legs : (config : ClientConfig)
+      → KnowsLegsAtEnd client.rules client.acts (begun (client_state.first config) client.rooms)
 
 -- what an out proxy reads at first it reads always
 out_reads : RolesKnow → (config : OutProxyConfig)
@@ -136,6 +147,9 @@ module _ {K : Type 0} (roles : RolesKnow) (law_reads : Reads) (readings : Readin
     abbrev pub passages_then : Passages
     passages_then = passages law_reads readings m w v ours law Holds flow by leg dir may k
 
+    abbrev client_node : Shell ClientRole
+    client_node = client_shell law_reads readings m w v ours law Holds flow by leg dir may k
+
     abbrev server_node : Shell Server
     server_node = server_shell law_reads readings m w v ours law Holds flow by leg dir may k
 
@@ -167,12 +181,14 @@ module _ {K : Type 0} (roles : RolesKnow) (law_reads : Reads) (readings : Readin
         (of_leg one (client_moved ours.config f.leads.moves).passage.put)
         (roles.asks ours.config f.leads.moves one f.leads.allowed))
 
-  module _ (r : Refused) (amiss : IsAmiss r) (named : HaveNames (well_on leg.kind dir) r)
-      (why : Cause) (tells : amiss_by why ≡ Some r) (count : ℕ) (node : Who)
-      (here : at v leg (receiver dir) ≡ node) where
+  module _ (r : Refused) (amiss : IsAmiss r) (well : Answers) (named : HaveNames well r)
+      (fits : (next : ℕ) → ReadsWell well (read_on leg.kind dir)
+      (heard_on leg (events_of (behind m w v ours law by leg dir may next)
+      (at v leg (receiver dir))))) (why : Cause) (tells : amiss_by why ≡ Some r) (count : ℕ)
+      (node : Who) (here : at v leg (receiver dir) ≡ node) where
     abbrev Then : {S : Type 0} → Rules S → (k : ℕ) → Passage S → Shell S → List ℕ → Type 0
     Then =
-        AmissThen law_reads readings m w v ours law Holds flow by leg dir may r named why tells
+        AmissThen law_reads readings m w v ours law Holds flow by leg dir may r well named fits why tells
         count node here
 
     -- at the moment before the byte
@@ -193,8 +209,39 @@ module _ {K : Type 0} (roles : RolesKnow) (law_reads : Reads) (readings : Readin
 
     abbrev fed : List ℕ
     fed =
-        fed_bytes law_reads readings m w v ours law Holds flow by leg dir may r named why tells
+        fed_bytes law_reads readings m w v ours law Holds flow by leg dir may r well named fits why tells
         count node here
+
+    -- the client
+    module _ (client_roles : ClientKnows) (law_node : NodeLaws client.rules)
+        (is : node ≡ who.Client)
+        (closes : ClosesWith client.rules v.company.client (Comes leg fed) why) where
+      client_knows : (k : ℕ) (end : NearEnd)
+          → (let s = client_node k in
+          s.course ≡ Going → end_at s leg ≡ Some end
+          → KnowsEnd client.rules s.role (read_on leg.kind dir) leg
+          (heard_on leg (happened (story_then k).client)) end)
+      client_knows k end going at =
+          let events = (story_then k).client in
+          subst (λ (pipe : Option Pipe).
+          KnowsEnd client.rules (client_node k).role pipe leg (heard_on leg (happened events)) end)
+          (sym (ap (λ (x : Who). node_reads ours x leg) is) ∙ reads_here)
+          (end_knows client.rules client.acts (client_state.first ours.config) client.rooms
+          down.client_reads (λ s one. refl) client_roles.refuses (client_roles.unused ours.config)
+          (subst (λ (x : Shell ClientRole). ComesUpOnceAtEnd client.rules client.acts x) ours.client
+          (once_then k).client) (client_roles.legs ours.config) events
+          (subst (λ (x : Shell ClientRole). AreAcceptedAtEnd client.rules client.acts x events)
+          ours.client (traced_then k).accepted.client) (turns_then k).client leg end going at)
+
+      pub client_next : (k : ℕ) × AmissNext client.rules (passages_then k).client leg
+          (read_on leg.kind dir) (put_then k)
+      client_next =
+          let was = client_then law_reads readings m w v ours law Holds flow by leg dir may r well
+          named fits why tells count node here law_node is closes in (
+            was.0,
+            next client.rules was.0 (passages_then was.0).client (client_node was.0)
+                (heard_on leg (happened (story_then was.0).client)) (client_knows was.0) was.1,
+          )
 
     -- an in proxy
     module _ (law_node : NodeLaws in_proxy.rules) (n : ℕ) (is : node ≡ who.In n)
@@ -224,8 +271,8 @@ module _ {K : Type 0} (roles : RolesKnow) (law_reads : Reads) (readings : Readin
       pub in_next : (k : ℕ) × AmissNext in_proxy.rules ((passages_then k).ins n) leg
           (read_on leg.kind dir) (put_then k)
       in_next =
-          let was = in_then law_reads readings m w v ours law Holds flow by leg dir may r named
-          why tells count node here law_node n is shell up there closes in (
+          let was = in_then law_reads readings m w v ours law Holds flow by leg dir may r well named
+          fits why tells count node here law_node n is shell up there closes in (
             was.0,
             next in_proxy.rules was.0 ((passages_then was.0).ins n) (in_node was.0 n)
                 (heard_on leg ((story_then was.0).ins n)) (in_knows was.0) was.1,
@@ -259,8 +306,8 @@ module _ {K : Type 0} (roles : RolesKnow) (law_reads : Reads) (readings : Readin
       pub out_next : (k : ℕ) × AmissNext out_proxy.rules ((passages_then k).outs n) leg
           (read_on leg.kind dir) (put_then k)
       out_next =
-          let was = out_then law_reads readings m w v ours law Holds flow by leg dir may r named
-          why tells count node here law_node n is shell up there closes in (
+          let was = out_then law_reads readings m w v ours law Holds flow by leg dir may r well named
+          fits why tells count node here law_node n is shell up there closes in (
             was.0,
             next out_proxy.rules was.0 ((passages_then was.0).outs n) (out_node was.0 n)
                 (heard_on leg ((story_then was.0).outs n)) (out_knows was.0) was.1,
@@ -278,8 +325,8 @@ module _ {K : Type 0} (roles : RolesKnow) (law_reads : Reads) (readings : Readin
 
       pub out_amiss : OutAmiss
       out_amiss =
-          let was = out_then law_reads readings m w v ours law Holds flow by leg dir may r named
-          why tells count node here law_node n is shell up there closes in
+          let was = out_then law_reads readings m w v ours law Holds flow by leg dir may r well named
+          fits why tells count node here law_node n is shell up there closes in
           record {
             count_then = was.0;
             end = was.1.stops.end;
@@ -314,8 +361,8 @@ module _ {K : Type 0} (roles : RolesKnow) (law_reads : Reads) (readings : Readin
       pub server_next : (k : ℕ) × AmissNext server.rules (passages_then k).server leg
           (read_on leg.kind dir) (put_then k)
       server_next =
-          let was = server_then law_reads readings m w v ours law Holds flow by leg dir may r named
-          why tells count node here law_node is closes in (
+          let was = server_then law_reads readings m w v ours law Holds flow by leg dir may r well named
+          fits why tells count node here law_node is closes in (
             was.0,
             next server.rules was.0 (passages_then was.0).server (server_node was.0)
                 (heard_on leg (happened (story_then was.0).server)) (server_knows was.0) was.1,

@@ -43,16 +43,17 @@ use Rattle.rh_history.proofs.Working.{works_more}
 use Rattle.rh_proxies_begin.specs.Pipes as pipes
 use Rattle.rh_down.specs.Down as down
 use Rattle.rh_reading.specs.Reading.{all_read_of, messages_read}
+use Rattle.rh_reading.specs.Well.{Answers, ReadsWell}
 use Rattle.rh_traced.specs.Cookies.{ByChanges}
 use Rattle.rh_traced.specs.Ours.{AreOurs, deeds, rules}
 use Rattle.rh_traced.specs.Recordings.{IsKnown}
 use Rattle.rh_traced.specs.Turns.{HearInTurn}
 use Rattle.rh_ordered.specs.Premises.{history_at}
 use Rattle.rh_fifo.specs.Flows.{IsFlowing, Numbers, numbers_of}
-use Rattle.rh_honest.specs.Honest.{read_on, well_on}
+use Rattle.rh_honest.specs.Honest.{read_on}
 use Rattle.rh_honest.proofs.Fed.{node_reads, reads_on}
 use Rattle.rh_hops.proofs.Fed.{heard_behind, in_events, out_events, piece, told_here}
-use Rattle.rh_hops.proofs.Moment.{Laws, NodeLaws, behind, closes_at, drawn_before, known, noted_append, now, well_behind}
+use Rattle.rh_hops.proofs.Moment.{Laws, NodeLaws, behind, closes_at, drawn_before, known, noted_append, now}
 use Rattle.rh_hops.proofs.OneByte.{AtByte}
 use Rattle.rh_hops.proofs.Pieces.{FedFronts, fed_fronts}
 use Rattle.rh_hops.proofs.Stopping.{Readings}
@@ -200,9 +201,11 @@ module _ {K : Type 0} (law_reads : Reads) (readings : Readings) (m : Makers K In
 
   -- ---- a piece closes the node that it is fed to
 
-  module _ (r : Refused) (named : HaveNames (well_on leg.kind dir) r) (why : Cause)
-      (tells : amiss_by why ≡ Some r) (count : ℕ) (node : Who)
-      (here : at v leg (receiver dir) ≡ node) where
+  module _ (r : Refused) (well : Answers) (named : HaveNames well r)
+      (fits : (next : ℕ) → ReadsWell well (read_on leg.kind dir)
+      (heard_on leg (events_of (behind m w v ours law by leg dir may next)
+      (at v leg (receiver dir))))) (why : Cause) (tells : amiss_by why ≡ Some r) (count : ℕ)
+      (node : Who) (here : at v leg (receiver dir) ≡ node) where
     abbrev pub fed_bytes : List ℕ
     fed_bytes = (legs.take_out leg dir count v.legs).1
 
@@ -282,12 +285,12 @@ module _ {K : Type 0} (law_reads : Reads) (readings : Readings) (m : Makers K In
             then_by client.rules k (passages k).client
                 (client_shell k) (heard_on leg (happened (story k).client))
                 (flows k).flows.client.role
-                (end_stops readings client.rules leg (read_on leg.kind dir) r (well_on leg.kind dir)
+                (end_stops readings client.rules leg (read_on leg.kind dir) r well
                 named why tells (all_read_of (put_there k)) (client_state.first ours.config)
                 client.rooms down.client_reads
                 (sym (ap (λ (x : Who). node_reads ours x leg) is) ∙ reads_here) v.company.client
                 fed_bytes client_byte (next_heard k (k + 1))
-                (well_behind m w v ours law by leg dir may (k + 1)) (next_read k (k + 1))
+                (fits (k + 1)) (next_read k (k + 1))
                 client.acts client_past (story k).client (flows k).flows.client
                 ((known m w v ours law by leg dir may).traced.runs.client
                 ∙ ap (λ (s : Shell ClientRole).
@@ -344,12 +347,12 @@ module _ {K : Type 0} (law_reads : Reads) (readings : Readings) (m : Makers K In
             then_by server.rules k (passages k).server
                 (server_shell k) (heard_on leg (happened (story k).server))
                 (flows k).flows.server.role
-                (end_stops readings server.rules leg (read_on leg.kind dir) r (well_on leg.kind dir)
+                (end_stops readings server.rules leg (read_on leg.kind dir) r well
                 named why tells (all_read_of (put_there k)) (server.first ours.window) server.rooms
                 down.server_reads
                 (sym (ap (λ (x : Who). node_reads ours x leg) is) ∙ reads_here) v.company.server
                 fed_bytes server_byte (next_heard k (k + 1))
-                (well_behind m w v ours law by leg dir may (k + 1)) (next_read k (k + 1))
+                (fits (k + 1)) (next_read k (k + 1))
                 server.acts server_past (story k).server (flows k).flows.server
                 ((known m w v ours law by leg dir may).traced.runs.server
                 ∙ ap (λ (s : Shell Server). after_end_events server.rules server.acts s server_past)
@@ -400,12 +403,12 @@ module _ {K : Type 0} (law_reads : Reads) (readings : Readings) (m : Makers K In
                 (in_shell k n)
                 (heard_on leg ((story k).ins n)) ((flows k).flows.ins n).role
                 (stream_stops readings in_proxy.rules leg (read_on leg.kind dir) r
-                (well_on leg.kind dir) named why tells (all_read_of (put_there k))
+                well named why tells (all_read_of (put_there k))
                 (in_state.first (ours.in_config n)) in_proxy.rooms
                 (pipes.in_pipe (ours.in_config n))
                 (sym (ap (λ (x : Who). node_reads ours x leg) is) ∙ reads_here) shell fed_bytes
                 in_byte (next_heard k (k + 1))
-                (well_behind m w v ours law by leg dir may (k + 1)) (next_read k (k + 1))
+                (fits (k + 1)) (next_read k (k + 1))
                 (h.ins n) ((story k).ins n) ((flows k).flows.ins n) in_run
                 (in_events v h n leg dir k (here ∙ is) shell up there
                 ∙ ap (λ (bytes : List ℕ). h.ins n ++ moving.Hears leg bytes ∷ [])
@@ -453,11 +456,11 @@ module _ {K : Type 0} (law_reads : Reads) (readings : Readings) (m : Makers K In
                 (out_shell k n)
                 (heard_on leg ((story k).outs n)) ((flows k).flows.outs n).role
                 (stream_stops readings out_proxy.rules leg (read_on leg.kind dir) r
-                (well_on leg.kind dir) named why tells (all_read_of (put_there k))
+                well named why tells (all_read_of (put_there k))
                 (new_proxy (ours.out_config n)) ROOMS (down.proxy_reads (ours.out_config n))
                 (sym (ap (λ (x : Who). node_reads ours x leg) is) ∙ reads_here) shell fed_bytes
                 out_byte (next_heard k (k + 1))
-                (well_behind m w v ours law by leg dir may (k + 1)) (next_read k (k + 1))
+                (fits (k + 1)) (next_read k (k + 1))
                 (h.outs n) ((story k).outs n) ((flows k).flows.outs n) out_run
                 (out_events v h n leg dir k (here ∙ is) shell up there
                 ∙ ap (λ (bytes : List ℕ). h.outs n ++ moving.Hears leg bytes ∷ [])

@@ -6,6 +6,7 @@ use Rattle.rh_text.specs.declared.ends.Dir.{Dir}
 use Rattle.rh_text.specs.declared.ends.Dir.TheVariants.{U, D}
 use Rattle.rh_line.specs.declared.cause.Cause.{Cause}
 use Rattle.rh_line.specs.declared.leg.Leg.{Leg}
+use Rattle.rh_line.specs.declared.leg.LegKind.TheVariants.{ClientOut}
 use Rattle.rh_record.specs.declared.answer.Who.TheVariants as who
 use Rattle.rh_shell.specs.declared.answers.Refused.{Refused}
 use Rattle.rh_shell.specs.Moves.{EndPassage}
@@ -36,9 +37,10 @@ use Rattle.rh_reading.specs.Reading.{all_read_of}
 use Rattle.rh_traced.specs.Cookies.{ByChanges}
 use Rattle.rh_traced.specs.Ours.{AreOurs, deeds, rules}
 use Rattle.rh_fifo.specs.Flows.{numbers_of}
+use Rattle.rh_honest.specs.Honest.{well_on}
 use Rattle.rh_honest.proofs.Closing.{IsOfPiece, by_fed}
 use Rattle.rh_honest.proofs.Fed.{told_what, told_who}
-use Rattle.rh_hops.proofs.Moment.{Laws}
+use Rattle.rh_hops.proofs.Moment.{Laws, well_behind}
 use Rattle.rh_hops.proofs.Stopping.{Readings}
 use Rattle.rh_client_hops.proofs.Joined.{Reads}
 use Rattle.rh_moments.specs.Expecting.{Expects, HasNoPingFirst, IsAmiss}
@@ -103,7 +105,8 @@ module _ {K : Type 0} (roles : RolesKnow) (nodes : NodesLaws) (reads : Reads) (r
       out_at D count node up there may here closes = absurd cc
       out_at U count node up there may here closes =
           let was = out_amiss roles reads readings m w v ours law (AtEnds ours) flow by (co n) U
-          (λ j. may) r amiss (λ e. refl) why tells count (who.Out k) here nodes.outs k refl node up
+          (λ j. may) r amiss (well_on ClientOut U) (λ e. refl)
+          (well_behind m w v ours law by (co n) U (λ j. may)) why tells count (who.Out k) here nodes.outs k refl node up
           there closes in
           let then_flowing = flowing reads readings m w v ours law (AtEnds ours) flow by (co n) U
           (λ j. may) was.count_then in

@@ -49,10 +49,11 @@ use Rattle.rh_traced.specs.Ours.{AreOurs, deeds, rules}
 use Rattle.rh_ordered.specs.Premises.{history_at}
 use Rattle.rh_fifo.specs.Flows.{IsFlowing, numbers_of}
 use Rattle.rh_causes.specs.Reasons.{ComesAmiss}
+use Rattle.rh_honest.specs.Honest.{well_on}
 use Rattle.rh_honest.proofs.Closing.{EachComes, IsOfPiece, by_fed}
 use Rattle.rh_honest.proofs.Fed.{told_what, told_who}
 use Rattle.rh_hops.specs.Hops.{is_leg, os_leg}
-use Rattle.rh_hops.proofs.Moment.{Laws, NodeLaws, known}
+use Rattle.rh_hops.proofs.Moment.{Laws, NodeLaws, known, well_behind}
 use Rattle.rh_hops.proofs.Stopping.{Readings}
 use Rattle.rh_client_hops.proofs.Joined.{Reads}
 use Rattle.rh_moments.specs.Expecting.{Expects, HasNoPingFirst, IsAmiss}
@@ -182,7 +183,8 @@ module _ {K : Type 0} (roles : RolesKnow) (nodes : NodesLaws) (reads : Reads) (r
       in_at_client expects n D count node up there may here closes = absurd cc
       in_at_client expects n U count node up there may here closes =
           let next = in_next roles reads readings m w v ours law (AtMoment Fits Holds ours) flow by
-          (ci n) U (λ j. may) r amiss (λ e. refl) why tells count (who.In k) here nodes.ins k refl
+          (ci n) U (λ j. may) r amiss (well_on ClientIn U) (λ e. refl)
+          (well_behind m w v ours law by (ci n) U (λ j. may)) why tells count (who.In k) here nodes.ins k refl
           node up there closes in
           let flowed = then_flows (ci n) U may next.0 in
           let moves : Moves = moves_of flowed in
@@ -204,7 +206,8 @@ module _ {K : Type 0} (roles : RolesKnow) (nodes : NodesLaws) (reads : Reads) (r
       in_at_server expects n U count node up there may here closes = absurd cc
       in_at_server expects n D count node up there may here closes =
           let next = in_next roles reads readings m w v ours law (AtMoment Fits Holds ours) flow by
-          (is_leg n) D (λ j. may) r amiss (λ e. refl) why tells count (who.In k) here nodes.ins
+          (is_leg n) D (λ j. may) r amiss (well_on InServer D) (λ e. refl)
+          (well_behind m w v ours law by (is_leg n) D (λ j. may)) why tells count (who.In k) here nodes.ins
           k refl node up there closes in
           let flowed = then_flows (is_leg n) D may next.0 in
           let moves : Moves = moves_of flowed in
@@ -288,7 +291,8 @@ module _ {K : Type 0} (roles : RolesKnow) (nodes : NodesLaws) (reads : Reads) (r
       out_at_client expects n D count node up there may here closes = absurd cc
       out_at_client expects n U count node up there may here closes =
           let next = out_next roles reads readings m w v ours law (AtMoment Fits Holds ours) flow by
-          (co n) U (λ j. may) r amiss (λ e. refl) why tells count (who.Out k) here nodes.outs k
+          (co n) U (λ j. may) r amiss (well_on ClientOut U) (λ e. refl)
+          (well_behind m w v ours law by (co n) U (λ j. may)) why tells count (who.Out k) here nodes.outs k
           refl node up there closes in
           let flowed = then_flows (co n) U may next.0 in
           let moves : Moves = moves_of flowed in
@@ -311,7 +315,8 @@ module _ {K : Type 0} (roles : RolesKnow) (nodes : NodesLaws) (reads : Reads) (r
       out_at_server expects n U count node up there may here closes = absurd cc
       out_at_server expects n D count node up there may here closes =
           let next = out_next roles reads readings m w v ours law (AtMoment Fits Holds ours) flow by
-          (os_leg n) D (λ j. may) r amiss (λ e. refl) why tells count (who.Out k) here nodes.outs
+          (os_leg n) D (λ j. may) r amiss (well_on OutServer D) (λ e. refl)
+          (well_behind m w v ours law by (os_leg n) D (λ j. may)) why tells count (who.Out k) here nodes.outs
           k refl node up there closes in
           let flowed = then_flows (os_leg n) D may next.0 in
           let moves : Moves = moves_of flowed in
@@ -392,7 +397,8 @@ module _ {K : Type 0} (roles : RolesKnow) (nodes : NodesLaws) (reads : Reads) (r
     server_at_in expects n D count may here closes = absurd cc
     server_at_in expects n U count may here closes =
         let next = server_next roles reads readings m w v ours law (AtMoment Fits Holds ours) flow
-        by (is_leg n) U (λ j. may) r amiss (λ e. refl) why tells count who.Server here nodes.server
+        by (is_leg n) U (λ j. may) r amiss (well_on InServer U) (λ e. refl)
+        (well_behind m w v ours law by (is_leg n) U (λ j. may)) why tells count who.Server here nodes.server
         refl closes in
         let flowed = then_flows (is_leg n) U may next.0 in
         let moves : Moves = moves_of flowed in
@@ -414,7 +420,8 @@ module _ {K : Type 0} (roles : RolesKnow) (nodes : NodesLaws) (reads : Reads) (r
     server_at_out expects n D count may here closes = absurd cc
     server_at_out expects n U count may here closes =
         let next = server_next roles reads readings m w v ours law (AtMoment Fits Holds ours) flow
-        by (os_leg n) U (λ j. may) r amiss (λ e. refl) why tells count who.Server here nodes.server
+        by (os_leg n) U (λ j. may) r amiss (well_on OutServer U) (λ e. refl)
+        (well_behind m w v ours law by (os_leg n) U (λ j. may)) why tells count who.Server here nodes.server
         refl closes in
         let flowed = then_flows (os_leg n) U may next.0 in
         let moves : Moves = moves_of flowed in

@@ -34,9 +34,10 @@ use Rattle.rh_history.specs.Closes.{ClosesNode}
 use Rattle.rh_traced.specs.Cookies.{ByChanges}
 use Rattle.rh_traced.specs.Ours.{AreOurs, deeds, rules}
 use Rattle.rh_fifo.specs.Flows.{numbers_of}
+use Rattle.rh_honest.specs.Honest.{well_on}
 use Rattle.rh_honest.proofs.Closing.{EachComes, by_fed}
 use Rattle.rh_honest.proofs.Fed.{told_what, told_who}
-use Rattle.rh_hops.proofs.Moment.{Laws, NodeLaws}
+use Rattle.rh_hops.proofs.Moment.{Laws, NodeLaws, well_behind}
 use Rattle.rh_hops.proofs.Stopping.{Readings}
 use Rattle.rh_client_hops.proofs.Joined.{Reads}
 use Rattle.rh_amiss.specs.Amiss.{RefusesBy}
@@ -109,7 +110,8 @@ module _ {K : Type 0} (laws : ClientLaws) (reads : Reads) (readings : Readings)
         (company.tell rules v.company who.Client e).1 ≡ Some why) (sym (told_what _ _ _ _ is.told))
         is.closes in
         let was = client_then reads readings m w v ours law any flow by leg dir (λ k. may)
-        (mismatch expected got) (λ e. absurd cc) why refl count who.Client here laws.node refl
+        (mismatch expected got) (well_on leg.kind dir) (λ e. absurd cc)
+        (well_behind m w v ours law by leg dir (λ k. may)) why refl count who.Client here laws.node refl
         closes in
         let f = (flows reads readings m w v ours law any flow by leg dir (λ k. may)
         was.0).flows.client in

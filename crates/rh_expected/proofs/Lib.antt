@@ -4,3 +4,4 @@ pub mod Facts
 pub mod Zeros
 pub mod Recorded
 pub mod AtClients
+pub mod OwnClient

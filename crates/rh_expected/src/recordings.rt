@@ -25,7 +25,7 @@ use crate::roles::{
     no_in_proxy_refuses_what_comes, no_out_proxy_refuses_its_server,
     no_server_refuses_its_out_proxies,
 };
-use crate::worlds::a_client_refuses_no_cookie;
+use crate::worlds::{a_client_refuses_no_cookie, no_client_refuses_what_comes};
 use rh_closes::each_close_of_a_recording_shows;
 use rh_cookies::cookies_of_a_recording_are_left;
 use rh_world::WorldConfig as Config;
@@ -39,6 +39,22 @@ pub fn a_client_of_a_recording_refuses_no_cookie()
 {
     each_close_of_a_recording_shows();
     a_client_refuses_no_cookie::<Config>();
+}
+
+/// Nor of one that closed so, or with `Unexpected`, for what an out proxy put (MS-RPCH 3.2.2.5;
+/// successors are this profile's).
+pub fn no_client_of_a_recording_refuses_what_comes()
+    ensures unexpected { (before : List Line) (line : Line) (n place : ℕ)
+        → IsOneOf (NodeClosed AtClient (Unexpected (co n) place))
+        (step (after Before before) line).1 → ⊥ }
+    ensures cookie { (before : List Line) (line : Line) (n : ℕ) (expected got : Cookie)
+        → IsOneOf (NodeClosed AtClient (CookieMismatch (co n) expected got))
+        (step (after Before before) line).1 → ⊥ }
+{
+    cookies_of_a_recording_are_left();
+    each_close_of_a_recording_shows();
+    a_client_of_a_recording_refuses_no_cookie();
+    no_client_refuses_what_comes::<Config>();
 }
 
 /// In no recording does a report tell of an in proxy that closed with `Unexpected` or
