@@ -8,10 +8,10 @@ use Rattle.rh_line.specs.declared.leg.Leg.{Leg}
 use Rattle.rh_shell.specs.NearEnds.{NearEnd, is_empty, is_over}
 use Rattle.rh_shell.specs.Rules.{Rules, Message, put_into, spell}
 use Rattle.rh_shell.specs.Drawing.{Drawn, drawn, put_on, filled, left_by, next_byte, draw}
-use Rattle.rh_shell.specs.Moves.{Passage, OnLeg, IsDrawn, Puts, put_by, moved}
+use Rattle.rh_shell.specs.Moves.{Move, Passage, OnLeg, IsDrawn, Puts, put_by, moved}
 use Rattle.rh_shell.specs.Carrying.{on_leg, spelled}
 use Rattle.rh_streams.proofs.Hears.{in_use, on_leg_append}
-use Rattle.rh_streams.proofs.Staging.{LeavesStages, anything, leaves_none, leaves_then}
+use Rattle.rh_streams.proofs.Staging.{LeavesStages, is_reached, leaves_none, leaves_then}
 use Rattle.rh_streams.proofs.Ways.{Way, nowhere, way_none, way_one, way_then}
 
 -- what an end keeps while bytes are drawn
@@ -31,6 +31,10 @@ beside_itself a = record {
   count = refl;
 }
 
+-- moves that are in their turn where the leg came up, and leave what comes next
+abbrev pub Leaves : {S : Type 0} → Rules S → Passage S → Leg → List Move → Type 0
+Leaves rules p leg moves = LeavesStages rules (is_reached leg) (Unit {0}) p moves
+
 -- moves put these messages on the leg, and take none
 pub record Drew {S : Type 0} (rules : Rules S) (p : Passage S) (end : NearEnd) (d : Drawn S)
     : Type 0 where
@@ -42,7 +46,7 @@ pub record Drew {S : Type 0} (rules : Rules S) (p : Passage S) (end : NearEnd) (
   pub came : passage.came ≡ p.came
   pub spells : end.begun ++ spelled messages ≡ d.bytes ++ d.end.begun
   pub beside : IsBeside end d.end
-  pub leaves : LeavesStages rules anything p way.moves
+  pub leaves : Leaves rules p end.leg way.moves
 
 empty_is : (xs : List ℕ) → is_empty xs ≡ true → xs ≡ []
 empty_is [] h = refl
@@ -57,7 +61,7 @@ module _ {S : Type 0} (rules : Rules S) where
   -- nothing is put
   drew_none : (p q : Passage S) (end : NearEnd) (d : Drawn S)
       → (way : Way rules nowhere nowhere p q)
-      → LeavesStages rules anything p way.moves → q.role ≡ d.role → q.put ≡ p.put
+      → Leaves rules p end.leg way.moves → q.role ≡ d.role → q.put ≡ p.put
       → q.came ≡ p.came → end.begun ≡ d.bytes ++ d.end.begun
       → IsBeside end d.end → Drew rules p end d
   drew_none p q end d way leaves is put came same beside = record {
@@ -75,13 +79,13 @@ module _ {S : Type 0} (rules : Rules S) where
   drew_self : (p : Passage S) (end : NearEnd) → Drew rules p end (drawn end p.role [])
   drew_self p end =
       drew_none p p end (drawn end p.role []) (way_none rules nowhere p)
-      (leaves_none rules anything p) refl refl refl
+      (leaves_none rules (is_reached end.leg) (Unit {0}) p) refl refl refl
       refl (beside_itself end)
 
   -- a message that is put where the last one is drawn to its end, or none
   put_drew : (now : ℕ) (p : Passage S) (end : NearEnd) (o : Option (S × Message))
       → (way : Way rules nowhere nowhere p (put_by p end.leg o))
-      → LeavesStages rules anything p way.moves → end.begun ≡ []
+      → Leaves rules p end.leg way.moves → end.begun ≡ []
       → Drew rules p end (put_on now end (put_into p.role o))
   put_drew now p end None way leaves empty = drew_self p end
   put_drew now p end (Some put) way leaves empty = by (spell put.1) refl
@@ -131,7 +135,7 @@ module _ {S : Type 0} (rules : Rules S) where
           (way_one rules nowhere nowhere p (Puts end.leg) (in_use rules end p.role two.1)
           (λ leg. λ h. refl) (λ leg. refl))
           (record {
-            in_turn = λ g. λ a. (tt, tt);
+            in_turn = λ g. λ up. (up, tt);
             stays = λ g. refl;
             counted = λ a. (tt, tt);
           })
@@ -171,8 +175,10 @@ module _ {S : Type 0} (rules : Rules S) where
       count = next.beside.count ∙ first.beside.count;
     };
     leaves =
-        leaves_then rules anything p first.passage first.way.moves next.way.moves
-        first.way.reached first.leaves next.leaves;
+        leaves_then rules (is_reached end.leg) (Unit {0}) p first.passage first.way.moves
+        next.way.moves first.way.reached first.leaves
+        (subst (λ (l : Leg). Leaves rules first.passage l next.way.moves) first.beside.leg
+        next.leaves);
   }
 
   -- one byte goes of the message that is begun
@@ -190,7 +196,7 @@ module _ {S : Type 0} (rules : Rules S) where
       }) refl refl refl is
       (record { leg = refl; pipe = refl; intake = refl; standing = refl; count = refl })
   drew_byte p end b (c ∷ cs) is =
-      drew_none p p end _ (way_none rules nowhere p) (leaves_none rules anything p)
+      drew_none p p end _ (way_none rules nowhere p) (leaves_none rules (is_reached end.leg) (Unit {0}) p)
       refl refl refl is
       (record { leg = refl; pipe = refl; intake = refl; standing = refl; count = refl })
 

@@ -1,6 +1,6 @@
 -- what an event at a node is to each leg
 use Rattle.std.proofs.Common.{◌≡◌, ℕ, List, [], ◌∷◌, length, take, drop, cond, Bool, true, false, Some, None, refl, sym, ap, ◌∙◌, subst}
-use Rattle.std.specs.Prelude.{All, ◌&&◌, ◌||◌, not, nat_le}
+use Rattle.std.specs.Prelude.{All, ◌&&◌, ◌||◌, is_some, not, nat_le}
 use Rattle.std.specs.List.{AllByRecursion, list_any}
 use Rattle.std.specs.declared.option.Option.{Option}
 use Rattle.std.proofs.lemmas.List.{take-append-drop}
@@ -36,7 +36,7 @@ use Rattle.rh_streams.proofs.Pings.{pings}
 use Rattle.rh_streams.proofs.Pieces.{piece_heard}
 use Rattle.rh_streams.specs.Streams.{is_up_on}
 use Rattle.rh_streams.specs.Turns.{Stages, AreInTurnFrom}
-use Rattle.rh_streams.proofs.Staging.{IsNext, LeavesStages, all_stages, anything, leaves_none, next_itself, stage_none, stage_other}
+use Rattle.rh_streams.proofs.Staging.{IsNext, LeavesStages, all_stages, anything, leaves_none, next_itself, reached_stays, stage_none, stage_other}
 use Rattle.rh_streams.proofs.Seats.{StopKeeps, at_work, on_answers, on_left, on_stopped, staged_on, beside_seat, here_seat, left_as, left_of, left_self, marked_left, seat, seated_held, silent_closed, silent_none, stop_here, stop_keeps, stop_there, was_seat}
 use Rattle.rh_streams.proofs.Turns as turns
 use Rattle.rh_streams.proofs.Turns.{Nowhere, Sits, Answers, IsOn, IsStaged, IsLeft, IsQuiet, IsSilent, Turns, Passes, Tells, Comes, Fails, more_there, seat_by}
@@ -96,7 +96,7 @@ module _ {S : Type 0} (rules : Rules S) (pipes : Leg → Option Pipe) (rose : Le
     -- nothing is logged, and no head comes
     quiet_steps : (q : Passage S) (t : Shell S) (bytes out : Leg → List ℕ)
         → (way : Way rules nowhere nowhere p q)
-        → LeavesStages rules anything p way.moves → q.role ≡ t.role → q.came ≡ p.came
+        → LeavesStages rules anything (Unit {0}) p way.moves → q.role ≡ t.role → q.came ≡ p.came
         → q.put ≡ p.put → AreHeld t → AreApart t.legs
         → ((leg : Leg) → IsLeft (seat leg s) (seat leg t))
         → ((leg : Leg) → IsSilent (bytes leg) (seat leg t)) → ((leg : Leg) → out leg ≡ [])
@@ -126,7 +126,7 @@ module _ {S : Type 0} (rules : Rules S) (pipes : Leg → Option Pipe) (rose : Le
             (rose leg) (ap (λ (f : Stages). f leg) (leaves.stays g))
             (on_left (g leg) (seat leg s) (seat leg t) (left leg)) (all leg),
       );
-      counted = λ all. leaves.counted (λ g. tt);
+      counted = λ all. leaves.counted tt;
     }
 
     -- the node is as it was
@@ -135,7 +135,7 @@ module _ {S : Type 0} (rules : Rules S) (pipes : Leg → Option Pipe) (rose : Le
         → Steps p s s nowhere (Unit {0}) bytes out (λ leg. rose leg || false)
     none bytes out silent dry =
         quiet_steps p s bytes out (way_none rules nowhere p)
-        (leaves_none rules anything p) is refl refl held apart
+        (leaves_none rules anything (Unit {0}) p) is refl refl held apart
         (λ leg. left_self (seat leg s)) silent dry
 
     abbrev Calm : Shell S → Type 0
@@ -143,7 +143,7 @@ module _ {S : Type 0} (rules : Rules S) (pipes : Leg → Option Pipe) (rose : Le
         Steps p s t nowhere (Unit {0}) (λ leg. []) (λ leg. []) (λ leg. rose leg || false)
 
     calm : (q : Passage S) (t : Shell S) → (way : Way rules nowhere nowhere p q)
-        → LeavesStages rules anything p way.moves → q.role ≡ t.role
+        → LeavesStages rules anything (Unit {0}) p way.moves → q.role ≡ t.role
         → q.came ≡ p.came → q.put ≡ p.put → AreHeld t → AreApart t.legs
         → ((leg : Leg) → IsLeft (seat leg s) (seat leg t)) → Calm t
     calm q t way leaves role came put held_t apart_t left =
@@ -156,14 +156,14 @@ module _ {S : Type 0} (rules : Rules S) (pipes : Leg → Option Pipe) (rose : Le
 
     closes : (why : Cause) → Calm (close s why)
     closes why =
-        calm p (close s why) (way_none rules nowhere p) (leaves_none rules anything p) is refl
+        calm p (close s why) (way_none rules nowhere p) (leaves_none rules anything (Unit {0}) p) is refl
         refl held apart (λ leg. tt)
 
     -- ---- a leg is lost
 
     marks : (k : Leg) (end : NearEnd) (q : Passage S) (role : S) → end_of k s.legs ≡ Some end
         → s.course ≡ Going → (way : Way rules nowhere nowhere p q)
-        → LeavesStages rules anything p way.moves → q.role ≡ role → q.came ≡ p.came
+        → LeavesStages rules anything (Unit {0}) p way.moves → q.role ≡ role → q.came ≡ p.came
         → q.put ≡ p.put → Calm (with_end s k (marked end) role)
     marks k end q role at going way leaves same came put =
         calm q (with_end s k (marked end) role) way leaves same came put
@@ -208,7 +208,7 @@ module _ {S : Type 0} (rules : Rules S) (pipes : Leg → Option Pipe) (rose : Le
             (with_end s k (marked end) (rules.mark s.role k)) (close s why)))
         by_phase true e =
             marks k end p s.role at going (way_none rules nowhere p)
-            (leaves_none rules anything p) is refl refl
+            (leaves_none rules anything (Unit {0}) p) is refl refl
         by_phase false e = by_marks (rules.only_marks s.role k) refl (ap not e)
 
         by_finished : (t : Bool) → Calm (cond t s (lose rules s k end why))
@@ -383,10 +383,10 @@ module _ {S : Type 0} (rules : Rules S) (pipes : Leg → Option Pipe) (rose : Le
         next : (g : Stages) → ((leg : Leg) → IsStaged (g leg) (seat leg s) (rose leg))
             → IsNext (g end.leg) end.intake.stage
         next g all =
-            subst (IsOn (g end.leg))
+            (subst (IsOn (g end.leg))
             (was_seat s k end.leg end at
             (ap (same_leg k) on_leg ∙ same_itself k) going)
-            (all end.leg).on
+            (all end.leg).on).0
 
         next_by : (g : Stages) (leg : Leg) → AreInTurnFrom rules p g h.way.moves
             → (is_stopped t.stop ≡ false
@@ -402,7 +402,9 @@ module _ {S : Type 0} (rules : Rules S) (pipes : Leg → Option Pipe) (rose : Le
               (on_stopped (all_stages rules p g h.way.moves leg) t.end t.stop
               (λ go.
               subst (λ (l : Leg). IsNext (all_stages rules p g h.way.moves l) t.end.intake.stage)
-              (on_leg ∙ leg_is k leg e) (now go)));
+              (on_leg ∙ leg_is k leg e) (now go))
+              (reached_stays rules p g leg h.way.moves
+              (subst (IsOn (g leg)) (was_seat s k leg end at e going) was.on).1));
           none = λ down.
               stage_none rules p g leg h.way.moves turn (h.way.raised leg)
               (was.none (sym (or_false (rose leg)) ∙ down));
@@ -494,14 +496,14 @@ module _ {S : Type 0} (rules : Rules S) (pipes : Leg → Option Pipe) (rose : Le
       lifted = λ has. no_lifts With w.way.moves w.way.raised;
       turned = λ leg. by leg (same_leg k leg) refl;
       staged = λ g. λ all. (
-        w.leaves.in_turn g tt,
+        w.leaves.in_turn g (reached g all),
         λ leg.
             staged_on (g leg) (all_stages rules p g w.way.moves leg) (seat leg s)
             (seat leg (with_end s k d.end d.role)) (rose leg)
             (ap (λ (f : Stages). f leg) (w.leaves.stays g))
             (next_by (g leg) leg (same_leg k leg) refl) (all leg),
       );
-      counted = λ all. w.leaves.counted (λ g. tt);
+      counted = λ all. w.leaves.counted tt;
     }
       where
         d : Drawn S
@@ -518,12 +520,21 @@ module _ {S : Type 0} (rules : Rules S) (pipes : Leg → Option Pipe) (rose : Le
         on_leg : end.leg ≡ k
         on_leg = leg_is end.leg k (end_leg k s.legs end at)
 
+        -- the leg came up, since its end stands there
+        reached : (g : Stages) → ((leg : Leg) → IsStaged (g leg) (seat leg s) (rose leg))
+            → is_some (g end.leg) ≡ true
+        reached g all =
+            (subst (IsOn (g end.leg))
+            (was_seat s k end.leg end at
+            (ap (same_leg k) on_leg ∙ same_itself k) going)
+            (all end.leg).on).1
+
         next_by : (next : Option Stage) (leg : Leg) (b : Bool) → same_leg k leg ≡ b
             → IsOn next (seat leg s) → IsOn next (seat leg (with_end s k d.end d.role))
         next_by next leg true e on =
             subst (IsOn next) (sym (here_seat s k leg end d.end d.role at w.beside.leg e going))
-            (subst (λ (i : Intake). IsNext next i.stage) (sym w.beside.intake)
-            (subst (IsOn next) (was_seat s k leg end at e going) on))
+            (subst (λ (i : Intake). IsNext next i.stage × (is_some next ≡ true))
+            (sym w.beside.intake) (subst (IsOn next) (was_seat s k leg end at e going) on))
         next_by next leg false e on =
             subst (IsOn next) (sym (beside_seat s k leg end d.end d.role at w.beside.leg e)) on
 
@@ -721,7 +732,7 @@ module _ {S : Type 0} (rules : Rules S) (pipes : Leg → Option Pipe) (rose : Le
         next_by next leg was true e = record {
           on =
               subst (IsOn (Some (first_stage (rules.pipe p.role k))))
-              (sym (here leg (leg_is k leg e))) (begins leg (leg_is k leg e));
+              (sym (here leg (leg_is k leg e))) (begins leg (leg_is k leg e), refl);
           none = λ f. absurd (let bad : true ≡ false = sym (raised (rose leg)) ∙ f in cc);
         }
         next_by next leg was false e =
@@ -759,7 +770,7 @@ module _ {S : Type 0} (rules : Rules S) (pipes : Leg → Option Pipe) (rose : Le
           → Calm p s is held apart (passed_by rules (record s { now = now }) o)
       by_silent (Some silent) =
           calm p s is held apart p (passed_by rules (record s { now = now }) (Some silent))
-          (way_none rules nowhere p) (leaves_none rules anything p) is refl refl held apart
+          (way_none rules nowhere p) (leaves_none rules anything (Unit {0}) p) is refl refl held apart
           (λ leg. tt)
       by_silent None =
           let all = pings rules now s.legs p s.role is in

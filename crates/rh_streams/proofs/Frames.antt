@@ -41,7 +41,7 @@ module _ {S : Type 0} (rules : Rules S) (heads : Leg → Bool) (p : Passage S) (
     pub role : passage.role ≡ x.0
     pub put : passage.put ≡ p.put
     pub came : passage.came ≡ p.came ++ on_leg at.leg (logged (message_in at.pipe frame) x.1)
-    pub leaves : LeavesStages rules framed p way.moves
+    pub leaves : LeavesStages rules framed ⊥ p way.moves
     pub counted : TellsOn p at.leg at.count
         → AreCounted rules p way.moves × ToldBy (of_leg at.leg passage.came) x.1
 
@@ -56,7 +56,7 @@ module _ {S : Type 0} (rules : Rules S) (heads : Leg → Bool) (p : Passage S) (
     role = refl;
     put = refl;
     came = rw none (sym (append-nil p.came));
-    leaves = leaves_none rules framed p;
+    leaves = leaves_none rules framed ⊥ p;
     counted = λ h. (tt, counts h);
   }
 
@@ -68,7 +68,7 @@ module _ {S : Type 0} (rules : Rules S) (heads : Leg → Bool) (p : Passage S) (
   -- a row takes the message, or refuses it
   row_is : (frame : List ℕ) (message : Message) (next : Count) (x : S × Row)
       → (way : Way rules heads nowhere p (taken_by p at.leg message x))
-      → LeavesStages rules framed p way.moves → message_in at.pipe frame ≡ message ∷ []
+      → LeavesStages rules framed ⊥ p way.moves → message_in at.pipe frame ≡ message ∷ []
       → (TellsOn p at.leg at.count → AreCounted rules p way.moves
       × Tells next (packets (of_leg at.leg (p.came ++ (at.leg, message) ∷ []))))
       → FrameIs frame (close_row at next x)
@@ -94,11 +94,11 @@ module _ {S : Type 0} (rules : Rules S) (heads : Leg → Bool) (p : Passage S) (
   -- a frame comes where frames do
   leaves_frame : (move : Move) → ((g : Stages) → framed g → AreInTurnFrom rules p g (move ∷ []))
       → ((g : Stages) → all_stages rules p g (move ∷ []) ≡ g)
-      → LeavesStages rules framed p (move ∷ [])
+      → LeavesStages rules framed ⊥ p (move ∷ [])
   leaves_frame move in_turn stays = record {
     in_turn = in_turn;
     stays = stays;
-    counted = λ all. absurd (let bad : false ≡ true = all none_up in cc);
+    counted = λ none. absurd none;
   }
 
   named_is : (frame : List ℕ) (named : Named) (t : Bool)

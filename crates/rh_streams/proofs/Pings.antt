@@ -19,7 +19,7 @@ module _ {S : Type 0} (rules : Rules S) where
     pub role_is : passage.role ≡ role
     pub came : passage.came ≡ p.came
     pub put : passage.put ≡ p.put
-    pub leaves : LeavesStages rules anything p way.moves
+    pub leaves : LeavesStages rules anything (Unit {0}) p way.moves
 
   -- where nothing moves
   stands : (p : Passage S) (role : S) → p.role ≡ role → Reaches p role
@@ -29,7 +29,7 @@ module _ {S : Type 0} (rules : Rules S) where
     role_is = is;
     came = refl;
     put = refl;
-    leaves = leaves_none rules anything p;
+    leaves = leaves_none rules anything (Unit {0}) p;
   }
 
   ping_one : (p : Passage S) (role : S) (k : Leg) (t : Bool) → p.role ≡ role
@@ -75,6 +75,6 @@ module _ {S : Type 0} (rules : Rules S) where
         came = rest.came ∙ one.came;
         put = rest.put ∙ one.put;
         leaves =
-            leaves_then rules anything p one.passage one.way.moves rest.way.moves
+            leaves_then rules anything (Unit {0}) p one.passage one.way.moves rest.way.moves
             one.way.reached one.leaves rest.leaves;
       }

@@ -1,6 +1,6 @@
 -- what a node has of a leg, as its ends and its course change
 use Rattle.std.proofs.Common.{◌≡◌, ℕ, List, [], ◌∷◌, ◌++◌, length, cond, Bool, true, false, ◌||◌, Some, None, refl, sym, ap, ◌∙◌, subst}
-use Rattle.std.specs.Prelude.{All, slice_set, not, nat_lt}
+use Rattle.std.specs.Prelude.{All, slice_set, not, nat_lt, is_some}
 use Rattle.std.specs.declared.option.Option.{Option}
 use Rattle.std.proofs.lemmas.List.Elements.{All-set, All-push}
 use Rattle.rh_http.specs.Texts.{refusal_text}
@@ -95,7 +95,7 @@ marked_left end x e = record { before = end; seat = e; still = marked_still end 
 pub on_left : (next : Option Stage) (x y : Seat) → IsLeft x y → IsOn next x → IsOn next y
 on_left next x Nowhere left on = tt
 on_left next x (Sits end) left on =
-    subst (λ (i : Intake). IsNext next i.stage) (sym left.still.intake)
+    subst (λ (i : Intake). IsNext next i.stage × (is_some next ≡ true)) (sym left.still.intake)
     (subst (IsOn next) left.seat on)
 on_left next x (Answers rest) left on = tt
 
@@ -106,9 +106,10 @@ on_answers next true rest = tt
 on_answers next false rest = tt
 
 pub on_stopped : (next : Option Stage) (end : NearEnd) (o : Option Stop)
-    → (is_stopped o ≡ false → IsNext next end.intake.stage) → IsOn next (seat_stopped end o)
-on_stopped next end None on = on refl
-on_stopped next end (Some why) on = by why.refusal
+    → (is_stopped o ≡ false → IsNext next end.intake.stage) → is_some next ≡ true
+    → IsOn next (seat_stopped end o)
+on_stopped next end None on up = (on refl, up)
+on_stopped next end (Some why) on up = by why.refusal
   where
     by : (r : Option Refusal) → IsOn next (seat_refused r)
     by None = tt

@@ -1,5 +1,6 @@
 -- what comes next on each leg behind moves
 use Rattle.std.proofs.Common.{◌≡◌, ◌++◌, append_assoc, List, [], ◌∷◌, cond, Bool, true, false, Some, None, refl, sym, ap, ◌∙◌, subst}
+use Rattle.std.specs.Prelude.{is_some}
 use Rattle.std.specs.List.{list_any}
 use Rattle.std.specs.declared.option.Option.{Option}
 use Rattle.std.proofs.lemmas.List.{append-nil}
@@ -9,6 +10,7 @@ use Rattle.rh_shell.specs.declared.stage.Stage.TheVariants as stage
 use Rattle.rh_shell.specs.Moves.{Move, Up, HeadCame, PduCame, PacketCame, Puts, IsDrawn, Marks, Pings, Passage, MayMove, AreAllowed, moved, all_moved, is_in_use}
 use Rattle.rh_shell.specs.NearEnds.{first_stage}
 use Rattle.rh_shell.specs.Rules.{Rules}
+use Rattle.rh_shell.specs.Shells.{same_leg}
 use Rattle.rh_streams.specs.Streams.{is_up_on}
 use Rattle.rh_streams.specs.Turns.{Stages, AreInTurnFrom, IsInTurn, behind_head, is_head_on, stages_after, takes_frames}
 use Rattle.rh_streams.proofs.Ends.{leg_is}
@@ -42,17 +44,27 @@ next_itself stage.Shut = tt
 abbrev pub anything : Stages → Type 0
 anything g = Unit {0}
 
+-- the leg came up
+abbrev pub is_reached : Leg → Stages → Type 0
+is_reached leg g = is_some (g leg) ≡ true
+
 module _ {S : Type 0} (rules : Rules S) where
-  -- moves in their turn, where so much is known of what comes next, which they leave; where nothing
-  -- need be known no packet comes
-  pub record LeavesStages (asks : Stages → Type 0) (p : Passage S) (moves : List Move) : Type 0
+  -- moves in their turn, where so much is known of what comes next, which they leave; and, where that
+  -- is asked of them, those that come are counted
+  pub record LeavesStages (asks : Stages → Type 0) (Counts : Type 0) (p : Passage S)
+      (moves : List Move) : Type 0
     where
       pub in_turn : (g : Stages) → asks g → AreInTurnFrom rules p g moves
       pub stays : (g : Stages) → all_stages rules p g moves ≡ g
-      pub counted : ((g : Stages) → asks g) → AreCounted rules p moves
+      pub counted : Counts → AreCounted rules p moves
 
-  pub leaves_none : (asks : Stages → Type 0) (p : Passage S) → LeavesStages asks p []
-  leaves_none asks p = record { in_turn = λ g. λ a. tt; stays = λ g. refl; counted = λ a. tt }
+  pub leaves_none : (asks : Stages → Type 0) (Counts : Type 0) (p : Passage S)
+      → LeavesStages asks Counts p []
+  leaves_none asks Counts p = record {
+    in_turn = λ g. λ a. tt;
+    stays = λ g. refl;
+    counted = λ c. tt;
+  }
 
   pub all_stages_append : (p : Passage S) (g : Stages) (ms ns : List Move)
       → all_stages rules p g (ms ++ ns)
@@ -69,10 +81,10 @@ module _ {S : Type 0} (rules : Rules S) where
   in_turn_append p g (m ∷ ms) ns a b =
       (a.0, in_turn_append (moved rules p m) (stages_after rules p.role g m) ms ns a.1 b)
 
-  pub leaves_then : (asks : Stages → Type 0) (p q : Passage S) (ms ns : List Move)
-      → all_moved rules p ms ≡ q → LeavesStages asks p ms → LeavesStages asks q ns
-      → LeavesStages asks p (ms ++ ns)
-  leaves_then asks p q ms ns reached a b = record {
+  pub leaves_then : (asks : Stages → Type 0) (Counts : Type 0) (p q : Passage S) (ms ns : List Move)
+      → all_moved rules p ms ≡ q → LeavesStages asks Counts p ms → LeavesStages asks Counts q ns
+      → LeavesStages asks Counts p (ms ++ ns)
+  leaves_then asks Counts p q ms ns reached a b = record {
     in_turn = λ g. λ h.
         in_turn_append p g ms ns (a.in_turn g h)
         (subst (λ x. AreInTurnFrom rules x (all_stages rules p g ms) ns) (sym reached)
@@ -111,6 +123,35 @@ module _ {S : Type 0} (rules : Rules S) where
       let ups = neither (is_up_on leg m) (list_any (is_up_on leg) ms) upless in
       stage_other (moved rules p m) (stages_after rules p.role g m) leg ms heads.1 ups.1
       ∙ one_other p g leg m heads.0 ups.0
+
+  -- a leg that came up did so behind more moves too
+  reached_after : (p : Passage S) (g : Stages) (leg : Leg) (move : Move) → is_reached leg g
+      → is_reached leg (stages_after rules p.role g move)
+  reached_after p g leg (Up other cookie) up = by (same_leg other leg)
+    where
+      by : (t : Bool) → is_some (cond t (Some (first_stage (rules.pipe p.role other))) (g leg))
+          ≡ true
+      by true = refl
+      by false = up
+  reached_after p g leg (HeadCame other text) up = by (same_leg other leg)
+    where
+      by : (t : Bool)
+          → is_some (cond t (Some (behind_head (rules.head p.role other text).1)) (g leg)) ≡ true
+      by true = refl
+      by false = up
+  reached_after p g leg (PduCame other count pdu) up = up
+  reached_after p g leg (PacketCame other count named) up = up
+  reached_after p g leg (Puts other) up = up
+  reached_after p g leg (IsDrawn other) up = up
+  reached_after p g leg (Marks other) up = up
+  reached_after p g leg (Pings other) up = up
+
+  pub reached_stays : (p : Passage S) (g : Stages) (leg : Leg) (moves : List Move)
+      → is_reached leg g → is_reached leg (all_stages rules p g moves)
+  reached_stays p g leg [] up = up
+  reached_stays p g leg (m ∷ ms) up =
+      reached_stays (moved rules p m) (stages_after rules p.role g m) leg ms
+      (reached_after p g leg m up)
 
   -- nothing comes on a leg that does not come up
   pub stage_none : (p : Passage S) (g : Stages) (leg : Leg) (moves : List Move)

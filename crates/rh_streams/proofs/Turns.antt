@@ -1,5 +1,6 @@
 -- what an event is to a leg
 use Rattle.std.proofs.Common.{◌≡◌, ℕ, List, [], ◌∷◌, ◌++◌, cond, Bool, true, false, Some, None, refl, ap, ◌∙◌}
+use Rattle.std.specs.Prelude.{is_some}
 use Rattle.std.specs.List.{list_any}
 use Rattle.std.specs.declared.option.Option.{Option}
 use Rattle.std.proofs.lemmas.List.{append-nil}
@@ -59,10 +60,10 @@ IsLeft s Nowhere = Unit {0}
 IsLeft s (Sits end) = WasSeated s end
 IsLeft s (Answers rest) = s ≡ Answers rest
 
--- what the end takes next is what comes next on the leg
+-- what the end takes next is what comes next on the leg, which came up
 abbrev pub IsOn : Option Stage → Seat → Type 0
 IsOn next Nowhere = Unit {0}
-IsOn next (Sits end) = IsNext next end.intake.stage
+IsOn next (Sits end) = IsNext next end.intake.stage × (is_some next ≡ true)
 IsOn next (Answers rest) = Unit {0}
 
 -- nothing comes on a leg that did not come up

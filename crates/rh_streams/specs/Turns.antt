@@ -53,13 +53,14 @@ takes_frames (Some stage.Frames) = true
 takes_frames next = false
 
 -- a leg comes up once; one head comes on it, where a head comes first; PDUs and packets come where
--- frames do; and a Ping is due where the role says after which time
+-- frames do; messages are put where it came up; and a Ping is due where the role says after which
+-- time
 abbrev pub IsInTurn : {S : Type 0} → Rules S → S → Stages → Move → Type 0
 IsInTurn rules s stages (Up leg cookie) = stages leg ≡ None
 IsInTurn rules s stages (HeadCame leg text) = stages leg ≡ Some stage.Head
 IsInTurn rules s stages (PduCame leg count pdu) = takes_frames (stages leg) ≡ true
 IsInTurn rules s stages (PacketCame leg count named) = takes_frames (stages leg) ≡ true
-IsInTurn rules s stages (Puts leg) = Unit {0}
+IsInTurn rules s stages (Puts leg) = is_some (stages leg) ≡ true
 IsInTurn rules s stages (IsDrawn leg) = Unit {0}
 IsInTurn rules s stages (Marks leg) = Unit {0}
 IsInTurn rules s stages (Pings leg) = is_some (rules.ping_after s leg) ≡ true
