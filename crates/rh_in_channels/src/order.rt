@@ -1,0 +1,34 @@
+//! In which order a server is told of IN channels, and answers. These functions do nothing: their
+//! contracts are the laws.
+
+ghost use Rattle.std.specs.Prelude.{ℕ};
+ghost use Rattle.rh_moments.specs.Moments.{IsMoment, Moves, Numbers, server_behind};
+ghost use Rattle.rh_in_channels.specs.Announcing.{AnnounceNext, AreAnnounced, AreAnswered};
+
+use rh_client_counts::a_client_replaces_in_channels_one_by_one;
+use rh_rounds::replacements_go_round;
+
+/// At each moment of a virtual connection: the channels that were announced to the server are the
+/// first so many, each on the is leg of the in proxy that reads it, and there in order behind the
+/// one with which the leg began. What stands next on an is leg announces the next channel, and only
+/// behind the answers to all before (successors are this profile's).
+pub fn in_channels_are_announced_in_order()
+    ensures order { (numbers : Numbers) (reader : ℕ → ℕ) (moves : Moves)
+        → IsMoment numbers reader moves
+        → AreAnnounced reader (server_behind numbers moves).passage }
+    ensures next { (numbers : Numbers) (reader : ℕ → ℕ) (moves : Moves)
+        → IsMoment numbers reader moves → AnnounceNext numbers moves }
+{
+    a_client_replaces_in_channels_one_by_one();
+    replacements_go_round();
+}
+
+/// The server answers them in that order: once it put as many answers as channels had been announced
+/// behind a front of its moves, each IN_R1/A2 that had come there has its IN_R1/A3 (successors are
+/// this profile's).
+pub fn in_channels_are_answered_in_order()
+    ensures { (numbers : Numbers) (reader : ℕ → ℕ) (moves : Moves)
+        → IsMoment numbers reader moves → AreAnswered numbers moves.server }
+{
+    replacements_go_round();
+}
