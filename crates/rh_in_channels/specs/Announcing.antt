@@ -1,5 +1,5 @@
 -- the IN channels that a server is told of: the first one by CONN/B2, each other one by IN_R1/A2 on
--- an is leg of its own or by IN_R2/A2 on that of the one before (MS-RPCH 3.2.5.3; successors are this
+-- an is leg of its own or by IN_R2/A2 on that of the one before (MS-RPCH 3.2.5; successors are this
 -- profile's)
 use Rattle.std.specs.Prelude.{ℕ, suc, ◌≡◌, ◌+◌, ◌≤◌, ◌++◌, List}
 use Rattle.rh_rts.specs.declared.command.Cookie.{Cookie}

@@ -1,0 +1,7 @@
+//! What a server expects of the announcements of IN channels. Its function does nothing: its contract
+//! is the law.
+#![tactic(auto)]
+
+pub mod successors;
+
+pub use successors::a_server_expects_successors;

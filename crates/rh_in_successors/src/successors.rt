@@ -1,0 +1,30 @@
+//! A server expects the successors of IN channels that it is told of. This function does nothing: its
+//! contract is the law.
+
+ghost use Rattle.std.specs.Prelude.{ℕ};
+ghost use Rattle.rh_shell.specs.Wires.{of_leg};
+ghost use Rattle.rh_server.specs.Servers.{rules};
+ghost use Rattle.rh_reading.specs.Reading.{all_read_of};
+ghost use Rattle.rh_proxy_counts.specs.InCounts.{is_leg};
+ghost use Rattle.rh_moments.specs.Moments.{IsMoment, Moves, Numbers, in_behind, server_behind};
+ghost use Rattle.rh_server_expects.specs.Expected.{ExpectsThose};
+ghost use Rattle.rh_in_successors.specs.Connected.{AreConnected};
+ghost use Rattle.rh_in_successors.specs.Successors.{Announces};
+
+use rh_in_channels::in_channels_are_announced_in_order;
+use rh_server_in_rows::what_a_server_refuses_of_in_channels;
+
+/// At each moment of a virtual connection whose is legs came up for their in proxies too: of what an
+/// in proxy put a server refuses no IN_R1/A2 and no IN_R2/A2 that comes next as unexpected, or for
+/// its cookie. IN_R1/A2 comes first, with the client's connection and the channel that was announced
+/// last; no is leg below waits for its first packet; and a number is left for each that IN_R2/A2
+/// announces (successors are this profile's).
+pub fn a_server_expects_successors()
+    ensures { (numbers : Numbers) (reader : ℕ → ℕ) (moves : Moves) → IsMoment numbers reader moves
+        → AreConnected moves
+        → (n : ℕ) → ExpectsThose Announces rules (server_behind numbers moves).passage (is_leg n)
+        (all_read_of (of_leg (is_leg n) (in_behind numbers moves n).put)) }
+{
+    in_channels_are_announced_in_order();
+    what_a_server_refuses_of_in_channels();
+}
