@@ -1,12 +1,17 @@
--- the is legs that come up for a server come up for its in proxies (MS-RPCH 3.2.3; profile)
-use Rattle.std.specs.Prelude.{ℕ, ◌≡◌, IsTrue, true}
-use Rattle.std.specs.List.{list_any}
+-- the is legs that come up for a server are those of in proxies that were made for an IN channel of
+-- the client (MS-RPCH 3.2.3; profile)
+use Rattle.std.specs.Prelude.{ℕ, ◌≡◌, ◌≤◌, IsTrue}
+use Rattle.rh_rts.specs.declared.command.Cookie.{Cookie}
+use Rattle.rh_client.specs.State.{ci}
 use Rattle.rh_server.specs.Order.{came_up}
-use Rattle.rh_proxy_counts.specs.InCounts.{is_leg}
-use Rattle.rh_streams.specs.Streams.{is_up_on}
+use Rattle.rh_passages.specs.Rising.{HasComeUp}
 use Rattle.rh_moments.specs.Moments.{Moves}
 
--- each that did for the server did for the proxy of its number
-abbrev pub AreConnected : Moves → Type 0
-AreConnected moves =
-    (n : ℕ) → IsTrue (came_up moves.server n) → list_any (is_up_on (is_leg n)) (moves.ins n) ≡ true
+-- channel n came up at the client, and the in proxy of its number reads it
+pub record IsConnected (reader : ℕ → ℕ) (moves : Moves) (n : ℕ) : Type 0 where
+  pub positive : 1 ≤ n
+  pub read : reader n ≡ n
+  pub opened : (cookie : Cookie) × HasComeUp moves.client (ci n) cookie
+
+abbrev pub AreConnected : (ℕ → ℕ) → Moves → Type 0
+AreConnected reader moves = (n : ℕ) → IsTrue (came_up moves.server n) → IsConnected reader moves n

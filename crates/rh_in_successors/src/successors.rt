@@ -14,14 +14,15 @@ ghost use Rattle.rh_in_successors.specs.Successors.{Announces};
 use rh_in_channels::in_channels_are_announced_in_order;
 use rh_server_in_rows::what_a_server_refuses_of_in_channels;
 
-/// At each moment of a virtual connection whose is legs came up for their in proxies too: of what an
+/// At each moment of a virtual connection at whose server no is legs came up but of in proxies that
+/// were made for a channel of the client: of what an
 /// in proxy put a server refuses no IN_R1/A2 and no IN_R2/A2 that comes next as unexpected, or for
 /// its cookie. IN_R1/A2 comes first, with the client's connection and the channel that was announced
 /// last; no is leg below waits for its first packet; and a number is left for each that IN_R2/A2
 /// announces (successors are this profile's).
 pub fn a_server_expects_successors()
     ensures { (numbers : Numbers) (reader : ℕ → ℕ) (moves : Moves) → IsMoment numbers reader moves
-        → AreConnected moves
+        → AreConnected reader moves
         → (n : ℕ) → ExpectsThose Announces rules (server_behind numbers moves).passage (is_leg n)
         (all_read_of (of_leg (is_leg n) (in_behind numbers moves n).put)) }
 {
