@@ -9,3 +9,4 @@ mod Goes
 mod Behind
 mod Fresh
 mod Laws
+mod Ends
