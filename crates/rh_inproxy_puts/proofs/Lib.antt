@@ -10,3 +10,4 @@ mod Behind
 mod Fresh
 mod Laws
 mod Ends
+mod Asked
