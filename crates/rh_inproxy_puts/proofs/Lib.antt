@@ -11,3 +11,5 @@ mod Fresh
 mod Laws
 mod Ends
 mod Asked
+mod Windows
+mod Sends
