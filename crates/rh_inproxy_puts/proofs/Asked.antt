@@ -1,5 +1,5 @@
 -- an in proxy connects its is leg only behind CONN/B1 or IN_R1/A1 on its lowest ci leg
-use Rattle.std.proofs.Common.{◌≡◌, ◌⊎◌, ℕ, ◌==◌, ◌&&◌, Bool, true, false, true≢false, inl, inr, if◌then◌else◌, List, [], ◌∷◌, ◌++◌, length, Some, None, Ok, Err, refl, sym, ap, ◌∙◌, subst, rules}
+use Rattle.std.proofs.Common.{◌≡◌, ◌⊎◌, ℕ, ◌==◌, Bool, true, false, true≢false, inl, inr, if◌then◌else◌, List, [], ◌∷◌, ◌++◌, length, Some, None, Ok, Err, refl, sym, ap, ◌∙◌, subst, rules}
 use Rattle.std.proofs.lemmas.Bool.{and_parts}
 use Rattle.std.proofs.lemmas.List.{append-nil}
 use Rattle.std.specs.Prelude.{IfSome}
@@ -11,8 +11,6 @@ use Rattle.rh_window.specs.declared.recv_window.Ack.{Ack}
 use Rattle.rh_window.specs.Sending.{may_send}
 use Rattle.rh_line.specs.Lines as line
 use Rattle.rh_line.specs.declared.leg.Leg.{Leg}
-use Rattle.rh_line.specs.declared.leg.LegKind.{LegKind}
-use Rattle.rh_line.specs.declared.leg.LegKind.TheVariants.{ClientOut, OutServer, ClientIn, InServer}
 use Rattle.rh_line.specs.declared.which.Which.{Which}
 use Rattle.rh_line.specs.declared.which.Which.TheVariants.{Current, Next}
 use Rattle.rh_order.proofs.ByNumber.{by_test, same_number}
@@ -31,24 +29,25 @@ use Rattle.rh_inproxy.specs.declared.state.Joining.TheVariants.{TellsServer, Tol
 use Rattle.rh_inproxy.specs.declared.state.Successor.{Successor}
 use Rattle.rh_inproxy.specs.declared.state.Successor.TheVariants.{Absent, Up, Joined}
 use Rattle.rh_inproxy.specs.declared.state.ClientLeg.{ClientLeg}
-use Rattle.rh_inproxy.specs.Acknowledging.{on_ack_to, ack_due, ack_by, current_ack, next_ack, put_acks}
-use Rattle.rh_inproxy.specs.Answers.{Done, Pick, or_else, unexpected}
-use Rattle.rh_inproxy.specs.Ending.{mark, on_end_a1, put_end, settled, settled_pick}
-use Rattle.rh_inproxy.specs.InReplacement.{on_in_r1_a1, on_in_r1_a5, on_later_in_r1_a1, told_by, put_in_r2_a2, put_in_r1_a6, one_less}
-use Rattle.rh_inproxy.specs.Opening.{up, may_accept, accepts, accepted, wants, connected, head, drawn, is_absent, is_first, awaits_packet, has_server, first_by, put_first, put_echo, on_conn_b1, on_first_in_r1_a1, opened, opener, opener_of, kept_for}
+use Rattle.rh_inproxy.specs.Acknowledging.{on_ack_to, ack_due, ack_by, current_ack, next_ack}
+use Rattle.rh_inproxy.specs.Answers.{Done, Pick, unexpected}
+use Rattle.rh_inproxy.specs.Ending.{mark, on_end_a1, put_end, settled}
+use Rattle.rh_inproxy.specs.InReplacement.{on_in_r1_a5, on_later_in_r1_a1, told_by, put_in_r1_a6, one_less}
+use Rattle.rh_inproxy.specs.Opening.{up, may_accept, accepts, accepted, wants, connected, head, drawn, is_absent, is_first, awaits_packet, has_server, first_by, put_echo, on_first_in_r1_a1, opened, opener, opener_of, kept_for}
 use Rattle.rh_inproxy.specs.OutReplacement.{on_out_r1_a7}
-use Rattle.rh_inproxy.specs.Passing.{next_pdu, passed, put_pdu}
-use Rattle.rh_inproxy.specs.Putting.{put as put_of, next, waiting_by, put_waiting, put_control, put_early, put_stream, put_behind, put_mark}
+use Rattle.rh_inproxy.specs.Passing.{next_pdu, passed}
+use Rattle.rh_inproxy.specs.Putting.{put as put_of, waiting_by}
 use Rattle.rh_inproxy.specs.State.{InProxy, first, channel_of, follows, has_opened, is_client_leg, is_server_leg}
 use Rattle.rh_inproxy.specs.Time.{ping, on_keep_alive, put_ping}
-use Rattle.rh_inproxy.specs.Machine.{pdu, pdu_by, packet, on_channel, on_channel_by, on_ci, on_is}
+use Rattle.rh_inproxy.specs.Machine.{pdu, pdu_by, packet, on_channel_by, on_ci, on_is}
 use Rattle.rh_inproxy.specs.Machine.{rules as proxy_rules}
 use Rattle.rh_inproxy_puts.specs.Puts.{ci, is_leg, CameFirst}
 use Rattle.rh_inproxy_puts.specs.Standing.{Opens, ConnectsWhereAsked}
 use Rattle.rh_inproxy_puts.proofs.Fresh.{no_channel}
 use Rattle.rh_inproxy_puts.proofs.Fronts.{first_stays_first}
-use Rattle.rh_inproxy_puts.proofs.Sounds.{seen, Seen, Same}
-use Rattle.rh_inproxy_puts.proofs.Tests.{same_head, same_is, same_drawn, same_mark, same_ping, same_settled, awaits_is}
+use Rattle.rh_inproxy_puts.proofs.Picks.{put_so}
+use Rattle.rh_inproxy_puts.proofs.Sounds.{Seen, Same}
+use Rattle.rh_inproxy_puts.proofs.Tests.{same_head, same_is, same_drawn, same_mark, same_ping, same_settled}
 use Rattle.rh_inproxy_puts.proofs.Laws.{more_by, front_came, other_leg}
 
 -- ---- what leaves the first legs alone
@@ -135,16 +134,6 @@ module _ (s : InProxy) where
   alike_pick None h = tt
   alike_pick (Some one) h = alike_stays s one.0 h
 
-  or_stays : (a b : Pick) → PickStays a → PickStays b → PickStays (or_else a b)
-  or_stays None b h k = k
-  or_stays (Some pick) b h k = h
-
-  settled_stays : (pick : Pick) → PickStays pick → PickStays (settled_pick pick)
-  settled_stays None h = tt
-  settled_stays (Some pick) h =
-      then_stays s pick.0 (settled pick.0) h
-      (same_stays pick.0 (settled pick.0) (same_settled pick.0))
-
   first_stays : (o : Opening) → s.opening ≡ o → PickStays (first_by s o)
   first_stays AwaitsClient e = tt
   first_stays AwaitsPacket e = tt
@@ -214,36 +203,31 @@ module _ (s : InProxy) where
       (λ e. record {
         opened = refl;
         alone = λ new alone.
-            let same = follows_alone (line.after_take s.line).has_next s.current s.successor alone in (
+            let has_next = (line.after_take s.line).has_next in
+            let same = follows_alone has_next s.current s.successor alone in (
               ap (λ (x : ClientLeg × Successor). x.0.number) same,
               ap (λ (x : ClientLeg × Successor). is_absent x.1) same ∙ alone,
             );
       })
       (λ e. tt)
 
-  server_stays : PickStays (next s)
-  server_stays =
-      or_stays (put_control s) (put_stream s)
-      (or_stays (put_early s) (put_acks s)
-      (or_stays (put_first s) _ (first_stays s.opening refl)
-      (or_stays (put_in_r2_a2 s) (put_waiting s) (told_stays s.successor refl)
-      (waiting_stays s.waiting.due)))
-      (or_stays (current_ack s) (next_ack s s.successor)
-      (alike_pick (current_ack s) (ack_alike Current s.current.cookie (ack_due s Current)))
-      (alike_pick (next_ack s s.successor) (next_alike s.successor))))
-      (or_stays (put_pdu s) (put_behind s) (pdu_stays s.line.current.pdus)
-      (or_stays (put_mark s) (put_ping s)
-      (or_stays (put_end s) (put_in_r1_a6 s) (alike_pick (put_end s) end_alike)
-      (alike_pick (put_in_r1_a6 s) mark_alike))
-      (alike_pick (put_ping s) ping_alike)))
-
   puts_stay : (leg : Leg) → PickStays (put_of s leg)
   puts_stay leg =
-      by_test PickStays (is_client_leg leg) (put_echo s leg.number)
-      (if is_server_leg s leg then settled_pick (next s) else None)
-      (λ e. alike_pick (put_echo s leg.number) (echo_alike leg.number))
-      (λ e. by_test PickStays (is_server_leg s leg) (settled_pick (next s)) None
-      (λ f. settled_stays (next s) server_stays) (λ f. tt))
+      put_so (λ (one : InProxy × Message). Stays s one.0) s (record {
+        first = first_stays s.opening refl;
+        joining = told_stays s.successor refl;
+        waiting = waiting_stays s.waiting.due;
+        current = alike_pick (current_ack s)
+            (ack_alike Current s.current.cookie (ack_due s Current));
+        later = alike_pick (next_ack s s.successor) (next_alike s.successor);
+        pdu = pdu_stays s.line.current.pdus;
+        ending = alike_pick (put_end s) end_alike;
+        leaving = alike_pick (put_in_r1_a6 s) mark_alike;
+        ping = alike_pick (put_ping s) ping_alike;
+        echo = λ number. alike_pick (put_echo s number) (echo_alike number);
+        settling = λ t m stays.
+            then_stays s t (settled t) stays (same_stays t (settled t) (same_settled t));
+      }) leg
 
 -- ---- what comes on a ci leg
 
@@ -255,13 +239,13 @@ module _ (s : InProxy) where
   same_pdu : (o : Option Which) (bytes : List ℕ) → SameOpening (pdu_by s o bytes).0
   same_pdu o bytes = search rules
 
-  same_ack_to : (which : Which) (to received available : ℕ) (channel : Cookie)
+  same_forward : (which : Which) (to received available : ℕ) (channel : Cookie)
       → SameOpening (on_ack_to s which to received available channel).0
-  same_ack_to which to received available channel = search rules
+  same_forward which to received available channel = search rules
 
-  same_a7 : (which : Which) (to : ℕ) (successor : Cookie)
+  same_answer : (which : Which) (to : ℕ) (successor : Cookie)
       → SameOpening (on_out_r1_a7 s which to successor).0
-  same_a7 which to successor = search rules
+  same_answer which to successor = search rules
 
   same_alive : (which : Which) (keepalive : ℕ) → SameOpening (on_keep_alive s which keepalive).0
   same_alive which keepalive = search rules
@@ -269,8 +253,8 @@ module _ (s : InProxy) where
   same_end : (which : Which) → SameOpening (on_end_a1 s which).0
   same_end which = search rules
 
-  same_a5 : (which : Which) (successor : Cookie) → SameOpening (on_in_r1_a5 s which successor).0
-  same_a5 which successor = search rules
+  same_leave : (which : Which) (successor : Cookie) → SameOpening (on_in_r1_a5 s which successor).0
+  same_leave which successor = search rules
 
   same_later : (o : Option Opener) (number : ℕ) (connection predecessor channel : Cookie)
       → SameOpening (on_later_in_r1_a1 s o number connection predecessor channel).0
@@ -279,11 +263,11 @@ module _ (s : InProxy) where
   same_channel : (o : Option Which) (m : Named) → SameOpening (on_channel_by s o m).0
   same_channel None m = refl
   same_channel (Some which) (named.AckTo to received available channel) =
-      same_ack_to which to received available channel
-  same_channel (Some which) (named.OutR1A7 to successor) = same_a7 which to successor
+      same_forward which to received available channel
+  same_channel (Some which) (named.OutR1A7 to successor) = same_answer which to successor
   same_channel (Some which) (named.KeepAlive keepalive) = same_alive which keepalive
   same_channel (Some which) named.EndA1 = same_end which
-  same_channel (Some which) (named.InR1A5 successor) = same_a5 which successor
+  same_channel (Some which) (named.InR1A5 successor) = same_leave which successor
   same_channel (Some which) m = refl
 
   module _ (is : has_opened s.opening ≡ true) where

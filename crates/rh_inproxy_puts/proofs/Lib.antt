@@ -9,6 +9,7 @@ mod Goes
 mod Behind
 mod Fresh
 mod Laws
+mod Picks
 mod Ends
 mod Asked
 mod Windows

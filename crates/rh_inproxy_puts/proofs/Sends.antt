@@ -1,7 +1,6 @@
 -- an in proxy puts an RPC PDU on its is leg only where the server told its window there
-use Rattle.std.proofs.Common.{◌≡◌, ◌⊎◌, ℕ, ◌+◌, ◌≤◌, ◌&&◌, Bool, true, false, inl, inr, if◌then◌else◌, List, [], ◌∷◌, ◌++◌, length, Some, None, Ok, Err, refl, sym, ap, ◌∙◌, subst, arith}
+use Rattle.std.proofs.Common.{◌⊎◌, ℕ, ◌+◌, ◌≤◌, ◌&&◌, Bool, true, false, inl, inr, if◌then◌else◌, List, [], ◌∷◌, ◌++◌, length, Some, None, Ok, Err, refl, sym, ap, ◌∙◌, subst, arith}
 use Rattle.rh_pdu.specs.Frames.{IsPdu}
-use Rattle.rh_pdu.specs.Header.{header_length}
 use Rattle.rh_sig.specs.declared.named.Named.{Named}
 use Rattle.rh_sig.specs.declared.named.Named.TheVariants as named
 use Rattle.rh_line.specs.declared.leg.Leg.{Leg}
@@ -12,7 +11,7 @@ use Rattle.rh_passages.specs.Passing.{count_of}
 use Rattle.rh_passages.proofs.Logs.{RowKeeps, PutKeeps}
 use Rattle.rh_passages.proofs.Messages.{count_append, count_rises, leg_more}
 use Rattle.rh_shell.specs.declared.answers.Count.{Count}
-use Rattle.rh_shell.specs.Rules.{Message, Text, Pdu, Packet}
+use Rattle.rh_shell.specs.Rules.{Message, Pdu, Packet}
 use Rattle.rh_shell.specs.Moves.{OnLeg, Move, Up, HeadCame, PduCame, PacketCame, Puts, IsDrawn, Marks, Pings, MayMove, AreAllowed, Passage, started, moved, all_moved, taken_by, put_by}
 use Rattle.rh_shell.specs.Shells.{same_leg}
 use Rattle.rh_shell.specs.Wires.{of_leg}
@@ -30,7 +29,7 @@ use Rattle.rh_inproxy.specs.Machine.{rules as proxy_rules}
 use Rattle.rh_inproxy_puts.specs.Puts.{ci, is_leg, HasPdu}
 use Rattle.rh_inproxy_puts.specs.Standing.{is_conn_b3, is_in_r1_b2, SendsWhereTold}
 use Rattle.rh_inproxy_puts.proofs.Laws.{more_by}
-use Rattle.rh_inproxy_puts.proofs.Windows.{near, Alike, Fair, IsFair, IsSent, PickFair, told_later, alike_fair, alike_up, alike_head, alike_b1, alike_drawn, alike_mark, alike_ping, ack_fair, ci_fair, pdu_fair, puts_fair}
+use Rattle.rh_inproxy_puts.proofs.Windows.{Alike, IsFair, IsSent, PickFair, told_later, alike_fair, alike_up, alike_head, alike_let_go, alike_drawn, alike_mark, alike_ping, ack_fair, ci_fair, pdu_fair, puts_fair}
 
 pdu_split : (pdu : List ℕ) (a b : List Message) → HasPdu pdu (a ++ b)
     → HasPdu pdu a ⊎ HasPdu pdu b
@@ -56,17 +55,17 @@ module _ (n : ℕ) where
   told_rises : (came : List OnLeg) (one : OnLeg) → told came ≤ told (came ++ one ∷ [])
   told_rises came one =
       let all = ap told_by (leg_more (is_leg n) came one) in
-      let conn = count_rises is_conn_b3 (on came) (on (one ∷ [])) in
-      let in_r1 = count_rises is_in_r1_b2 (on came) (on (one ∷ [])) in
-      omega (arith, all, conn, in_r1)
+      let connects = count_rises is_conn_b3 (on came) (on (one ∷ [])) in
+      let replaces = count_rises is_in_r1_b2 (on came) (on (one ∷ [])) in
+      omega (arith, all, connects, replaces)
 
   told_here : (came : List OnLeg) (m : Named) → 1 ≤ told_by (Packet m ∷ [])
       → 1 ≤ told (came ++ (is_leg n, Packet m) ∷ [])
   told_here came m is =
       let all = ap told_by (more_by (is_leg n) came (is_leg n, Packet m) true (test_same n)) in
-      let conn = count_append is_conn_b3 (on came) (Packet m ∷ []) in
-      let in_r1 = count_append is_in_r1_b2 (on came) (Packet m ∷ []) in
-      omega (arith, all, conn, in_r1, is)
+      let connects = count_append is_conn_b3 (on came) (Packet m ∷ []) in
+      let replaces = count_append is_in_r1_b2 (on came) (Packet m ∷ []) in
+      omega (arith, all, connects, replaces, is)
 
   abbrev Sends : List OnLeg → List OnLeg → Type 0
   Sends came put = (bytes : List ℕ) → HasPdu bytes (on put) → 1 ≤ told came
@@ -121,7 +120,7 @@ module _ (n : ℕ) where
       (λ e. window_row s (named.InR1B2 size) size came put (omega arith) h) (λ e. h)
   is_row s named.InR1B1 came put h =
       row (is_leg n) (Packet named.InR1B1) came put (on_in_r1_b1 s)
-      (alike_fair n (told came) s (on_in_r1_b1 s).0 (alike_b1 s) h.0) h.1
+      (alike_fair n (told came) s (on_in_r1_b1 s).0 (alike_let_go s) h.0) h.1
   is_row s (named.Ack received available channel) came put h =
       row (is_leg n) (Packet (named.Ack received available channel)) came put
       (on_ack s received available channel)
@@ -158,7 +157,7 @@ module _ (n : ℕ) where
   put_row leg came put (Some one) fair sends = (
     fair.0,
     λ bytes has. by bytes (pdu_split bytes (on put) (on ((leg, one.1) ∷ []))
-    (subst (HasPdu bytes) (leg_more (is_leg n) put (leg, one.1)) has)),
+        (subst (HasPdu bytes) (leg_more (is_leg n) put (leg, one.1)) has)),
   )
     where
       by : (bytes : List ℕ)

@@ -1,7 +1,6 @@
 -- an in proxy holds RPC PDUs back until the server told its window
-use Rattle.std.proofs.Common.{◌≡◌, ℕ, ◌+◌, ◌≤◌, ◌==◌, ◌&&◌, ◌||◌, Bool, true, false, true≢false, not, if◌then◌else◌, List, [], ◌∷◌, ◌++◌, length, Some, None, Ok, Err, refl, sym, ap, ◌∙◌, subst, arith, rules}
+use Rattle.std.proofs.Common.{◌≡◌, ℕ, ◌+◌, ◌≤◌, ◌&&◌, ◌||◌, Bool, true, false, true≢false, not, if◌then◌else◌, List, [], ◌∷◌, length, Some, None, Ok, Err, refl, sym, ap, ◌∙◌, subst, arith, rules}
 use Rattle.std.proofs.lemmas.Bool.Decides.{nat_tests}
-use Rattle.std.proofs.lemmas.Bool.{and_parts}
 use Rattle.std.specs.List.{AllByRecursion}
 use Rattle.std.specs.Prelude.{IfSome, is_ok, nat_le}
 use Rattle.std.specs.declared.option.Option.{Option}
@@ -25,7 +24,6 @@ use Rattle.rh_passages.proofs.Messages.{all_append}
 use Rattle.rh_shell.specs.declared.answers.Count.{Count}
 use Rattle.rh_shell.specs.declared.due.Due.{Due}
 use Rattle.rh_shell.specs.Rules.{Message, Text, Pdu, Packet}
-use Rattle.rh_inproxy.specs.declared.state.ClientLeg.{ClientLeg}
 use Rattle.rh_inproxy.specs.declared.state.Edge.{Edge}
 use Rattle.rh_inproxy.specs.declared.state.Edge.TheVariants.{Unknown, Known}
 use Rattle.rh_inproxy.specs.declared.state.InProxyConfig.{InProxyConfig}
@@ -34,18 +32,19 @@ use Rattle.rh_inproxy.specs.declared.state.Opener.{Opener}
 use Rattle.rh_inproxy.specs.declared.state.Opening.{Opening}
 use Rattle.rh_inproxy.specs.declared.state.Successor.{Successor}
 use Rattle.rh_inproxy.specs.declared.state.Successor.TheVariants.{Absent, Up, Joined}
-use Rattle.rh_inproxy.specs.Acknowledging.{acked, acked_by, ack_by, ack_due, ack_for, current_ack, next_ack, on_ack, on_ack_to, put_acks}
-use Rattle.rh_inproxy.specs.Answers.{Done, Pick, or_else, taken, refuse, unexpected}
-use Rattle.rh_inproxy.specs.Ending.{is_newest, mark, on_end_a1, put_end, settled, settled_pick}
-use Rattle.rh_inproxy.specs.InReplacement.{finish_by, finished, hand_over, handed_over, is_newcomer, join, joined, on_in_r1_a1, on_in_r1_a5, on_in_r1_b1, on_later_in_r1_a1, put_in_r1_a6, put_in_r2_a2, told_by}
+use Rattle.rh_inproxy.specs.Acknowledging.{acked, acked_by, ack_by, ack_due, ack_for, current_ack, next_ack, on_ack, on_ack_to}
+use Rattle.rh_inproxy.specs.Answers.{Done, Pick, taken, unexpected}
+use Rattle.rh_inproxy.specs.Ending.{is_newest, mark, on_end_a1, put_end, settled}
+use Rattle.rh_inproxy.specs.InReplacement.{finish_by, finished, hand_over, handed_over, is_newcomer, join, joined, on_in_r1_a5, on_in_r1_b1, on_later_in_r1_a1, put_in_r1_a6, put_in_r2_a2, told_by}
 use Rattle.rh_inproxy.specs.Opening.{drawn, first_by, head, is_first, is_unknown, on_conn_b1, on_first_in_r1_a1, opener_of, put_echo, put_first, up}
 use Rattle.rh_inproxy.specs.OutReplacement.{on_out_r1_a7}
 use Rattle.rh_inproxy.specs.Passing.{next_pdu, on_pdu, passed, put_pdu}
 use Rattle.rh_inproxy.specs.Passing as passing
-use Rattle.rh_inproxy.specs.Putting.{put as put_of, next, put_behind, put_control, put_early, put_mark, put_stream, put_waiting, waiting_by}
-use Rattle.rh_inproxy.specs.State.{InProxy, channel_of, has_a5, is_client_leg, is_server_leg, same_cookie}
+use Rattle.rh_inproxy.specs.Putting.{put as put_of, put_waiting, waiting_by}
+use Rattle.rh_inproxy.specs.State.{InProxy, channel_of, has_a5, is_client_leg, same_cookie}
 use Rattle.rh_inproxy.specs.Time.{on_keep_alive, ping, put_ping}
-use Rattle.rh_inproxy.specs.Machine.{on_channel, on_channel_by, on_ci, pdu, pdu_by}
+use Rattle.rh_inproxy.specs.Machine.{on_channel_by, on_ci, pdu, pdu_by}
+use Rattle.rh_inproxy_puts.proofs.Picks.{put_so}
 
 -- what the facts are about
 pub record Near : Type 0 where
@@ -76,17 +75,17 @@ alike_up s leg = search rules
 pub alike_head : (s : InProxy) (leg : Leg) (text : List ℕ) → Alike s (head s leg text).0
 alike_head s leg text = search rules
 
-alike_conn_b1 : (s : InProxy) (number : ℕ) (connection channel : Cookie) (keepalive : ℕ)
+alike_connect : (s : InProxy) (number : ℕ) (connection channel : Cookie) (keepalive : ℕ)
     (group : Cookie) → Alike s (on_conn_b1 s number connection channel keepalive group).0
-alike_conn_b1 s number connection channel keepalive group = search rules
+alike_connect s number connection channel keepalive group = search rules
 
-alike_ack_to : (s : InProxy) (which : Which) (to received available : ℕ) (channel : Cookie)
+alike_forward : (s : InProxy) (which : Which) (to received available : ℕ) (channel : Cookie)
     → Alike s (on_ack_to s which to received available channel).0
-alike_ack_to s which to received available channel = search rules
+alike_forward s which to received available channel = search rules
 
-alike_a7 : (s : InProxy) (which : Which) (to : ℕ) (successor : Cookie)
+alike_answer : (s : InProxy) (which : Which) (to : ℕ) (successor : Cookie)
     → Alike s (on_out_r1_a7 s which to successor).0
-alike_a7 s which to successor = search rules
+alike_answer s which to successor = search rules
 
 alike_alive : (s : InProxy) (which : Which) (keepalive : ℕ)
     → Alike s (on_keep_alive s which keepalive).0
@@ -96,8 +95,8 @@ alike_end : (s : InProxy) (which : Which) → Alike s (on_end_a1 s which).0
 alike_end s Current = search rules
 alike_end s Next = search rules
 
-pub alike_b1 : (s : InProxy) → Alike s (on_in_r1_b1 s).0
-alike_b1 s = search rules
+pub alike_let_go : (s : InProxy) → Alike s (on_in_r1_b1 s).0
+alike_let_go s = search rules
 
 pub alike_drawn : (s : InProxy) (leg : Leg) → Alike s (drawn s leg)
 alike_drawn s leg = search rules
@@ -261,9 +260,9 @@ module _ (n told : ℕ) where
       record { number = h.number; window = h.window; pdus = long.0; later = long.1 })
       (λ e. h)
 
-  a5_fair : (s : InProxy) (which : Which) (cookie : Cookie) → IsFair s
+  leave_fair : (s : InProxy) (which : Which) (cookie : Cookie) → IsFair s
       → IsFair (on_in_r1_a5 s which cookie).0
-  a5_fair s which cookie h =
+  leave_fair s which cookie h =
       by_test (λ (x : Done). IsFair x.0) (has_a5 s which) (unexpected s)
       (hand_over s which cookie) (λ e. h) (λ e. by which)
     where
@@ -276,21 +275,21 @@ module _ (n told : ℕ) where
   channel_fair s None m h = h
   channel_fair s (Some which) (named.AckTo to received available channel) h =
       alike_fair s (on_ack_to s which to received available channel).0
-      (alike_ack_to s which to received available channel) h
+      (alike_forward s which to received available channel) h
   channel_fair s (Some which) (named.OutR1A7 to successor) h =
-      alike_fair s (on_out_r1_a7 s which to successor).0 (alike_a7 s which to successor) h
+      alike_fair s (on_out_r1_a7 s which to successor).0 (alike_answer s which to successor) h
   channel_fair s (Some which) (named.KeepAlive keepalive) h =
       alike_fair s (on_keep_alive s which keepalive).0 (alike_alive s which keepalive) h
   channel_fair s (Some which) named.EndA1 h =
       alike_fair s (on_end_a1 s which).0 (alike_end s which) h
-  channel_fair s (Some which) (named.InR1A5 successor) h = a5_fair s which successor h
+  channel_fair s (Some which) (named.InR1A5 successor) h = leave_fair s which successor h
   channel_fair s (Some which) m h = h
 
   pub ci_fair : (s : InProxy) (number : ℕ) (m : Named) → IsFair s
       → IsFair (on_ci s number m).0
   ci_fair s number (named.ConnB1 version connection channel lifetime keepalive group) h =
       alike_fair s (on_conn_b1 s number connection channel keepalive group).0
-      (alike_conn_b1 s number connection channel keepalive group) h
+      (alike_connect s number connection channel keepalive group) h
   ci_fair s number (named.InR1A1 version connection predecessor channel) h =
       by_test (λ (x : Done). IsFair x.0) (is_first s number)
       (on_first_in_r1_a1 s connection predecessor channel)
@@ -369,15 +368,6 @@ module _ (n told : ℕ) where
     no_pdu one.1 (ap (λ (x : Shown). x.1) q),
   )
 
-  or_fair : (a b : Pick) → PickFair a → PickFair b → PickFair (or_else a b)
-  or_fair None b h k = k
-  or_fair (Some pick) b h k = h
-
-  settled_fair : (pick : Pick) → PickFair pick → PickFair (settled_pick pick)
-  settled_fair None h = tt
-  settled_fair (Some pick) h =
-      (alike_fair pick.0 (settled pick.0) (alike_settled pick.0) h.0, h.1)
-
   module _ (s : InProxy) where
     quiet_first : (o : Opening) → PickQuiet s (first_by s o)
     quiet_first o = search rules
@@ -440,27 +430,20 @@ module _ (n told : ℕ) where
           ))
           (λ may. tt)
 
-      server_fair : PickFair (next s)
-      server_fair =
-          or_fair (put_control s) (put_stream s)
-          (or_fair (put_early s) (put_acks s)
-          (or_fair (put_first s) _ (quiet (put_first s) (quiet_first s.opening))
-          (or_fair (put_in_r2_a2 s) (put_waiting s)
-          (quiet (put_in_r2_a2 s) (quiet_told s.successor))
-          (quiet (put_waiting s) (quiet_waiting s.waiting.due))))
-          (or_fair (current_ack s) (next_ack s s.successor)
-          (quiet (current_ack s) (quiet_ack Current s.current.cookie (ack_due s Current)))
-          (quiet (next_ack s s.successor) (quiet_next s.successor))))
-          (or_fair (put_pdu s) (put_behind s) (pdu_goes s.line.current.pdus refl)
-          (or_fair (put_mark s) (put_ping s)
-          (or_fair (put_end s) (put_in_r1_a6 s) (quiet (put_end s) quiet_end)
-          (quiet (put_in_r1_a6 s) quiet_mark))
-          (quiet (put_ping s) quiet_ping)))
-
       pub puts_fair : (leg : Leg) → PickFair (put_of s leg)
       puts_fair leg =
-          by_test PickFair (is_client_leg leg) (put_echo s leg.number)
-          (if is_server_leg s leg then settled_pick (next s) else None)
-          (λ e. quiet (put_echo s leg.number) (quiet_echo leg.number))
-          (λ e. by_test PickFair (is_server_leg s leg) (settled_pick (next s)) None
-          (λ f. settled_fair (next s) server_fair) (λ f. tt))
+          put_so (λ (one : InProxy × Message). IsFair one.0 × IsSent one.1) s (record {
+            first = quiet (put_first s) (quiet_first s.opening);
+            joining = quiet (put_in_r2_a2 s) (quiet_told s.successor);
+            waiting = quiet (put_waiting s) (quiet_waiting s.waiting.due);
+            current = quiet (current_ack s)
+                (quiet_ack Current s.current.cookie (ack_due s Current));
+            later = quiet (next_ack s s.successor) (quiet_next s.successor);
+            pdu = pdu_goes s.line.current.pdus refl;
+            ending = quiet (put_end s) quiet_end;
+            leaving = quiet (put_in_r1_a6 s) quiet_mark;
+            ping = quiet (put_ping s) quiet_ping;
+            echo = λ number. quiet (put_echo s number) (quiet_echo number);
+            settling = λ t m both.
+                (alike_fair t (settled t) (alike_settled t) both.0, both.1);
+          }) leg

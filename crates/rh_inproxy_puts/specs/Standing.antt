@@ -15,6 +15,7 @@ use Rattle.rh_inproxy_puts.specs.Puts.{is_leg, CameFirst, HasPdu}
 
 -- ---- the window of the server
 
+-- CONN/B3 and IN_R1/B2, by which it tells it
 abbrev pub is_conn_b3 : Named → Bool
 is_conn_b3 (ConnB3 window version) = true
 is_conn_b3 packet = false

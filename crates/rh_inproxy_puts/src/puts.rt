@@ -1,5 +1,5 @@
-//! What an in proxy puts on its is leg. These functions do nothing, or call a law that they stand on:
-//! their contracts are the laws.
+//! What an in proxy puts on its is leg. These functions do nothing, or call a law that they stand
+//! on: their contracts are the laws.
 
 ghost use Rattle.std.specs.Prelude.{List};
 ghost use Rattle.rh_shell.specs.Moves.{AreAllowed, Move, all_moved, started};
