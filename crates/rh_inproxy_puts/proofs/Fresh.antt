@@ -54,7 +54,7 @@ Takes (t, Err why) = Unit {0}
 
 module _ (s : InProxy) (new : has_opened s.opening ≡ false)
     (alone : is_absent s.successor ≡ true) where
-  no_channel : (number : ℕ) → channel_of s number ≡ None
+  pub no_channel : (number : ℕ) → channel_of s number ≡ None
   no_channel number =
       by_test (λ (o : Option Which). o ≡ None)
       (has_opened s.opening && (s.current.number == number)) (Some Current)

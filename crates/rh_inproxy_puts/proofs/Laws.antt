@@ -37,7 +37,7 @@ use Rattle.rh_inproxy_puts.proofs.Fresh.{Takes, new_alone, new_nothing, pdu_take
 
 -- ---- a message more
 
-more_by : (leg : Leg) (log : List OnLeg) (one : OnLeg) (b : Bool) → same_leg one.0 leg ≡ b
+pub more_by : (leg : Leg) (log : List OnLeg) (one : OnLeg) (b : Bool) → same_leg one.0 leg ≡ b
     → of_leg leg (log ++ one ∷ []) ≡ of_leg leg log ++ (if b then one.1 ∷ [] else [])
 more_by leg log one b e =
     leg_more leg log one
@@ -53,7 +53,7 @@ here_came n ClientOut log m e Is is = absurd cc
 here_came n OutServer log m e Is is = absurd cc
 here_came n InServer log m e Is is = absurd cc
 
-front_came : (n k : ℕ) (kind : LegKind) (log : List OnLeg) (m : Named)
+pub front_came : (n k : ℕ) (kind : LegKind) (log : List OnLeg) (m : Named)
     → is_client_leg (record { kind = kind; number = n }) ≡ true → of_leg (ci k) log ≡ []
     → n ≡ k → (Is : Named → Type 0) → Is m
     → CameFirst k Is (log ++ (record { kind = kind; number = n }, Packet m) ∷ [])
@@ -67,7 +67,7 @@ front_came n k ClientOut log m e none same Is is = absurd cc
 front_came n k OutServer log m e none same Is is = absurd cc
 front_came n k InServer log m e none same Is is = absurd cc
 
-other_leg : (n k : ℕ) (kind : LegKind)
+pub other_leg : (n k : ℕ) (kind : LegKind)
     → is_client_leg (record { kind = kind; number = n }) ≡ false
     → same_leg (record { kind = kind; number = n }) (ci k) ≡ false
 other_leg n k ClientIn e = absurd cc

@@ -9,3 +9,8 @@ mod Goes
 mod Behind
 mod Fresh
 mod Laws
+mod Picks
+mod Ends
+mod Asked
+mod Windows
+mod Sends

@@ -1,11 +1,14 @@
-//! What an in proxy puts on its is leg. This function does nothing: its contract is the law.
+//! What an in proxy puts on its is leg. These functions do nothing, or call a law that they stand
+//! on: their contracts are the laws.
 
 ghost use Rattle.std.specs.Prelude.{List};
-ghost use Rattle.rh_shell.specs.Moves.{Move, all_moved, started};
+ghost use Rattle.rh_shell.specs.Moves.{AreAllowed, Move, all_moved, started};
+ghost use Rattle.rh_shell.specs.Wires.{of_leg};
 ghost use Rattle.rh_inproxy.specs.declared.state.InProxyConfig.{InProxyConfig};
 ghost use Rattle.rh_inproxy.specs.Machine.{rules};
 ghost use Rattle.rh_inproxy.specs.State.{first};
-ghost use Rattle.rh_inproxy_puts.specs.Puts.{ArePutUp, PutsInOrder};
+ghost use Rattle.rh_inproxy_puts.specs.Standing.{EndsLast, SendsWhereTold};
+ghost use Rattle.rh_inproxy_puts.specs.Puts.{ArePutUp, PutsInOrder, is_leg};
 
 /// Whatever moves an in proxy makes, allowed or not, if it puts only on legs that are up: on its is
 /// leg stands first CONN/B2 or IN_R1/A2, with its own window and timeout and with what CONN/B1 or
@@ -21,3 +24,22 @@ pub fn an_in_proxy_puts_in_order()
         → ArePutUp rules (started (first config)) moves
         → PutsInOrder config (all_moved rules (started (first config)) moves) }
 {}
+
+/// Whatever moves an in proxy makes: an RPC PDU stands on its is leg only where CONN/B3 or IN_R1/B2
+/// came there, by which the server tells its window (MS-RPCH 3.2.1, 3.2.3).
+pub fn an_in_proxy_sends_where_it_was_told()
+    ensures { (config : InProxyConfig) (moves : List Move)
+        → AreAllowed rules (started (first config)) moves
+        → SendsWhereTold config (all_moved rules (started (first config)) moves) }
+{}
+
+/// Whatever moves it makes: behind the first END/A2 on its is leg stands neither an RPC PDU nor
+/// END/A2 (profile).
+pub fn an_in_proxy_ends_last()
+    ensures { (config : InProxyConfig) (moves : List Move)
+        → AreAllowed rules (started (first config)) moves
+        → EndsLast
+        (of_leg (is_leg config.number) (all_moved rules (started (first config)) moves).put) }
+{
+    rh_inproxy::an_in_proxy_keeps_order();
+}
