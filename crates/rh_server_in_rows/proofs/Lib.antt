@@ -13,4 +13,5 @@ mod Sums
 mod Counts
 mod Orders
 mod Why
+mod Standing
 mod Replaced
