@@ -14,4 +14,5 @@ mod Counts
 mod Orders
 mod Why
 mod Standing
+mod Stays
 mod Replaced
