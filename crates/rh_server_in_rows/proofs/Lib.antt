@@ -15,4 +15,5 @@ mod Orders
 mod Why
 mod Standing
 mod Stays
+mod Opened
 mod Replaced
