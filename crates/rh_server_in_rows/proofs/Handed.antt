@@ -1,5 +1,5 @@
 -- why a server refuses IN_R1/A6
-use Rattle.std.proofs.Common.{◌≡◌, ◌⊎◌, inl, inr, ℕ, ◌+◌, ◌≤◌, ◌==◌, ◌&&◌, Bool, true, false, not, if◌then◌else◌, List, Some, Err, arith, refl, sym, ap, ◌∙◌}
+use Rattle.std.proofs.Common.{◌≡◌, ◌⊎◌, inl, inr, ℕ, ◌+◌, ◌≤◌, ◌==◌, ◌&&◌, Bool, true, false, not, if◌then◌else◌, List, Some, arith, refl, ap, ◌∙◌}
 use Rattle.std.proofs.lemmas.Bool.{and_parts}
 use Rattle.rh_rts.specs.declared.command.Cookie.{Cookie}
 use Rattle.rh_order.proofs.ByNumber.{by_test, other_number, same_number}
@@ -16,10 +16,10 @@ use Rattle.rh_server_counts.specs.Counting.{is_in_r1_a3, is_in_r1_a6, out_put}
 use Rattle.rh_server_rows.specs.Refusing.{IsOther}
 use Rattle.rh_server_in_rows.specs.Refusing.{came_at, first_at}
 use Rattle.rh_server_in_rows.specs.Handovers.{HadOpened, IsLastAnswered, NextNames, RefusesInR1A6, UnexpectedInR1A6, answers, passed}
-use Rattle.rh_server_in_rows.proofs.Steps.{AllHold, known}
+use Rattle.rh_server_in_rows.proofs.Steps.{known}
 use Rattle.rh_server_in_rows.proofs.Tests.{in_r1_a3_waits, not_false, one_fails}
 use Rattle.rh_server_in_rows.proofs.Standing.{firsts, lefts, stand}
-use Rattle.rh_server_in_rows.proofs.Opened.{Place, Rests, Since, none_or_some, since_opened}
+use Rattle.rh_server_in_rows.proofs.Opened.{Place, Since, none_or_some, since_opened}
 use Rattle.rh_server_in_rows.proofs.Why.{IsUnexpected}
 use Rattle.rh_server_in_rows.proofs.Replaced.{Refuses, is_not, other}
 

@@ -18,7 +18,7 @@ use Rattle.rh_server_in_rows.proofs.Numbered.{Absent, absent_if}
 use Rattle.rh_server_in_rows.proofs.Places.{Found, Placed, found_at, number_found, placed}
 use Rattle.rh_server_in_rows.proofs.Tallies.{Tally, tally}
 use Rattle.rh_server_in_rows.proofs.Tests.{some_waits}
-use Rattle.rh_server_in_rows.proofs.Steps.{AllHold, known, moves_keep}
+use Rattle.rh_server_in_rows.proofs.Steps.{AllHold, known}
 use Rattle.rh_server_in_rows.proofs.Standing.{Closed, Says, Stand, firsts, lefts, stand}
 use Rattle.rh_server_in_rows.proofs.Stays.{HoldsAt, moves_stay}
 

@@ -1,35 +1,29 @@
 -- why a server refuses what replaces an IN channel
-use Rattle.std.proofs.Common.{◌≡◌, ◌⊎◌, inl, inr, ℕ, ◌==◌, ◌&&◌, Bool, true, false, true≢false, not, if◌then◌else◌, Some, None, Err, arith, refl, sym, ap, ◌∙◌}
-use Rattle.std.proofs.lemmas.Bool.{and_parts, false≢true}
+use Rattle.std.proofs.Common.{◌≡◌, ◌⊎◌, inl, inr, ℕ, ◌&&◌, Bool, true, false, not, Some, None, Err, refl, sym, ap, ◌∙◌}
+use Rattle.std.proofs.lemmas.Bool.{false≢true}
 use Rattle.std.proofs.lemmas.Bool.Decides.{not_from_Decides}
 use Rattle.std.proofs.lemmas.Slice.Eq.{bytes_eq-Decides}
 use Rattle.std.specs.Prelude.{bytes_eq}
 use Rattle.std.specs.declared.option.Option.{Option}
 use Rattle.rh_rts.specs.declared.command.Cookie.{Cookie}
-use Rattle.rh_order.proofs.ByNumber.{by_test, other_number, same_number}
+use Rattle.rh_order.proofs.ByNumber.{by_test}
 use Rattle.rh_shell.specs.declared.answers.Count.{Count}
 use Rattle.rh_shell.specs.declared.answers.Refused.TheVariants as refused
 use Rattle.rh_shell.specs.Rules.{Row}
 use Rattle.rh_shell.specs.Moves.{Passage}
 use Rattle.rh_server.specs.declared.state.InLeg.{InLeg}
-use Rattle.rh_server.specs.declared.state.InStage.{InStage}
-use Rattle.rh_server.specs.declared.state.InStage.TheVariants as in_stage
 use Rattle.rh_server.specs.declared.state.Stage.{Stage}
 use Rattle.rh_server.specs.declared.state.Stage.TheVariants as stage
-use Rattle.rh_server.specs.declared.out_line.Kind.TheVariants as kind
-use Rattle.rh_server.specs.OutLines.{waits}
-use Rattle.rh_server.specs.States.{Server, is_fresh, is_waiting, same_cookie, in_leg, no_cookie}
+use Rattle.rh_server.specs.States.{Server, is_fresh, same_cookie, in_leg, no_cookie}
 use Rattle.rh_server.specs.Opening.{Done, took, refuse, unexpected, is_first}
-use Rattle.rh_server.specs.InReplacement.{announced, has_fresh_below, hands_over, in_r1_a2_by, in_r1_a2_at, on_in_r1_a2, on_in_r1_a6}
+use Rattle.rh_server.specs.InReplacement.{announced, has_fresh_below, in_r1_a2_by, in_r1_a2_at, on_in_r1_a2}
 use Rattle.rh_server_counts.specs.Answering.{AreAnswered}
 use Rattle.rh_server_counts.specs.Opening.{OpensOnce}
 use Rattle.rh_server_rows.specs.Refusing.{IsOther}
 use Rattle.rh_server_in_rows.specs.Refusing.{NewestNames, RefusesInFor}
-use Rattle.rh_server_in_rows.proofs.Tallies.{tally}
-use Rattle.rh_server_in_rows.proofs.Kept.{IsOpen, is_begun, is_opened, top_of}
+use Rattle.rh_server_in_rows.proofs.Kept.{is_begun}
 use Rattle.rh_server_in_rows.proofs.Takes.{Holds}
-use Rattle.rh_server_in_rows.proofs.Tests.{in_r1_a3_waits, not_false, one_fails}
-use Rattle.rh_server_in_rows.proofs.Why.{IsUnexpected, Leg, at, in_r1_a2_refused, in_r2_a2_refused, end_refused, pdu_refused, so, unopened}
+use Rattle.rh_server_in_rows.proofs.Why.{in_r1_a2_refused, in_r2_a2_refused, end_refused, pdu_refused}
 
 -- ---- what a row tells
 

@@ -1,6 +1,6 @@
 -- a server's moves keep what its steps keep of its current channel, the next one and the answers
 use Rattle.std.proofs.Common.{◌≡◌, ℕ, ◌+◌, ◌≤◌, ◌==◌, ◌&&◌, Bool, true, false, true≢false, not, if◌then◌else◌, List, [], ◌∷◌, ◌++◌, Some, None, Ok, Err, arith, refl, rules, sym, ap, ◌∙◌, subst}
-use Rattle.std.proofs.lemmas.Bool.{false≢true, and_parts}
+use Rattle.std.proofs.lemmas.Bool.{and_parts}
 use Rattle.std.specs.Prelude.{IfSome, slice_get}
 use Rattle.std.specs.declared.option.Option.{Option}
 use Rattle.std.specs.declared.result.Result.{Result}
@@ -17,16 +17,15 @@ use Rattle.rh_line.specs.declared.which.Which.TheVariants.{Current, Next}
 use Rattle.rh_order.proofs.ByNumber.{by_test, same_number}
 use Rattle.rh_passages.specs.Passing.{count_of, of_kind}
 use Rattle.rh_passages.proofs.Messages.{count_append, kind_more}
-use Rattle.rh_passages.proofs.Logs.{PutKeeps, RowKeeps}
+use Rattle.rh_passages.proofs.Logs.{RowKeeps}
 use Rattle.rh_shell.specs.declared.answers.Count.{Count}
 use Rattle.rh_shell.specs.declared.answers.Refused.TheVariants as refused
 use Rattle.rh_shell.specs.declared.end_role.GiveRefused.{GiveRefused}
 use Rattle.rh_shell.specs.declared.end_role.RecycleRefused.{RecycleRefused}
-use Rattle.rh_shell.specs.Moves.{Move, Up, HeadCame, PduCame, PacketCame, Puts, IsDrawn, Marks, Pings, Passage, EndMove, Moves, Gives, Takes, Closes, Recycles, EndPassage, AreAllowedAtEnd, OnLeg, MayEndMove, moved, taken_by, put_by, end_moved, end_now_at, given_by, with_first, all_end_moved}
+use Rattle.rh_shell.specs.Moves.{Move, Up, HeadCame, PduCame, PacketCame, Puts, IsDrawn, Marks, Pings, Passage, EndMove, Moves, Gives, Takes, Closes, Recycles, EndPassage, AreAllowedAtEnd, OnLeg, moved, taken_by, put_by, end_moved, end_now_at, given_by, with_first, all_end_moved}
 use Rattle.rh_shell.specs.Rules.{Message, Pdu, Packet, Row}
 use Rattle.rh_shell.specs.Waiting.{own}
 use Rattle.rh_server.specs.declared.state.Edge.TheVariants.{Told}
-use Rattle.rh_server.specs.declared.state.Greeting.TheVariants as greetings
 use Rattle.rh_server.specs.declared.state.InLeg.{InLeg}
 use Rattle.rh_server.specs.declared.state.InStage.{InStage}
 use Rattle.rh_server.specs.declared.state.InStage.TheVariants as in_stage
@@ -39,23 +38,23 @@ use Rattle.rh_server.specs.declared.state.Tells.{Tells}
 use Rattle.rh_server.specs.declared.state.Tells.TheVariants as tells
 use Rattle.rh_server.specs.declared.out_line.Kind.TheVariants as kinds
 use Rattle.rh_server.specs.OutLines.{waits}
-use Rattle.rh_server.specs.States.{Server, is_due, is_fresh, is_open, is_shut, is_waiting, same_cookie, stays, in_leg, in_place, out_place, with_in, without_in, without_out}
+use Rattle.rh_server.specs.States.{Server, is_due, is_fresh, is_open, is_shut, is_waiting, same_cookie, stays, in_leg, out_place, with_in, without_in, without_out}
 use Rattle.rh_server.specs.Opening.{Done, took, refuse, unexpected, is_first, opens, with_first_in, with_first_out, may_up_by, up, up_by, conn_a2_at, on_conn_a2, conn_b2_at, on_conn_b2}
 use Rattle.rh_server.specs.Acknowledging.{channel_at}
-use Rattle.rh_server.specs.InReplacement.{announced, has_fresh_below, hands_over, in_r1_a2_at, in_r1_a2_by, in_r2_a2_on, leaves, leaves_by, moved_if, on_in_r1_a2, on_in_r1_a6, on_in_r2_a2, take}
-use Rattle.rh_server.specs.OutReplacement.{asks, is_under_way, last_number, recycle, wished, wishes}
+use Rattle.rh_server.specs.InReplacement.{announced, has_fresh_below, hands_over, in_r1_a2_at, in_r1_a2_by, in_r2_a2_on, leaves_by, moved_if, on_in_r1_a2, on_in_r1_a6, on_in_r2_a2, take}
+use Rattle.rh_server.specs.OutReplacement.{asks, is_under_way, last_number, recycle, wishes}
 use Rattle.rh_server.specs.Ending.{completed, drawn_by, end_a2_at, end_a2_on_leg, end_a2_waiting, give, in_is_drawn, is_complete, is_over_on, lost_in, mark_by, on_end_a2, settled, with_ack_dropped}
 use Rattle.rh_server.specs.Putting.{Pick, ack_due, next_out, or_else, out_greeting_at, put_ack, put_ack_by, put_b1, put_b1_by, put_in_by, put_in_greeting, put_open, put_out_at, put_out_greeting, put_tells, put_tells_by, settled_pick, was_current, put_by as put_by_kind}
-use Rattle.rh_server.specs.Servers.{acts, on_is, on_os, packet_by, pdu_by}
+use Rattle.rh_server.specs.Servers.{acts, on_is, on_os, packet_by}
 use Rattle.rh_server.specs.Servers.{rules as server_rules}
 use Rattle.rh_server_counts.specs.Answering.{AreAnswered, how_many, waits_on}
-use Rattle.rh_server_counts.specs.Counting.{is_conn_b2, is_in_r1_a2, is_in_r1_a3, is_in_r1_a6, in_came, leg_at, often, often_at, waiting_of}
+use Rattle.rh_server_counts.specs.Counting.{is_conn_b2, is_in_r1_a2, is_in_r1_a3, is_in_r1_a6, in_came, leg_at, often, waiting_of}
 use Rattle.rh_server_in_rows.proofs.Kept.{Look, is_begun, look}
 use Rattle.rh_server_in_rows.proofs.Takes.{Holds as Knows}
 use Rattle.rh_server_in_rows.proofs.Takes.{ack_to_same, look_at, out_look, pdu_same}
-use Rattle.rh_server_in_rows.proofs.Tallies.{here, none_here, now_often, often_more, other_here}
+use Rattle.rh_server_in_rows.proofs.Tallies.{none_here, now_often, often_more, other_here}
 use Rattle.rh_server_in_rows.proofs.Puts.{Alone, open_begun, or_alone, out_alone, settled_same}
-use Rattle.rh_server_in_rows.proofs.Steps.{AllHold, end_move_keeps, give_same, recycle_same}
+use Rattle.rh_server_in_rows.proofs.Steps.{AllHold, end_move_keeps}
 use Rattle.rh_server_in_rows.proofs.Standing.{Closed, Says, Stand, answered, firsts, lefts, next_fine, settles, stand, take_fine, waits_more, with_answers}
 
 -- ---- logs
@@ -480,8 +479,8 @@ module _ (Q : Says) (q : Closed Q) where
           (finished e))
       goes e (Some leg) =
           subst (λ (b : Bool).
-          Holds (moved_if b (record (leaves_by s (Some leg)) { line = after_finish s.line })) more put)
-          (has e)
+          Holds (moved_if b (record (leaves_by s (Some leg)) { line = after_finish s.line })) more
+          put) (has e)
           (settles Q q put (lefts more) (firsts more)
           (record (leaves_by s (Some leg)) { line = record (s.line) { finished = true } })
           (λ f. left e) (λ f. has e) (finished e))

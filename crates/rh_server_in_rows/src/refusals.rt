@@ -23,14 +23,14 @@ use rh_server_counts::{a_server_answers_each_in_channel_once, a_server_opens_onc
 /// put and no window was told there, or where IN_R1/A6 came there. As another predecessor than it
 /// expects it refuses one that the last announcement on the newest leg didn't name.
 ///
-/// A channel had opened on a leg behind a front of the moves where one had begun there, and each
-/// IN_R1/A2 had its IN_R1/A3 put or due. The server refuses IN_R1/A6 as unexpected only where no
-/// channel began on the leg, where another IN_R1/A6 came there, or where no IN_R1/A3 was put for a
-/// channel that opened behind: those that were put are at most those that were put or due behind
-/// each front at which the leg's channel had opened. It refuses the cookie of an IN_R1/A6 only where
-/// it is another than the one that the IN_R1/A2 on some leg named; and each channel that had not
-/// begun at a front at which that of the IN_R1/A6 had opened, and had opened at any front, is on
-/// that leg.
+/// At a front of the moves the channel of a leg had opened where one had begun there, and no fewer
+/// IN_R1/A3 were put or due than IN_R1/A2 had come. The server refuses IN_R1/A6 as unexpected only
+/// where no channel began on its leg, where another IN_R1/A6 came there, or where no IN_R1/A3 was
+/// put for a channel that opened behind that of the leg: at each front at which that had opened, no
+/// fewer were put or due than were put in all. It refuses the cookie of an IN_R1/A6 only where it is
+/// another than that which the last IN_R1/A2 on some leg names; and each channel that had not begun
+/// at a front at which that of the IN_R1/A6 had opened, and had opened at some front, is on that
+/// leg.
 ///
 /// Whether its moves are allowed or not, the newest number of an IN channel is at most how many is
 /// legs came up and how often IN_R2/A2 came together; and each is leg that is kept came up.
