@@ -9,8 +9,10 @@ mod Steps
 mod Numbers
 mod CameUp
 mod Tests
-mod Sums
-mod Counts
 mod Orders
 mod Why
+mod Standing
+mod Stays
+mod Opened
 mod Replaced
+mod Handed

@@ -1,5 +1,5 @@
--- which is legs are behind others, by the law of what is taken in order
-use Rattle.std.proofs.Common.{◌≡◌, ℕ, suc, ◌<◌, ◌==◌, ◌&&◌, nat_eq, Bool, true, false, if◌then◌else◌, List, [], ◌∷◌, ◌++◌, arith, refl, sym, ◌∙◌, subst}
+-- where IN_R1/A6 didn't come, by the law of what is taken in order
+use Rattle.std.proofs.Common.{◌≡◌, ℕ, ◌==◌, ◌&&◌, nat_eq, Bool, true, false, if◌then◌else◌, List, [], ◌∷◌, ◌++◌, arith, refl, sym, ◌∙◌, subst}
 use Rattle.std.proofs.lemmas.Bool.{true≢false}
 use Rattle.std.proofs.lemmas.Bool.Decides.{nat_tests}
 use Rattle.rh_sig.specs.declared.named.Named.TheVariants as named
@@ -54,17 +54,10 @@ none_left n ((leg, m) ∷ log) e =
     by true (Packet named.EndA2) none so = so none
     by true (Packet packet) none so = so none
 
-pub record Orders (s : Server) (came : List OnLeg) : Type 0 where
-  -- the leg of the next channel is behind that of the current one
-  pub higher : s.line.has_next ≡ true → s.current.leg < s.next.leg
-  pub unleft : s.line.finished ≡ false → often_at is_in_r1_a6 InServer s.current.leg came ≡ 0
-
-pub orders_of : (p : EndPassage Server) (legs : ℕ → Bool)
+-- where the current channel isn't finished, no IN_R1/A6 came on its leg
+pub unleft : (p : EndPassage Server) (legs : ℕ → Bool)
     → TakerLaw (taker_of p.taken p.passage.role) legs (got p)
-    → Orders p.passage.role p.passage.came
-orders_of p legs law = record {
-  higher = λ e. subst (λ (b : Bool). p.passage.role.current.leg
-      < (if b then p.passage.role.next.leg else suc p.passage.role.current.leg)) e law.above;
-  unleft = λ e.
-      none_left p.passage.role.current.leg p.passage.came (sym law.holds.finished ∙ e);
-}
+    → p.passage.role.line.finished ≡ false
+    → often_at is_in_r1_a6 InServer p.passage.role.current.leg p.passage.came ≡ 0
+unleft p legs law e =
+    none_left p.passage.role.current.leg p.passage.came (sym law.holds.finished ∙ e)

@@ -48,7 +48,7 @@ use Rattle.rh_server_in_rows.proofs.Takes.{Holds}
 abbrev pub Alone : Server → Pick → Type 0
 Alone s pick = IfSome pick (λ (one : Server × Message). look one.0 ≡ look s)
 
-or_alone : (s : Server) (a b : Pick) → Alone s a → Alone s b → Alone s (or_else a b)
+pub or_alone : (s : Server) (a b : Pick) → Alone s a → Alone s b → Alone s (or_else a b)
 or_alone s None b h k = k
 or_alone s (Some pick) b h k = h
 
@@ -90,7 +90,7 @@ out_alone s place =
 wished_same : (s : Server) → look (wished s) ≡ look s
 wished_same s = search rules
 
-open_begun : (x : Stage) → is_open x ≡ true → true ≡ is_begun x
+pub open_begun : (x : Stage) → is_open x ≡ true → true ≡ is_begun x
 open_begun stage.Waits e = absurd (false≢true e)
 open_begun (stage.OutCame connection) e = absurd (false≢true e)
 open_begun (stage.InCame connection window timeout) e = absurd (false≢true e)

@@ -1,37 +1,29 @@
 -- why a server refuses what replaces an IN channel
-use Rattle.std.proofs.Common.{◌≡◌, ◌⊎◌, inl, inr, ℕ, ◌==◌, ◌&&◌, Bool, true, false, true≢false, not, if◌then◌else◌, Some, None, Err, arith, refl, sym, ap, ◌∙◌}
-use Rattle.std.proofs.lemmas.Bool.{and_parts, false≢true}
+use Rattle.std.proofs.Common.{◌≡◌, ◌⊎◌, inl, inr, ℕ, ◌&&◌, Bool, true, false, not, Some, None, Err, refl, sym, ap, ◌∙◌}
+use Rattle.std.proofs.lemmas.Bool.{false≢true}
 use Rattle.std.proofs.lemmas.Bool.Decides.{not_from_Decides}
 use Rattle.std.proofs.lemmas.Slice.Eq.{bytes_eq-Decides}
 use Rattle.std.specs.Prelude.{bytes_eq}
 use Rattle.std.specs.declared.option.Option.{Option}
 use Rattle.rh_rts.specs.declared.command.Cookie.{Cookie}
-use Rattle.rh_order.proofs.ByNumber.{by_test, other_number, same_number}
+use Rattle.rh_order.proofs.ByNumber.{by_test}
 use Rattle.rh_shell.specs.declared.answers.Count.{Count}
 use Rattle.rh_shell.specs.declared.answers.Refused.TheVariants as refused
 use Rattle.rh_shell.specs.Rules.{Row}
 use Rattle.rh_shell.specs.Moves.{Passage}
 use Rattle.rh_server.specs.declared.state.InLeg.{InLeg}
-use Rattle.rh_server.specs.declared.state.InStage.{InStage}
-use Rattle.rh_server.specs.declared.state.InStage.TheVariants as in_stage
 use Rattle.rh_server.specs.declared.state.Stage.{Stage}
 use Rattle.rh_server.specs.declared.state.Stage.TheVariants as stage
-use Rattle.rh_server.specs.declared.out_line.Kind.TheVariants as kind
-use Rattle.rh_server.specs.OutLines.{waits}
-use Rattle.rh_server.specs.States.{Server, is_fresh, is_waiting, same_cookie, in_leg, no_cookie}
+use Rattle.rh_server.specs.States.{Server, is_fresh, same_cookie, in_leg, no_cookie}
 use Rattle.rh_server.specs.Opening.{Done, took, refuse, unexpected, is_first}
-use Rattle.rh_server.specs.InReplacement.{announced, has_fresh_below, hands_over, in_r1_a2_by, in_r1_a2_at, on_in_r1_a2, on_in_r1_a6}
+use Rattle.rh_server.specs.InReplacement.{announced, has_fresh_below, in_r1_a2_by, in_r1_a2_at, on_in_r1_a2}
 use Rattle.rh_server_counts.specs.Answering.{AreAnswered}
 use Rattle.rh_server_counts.specs.Opening.{OpensOnce}
 use Rattle.rh_server_rows.specs.Refusing.{IsOther}
-use Rattle.rh_server_in_rows.specs.Refusing.{IsUsed, NewestNames, NextNames, RefusesInFor, UnexpectedInR1A6}
-use Rattle.rh_server_in_rows.proofs.Tallies.{tally}
-use Rattle.rh_server_in_rows.proofs.Kept.{IsOpen, is_begun, is_opened, top_of}
+use Rattle.rh_server_in_rows.specs.Refusing.{NewestNames, RefusesInFor}
+use Rattle.rh_server_in_rows.proofs.Kept.{is_begun}
 use Rattle.rh_server_in_rows.proofs.Takes.{Holds}
-use Rattle.rh_server_in_rows.proofs.Orders.{Orders}
-use Rattle.rh_server_in_rows.proofs.Counts.{is_due, is_left, no_next}
-use Rattle.rh_server_in_rows.proofs.Tests.{in_r1_a3_waits, not_false, one_fails}
-use Rattle.rh_server_in_rows.proofs.Why.{IsUnexpected, Leg, at, in_r1_a2_refused, in_r2_a2_refused, end_refused, pdu_refused, so, unopened}
+use Rattle.rh_server_in_rows.proofs.Why.{in_r1_a2_refused, in_r2_a2_refused, end_refused, pdu_refused}
 
 -- ---- what a row tells
 
@@ -48,16 +40,16 @@ differ a b e same =
     not_from_Decides (bytes_eq a.0 b.0) (bytes_eq-Decides a.0 b.0) e
     (ap (λ (c : Cookie). c.0) same)
 
-is_not : (t : Bool) → not t ≡ true → t ≡ false
+pub is_not : (t : Bool) → not t ≡ true → t ≡ false
 is_not true e = absurd (false≢true e)
 is_not false e = refl
 
 module _ (expected got : Cookie) where
-  abbrev Refuses : Done → Type 0
+  abbrev pub Refuses : Done → Type 0
   Refuses done = done.1 ≡ Err (refused.Cookie expected got)
 
   -- it refuses this cookie, as another than that one
-  other : (s : Server) (known cookie : Cookie) → same_cookie known cookie ≡ false
+  pub other : (s : Server) (known cookie : Cookie) → same_cookie known cookie ≡ false
       → Refuses (refuse s (refused.Cookie known cookie)) → (known ≡ expected)
       × IsOther cookie expected got
   other s known cookie e r =
@@ -71,7 +63,7 @@ module _ (expected got : Cookie) where
       )
 
 module _ (p : Passage Server) (known : (n : ℕ) → Holds n p.role p.came p.put)
-    (answers : AreAnswered p) (opens : OpensOnce p) (orders : Orders p.role p.came) where
+    (answers : AreAnswered p) (opens : OpensOnce p) where
   abbrev s : Server
   s = p.role
 
@@ -119,123 +111,6 @@ module _ (p : Passage Server) (known : (n : ℕ) → Holds n p.role p.came p.put
         by_stage (stage.InCame first window timeout) at = λ r. absurd (cc)
         by_stage stage.Ended at = λ r. absurd (cc)
 
-  -- ---- IN_R1/A6
-
-  module _ (n : ℕ) (successor : Cookie) where
-    abbrev waiting : Bool
-    waiting = waits kind.InR1A3 s.waiting
-
-    abbrev test : Bool
-    test = (n == s.current.leg) && (not s.line.finished && (s.line.has_next && not waiting))
-
-    next_of : (expected : Cookie) → test ≡ true → s.next.cookie ≡ expected
-        → NextNames p n expected
-    next_of expected e is =
-        let both = and_parts (n == s.current.leg) _ e in
-        let now = same_number n s.current.leg both.0 in
-        let has = (and_parts s.line.has_next _ (and_parts (not s.line.finished) _ both.1).1).0 in
-        let higher = orders.higher has in record {
-          leg = s.next.leg;
-          behind = omega (arith, now, higher);
-          names = (known s.next.leg).tail.next_named has refl
-              ∙ ap (λ (k : Cookie). Some k) is;
-        }
-
-    in_r1_a6_other : (expected got : Cookie)
-        → Refuses expected got (on_in_r1_a6 s n successor)
-        → IsOther successor expected got × NextNames p n expected
-    in_r1_a6_other expected got =
-        by_test Row test (if same_cookie s.next.cookie successor then took (hands_over s n)
-        else refuse s (refused.Cookie s.next.cookie successor)) (unexpected s)
-        (λ e. by_test Row (same_cookie s.next.cookie successor) (took (hands_over s n))
-        (refuse s (refused.Cookie s.next.cookie successor)) (λ f r. absurd (cc))
-        (λ f r.
-        let is = other expected got s s.next.cookie successor f r in
-        (is.1, next_of expected e is.0)))
-        (λ e r. absurd (cc))
-      where
-        Row : Done → Type 0
-        Row x = Refuses expected got x → IsOther successor expected got × NextNames p n expected
-
-    -- another channel is the current one
-    module _ (used : IsUsed p n) where
-      begun : s.line.has_next ≡ true → (b : Bool) → is_begun s.stage ≡ b
-          → is_begun s.stage ≡ true
-      begun has true e = e
-      begun has false e = absurd (true≢false (sym has ∙ ((known n).tail.early e).1))
-
-      elsewhere : s.line.has_next ≡ true → s.line.finished ≡ false
-          → (n ≡ s.current.leg → ⊥) → UnexpectedInR1A6 p n
-      elsewhere has going apart = by at_leg.leg.stage refl
-        where
-          at_leg : Leg s.ins n (in_leg n s.ins)
-          at_leg = at p known answers opens n used
-
-          opened : IsOpen n (top_of s) (tally n p.came p.put) → UnexpectedInR1A6 p n
-          opened (inl now) = absurd (apart now)
-          opened (inr (inl next)) =
-              let higher = orders.higher has in
-              inr (inr (record {
-                leg = s.current.leg;
-                before = let is = next.1 in omega (arith, higher, is);
-                began = (known s.current.leg).tail.began
-                    (begun has (is_begun s.stage) refl) refl;
-                stays = orders.unleft going;
-              }))
-          opened (inr (inr left)) = inr (inl (inr (inr left)))
-
-          by : (x : InStage) → at_leg.leg.stage ≡ x → UnexpectedInR1A6 p n
-          by in_stage.Fresh e =
-              inr (inl (inl ((so p known answers opens n used).fresh (ap is_fresh e))))
-          by (in_stage.Waits window timeout ended) e =
-              inr (inl (inr (inl (unopened p known answers opens n used (ap is_waiting e)
-              (ap is_opened e)))))
-          by in_stage.Opened e =
-              opened ((so p known answers opens n used).opened (ap is_opened e))
-
-      in_r1_a6_refused : IsUnexpected (on_in_r1_a6 s n successor) → UnexpectedInR1A6 p n
-      in_r1_a6_refused =
-          by_test Row test (if same_cookie s.next.cookie successor then took (hands_over s n)
-          else refuse s (refused.Cookie s.next.cookie successor)) (unexpected s)
-          (λ e. by_test Row (same_cookie s.next.cookie successor) (took (hands_over s n))
-          (refuse s (refused.Cookie s.next.cookie successor)) (λ f r. absurd (cc))
-          (λ f r. absurd (cc)))
-          (λ e r. first (one_fails (n == s.current.leg) _ e))
-        where
-          Row : Done → Type 0
-          Row x = IsUnexpected x → UnexpectedInR1A6 p n
-
-          due : waiting ≡ true → UnexpectedInR1A6 p n
-          due e = inl (is_due p known answers opens (in_r1_a3_waits s.waiting.due e))
-
-          finished : s.line.finished ≡ true → UnexpectedInR1A6 p n
-          finished e = inl (is_left p known answers opens e)
-
-          alone : s.line.has_next ≡ false → UnexpectedInR1A6 p n
-          alone e = inl (no_next p known answers opens e)
-
-          third : (s.line.has_next ≡ false) ⊎ (not waiting ≡ false) → UnexpectedInR1A6 p n
-          third (inl e) = alone e
-          third (inr e) = due (not_false waiting e)
-
-          second : (not s.line.finished ≡ false) ⊎ ((s.line.has_next && not waiting) ≡ false)
-              → UnexpectedInR1A6 p n
-          second (inl e) = finished (not_false s.line.finished e)
-          second (inr e) = third (one_fails s.line.has_next (not waiting) e)
-
-          apart : (n ≡ s.current.leg → ⊥) → (f h : Bool) → s.line.finished ≡ f
-              → s.line.has_next ≡ h → UnexpectedInR1A6 p n
-          apart differ true h e g = finished e
-          apart differ false false e g = alone g
-          apart differ false true e g = elsewhere g e differ
-
-          first : ((n == s.current.leg) ≡ false)
-              ⊎ ((not s.line.finished && (s.line.has_next && not waiting)) ≡ false)
-              → UnexpectedInR1A6 p n
-          first (inl e) =
-              apart (other_number n s.current.leg e) s.line.finished s.line.has_next refl refl
-          first (inr e) = second (one_fails (not s.line.finished) _ e)
-
   pub refuses_in_for : RefusesInFor p
   refuses_in_for = record {
     pdu = λ n count bytes used r. pdu_refused p known answers opens n used bytes r;
@@ -248,7 +123,4 @@ module _ (p : Passage Server) (known : (n : ℕ) → Holds n p.role p.came p.put
     in_r1_a2_cookie = λ n count version connection predecessor successor window timeout expected
         got r.
         in_r1_a2_other expected got n count connection predecessor successor window timeout r;
-    in_r1_a6 = λ n count successor used r. in_r1_a6_refused n successor used r;
-    in_r1_a6_cookie = λ n count successor expected got r.
-        in_r1_a6_other n successor expected got r;
   }

@@ -34,10 +34,10 @@ use Rattle.rh_server_in_rows.proofs.Rows.{Fine, leg_same, same_fine, take_fine}
 use Rattle.rh_server_in_rows.proofs.Takes.{Holds, IsKept, packet_row, pdu_row}
 use Rattle.rh_server_in_rows.proofs.Puts.{puts, settled_fine}
 
-give_same : (s : Server) (bytes : List ℕ) → look (give s bytes).0 ≡ look s
+pub give_same : (s : Server) (bytes : List ℕ) → look (give s bytes).0 ≡ look s
 give_same s bytes = search rules
 
-recycle_same : (s : Server) → look (recycle s).0 ≡ look s
+pub recycle_same : (s : Server) → look (recycle s).0 ≡ look s
 recycle_same s = search rules
 
 -- a leg in use is kept
@@ -196,7 +196,7 @@ module _ (n : ℕ) where
       mark_fine (tally n p.came p.put) p.role leg.number leg.kind (all n)
   move_keeps p (Pings leg) may all = all n
 
-  end_move_keeps : (p : EndPassage Server) (move : EndMove)
+  pub end_move_keeps : (p : EndPassage Server) (move : EndMove)
       → MayEndMove server_rules p.passage.role move
       → ((k : ℕ) → Holds k p.passage.role p.passage.came p.passage.put)
       → HoldsAt (end_moved server_rules acts p move).passage
@@ -223,10 +223,10 @@ module _ (n : ℕ) where
       same_fine n p.passage.role (recycle p.passage.role).0
       (tally n p.passage.came p.passage.put) (recycle_same p.passage.role) (all n)
 
-abbrev AllHold : EndPassage Server → Type 0
+abbrev pub AllHold : EndPassage Server → Type 0
 AllHold p = (n : ℕ) → HoldsAt n p.passage
 
-moves_keep : (p : EndPassage Server) (moves : List EndMove)
+pub moves_keep : (p : EndPassage Server) (moves : List EndMove)
     → AreAllowedAtEnd server_rules acts p moves → AllHold p
     → AllHold (all_end_moved server_rules acts p moves)
 moves_keep p [] may all = all

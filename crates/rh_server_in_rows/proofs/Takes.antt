@@ -84,11 +84,11 @@ on_next s m e =
 
 -- ---- rows that leave it alone
 
-abbrev look_at : Bool → Server → Look
+abbrev pub look_at : Bool → Server → Look
 look_at begun s =
     record { top = record (top_of s) { begun = begun }; newest = s.newest_in; ins = s.ins }
 
-out_look : (s : Server) (begun : Bool) (b : Cookie) (c d : ℕ)
+pub out_look : (s : Server) (begun : Bool) (b : Cookie) (c d : ℕ)
     → look_at begun (with_first_out s b c d) ≡ look_at begun s
 out_look s begun b c d = search rules
 

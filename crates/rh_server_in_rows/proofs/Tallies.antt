@@ -54,17 +54,17 @@ pub record Grows (c d : Tally) : Type 0 where
 
 -- ---- a message more
 
-abbrev here : (Named → Bool) → ℕ → OnLeg → ℕ
+abbrev pub here : (Named → Bool) → ℕ → OnLeg → ℕ
 here test n one = often_at test InServer n (one ∷ [])
 
-often_more : (test : Named → Bool) (n : ℕ) (log : List OnLeg) (one : OnLeg)
+pub often_more : (test : Named → Bool) (n : ℕ) (log : List OnLeg) (one : OnLeg)
     → often_at test InServer n (log ++ one ∷ []) ≡ often_at test InServer n log + here test n one
 often_more test n log one =
     ap (count_of test) (leg_more (leg_at InServer n) log one)
     ∙ count_append test (of_leg (leg_at InServer n) log) (of_leg (leg_at InServer n) (one ∷ []))
 
 -- what doesn't pass the test
-none_here : (test : Named → Bool) (n : ℕ) (leg : Leg) (m : Message) → count_of test (m ∷ []) ≡ 0
+pub none_here : (test : Named → Bool) (n : ℕ) (leg : Leg) (m : Message) → count_of test (m ∷ []) ≡ 0
     → here test n (leg, m) ≡ 0
 none_here test n leg m none = by (same_leg leg (leg_at InServer n))
   where
@@ -73,7 +73,7 @@ none_here test n leg m none = by (same_leg leg (leg_at InServer n))
     by false = refl
 
 -- nor what is on another leg
-other_here : (test : Named → Bool) (n k : ℕ) (m : Message) → (n ≡ k → ⊥)
+pub other_here : (test : Named → Bool) (n k : ℕ) (m : Message) → (n ≡ k → ⊥)
     → here test n (leg_at InServer k, m) ≡ 0
 other_here test n k m apart =
     ap (λ (b : Bool). count_of test (if b then m ∷ [] else []))

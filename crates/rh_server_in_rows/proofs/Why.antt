@@ -44,11 +44,11 @@ abbrev pub IsUnexpected : Done → Type 0
 IsUnexpected d = d.1 ≡ Err refused.Unexpected
 
 -- the leg of that number
-pub record Leg (legs : List InLeg) (n : ℕ) (o : Option InLeg) : Type 0 where
-  pub leg : InLeg
-  pub found : Found legs leg
-  pub number : leg.number ≡ n
-  pub is : o ≡ Some leg
+record Leg (legs : List InLeg) (n : ℕ) (o : Option InLeg) : Type 0 where
+  leg : InLeg
+  found : Found legs leg
+  number : leg.number ≡ n
+  is : o ≡ Some leg
 
 leg_in : (legs : List InLeg) (n : ℕ) (o : Option InLeg) → IsKept o → IfSome o (Found legs)
     → IfSome o (λ (leg : InLeg). leg.number ≡ n) → Leg legs n o
@@ -65,18 +65,18 @@ module _ (p : Passage Server) (known : (n : ℕ) → Holds n p.role p.came p.put
     abbrev pub c : Tally
     c = tally n p.came p.put
 
-    pub at : Leg s.ins n (in_leg n s.ins)
+    at : Leg s.ins n (in_leg n s.ins)
     at = leg_in s.ins n (in_leg n s.ins) (in_use s n used).1 (found_at s.ins (in_place n s.ins))
         (number_found n s.ins (in_place n s.ins) refl)
 
-    pub so : So n (top_of s) c at.leg
+    so : So n (top_of s) c at.leg
     so = leg_at_place n (top_of s) s.newest_in s.ins c at.leg at.found (sym at.number) (known n)
 
     is_opening : is_open s.stage ≡ false → IsOpening p
     is_opening shut = opens.opening (still_opening s.stage (in_use s n used).0 shut)
 
     -- its channel waits
-    pub unopened : is_waiting at.leg.stage ≡ true → is_opened at.leg.stage ≡ false → IsUnopened p n
+    unopened : is_waiting at.leg.stage ≡ true → is_opened at.leg.stage ≡ false → IsUnopened p n
     unopened e f = record {
       announced = so.waits e;
       answered =

@@ -4,7 +4,7 @@ use Rattle.std.specs.Prelude.{ℕ, ◌≡◌, ◌⊎◌, ◌+◌, ◌≤◌, ◌
 use Rattle.std.specs.declared.option.Option.{Option}
 use Rattle.rh_rts.specs.declared.command.Cookie.{Cookie}
 use Rattle.rh_sig.specs.declared.named.Named.{Named}
-use Rattle.rh_sig.specs.declared.named.Named.TheVariants.{ConnB2, InR1A2, InR1A6, InR1B2, InR2A2, EndA2}
+use Rattle.rh_sig.specs.declared.named.Named.TheVariants.{ConnB2, InR1A2, InR1B2, InR2A2, EndA2}
 use Rattle.rh_line.specs.declared.leg.LegKind.TheVariants.{InServer}
 use Rattle.rh_shell.specs.declared.answers.Count.{Count}
 use Rattle.rh_shell.specs.declared.answers.Refused.TheVariants as refused
@@ -114,18 +114,6 @@ pub record IsFreshBelow (p : Passage Server) (n : ℕ) : Type 0 where
 abbrev pub UnexpectedInR1A2 : Passage Server → ℕ → Type 0
 UnexpectedInR1A2 p n = (1 ≤ came_on p n) ⊎ IsOpening p ⊎ IsFreshBelow p n
 
--- a channel began on a leg below, and IN_R1/A6 didn't come there
-pub record IsBehindOther (p : Passage Server) (n : ℕ) : Type 0 where
-  pub leg : ℕ
-  pub before : leg < n
-  pub began : 1 ≤ first_at p leg
-  pub stays : came_at is_in_r1_a6 p leg ≡ 0
-
--- IN_R1/A6: each IN_R1/A3 that was put has its own, or it is another leg's turn
-abbrev pub UnexpectedInR1A6 : Passage Server → ℕ → Type 0
-UnexpectedInR1A6 p n =
-    (out_put is_in_r1_a3 p ≤ in_came is_in_r1_a6 p) ⊎ IsShut p n ⊎ IsBehindOther p n
-
 -- ---- cookies that are expected
 
 -- the last announcement on the newest leg names it
@@ -133,12 +121,6 @@ pub record NewestNames (p : Passage Server) (expected : Cookie) : Type 0 where
   pub leg : ℕ
   pub names : last_of named_by None (of_leg (leg_at InServer leg) p.came) ≡ Some expected
   pub newest : (n : ℕ) → leg < n → first_at p n ≡ 0
-
--- the IN_R1/A2 on a leg behind names it
-pub record NextNames (p : Passage Server) (n : ℕ) (expected : Cookie) : Type 0 where
-  pub leg : ℕ
-  pub behind : n < leg
-  pub names : last_of successor_by None (of_leg (leg_at InServer leg) p.came) ≡ Some expected
 
 -- ---- the law
 
@@ -171,11 +153,3 @@ pub record RefusesInFor (p : Passage Server) : Type 0 where
       ≡ Err (refused.Cookie expected got)
       → IsOther connection expected got
       ⊎ (IsOther predecessor expected got × NewestNames p expected)
-  pub in_r1_a6 : (n : ℕ) (count : Count) (successor : Cookie) → IsUsed p n
-      → (rules.packet p.role (leg_at InServer n) count (InR1A6 successor)).1
-      ≡ Err refused.Unexpected
-      → UnexpectedInR1A6 p n
-  pub in_r1_a6_cookie : (n : ℕ) (count : Count) (successor expected got : Cookie)
-      → (rules.packet p.role (leg_at InServer n) count (InR1A6 successor)).1
-      ≡ Err (refused.Cookie expected got)
-      → IsOther successor expected got × NextNames p n expected

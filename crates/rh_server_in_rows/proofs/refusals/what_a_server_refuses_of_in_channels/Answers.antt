@@ -4,11 +4,21 @@ use Rattle.rh_server.specs.Servers.{acts, first}
 use Rattle.rh_server.specs.Servers.{rules as server_rules}
 use Rattle.rh_server.specs.States.{Server}
 use Rattle.rh_server_in_rows.proofs.CameUp.{kept_up}
+use Rattle.rh_server_in_rows.proofs.Handed.{refuses_in_r1_a6}
 use Rattle.rh_server_in_rows.proofs.Numbers.{numbers_given}
-use Rattle.rh_server_in_rows.proofs.Orders.{orders_of}
+use Rattle.rh_server_in_rows.proofs.Orders.{unleft}
 use Rattle.rh_server_in_rows.proofs.Replaced.{refuses_in_for}
 use Rattle.rh_server_in_rows.proofs.Steps.{known}
 use Rattle.rh_server_in_rows.proofs.refusals.what_a_server_refuses_of_in_channels.Goals as goal
+
+pub returns-clause-handovers : goal.returns-clause-handovers
+returns-clause-handovers c = λ window moves may.
+    let p : EndPassage Server =
+    all_end_moved server_rules acts (end_started (first window)) moves in
+    refuses_in_r1_a6 window moves may
+    (λ front. c.a_server_answers_each_in_channel_once.ensures.answers window front)
+    (unleft p (has_leg moves p.passage.role)
+    (c.a_server_takes_in_order.ensures window moves may))
 
 pub returns-clause-legs : goal.returns-clause-legs
 returns-clause-legs c = kept_up
@@ -23,5 +33,3 @@ returns-clause-refuses c = λ window moves may.
     refuses_in_for p.passage (known window moves may)
     (c.a_server_answers_each_in_channel_once.ensures.answers window moves)
     (c.a_server_opens_once.ensures window moves)
-    (orders_of p (has_leg moves p.passage.role)
-    (c.a_server_takes_in_order.ensures window moves may))
