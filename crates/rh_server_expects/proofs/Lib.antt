@@ -12,6 +12,9 @@ mod Fronts
 mod Confirms
 mod Confirmed
 mod Streams
+mod Ended
+mod OpenFirst
+mod NoCookie
 mod InAhead
 mod NoPing
-mod Upward
+mod InTurn
