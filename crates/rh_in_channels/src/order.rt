@@ -5,8 +5,13 @@ ghost use Rattle.std.specs.Prelude.{ℕ};
 ghost use Rattle.rh_moments.specs.Moments.{IsMoment, Moves, Numbers, server_behind};
 ghost use Rattle.rh_in_channels.specs.Announcing.{AnnounceNext, AreAnnounced, AreAnswered};
 
-use rh_client_counts::a_client_replaces_in_channels_one_by_one;
+use rh_client_counts::{
+    a_client_names_its_in_channels, a_client_opens_once, a_client_replaces_in_channels_one_by_one,
+};
+use rh_proxy_counts::an_out_proxy_forwards_what_came;
 use rh_rounds::replacements_go_round;
+use rh_server_counts::{a_server_answers_each_in_channel_once, a_server_opens_once};
+use rh_server_expects::an_in_proxy_in_turn_puts_in_order;
 
 /// At each moment of a virtual connection: the channels that were announced to the server are the
 /// first so many, each on the is leg of the in proxy that reads it, and there in order behind the
@@ -19,16 +24,22 @@ pub fn in_channels_are_announced_in_order()
     ensures next { (numbers : Numbers) (reader : ℕ → ℕ) (moves : Moves)
         → IsMoment numbers reader moves → AnnounceNext numbers moves }
 {
+    a_client_names_its_in_channels();
+    a_client_opens_once();
     a_client_replaces_in_channels_one_by_one();
+    an_in_proxy_in_turn_puts_in_order();
+    an_out_proxy_forwards_what_came();
+    a_server_opens_once();
     replacements_go_round();
 }
 
-/// The server answers them in that order: once it put as many answers as channels had been announced
-/// behind a front of its moves, each IN_R1/A2 that had come there has its IN_R1/A3 (successors are
-/// this profile's).
+/// The server answers them in that order: once it put as many answers as channels had been
+/// announced behind a front of its moves, each IN_R1/A2 that had come there has its IN_R1/A3
+/// (successors are this profile's).
 pub fn in_channels_are_answered_in_order()
     ensures { (numbers : Numbers) (reader : ℕ → ℕ) (moves : Moves)
         → IsMoment numbers reader moves → AreAnswered numbers moves.server }
 {
+    a_server_answers_each_in_channel_once();
     replacements_go_round();
 }
