@@ -234,7 +234,8 @@ module _ (numbers : Numbers) (reader : ℕ → ℕ) (moves : Moves)
             let a1 = know.round.a1_behind_a4 in
             let same : k ≡ number = omega (arith, least, is, first, most, a4, a3, a1) in
             let own = (know.connected k up).read in
-            let reads = at.reads numbers reader moves moment know (Joins successor) n number joins in
+            let reads = at.reads numbers reader moves moment know (Joins successor) n number joins
+            in
             let here = ap reader same in
             absurd (omega (arith, same, own, reads, here))
 

@@ -170,8 +170,8 @@ module _ (numbers : Numbers) (reader : ℕ → ℕ) (moves : Moves)
   at_own P n more has =
       subst (λ (k : ℕ). HasOne P (asked_at n (k + more))) (number n) has
 
-  pub first_own : (P : Named → Type 0) (n : ℕ) → puts.CameFirst (numbers.ins n).number P (proxy n).came
-      → HasOne P (asked_at n n)
+  pub first_own : (P : Named → Type 0) (n : ℕ)
+      → puts.CameFirst (numbers.ins n).number P (proxy n).came → HasOne P (asked_at n n)
   first_own P n first =
       subst (λ (k : ℕ). HasOne P (asked_at n k)) (number n)
       (first_one P (asked_at n (numbers.ins n).number) first)
@@ -273,8 +273,8 @@ module _ (numbers : Numbers) (reader : ℕ → ℕ) (moves : Moves)
       let n = leg.0 in
       let asked = stream_asked (numbers.ins n) (proxy n).came cookie (came n) (came_so n) leg.1 in
       let k = (numbers.ins n).number in
-      begins.connects_of numbers.client moves.client know.channels_begin k cookie asked.channel asked.group
-      (was_put (puts.Connects cookie asked.channel asked.group) n k asked.came)
+      begins.connects_of numbers.client moves.client know.channels_begin k cookie asked.channel
+      asked.group (was_put (puts.Connects cookie asked.channel asked.group) n k asked.came)
 
   -- all connections that came are the client's
   pub connection_is : (cookie : Cookie)

@@ -242,8 +242,8 @@ module _ (config : InProxyConfig) (log : List OnLeg) where
         begun = rest_names config.number channel expected ms h.1
             (one_so (puts.Connects connection channel group) (BeginsIn channel)
             (connects_begins connection channel group) (of_leg (ci config.number) log)
-            (first_one (puts.Connects connection channel group) (of_leg (ci config.number) log) h.0.4))
-            e;
+            (first_one (puts.Connects connection channel group) (of_leg (ci config.number) log)
+            h.0.4)) e;
       }
   last_begun (Packet (InR1A2 version connection predecessor successor window timeout) ∷ ms)
       expected h e = record {
