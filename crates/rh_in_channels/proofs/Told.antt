@@ -15,8 +15,7 @@ use Rattle.rh_server.specs.declared.state.Stage.{Stage}
 use Rattle.rh_server.specs.declared.state.Stage.TheVariants as stages
 use Rattle.rh_server.specs.States.{Server}
 use Rattle.rh_reading.specs.Reading.{all_read_of}
-use Rattle.rh_passages.specs.Passing.{count_of, of_kind, HasOne}
-use Rattle.rh_client_counts.specs.Counting as at_client
+use Rattle.rh_passages.specs.Passing.{count_of, HasOne}
 use Rattle.rh_client_counts.specs.Counting.{is_among, is_in_r1_a1, once_if}
 use Rattle.rh_client_counts.specs.Naming.{NamesIns}
 use Rattle.rh_client_counts.specs.Opening as client_opening
@@ -25,14 +24,12 @@ use Rattle.rh_client_counts.specs.Replacing.{ReplacesIns, in_asked}
 use Rattle.rh_proxy_counts.specs.InCounts.{is_leg}
 use Rattle.rh_proxy_counts.specs.Kinds as at_proxy
 use Rattle.rh_proxy_counts.specs.OutCounts.{ForwardsWhatCame}
-use Rattle.rh_server_counts.specs.Counting as at_server
-use Rattle.rh_server_counts.specs.Counting.{in_came, is_conn_b2, is_in_r1_a2}
+use Rattle.rh_server_counts.specs.Counting.{in_came, is_conn_b2, is_conn_c1, is_in_r1_a2, out_put}
 use Rattle.rh_server_counts.specs.Opening.{OpensOnce, since_conn_b2, since_open}
 use Rattle.rh_inproxy_puts.specs.Puts.{IsStream, PutsInOrder}
 use Rattle.rh_chains.proofs.Along.{by_proxies}
 use Rattle.rh_rounds.specs.Rounds.{GoRound, announced, taken_in}
 use Rattle.rh_rounds.proofs.Fronts.{are_fronts}
-use Rattle.rh_inproxy_expects.proofs.Fronts.{same_counts}
 use Rattle.rh_moments.specs.Moments.{IsJoined, Moves, Numbers, Passages, client_behind, in_behind, out_behind, passages, server_behind}
 use Rattle.rh_moments.proofs.Joining.{in_front, in_reads, is_front}
 use Rattle.rh_moments.proofs.Read.{front_one}
@@ -72,14 +69,6 @@ among_least n count all e some = grind (arith, nat_tests, e, some)
 
 among_most : (n count all : ℕ) → count ≡ once_if (is_among 2 all n) → 1 ≤ count → n ≤ all + 1
 among_most n count all e some = grind (arith, nat_tests, e, some)
-
-conn_c2 : (m : Named) → at_client.is_conn_c2 m ≡ at_proxy.is_conn_c2 m
-conn_c2 (named.ConnC2 version window timeout) = refl
-conn_c2 m = refl
-
-conn_c1 : (m : Named) → at_proxy.is_conn_c1 m ≡ at_server.is_conn_c1 m
-conn_c1 (named.ConnC1 version window timeout) = refl
-conn_c1 m = refl
 
 since_both : (stage : Stage) → since_open stage ≤ since_conn_b2 stage
 since_both stages.Waits = omega arith
@@ -224,22 +213,23 @@ module _ (numbers : Numbers) (reader : ℕ → ℕ) (moves : Moves)
 
   -- ---- what came at the server
 
+  -- no more CONN/C2 came than CONN/C1 was put
+  opened_by_put : opened all.client ≤ out_put is_conn_c1 all.server
+  opened_by_put =
+      let f = are_fronts reader all joined.joined in
+      by_proxies at_proxy.is_conn_c1 at_proxy.is_conn_c2 OutServer ClientOut all.client.came
+      all.server.put (λ n. (all.outs n).came) (λ n. (all.outs n).put)
+      (f.co_down at_proxy.is_conn_c2) (λ n. (law.forwards n).connection)
+      (f.os_down at_proxy.is_conn_c1)
+
   client_opened : 1 ≤ asked → 1 ≤ in_came is_conn_b2 all.server
   client_opened some =
-      let f = are_fronts reader all joined.joined in
       let client = asked_opened all.client law.client_opens some in
-      let at_end = same_counts at_client.is_conn_c2 at_proxy.is_conn_c2 conn_c2
-      (of_kind ClientOut all.client.came) in
-      let down = by_proxies at_proxy.is_conn_c1 at_proxy.is_conn_c2 OutServer ClientOut
-      all.client.came all.server.put (λ n. (all.outs n).came) (λ n. (all.outs n).put)
-      (f.co_down at_proxy.is_conn_c2) (λ n. (law.forwards n).connection)
-      (f.os_down at_proxy.is_conn_c1) in
-      let at_start = same_counts at_proxy.is_conn_c1 at_server.is_conn_c1 conn_c1
-      (of_kind OutServer all.server.put) in
+      let down = opened_by_put in
       let put = law.server_opens.conn_c1 in
       let came = law.server_opens.conn_b2 in
       let both = since_both all.server.role.stage in
-      omega (arith, client, at_end, down, at_start, put, came, both)
+      omega (arith, client, down, put, came, both)
 
   pub are_told : AreTold reader asked all.server
   are_told =

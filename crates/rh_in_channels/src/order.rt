@@ -15,8 +15,9 @@ use rh_server_expects::an_in_proxy_in_turn_puts_in_order;
 
 /// At each moment of a virtual connection: the channels that were announced to the server are the
 /// first so many, each on the is leg of the in proxy that reads it, and there in order behind the
-/// one with which the leg began. What stands next on an is leg announces the next channel, and only
-/// behind the answers to all before (successors are this profile's).
+/// one with which the leg began, once. An IN_R1/A2 or IN_R2/A2 that stands next on an is leg
+/// announces the next channel, the latter on a leg that began with one, and only behind the answers
+/// to all before (successors are this profile's).
 pub fn in_channels_are_announced_in_order()
     ensures order { (numbers : Numbers) (reader : ℕ → ℕ) (moves : Moves)
         → IsMoment numbers reader moves
@@ -33,8 +34,8 @@ pub fn in_channels_are_announced_in_order()
     replacements_go_round();
 }
 
-/// The server answers them in that order: once it put as many answers as channels had been
-/// announced behind a front of its moves, each IN_R1/A2 that had come there has its IN_R1/A3
+/// The server answers them in that order: once it put as many IN_R1/A3 and IN_R2/A3 as IN_R1/A2 and
+/// IN_R2/A2 had come behind a front of its moves, it put as many IN_R1/A3 as IN_R1/A2 had come there
 /// (successors are this profile's).
 pub fn in_channels_are_answered_in_order()
     ensures { (numbers : Numbers) (reader : ℕ → ℕ) (moves : Moves)
