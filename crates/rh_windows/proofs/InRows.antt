@@ -1,4 +1,4 @@
--- the rows of an in proxy refuse for a window on ci legs alone, and as out of range on is legs alone
+-- the rows of an in proxy refuse for a window on ci legs alone, as out of range on is legs alone
 use Rattle.std.proofs.Common.{ℕ, List, rules}
 use Rattle.std.specs.Prelude.{Some, None}
 use Rattle.std.specs.declared.option.Option.{Option}
