@@ -55,7 +55,7 @@ use Rattle.rh_honest.proofs.Fed.{told_what, told_who}
 use Rattle.rh_hops.specs.Hops.{is_leg, os_leg}
 use Rattle.rh_hops.proofs.Moment.{Laws, NodeLaws, known, well_behind}
 use Rattle.rh_hops.proofs.Stopping.{Readings}
-use Rattle.rh_client_hops.proofs.Joined.{Reads}
+use Rattle.rh_fifo.proofs.Legs.{Reads}
 use Rattle.rh_moments.specs.Expecting.{Expects, HasNoPingFirst, IsAmiss}
 use Rattle.rh_moments.specs.Moments.{Moves, Numbers, in_behind, out_behind, server_behind}
 use Rattle.rh_amiss.specs.Amiss.{amiss_by}

@@ -26,12 +26,12 @@ ghost use Rattle.rh_nodes.specs.Wires.{receiver};
 ghost use Rattle.rh_ordered.specs.Premises.{history_at};
 ghost use Rattle.rh_reading.specs.Well.{ReadsWell};
 ghost use Rattle.rh_traced.specs.Ours.{AreOurs, deeds, rules};
-ghost use Rattle.rh_fifo.specs.Flows.{numbers_of};
+ghost use Rattle.rh_fifo.specs.Flows.{numbers_of, read_on};
 ghost use Rattle.rh_fifo.specs.Premises.{AreInRange};
 ghost use Rattle.rh_refused.specs.Refused.{IsPort};
 ghost use Rattle.rh_streams.specs.Streams.{IsFirstHead};
 ghost use Rattle.rh_honest.specs.Heads.{HeadIsRead};
-ghost use Rattle.rh_honest.specs.Honest.{IsOfNode, read_on, well_on};
+ghost use Rattle.rh_honest.specs.Honest.{IsOfNode, well_on};
 
 use crate::pieces::what_is_heard_well_closes_for_the_role;
 use crate::ranges::rows_refuse_values_of_acknowledgements;

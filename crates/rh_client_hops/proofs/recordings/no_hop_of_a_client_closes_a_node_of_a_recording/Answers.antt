@@ -10,7 +10,7 @@ use Rattle.rh_fifo.specs.Flows.{numbers_of}
 use Rattle.rh_fifo.proofs.Recorded.{new, ours}
 use Rattle.rh_honest.proofs.Recorded.{of_recording_apart}
 use Rattle.rh_client_hops.specs.Premises.{HasOneWindow}
-use Rattle.rh_client_hops.proofs.Distinct.{own_distinct}
+use Rattle.rh_fifo.proofs.Distinct.{own_distinct}
 use Rattle.rh_client_hops.proofs.recordings.no_hop_of_a_client_closes_a_node_of_a_recording.Goals as goal
 
 -- its in proxies have the window that was set, whatever their numbers

@@ -15,7 +15,7 @@ use Rattle.rh_fifo.specs.Flows.{numbers_of}
 use Rattle.rh_fifo.specs.Premises.{AreInRange}
 use Rattle.rh_hops.proofs.Moment.{Laws}
 use Rattle.rh_hops.proofs.Stopping.{Readings}
-use Rattle.rh_client_hops.proofs.Joined.{Reads}
+use Rattle.rh_fifo.proofs.Legs.{Reads}
 use Rattle.rh_amiss.proofs.AtNodes.{RolesKnow}
 use Rattle.rh_amiss.proofs.Moments.{AllFlow}
 use Rattle.rh_refused.specs.Refused.{IsPort}
