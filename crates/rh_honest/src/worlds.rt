@@ -28,7 +28,7 @@ ghost use Rattle.rh_reading.specs.Well.{ReadsWell};
 ghost use Rattle.rh_traced.specs.Ours.{AreOurs, deeds, rules};
 ghost use Rattle.rh_fifo.specs.Flows.{numbers_of, read_on};
 ghost use Rattle.rh_fifo.specs.Premises.{AreInRange};
-ghost use Rattle.rh_refused.specs.Refused.{IsPort};
+ghost use Rattle.rh_first_texts.specs.Ports.{IsPort};
 ghost use Rattle.rh_streams.specs.Streams.{IsFirstHead};
 ghost use Rattle.rh_honest.specs.Heads.{HeadIsRead};
 ghost use Rattle.rh_honest.specs.Honest.{IsOfNode, well_on};

@@ -22,7 +22,7 @@ ghost use Rattle.rh_ordered.specs.Premises.{history_at};
 ghost use Rattle.rh_reading.specs.Well.{ReadsWell, is_named};
 ghost use Rattle.rh_fifo.specs.Flows.{numbers_of};
 ghost use Rattle.rh_fifo.specs.Premises.{AreInRange};
-ghost use Rattle.rh_refused.specs.Refused.{IsPort};
+ghost use Rattle.rh_first_texts.specs.Ports.{IsPort};
 
 use crate::heads::an_out_proxy_hears_its_clients_request;
 use rh_asked::what_an_out_proxy_serves_reads_well;

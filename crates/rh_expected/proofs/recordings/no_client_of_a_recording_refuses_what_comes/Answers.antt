@@ -6,7 +6,7 @@ use Rattle.rh_ordered.specs.Premises.{history_at}
 use Rattle.rh_world.specs.Roles as roles
 use Rattle.rh_fifo.proofs.Recorded.{new, ours}
 use Rattle.rh_honest.proofs.Recorded.{of_recording_apart}
-use Rattle.rh_refused.proofs.Taken.{recorded_port}
+use Rattle.rh_first_texts.proofs.Taken.{recorded_port}
 use Rattle.rh_fifo.proofs.Distinct.{own_distinct}
 use Rattle.rh_expected.proofs.recordings.no_client_of_a_recording_refuses_what_comes.Goals as goal
 
