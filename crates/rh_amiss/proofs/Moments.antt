@@ -46,9 +46,8 @@ use Rattle.rh_reading.specs.Reading.{all_read_of, messages_read}
 use Rattle.rh_reading.specs.Well.{Answers, ReadsWell}
 use Rattle.rh_traced.specs.Cookies.{ByChanges}
 use Rattle.rh_traced.specs.Ours.{AreOurs, deeds, rules}
-use Rattle.rh_traced.specs.Recordings.{IsKnown}
+use Rattle.rh_traced.specs.Recordings.{IsKnown, history_at}
 use Rattle.rh_traced.specs.Turns.{HearInTurn}
-use Rattle.rh_ordered.specs.Premises.{history_at}
 use Rattle.rh_fifo.specs.Flows.{IsFlowing, Numbers, numbers_of, read_on}
 use Rattle.rh_fifo.proofs.Heard.{node_reads, reads_on}
 use Rattle.rh_hops.proofs.Fed.{heard_behind, in_events, out_events, piece, told_here}

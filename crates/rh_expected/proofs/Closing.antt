@@ -46,7 +46,7 @@ use Rattle.rh_history.proofs.Numbers.{answered}
 use Rattle.rh_reading.specs.Reading.{all_read_of}
 use Rattle.rh_traced.specs.Cookies.{ByChanges}
 use Rattle.rh_traced.specs.Ours.{AreOurs, deeds, rules}
-use Rattle.rh_ordered.specs.Premises.{history_at}
+use Rattle.rh_traced.specs.Recordings.{history_at}
 use Rattle.rh_fifo.specs.Flows.{IsFlowing, numbers_of}
 use Rattle.rh_causes.specs.Reasons.{ComesAmiss}
 use Rattle.rh_honest.specs.Honest.{well_on}

@@ -36,7 +36,7 @@ use Rattle.rh_reading.specs.Reading.{all_read_of}
 use Rattle.rh_reading.specs.Well.{ReadsWell, is_named}
 use Rattle.rh_traced.specs.Cookies.{ByChanges}
 use Rattle.rh_traced.specs.Ours.{AreOurs, deeds, rules}
-use Rattle.rh_ordered.specs.Premises.{history_at}
+use Rattle.rh_traced.specs.Recordings.{history_at}
 use Rattle.rh_honest.proofs.Closing.{EachComes, by_fed}
 use Rattle.rh_honest.proofs.Fed.{told_what, told_who}
 use Rattle.rh_hops.proofs.Moment.{Laws, NodeLaws, known}

@@ -11,7 +11,7 @@ use Rattle.rh_history.specs.Carried.{happened}
 use Rattle.rh_history.specs.Histories.{History}
 use Rattle.rh_traced.specs.Cookies.{ByChanges}
 use Rattle.rh_traced.specs.Ours.{AreOurs, deeds, rules}
-use Rattle.rh_ordered.specs.Premises.{history_at}
+use Rattle.rh_traced.specs.Recordings.{history_at}
 use Rattle.rh_fifo.specs.Flows as fifo
 use Rattle.rh_fifo.specs.Flows.{IsFlowing, numbers_of}
 use Rattle.rh_fifo.specs.Premises.{AreDistinct}

@@ -25,9 +25,8 @@ use Rattle.rh_history.specs.Histories.{IsNew}
 use Rattle.rh_streams.specs.Streams.{HasPipes, HearsInTurn, StaysUnused}
 use Rattle.rh_proxies_begin.specs.Pipes.{in_pipe, out_pipe}
 use Rattle.rh_traced.specs.Ours.{AreOurs, deeds, rules}
-use Rattle.rh_traced.specs.Recordings.{IsKnown}
+use Rattle.rh_traced.specs.Recordings.{IsKnown, history_at}
 use Rattle.rh_history.proofs.Leading.{cast_kept}
-use Rattle.rh_ordered.specs.Premises.{history_at}
 use Rattle.rh_fifo.proofs.Flowing.{NodeStreams, ProxyStreaming}
 use Rattle.rh_refused.proofs.Fronts.{Traced}
 

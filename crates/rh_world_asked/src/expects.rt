@@ -23,7 +23,7 @@ ghost use Rattle.rh_reading.specs.Reading.{all_read_of};
 ghost use Rattle.rh_moments.specs.Expecting.{Expects};
 ghost use Rattle.rh_traced.specs.Cookies.{ByChanges};
 ghost use Rattle.rh_traced.specs.Ours.{AreOurs, deeds, rules};
-ghost use Rattle.rh_ordered.specs.Premises.{history_at};
+ghost use Rattle.rh_traced.specs.Recordings.{history_at};
 ghost use Rattle.rh_fifo.specs.Flows.{IsFlowing, numbers_of};
 ghost use Rattle.rh_first_texts.specs.Ports.{IsPort};
 

@@ -1,7 +1,7 @@
 use Rattle.rh_line.specs.declared.cause.Cause.TheVariants as cause
 use Rattle.rh_record.specs.declared.answer.Who.TheVariants as who
 use Rattle.rh_history.specs.Carried.{happened}
-use Rattle.rh_ordered.specs.Premises.{history_at}
+use Rattle.rh_traced.specs.Recordings.{history_at}
 use Rattle.rh_world.specs.Roles as roles
 use Rattle.rh_fifo.proofs.Recorded.{new, ours}
 use Rattle.rh_honest.proofs.Recorded.{of_recording_apart}

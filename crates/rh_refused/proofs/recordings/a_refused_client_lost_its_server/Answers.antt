@@ -22,8 +22,8 @@ use Rattle.rh_streams.specs.Turns.{RefusesInTurn}
 use Rattle.rh_down.specs.Down.{proxy_reads}
 use Rattle.rh_proxies_begin.specs.Pipes.{in_pipe}
 use Rattle.rh_traced.specs.Ours.{deeds, rules}
+use Rattle.rh_traced.specs.Recordings.{history_at}
 use Rattle.rh_history.proofs.Leading.{cast_kept}
-use Rattle.rh_ordered.specs.Premises.{history_at}
 use Rattle.rh_refused.specs.Refused.{BeginsRefused}
 use Rattle.rh_refused.proofs.Lost.{has_503}
 use Rattle.rh_first_texts.proofs.Asking.{head_is, whole_requests}

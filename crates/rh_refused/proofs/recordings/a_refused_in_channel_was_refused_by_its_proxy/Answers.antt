@@ -7,8 +7,8 @@ use Rattle.rh_shell.specs.Wires.{of_leg}
 use Rattle.rh_inproxy.specs.Machine as in_proxy
 use Rattle.rh_inproxy.specs.State.{InProxy}
 use Rattle.rh_history.specs.Carried.{drawn_on}
-use Rattle.rh_ordered.specs.Premises.{history_at}
 use Rattle.rh_traced.specs.Ours.{deeds, rules}
+use Rattle.rh_traced.specs.Recordings.{history_at}
 use Rattle.rh_history.proofs.Leading.{cast_kept}
 use Rattle.rh_refused.specs.Refused.{BeginsRefused}
 use Rattle.rh_first_texts.proofs.InTexts.{echoes_alone}
