@@ -1,5 +1,5 @@
-//! The IN channels that a server is told of come in order. Its functions do nothing: their contracts
-//! are the laws.
+//! The IN channels that a server is told of come in order. Its functions do nothing: their
+//! contracts are the laws.
 #![tactic(auto)]
 
 pub mod order;

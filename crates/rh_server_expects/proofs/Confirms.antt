@@ -30,7 +30,7 @@ use Rattle.rh_server_expects.proofs.InOrder.{AreOwn, InOrder, all_confirmed, all
 
 -- ---- counts
 
-same_counts : (one other : Named → Bool) → ((m : Named) → one m ≡ other m)
+pub same_counts : (one other : Named → Bool) → ((m : Named) → one m ≡ other m)
     → (ms : List Message) → count_of one ms ≡ count_of other ms
 same_counts one other is [] = refl
 same_counts one other is (Text bytes ∷ ms) = same_counts one other is ms

@@ -1,17 +1,20 @@
 mod InProxies
-mod Logs
+pub mod Logs
 mod Cookies
 mod Refused
 mod Opened
 mod Moment
-mod FirstIn
+pub mod FirstIn
 mod Connections
 mod Ahead
 mod InOrder
-mod Fronts
+pub mod Fronts
 mod Confirms
 mod Confirmed
-mod Streams
+pub mod Streams
+mod Ended
+mod OpenFirst
+mod NoCookie
 mod InAhead
 mod NoPing
-mod Upward
+mod InTurn

@@ -1,16 +1,15 @@
 -- what a server expects of its in proxies (MS-RPCH 3.2.5; replacement is this profile's)
-use Rattle.std.specs.Prelude.{◌≡◌, List, IsTrue, Err}
+use Rattle.std.specs.Prelude.{ℕ, ◌≡◌, List, IsTrue, Err}
 use Rattle.rh_sig.specs.declared.named.Named.{Named}
-use Rattle.rh_sig.specs.declared.named.Named.TheVariants.{ConnB2, OutR1A8, AckTo}
+use Rattle.rh_sig.specs.declared.named.Named.TheVariants.{InR1A2, InR1A6, InR2A2}
 use Rattle.rh_line.specs.declared.leg.Leg.{Leg}
 use Rattle.rh_shell.specs.declared.answers.Count.{Count}
 use Rattle.rh_shell.specs.declared.answers.Refused.{Refused}
 use Rattle.rh_shell.specs.Moves.{Passage, is_in_use}
-use Rattle.rh_shell.specs.Rules.{Message, Rules}
+use Rattle.rh_shell.specs.Rules.{Message, Rules, Pdu, Packet}
 use Rattle.rh_shell.specs.Wires.{of_leg}
 use Rattle.rh_passages.specs.Counted.{Tells, packets}
 use Rattle.rh_moments.specs.Expecting.{IsAhead, IsAmiss}
-use Rattle.rh_shell.specs.Rules.{Packet}
 
 -- where the next message is one of these packets, it is not refused as unexpected or for its
 -- cookie, by its true count
@@ -22,10 +21,17 @@ ExpectsThose Is rules p leg all =
     → IsAhead p leg all (Packet named)
     → (rules.packet p.role leg count named).1 ≡ Err why → IsAmiss why → ⊥
 
--- CONN/B2, an acknowledgement with a destination, or OUT_R1/A8
-abbrev pub OpensOrConfirms : Named → Type 0
-OpensOrConfirms (ConnB2 version connection channel window timeout group address padding) =
-    Unit {0}
-OpensOrConfirms (AckTo destination received window cookie) = Unit {0}
-OpensOrConfirms (OutR1A8 destination successor) = Unit {0}
-OpensOrConfirms packet = ⊥
+-- where the next message is an RPC PDU, on a leg that was up, it is not refused so
+abbrev pub ExpectsPdus : {S : Type 0} → Rules S → Passage S → Leg → List Message → Type 0
+ExpectsPdus rules p leg all =
+    (count : Count) (bytes : List ℕ) (why : Refused)
+    → IsTrue (is_in_use rules p.role leg) → IsTrue (rules.was_up p.role leg)
+    → IsAhead p leg all (Pdu bytes)
+    → (rules.pdu p.role leg count bytes).1 ≡ Err why → IsAmiss why → ⊥
+
+-- no packet that announces a successor of an IN channel, or hands over to it
+abbrev pub AnnouncesNone : Named → Type 0
+AnnouncesNone (InR1A2 version connection predecessor successor window timeout) = ⊥
+AnnouncesNone (InR1A6 successor) = ⊥
+AnnouncesNone (InR2A2 successor) = ⊥
+AnnouncesNone packet = Unit {0}

@@ -1,3 +1,2 @@
 pub mod Connecting
-pub mod Early
 pub mod Expected

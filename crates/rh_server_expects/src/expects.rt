@@ -6,20 +6,23 @@ ghost use Rattle.rh_server.specs.Servers.{rules};
 ghost use Rattle.rh_reading.specs.Reading.{all_read_of};
 ghost use Rattle.rh_proxy_counts.specs.InCounts.{is_leg};
 ghost use Rattle.rh_proxy_counts.specs.OutCounts.{os_leg};
-ghost use Rattle.rh_inproxy_puts.specs.Puts.{PutsInOrder};
 ghost use Rattle.rh_moments.specs.Expecting.{Expects};
 ghost use Rattle.rh_moments.specs.Moments.{IsMoment, Moves, Numbers};
 ghost use Rattle.rh_moments.specs.Moments.{in_behind, out_behind, server_behind};
-ghost use Rattle.rh_server_expects.specs.Expected.{ExpectsThose, OpensOrConfirms};
+ghost use Rattle.rh_server_expects.specs.Expected.{AnnouncesNone, ExpectsPdus, ExpectsThose};
 
-use crate::in_proxies::an_in_proxy_connects_as_it_was_asked;
-use rh_client_counts::{a_client_names_its_in_channels, a_client_replaces_out_channels_one_by_one};
+use crate::in_proxies::{an_in_proxy_connects_as_it_was_asked, an_in_proxy_in_turn_puts_in_order};
+use rh_client_counts::{
+    a_client_names_its_in_channels, a_client_opens_once, a_client_replaces_out_channels_one_by_one,
+};
 use rh_client_puts::{a_client_opens_out_channels_in_order, a_client_switches_in_order};
 use rh_inproxy_expects::no_client_is_opened_early;
+use rh_inproxy_puts::{an_in_proxy_ends_last, an_in_proxy_sends_where_it_was_told};
 use rh_outproxy_puts::an_out_proxy_opens_to_the_server_first;
-use rh_proxy_counts::an_in_proxy_puts_for_what_came;
+use rh_proxy_counts::{an_in_proxy_puts_for_what_came, an_out_proxy_forwards_what_came};
 use rh_rounds::replacements_go_round;
-use rh_server_counts::a_server_replaces_out_channels_one_by_one;
+use rh_server_counts::{a_server_opens_once, a_server_replaces_out_channels_one_by_one};
+use rh_server_in_rows::what_a_server_refuses_of_in_channels;
 use rh_server_rows::what_a_server_refuses;
 
 /// At each moment of a virtual connection, of what an out proxy put a server refuses nothing that
@@ -43,25 +46,39 @@ pub fn a_server_expects_its_out_proxies()
     replacements_go_round();
 }
 
-/// At each moment of a virtual connection whose in proxies put in order, as they do where they put
-/// nothing on a leg before it is up: of what an in proxy put a server refuses no CONN/B2, no
-/// acknowledgement with a destination and no OUT_R1/A8 that comes next as unexpected, or for its
-/// cookie. CONN/B2 comes first and once, on the first leg, with the client's connection; the others
-/// behind it or behind IN_R1/A2. OUT_R1/A8 comes where OUT_R1/A5 was put for it, and in the order
-/// of the channels that the client switches to (MS-RPCH 3.2.5; replacement is this profile's).
-pub fn a_server_expects_its_in_proxies()
-    ensures { (numbers : Numbers) (reader : ℕ → ℕ) (moves : Moves) → IsMoment numbers reader moves
-        → ((m : ℕ) → PutsInOrder (numbers.ins m) (in_behind numbers moves m))
-        → (n : ℕ) → ExpectsThose OpensOrConfirms rules (server_behind numbers moves).passage
-        (is_leg n) (all_read_of (of_leg (is_leg n) (in_behind numbers moves n).put)) }
+/// At each moment of a virtual connection, of what an in proxy put a server refuses nothing that
+/// comes next as unexpected, or for its cookie: no packet but perhaps IN_R1/A2, IN_R1/A6 and
+/// IN_R2/A2, of which nothing is said here, and no RPC PDU on a leg that was up. CONN/B2 comes
+/// first and once, on the first leg, with the client's connection; acknowledgements with a
+/// destination, OUT_R1/A8 and END/A2 come behind it or behind IN_R1/A2. OUT_R1/A8 comes where
+/// OUT_R1/A5 was put for it, and in the order of the channels that the client switches to. RPC PDUs
+/// come once CONN/A2 and CONN/B2 came, and where the server told its window on the leg; and neither
+/// they nor END/A2 come behind IN_R1/A6 or END/A2 there (MS-RPCH 3.2.5; replacement and END are
+/// this profile's).
+pub fn a_server_expects_all_but_successors()
+    ensures packets { (numbers : Numbers) (reader : ℕ → ℕ) (moves : Moves)
+        → IsMoment numbers reader moves → (n : ℕ)
+        → ExpectsThose AnnouncesNone rules (server_behind numbers moves).passage (is_leg n)
+        (all_read_of (of_leg (is_leg n) (in_behind numbers moves n).put)) }
+    ensures pdus { (numbers : Numbers) (reader : ℕ → ℕ) (moves : Moves)
+        → IsMoment numbers reader moves → (n : ℕ)
+        → ExpectsPdus rules (server_behind numbers moves).passage (is_leg n)
+        (all_read_of (of_leg (is_leg n) (in_behind numbers moves n).put)) }
 {
     a_client_names_its_in_channels();
+    a_client_opens_once();
     a_client_opens_out_channels_in_order();
     a_client_switches_in_order();
     an_in_proxy_connects_as_it_was_asked();
+    an_in_proxy_ends_last();
+    an_in_proxy_in_turn_puts_in_order();
     an_in_proxy_puts_for_what_came();
+    an_in_proxy_sends_where_it_was_told();
+    an_out_proxy_forwards_what_came();
     an_out_proxy_opens_to_the_server_first();
+    a_server_opens_once();
     a_server_replaces_out_channels_one_by_one();
     what_a_server_refuses();
+    what_a_server_refuses_of_in_channels();
     replacements_go_round();
 }

@@ -2,14 +2,15 @@
 //! do nothing: their contracts are the laws.
 
 ghost use Rattle.std.specs.Prelude.{List};
-ghost use Rattle.rh_shell.specs.Moves.{Move, all_moved, started};
+ghost use Rattle.rh_shell.specs.Moves.{AreAllowed, Move, all_moved, started};
+ghost use Rattle.rh_streams.specs.Turns.{AreInTurn};
 ghost use Rattle.rh_inproxy.specs.declared.state.InProxyConfig.{InProxyConfig};
 ghost use Rattle.rh_inproxy.specs.Machine.{rules};
 ghost use Rattle.rh_inproxy.specs.State.{first};
 ghost use Rattle.rh_inproxy_puts.specs.Puts.{PutsInOrder};
 ghost use Rattle.rh_server_expects.specs.Connecting.{ConnectsForWhatCame};
-ghost use Rattle.rh_server_expects.specs.Early.{PutsNothingEarly};
 
+use rh_causes::an_in_proxys_leg_comes_up_once;
 use rh_inproxy_puts::an_in_proxy_puts_in_order;
 
 /// Whatever moves an in proxy makes, allowed or not: of each connection, and of all, it put on a
@@ -20,12 +21,14 @@ pub fn an_in_proxy_connects_as_it_was_asked()
         → ConnectsForWhatCame (all_moved rules (started (first config)) moves) }
 {}
 
-/// Where an in proxy puts nothing on a leg before it is up, it puts in order on its is leg: moves
-/// that put only on legs that are up lead to the same (MS-RPCH 3.2.3).
-pub fn an_in_proxy_that_puts_nothing_early_puts_in_order()
+/// Where the moves of an in proxy are allowed and in turn, it puts in order on its is leg: for in
+/// turn it puts only on legs that came up, and these are up from then on (MS-RPCH 3.2.3; profile).
+pub fn an_in_proxy_in_turn_puts_in_order()
     ensures { (config : InProxyConfig) (moves : List Move)
-        → PutsNothingEarly rules (started (first config)) moves
+        → AreAllowed rules (started (first config)) moves
+        → AreInTurn rules (first config) moves
         → PutsInOrder config (all_moved rules (started (first config)) moves) }
 {
+    an_in_proxys_leg_comes_up_once();
     an_in_proxy_puts_in_order();
 }

@@ -7,8 +7,6 @@ pub mod expects;
 pub mod in_proxies;
 pub mod pings;
 
-pub use expects::{a_server_expects_its_in_proxies, a_server_expects_its_out_proxies};
-pub use in_proxies::{
-    an_in_proxy_connects_as_it_was_asked, an_in_proxy_that_puts_nothing_early_puts_in_order,
-};
+pub use expects::{a_server_expects_all_but_successors, a_server_expects_its_out_proxies};
+pub use in_proxies::{an_in_proxy_connects_as_it_was_asked, an_in_proxy_in_turn_puts_in_order};
 pub use pings::no_ping_goes_first_to_a_server;

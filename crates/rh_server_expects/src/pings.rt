@@ -1,25 +1,23 @@
 //! To a server no Ping goes first. Its function does nothing: its contract is the law.
 
 ghost use Rattle.std.specs.Prelude.{ℕ};
-ghost use Rattle.rh_shell.specs.Moves.{Passage};
 ghost use Rattle.rh_shell.specs.Wires.{of_leg};
-ghost use Rattle.rh_inproxy.specs.declared.state.InProxyConfig.{InProxyConfig};
-ghost use Rattle.rh_inproxy.specs.State.{InProxy};
 ghost use Rattle.rh_proxy_counts.specs.InCounts.{is_leg};
 ghost use Rattle.rh_proxy_counts.specs.OutCounts.{os_leg};
-ghost use Rattle.rh_inproxy_puts.specs.Puts.{PutsInOrder};
 ghost use Rattle.rh_moments.specs.Expecting.{HasNoPingFirst};
-ghost use Rattle.rh_moments.specs.Moments.{AreMade, Moves, Numbers, out_behind};
+ghost use Rattle.rh_moments.specs.Moments.{AreMade, Moves, Numbers, in_behind, out_behind};
 
+use crate::in_proxies::an_in_proxy_in_turn_puts_in_order;
 use rh_outproxy_puts::an_out_proxy_opens_to_the_server_first;
 
-/// The first packet that an out proxy put to the server is no Ping. Where an in proxy put in order,
-/// its first packet to the server is none either (profile).
+/// The first packet that an out proxy put to the server is no Ping, nor is the first one that an in
+/// proxy put there (profile).
 pub fn no_ping_goes_first_to_a_server()
     ensures outs { (numbers : Numbers) (moves : Moves) → AreMade numbers moves
         → (n : ℕ) → HasNoPingFirst (of_leg (os_leg n) (out_behind numbers moves n).put) }
-    ensures ins { (config : InProxyConfig) (p : Passage InProxy) → PutsInOrder config p
-        → HasNoPingFirst (of_leg (is_leg config.number) p.put) }
+    ensures ins { (numbers : Numbers) (moves : Moves) → AreMade numbers moves
+        → (n : ℕ) → HasNoPingFirst (of_leg (is_leg n) (in_behind numbers moves n).put) }
 {
+    an_in_proxy_in_turn_puts_in_order();
     an_out_proxy_opens_to_the_server_first();
 }

@@ -57,7 +57,7 @@ module _ (config : OutProxyConfig) (has : HasPipes rules (new_proxy config) (out
       → end.intake.stage ≡ stage.Frames → takes_frames (ran.stages leg) ≡ true
   takes end going at frames =
       subst (IsNext (ran.stages leg)) frames
-      (subst (IsOn (ran.stages leg)) sits (ran.staged leg).on)
+      (subst (IsOn (ran.stages leg)) sits (ran.staged leg).on).0
     where
       sits : seat leg node ≡ Sits end
       sits =

@@ -3,7 +3,7 @@ use Rattle.rh_shell.specs.Wires.{of_leg}
 use Rattle.rh_proxy_counts.specs.InCounts.{is_leg}
 use Rattle.rh_proxy_counts.specs.OutCounts.{co_leg, os_leg}
 use Rattle.rh_moments.specs.Expecting.{HasNoPingFirst}
-use Rattle.rh_moments.specs.Moments.{out_behind}
+use Rattle.rh_moments.specs.Moments.{in_behind, out_behind}
 use Rattle.rh_server_expects.proofs.NoPing.{no_ping_in, no_ping_out}
 use Rattle.rh_server_expects.proofs.pings.no_ping_goes_first_to_a_server.Goals as goal
 
@@ -17,5 +17,11 @@ returns c = record {
       (of_leg (os_leg config.number) p.put)
       (c.an_out_proxy_opens_to_the_server_first.ensures config (moves.outs n) (made.outs n)
       (made.outs_counted n) (made.outs_turn n)));
-  ins = λ config p. no_ping_in config p.came (of_leg (is_leg config.number) p.put);
+  ins = λ numbers moves made n.
+      let p = in_behind numbers moves n in
+      let config = numbers.ins n in
+      subst (λ k. HasNoPingFirst (of_leg (is_leg k) p.put)) (made.in_number n)
+      (no_ping_in config p.came (of_leg (is_leg config.number) p.put)
+      (c.an_in_proxy_in_turn_puts_in_order.ensures config (moves.ins n) (made.ins n)
+      (made.ins_turn n)));
 }

@@ -1,0 +1,6 @@
+pub mod Announces
+pub mod Told
+pub mod More
+pub mod Fits
+pub mod InOrder
+pub mod Answered
