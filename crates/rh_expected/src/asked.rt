@@ -19,7 +19,7 @@ ghost use Rattle.rh_traced.specs.Cookies.{ByChanges};
 ghost use Rattle.rh_traced.specs.Ours.{AreOurs, deeds, rules};
 ghost use Rattle.rh_fifo.specs.Flows.{numbers_of};
 ghost use Rattle.rh_fifo.specs.Premises.{AreInRange};
-ghost use Rattle.rh_refused.specs.Refused.{IsPort};
+ghost use Rattle.rh_first_texts.specs.Ports.{IsPort};
 
 use rh_causes::{
     a_node_closes_once, a_servers_leg_comes_up_once, an_in_proxys_leg_comes_up_once,

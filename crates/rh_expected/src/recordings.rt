@@ -15,7 +15,7 @@ ghost use Rattle.rh_world.specs.declared.any_world.AnyWorld.TheVariants.{Before}
 ghost use Rattle.rh_world.specs.declared.config.WorldConfig.{WorldConfig};
 ghost use Rattle.rh_world.specs.Any.{after, step};
 ghost use Rattle.rh_hops.specs.Hops.{is_leg, os_leg};
-ghost use Rattle.rh_client_hops.specs.Premises.{AreDistinct};
+ghost use Rattle.rh_fifo.specs.Premises.{AreDistinct};
 ghost use Rattle.rh_expected.specs.Roles.{InExpects, OutExpectsClient, ServerExpectsIn};
 ghost use Rattle.rh_expected.specs.Roles.{ServerExpectsOut, WorldsExpect};
 

@@ -16,10 +16,10 @@ ghost use Rattle.rh_history.specs.Closes.{ClosesNode};
 ghost use Rattle.rh_history.specs.Histories.{IsNew};
 ghost use Rattle.rh_traced.specs.Cookies.{ByChanges};
 ghost use Rattle.rh_traced.specs.Ours.{AreOurs, deeds, rules};
-ghost use Rattle.rh_ordered.specs.Premises.{history_at};
+ghost use Rattle.rh_traced.specs.Recordings.{history_at};
 ghost use Rattle.rh_fifo.specs.Flows.{numbers_of};
-ghost use Rattle.rh_fifo.specs.Premises.{AreInRange};
-ghost use Rattle.rh_client_hops.specs.Premises.{AreDistinct, HasOneWindow};
+ghost use Rattle.rh_fifo.specs.Premises.{AreDistinct, AreInRange};
+ghost use Rattle.rh_client_hops.specs.Premises.{HasOneWindow};
 
 use crate::rows::{a_window_is_exceeded_for_a_row, rows_refuse_on_their_legs};
 use rh_causes::{causes_come_from_their_events, events_close_with_their_causes};

@@ -15,10 +15,10 @@ use Rattle.rh_fifo.specs.Flows.{numbers_of}
 use Rattle.rh_fifo.specs.Premises.{AreInRange}
 use Rattle.rh_hops.proofs.Moment.{Laws}
 use Rattle.rh_hops.proofs.Stopping.{Readings}
-use Rattle.rh_client_hops.proofs.Joined.{Reads}
+use Rattle.rh_fifo.proofs.Legs.{Reads}
 use Rattle.rh_amiss.proofs.AtNodes.{RolesKnow}
 use Rattle.rh_amiss.proofs.Moments.{AllFlow}
-use Rattle.rh_refused.specs.Refused.{IsPort}
+use Rattle.rh_first_texts.specs.Ports.{IsPort}
 use Rattle.rh_expected.proofs.AtClients.{AtEnds, no_out_amiss_at_end}
 use Rattle.rh_expected.proofs.Closing.{NodesLaws}
 use Rattle.rh_expected.proofs.asked.no_out_proxy_refuses_its_client.Goals as goal

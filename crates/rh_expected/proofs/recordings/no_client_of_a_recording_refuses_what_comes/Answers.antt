@@ -2,12 +2,12 @@ use Rattle.rh_line.specs.declared.cause.Cause.TheVariants as cause
 use Rattle.rh_record.specs.declared.answer.Who.TheVariants as who
 use Rattle.rh_client.specs.State.{co}
 use Rattle.rh_history.specs.Carried.{happened}
-use Rattle.rh_ordered.specs.Premises.{history_at}
+use Rattle.rh_traced.specs.Recordings.{history_at}
 use Rattle.rh_world.specs.Roles as roles
 use Rattle.rh_fifo.proofs.Recorded.{new, ours}
 use Rattle.rh_honest.proofs.Recorded.{of_recording_apart}
-use Rattle.rh_refused.proofs.Taken.{recorded_port}
-use Rattle.rh_client_hops.proofs.Distinct.{own_distinct}
+use Rattle.rh_first_texts.proofs.Taken.{recorded_port}
+use Rattle.rh_fifo.proofs.Distinct.{own_distinct}
 use Rattle.rh_expected.proofs.recordings.no_client_of_a_recording_refuses_what_comes.Goals as goal
 
 pub returns : goal.returns

@@ -1,12 +1,12 @@
 use Rattle.rh_line.specs.declared.cause.Cause.TheVariants as cause
 use Rattle.rh_record.specs.declared.answer.Who.TheVariants as who
 use Rattle.rh_history.specs.Carried.{happened}
-use Rattle.rh_ordered.specs.Premises.{history_at}
+use Rattle.rh_traced.specs.Recordings.{history_at}
 use Rattle.rh_world.specs.Roles as roles
 use Rattle.rh_fifo.proofs.Recorded.{new, ours}
 use Rattle.rh_honest.proofs.Recorded.{of_recording_apart}
 use Rattle.rh_hops.specs.Hops.{os_leg}
-use Rattle.rh_client_hops.proofs.Distinct.{own_distinct}
+use Rattle.rh_fifo.proofs.Distinct.{own_distinct}
 use Rattle.rh_expected.proofs.recordings.no_server_of_a_recording_refuses_its_out_proxies.Goals as goal
 
 pub returns : goal.returns

@@ -10,11 +10,10 @@ use Rattle.rh_history.specs.Histories.{IsNew}
 use Rattle.rh_up.proofs.Unread.{refusal_unread}
 use Rattle.rh_traced.specs.Ours.{AreOurs, deeds, rules}
 use Rattle.rh_fifo.specs.Flows.{numbers_of}
-use Rattle.rh_fifo.specs.Premises.{AreInRange}
+use Rattle.rh_fifo.specs.Premises.{AreDistinct, AreInRange}
 use Rattle.rh_hops.proofs.Moment.{Laws}
 use Rattle.rh_hops.proofs.Stopping.{Readings}
-use Rattle.rh_client_hops.proofs.Joined.{Reads}
-use Rattle.rh_client_hops.specs.Premises.{AreDistinct}
+use Rattle.rh_fifo.proofs.Legs.{Reads}
 use Rattle.rh_amiss.proofs.AtNodes.{ClientKnows, RolesKnow}
 use Rattle.rh_amiss.proofs.Moments.{AllFlow}
 use Rattle.rh_pasts.specs.Pasts.{moves_of, numbers}

@@ -10,12 +10,12 @@ use Rattle.rh_history.specs.Changes.{Change, MayChange}
 use Rattle.rh_history.specs.Histories.{IsNew}
 use Rattle.rh_traced.specs.Cookies.{ByChanges}
 use Rattle.rh_traced.specs.Ours.{AreOurs, deeds, rules}
-use Rattle.rh_ordered.specs.Premises.{history_at}
+use Rattle.rh_traced.specs.Recordings.{history_at}
 use Rattle.rh_fifo.specs.Flows.{numbers_of}
-use Rattle.rh_fifo.specs.Premises.{AreInRange}
+use Rattle.rh_fifo.specs.Premises.{AreDistinct, AreInRange}
 use Rattle.rh_hops.specs.Hops.{os_leg}
 use Rattle.rh_honest.proofs.Closing.{EachComes, each_of}
-use Rattle.rh_client_hops.specs.Premises.{AreDistinct, HasOneWindow}
+use Rattle.rh_client_hops.specs.Premises.{HasOneWindow}
 use Rattle.rh_windows.proofs.Closing.{EachAmiss, EachExceeds, EachRefusesOn, NoHop, no_range, no_window}
 use Rattle.rh_windows.proofs.worlds.no_window_closes_a_node.Goals as goal
 

@@ -6,7 +6,6 @@ use mathlib.Core.List.{IsPrefix}
 use Rattle.rh_text.specs.declared.ends.Dir.{Dir}
 use Rattle.rh_text.specs.declared.ends.Dir.TheVariants.{U, D}
 use Rattle.rh_text.specs.declared.ends.Side.{Side}
-use Rattle.rh_http.specs.declared.refusal.Refusal.{Refusal}
 use Rattle.rh_http.specs.Texts.{refusal_text}
 use Rattle.rh_sig.specs.declared.name.Pipe.{Pipe}
 use Rattle.rh_line.specs.declared.leg.Leg.{Leg}
@@ -16,11 +15,10 @@ use Rattle.rh_order.proofs.ItemLists.{nil_front}
 use Rattle.rh_order.proofs.Prefixes.{prefix_trans}
 use Rattle.rh_record.specs.declared.answer.Who.{Who}
 use Rattle.rh_record.specs.declared.answer.Who.TheVariants as who
-use Rattle.rh_shell.specs.Carrying.{spelled}
 use Rattle.rh_shell.specs.Rules.{Message}
 use Rattle.rh_shell.specs.Shells.{begun}
 use Rattle.rh_shell.specs.Wires.{of_leg}
-use Rattle.rh_legible.specs.Legible.{IsFineMessage, MayGoOn, ReadsBack}
+use Rattle.rh_legible.specs.Legible.{IsFineMessage, MayGoOn}
 use Rattle.rh_nodes.specs.Opening.{Makers}
 use Rattle.rh_nodes.specs.Readers.{reader_of}
 use Rattle.rh_nodes.specs.Settling.{leg_at}
@@ -41,26 +39,15 @@ use Rattle.rh_server.specs.Servers as server
 use Rattle.rh_server.specs.States.{Server}
 use Rattle.rh_history.specs.Carried.{IsTraced, drawn_by, drawn_on, end_drawn_on, end_node, events_of, heard_on}
 use Rattle.rh_history.specs.Histories.{History}
-use Rattle.rh_reading.specs.Reading.{Begins, ReadsNothing, all_read_of, messages_read}
+use Rattle.rh_reading.specs.Reading.{Begins, all_read_of, messages_read}
 use Rattle.rh_streams.specs.Streams.{IsDrawn}
 use Rattle.rh_traced.specs.Ours.{AreOurs, deeds, rules}
-use Rattle.rh_fifo.specs.Flows.{IsFlowing, numbers_of}
+use Rattle.rh_fifo.specs.Flows.{IsFlowing, numbers_of, read_on}
 use Rattle.rh_fifo.proofs.Fine.{Source, on_leg, sourced}
-use Rattle.rh_fifo.proofs.Heard.{from_client, from_in, from_out, from_server}
-use Rattle.rh_honest.specs.Honest.{read_on}
-use Rattle.rh_honest.proofs.Fed.{node_reads, reads_on}
-use Rattle.rh_hops.proofs.Moment.{Laws}
-use Rattle.rh_client_hops.proofs.Routes.{AreJoined, Passages, came_to, nothing_front, put_by}
-
--- the laws of reading that this stands on
-pub record Reads : Type 0 where
-  pub put : (pipe : Option Pipe) (put : List Message) (drawn heard : List ℕ) → Begins pipe put
-      → AllByRecursion (ReadsBack pipe) put → IsPrefix drawn (spelled put)
-      → IsPrefix heard drawn → IsPrefix (messages_read pipe heard) (all_read_of put)
-  pub fine : (pipe : Option Pipe) (put came : List Message) → AllByRecursion (MayGoOn pipe) put
-      → IsPrefix came (all_read_of put) → AllByRecursion IsFineMessage came
-  pub refusal : (pipe : Option Pipe) (refusal : Refusal)
-      → ReadsNothing pipe (refusal_text refusal)
+use Rattle.rh_fifo.proofs.Heard.{as_first, from_client, from_in, from_out, from_server, node_reads, reads_on}
+use Rattle.rh_fifo.proofs.Legs.{Reads}
+use Rattle.rh_moments.specs.Moments.{AreJoined, Passages, came_to, put_by}
+use Rattle.rh_moments.proofs.Joining.{nothing_front}
 
 last_of : (P : Message → Type 0) (ms : List Message) (m : Message)
     → AllByRecursion P (ms ++ m ∷ []) → P m
@@ -233,7 +220,7 @@ module _ {K : Type 0} (law : Reads) (m : Makers K InProxy OutProxy)
         nil_front (of_leg leg (came_to all node)) came.0
         (came.1 ∙ ap (messages_read (node_reads ours node leg)) (alone node leg away))
 
-    pub are_joined : AreJoined readers all
+    pub are_joined : AreJoined (reader_of readers) all
     are_joined = record { front = front; elsewhere = elsewhere }
 
 -- ---- by the history
@@ -249,13 +236,15 @@ AreAlone {K} m w =
 
 pub joined_at : {K : Type 0} (reads : Reads) (m : Makers K InProxy OutProxy)
     (w : World K ClientRole Server InProxy OutProxy) (ours : AreOurs m w.company w.cast)
-    → Laws m w ours → AreAlone m w → (u : World K ClientRole Server InProxy OutProxy)
-    (g : History) (flowing : IsFlowing (numbers_of ours) w u g)
-    → IsTraced rules m deeds w.company u g
-    → AreJoined u.readers (all reads m w u ours g flowing)
-joined_at {K} reads m w ours law alone u g flowing traced =
+    (u : World K ClientRole Server InProxy OutProxy) (g : History)
+    (flowing : IsFlowing (numbers_of ours) w u g)
+    → ((leg : Leg) (dir : Dir)
+    → IsPrefix (heard_on leg (events_of g (end_node u.readers leg (receiver dir))))
+    (drawn_by rules m deeds w.company u.cast g (end_node u.readers leg (sender dir)) leg))
+    → ((node : Who) (leg : Leg) → ((end : Side) → end_node u.readers leg end ≡ node → ⊥)
+    → heard_on leg (events_of g node) ≡ [])
+    → AreJoined (reader_of u.readers) (all reads m w u ours g flowing)
+joined_at reads m w ours u g flowing drawn alone =
     are_joined reads m w u ours g flowing u.readers (λ leg dir.
-    subst (λ (k : K).
-    IsPrefix (heard_on leg (events_of g (end_node u.readers leg (receiver dir))))
-    (drawn_by rules m deeds w.company k g (end_node u.readers leg (sender dir)) leg)) flowing.cast
-    (law.drawn u g traced leg dir)) (alone u g traced)
+    as_first m w u flowing.cast g (end_node u.readers leg (sender dir)) leg
+    (heard_on leg (events_of g (end_node u.readers leg (receiver dir)))) (drawn leg dir)) alone

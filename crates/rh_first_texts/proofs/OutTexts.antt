@@ -33,7 +33,7 @@ use Rattle.rh_outproxy.specs.Acknowledging.{ack_due}
 use Rattle.rh_outproxy.specs.Putting.{Pick, echo_packet, ping_room, or_else, answer_by, put_answer, put_waiting, waiting_by, pdu_by, put_pdu, put_end, put_handover, put_ping, put_mark, next_co, first_by, put_first, ack_by, put_ack, next_os, put}
 use Rattle.rh_outproxy.specs.Machine.{rules as proxy_rules}
 use Rattle.rh_causes.proofs.OutProxyLegs.{later_move}
-use Rattle.rh_refused.proofs.PutAll.{Picked, all_put}
+use Rattle.rh_first_texts.proofs.PutAll.{Picked, all_put}
 
 -- ---- what an out proxy puts
 

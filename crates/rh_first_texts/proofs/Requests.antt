@@ -32,7 +32,7 @@ use Rattle.rh_shell.specs.Rules.{Message, Text, Pdu, Packet}
 use Rattle.rh_reading.specs.Reading.{BeginsWith, IsWholeText}
 use Rattle.rh_streams.specs.Streams.{IsFirstHead}
 use Rattle.rh_ends_begin.specs.Begins.{Asks, IsRequestOf}
-use Rattle.rh_refused.specs.Refused.{IsPort}
+use Rattle.rh_first_texts.specs.Ports.{IsPort}
 
 -- ---- two heads with which the same bytes begin
 

@@ -6,7 +6,7 @@ use Rattle.rh_shell.specs.Moving.{Event}
 use Rattle.rh_passages.specs.Rising.{CameUpWith}
 use Rattle.rh_nodes.specs.Settling.{leg_at}
 use Rattle.rh_history.specs.Drawn.{HaveOwnCookies, RoseWith}
-use Rattle.rh_client_hops.specs.Premises.{AreDistinct}
+use Rattle.rh_fifo.specs.Premises.{AreDistinct}
 
 -- the two tell of the same events
 rose : (events : List Event) (leg : Leg) (cookie : Cookie)

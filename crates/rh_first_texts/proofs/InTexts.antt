@@ -21,7 +21,7 @@ use Rattle.rh_inproxy.specs.Machine.{rules as proxy_rules}
 use Rattle.rh_inproxy.specs.Opening.{echo_answer, echo_by, echo_packet, put_echo}
 use Rattle.rh_inproxy.specs.Putting.{next, put}
 use Rattle.rh_inproxy.specs.State.{InProxy, first, is_client_leg, is_server_leg}
-use Rattle.rh_refused.proofs.PutAll.{Picked, all_put}
+use Rattle.rh_first_texts.proofs.PutAll.{Picked, all_put}
 
 echo_is : response_text 20 ++ echo_packet ≡ echo_answer
 unfolding response_text echo_answer digits

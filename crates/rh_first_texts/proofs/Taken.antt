@@ -31,8 +31,8 @@ use Rattle.rh_outproxy.specs.OutProxy.{OutProxy}
 use Rattle.rh_streams.specs.Streams.{IsFirstHead, IsHeadOf}
 use Rattle.rh_ends_begin.specs.Begins.{IsRequestOf}
 use Rattle.rh_proxies_begin.specs.Echoes.{AsksNoEcho}
-use Rattle.rh_refused.specs.Refused.{IsPort}
-use Rattle.rh_refused.proofs.Requests.{request_asks}
+use Rattle.rh_first_texts.specs.Ports.{IsPort}
+use Rattle.rh_first_texts.proofs.Requests.{request_asks}
 
 -- the server of a recording has a port
 pub recorded_port : (config : WorldConfig)
