@@ -13,7 +13,6 @@ use Rattle.rh_record.specs.declared.answer.Who.{Who}
 use Rattle.rh_record.specs.declared.answer.Who.TheVariants as who
 use Rattle.rh_shell.specs.declared.answers.Refused.{Refused}
 use Rattle.rh_shell.specs.Moves.{EndPassage, Passage}
-use Rattle.rh_shell.specs.Moving as moving
 use Rattle.rh_shell.specs.Rules.{Rules}
 use Rattle.rh_shell.specs.Shells.{Shell}
 use Rattle.rh_shell.specs.Wires.{of_leg}
@@ -38,7 +37,6 @@ use Rattle.rh_outproxy.specs.OutProxy.{OutProxy}
 use Rattle.rh_server.specs.Servers as server
 use Rattle.rh_server.specs.States.{Server}
 use Rattle.rh_causes.specs.Closings.{ClosesWith, MayClose}
-use Rattle.rh_history.specs.Carried.{happened}
 use Rattle.rh_history.specs.Changes.{Change, IsFed, MayChange}
 use Rattle.rh_history.specs.Closes.{ClosesNode}
 use Rattle.rh_history.specs.Histories.{in_place, out_place}
@@ -53,7 +51,7 @@ use Rattle.rh_honest.specs.Honest.{well_on}
 use Rattle.rh_honest.proofs.Closing.{EachComes, IsOfPiece, by_fed}
 use Rattle.rh_honest.proofs.Fed.{told_what, told_who}
 use Rattle.rh_hops.specs.Hops.{is_leg, os_leg}
-use Rattle.rh_hops.proofs.Moment.{Laws, NodeLaws, known, well_behind}
+use Rattle.rh_hops.proofs.Moment.{Laws, NodeLaws, well_behind}
 use Rattle.rh_hops.proofs.Stopping.{Readings}
 use Rattle.rh_client_hops.proofs.Joined.{Reads}
 use Rattle.rh_moments.specs.Expecting.{Expects, HasNoPingFirst, IsAmiss}
@@ -63,8 +61,8 @@ use Rattle.rh_amiss.proofs.AtNodes.{RolesKnow, in_next, out_next, server_next}
 use Rattle.rh_amiss.proofs.Moments.{AllFlow, OfStreams, flowing, flows, story, world}
 use Rattle.rh_amiss.proofs.Next.{never_amiss}
 use Rattle.rh_pasts.specs.Pasts.{moves_of, numbers}
-use Rattle.rh_expected.proofs.Facts.{IsOfCookies, came_before}
-use Rattle.rh_expected.specs.Roles.{Facts, InExpectsClient, InExpectsServer, OutExpectsClient, OutExpectsServer, ServerExpectsIn, ServerExpectsOut}
+use Rattle.rh_expected.proofs.Facts.{IsKept}
+use Rattle.rh_expected.specs.Roles.{Facts, InExpectsClient, InExpectsServer, OutExpectsClient, OutExpectsServer, Premise, ServerExpectsIn, ServerExpectsOut}
 
 -- ---- the laws that this stands on
 
@@ -82,12 +80,12 @@ pub record NodesLaws : Type 0 where
   pub ins : NodeLaws in_proxy.rules
   pub outs : NodeLaws out_proxy.rules
 
--- that holds of the moves by which the streams of a world lead, where its client's legs came up so
+-- that holds of the moves by which the streams of a world lead, where this is said of the world
 abbrev pub AtMoment : {K : Type 0} {m : Makers K InProxy OutProxy}
-    {w : World K ClientRole Server InProxy OutProxy} → (List moving.Event → Type 0) → Facts
+    {w : World K ClientRole Server InProxy OutProxy} → Premise K → Facts
     → (ours : AreOurs m w.company w.cast) → OfStreams (numbers_of ours) w
-AtMoment Fits Holds ours u h f =
-    Fits (happened h.client) → Holds (reader_of u.readers) (moves_of f)
+AtMoment {K} {m} {w} Fits Holds ours u h f =
+    Fits m w u h → Holds (reader_of u.readers) (moves_of f)
 
 -- a piece on another leg closes no node with a cause that names this one
 abbrev pub NamesLeg : Leg → Cause → Type 1
@@ -104,10 +102,10 @@ out_number a b e = cc
 module _ {K : Type 0} (roles : RolesKnow) (nodes : NodesLaws) (reads : Reads) (readings : Readings)
     (m : Makers K InProxy OutProxy) (w : World K ClientRole Server InProxy OutProxy)
     (ours : AreOurs m w.company w.cast) (law : Laws m w ours)
-    (Fits : List moving.Event → Type 0) (keeps : IsOfCookies Fits) (Holds : Facts)
+    (Fits : Premise K) (keeps : IsKept m w Fits) (Holds : Facts)
     (flow : AllFlow m w ours (AtMoment Fits Holds ours))
     (v : World K ClientRole Server InProxy OutProxy) (by : ByChanges rules m deeds w v)
-    (fits : Fits (happened (history_at m w v by.leads).client)) where
+    (fits : Fits m w v (history_at m w v by.leads)) where
   abbrev May : Leg → Dir → Type 0
   May leg dir = MayChange rules v (IsFed leg dir 0)
 
@@ -129,10 +127,7 @@ module _ {K : Type 0} (roles : RolesKnow) (nodes : NodesLaws) (reads : Reads) (r
     moment : Holds (reader_of v.readers) (moves_of then_flows)
     moment =
         (flowing reads readings m w v ours law (AtMoment Fits Holds ours) flow by leg dir (λ k. may)
-        count).holds
-        (keeps (happened (history_at m w v by.leads).client) _
-        (came_before w.company.client v (history_at m w v by.leads) leg dir count
-        (known m w v ours law by leg dir (λ k. may)).traced.runs.client) fits)
+        count).holds (keeps v by leg dir count may fits)
 
   -- that holds there too
   abbrev pub Gives : (Numbers → Facts) → Type 0

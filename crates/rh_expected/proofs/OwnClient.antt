@@ -49,6 +49,7 @@ use Rattle.rh_amiss.proofs.AtNodes.{ClientKnows, RolesKnow, client_next}
 use Rattle.rh_amiss.proofs.Moments.{AllFlow, flowing}
 use Rattle.rh_amiss.proofs.Next.{never_amiss}
 use Rattle.rh_pasts.specs.Pasts.{moves_of, numbers}
+use Rattle.rh_expected.specs.Roles.{OfClient}
 use Rattle.rh_expected.proofs.Closing.{AtMoment}
 use Rattle.rh_expected.proofs.Facts.{came_before, distinct_of_cookies}
 
@@ -69,7 +70,7 @@ module _ {K : Type 0} (roles : RolesKnow) (client_roles : ClientKnows) (laws : C
     (reads : Reads) (readings : Readings) (m : Makers K InProxy OutProxy)
     (w : World K ClientRole Server InProxy OutProxy) (ours : AreOurs m w.company w.cast)
     (law : Laws m w ours)
-    (flow : AllFlow m w ours (AtMoment AreDistinct (ClientExpects (numbers ours)) ours))
+    (flow : AllFlow m w ours (AtMoment (OfClient AreDistinct) (ClientExpects (numbers ours)) ours))
     (v : World K ClientRole Server InProxy OutProxy) (by : ByChanges rules m deeds w v)
     (named : (change : Change) → MayChange rules v change → (n : ℕ)
     → ReadsWell is_named (Some CoD) (heard_on (co n)
@@ -94,11 +95,11 @@ module _ {K : Type 0} (roles : RolesKnow) (client_roles : ClientKnows) (laws : C
   client_at U count may here closes = absurd cc
   client_at D count may here closes =
       let next = client_next roles reads readings m w v ours law
-      (AtMoment AreDistinct (ClientExpects (numbers ours)) ours) flow by (co n) D (λ j. may)
+      (AtMoment (OfClient AreDistinct) (ClientExpects (numbers ours)) ours) flow by (co n) D (λ j. may)
       refused.Unexpected tt is_named (λ e. refl) (λ k. named (IsFed (co n) D k) may n) why refl
       count who.Client here client_roles laws.node refl closes in
       let then_flowing = flowing reads readings m w v ours law
-      (AtMoment AreDistinct (ClientExpects (numbers ours)) ours) flow by (co n) D (λ j. may)
+      (AtMoment (OfClient AreDistinct) (ClientExpects (numbers ours)) ours) flow by (co n) D (λ j. may)
       next.0 in
       let f = then_flowing.flows.flows in
       let moves : Moves = moves_of then_flowing.flows in

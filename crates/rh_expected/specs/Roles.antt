@@ -14,7 +14,8 @@ use Rattle.rh_outproxy.specs.OutProxy.{OutProxy}
 use Rattle.rh_server.specs.Servers as server
 use Rattle.rh_server.specs.States.{Server, no_cookie}
 use Rattle.rh_history.specs.Carried.{happened}
-use Rattle.rh_history.specs.Histories.{IsNew}
+use Rattle.rh_history.specs.Changes.{ByLines}
+use Rattle.rh_history.specs.Histories.{History, IsNew}
 use Rattle.rh_passages.specs.Rising.{CameUpWith}
 use Rattle.rh_reading.specs.Reading.{all_read_of}
 use Rattle.rh_traced.specs.Cookies.{ByChanges}
@@ -74,7 +75,17 @@ pub record ServerExpectsOut (all : Numbers) (reader : ℕ → ℕ) (moves : Move
       (all_read_of (of_leg (os_leg n) (out_behind all moves n).put))
   pub first : (n : ℕ) → HasNoPingFirst (of_leg (os_leg n) (out_behind all moves n).put)
 
--- ---- the cookies of the client's legs
+-- ---- premises
+
+-- what is said of a world, of one that changes led to from it, and of what happened until then
+abbrev pub Premise : Type 0 → Type 1
+Premise K =
+    Makers K InProxy OutProxy → World K ClientRole Server InProxy OutProxy
+    → World K ClientRole Server InProxy OutProxy → History → Type 0
+
+-- of what happened at the client
+abbrev pub OfClient : {K : Type 0} → (List Event → Type 0) → Premise K
+OfClient Fits m w v h = Fits (happened h.client)
 
 -- no two legs of one kind came up under one cookie, and no OUT leg under the cookie of zeros, which
 -- a server takes for none (MS-RPCH 2.2.3.1; profile)
@@ -82,20 +93,29 @@ pub record HaveCookies (events : List Event) : Type 0 where
   pub distinct : AreDistinct events
   pub some : (n : ℕ) → CameUpWith events (co n) no_cookie → ⊥
 
+-- all of it happened by changes of lines alone, and no two legs of one kind came up at the client
+-- under one cookie
+pub record IsByLines {K : Type 0} (m : Makers K InProxy OutProxy)
+    (w v : World K ClientRole Server InProxy OutProxy) (h : History) : Type 0 where
+  pub lines : ByLines rules m deeds w v
+  pub same : history_at m w v lines.leads ≡ h
+  pub distinct : AreDistinct (happened h.client)
+
 -- ---- and in the worlds of roles
 
--- a world has streams that the roles expect so, where that holds of what happened at the client
-pub record IsExpecting (Fits : List Event → Type 0) (Holds : Numbers → (ℕ → ℕ) → Moves → Type 0)
-    {K : Type 0} (m : Makers K InProxy OutProxy) (w : World K ClientRole Server InProxy OutProxy)
-    (ours : AreOurs m w.company w.cast) (v : World K ClientRole Server InProxy OutProxy)
-    (by : ByChanges rules m deeds w v) : Type 0 where
-  pub flowing : IsFlowing (fifo.numbers_of ours) w v (history_at m w v by.leads)
-  pub expects : Fits (happened (history_at m w v by.leads).client)
-      → Holds (numbers ours) (reader_of v.readers) (moves_of flowing)
+-- a world has streams that the roles expect so, where that is said of it
+pub record IsExpecting {K : Type 0} (Fits : Premise K)
+    (Holds : Numbers → (ℕ → ℕ) → Moves → Type 0) (m : Makers K InProxy OutProxy)
+    (w : World K ClientRole Server InProxy OutProxy) (ours : AreOurs m w.company w.cast)
+    (v : World K ClientRole Server InProxy OutProxy) (by : ByChanges rules m deeds w v) : Type 0
+  where
+    pub flowing : IsFlowing (fifo.numbers_of ours) w v (history_at m w v by.leads)
+    pub expects : Fits m w v (history_at m w v by.leads)
+        → Holds (numbers ours) (reader_of v.readers) (moves_of flowing)
 
 -- so it is in each world that changes of lines and half steps reach from new roles whose numbers
 -- are in their ranges
-abbrev pub WorldsExpect : Type 0 → (List Event → Type 0) → (Numbers → (ℕ → ℕ) → Moves → Type 0)
+abbrev pub WorldsExpect : (K : Type 0) → Premise K → (Numbers → (ℕ → ℕ) → Moves → Type 0)
     → Type 0
 WorldsExpect K Fits Holds =
     (m : Makers K InProxy OutProxy) (w : World K ClientRole Server InProxy OutProxy) → IsNew w

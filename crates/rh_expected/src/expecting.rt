@@ -1,7 +1,8 @@
 //! What comes at the proxies and the server of a world of roles, where they expect it. This
 //! function does nothing: its contract is the law.
 
-ghost use Rattle.std.specs.Prelude.{ℕ};
+ghost use Rattle.std.specs.Prelude.{◌≡◌, ℕ, true};
+ghost use Rattle.std.specs.List.{list_all};
 ghost use Rattle.rh_rts.specs.declared.command.Cookie.{Cookie};
 ghost use Rattle.rh_line.specs.declared.cause.Cause.TheVariants.{CookieMismatch, Unexpected};
 ghost use Rattle.rh_line.specs.declared.leg.Leg.{Leg};
@@ -14,7 +15,7 @@ ghost use Rattle.rh_inproxy.specs.State.{InProxy};
 ghost use Rattle.rh_outproxy.specs.OutProxy.{OutProxy};
 ghost use Rattle.rh_server.specs.States.{Server};
 ghost use Rattle.rh_history.specs.Carried.{happened};
-ghost use Rattle.rh_history.specs.Changes.{Change, MayChange};
+ghost use Rattle.rh_history.specs.Changes.{Change, MayChange, of_line};
 ghost use Rattle.rh_history.specs.Closes.{ClosesNode};
 ghost use Rattle.rh_history.specs.Histories.{IsNew};
 ghost use Rattle.rh_traced.specs.Cookies.{ByChanges};
@@ -24,9 +25,9 @@ ghost use Rattle.rh_fifo.specs.Flows.{numbers_of};
 ghost use Rattle.rh_fifo.specs.Premises.{AreInRange};
 ghost use Rattle.rh_hops.specs.Hops.{is_leg, os_leg};
 ghost use Rattle.rh_client_hops.specs.Premises.{AreDistinct};
-ghost use Rattle.rh_expected.specs.Roles.{HaveCookies, InExpects, OutExpectsClient};
-ghost use Rattle.rh_expected.specs.Roles.{OutExpectsServer};
-ghost use Rattle.rh_expected.specs.Roles.{ServerExpectsIn, ServerExpectsOut, WorldsExpect};
+ghost use Rattle.rh_expected.specs.Roles.{HaveCookies, InExpects, IsByLines, OfClient};
+ghost use Rattle.rh_expected.specs.Roles.{OutExpectsClient, OutExpectsServer, ServerExpectsIn};
+ghost use Rattle.rh_expected.specs.Roles.{ServerExpectsOut, WorldsExpect};
 
 use rh_causes::{
     a_node_closes_once, a_servers_leg_comes_up_once, an_in_proxys_leg_comes_up_once,
@@ -58,9 +59,10 @@ use rh_unused::{
 /// `Unexpected` or `CookieMismatch` of the leg. So it is of an in proxy on each of its legs, of an
 /// out proxy on the client's and on the server's, and of the server on those of in proxies and on
 /// those of out proxies. An out proxy may expect what the server put only where no OUT leg of the
-/// client came up under the cookie of zeros (MS-RPCH 3.2; profile).
+/// client came up under the cookie of zeros, and the server what an in proxy put only where changes
+/// of lines alone led there (MS-RPCH 3.2; profile).
 pub fn no_node_refuses_what_it_expects<K>()
-    ensures in_unexpected { WorldsExpect K AreDistinct InExpects
+    ensures in_unexpected { WorldsExpect K (OfClient AreDistinct) InExpects
         → (m : Makers K InProxy OutProxy)
         (w : World K ClientRole Server InProxy OutProxy) → IsNew w
         → (ours : AreOurs m w.company w.cast) → AreInRange (numbers_of ours)
@@ -68,7 +70,7 @@ pub fn no_node_refuses_what_it_expects<K>()
         → AreDistinct (happened (history_at m w v by.leads).client)
         → (change : Change) → MayChange rules v change → (k : ℕ) (leg : Leg) (place : ℕ)
         → ClosesNode rules v change (In k) (Unexpected leg place) → ⊥ }
-    ensures in_cookie { WorldsExpect K AreDistinct InExpects
+    ensures in_cookie { WorldsExpect K (OfClient AreDistinct) InExpects
         → (m : Makers K InProxy OutProxy)
         (w : World K ClientRole Server InProxy OutProxy) → IsNew w
         → (ours : AreOurs m w.company w.cast) → AreInRange (numbers_of ours)
@@ -77,7 +79,7 @@ pub fn no_node_refuses_what_it_expects<K>()
         → (change : Change) → MayChange rules v change → (k : ℕ) (leg : Leg)
         (expected got : Cookie)
         → ClosesNode rules v change (In k) (CookieMismatch leg expected got) → ⊥ }
-    ensures out_client_unexpected { WorldsExpect K AreDistinct OutExpectsClient
+    ensures out_client_unexpected { WorldsExpect K (OfClient AreDistinct) OutExpectsClient
         → (m : Makers K InProxy OutProxy)
         (w : World K ClientRole Server InProxy OutProxy) → IsNew w
         → (ours : AreOurs m w.company w.cast) → AreInRange (numbers_of ours)
@@ -85,7 +87,7 @@ pub fn no_node_refuses_what_it_expects<K>()
         → AreDistinct (happened (history_at m w v by.leads).client)
         → (change : Change) → MayChange rules v change → (k n place : ℕ)
         → ClosesNode rules v change (Out k) (Unexpected (co n) place) → ⊥ }
-    ensures out_client_cookie { WorldsExpect K AreDistinct OutExpectsClient
+    ensures out_client_cookie { WorldsExpect K (OfClient AreDistinct) OutExpectsClient
         → (m : Makers K InProxy OutProxy)
         (w : World K ClientRole Server InProxy OutProxy) → IsNew w
         → (ours : AreOurs m w.company w.cast) → AreInRange (numbers_of ours)
@@ -94,7 +96,7 @@ pub fn no_node_refuses_what_it_expects<K>()
         → (change : Change) → MayChange rules v change → (k n : ℕ)
         (expected got : Cookie)
         → ClosesNode rules v change (Out k) (CookieMismatch (co n) expected got) → ⊥ }
-    ensures out_server_unexpected { WorldsExpect K HaveCookies OutExpectsServer
+    ensures out_server_unexpected { WorldsExpect K (OfClient HaveCookies) OutExpectsServer
         → (m : Makers K InProxy OutProxy)
         (w : World K ClientRole Server InProxy OutProxy) → IsNew w
         → (ours : AreOurs m w.company w.cast) → AreInRange (numbers_of ours)
@@ -102,7 +104,7 @@ pub fn no_node_refuses_what_it_expects<K>()
         → HaveCookies (happened (history_at m w v by.leads).client)
         → (change : Change) → MayChange rules v change → (k n place : ℕ)
         → ClosesNode rules v change (Out k) (Unexpected (os_leg n) place) → ⊥ }
-    ensures out_server_cookie { WorldsExpect K HaveCookies OutExpectsServer
+    ensures out_server_cookie { WorldsExpect K (OfClient HaveCookies) OutExpectsServer
         → (m : Makers K InProxy OutProxy)
         (w : World K ClientRole Server InProxy OutProxy) → IsNew w
         → (ours : AreOurs m w.company w.cast) → AreInRange (numbers_of ours)
@@ -111,24 +113,26 @@ pub fn no_node_refuses_what_it_expects<K>()
         → (change : Change) → MayChange rules v change → (k n : ℕ)
         (expected got : Cookie)
         → ClosesNode rules v change (Out k) (CookieMismatch (os_leg n) expected got) → ⊥ }
-    ensures server_in_unexpected { WorldsExpect K AreDistinct ServerExpectsIn
+    ensures server_in_unexpected { WorldsExpect K IsByLines ServerExpectsIn
         → (m : Makers K InProxy OutProxy)
         (w : World K ClientRole Server InProxy OutProxy) → IsNew w
         → (ours : AreOurs m w.company w.cast) → AreInRange (numbers_of ours)
         → (v : World K ClientRole Server InProxy OutProxy) (by : ByChanges rules m deeds w v)
+        → list_all of_line by.leads.changes ≡ true
         → AreDistinct (happened (history_at m w v by.leads).client)
         → (change : Change) → MayChange rules v change → (n place : ℕ)
         → ClosesNode rules v change AtServer (Unexpected (is_leg n) place) → ⊥ }
-    ensures server_in_cookie { WorldsExpect K AreDistinct ServerExpectsIn
+    ensures server_in_cookie { WorldsExpect K IsByLines ServerExpectsIn
         → (m : Makers K InProxy OutProxy)
         (w : World K ClientRole Server InProxy OutProxy) → IsNew w
         → (ours : AreOurs m w.company w.cast) → AreInRange (numbers_of ours)
         → (v : World K ClientRole Server InProxy OutProxy) (by : ByChanges rules m deeds w v)
+        → list_all of_line by.leads.changes ≡ true
         → AreDistinct (happened (history_at m w v by.leads).client)
         → (change : Change) → MayChange rules v change → (n : ℕ)
         (expected got : Cookie)
         → ClosesNode rules v change AtServer (CookieMismatch (is_leg n) expected got) → ⊥ }
-    ensures server_out_unexpected { WorldsExpect K AreDistinct ServerExpectsOut
+    ensures server_out_unexpected { WorldsExpect K (OfClient AreDistinct) ServerExpectsOut
         → (m : Makers K InProxy OutProxy)
         (w : World K ClientRole Server InProxy OutProxy) → IsNew w
         → (ours : AreOurs m w.company w.cast) → AreInRange (numbers_of ours)
@@ -136,7 +140,7 @@ pub fn no_node_refuses_what_it_expects<K>()
         → AreDistinct (happened (history_at m w v by.leads).client)
         → (change : Change) → MayChange rules v change → (n place : ℕ)
         → ClosesNode rules v change AtServer (Unexpected (os_leg n) place) → ⊥ }
-    ensures server_out_cookie { WorldsExpect K AreDistinct ServerExpectsOut
+    ensures server_out_cookie { WorldsExpect K (OfClient AreDistinct) ServerExpectsOut
         → (m : Makers K InProxy OutProxy)
         (w : World K ClientRole Server InProxy OutProxy) → IsNew w
         → (ours : AreOurs m w.company w.cast) → AreInRange (numbers_of ours)

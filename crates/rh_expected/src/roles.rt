@@ -1,7 +1,8 @@
 //! What comes at the proxies and the server of a world of roles. These functions do nothing: their
 //! contracts are the laws.
 
-ghost use Rattle.std.specs.Prelude.{ℕ};
+ghost use Rattle.std.specs.Prelude.{◌≡◌, ℕ, true};
+ghost use Rattle.std.specs.List.{list_all};
 ghost use Rattle.rh_rts.specs.declared.command.Cookie.{Cookie};
 ghost use Rattle.rh_line.specs.declared.cause.Cause.TheVariants.{CookieMismatch, Unexpected};
 ghost use Rattle.rh_line.specs.declared.leg.Leg.{Leg};
@@ -13,7 +14,7 @@ ghost use Rattle.rh_inproxy.specs.State.{InProxy};
 ghost use Rattle.rh_outproxy.specs.OutProxy.{OutProxy};
 ghost use Rattle.rh_server.specs.States.{Server};
 ghost use Rattle.rh_history.specs.Carried.{happened};
-ghost use Rattle.rh_history.specs.Changes.{Change, MayChange};
+ghost use Rattle.rh_history.specs.Changes.{Change, MayChange, of_line};
 ghost use Rattle.rh_history.specs.Closes.{ClosesNode};
 ghost use Rattle.rh_history.specs.Histories.{IsNew};
 ghost use Rattle.rh_traced.specs.Cookies.{ByChanges};
@@ -21,12 +22,14 @@ ghost use Rattle.rh_traced.specs.Ours.{AreOurs, deeds, rules};
 ghost use Rattle.rh_ordered.specs.Premises.{history_at};
 ghost use Rattle.rh_fifo.specs.Flows.{numbers_of};
 ghost use Rattle.rh_fifo.specs.Premises.{AreInRange};
-ghost use Rattle.rh_hops.specs.Hops.{os_leg};
+ghost use Rattle.rh_hops.specs.Hops.{is_leg, os_leg};
 ghost use Rattle.rh_client_hops.specs.Premises.{AreDistinct};
 ghost use Rattle.rh_expected.specs.Roles.{HaveCookies};
 
+use crate::connected::is_legs_of_lines_are_connected;
 use crate::expecting::no_node_refuses_what_it_expects;
 use rh_client_turns::a_client_puts_no_ping_first;
+use rh_in_handovers::a_server_expects_its_in_proxies;
 use rh_inproxy_expects::an_in_proxy_expects_what_comes;
 use rh_outproxy_expects::an_out_proxy_expects_its_server;
 use rh_pasts::a_world_of_roles_is_at_a_moment;
@@ -84,6 +87,34 @@ pub fn no_server_refuses_its_out_proxies<K>()
     no_node_refuses_what_it_expects::<K>();
     a_world_of_roles_is_at_a_moment::<K>();
     a_server_expects_its_out_proxies();
+    no_ping_goes_first_to_a_server();
+}
+
+/// And where changes of lines alone led to that moment, none closes it with these causes for what an
+/// in proxy put (MS-RPCH 3.2.5; successors are this profile's).
+pub fn no_server_refuses_its_in_proxies<K>()
+    ensures unexpected { (m : Makers K InProxy OutProxy)
+        (w : World K ClientRole Server InProxy OutProxy) → IsNew w
+        → (ours : AreOurs m w.company w.cast) → AreInRange (numbers_of ours)
+        → (v : World K ClientRole Server InProxy OutProxy) (by : ByChanges rules m deeds w v)
+        → list_all of_line by.leads.changes ≡ true
+        → AreDistinct (happened (history_at m w v by.leads).client)
+        → (change : Change) → MayChange rules v change → (n place : ℕ)
+        → ClosesNode rules v change AtServer (Unexpected (is_leg n) place) → ⊥ }
+    ensures cookie { (m : Makers K InProxy OutProxy)
+        (w : World K ClientRole Server InProxy OutProxy) → IsNew w
+        → (ours : AreOurs m w.company w.cast) → AreInRange (numbers_of ours)
+        → (v : World K ClientRole Server InProxy OutProxy) (by : ByChanges rules m deeds w v)
+        → list_all of_line by.leads.changes ≡ true
+        → AreDistinct (happened (history_at m w v by.leads).client)
+        → (change : Change) → MayChange rules v change → (n : ℕ)
+        (expected got : Cookie)
+        → ClosesNode rules v change AtServer (CookieMismatch (is_leg n) expected got) → ⊥ }
+{
+    no_node_refuses_what_it_expects::<K>();
+    is_legs_of_lines_are_connected::<K>();
+    a_world_of_roles_is_at_a_moment::<K>();
+    a_server_expects_its_in_proxies();
     no_ping_goes_first_to_a_server();
 }
 

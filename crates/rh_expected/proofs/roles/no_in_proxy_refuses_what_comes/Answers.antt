@@ -5,7 +5,7 @@ use Rattle.rh_client.specs.State.{ci}
 use Rattle.rh_ordered.specs.Premises.{history_at}
 use Rattle.rh_pasts.specs.Pasts.{moves_of, numbers}
 use Rattle.rh_client_hops.specs.Premises.{AreDistinct}
-use Rattle.rh_expected.specs.Roles.{InExpects, WorldsExpect}
+use Rattle.rh_expected.specs.Roles.{InExpects, OfClient, WorldsExpect}
 use Rattle.rh_expected.proofs.Facts.{are_read, no_ping}
 use Rattle.rh_expected.proofs.roles.no_in_proxy_refuses_what_comes.Goals as goal
 
@@ -19,7 +19,7 @@ returns g c = record {
       change may k leg expected got closes;
 }
   where
-    worlds : WorldsExpect g.row.K.Denot AreDistinct InExpects
+    worlds : WorldsExpect g.row.K.Denot (OfClient AreDistinct) InExpects
     worlds m w new ours ranges v by =
         let here = c.a_world_of_roles_is_at_a_moment.ensures m w new ours ranges v by in
         let known = c.a_recording_of_roles_is_known.ensures.changes m w v new ours by.leads in

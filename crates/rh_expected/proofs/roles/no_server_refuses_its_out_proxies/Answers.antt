@@ -1,7 +1,7 @@
 use Rattle.rh_nodes.specs.Readers.{reader_of}
 use Rattle.rh_pasts.specs.Pasts.{moves_of, numbers}
 use Rattle.rh_client_hops.specs.Premises.{AreDistinct}
-use Rattle.rh_expected.specs.Roles.{ServerExpectsOut, WorldsExpect}
+use Rattle.rh_expected.specs.Roles.{OfClient, ServerExpectsOut, WorldsExpect}
 use Rattle.rh_expected.proofs.roles.no_server_refuses_its_out_proxies.Goals as goal
 
 pub returns : goal.returns
@@ -14,7 +14,7 @@ returns g c = record {
       distinct change may n expected got closes;
 }
   where
-    worlds : WorldsExpect g.row.K.Denot AreDistinct ServerExpectsOut
+    worlds : WorldsExpect g.row.K.Denot (OfClient AreDistinct) ServerExpectsOut
     worlds m w new ours ranges v by =
         let here = c.a_world_of_roles_is_at_a_moment.ensures m w new ours ranges v by in
         record {

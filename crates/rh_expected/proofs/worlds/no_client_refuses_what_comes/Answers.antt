@@ -18,6 +18,7 @@ use Rattle.rh_client_hops.specs.Premises.{AreDistinct}
 use Rattle.rh_amiss.proofs.AtNodes.{ClientKnows, RolesKnow}
 use Rattle.rh_amiss.proofs.Moments.{AllFlow}
 use Rattle.rh_pasts.specs.Pasts.{moves_of, numbers}
+use Rattle.rh_expected.specs.Roles.{OfClient}
 use Rattle.rh_expected.proofs.Closing.{AtMoment}
 use Rattle.rh_expected.proofs.OwnClient.{ClientCloses, ClientExpects, no_client_amiss}
 use Rattle.rh_expected.proofs.worlds.no_client_refuses_what_comes.Goals as goal
@@ -114,7 +115,7 @@ returns g c = record {
     flow : (m : Makers g.row.K.Denot InProxy OutProxy)
         (w : World g.row.K.Denot ClientRole Server InProxy OutProxy) → IsNew w
         → (ours : AreOurs m w.company w.cast) → AreInRange (numbers_of ours)
-        → AllFlow m w ours (AtMoment AreDistinct (ClientExpects (numbers ours)) ours)
+        → AllFlow m w ours (AtMoment (OfClient AreDistinct) (ClientExpects (numbers ours)) ours)
     flow m w new ours ranges u by =
         let here = c.a_world_of_roles_is_at_a_moment.ensures m w new ours ranges u by in
         record {
