@@ -52,7 +52,8 @@ was_up leg (move ∷ moves) up =
         → WasUp (one ∷ moves) leg
     here (Moves (Up other cookie)) rose behind = by (cases_leg other leg)
       where
-        by : (other ≡ leg) ⊎ (same_leg other leg ≡ false) → WasUp (Moves (Up other cookie) ∷ moves) leg
+        by : (other ≡ leg) ⊎ (same_leg other leg ≡ false)
+            → WasUp (Moves (Up other cookie) ∷ moves) leg
         by (inl same) = (cookie, inl (ap (λ (l : Leg). Moves (Up l cookie)) same))
         by (inr apart) =
             behind (ap (λ (b : Bool). b || list_any (is_end_up_on leg) moves) (sym apart) ∙ rose)

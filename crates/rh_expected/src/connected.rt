@@ -1,5 +1,5 @@
-//! Where is legs come up at the server of a world of roles. This function does nothing: its contract
-//! is the law.
+//! Where is legs come up at the server of a world of roles. This function does nothing: its
+//! contract is the law.
 
 ghost use Rattle.std.specs.Prelude.{◌≡◌, true};
 ghost use Rattle.std.specs.List.{list_all};
@@ -27,10 +27,10 @@ use rh_traced::{
     a_recording_of_roles_is_known, channels_come_up_in_order, legs_of_roles_come_up_once,
 };
 
-/// In each world that changes of lines alone reach from new roles, and by whatever moves its streams
-/// lead: each is leg that came up at the server is that of an IN channel of its number, which came
-/// up at the client and which the in proxy of that number reads (MS-RPCH 3.2.3; the numbers are
-/// this profile's).
+/// In each world that changes of lines alone reach from new roles, and by whatever moves its
+/// streams lead: each is leg that came up at the server is that of an IN channel of its number,
+/// which came up at the client and which the in proxy of that number reads (MS-RPCH 3.2.3; the
+/// numbers are this profile's).
 pub fn is_legs_of_lines_are_connected<K>()
     ensures { (m : Makers K InProxy OutProxy)
         (w : World K ClientRole Server InProxy OutProxy) → IsNew w

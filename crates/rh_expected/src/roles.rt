@@ -90,8 +90,8 @@ pub fn no_server_refuses_its_out_proxies<K>()
     no_ping_goes_first_to_a_server();
 }
 
-/// And where changes of lines alone led to that moment, none closes it with these causes for what an
-/// in proxy put (MS-RPCH 3.2.5; successors are this profile's).
+/// And where changes of lines alone led to that moment, none closes it with these causes for what
+/// an in proxy put (MS-RPCH 3.2.5; successors are this profile's).
 pub fn no_server_refuses_its_in_proxies<K>()
     ensures unexpected { (m : Makers K InProxy OutProxy)
         (w : World K ClientRole Server InProxy OutProxy) → IsNew w

@@ -36,7 +36,8 @@ pub returns : goal.returns
 returns g c = record {
   in_unexpected = λ expect m w new ours ranges v by distinct change may k leg place closes.
       no_in_amiss roles nodes reads readings m w ours (law m w new ours ranges)
-      (OfClient AreDistinct) (client_kept m w (law m w new ours ranges).known AreDistinct distinct_of_cookies)
+      (OfClient AreDistinct)
+      (client_kept m w (law m w new ours ranges).known AreDistinct distinct_of_cookies)
       (InExpects (numbers ours))
       (flow (OfClient AreDistinct) InExpects expect m w new ours ranges) v by distinct
       (cause.Unexpected leg place) (refused.Unexpected) refl tt (λ event S its shell comes. comes) k
@@ -44,7 +45,8 @@ returns g c = record {
       closes;
   in_cookie = λ expect m w new ours ranges v by distinct change may k leg expected got closes.
       no_in_amiss roles nodes reads readings m w ours (law m w new ours ranges)
-      (OfClient AreDistinct) (client_kept m w (law m w new ours ranges).known AreDistinct distinct_of_cookies)
+      (OfClient AreDistinct)
+      (client_kept m w (law m w new ours ranges).known AreDistinct distinct_of_cookies)
       (InExpects (numbers ours))
       (flow (OfClient AreDistinct) InExpects expect m w new ours ranges) v by distinct
       (cause.CookieMismatch leg expected got) (refused.Cookie expected got) refl tt
@@ -53,7 +55,8 @@ returns g c = record {
       closes;
   out_client_unexpected = λ expect m w new ours ranges v by distinct change may k n place closes.
       no_out_amiss_of_client roles nodes reads readings m w ours (law m w new ours ranges)
-      (OfClient AreDistinct) (client_kept m w (law m w new ours ranges).known AreDistinct distinct_of_cookies)
+      (OfClient AreDistinct)
+      (client_kept m w (law m w new ours ranges).known AreDistinct distinct_of_cookies)
       (OutExpectsClient (numbers ours))
       (flow (OfClient AreDistinct) OutExpectsClient expect m w new ours ranges) v by distinct
       (cause.Unexpected (co n) place) (refused.Unexpected) refl tt
@@ -62,7 +65,8 @@ returns g c = record {
       closes;
   out_client_cookie = λ expect m w new ours ranges v by distinct change may k n expected got closes.
       no_out_amiss_of_client roles nodes reads readings m w ours (law m w new ours ranges)
-      (OfClient AreDistinct) (client_kept m w (law m w new ours ranges).known AreDistinct distinct_of_cookies)
+      (OfClient AreDistinct)
+      (client_kept m w (law m w new ours ranges).known AreDistinct distinct_of_cookies)
       (OutExpectsClient (numbers ours))
       (flow (OfClient AreDistinct) OutExpectsClient expect m w new ours ranges) v by distinct
       (cause.CookieMismatch (co n) expected got) (refused.Cookie expected got) refl tt
@@ -71,7 +75,8 @@ returns g c = record {
       closes;
   out_server_unexpected = λ expect m w new ours ranges v by distinct change may k n place closes.
       no_out_amiss_of_server roles nodes reads readings m w ours (law m w new ours ranges)
-      (OfClient HaveCookies) (client_kept m w (law m w new ours ranges).known HaveCookies have_of_cookies)
+      (OfClient HaveCookies)
+      (client_kept m w (law m w new ours ranges).known HaveCookies have_of_cookies)
       (OutExpectsServer (numbers ours))
       (flow (OfClient HaveCookies) OutExpectsServer expect m w new ours ranges) v by distinct
       (cause.Unexpected (os_leg n) place) (refused.Unexpected) refl tt
@@ -80,7 +85,8 @@ returns g c = record {
       closes;
   out_server_cookie = λ expect m w new ours ranges v by distinct change may k n expected got closes.
       no_out_amiss_of_server roles nodes reads readings m w ours (law m w new ours ranges)
-      (OfClient HaveCookies) (client_kept m w (law m w new ours ranges).known HaveCookies have_of_cookies)
+      (OfClient HaveCookies)
+      (client_kept m w (law m w new ours ranges).known HaveCookies have_of_cookies)
       (OutExpectsServer (numbers ours))
       (flow (OfClient HaveCookies) OutExpectsServer expect m w new ours ranges) v by distinct
       (cause.CookieMismatch (os_leg n) expected got) (refused.Cookie expected got) refl tt
@@ -91,23 +97,27 @@ returns g c = record {
       no_server_amiss_of_in roles nodes reads readings m w ours (law m w new ours ranges)
       IsByLines (lines_kept m w (law m w new ours ranges).known)
       (ServerExpectsIn (numbers ours))
-      (flow IsByLines ServerExpectsIn expect m w new ours ranges) v by (of_lines m w v by lines distinct)
+      (flow IsByLines ServerExpectsIn expect m w new ours ranges) v by
+      (of_lines m w v by lines distinct)
       (cause.Unexpected (is_leg n) place) (refused.Unexpected) refl tt
       (λ event S its shell comes. comes)
       (λ reader moves holds. holds) n (λ S its node leg piece amiss. amiss.cause) change may
       closes;
-  server_in_cookie = λ expect m w new ours ranges v by lines distinct change may n expected got closes.
+  server_in_cookie = λ expect m w new ours ranges v by lines distinct change may n expected got
+      closes.
       no_server_amiss_of_in roles nodes reads readings m w ours (law m w new ours ranges)
       IsByLines (lines_kept m w (law m w new ours ranges).known)
       (ServerExpectsIn (numbers ours))
-      (flow IsByLines ServerExpectsIn expect m w new ours ranges) v by (of_lines m w v by lines distinct)
+      (flow IsByLines ServerExpectsIn expect m w new ours ranges) v by
+      (of_lines m w v by lines distinct)
       (cause.CookieMismatch (is_leg n) expected got) (refused.Cookie expected got) refl tt
       (λ event S its shell comes. comes)
       (λ reader moves holds. holds) n (λ S its node leg piece amiss. amiss.cause) change may
       closes;
   server_out_unexpected = λ expect m w new ours ranges v by distinct change may n place closes.
       no_server_amiss_of_out roles nodes reads readings m w ours (law m w new ours ranges)
-      (OfClient AreDistinct) (client_kept m w (law m w new ours ranges).known AreDistinct distinct_of_cookies)
+      (OfClient AreDistinct)
+      (client_kept m w (law m w new ours ranges).known AreDistinct distinct_of_cookies)
       (ServerExpectsOut (numbers ours))
       (flow (OfClient AreDistinct) ServerExpectsOut expect m w new ours ranges) v by distinct
       (cause.Unexpected (os_leg n) place) (refused.Unexpected) refl tt
@@ -116,7 +126,8 @@ returns g c = record {
       closes;
   server_out_cookie = λ expect m w new ours ranges v by distinct change may n expected got closes.
       no_server_amiss_of_out roles nodes reads readings m w ours (law m w new ours ranges)
-      (OfClient AreDistinct) (client_kept m w (law m w new ours ranges).known AreDistinct distinct_of_cookies)
+      (OfClient AreDistinct)
+      (client_kept m w (law m w new ours ranges).known AreDistinct distinct_of_cookies)
       (ServerExpectsOut (numbers ours))
       (flow (OfClient AreDistinct) ServerExpectsOut expect m w new ours ranges) v by distinct
       (cause.CookieMismatch (os_leg n) expected got) (refused.Cookie expected got) refl tt
