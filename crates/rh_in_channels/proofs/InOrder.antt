@@ -1,6 +1,7 @@
 -- at each moment the channels that were announced are the first so many, and what stands next
 -- announces the next one
 use Rattle.std.proofs.Common.{◌≡◌, ℕ, suc, ◌+◌, ◌≤◌, Bool, true, false, if◌then◌else◌, List, [], ◌∷◌, ◌++◌, append_assoc, inl, inr, refl, sym, ap, ◌∙◌, subst, arith}
+use Rattle.std.proofs.lemmas.List.{append-nil}
 use Rattle.rh_sig.specs.declared.named.Named.{Named}
 use Rattle.rh_sig.specs.declared.named.Named.TheVariants.{InR1A2, InR2A2}
 use Rattle.rh_shell.specs.Moves.{EndMove, EndPassage, OnLeg, Passage, all_end_moved, end_moved, end_started}
@@ -9,7 +10,7 @@ use Rattle.rh_shell.specs.Wires.{of_leg}
 use Rattle.rh_server.specs.Servers.{acts, first, rules}
 use Rattle.rh_server.specs.States.{Server}
 use Rattle.rh_passages.specs.Passing.{count_of, of_kind}
-use Rattle.rh_passages.proofs.Messages.{count_append}
+use Rattle.rh_passages.proofs.Messages.{count_append, count_rises, leg_more}
 use Rattle.rh_client_counts.specs.Replacing.{in_asked}
 use Rattle.rh_proxy_counts.specs.InCounts.{is_leg}
 use Rattle.rh_reading.specs.Reading.{all_read_of}
@@ -61,6 +62,18 @@ fits_first p none = record {
         ap (λ (log : List OnLeg). count_of is_conn_b2 (of_leg (is_leg m) log)
         + count_of is_in_r1_a2 (of_leg (is_leg m) log)) none
 
+-- what came on a leg grows
+came_more : (test : Named → Bool) (p q : Passage Server) → IsOneMore rules acts p q → (n : ℕ)
+    → came_at test p n ≤ came_at test q n
+came_more test p q (inl came) n =
+    let same = ap (λ (log : List OnLeg). count_of test (of_leg (is_leg n) log)) came in
+    omega (arith, same)
+came_more test p q (inr one) n =
+    let same = ap (λ (log : List OnLeg). count_of test (of_leg (is_leg n) log)) one.1 in
+    let more = ap (count_of test) (leg_more (is_leg n) p.came one.0) in
+    let rise = count_rises test (of_leg (is_leg n) p.came) (of_leg (is_leg n) (one.0 ∷ [])) in
+    omega (arith, same, more, rise)
+
 -- ---- a moment
 
 module _ (numbers : Numbers)
@@ -103,13 +116,56 @@ module _ (numbers : Numbers)
           (subst (λ (s : EndPassage Server). WasTold s.passage) more told)
           (one_more rules acts here move) fit)
 
-      fits : Fits server
-      fits =
-          all_fronts (λ (front : List EndMove). Fits (passed numbers front)) moves.server fits_next
+      fits_at : (front later : List EndMove) → moves.server ≡ front ++ later
+          → Fits (passed numbers front)
+      fits_at front later e =
+          all_fronts (λ (these : List EndMove). Fits (passed numbers these)) front
+          (λ these move rest is.
+          fits_next these move (rest ++ later)
+          (e ∙ ap (λ (all : List EndMove). all ++ later) is
+          ∙ append_assoc these (move ∷ rest) later))
           (fits_first (passed numbers []) refl)
+
+      fits : Fits server
+      fits = fits_at moves.server [] (sym (append-nil moves.server))
 
       told_now : AreTold reader asked server
       told_now = are_told numbers reader moves moment.now (laws reader moves moment.now)
+
+      -- what came on a leg behind a front came
+      came_front : (test : Named → Bool) (n : ℕ) (front later : List EndMove)
+          → moves.server ≡ front ++ later
+          → came_at test (passed numbers front) n ≤ came_at test server n
+      came_front test n front [] e =
+          subst (λ (all : List EndMove). came_at test (passed numbers front) n
+          ≤ came_at test (passed numbers all) n) (sym (e ∙ append-nil front)) (omega arith)
+      came_front test n front (move ∷ later) e =
+          let begin : EndPassage Server = end_started (first numbers.window) in
+          let here : EndPassage Server = all_end_moved rules acts begin front in
+          let rest = came_front test n (front ++ move ∷ []) later
+          (e ∙ sym (append_assoc front (move ∷ []) later)) in
+          let more = ap (λ (s : EndPassage Server). came_at test s.passage n)
+          (behind_all rules acts begin front move) in
+          let one = came_more test here.passage (end_moved rules acts here move).passage
+          (one_more rules acts here move) n in
+          omega (arith, rest, more, one)
+
+      -- behind each front the channels that were announced are the first so many
+      pub announced_front : (front later : List EndMove) → moves.server ≡ front ++ later
+          → AreAnnounced reader (passed numbers front)
+      announced_front front later e = record {
+        each = (fits_at front later e).each;
+        only = (fits_at front later e).only;
+        read = λ m k on.
+            let a = came_front is_conn_b2 m front later e in
+            let b = came_front is_in_r1_a2 m front later e in
+            let c = came_front is_in_r2_a2 m front later e in
+            let began = on.began in
+            let most = on.most in
+            ((told_now.on m).channel k (omega (arith, a, b, began)) on.least
+            (omega (arith, c, most))).0;
+        once = λ m. ((told_front front later e).told.on m).once;
+      }
 
       pub are_announced : AreAnnounced reader server
       are_announced = record {

@@ -1,9 +1,10 @@
 //! In which order a server is told of IN channels, and answers. These functions do nothing: their
 //! contracts are the laws.
 
-ghost use Rattle.std.specs.Prelude.{ℕ};
+ghost use Rattle.std.specs.Prelude.{List, ℕ, ◌≡◌, ◌++◌};
+ghost use Rattle.rh_shell.specs.Moves.{EndMove};
 ghost use Rattle.rh_moments.specs.Moments.{IsMoment, Moves, Numbers, server_behind};
-ghost use Rattle.rh_in_channels.specs.Announcing.{AnnounceNext, AreAnnounced, AreAnswered};
+ghost use Rattle.rh_in_channels.specs.Announcing.{AnnounceNext, AreAnnounced, AreAnswered, passed};
 
 use rh_client_counts::{
     a_client_names_its_in_channels, a_client_opens_once, a_client_replaces_in_channels_one_by_one,
@@ -17,13 +18,17 @@ use rh_server_expects::an_in_proxy_in_turn_puts_in_order;
 /// first so many, each on the is leg of the in proxy that reads it, and there in order behind the
 /// one with which the leg began, once. An IN_R1/A2 or IN_R2/A2 that stands next on an is leg
 /// announces the next channel, the latter on a leg that began with one, and only behind the answers
-/// to all before (successors are this profile's).
+/// to all before. And behind each front of the server's moves the channels that had been announced
+/// were the first so many, in the same way (successors are this profile's).
 pub fn in_channels_are_announced_in_order()
     ensures order { (numbers : Numbers) (reader : ℕ → ℕ) (moves : Moves)
         → IsMoment numbers reader moves
         → AreAnnounced reader (server_behind numbers moves).passage }
     ensures next { (numbers : Numbers) (reader : ℕ → ℕ) (moves : Moves)
         → IsMoment numbers reader moves → AnnounceNext numbers moves }
+    ensures fronts { (numbers : Numbers) (reader : ℕ → ℕ) (moves : Moves)
+        → IsMoment numbers reader moves → (front later : List EndMove)
+        → moves.server ≡ front ++ later → AreAnnounced reader (passed numbers front) }
 {
     a_client_names_its_in_channels();
     a_client_opens_once();

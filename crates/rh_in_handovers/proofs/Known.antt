@@ -11,7 +11,8 @@ use Rattle.rh_server_counts.specs.Opening.{OpensOnce}
 use Rattle.rh_rounds.specs.Rounds.{GoRound, announced, taken_in}
 use Rattle.rh_in_channels.specs.Announcing.{AreAnnounced, AreAnswered, passed}
 use Rattle.rh_moments.specs.Moments.{AreJoined, AreMade, IsMoment, IsPast, Moves, Numbers, client_behind, passages, server_behind}
-use Rattle.rh_in_handovers.proofs.Fronts.{Crossing, IsOneMore, crossing, moved_more, one_more}
+use Rattle.rh_server_expects.proofs.Fronts.{IsOneMore, behind_all, one_more}
+use Rattle.rh_in_handovers.proofs.Crossing.{Crossing, crossing}
 use Rattle.rh_in_handovers.proofs.Rising.{IsAnnouncedBy, announced_by}
 
 -- what is known of a moment
@@ -97,7 +98,7 @@ module _ (numbers : Numbers) (reader : ℕ → ℕ) (moves : Moves)
           let same : passed numbers (at.front ++ at.move ∷ [])
           ≡ (end_moved rules acts (all_end_moved rules acts start at.front) at.move).passage =
           ap (λ (x : EndPassage Server). x.passage)
-          (moved_more rules acts start at.front at.move) in
+          (behind_all rules acts start at.front at.move) in
           let above : suc count ≤ announced (passed numbers (at.front ++ at.move ∷ [])) =
           subst (λ (p : Passage Server). suc count ≤ announced p) (sym same) at.above in
           let below = at.below in

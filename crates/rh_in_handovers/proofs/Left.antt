@@ -1,7 +1,8 @@
 -- where IN_R1/A5 came at an in proxy, the client put it, behind the answer for the successor
-use Rattle.std.proofs.Common.{◌≡◌, ℕ, suc, ◌+◌, ◌≤◌, Bool, true, false, if◌then◌else◌, List, [], ◌∷◌, inl, inr, refl, subst, arith}
+use Rattle.std.proofs.Common.{◌≡◌, ℕ, ◌+◌, ◌≤◌, true, List, [], ◌∷◌, inl, inr, refl, subst, arith}
 use Rattle.std.proofs.lemmas.Bool.Decides.{nat_tests}
 use Rattle.rh_rts.specs.declared.command.Cookie.{Cookie}
+use Rattle.rh_sig.specs.declared.named.Named.{Named}
 use Rattle.rh_sig.specs.declared.named.Named.TheVariants.{InR1A5}
 use Rattle.rh_shell.specs.Moves.{Passage}
 use Rattle.rh_shell.specs.Rules.{Message, Text, Pdu, Packet}
@@ -13,6 +14,7 @@ use Rattle.rh_client_counts.specs.Counting.{is_among, is_in_r1_a5, once_if}
 use Rattle.rh_client_counts.specs.Naming.{NamesIns}
 use Rattle.rh_client_counts.specs.Replacing.{ReplacesIns, in_answered, in_handed_over}
 use Rattle.rh_inproxy_puts.specs.Puts.{Leaves}
+use Rattle.rh_server_expects.proofs.Logs.{counted_some}
 
 leaves_has : (successor : Cookie) (ms : List Message) → HasOne (Leaves successor) ms
     → Has (InR1A5 successor) ms
@@ -24,19 +26,9 @@ leaves_has successor (Packet (InR1A5 other) ∷ ms) (inl is) =
 leaves_has successor (Packet m ∷ ms) (inl is) = absurd is
 leaves_has successor (Packet m ∷ ms) (inr h) = inr (leaves_has successor ms h)
 
-one_over : (b : Bool) (n : ℕ) → 1 ≤ n → 1 ≤ (if b then suc n else n)
-one_over true n some = omega arith
-one_over false n some = some
-
-has_counts : (successor : Cookie) (ms : List Message) → HasOne (Leaves successor) ms
-    → 1 ≤ count_of is_in_r1_a5 ms
-has_counts successor [] h = absurd h
-has_counts successor (Text bytes ∷ ms) h = has_counts successor ms h
-has_counts successor (Pdu pdu ∷ ms) h = has_counts successor ms h
-has_counts successor (Packet (InR1A5 other) ∷ ms) (inl is) = omega arith
-has_counts successor (Packet m ∷ ms) (inl is) = absurd is
-has_counts successor (Packet m ∷ ms) (inr h) =
-    one_over (is_in_r1_a5 m) (count_of is_in_r1_a5 ms) (has_counts successor ms h)
+leaves_is : (successor : Cookie) (m : Named) → Leaves successor m → is_in_r1_a5 m ≡ true
+leaves_is successor (InR1A5 other) is = refl
+leaves_is successor m is = absurd is
 
 among : (n k count : ℕ) → count ≡ once_if (is_among 1 k n) → 1 ≤ count → (1 ≤ n) × (n ≤ k)
 among n k count e some =
@@ -53,7 +45,9 @@ pub left_for : (connection : Cookie) (client : Passage ClientRole) → NamesIns 
     → HasOne (Leaves successor) (of_leg (ci k) client.put) → IsLeftFor client k successor
 left_for connection client names replaces k successor has =
     let within = among k (in_handed_over client) (count_of is_in_r1_a5 (of_leg (ci k) client.put))
-    (replaces.hands_over_on (ci k)) (has_counts successor (of_leg (ci k) client.put) has) in
+    (replaces.hands_over_on (ci k))
+    (counted_some (Leaves successor) is_in_r1_a5 (leaves_is successor)
+    (of_leg (ci k) client.put) has) in
     let most = within.1 in
     let over = replaces.answered in
     record {

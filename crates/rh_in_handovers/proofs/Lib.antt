@@ -1,5 +1,5 @@
 pub mod Streams
-pub mod Fronts
+pub mod Crossing
 pub mod Rising
 pub mod Known
 pub mod Left

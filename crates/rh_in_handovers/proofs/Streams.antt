@@ -1,5 +1,5 @@
 -- what stands on an is leg where IN_R1/A6 comes next there, and where IN_R1/A2 named a successor
-use Rattle.std.proofs.Common.{◌≡◌, ℕ, suc, ◌+◌, ◌≤◌, Bool, true, false, if◌then◌else◌, List, [], ◌∷◌, ◌++◌, append_assoc, Some, None, inl, refl, sym, ◌∙◌, subst, arith}
+use Rattle.std.proofs.Common.{◌≡◌, ℕ, suc, ◌+◌, ◌≤◌, Bool, true, false, if◌then◌else◌, List, [], ◌∷◌, ◌++◌, append_assoc, Some, None, refl, sym, ◌∙◌, subst, arith}
 use Rattle.std.specs.declared.option.Option.{Option}
 use Rattle.std.specs.List.{AllByRecursion}
 use mathlib.Core.List.{IsPrefix}
@@ -12,11 +12,12 @@ use Rattle.rh_shell.specs.Rules.{Message, Text, Pdu, Packet}
 use Rattle.rh_shell.specs.Wires.{of_leg}
 use Rattle.rh_inproxy.specs.declared.state.InProxyConfig.{InProxyConfig}
 use Rattle.rh_reading.specs.Reading.{all_read_of}
-use Rattle.rh_passages.specs.Passing.{BeginsIn, HasBegunIn, HasOne, count_of}
+use Rattle.rh_passages.specs.Passing.{BeginsIn, HasBegunIn, count_of}
 use Rattle.rh_passages.proofs.Messages.{one_so}
-use Rattle.rh_inproxy_puts.specs.Puts.{ci, CameOn, IsFront, IsPing, IsRest, IsStream, Leaves, Replaces}
+use Rattle.rh_inproxy_puts.specs.Puts.{ci, CameOn, IsPing, IsRest, IsStream, Leaves, Replaces}
 use Rattle.rh_server_counts.specs.Counting.{is_conn_b2, is_in_r1_a2, is_in_r1_a6, is_in_r2_a2}
 use Rattle.rh_server_in_rows.specs.Refusing.{last_of, successor_by}
+use Rattle.rh_server_expects.proofs.Streams.{first_one}
 
 -- ---- Pings
 
@@ -45,13 +46,6 @@ pings_name known (x ∷ before) later h =
     (pings_name known before later h.1)
 
 -- ---- packets
-
--- what came first came
-first_one : (Is : Named → Type 0) (ms : List Message) → IsFront Is ms → HasOne Is ms
-first_one Is [] h = absurd h
-first_one Is (Text bytes ∷ ms) h = absurd h
-first_one Is (Pdu pdu ∷ ms) h = absurd h
-first_one Is (Packet m ∷ ms) h = inl h
 
 replaces_begin : (connection predecessor successor : Cookie) (m : Named)
     → Replaces connection predecessor successor m → BeginsIn successor m

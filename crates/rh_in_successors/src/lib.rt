@@ -1,5 +1,5 @@
-//! What a server expects of the announcements of IN channels. Its function does nothing: its contract
-//! is the law.
+//! What a server expects of the announcements of IN channels. Its function calls the laws that it
+//! stands on: its contract is the law.
 #![tactic(auto)]
 
 pub mod successors;

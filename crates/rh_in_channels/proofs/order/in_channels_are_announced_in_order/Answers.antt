@@ -1,7 +1,7 @@
 use Rattle.std.proofs.Common.{ℕ, subst}
 use Rattle.rh_proxy_counts.specs.OutCounts.{ForwardsWhatCame}
 use Rattle.rh_moments.specs.Moments.{IsJoined, Moves, Numbers, out_behind}
-use Rattle.rh_in_channels.proofs.InOrder.{announce_next, are_announced}
+use Rattle.rh_in_channels.proofs.InOrder.{announce_next, announced_front, are_announced}
 use Rattle.rh_in_channels.proofs.Told.{Laws}
 use Rattle.rh_in_channels.proofs.order.in_channels_are_announced_in_order.Goals as goal
 
@@ -9,6 +9,7 @@ pub returns : goal.returns
 returns c = record {
   order = λ numbers. are_announced numbers (laws numbers);
   next = λ numbers. announce_next numbers (laws numbers);
+  fronts = λ numbers. announced_front numbers (laws numbers);
 }
   where
     laws : (numbers : Numbers) (reader : ℕ → ℕ) (moves : Moves) → IsJoined numbers reader moves

@@ -1,0 +1,11 @@
+mod Logs
+mod Sums
+mod Ups
+mod Streams
+mod Begins
+mod Numbered
+mod Opened
+mod Connections
+mod Refused
+mod Moment
+mod Expects

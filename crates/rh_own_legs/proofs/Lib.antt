@@ -1,0 +1,5 @@
+mod Ends
+mod LegKinds
+mod InLegs
+mod Amiss
+mod Fed
