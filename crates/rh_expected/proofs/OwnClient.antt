@@ -95,12 +95,12 @@ module _ {K : Type 0} (roles : RolesKnow) (client_roles : ClientKnows) (laws : C
   client_at U count may here closes = absurd cc
   client_at D count may here closes =
       let next = client_next roles reads readings m w v ours law
-      (AtMoment (OfClient AreDistinct) (ClientExpects (numbers ours)) ours) flow by (co n) D (λ j. may)
-      refused.Unexpected tt is_named (λ e. refl) (λ k. named (IsFed (co n) D k) may n) why refl
-      count who.Client here client_roles laws.node refl closes in
+      (AtMoment (OfClient AreDistinct) (ClientExpects (numbers ours)) ours) flow by (co n) D
+      (λ j. may) refused.Unexpected tt is_named (λ e. refl) (λ k. named (IsFed (co n) D k) may n)
+      why refl count who.Client here client_roles laws.node refl closes in
       let then_flowing = flowing reads readings m w v ours law
-      (AtMoment (OfClient AreDistinct) (ClientExpects (numbers ours)) ours) flow by (co n) D (λ j. may)
-      next.0 in
+      (AtMoment (OfClient AreDistinct) (ClientExpects (numbers ours)) ours) flow by (co n) D
+      (λ j. may) next.0 in
       let f = then_flowing.flows.flows in
       let moves : Moves = moves_of then_flowing.flows in
       let now = then_flowing.holds
