@@ -22,7 +22,7 @@ use Rattle.rh_inproxy.specs.State.{InProxy}
 use Rattle.rh_outproxy.specs.OutProxy.{OutProxy}
 use Rattle.rh_server.specs.States.{Server, no_cookie}
 use Rattle.rh_history.specs.Carried.{IsTraced, end_node, happened}
-use Rattle.rh_history.specs.Changes.{ByLines, IsFed, Leads, MayChange, changed}
+use Rattle.rh_history.specs.Changes.{IsFed, Leads, MayChange, changed}
 use Rattle.rh_history.specs.Histories.{History, noted, nothing, told_to}
 use Rattle.rh_history.proofs.Appended.{happened_more}
 use Rattle.rh_history.proofs.Working.{works_more}

@@ -1,8 +1,8 @@
 -- an is leg that came up at the server of a world of lines is that of a channel of its number
 use Rattle.std.proofs.Common.{◌≡◌, ◌≤◌, ◌⊎◌, ◌&&◌, ◌||◌, ℕ, zero, suc, Bool, true, false, not, List, [], ◌∷◌, inl, inr, arith, refl, sym, ap, ◌∙◌, subst}
-use Rattle.std.specs.Prelude.{IsTrue, nat_eq}
+use Rattle.std.specs.Prelude.{nat_eq}
 use Rattle.std.specs.List.{list_all, list_any}
-use Rattle.std.proofs.lemmas.Bool.{true≢false, and_parts, eqb-true}
+use Rattle.std.proofs.lemmas.Bool.{true≢false, eqb-true}
 use Rattle.rh_line.specs.declared.leg.Leg.{Leg}
 use Rattle.rh_line.specs.declared.leg.LegKind.{LegKind}
 use Rattle.rh_line.specs.declared.leg.LegKind.TheVariants.{ClientIn, ClientOut, InServer, OutServer}
@@ -33,7 +33,7 @@ use Rattle.rh_traced.proofs.ByChanges.{lines_by_changes}
 use Rattle.rh_ordered.specs.Premises.{history_at}
 use Rattle.rh_fifo.specs.Flows.{IsFlowing, numbers_of}
 use Rattle.rh_hops.specs.Hops.{is_leg}
-use Rattle.rh_in_successors.specs.Connected.{AreConnected, IsConnected}
+use Rattle.rh_in_successors.specs.Connected.{AreConnected}
 use Rattle.rh_pasts.specs.Pasts.{moves_of}
 use Rattle.rh_expected.specs.Roles.{IsByLines}
 
