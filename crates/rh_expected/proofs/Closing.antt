@@ -29,6 +29,7 @@ use Rattle.rh_nodes.specs.Settling.{leg_at}
 use Rattle.rh_nodes.specs.Wires.{receiver}
 use Rattle.rh_nodes.specs.World.{World, at}
 use Rattle.rh_client.specs.declared.state.ClientRole.{ClientRole}
+use Rattle.rh_client.specs.Client as client
 use Rattle.rh_client.specs.State.{ci, co}
 use Rattle.rh_inproxy.specs.Machine as in_proxy
 use Rattle.rh_inproxy.specs.State.{InProxy}
@@ -73,9 +74,11 @@ ClosesAmiss {S} rules =
 
 pub record NodesLaws : Type 0 where
   pub comes : EachComes
+  pub client_amiss : ClosesAmiss client.rules
   pub ins_amiss : ClosesAmiss in_proxy.rules
   pub outs_amiss : ClosesAmiss out_proxy.rules
   pub server_amiss : ClosesAmiss server.rules
+  pub client : NodeLaws client.rules
   pub server : NodeLaws server.rules
   pub ins : NodeLaws in_proxy.rules
   pub outs : NodeLaws out_proxy.rules

@@ -1,16 +1,22 @@
 -- what the roles expect of each other at the moments of a virtual connection (MS-RPCH 3.2; profile)
-use Rattle.std.specs.Prelude.{◌≡◌, ◌≤◌, ℕ, List}
-use Rattle.rh_shell.specs.Moving.{Event}
+use Rattle.std.specs.Prelude.{◌≡◌, ◌≤◌, ℕ, List, Some}
+use Rattle.rh_shell.specs.declared.course.Course.TheVariants.{Going}
+use Rattle.rh_shell.specs.declared.stage.Stage.TheVariants as stage
+use Rattle.rh_shell.specs.Moving.{Event, after_events}
+use Rattle.rh_shell.specs.NearEnds.{NearEnd}
+use Rattle.rh_shell.specs.Shells.{begun, end_at}
 use Rattle.rh_shell.specs.Wires.{of_leg}
 use Rattle.rh_nodes.specs.Opening.{Makers}
 use Rattle.rh_nodes.specs.Readers.{reader_of}
 use Rattle.rh_nodes.specs.World.{World}
 use Rattle.rh_client.specs.declared.state.ClientRole.{ClientRole}
+use Rattle.rh_client.specs.Client as client
 use Rattle.rh_client.specs.State.{ci, co}
 use Rattle.rh_inproxy.specs.Machine as in_proxy
 use Rattle.rh_inproxy.specs.State.{InProxy}
+use Rattle.rh_outproxy.specs.declared.out_proxy.TheConstants.{ROOMS}
 use Rattle.rh_outproxy.specs.Machine as out_proxy
-use Rattle.rh_outproxy.specs.OutProxy.{OutProxy}
+use Rattle.rh_outproxy.specs.OutProxy.{OutProxy, new_proxy}
 use Rattle.rh_server.specs.Servers as server
 use Rattle.rh_server.specs.States.{Server, no_cookie}
 use Rattle.rh_history.specs.Carried.{happened}
@@ -25,6 +31,7 @@ use Rattle.rh_fifo.specs.Flows as fifo
 use Rattle.rh_fifo.specs.Flows.{IsFlowing}
 use Rattle.rh_fifo.specs.Premises.{AreInRange}
 use Rattle.rh_client_hops.specs.Premises.{AreDistinct}
+use Rattle.rh_refused.specs.Refused.{IsPort}
 use Rattle.rh_hops.specs.Hops.{is_leg, os_leg}
 use Rattle.rh_pasts.specs.Pasts.{moves_of, numbers}
 use Rattle.rh_moments.specs.Expecting.{Expects, HasNoPingFirst}
@@ -35,6 +42,11 @@ use Rattle.rh_moments.specs.Moments.{Moves, Numbers, client_behind, in_behind, o
 -- what holds of moves, by the in proxies that read the IN channels of the client
 abbrev pub Facts : Type 1
 Facts = (ℕ → ℕ) → Moves → Type 0
+
+-- the client expects what an out proxy put on its co leg
+pub record ClientExpects (all : Numbers) (reader : ℕ → ℕ) (moves : Moves) : Type 0 where
+  pub next : (n : ℕ) → Expects client.rules (client_behind all moves).passage (co n)
+      (all_read_of (of_leg (co n) (out_behind all moves n).put))
 
 -- an in proxy expects what the client put on a ci leg that it reads, where no Ping goes first
 pub record InExpectsClient (all : Numbers) (reader : ℕ → ℕ) (moves : Moves) : Type 0 where
@@ -122,3 +134,28 @@ WorldsExpect K Fits Holds =
     → (ours : AreOurs m w.company w.cast) → AreInRange (fifo.numbers_of ours)
     → (v : World K ClientRole Server InProxy OutProxy) (by : ByChanges rules m deeds w v)
     → IsExpecting Fits Holds m w ours v by
+
+-- ---- behind a request
+
+-- an out proxy whose node goes on and reads frames on the leg of its client expects what that put
+abbrev pub OutsServe : {K : Type 0} {m : Makers K InProxy OutProxy}
+    {w : World K ClientRole Server InProxy OutProxy} (ours : AreOurs m w.company w.cast)
+    (v : World K ClientRole Server InProxy OutProxy) (h : History)
+    → IsFlowing (fifo.numbers_of ours) w v h → Type 0
+OutsServe ours v h flowing =
+    (n : ℕ) (end : NearEnd)
+    → (let node = after_events out_proxy.rules (begun (new_proxy (ours.out_config n)) ROOMS)
+    (h.outs n) in
+    node.course ≡ Going → end_at node (co n) ≡ Some end → end.intake.stage ≡ stage.Frames
+    → Expects out_proxy.rules (flowing.flows.outs n).passage (co n)
+    (all_read_of (of_leg (co n) flowing.flows.client.passage.passage.put)))
+
+-- so it is in each such world where the port of the client's server is one, whichever moves lead to
+-- the roles
+abbrev pub WorldsServe : Type 0 → Type 0
+WorldsServe K =
+    (m : Makers K InProxy OutProxy) (w : World K ClientRole Server InProxy OutProxy) → IsNew w
+    → (ours : AreOurs m w.company w.cast) → IsPort ours.config.port
+    → (v : World K ClientRole Server InProxy OutProxy) (by : ByChanges rules m deeds w v)
+    → (flowing : IsFlowing (fifo.numbers_of ours) w v (history_at m w v by.leads))
+    → OutsServe ours v (history_at m w v by.leads) flowing

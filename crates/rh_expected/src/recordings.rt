@@ -19,11 +19,11 @@ ghost use Rattle.rh_client_hops.specs.Premises.{AreDistinct};
 ghost use Rattle.rh_expected.specs.Roles.{InExpects, IsByLines, OfClient, OutExpectsClient};
 ghost use Rattle.rh_expected.specs.Roles.{ServerExpectsIn, ServerExpectsOut, WorldsExpect};
 
-use crate::asked::no_out_proxy_refuses_its_client;
 use crate::expecting::no_node_refuses_what_it_expects;
 use crate::roles::{
-    no_in_proxy_refuses_what_comes, no_out_proxy_refuses_its_server,
-    no_server_refuses_its_in_proxies, no_server_refuses_its_out_proxies,
+    no_in_proxy_refuses_what_comes, no_out_proxy_refuses_its_client,
+    no_out_proxy_refuses_its_server, no_server_refuses_its_in_proxies,
+    no_server_refuses_its_out_proxies,
 };
 use crate::worlds::{a_client_refuses_no_cookie, no_client_refuses_what_comes};
 use rh_closes::each_close_of_a_recording_shows;

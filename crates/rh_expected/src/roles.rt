@@ -10,6 +10,7 @@ ghost use Rattle.rh_record.specs.declared.answer.Who.TheVariants.{In, Out, Serve
 ghost use Rattle.rh_nodes.specs.Opening.{Makers};
 ghost use Rattle.rh_nodes.specs.World.{World};
 ghost use Rattle.rh_client.specs.declared.state.ClientRole.{ClientRole};
+ghost use Rattle.rh_client.specs.State.{co};
 ghost use Rattle.rh_inproxy.specs.State.{InProxy};
 ghost use Rattle.rh_outproxy.specs.OutProxy.{OutProxy};
 ghost use Rattle.rh_server.specs.States.{Server};
@@ -24,6 +25,7 @@ ghost use Rattle.rh_fifo.specs.Flows.{numbers_of};
 ghost use Rattle.rh_fifo.specs.Premises.{AreInRange};
 ghost use Rattle.rh_hops.specs.Hops.{is_leg, os_leg};
 ghost use Rattle.rh_client_hops.specs.Premises.{AreDistinct};
+ghost use Rattle.rh_refused.specs.Refused.{IsPort};
 ghost use Rattle.rh_expected.specs.Roles.{HaveCookies};
 
 use crate::connected::is_legs_of_lines_are_connected;
@@ -35,6 +37,7 @@ use rh_outproxy_expects::an_out_proxy_expects_its_server;
 use rh_pasts::a_world_of_roles_is_at_a_moment;
 use rh_server_expects::{a_server_expects_its_out_proxies, no_ping_goes_first_to_a_server};
 use rh_traced::a_recording_of_roles_is_known;
+use rh_world_asked::an_out_proxy_of_a_world_expects_its_client;
 
 /// In each world of new roles whose numbers are in their ranges, at every moment that changes of
 /// lines and half steps reach, and by which no two legs of the client of one kind came up under one
@@ -141,4 +144,29 @@ pub fn no_out_proxy_refuses_its_server<K>()
     no_node_refuses_what_it_expects::<K>();
     a_world_of_roles_is_at_a_moment::<K>();
     an_out_proxy_expects_its_server();
+}
+
+/// In each world of new roles whose numbers are in their ranges, and of whose server the port is
+/// one, at every moment that changes of lines and half steps reach: no further change closes an out
+/// proxy with `Unexpected` or `CookieMismatch` for what the client put (MS-RPCH 3.2.4; successors
+/// are this profile's).
+pub fn no_out_proxy_refuses_its_client<K>()
+    ensures unexpected { (m : Makers K InProxy OutProxy)
+        (w : World K ClientRole Server InProxy OutProxy) → IsNew w
+        → (ours : AreOurs m w.company w.cast) → AreInRange (numbers_of ours)
+        → IsPort ours.config.port
+        → (v : World K ClientRole Server InProxy OutProxy) (by : ByChanges rules m deeds w v)
+        → (change : Change) → MayChange rules v change → (k n place : ℕ)
+        → ClosesNode rules v change (Out k) (Unexpected (co n) place) → ⊥ }
+    ensures cookie { (m : Makers K InProxy OutProxy)
+        (w : World K ClientRole Server InProxy OutProxy) → IsNew w
+        → (ours : AreOurs m w.company w.cast) → AreInRange (numbers_of ours)
+        → IsPort ours.config.port
+        → (v : World K ClientRole Server InProxy OutProxy) (by : ByChanges rules m deeds w v)
+        → (change : Change) → MayChange rules v change → (k n : ℕ)
+        (expected got : Cookie)
+        → ClosesNode rules v change (Out k) (CookieMismatch (co n) expected got) → ⊥ }
+{
+    no_node_refuses_what_it_expects::<K>();
+    an_out_proxy_of_a_world_expects_its_client::<K>();
 }

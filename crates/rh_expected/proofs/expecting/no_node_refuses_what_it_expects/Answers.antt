@@ -23,13 +23,16 @@ use Rattle.rh_hops.proofs.Moment.{Laws}
 use Rattle.rh_hops.proofs.Stopping.{Readings}
 use Rattle.rh_client_hops.proofs.Joined.{Reads}
 use Rattle.rh_moments.specs.Moments.{Moves, Numbers}
-use Rattle.rh_amiss.proofs.AtNodes.{RolesKnow}
+use Rattle.rh_amiss.proofs.AtNodes.{ClientKnows, RolesKnow}
 use Rattle.rh_amiss.proofs.Moments.{AllFlow}
 use Rattle.rh_pasts.specs.Pasts.{numbers}
 use Rattle.rh_client_hops.specs.Premises.{AreDistinct}
-use Rattle.rh_expected.specs.Roles.{HaveCookies, InExpects, IsByLines, OfClient, OutExpectsClient, OutExpectsServer, Premise, ServerExpectsIn, ServerExpectsOut, WorldsExpect}
+use Rattle.rh_refused.specs.Refused.{IsPort}
+use Rattle.rh_expected.specs.Roles.{ClientExpects, HaveCookies, InExpects, IsByLines, OfClient, OutExpectsClient, OutExpectsServer, OutsServe, Premise, ServerExpectsIn, ServerExpectsOut, WorldsExpect, WorldsServe}
 use Rattle.rh_expected.proofs.Facts.{client_kept, distinct_of_cookies, have_of_cookies, lines_kept}
 use Rattle.rh_expected.proofs.Closing.{AtMoment, NodesLaws, no_in_amiss, no_out_amiss_of_client, no_out_amiss_of_server, no_server_amiss_of_in, no_server_amiss_of_out}
+use Rattle.rh_expected.proofs.AtClients.{no_out_amiss_at_end}
+use Rattle.rh_expected.proofs.OwnClient.{no_client_amiss}
 use Rattle.rh_expected.proofs.expecting.no_node_refuses_what_it_expects.Goals as goal
 
 pub returns : goal.returns
@@ -134,6 +137,22 @@ returns g c = record {
       (λ event S its shell comes. comes)
       (λ reader moves holds. holds) n (λ S its node leg piece amiss. amiss.cause) change may
       closes;
+  client_unexpected = λ expect m w new ours ranges port v by distinct change may n place closes.
+      no_client_amiss roles client_roles nodes reads readings m w ours (law m w new ours ranges)
+      (flow (OfClient AreDistinct) ClientExpects expect m w new ours ranges) v by
+      (c.what_comes_to_a_client_has_a_name.ensures m w new ours ranges port v by) distinct n place
+      change may closes;
+  out_serving_unexpected = λ serve m w new ours ranges port v by change may k n place closes.
+      no_out_amiss_at_end roles nodes reads readings c.a_client_puts_no_ping_first.ensures m w ours
+      (law m w new ours ranges) (serving serve m w new ours ranges port) v by
+      (cause.Unexpected (co n) place) refused.Unexpected refl tt (λ event S its shell comes. comes)
+      k n (λ S its node leg piece amiss. amiss.cause) change may closes;
+  out_serving_cookie = λ serve m w new ours ranges port v by change may k n expected got closes.
+      no_out_amiss_at_end roles nodes reads readings c.a_client_puts_no_ping_first.ensures m w ours
+      (law m w new ours ranges) (serving serve m w new ours ranges port) v by
+      (cause.CookieMismatch (co n) expected got) (refused.Cookie expected got) refl tt
+      (λ event S its shell comes. comes) k n (λ S its node leg piece amiss. amiss.cause) change may
+      closes;
 }
   where
     roles : RolesKnow
@@ -161,6 +180,16 @@ returns g c = record {
       out_request = c.texts_are_whole.ensures.out_request;
     }
 
+    client_roles : ClientKnows
+    client_roles = record {
+      refuses = c.an_end_never_refuses.ensures.client;
+      unused = c.a_leg_that_a_client_left_stays_unused.ensures.calls;
+      legs = λ config. record {
+        comes = c.a_clients_leg_comes_up_once.ensures.comes config;
+        once = c.a_clients_leg_comes_up_once.ensures.once config;
+      };
+    }
+
     nodes : NodesLaws
     nodes = record {
       comes = record {
@@ -169,9 +198,16 @@ returns g c = record {
         ins = c.causes_come_from_their_events-3.ensures;
         outs = c.causes_come_from_their_events-4.ensures;
       };
+      client_amiss = c.events_close_with_their_causes-4.ensures;
       server_amiss = c.events_close_with_their_causes.ensures;
       ins_amiss = c.events_close_with_their_causes-2.ensures;
       outs_amiss = c.events_close_with_their_causes-3.ensures;
+      client = record {
+        cuts = c.cuts_change_nothing-4.ensures.bytes;
+        stays = c.first_cause_is_kept-4.ensures;
+        closed = c.a_node_closes_once-4.ensures.closed;
+        again = c.a_node_closes_once-4.ensures.again;
+      };
       server = record {
         cuts = c.cuts_change_nothing.ensures.bytes;
         stays = c.first_cause_is_kept.ensures;
@@ -236,3 +272,11 @@ returns g c = record {
       same = refl;
       distinct = distinct;
     }
+
+    serving : WorldsServe g.row.K.Denot → (m : Makers g.row.K.Denot InProxy OutProxy)
+        (w : World g.row.K.Denot ClientRole Server InProxy OutProxy) → IsNew w
+        → (ours : AreOurs m w.company w.cast) → AreInRange (numbers_of ours)
+        → IsPort ours.config.port → AllFlow m w ours (OutsServe ours)
+    serving serve m w new ours ranges port u by =
+        let here = c.what_is_put_is_legible.ensures m w new ours ranges u by in
+        record { flows = here; holds = serve m w new ours port u by here }

@@ -11,12 +11,8 @@ use Rattle.rh_expected.proofs.roles.no_in_proxy_refuses_what_comes.Goals as goal
 
 pub returns : goal.returns
 returns g c = record {
-  unexpected = λ m w new ours ranges v by distinct change may k leg place closes.
-      c.no_node_refuses_what_it_expects.ensures.in_unexpected worlds m w new ours ranges v by
-      distinct change may k leg place closes;
-  cookie = λ m w new ours ranges v by distinct change may k leg expected got closes.
-      c.no_node_refuses_what_it_expects.ensures.in_cookie worlds m w new ours ranges v by distinct
-      change may k leg expected got closes;
+  unexpected = c.no_node_refuses_what_it_expects.ensures.in_unexpected worlds;
+  cookie = c.no_node_refuses_what_it_expects.ensures.in_cookie worlds;
 }
   where
     worlds : WorldsExpect g.row.K.Denot (OfClient AreDistinct) InExpects

@@ -7,12 +7,8 @@ use Rattle.rh_expected.proofs.roles.no_out_proxy_refuses_its_server.Goals as goa
 
 pub returns : goal.returns
 returns g c = record {
-  unexpected = λ m w new ours ranges v by have change may k n place closes.
-      c.no_node_refuses_what_it_expects.ensures.out_server_unexpected worlds m w new ours ranges v
-      by have change may k n place closes;
-  cookie = λ m w new ours ranges v by have change may k n expected got closes.
-      c.no_node_refuses_what_it_expects.ensures.out_server_cookie worlds m w new ours ranges v by
-      have change may k n expected got closes;
+  unexpected = c.no_node_refuses_what_it_expects.ensures.out_server_unexpected worlds;
+  cookie = c.no_node_refuses_what_it_expects.ensures.out_server_cookie worlds;
 }
   where
     worlds : WorldsExpect g.row.K.Denot (OfClient HaveCookies) OutExpectsServer

@@ -6,12 +6,8 @@ use Rattle.rh_expected.proofs.roles.no_server_refuses_its_out_proxies.Goals as g
 
 pub returns : goal.returns
 returns g c = record {
-  unexpected = λ m w new ours ranges v by distinct change may n place closes.
-      c.no_node_refuses_what_it_expects.ensures.server_out_unexpected worlds m w new ours ranges v
-      by distinct change may n place closes;
-  cookie = λ m w new ours ranges v by distinct change may n expected got closes.
-      c.no_node_refuses_what_it_expects.ensures.server_out_cookie worlds m w new ours ranges v by
-      distinct change may n expected got closes;
+  unexpected = c.no_node_refuses_what_it_expects.ensures.server_out_unexpected worlds;
+  cookie = c.no_node_refuses_what_it_expects.ensures.server_out_cookie worlds;
 }
   where
     worlds : WorldsExpect g.row.K.Denot (OfClient AreDistinct) ServerExpectsOut
