@@ -182,7 +182,8 @@ module _ {K : Type 0} (roles : RolesKnow) (nodes : NodesLaws) (reads : Reads) (r
       in_at_client expects n U count node up there may here closes =
           let next = in_next roles reads readings m w v ours law (AtMoment Fits Holds ours) flow by
           (ci n) U (λ j. may) r amiss (well_on ClientIn U) (λ e. refl)
-          (well_behind m w v ours law by (ci n) U (λ j. may)) why tells count (who.In k) here nodes.ins k refl
+          (well_behind m w v ours law by (ci n) U (λ j. may)) why tells
+          count (who.In k) here nodes.ins k refl
           node up there closes in
           let flowed = then_flows (ci n) U may next.0 in
           let moves : Moves = moves_of flowed in
@@ -205,7 +206,8 @@ module _ {K : Type 0} (roles : RolesKnow) (nodes : NodesLaws) (reads : Reads) (r
       in_at_server expects n D count node up there may here closes =
           let next = in_next roles reads readings m w v ours law (AtMoment Fits Holds ours) flow by
           (is_leg n) D (λ j. may) r amiss (well_on InServer D) (λ e. refl)
-          (well_behind m w v ours law by (is_leg n) D (λ j. may)) why tells count (who.In k) here nodes.ins
+          (well_behind m w v ours law by (is_leg n) D (λ j. may)) why tells
+          count (who.In k) here nodes.ins
           k refl node up there closes in
           let flowed = then_flows (is_leg n) D may next.0 in
           let moves : Moves = moves_of flowed in
@@ -290,7 +292,8 @@ module _ {K : Type 0} (roles : RolesKnow) (nodes : NodesLaws) (reads : Reads) (r
       out_at_client expects n U count node up there may here closes =
           let next = out_next roles reads readings m w v ours law (AtMoment Fits Holds ours) flow by
           (co n) U (λ j. may) r amiss (well_on ClientOut U) (λ e. refl)
-          (well_behind m w v ours law by (co n) U (λ j. may)) why tells count (who.Out k) here nodes.outs k
+          (well_behind m w v ours law by (co n) U (λ j. may)) why tells
+          count (who.Out k) here nodes.outs k
           refl node up there closes in
           let flowed = then_flows (co n) U may next.0 in
           let moves : Moves = moves_of flowed in
@@ -314,7 +317,8 @@ module _ {K : Type 0} (roles : RolesKnow) (nodes : NodesLaws) (reads : Reads) (r
       out_at_server expects n D count node up there may here closes =
           let next = out_next roles reads readings m w v ours law (AtMoment Fits Holds ours) flow by
           (os_leg n) D (λ j. may) r amiss (well_on OutServer D) (λ e. refl)
-          (well_behind m w v ours law by (os_leg n) D (λ j. may)) why tells count (who.Out k) here nodes.outs
+          (well_behind m w v ours law by (os_leg n) D (λ j. may)) why tells
+          count (who.Out k) here nodes.outs
           k refl node up there closes in
           let flowed = then_flows (os_leg n) D may next.0 in
           let moves : Moves = moves_of flowed in
@@ -396,7 +400,8 @@ module _ {K : Type 0} (roles : RolesKnow) (nodes : NodesLaws) (reads : Reads) (r
     server_at_in expects n U count may here closes =
         let next = server_next roles reads readings m w v ours law (AtMoment Fits Holds ours) flow
         by (is_leg n) U (λ j. may) r amiss (well_on InServer U) (λ e. refl)
-        (well_behind m w v ours law by (is_leg n) U (λ j. may)) why tells count who.Server here nodes.server
+        (well_behind m w v ours law by (is_leg n) U (λ j. may)) why tells
+        count who.Server here nodes.server
         refl closes in
         let flowed = then_flows (is_leg n) U may next.0 in
         let moves : Moves = moves_of flowed in
@@ -419,7 +424,8 @@ module _ {K : Type 0} (roles : RolesKnow) (nodes : NodesLaws) (reads : Reads) (r
     server_at_out expects n U count may here closes =
         let next = server_next roles reads readings m w v ours law (AtMoment Fits Holds ours) flow
         by (os_leg n) U (λ j. may) r amiss (well_on OutServer U) (λ e. refl)
-        (well_behind m w v ours law by (os_leg n) U (λ j. may)) why tells count who.Server here nodes.server
+        (well_behind m w v ours law by (os_leg n) U (λ j. may)) why tells
+        count who.Server here nodes.server
         refl closes in
         let flowed = then_flows (os_leg n) U may next.0 in
         let moves : Moves = moves_of flowed in

@@ -1,5 +1,5 @@
-//! What comes at the client of a world of roles. These functions do nothing: their contracts are the
-//! laws.
+//! What comes at the client of a world of roles. These functions do nothing: their contracts are
+//! the laws.
 
 ghost use Rattle.std.specs.Prelude.{ℕ};
 ghost use Rattle.rh_rts.specs.declared.command.Cookie.{Cookie};
