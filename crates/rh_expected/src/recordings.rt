@@ -12,14 +12,9 @@ ghost use Rattle.rh_record.specs.declared.line.Line.{Line};
 ghost use Rattle.rh_client.specs.State.{co};
 ghost use Rattle.rh_history.specs.Closes.{IsOneOf};
 ghost use Rattle.rh_world.specs.declared.any_world.AnyWorld.TheVariants.{Before};
-ghost use Rattle.rh_world.specs.declared.config.WorldConfig.{WorldConfig};
 ghost use Rattle.rh_world.specs.Any.{after, step};
 ghost use Rattle.rh_hops.specs.Hops.{is_leg, os_leg};
-ghost use Rattle.rh_client_hops.specs.Premises.{AreDistinct};
-ghost use Rattle.rh_expected.specs.Roles.{InExpects, IsByLines, OfClient, OutExpectsClient};
-ghost use Rattle.rh_expected.specs.Roles.{ServerExpectsIn, ServerExpectsOut, WorldsExpect};
 
-use crate::expecting::no_node_refuses_what_it_expects;
 use crate::roles::{
     no_in_proxy_refuses_what_comes, no_out_proxy_refuses_its_client,
     no_out_proxy_refuses_its_server, no_server_refuses_its_in_proxies,
@@ -133,50 +128,4 @@ pub fn no_server_of_a_recording_refuses_its_in_proxies()
     cookies_of_a_recording_are_left();
     each_close_of_a_recording_shows();
     no_server_refuses_its_in_proxies::<Config>();
-}
-
-/// Where in each world of roles a node expects what comes next on a leg, no report of a recording
-/// tells that the node closed with `Unexpected` or `CookieMismatch` of that leg: each leg of the
-/// client has a cookie that no other had (MS-RPCH 2.2.3.1, 3.2; profile).
-pub fn no_node_of_a_recording_refuses_what_it_expects()
-    ensures in_unexpected { WorldsExpect WorldConfig (OfClient AreDistinct) InExpects
-        → (before : List Line) (line : Line)
-        (k : ℕ) (leg : Leg) (place : ℕ) → IsOneOf (NodeClosed (In k) (Unexpected leg place))
-        (step (after Before before) line).1 → ⊥ }
-    ensures in_cookie { WorldsExpect WorldConfig (OfClient AreDistinct) InExpects
-        → (before : List Line) (line : Line)
-        (k : ℕ) (leg : Leg) (expected got : Cookie)
-        → IsOneOf (NodeClosed (In k) (CookieMismatch leg expected got))
-        (step (after Before before) line).1 → ⊥ }
-    ensures out_client_unexpected { WorldsExpect WorldConfig (OfClient AreDistinct) OutExpectsClient
-        → (before : List Line) (line : Line)
-        (k n : ℕ) (place : ℕ) → IsOneOf (NodeClosed (Out k) (Unexpected (co n) place))
-        (step (after Before before) line).1 → ⊥ }
-    ensures out_client_cookie { WorldsExpect WorldConfig (OfClient AreDistinct) OutExpectsClient
-        → (before : List Line) (line : Line)
-        (k n : ℕ) (expected got : Cookie)
-        → IsOneOf (NodeClosed (Out k) (CookieMismatch (co n) expected got))
-        (step (after Before before) line).1 → ⊥ }
-    ensures server_in_unexpected { WorldsExpect WorldConfig IsByLines ServerExpectsIn
-        → (before : List Line) (line : Line)
-        (n : ℕ) (place : ℕ) → IsOneOf (NodeClosed AtServer (Unexpected (is_leg n) place))
-        (step (after Before before) line).1 → ⊥ }
-    ensures server_in_cookie { WorldsExpect WorldConfig IsByLines ServerExpectsIn
-        → (before : List Line) (line : Line)
-        (n : ℕ) (expected got : Cookie)
-        → IsOneOf (NodeClosed AtServer (CookieMismatch (is_leg n) expected got))
-        (step (after Before before) line).1 → ⊥ }
-    ensures server_out_unexpected { WorldsExpect WorldConfig (OfClient AreDistinct) ServerExpectsOut
-        → (before : List Line) (line : Line)
-        (n : ℕ) (place : ℕ) → IsOneOf (NodeClosed AtServer (Unexpected (os_leg n) place))
-        (step (after Before before) line).1 → ⊥ }
-    ensures server_out_cookie { WorldsExpect WorldConfig (OfClient AreDistinct) ServerExpectsOut
-        → (before : List Line) (line : Line)
-        (n : ℕ) (expected got : Cookie)
-        → IsOneOf (NodeClosed AtServer (CookieMismatch (os_leg n) expected got))
-        (step (after Before before) line).1 → ⊥ }
-{
-    cookies_of_a_recording_are_left();
-    each_close_of_a_recording_shows();
-    no_node_refuses_what_it_expects::<Config>();
 }
