@@ -238,28 +238,6 @@ module _ {K : Type 0} (roles : RolesKnow) (nodes : NodesLaws) (reads : Reads) (r
           per (Gone now) there closes = absurd cc
           per (Here node up) there closes = never leg dir count node up there may here closes
 
-      -- on the one leg that the cause names
-      in_on : (l : Leg) → NamesLeg l why → InAt l → Fed (who.In k)
-      in_on l names never =
-          in_there (λ leg dir count node up there may here closes.
-          subst InAt
-          (names InProxy in_proxy.rules node leg (legs.take_out leg dir count v.legs).1
-          (nodes.ins_amiss node (event leg dir count) why closes)) never dir count node up there
-          may here closes)
-
-      pub no_in_amiss_of_client : Gives InExpectsClient → (n : ℕ) → NamesLeg (ci n) why
-          → (change : Change) → MayChange rules v change → ClosesNode rules v change (who.In k) why
-          → ⊥
-      no_in_amiss_of_client expects n names =
-          any (who.In k) (in_on (ci n) names (in_at_client expects n))
-
-      pub no_in_amiss_of_server : Gives InExpectsServer → (n : ℕ)
-          → NamesLeg (is_leg n) why → (change : Change) → MayChange rules v change
-          → ClosesNode rules v change (who.In k) why → ⊥
-      no_in_amiss_of_server expects n names =
-          any (who.In k) (in_on (is_leg n) names (in_at_server expects n))
-
-      -- on each leg
       pub no_in_amiss : Gives InExpectsClient → Gives InExpectsServer
           → (change : Change) → MayChange rules v change → ClosesNode rules v change (who.In k) why
           → ⊥
@@ -349,6 +327,7 @@ module _ {K : Type 0} (roles : RolesKnow) (nodes : NodesLaws) (reads : Reads) (r
           per (Gone now) there closes = absurd cc
           per (Here node up) there closes = never leg dir count node up there may here closes
 
+      -- on the one leg that the cause names
       out_on : (l : Leg) → NamesLeg l why → OutAt l → Fed (who.Out k)
       out_on l names never =
           out_there (λ leg dir count node up there may here closes.
@@ -368,24 +347,6 @@ module _ {K : Type 0} (roles : RolesKnow) (nodes : NodesLaws) (reads : Reads) (r
           → ClosesNode rules v change (who.Out k) why → ⊥
       no_out_amiss_of_server expects n names =
           any (who.Out k) (out_on (os_leg n) names (out_at_server expects n))
-
-      pub no_out_amiss : Gives OutExpectsClient → Gives OutExpectsServer
-          → (change : Change) → MayChange rules v change
-          → ClosesNode rules v change (who.Out k) why → ⊥
-      no_out_amiss client_expects server_expects =
-          any (who.Out k) (out_there (λ leg. per leg.kind leg.number))
-        where
-          per : (kind : LegKind) (n : ℕ) → OutAt (leg_at kind n)
-          per ClientOut n dir count node up there may here closes =
-              out_at_client client_expects n dir count node up there may here
-              closes
-          per OutServer n dir count node up there may here closes =
-              out_at_server server_expects n dir count node up there may here
-              closes
-          per ClientIn n U count node up there may here closes = absurd cc
-          per ClientIn n D count node up there may here closes = absurd cc
-          per InServer n U count node up there may here closes = absurd cc
-          per InServer n D count node up there may here closes = absurd cc
 
     -- ---- the server
 
@@ -461,19 +422,3 @@ module _ {K : Type 0} (roles : RolesKnow) (nodes : NodesLaws) (reads : Reads) (r
         → ⊥
     no_server_amiss_of_out expects n names =
         any who.Server (server_on (os_leg n) names (server_at_out expects n))
-
-    pub no_server_amiss : Gives ServerExpectsIn → Gives ServerExpectsOut → (change : Change)
-        → MayChange rules v change
-        → ClosesNode rules v change who.Server why → ⊥
-    no_server_amiss in_expects out_expects =
-        any who.Server (λ leg. per leg.kind leg.number)
-      where
-        per : (kind : LegKind) (n : ℕ) → ServerAt (leg_at kind n)
-        per InServer n dir count may here closes =
-            server_at_in in_expects n dir count may here closes
-        per OutServer n dir count may here closes =
-            server_at_out out_expects n dir count may here closes
-        per ClientIn n U count may here closes = absurd cc
-        per ClientIn n D count may here closes = absurd cc
-        per ClientOut n U count may here closes = absurd cc
-        per ClientOut n D count may here closes = absurd cc
