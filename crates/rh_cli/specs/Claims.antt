@@ -111,8 +111,8 @@ pub record ClientHopsHold (world : AnyWorld) (line : Line) : Type 0 where
       → IsOneOf (NodeClosed (who.Out k) (OutOfRange leg command value))
       (step world line).1 → ⊥
 
--- nor one of a proxy for what came out of its turn, or named another cookie; nor of an end for what
--- came so from an out proxy, or of the client for any cookie
+-- nor one of a proxy, or of the server, for what came out of its turn, or named another cookie; nor
+-- of the client for what came so from an out proxy, or for any cookie
 pub record ComesAsExpected (world : AnyWorld) (line : Line) : Type 0 where
   pub in_unexpected : (k : ℕ) (leg : Leg) (place : ℕ)
       → IsOneOf (NodeClosed (who.In k) (Unexpected leg place)) (step world line).1 → ⊥
@@ -133,6 +133,11 @@ pub record ComesAsExpected (world : AnyWorld) (line : Line) : Type 0 where
       → IsOneOf (NodeClosed who.Server (Unexpected (os_leg n) place)) (step world line).1 → ⊥
   pub server_cookie : (n : ℕ) (expected got : Cookie)
       → IsOneOf (NodeClosed who.Server (CookieMismatch (os_leg n) expected got))
+      (step world line).1 → ⊥
+  pub server_in_unexpected : (n place : ℕ)
+      → IsOneOf (NodeClosed who.Server (Unexpected (is_leg n) place)) (step world line).1 → ⊥
+  pub server_in_cookie : (n : ℕ) (expected got : Cookie)
+      → IsOneOf (NodeClosed who.Server (CookieMismatch (is_leg n) expected got))
       (step world line).1 → ⊥
   pub client_unexpected : (n place : ℕ)
       → IsOneOf (NodeClosed who.Client (Unexpected (leg_at ClientOut n) place)) (step world line).1

@@ -17,6 +17,7 @@ use rh_expected::{
     a_client_of_a_recording_refuses_no_cookie, no_client_of_a_recording_refuses_what_comes,
     no_in_proxy_of_a_recording_refuses_what_comes, no_out_proxy_of_a_recording_refuses_its_client,
     no_out_proxy_of_a_recording_refuses_its_server,
+    no_server_of_a_recording_refuses_its_in_proxies,
     no_server_of_a_recording_refuses_its_out_proxies,
 };
 use rh_fifo::every_recording_is_ordered;
@@ -35,9 +36,9 @@ use rh_refused::a_refused_client_of_a_recording_lost_its_server;
 /// unless a leg is lost. No more is held for a channel than its window, and each node is reported
 /// as closed once at most, by a line whose answers show why; each later answer of that end names
 /// the same cause (MS-RPCH 3.2). No node closes for bytes that read badly, for a body that is too
-/// long, or for the window of a hop, on one leg or between the client and its proxies; no proxy for
-/// what comes out of its turn or names another cookie, nor an end for what comes so from an out proxy,
-/// nor the client for any cookie.
+/// long, or for the window of a hop, on one leg or between the client and its proxies; no proxy and
+/// no server for what comes out of its turn or names another cookie, nor the client for what comes
+/// so from an out proxy, nor for any cookie.
 pub fn recordings_keep_to_their_claims()
     ensures { (lines : List Line) → Claims lines }
 {
@@ -57,6 +58,7 @@ pub fn recordings_keep_to_their_claims()
     no_out_proxy_of_a_recording_refuses_its_server();
     no_out_proxy_of_a_recording_refuses_its_client();
     no_server_of_a_recording_refuses_its_out_proxies();
+    no_server_of_a_recording_refuses_its_in_proxies();
     no_client_of_a_recording_refuses_what_comes();
     a_client_of_a_recording_refuses_no_cookie();
     every_recording_keeps_what_is_on_its_way();

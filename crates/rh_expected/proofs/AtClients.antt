@@ -36,7 +36,6 @@ use Rattle.rh_history.proofs.Numbers.{answered}
 use Rattle.rh_reading.specs.Reading.{all_read_of}
 use Rattle.rh_traced.specs.Cookies.{ByChanges}
 use Rattle.rh_traced.specs.Ours.{AreOurs, deeds, rules}
-use Rattle.rh_fifo.specs.Flows.{numbers_of}
 use Rattle.rh_honest.specs.Honest.{well_on}
 use Rattle.rh_honest.proofs.Closing.{IsOfPiece, by_fed}
 use Rattle.rh_honest.proofs.Fed.{told_what, told_who}
@@ -48,32 +47,15 @@ use Rattle.rh_amiss.specs.Amiss.{amiss_by}
 use Rattle.rh_amiss.proofs.Next.{never_amiss}
 use Rattle.rh_http.specs.declared.config.ClientConfig.{ClientConfig}
 use Rattle.rh_sig.specs.declared.name.Pipe.TheVariants.{CoU}
-use Rattle.rh_shell.specs.declared.course.Course.TheVariants.{Going}
-use Rattle.rh_shell.specs.declared.stage.Stage.TheVariants as stage
 use Rattle.rh_shell.specs.Moves.{EndMove}
-use Rattle.rh_shell.specs.Moving.{after_events}
-use Rattle.rh_shell.specs.NearEnds.{NearEnd}
-use Rattle.rh_shell.specs.Shells.{begun, end_at}
+use Rattle.rh_shell.specs.Shells.{end_at}
 use Rattle.rh_client.specs.Order.{AreAllowedMoves, client_moved}
 use Rattle.rh_client_turns.specs.Pings.{BeginsWithoutPing}
-use Rattle.rh_outproxy.specs.declared.out_proxy.TheConstants.{ROOMS}
-use Rattle.rh_outproxy.specs.OutProxy.{new_proxy}
 use Rattle.rh_amiss.proofs.AtNodes.{RolesKnow, out_amiss}
-use Rattle.rh_amiss.proofs.Moments.{AllFlow, OfStreams, flowing, out_shell}
+use Rattle.rh_amiss.proofs.Moments.{AllFlow, flowing, out_shell}
+use Rattle.rh_expected.specs.Roles.{OutsServe}
 use Rattle.rh_expected.proofs.Closing.{NamesLeg, NodesLaws, out_number}
 use Rattle.rh_expected.proofs.Facts.{no_ping}
-
--- an out proxy that goes on and reads frames on the leg of its client expects what that put
-abbrev pub AtEnds : {K : Type 0} {m : Makers K InProxy OutProxy}
-    {w : World K ClientRole Server InProxy OutProxy} (ours : AreOurs m w.company w.cast)
-    → OfStreams (numbers_of ours) w
-AtEnds ours u h f =
-    (n : ℕ) (end : NearEnd)
-    → (let node = after_events out_proxy.rules (begun (new_proxy (ours.out_config n)) ROOMS)
-    (h.outs n) in
-    node.course ≡ Going → end_at node (co n) ≡ Some end → end.intake.stage ≡ stage.Frames
-    → Expects out_proxy.rules (f.flows.outs n).passage (co n)
-    (all_read_of (of_leg (co n) f.flows.client.passage.passage.put)))
 
 abbrev pub PutsNoPingFirst : Type 0
 PutsNoPingFirst =
@@ -83,7 +65,7 @@ PutsNoPingFirst =
 module _ {K : Type 0} (roles : RolesKnow) (nodes : NodesLaws) (reads : Reads) (readings : Readings)
     (pings : PutsNoPingFirst) (m : Makers K InProxy OutProxy)
     (w : World K ClientRole Server InProxy OutProxy) (ours : AreOurs m w.company w.cast)
-    (law : Laws m w ours) (flow : AllFlow m w ours (AtEnds ours))
+    (law : Laws m w ours) (flow : AllFlow m w ours (OutsServe ours))
     (v : World K ClientRole Server InProxy OutProxy) (by : ByChanges rules m deeds w v) where
   abbrev May : Leg → Dir → Type 0
   May leg dir = MayChange rules v (IsFed leg dir 0)
@@ -104,11 +86,11 @@ module _ {K : Type 0} (roles : RolesKnow) (nodes : NodesLaws) (reads : Reads) (r
       out_at : OutAt (co n)
       out_at D count node up there may here closes = absurd cc
       out_at U count node up there may here closes =
-          let was = out_amiss roles reads readings m w v ours law (AtEnds ours) flow by (co n) U
+          let was = out_amiss roles reads readings m w v ours law (OutsServe ours) flow by (co n) U
           (λ j. may) r amiss (well_on ClientOut U) (λ e. refl)
-          (well_behind m w v ours law by (co n) U (λ j. may)) why tells count (who.Out k) here nodes.outs k refl node up
-          there closes in
-          let then_flowing = flowing reads readings m w v ours law (AtEnds ours) flow by (co n) U
+          (well_behind m w v ours law by (co n) U (λ j. may)) why tells count (who.Out k) here
+          nodes.outs k refl node up there closes in
+          let then_flowing = flowing reads readings m w v ours law (OutsServe ours) flow by (co n) U
           (λ j. may) was.count_then in
           let same = out_number n k here in
           let f = then_flowing.flows.flows in
@@ -117,7 +99,7 @@ module _ {K : Type 0} (roles : RolesKnow) (nodes : NodesLaws) (reads : Reads) (r
           (subst (λ (j : ℕ). Expects out_proxy.rules (f.outs k).passage (co j)
           (all_read_of (of_leg (co j) f.client.passage.passage.put))) (sym same)
           (then_flowing.holds k was.end was.going
-          (subst (λ (j : ℕ). end_at (out_shell reads readings m w v ours law (AtEnds ours) flow by
+          (subst (λ (j : ℕ). end_at (out_shell reads readings m w v ours law (OutsServe ours) flow by
           (co n) U (λ i. may) was.count_then k) (co j) ≡ Some was.end) same was.at) was.frames))
           (λ upward.
           subst (λ (p : EndPassage ClientRole). HasNoPingFirst (of_leg (co n) p.passage.put))

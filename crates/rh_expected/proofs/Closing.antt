@@ -13,7 +13,6 @@ use Rattle.rh_record.specs.declared.answer.Who.{Who}
 use Rattle.rh_record.specs.declared.answer.Who.TheVariants as who
 use Rattle.rh_shell.specs.declared.answers.Refused.{Refused}
 use Rattle.rh_shell.specs.Moves.{EndPassage, Passage}
-use Rattle.rh_shell.specs.Moving as moving
 use Rattle.rh_shell.specs.Rules.{Rules}
 use Rattle.rh_shell.specs.Shells.{Shell}
 use Rattle.rh_shell.specs.Wires.{of_leg}
@@ -30,6 +29,7 @@ use Rattle.rh_nodes.specs.Settling.{leg_at}
 use Rattle.rh_nodes.specs.Wires.{receiver}
 use Rattle.rh_nodes.specs.World.{World, at}
 use Rattle.rh_client.specs.declared.state.ClientRole.{ClientRole}
+use Rattle.rh_client.specs.Client as client
 use Rattle.rh_client.specs.State.{ci, co}
 use Rattle.rh_inproxy.specs.Machine as in_proxy
 use Rattle.rh_inproxy.specs.State.{InProxy}
@@ -38,7 +38,6 @@ use Rattle.rh_outproxy.specs.OutProxy.{OutProxy}
 use Rattle.rh_server.specs.Servers as server
 use Rattle.rh_server.specs.States.{Server}
 use Rattle.rh_causes.specs.Closings.{ClosesWith, MayClose}
-use Rattle.rh_history.specs.Carried.{happened}
 use Rattle.rh_history.specs.Changes.{Change, IsFed, MayChange}
 use Rattle.rh_history.specs.Closes.{ClosesNode}
 use Rattle.rh_history.specs.Histories.{in_place, out_place}
@@ -53,7 +52,7 @@ use Rattle.rh_honest.specs.Honest.{well_on}
 use Rattle.rh_honest.proofs.Closing.{EachComes, IsOfPiece, by_fed}
 use Rattle.rh_honest.proofs.Fed.{told_what, told_who}
 use Rattle.rh_hops.specs.Hops.{is_leg, os_leg}
-use Rattle.rh_hops.proofs.Moment.{Laws, NodeLaws, known, well_behind}
+use Rattle.rh_hops.proofs.Moment.{Laws, NodeLaws, well_behind}
 use Rattle.rh_hops.proofs.Stopping.{Readings}
 use Rattle.rh_fifo.proofs.Legs.{Reads}
 use Rattle.rh_moments.specs.Expecting.{Expects, HasNoPingFirst, IsAmiss}
@@ -63,8 +62,8 @@ use Rattle.rh_amiss.proofs.AtNodes.{RolesKnow, in_next, out_next, server_next}
 use Rattle.rh_amiss.proofs.Moments.{AllFlow, OfStreams, flowing, flows, story, world}
 use Rattle.rh_amiss.proofs.Next.{never_amiss}
 use Rattle.rh_pasts.specs.Pasts.{moves_of, numbers}
-use Rattle.rh_expected.proofs.Facts.{IsOfCookies, came_before}
-use Rattle.rh_expected.specs.Roles.{Facts, InExpectsClient, InExpectsServer, OutExpectsClient, OutExpectsServer, ServerExpectsIn, ServerExpectsOut}
+use Rattle.rh_expected.proofs.Facts.{IsKept}
+use Rattle.rh_expected.specs.Roles.{Facts, InExpectsClient, InExpectsServer, OutExpectsClient, OutExpectsServer, Premise, ServerExpectsIn, ServerExpectsOut}
 
 -- ---- the laws that this stands on
 
@@ -75,19 +74,21 @@ ClosesAmiss {S} rules =
 
 pub record NodesLaws : Type 0 where
   pub comes : EachComes
+  pub client_amiss : ClosesAmiss client.rules
   pub ins_amiss : ClosesAmiss in_proxy.rules
   pub outs_amiss : ClosesAmiss out_proxy.rules
   pub server_amiss : ClosesAmiss server.rules
+  pub client : NodeLaws client.rules
   pub server : NodeLaws server.rules
   pub ins : NodeLaws in_proxy.rules
   pub outs : NodeLaws out_proxy.rules
 
--- that holds of the moves by which the streams of a world lead, where its client's legs came up so
+-- that holds of the moves by which the streams of a world lead, where this is said of the world
 abbrev pub AtMoment : {K : Type 0} {m : Makers K InProxy OutProxy}
-    {w : World K ClientRole Server InProxy OutProxy} → (List moving.Event → Type 0) → Facts
+    {w : World K ClientRole Server InProxy OutProxy} → Premise K → Facts
     → (ours : AreOurs m w.company w.cast) → OfStreams (numbers_of ours) w
-AtMoment Fits Holds ours u h f =
-    Fits (happened h.client) → Holds (reader_of u.readers) (moves_of f)
+AtMoment {K} {m} {w} Fits Holds ours u h f =
+    Fits m w u h → Holds (reader_of u.readers) (moves_of f)
 
 -- a piece on another leg closes no node with a cause that names this one
 abbrev pub NamesLeg : Leg → Cause → Type 1
@@ -104,10 +105,10 @@ out_number a b e = cc
 module _ {K : Type 0} (roles : RolesKnow) (nodes : NodesLaws) (reads : Reads) (readings : Readings)
     (m : Makers K InProxy OutProxy) (w : World K ClientRole Server InProxy OutProxy)
     (ours : AreOurs m w.company w.cast) (law : Laws m w ours)
-    (Fits : List moving.Event → Type 0) (keeps : IsOfCookies Fits) (Holds : Facts)
+    (Fits : Premise K) (keeps : IsKept m w Fits) (Holds : Facts)
     (flow : AllFlow m w ours (AtMoment Fits Holds ours))
     (v : World K ClientRole Server InProxy OutProxy) (by : ByChanges rules m deeds w v)
-    (fits : Fits (happened (history_at m w v by.leads).client)) where
+    (fits : Fits m w v (history_at m w v by.leads)) where
   abbrev May : Leg → Dir → Type 0
   May leg dir = MayChange rules v (IsFed leg dir 0)
 
@@ -129,10 +130,7 @@ module _ {K : Type 0} (roles : RolesKnow) (nodes : NodesLaws) (reads : Reads) (r
     moment : Holds (reader_of v.readers) (moves_of then_flows)
     moment =
         (flowing reads readings m w v ours law (AtMoment Fits Holds ours) flow by leg dir (λ k. may)
-        count).holds
-        (keeps (happened (history_at m w v by.leads).client) _
-        (came_before w.company.client v (history_at m w v by.leads) leg dir count
-        (known m w v ours law by leg dir (λ k. may)).traced.runs.client) fits)
+        count).holds (keeps v by leg dir count may fits)
 
   -- that holds there too
   abbrev pub Gives : (Numbers → Facts) → Type 0
@@ -184,7 +182,8 @@ module _ {K : Type 0} (roles : RolesKnow) (nodes : NodesLaws) (reads : Reads) (r
       in_at_client expects n U count node up there may here closes =
           let next = in_next roles reads readings m w v ours law (AtMoment Fits Holds ours) flow by
           (ci n) U (λ j. may) r amiss (well_on ClientIn U) (λ e. refl)
-          (well_behind m w v ours law by (ci n) U (λ j. may)) why tells count (who.In k) here nodes.ins k refl
+          (well_behind m w v ours law by (ci n) U (λ j. may)) why tells
+          count (who.In k) here nodes.ins k refl
           node up there closes in
           let flowed = then_flows (ci n) U may next.0 in
           let moves : Moves = moves_of flowed in
@@ -207,7 +206,8 @@ module _ {K : Type 0} (roles : RolesKnow) (nodes : NodesLaws) (reads : Reads) (r
       in_at_server expects n D count node up there may here closes =
           let next = in_next roles reads readings m w v ours law (AtMoment Fits Holds ours) flow by
           (is_leg n) D (λ j. may) r amiss (well_on InServer D) (λ e. refl)
-          (well_behind m w v ours law by (is_leg n) D (λ j. may)) why tells count (who.In k) here nodes.ins
+          (well_behind m w v ours law by (is_leg n) D (λ j. may)) why tells
+          count (who.In k) here nodes.ins
           k refl node up there closes in
           let flowed = then_flows (is_leg n) D may next.0 in
           let moves : Moves = moves_of flowed in
@@ -238,28 +238,6 @@ module _ {K : Type 0} (roles : RolesKnow) (nodes : NodesLaws) (reads : Reads) (r
           per (Gone now) there closes = absurd cc
           per (Here node up) there closes = never leg dir count node up there may here closes
 
-      -- on the one leg that the cause names
-      in_on : (l : Leg) → NamesLeg l why → InAt l → Fed (who.In k)
-      in_on l names never =
-          in_there (λ leg dir count node up there may here closes.
-          subst InAt
-          (names InProxy in_proxy.rules node leg (legs.take_out leg dir count v.legs).1
-          (nodes.ins_amiss node (event leg dir count) why closes)) never dir count node up there
-          may here closes)
-
-      pub no_in_amiss_of_client : Gives InExpectsClient → (n : ℕ) → NamesLeg (ci n) why
-          → (change : Change) → MayChange rules v change → ClosesNode rules v change (who.In k) why
-          → ⊥
-      no_in_amiss_of_client expects n names =
-          any (who.In k) (in_on (ci n) names (in_at_client expects n))
-
-      pub no_in_amiss_of_server : Gives InExpectsServer → (n : ℕ)
-          → NamesLeg (is_leg n) why → (change : Change) → MayChange rules v change
-          → ClosesNode rules v change (who.In k) why → ⊥
-      no_in_amiss_of_server expects n names =
-          any (who.In k) (in_on (is_leg n) names (in_at_server expects n))
-
-      -- on each leg
       pub no_in_amiss : Gives InExpectsClient → Gives InExpectsServer
           → (change : Change) → MayChange rules v change → ClosesNode rules v change (who.In k) why
           → ⊥
@@ -292,7 +270,8 @@ module _ {K : Type 0} (roles : RolesKnow) (nodes : NodesLaws) (reads : Reads) (r
       out_at_client expects n U count node up there may here closes =
           let next = out_next roles reads readings m w v ours law (AtMoment Fits Holds ours) flow by
           (co n) U (λ j. may) r amiss (well_on ClientOut U) (λ e. refl)
-          (well_behind m w v ours law by (co n) U (λ j. may)) why tells count (who.Out k) here nodes.outs k
+          (well_behind m w v ours law by (co n) U (λ j. may)) why tells
+          count (who.Out k) here nodes.outs k
           refl node up there closes in
           let flowed = then_flows (co n) U may next.0 in
           let moves : Moves = moves_of flowed in
@@ -316,7 +295,8 @@ module _ {K : Type 0} (roles : RolesKnow) (nodes : NodesLaws) (reads : Reads) (r
       out_at_server expects n D count node up there may here closes =
           let next = out_next roles reads readings m w v ours law (AtMoment Fits Holds ours) flow by
           (os_leg n) D (λ j. may) r amiss (well_on OutServer D) (λ e. refl)
-          (well_behind m w v ours law by (os_leg n) D (λ j. may)) why tells count (who.Out k) here nodes.outs
+          (well_behind m w v ours law by (os_leg n) D (λ j. may)) why tells
+          count (who.Out k) here nodes.outs
           k refl node up there closes in
           let flowed = then_flows (os_leg n) D may next.0 in
           let moves : Moves = moves_of flowed in
@@ -347,6 +327,7 @@ module _ {K : Type 0} (roles : RolesKnow) (nodes : NodesLaws) (reads : Reads) (r
           per (Gone now) there closes = absurd cc
           per (Here node up) there closes = never leg dir count node up there may here closes
 
+      -- on the one leg that the cause names
       out_on : (l : Leg) → NamesLeg l why → OutAt l → Fed (who.Out k)
       out_on l names never =
           out_there (λ leg dir count node up there may here closes.
@@ -367,24 +348,6 @@ module _ {K : Type 0} (roles : RolesKnow) (nodes : NodesLaws) (reads : Reads) (r
       no_out_amiss_of_server expects n names =
           any (who.Out k) (out_on (os_leg n) names (out_at_server expects n))
 
-      pub no_out_amiss : Gives OutExpectsClient → Gives OutExpectsServer
-          → (change : Change) → MayChange rules v change
-          → ClosesNode rules v change (who.Out k) why → ⊥
-      no_out_amiss client_expects server_expects =
-          any (who.Out k) (out_there (λ leg. per leg.kind leg.number))
-        where
-          per : (kind : LegKind) (n : ℕ) → OutAt (leg_at kind n)
-          per ClientOut n dir count node up there may here closes =
-              out_at_client client_expects n dir count node up there may here
-              closes
-          per OutServer n dir count node up there may here closes =
-              out_at_server server_expects n dir count node up there may here
-              closes
-          per ClientIn n U count node up there may here closes = absurd cc
-          per ClientIn n D count node up there may here closes = absurd cc
-          per InServer n U count node up there may here closes = absurd cc
-          per InServer n D count node up there may here closes = absurd cc
-
     -- ---- the server
 
     abbrev ServerAt : Leg → Type 0
@@ -398,7 +361,8 @@ module _ {K : Type 0} (roles : RolesKnow) (nodes : NodesLaws) (reads : Reads) (r
     server_at_in expects n U count may here closes =
         let next = server_next roles reads readings m w v ours law (AtMoment Fits Holds ours) flow
         by (is_leg n) U (λ j. may) r amiss (well_on InServer U) (λ e. refl)
-        (well_behind m w v ours law by (is_leg n) U (λ j. may)) why tells count who.Server here nodes.server
+        (well_behind m w v ours law by (is_leg n) U (λ j. may)) why tells
+        count who.Server here nodes.server
         refl closes in
         let flowed = then_flows (is_leg n) U may next.0 in
         let moves : Moves = moves_of flowed in
@@ -421,7 +385,8 @@ module _ {K : Type 0} (roles : RolesKnow) (nodes : NodesLaws) (reads : Reads) (r
     server_at_out expects n U count may here closes =
         let next = server_next roles reads readings m w v ours law (AtMoment Fits Holds ours) flow
         by (os_leg n) U (λ j. may) r amiss (well_on OutServer U) (λ e. refl)
-        (well_behind m w v ours law by (os_leg n) U (λ j. may)) why tells count who.Server here nodes.server
+        (well_behind m w v ours law by (os_leg n) U (λ j. may)) why tells
+        count who.Server here nodes.server
         refl closes in
         let flowed = then_flows (os_leg n) U may next.0 in
         let moves : Moves = moves_of flowed in
@@ -457,19 +422,3 @@ module _ {K : Type 0} (roles : RolesKnow) (nodes : NodesLaws) (reads : Reads) (r
         → ⊥
     no_server_amiss_of_out expects n names =
         any who.Server (server_on (os_leg n) names (server_at_out expects n))
-
-    pub no_server_amiss : Gives ServerExpectsIn → Gives ServerExpectsOut → (change : Change)
-        → MayChange rules v change
-        → ClosesNode rules v change who.Server why → ⊥
-    no_server_amiss in_expects out_expects =
-        any who.Server (λ leg. per leg.kind leg.number)
-      where
-        per : (kind : LegKind) (n : ℕ) → ServerAt (leg_at kind n)
-        per InServer n dir count may here closes =
-            server_at_in in_expects n dir count may here closes
-        per OutServer n dir count may here closes =
-            server_at_out out_expects n dir count may here closes
-        per ClientIn n U count may here closes = absurd cc
-        per ClientIn n D count may here closes = absurd cc
-        per ClientOut n U count may here closes = absurd cc
-        per ClientOut n D count may here closes = absurd cc

@@ -111,8 +111,8 @@ module _ {K : Type 0} (laws : ClientLaws) (reads : Reads) (readings : Readings)
         is.closes in
         let was = client_then reads readings m w v ours law any flow by leg dir (λ k. may)
         (mismatch expected got) (well_on leg.kind dir) (λ e. absurd cc)
-        (well_behind m w v ours law by leg dir (λ k. may)) why refl count who.Client here laws.node refl
-        closes in
+        (well_behind m w v ours law by leg dir (λ k. may)) why refl count who.Client here laws.node
+        refl closes in
         let f = (flows reads readings m w v ours law any flow by leg dir (λ k. may)
         was.0).flows.client in
         how expected got f.passage.passage _ leg _ _ _ _ _ _ was.1.role

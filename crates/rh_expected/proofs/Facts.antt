@@ -1,5 +1,5 @@
 -- what the roles' laws ask of a moment, as it is in each world of roles
-use Rattle.std.proofs.Common.{◌≡◌, ℕ, Bool, true, false, if◌then◌else◌, List, [], ◌∷◌, ◌++◌, inl, inr, sym, ◌∙◌, subst}
+use Rattle.std.proofs.Common.{◌≡◌, ℕ, Bool, true, false, if◌then◌else◌, List, [], ◌∷◌, ◌++◌, inl, inr, refl, sym, ap, ◌∙◌, subst}
 use Rattle.rh_text.specs.declared.ends.Dir.{Dir}
 use Rattle.rh_text.specs.declared.ends.Side.{Side}
 use Rattle.rh_text.specs.declared.ends.Side.TheVariants as side
@@ -22,17 +22,22 @@ use Rattle.rh_inproxy.specs.State.{InProxy}
 use Rattle.rh_outproxy.specs.OutProxy.{OutProxy}
 use Rattle.rh_server.specs.States.{Server, no_cookie}
 use Rattle.rh_history.specs.Carried.{IsTraced, end_node, happened}
-use Rattle.rh_history.specs.Changes.{IsFed}
-use Rattle.rh_history.specs.Histories.{History, noted, told_to}
+use Rattle.rh_history.specs.Changes.{IsFed, Leads, MayChange, changed}
+use Rattle.rh_history.specs.Histories.{History, noted, nothing, told_to}
 use Rattle.rh_history.proofs.Appended.{happened_more}
+use Rattle.rh_history.proofs.Working.{works_more}
 use Rattle.rh_passages.specs.Rising.{CameUpWith}
+use Rattle.rh_traced.specs.Cookies.{ByChanges}
 use Rattle.rh_traced.specs.Ours.{AreOurs, deeds, rules}
+use Rattle.rh_traced.specs.Recordings.{IsKnown}
+use Rattle.rh_traced.specs.Recordings.{history_at}
 use Rattle.rh_fifo.specs.Flows.{IsFlowing, numbers_of}
+use Rattle.rh_hops.proofs.Moment.{noted_append}
 use Rattle.rh_fifo.specs.Premises.{AreDistinct}
 use Rattle.rh_inproxy_expects.specs.Expected.{AreReadWhereUp}
 use Rattle.rh_moments.specs.Expecting.{HasNoPingFirst}
 use Rattle.rh_pasts.specs.Pasts.{moves_of}
-use Rattle.rh_expected.specs.Roles.{HaveCookies}
+use Rattle.rh_expected.specs.Roles.{HaveCookies, IsByLines, OfClient, Premise}
 
 -- no Ping goes first, as is said in either crate
 pub no_ping : (messages : List Message) → client_turns.HasNoPingFirst messages
@@ -101,3 +106,40 @@ came_before first v h leg dir count run other cookie has =
   where
     fed : Bool
     fed = is_same (at v leg (receiver dir)) who.Client
+
+-- ---- premises that hold behind bytes as well
+
+-- what is said of a world that changes led to is said of it behind bytes that are fed there
+abbrev pub IsKept : {K : Type 0} → Makers K InProxy OutProxy
+    → World K ClientRole Server InProxy OutProxy → Premise K → Type 0
+IsKept {K} m w Fits =
+    (v : World K ClientRole Server InProxy OutProxy) (by : ByChanges rules m deeds w v) (leg : Leg)
+    (dir : Dir) (count : ℕ) → MayChange rules v (IsFed leg dir count)
+    → Fits m w v (history_at m w v by.leads)
+    → Fits m w (changed rules m deeds v (IsFed leg dir count))
+    (noted v (history_at m w v by.leads) (IsFed leg dir count))
+
+module _ {K : Type 0} (m : Makers K InProxy OutProxy)
+    (w : World K ClientRole Server InProxy OutProxy)
+    (known : (v : World K ClientRole Server InProxy OutProxy) (leads : Leads rules m deeds w v)
+    → IsKnown m w v leads) where
+  pub client_kept : (Fits : List Event → Type 0) → IsOfCookies Fits → IsKept m w (OfClient Fits)
+  client_kept Fits cookies v by leg dir count may fits =
+      let h = history_at m w v by.leads in
+      cookies (happened h.client) (happened (noted v h (IsFed leg dir count)).client)
+      (came_before w.company.client v h leg dir count (known v by.leads).traced.runs.client) fits
+
+  -- feeding bytes is a change of lines
+  pub lines_kept : IsKept m w IsByLines
+  lines_kept v by leg dir count may was =
+      let h = history_at m w v by.leads in
+      let fed = IsFed leg dir count in
+      record {
+        lines = works_more rules m deeds w v fed was.lines may refl;
+        same =
+            noted_append rules m deeds w nothing was.lines.leads.changes fed
+            ∙ ap (λ (u : World K ClientRole Server InProxy OutProxy).
+            noted u (history_at m w v was.lines.leads) fed) was.lines.leads.reached
+            ∙ ap (λ (x : History). noted v x fed) was.same;
+        distinct = client_kept AreDistinct distinct_of_cookies v by leg dir count may was.distinct;
+      }

@@ -5,3 +5,4 @@ pub mod Zeros
 pub mod Recorded
 pub mod AtClients
 pub mod OwnClient
+mod IsLegs

@@ -11,7 +11,6 @@ use Rattle.rh_line.specs.declared.leg.Leg.{Leg}
 use Rattle.rh_record.specs.declared.answer.Who.TheVariants as who
 use Rattle.rh_shell.specs.declared.answers.Refused.TheVariants as refused
 use Rattle.rh_shell.specs.Moves.{EndPassage, Passage}
-use Rattle.rh_shell.specs.Shells.{Shell}
 use Rattle.rh_shell.specs.Wires.{of_leg}
 use Rattle.rh_nodes.specs.declared.event.Event.{Event}
 use Rattle.rh_nodes.specs.declared.event.Event.TheVariants.{Comes}
@@ -26,7 +25,7 @@ use Rattle.rh_client.specs.State.{co}
 use Rattle.rh_inproxy.specs.State.{InProxy}
 use Rattle.rh_outproxy.specs.OutProxy.{OutProxy}
 use Rattle.rh_server.specs.States.{Server}
-use Rattle.rh_causes.specs.Closings.{ClosesWith, MayClose}
+use Rattle.rh_causes.specs.Closings.{ClosesWith}
 use Rattle.rh_causes.specs.Reasons.{ComesAmiss}
 use Rattle.rh_history.specs.Carried.{end_node, events_of, happened, heard_on}
 use Rattle.rh_history.specs.Changes.{Change, IsFed, MayChange, changed}
@@ -37,39 +36,27 @@ use Rattle.rh_reading.specs.Well.{ReadsWell, is_named}
 use Rattle.rh_traced.specs.Cookies.{ByChanges}
 use Rattle.rh_traced.specs.Ours.{AreOurs, deeds, rules}
 use Rattle.rh_traced.specs.Recordings.{history_at}
-use Rattle.rh_honest.proofs.Closing.{EachComes, by_fed}
+use Rattle.rh_honest.proofs.Closing.{by_fed}
 use Rattle.rh_honest.proofs.Fed.{told_what, told_who}
-use Rattle.rh_hops.proofs.Moment.{Laws, NodeLaws, known}
+use Rattle.rh_hops.proofs.Moment.{Laws, known}
 use Rattle.rh_hops.proofs.Stopping.{Readings}
 use Rattle.rh_fifo.proofs.Legs.{Reads}
 use Rattle.rh_fifo.specs.Premises.{AreDistinct}
 use Rattle.rh_moments.specs.Expecting.{Expects}
-use Rattle.rh_moments.specs.Moments.{Moves, Numbers, client_behind, out_behind}
+use Rattle.rh_moments.specs.Moments.{Moves, client_behind}
 use Rattle.rh_amiss.proofs.AtNodes.{ClientKnows, RolesKnow, client_next}
 use Rattle.rh_amiss.proofs.Moments.{AllFlow, flowing}
 use Rattle.rh_amiss.proofs.Next.{never_amiss}
 use Rattle.rh_pasts.specs.Pasts.{moves_of, numbers}
-use Rattle.rh_expected.proofs.Closing.{AtMoment}
+use Rattle.rh_expected.specs.Roles.{ClientExpects, OfClient}
+use Rattle.rh_expected.proofs.Closing.{AtMoment, NodesLaws}
 use Rattle.rh_expected.proofs.Facts.{came_before, distinct_of_cookies}
 
--- the client expects what an out proxy put on its co leg
-pub record ClientExpects (all : Numbers) (reader : ℕ → ℕ) (moves : Moves) : Type 0 where
-  pub next : (n : ℕ) → Expects client.rules (client_behind all moves).passage (co n)
-      (all_read_of (of_leg (co n) (out_behind all moves n).put))
-
--- ---- the laws that this stands on
-
-pub record ClientCloses : Type 0 where
-  pub comes : EachComes
-  pub amiss : (node : Shell ClientRole) (event : Event) (why : Cause)
-      → ClosesWith client.rules node event why → MayClose client.rules node event why
-  pub node : NodeLaws client.rules
-
-module _ {K : Type 0} (roles : RolesKnow) (client_roles : ClientKnows) (laws : ClientCloses)
+module _ {K : Type 0} (roles : RolesKnow) (client_roles : ClientKnows) (nodes : NodesLaws)
     (reads : Reads) (readings : Readings) (m : Makers K InProxy OutProxy)
     (w : World K ClientRole Server InProxy OutProxy) (ours : AreOurs m w.company w.cast)
     (law : Laws m w ours)
-    (flow : AllFlow m w ours (AtMoment AreDistinct (ClientExpects (numbers ours)) ours))
+    (flow : AllFlow m w ours (AtMoment (OfClient AreDistinct) (ClientExpects (numbers ours)) ours))
     (v : World K ClientRole Server InProxy OutProxy) (by : ByChanges rules m deeds w v)
     (named : (change : Change) → MayChange rules v change → (n : ℕ)
     → ReadsWell is_named (Some CoD) (heard_on (co n)
@@ -94,12 +81,12 @@ module _ {K : Type 0} (roles : RolesKnow) (client_roles : ClientKnows) (laws : C
   client_at U count may here closes = absurd cc
   client_at D count may here closes =
       let next = client_next roles reads readings m w v ours law
-      (AtMoment AreDistinct (ClientExpects (numbers ours)) ours) flow by (co n) D (λ j. may)
-      refused.Unexpected tt is_named (λ e. refl) (λ k. named (IsFed (co n) D k) may n) why refl
-      count who.Client here client_roles laws.node refl closes in
+      (AtMoment (OfClient AreDistinct) (ClientExpects (numbers ours)) ours) flow by (co n) D
+      (λ j. may) refused.Unexpected tt is_named (λ e. refl) (λ k. named (IsFed (co n) D k) may n)
+      why refl count who.Client here client_roles nodes.client refl closes in
       let then_flowing = flowing reads readings m w v ours law
-      (AtMoment AreDistinct (ClientExpects (numbers ours)) ours) flow by (co n) D (λ j. may)
-      next.0 in
+      (AtMoment (OfClient AreDistinct) (ClientExpects (numbers ours)) ours) flow by (co n) D
+      (λ j. may) next.0 in
       let f = then_flowing.flows.flows in
       let moves : Moves = moves_of then_flowing.flows in
       let now = then_flowing.holds
@@ -124,10 +111,10 @@ module _ {K : Type 0} (roles : RolesKnow) (client_roles : ClientKnows) (laws : C
       is.closes in
       let comes : ComesAmiss client.rules v.company.client leg
       (legs.take_out leg dir count v.legs).1 why =
-      laws.amiss v.company.client (event leg dir count) why closes in
+      nodes.client_amiss v.company.client (event leg dir count) why closes in
       subst ClientAt comes.cause client_at dir count may (told_who _ _ _ _ is.told) closes
 
   pub no_client_amiss : (change : Change) → MayChange rules v change
       → ClosesNode rules v change who.Client why → ⊥
   no_client_amiss change may is =
-      by_fed v who.Client why ⊥ fed laws.comes change may is (λ S its shell comes. comes)
+      by_fed v who.Client why ⊥ fed nodes.comes change may is (λ S its shell comes. comes)

@@ -12,17 +12,12 @@ ghost use Rattle.rh_record.specs.declared.line.Line.{Line};
 ghost use Rattle.rh_client.specs.State.{co};
 ghost use Rattle.rh_history.specs.Closes.{IsOneOf};
 ghost use Rattle.rh_world.specs.declared.any_world.AnyWorld.TheVariants.{Before};
-ghost use Rattle.rh_world.specs.declared.config.WorldConfig.{WorldConfig};
 ghost use Rattle.rh_world.specs.Any.{after, step};
 ghost use Rattle.rh_hops.specs.Hops.{is_leg, os_leg};
-ghost use Rattle.rh_fifo.specs.Premises.{AreDistinct};
-ghost use Rattle.rh_expected.specs.Roles.{InExpects, OutExpectsClient, ServerExpectsIn};
-ghost use Rattle.rh_expected.specs.Roles.{ServerExpectsOut, WorldsExpect};
 
-use crate::asked::no_out_proxy_refuses_its_client;
-use crate::expecting::no_node_refuses_what_it_expects;
 use crate::roles::{
-    no_in_proxy_refuses_what_comes, no_out_proxy_refuses_its_server,
+    no_in_proxy_refuses_what_comes, no_out_proxy_refuses_its_client,
+    no_out_proxy_refuses_its_server, no_server_refuses_its_in_proxies,
     no_server_refuses_its_out_proxies,
 };
 use crate::worlds::{a_client_refuses_no_cookie, no_client_refuses_what_comes};
@@ -119,48 +114,18 @@ pub fn no_server_of_a_recording_refuses_its_out_proxies()
     no_server_refuses_its_out_proxies::<Config>();
 }
 
-/// Where in each world of roles a node expects what comes next on a leg, no report of a recording
-/// tells that the node closed with `Unexpected` or `CookieMismatch` of that leg: each leg of the
-/// client has a cookie that no other had (MS-RPCH 2.2.3.1, 3.2; profile).
-pub fn no_node_of_a_recording_refuses_what_it_expects()
-    ensures in_unexpected { WorldsExpect WorldConfig AreDistinct InExpects
-        → (before : List Line) (line : Line)
-        (k : ℕ) (leg : Leg) (place : ℕ) → IsOneOf (NodeClosed (In k) (Unexpected leg place))
+/// Nor of one that closed so for what an in proxy put: what a recording does it does by its lines,
+/// so an is leg comes up at the server only where its in proxy was made for the client's channel
+/// (MS-RPCH 3.2.5; successors are this profile's).
+pub fn no_server_of_a_recording_refuses_its_in_proxies()
+    ensures unexpected { (before : List Line) (line : Line) (n place : ℕ)
+        → IsOneOf (NodeClosed AtServer (Unexpected (is_leg n) place))
         (step (after Before before) line).1 → ⊥ }
-    ensures in_cookie { WorldsExpect WorldConfig AreDistinct InExpects
-        → (before : List Line) (line : Line)
-        (k : ℕ) (leg : Leg) (expected got : Cookie)
-        → IsOneOf (NodeClosed (In k) (CookieMismatch leg expected got))
-        (step (after Before before) line).1 → ⊥ }
-    ensures out_client_unexpected { WorldsExpect WorldConfig AreDistinct OutExpectsClient
-        → (before : List Line) (line : Line)
-        (k n : ℕ) (place : ℕ) → IsOneOf (NodeClosed (Out k) (Unexpected (co n) place))
-        (step (after Before before) line).1 → ⊥ }
-    ensures out_client_cookie { WorldsExpect WorldConfig AreDistinct OutExpectsClient
-        → (before : List Line) (line : Line)
-        (k n : ℕ) (expected got : Cookie)
-        → IsOneOf (NodeClosed (Out k) (CookieMismatch (co n) expected got))
-        (step (after Before before) line).1 → ⊥ }
-    ensures server_in_unexpected { WorldsExpect WorldConfig AreDistinct ServerExpectsIn
-        → (before : List Line) (line : Line)
-        (n : ℕ) (place : ℕ) → IsOneOf (NodeClosed AtServer (Unexpected (is_leg n) place))
-        (step (after Before before) line).1 → ⊥ }
-    ensures server_in_cookie { WorldsExpect WorldConfig AreDistinct ServerExpectsIn
-        → (before : List Line) (line : Line)
-        (n : ℕ) (expected got : Cookie)
+    ensures cookie { (before : List Line) (line : Line) (n : ℕ) (expected got : Cookie)
         → IsOneOf (NodeClosed AtServer (CookieMismatch (is_leg n) expected got))
-        (step (after Before before) line).1 → ⊥ }
-    ensures server_out_unexpected { WorldsExpect WorldConfig AreDistinct ServerExpectsOut
-        → (before : List Line) (line : Line)
-        (n : ℕ) (place : ℕ) → IsOneOf (NodeClosed AtServer (Unexpected (os_leg n) place))
-        (step (after Before before) line).1 → ⊥ }
-    ensures server_out_cookie { WorldsExpect WorldConfig AreDistinct ServerExpectsOut
-        → (before : List Line) (line : Line)
-        (n : ℕ) (expected got : Cookie)
-        → IsOneOf (NodeClosed AtServer (CookieMismatch (os_leg n) expected got))
         (step (after Before before) line).1 → ⊥ }
 {
     cookies_of_a_recording_are_left();
     each_close_of_a_recording_shows();
-    no_node_refuses_what_it_expects::<Config>();
+    no_server_refuses_its_in_proxies::<Config>();
 }

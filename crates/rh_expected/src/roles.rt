@@ -1,7 +1,8 @@
 //! What comes at the proxies and the server of a world of roles. These functions do nothing: their
 //! contracts are the laws.
 
-ghost use Rattle.std.specs.Prelude.{ℕ};
+ghost use Rattle.std.specs.Prelude.{◌≡◌, ℕ, true};
+ghost use Rattle.std.specs.List.{list_all};
 ghost use Rattle.rh_rts.specs.declared.command.Cookie.{Cookie};
 ghost use Rattle.rh_line.specs.declared.cause.Cause.TheVariants.{CookieMismatch, Unexpected};
 ghost use Rattle.rh_line.specs.declared.leg.Leg.{Leg};
@@ -9,11 +10,12 @@ ghost use Rattle.rh_record.specs.declared.answer.Who.TheVariants.{In, Out, Serve
 ghost use Rattle.rh_nodes.specs.Opening.{Makers};
 ghost use Rattle.rh_nodes.specs.World.{World};
 ghost use Rattle.rh_client.specs.declared.state.ClientRole.{ClientRole};
+ghost use Rattle.rh_client.specs.State.{co};
 ghost use Rattle.rh_inproxy.specs.State.{InProxy};
 ghost use Rattle.rh_outproxy.specs.OutProxy.{OutProxy};
 ghost use Rattle.rh_server.specs.States.{Server};
 ghost use Rattle.rh_history.specs.Carried.{happened};
-ghost use Rattle.rh_history.specs.Changes.{Change, MayChange};
+ghost use Rattle.rh_history.specs.Changes.{Change, MayChange, of_line};
 ghost use Rattle.rh_history.specs.Closes.{ClosesNode};
 ghost use Rattle.rh_history.specs.Histories.{IsNew};
 ghost use Rattle.rh_traced.specs.Cookies.{ByChanges};
@@ -21,16 +23,20 @@ ghost use Rattle.rh_traced.specs.Ours.{AreOurs, deeds, rules};
 ghost use Rattle.rh_traced.specs.Recordings.{history_at};
 ghost use Rattle.rh_fifo.specs.Flows.{numbers_of};
 ghost use Rattle.rh_fifo.specs.Premises.{AreDistinct, AreInRange};
-ghost use Rattle.rh_hops.specs.Hops.{os_leg};
+ghost use Rattle.rh_hops.specs.Hops.{is_leg, os_leg};
+ghost use Rattle.rh_first_texts.specs.Ports.{IsPort};
 ghost use Rattle.rh_expected.specs.Roles.{HaveCookies};
 
+use crate::connected::is_legs_of_lines_are_connected;
 use crate::expecting::no_node_refuses_what_it_expects;
 use rh_client_turns::a_client_puts_no_ping_first;
+use rh_in_handovers::a_server_expects_its_in_proxies;
 use rh_inproxy_expects::an_in_proxy_expects_what_comes;
 use rh_outproxy_expects::an_out_proxy_expects_its_server;
 use rh_pasts::a_world_of_roles_is_at_a_moment;
 use rh_server_expects::{a_server_expects_its_out_proxies, no_ping_goes_first_to_a_server};
 use rh_traced::a_recording_of_roles_is_known;
+use rh_world_asked::an_out_proxy_of_a_world_expects_its_client;
 
 /// In each world of new roles whose numbers are in their ranges, at every moment that changes of
 /// lines and half steps reach, and by which no two legs of the client of one kind came up under one
@@ -86,6 +92,34 @@ pub fn no_server_refuses_its_out_proxies<K>()
     no_ping_goes_first_to_a_server();
 }
 
+/// And where changes of lines alone led to that moment, none closes it with these causes for what
+/// an in proxy put (MS-RPCH 3.2.5; successors are this profile's).
+pub fn no_server_refuses_its_in_proxies<K>()
+    ensures unexpected { (m : Makers K InProxy OutProxy)
+        (w : World K ClientRole Server InProxy OutProxy) → IsNew w
+        → (ours : AreOurs m w.company w.cast) → AreInRange (numbers_of ours)
+        → (v : World K ClientRole Server InProxy OutProxy) (by : ByChanges rules m deeds w v)
+        → list_all of_line by.leads.changes ≡ true
+        → AreDistinct (happened (history_at m w v by.leads).client)
+        → (change : Change) → MayChange rules v change → (n place : ℕ)
+        → ClosesNode rules v change AtServer (Unexpected (is_leg n) place) → ⊥ }
+    ensures cookie { (m : Makers K InProxy OutProxy)
+        (w : World K ClientRole Server InProxy OutProxy) → IsNew w
+        → (ours : AreOurs m w.company w.cast) → AreInRange (numbers_of ours)
+        → (v : World K ClientRole Server InProxy OutProxy) (by : ByChanges rules m deeds w v)
+        → list_all of_line by.leads.changes ≡ true
+        → AreDistinct (happened (history_at m w v by.leads).client)
+        → (change : Change) → MayChange rules v change → (n : ℕ)
+        (expected got : Cookie)
+        → ClosesNode rules v change AtServer (CookieMismatch (is_leg n) expected got) → ⊥ }
+{
+    no_node_refuses_what_it_expects::<K>();
+    is_legs_of_lines_are_connected::<K>();
+    a_world_of_roles_is_at_a_moment::<K>();
+    a_server_expects_its_in_proxies();
+    no_ping_goes_first_to_a_server();
+}
+
 /// And none closes an out proxy with these causes for what the server put, where no OUT leg of the
 /// client came up under the cookie of zeros, which a server takes for none (MS-RPCH 3.2.4, 3.2.5;
 /// successors are this profile's).
@@ -109,4 +143,29 @@ pub fn no_out_proxy_refuses_its_server<K>()
     no_node_refuses_what_it_expects::<K>();
     a_world_of_roles_is_at_a_moment::<K>();
     an_out_proxy_expects_its_server();
+}
+
+/// In each world of new roles whose numbers are in their ranges, and of whose server the port is
+/// one, at every moment that changes of lines and half steps reach: no further change closes an out
+/// proxy with `Unexpected` or `CookieMismatch` for what the client put (MS-RPCH 3.2.4; successors
+/// are this profile's).
+pub fn no_out_proxy_refuses_its_client<K>()
+    ensures unexpected { (m : Makers K InProxy OutProxy)
+        (w : World K ClientRole Server InProxy OutProxy) → IsNew w
+        → (ours : AreOurs m w.company w.cast) → AreInRange (numbers_of ours)
+        → IsPort ours.config.port
+        → (v : World K ClientRole Server InProxy OutProxy) (by : ByChanges rules m deeds w v)
+        → (change : Change) → MayChange rules v change → (k n place : ℕ)
+        → ClosesNode rules v change (Out k) (Unexpected (co n) place) → ⊥ }
+    ensures cookie { (m : Makers K InProxy OutProxy)
+        (w : World K ClientRole Server InProxy OutProxy) → IsNew w
+        → (ours : AreOurs m w.company w.cast) → AreInRange (numbers_of ours)
+        → IsPort ours.config.port
+        → (v : World K ClientRole Server InProxy OutProxy) (by : ByChanges rules m deeds w v)
+        → (change : Change) → MayChange rules v change → (k n : ℕ)
+        (expected got : Cookie)
+        → ClosesNode rules v change (Out k) (CookieMismatch (co n) expected got) → ⊥ }
+{
+    no_node_refuses_what_it_expects::<K>();
+    an_out_proxy_of_a_world_expects_its_client::<K>();
 }

@@ -1,5 +1,5 @@
-//! What comes at the client of a world of roles. These functions do nothing: their contracts are the
-//! laws.
+//! What comes at the client of a world of roles. These functions do nothing: their contracts are
+//! the laws.
 
 ghost use Rattle.std.specs.Prelude.{ℕ};
 ghost use Rattle.rh_rts.specs.declared.command.Cookie.{Cookie};
@@ -24,34 +24,23 @@ ghost use Rattle.rh_fifo.specs.Flows.{numbers_of};
 ghost use Rattle.rh_fifo.specs.Premises.{AreDistinct, AreInRange};
 ghost use Rattle.rh_first_texts.specs.Ports.{IsPort};
 
-use rh_causes::{
-    a_clients_leg_comes_up_once, a_node_closes_once, a_servers_leg_comes_up_once,
-    an_in_proxys_leg_comes_up_once, an_out_proxys_leg_comes_up_once, causes_come_from_their_events,
-    events_close_with_their_causes,
-};
+use crate::expecting::no_node_refuses_what_it_expects;
+use rh_causes::{a_node_closes_once, causes_come_from_their_events};
 use rh_client::ClientRole;
 use rh_client_expects::a_client_expects_what_comes;
 use rh_client_rows::what_a_client_refuses;
-use rh_ends_begin::{a_client_asks_by_its_requests, an_end_never_refuses};
 use rh_fifo::what_is_put_is_legible;
 use rh_history::what_is_heard_was_drawn;
 use rh_honest::what_is_heard_reads_well;
 use rh_inproxy::InProxyRole;
 use rh_outproxy::OutProxyRole;
 use rh_pasts::a_world_of_roles_is_at_a_moment;
-use rh_proxies_begin::proxies_keep_their_pipes;
 use rh_reading::{
-    a_piece_reads_well, all_that_was_put_is_read, texts_are_whole, what_is_read_is_fine,
-    what_was_put_is_read,
+    a_piece_reads_well, all_that_was_put_is_read, what_is_read_is_fine, what_was_put_is_read,
 };
 use rh_server::ServerRole;
 use rh_shell::{cuts_change_nothing, first_cause_is_kept};
 use rh_traced::{a_recording_of_roles_is_known, what_is_heard_was_drawn_before};
-use rh_unused::{
-    a_leg_that_a_client_left_stays_unused, a_leg_that_a_server_left_stays_unused,
-    a_leg_that_an_in_proxy_left_stays_unused, a_leg_that_an_out_proxy_left_stays_unused,
-};
-use rh_world_asked::what_comes_to_a_client_has_a_name;
 
 /// In each world of new roles whose numbers are in their ranges, at every moment that changes of
 /// lines and half steps reach: no further change closes the client with `CookieMismatch`, on any
@@ -105,36 +94,7 @@ pub fn no_client_refuses_what_comes<K>()
         → ClosesNode rules v change AtClient (CookieMismatch (co n) expected got) → ⊥ }
 {
     a_client_refuses_no_cookie::<K>();
+    no_node_refuses_what_it_expects::<K>();
     a_client_expects_what_comes();
     a_world_of_roles_is_at_a_moment::<K>();
-    what_comes_to_a_client_has_a_name::<K>();
-    proxies_keep_their_pipes();
-    a_leg_that_a_client_left_stays_unused();
-    a_leg_that_an_in_proxy_left_stays_unused();
-    a_leg_that_an_out_proxy_left_stays_unused();
-    a_leg_that_a_server_left_stays_unused();
-    an_end_never_refuses();
-    a_clients_leg_comes_up_once();
-    an_in_proxys_leg_comes_up_once();
-    an_out_proxys_leg_comes_up_once();
-    a_servers_leg_comes_up_once();
-    a_client_asks_by_its_requests();
-    texts_are_whole();
-    what_is_put_is_legible::<K>();
-    a_recording_of_roles_is_known::<K>();
-    what_is_heard_reads_well::<K>();
-    what_is_heard_was_drawn_before::<K, ClientRole, ServerRole, InProxyRole, OutProxyRole>();
-    what_is_heard_was_drawn::<K, ClientRole, ServerRole, InProxyRole, OutProxyRole>();
-    what_was_put_is_read();
-    all_that_was_put_is_read();
-    what_is_read_is_fine();
-    a_piece_reads_well();
-    cuts_change_nothing::<ClientRole>();
-    first_cause_is_kept::<ClientRole>();
-    a_node_closes_once::<ClientRole>();
-    events_close_with_their_causes::<ClientRole>();
-    causes_come_from_their_events::<ClientRole>();
-    causes_come_from_their_events::<ServerRole>();
-    causes_come_from_their_events::<InProxyRole>();
-    causes_come_from_their_events::<OutProxyRole>();
 }

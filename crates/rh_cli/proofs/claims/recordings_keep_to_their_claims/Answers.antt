@@ -69,6 +69,10 @@ returns c = λ lines. record {
         c.no_server_of_a_recording_refuses_its_out_proxies.ensures.unexpected before line;
     server_cookie =
         c.no_server_of_a_recording_refuses_its_out_proxies.ensures.cookie before line;
+    server_in_unexpected =
+        c.no_server_of_a_recording_refuses_its_in_proxies.ensures.unexpected before line;
+    server_in_cookie =
+        c.no_server_of_a_recording_refuses_its_in_proxies.ensures.cookie before line;
     client_unexpected =
         c.no_client_of_a_recording_refuses_what_comes.ensures.unexpected before line;
     client_cookie = c.a_client_of_a_recording_refuses_no_cookie.ensures before line;

@@ -5,21 +5,17 @@ use Rattle.rh_client.specs.State.{ci}
 use Rattle.rh_traced.specs.Recordings.{history_at}
 use Rattle.rh_pasts.specs.Pasts.{moves_of, numbers}
 use Rattle.rh_fifo.specs.Premises.{AreDistinct}
-use Rattle.rh_expected.specs.Roles.{InExpects, WorldsExpect}
+use Rattle.rh_expected.specs.Roles.{InExpects, OfClient, WorldsExpect}
 use Rattle.rh_expected.proofs.Facts.{are_read, no_ping}
 use Rattle.rh_expected.proofs.roles.no_in_proxy_refuses_what_comes.Goals as goal
 
 pub returns : goal.returns
 returns g c = record {
-  unexpected = λ m w new ours ranges v by distinct change may k leg place closes.
-      c.no_node_refuses_what_it_expects.ensures.in_unexpected worlds m w new ours ranges v by
-      distinct change may k leg place closes;
-  cookie = λ m w new ours ranges v by distinct change may k leg expected got closes.
-      c.no_node_refuses_what_it_expects.ensures.in_cookie worlds m w new ours ranges v by distinct
-      change may k leg expected got closes;
+  unexpected = c.no_node_refuses_what_it_expects.ensures.in_unexpected worlds;
+  cookie = c.no_node_refuses_what_it_expects.ensures.in_cookie worlds;
 }
   where
-    worlds : WorldsExpect g.row.K.Denot AreDistinct InExpects
+    worlds : WorldsExpect g.row.K.Denot (OfClient AreDistinct) InExpects
     worlds m w new ours ranges v by =
         let here = c.a_world_of_roles_is_at_a_moment.ensures m w new ours ranges v by in
         let known = c.a_recording_of_roles_is_known.ensures.changes m w v new ours by.leads in

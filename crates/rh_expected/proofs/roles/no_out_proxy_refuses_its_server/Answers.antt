@@ -2,20 +2,16 @@ use Rattle.rh_nodes.specs.Readers.{reader_of}
 use Rattle.rh_client.specs.State.{co}
 use Rattle.rh_server.specs.States.{no_cookie}
 use Rattle.rh_pasts.specs.Pasts.{moves_of, numbers}
-use Rattle.rh_expected.specs.Roles.{HaveCookies, OutExpectsServer, WorldsExpect}
+use Rattle.rh_expected.specs.Roles.{HaveCookies, OfClient, OutExpectsServer, WorldsExpect}
 use Rattle.rh_expected.proofs.roles.no_out_proxy_refuses_its_server.Goals as goal
 
 pub returns : goal.returns
 returns g c = record {
-  unexpected = λ m w new ours ranges v by have change may k n place closes.
-      c.no_node_refuses_what_it_expects.ensures.out_server_unexpected worlds m w new ours ranges v
-      by have change may k n place closes;
-  cookie = λ m w new ours ranges v by have change may k n expected got closes.
-      c.no_node_refuses_what_it_expects.ensures.out_server_cookie worlds m w new ours ranges v by
-      have change may k n expected got closes;
+  unexpected = c.no_node_refuses_what_it_expects.ensures.out_server_unexpected worlds;
+  cookie = c.no_node_refuses_what_it_expects.ensures.out_server_cookie worlds;
 }
   where
-    worlds : WorldsExpect g.row.K.Denot HaveCookies OutExpectsServer
+    worlds : WorldsExpect g.row.K.Denot (OfClient HaveCookies) OutExpectsServer
     worlds m w new ours ranges v by =
         let here = c.a_world_of_roles_is_at_a_moment.ensures m w new ours ranges v by in
         record {

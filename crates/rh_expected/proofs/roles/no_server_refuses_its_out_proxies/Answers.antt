@@ -1,20 +1,16 @@
 use Rattle.rh_nodes.specs.Readers.{reader_of}
 use Rattle.rh_pasts.specs.Pasts.{moves_of, numbers}
 use Rattle.rh_fifo.specs.Premises.{AreDistinct}
-use Rattle.rh_expected.specs.Roles.{ServerExpectsOut, WorldsExpect}
+use Rattle.rh_expected.specs.Roles.{OfClient, ServerExpectsOut, WorldsExpect}
 use Rattle.rh_expected.proofs.roles.no_server_refuses_its_out_proxies.Goals as goal
 
 pub returns : goal.returns
 returns g c = record {
-  unexpected = λ m w new ours ranges v by distinct change may n place closes.
-      c.no_node_refuses_what_it_expects.ensures.server_out_unexpected worlds m w new ours ranges v
-      by distinct change may n place closes;
-  cookie = λ m w new ours ranges v by distinct change may n expected got closes.
-      c.no_node_refuses_what_it_expects.ensures.server_out_cookie worlds m w new ours ranges v by
-      distinct change may n expected got closes;
+  unexpected = c.no_node_refuses_what_it_expects.ensures.server_out_unexpected worlds;
+  cookie = c.no_node_refuses_what_it_expects.ensures.server_out_cookie worlds;
 }
   where
-    worlds : WorldsExpect g.row.K.Denot AreDistinct ServerExpectsOut
+    worlds : WorldsExpect g.row.K.Denot (OfClient AreDistinct) ServerExpectsOut
     worlds m w new ours ranges v by =
         let here = c.a_world_of_roles_is_at_a_moment.ensures m w new ours ranges v by in
         record {
