@@ -58,13 +58,12 @@ use Rattle.rh_streams.specs.Streams.{HasPipes, NeverRefuses, StaysUnused, StaysU
 use Rattle.rh_traced.specs.Cookies.{ByChanges}
 use Rattle.rh_traced.specs.Turns.{HearInTurn}
 use Rattle.rh_traced.specs.Ours.{AreOurs, deeds, rules}
-use Rattle.rh_fifo.specs.Flows.{IsFlowing, numbers_of}
-use Rattle.rh_honest.specs.Honest.{read_on}
-use Rattle.rh_honest.proofs.Fed.{node_reads, reads_on}
+use Rattle.rh_fifo.specs.Flows.{IsFlowing, numbers_of, read_on}
+use Rattle.rh_fifo.proofs.Heard.{node_reads, reads_on}
 use Rattle.rh_hops.proofs.Moment.{Laws, NodeLaws, behind}
 use Rattle.rh_hops.proofs.Stopping.{Readings}
-use Rattle.rh_client_hops.proofs.Joined.{Reads}
-use Rattle.rh_client_hops.proofs.Routes.{Passages}
+use Rattle.rh_fifo.proofs.Legs.{Reads}
+use Rattle.rh_moments.specs.Moments.{Passages}
 use Rattle.rh_amiss.specs.Amiss.{AmissNext, amiss_by}
 use Rattle.rh_amiss.proofs.Bytes.{HaveNames}
 use Rattle.rh_amiss.proofs.Known.{KnowsLegs, KnowsLegsAtEnd, end_knows, node_knows}

@@ -46,19 +46,18 @@ use Rattle.rh_reading.specs.Reading.{all_read_of, messages_read}
 use Rattle.rh_reading.specs.Well.{Answers, ReadsWell}
 use Rattle.rh_traced.specs.Cookies.{ByChanges}
 use Rattle.rh_traced.specs.Ours.{AreOurs, deeds, rules}
-use Rattle.rh_traced.specs.Recordings.{IsKnown}
+use Rattle.rh_traced.specs.Recordings.{IsKnown, history_at}
 use Rattle.rh_traced.specs.Turns.{HearInTurn}
-use Rattle.rh_ordered.specs.Premises.{history_at}
-use Rattle.rh_fifo.specs.Flows.{IsFlowing, Numbers, numbers_of}
-use Rattle.rh_honest.specs.Honest.{read_on}
-use Rattle.rh_honest.proofs.Fed.{node_reads, reads_on}
+use Rattle.rh_fifo.specs.Flows.{IsFlowing, Numbers, numbers_of, read_on}
+use Rattle.rh_fifo.proofs.Heard.{node_reads, reads_on}
 use Rattle.rh_hops.proofs.Fed.{heard_behind, in_events, out_events, piece, told_here}
 use Rattle.rh_hops.proofs.Moment.{Laws, NodeLaws, behind, closes_at, drawn_before, known, noted_append, now}
 use Rattle.rh_hops.proofs.OneByte.{AtByte}
 use Rattle.rh_hops.proofs.Pieces.{FedFronts, fed_fronts}
 use Rattle.rh_hops.proofs.Stopping.{Readings}
-use Rattle.rh_client_hops.proofs.Joined.{Reads, all, reads_put}
-use Rattle.rh_client_hops.proofs.Routes.{Passages, put_by}
+use Rattle.rh_fifo.proofs.Legs.{Reads}
+use Rattle.rh_fifo.proofs.Joined.{all, reads_put}
+use Rattle.rh_moments.specs.Moments.{Passages, put_by}
 use Rattle.rh_amiss.specs.Amiss.{amiss_by}
 use Rattle.rh_amiss.proofs.Bytes.{HaveNames}
 use Rattle.rh_amiss.proofs.ByStreams.{StopsThere, end_stops, stream_stops}

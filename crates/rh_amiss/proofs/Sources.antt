@@ -41,11 +41,11 @@ use Rattle.rh_passages.specs.Counted.{packets}
 use Rattle.rh_reading.specs.Reading.{AreNoTexts, IsNoText, messages_read}
 use Rattle.rh_streams.proofs.LegLogs.{on_leg}
 use Rattle.rh_traced.specs.Ours.{AreOurs, deeds, rules}
-use Rattle.rh_fifo.specs.Flows.{IsFlowing, numbers_of}
+use Rattle.rh_fifo.specs.Flows.{IsFlowing, numbers_of, read_on}
 use Rattle.rh_fifo.proofs.Heard.{from_client, from_in, from_out}
-use Rattle.rh_honest.specs.Honest.{read_on}
-use Rattle.rh_client_hops.proofs.Joined.{Reads, all}
-use Rattle.rh_client_hops.proofs.Routes.{Passages, put_by}
+use Rattle.rh_fifo.proofs.Legs.{Reads}
+use Rattle.rh_fifo.proofs.Joined.{all}
+use Rattle.rh_moments.specs.Moments.{Passages, put_by}
 use Rattle.rh_amiss.proofs.Pings.{IsHead, drawn_pinged, put_pinged}
 use Rattle.rh_amiss.proofs.Stops.{PingsFirst}
 

@@ -12,7 +12,7 @@ use Rattle.rh_shell.specs.Carrying.{spelled}
 use Rattle.rh_shell.specs.Intakes.{is_whole_head}
 use Rattle.rh_shell.specs.Rules.{Message, Text, Pdu, Packet, Rules}
 use Rattle.rh_reading.specs.Reading.{IsWholeText}
-use Rattle.rh_refused.proofs.Requests.{same_head}
+use Rattle.rh_first_texts.proofs.Requests.{same_head}
 use Rattle.rh_bodies.specs.Behind.{HasBody, TakesHead}
 use Rattle.rh_bodies.specs.Bodies.{KeepsLength, RequestTells}
 

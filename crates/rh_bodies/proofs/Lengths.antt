@@ -24,9 +24,9 @@ use Rattle.rh_outproxy.specs.Machine as out_proxy
 use Rattle.rh_outproxy.specs.Opening as out_opening
 use Rattle.rh_outproxy.specs.OutProxy.{OutProxy}
 use Rattle.rh_server.specs.Servers as server
-use Rattle.rh_refused.specs.Refused.{IsPort}
-use Rattle.rh_refused.proofs.Requests.{request_asks}
-use Rattle.rh_refused.proofs.Taken.{asked_for, in_asks}
+use Rattle.rh_first_texts.specs.Ports.{IsPort}
+use Rattle.rh_first_texts.proofs.Requests.{request_asks}
+use Rattle.rh_first_texts.proofs.Taken.{asked_for, in_asks}
 use Rattle.rh_bodies.specs.Behind.{TakesHead}
 use Rattle.rh_bodies.specs.Bodies.{RequestTells}
 

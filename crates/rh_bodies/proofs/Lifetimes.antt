@@ -46,7 +46,7 @@ use Rattle.rh_traced.specs.Ours.{AreOurs, deeds, rules}
 use Rattle.rh_fifo.specs.Flows.{IsFlowing, numbers_of}
 use Rattle.rh_fifo.proofs.Heard.{from_client, from_out, from_server}
 use Rattle.rh_honest.proofs.Drawn.{free_by}
-use Rattle.rh_refused.proofs.OutTexts.{puts_200}
+use Rattle.rh_first_texts.proofs.OutTexts.{puts_200}
 use Rattle.rh_bodies.specs.Behind.{HasBody}
 use Rattle.rh_bodies.specs.Bodies.{KeepsLength, RequestTells}
 use Rattle.rh_bodies.proofs.Once.{once}

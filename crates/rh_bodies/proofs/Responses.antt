@@ -31,9 +31,9 @@ use Rattle.rh_outproxy.specs.Putting.{ping_room}
 use Rattle.rh_legible.specs.Legible.{MayGoOn}
 use Rattle.rh_reading.specs.Reading.{AreNoTexts, Begins, IsWholeText}
 use Rattle.rh_streams.specs.Streams.{IsDrawn}
-use Rattle.rh_refused.proofs.OutTexts.{IsSuccess, Succeeds}
-use Rattle.rh_refused.proofs.Requests.{same_head}
-use Rattle.rh_refused.proofs.Told.{front_told, told_length}
+use Rattle.rh_first_texts.proofs.OutTexts.{IsSuccess, Succeeds}
+use Rattle.rh_first_texts.proofs.Requests.{same_head}
+use Rattle.rh_first_texts.proofs.Told.{front_told, told_length}
 use Rattle.rh_bodies.specs.Behind.{HasBody}
 use Rattle.rh_bodies.proofs.Lengths.{length_of}
 use Rattle.rh_bodies.proofs.OutMoves.{sum}

@@ -60,8 +60,8 @@ use Rattle.rh_proxies_begin.specs.Pipes as pipes
 use Rattle.rh_down.specs.Down as down
 use Rattle.rh_traced.specs.Ours.{AreOurs, deeds, rules}
 use Rattle.rh_fifo.specs.Flows.{IsFlowing, numbers_of}
-use Rattle.rh_fifo.proofs.Heard.{from_client}
-use Rattle.rh_honest.proofs.Fed.{fed_piece, hears_is, node_reads, reads_on, told_what, told_who}
+use Rattle.rh_fifo.proofs.Heard.{from_client, node_reads, reads_on}
+use Rattle.rh_honest.proofs.Fed.{fed_piece, hears_is, told_what, told_who}
 use Rattle.rh_bodies.specs.Behind.{HasBody, TakesHead}
 use Rattle.rh_bodies.specs.Bodies.{KeepsLength, RequestTells}
 use Rattle.rh_bodies.proofs.Fits.{fits_not}

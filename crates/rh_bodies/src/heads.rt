@@ -9,7 +9,7 @@ ghost use Rattle.rh_client.specs.Legible.{IsConfig};
 ghost use Rattle.rh_inproxy.specs.Machine as in_proxy;
 ghost use Rattle.rh_outproxy.specs.Machine as out_proxy;
 ghost use Rattle.rh_server.specs.Servers as server;
-ghost use Rattle.rh_refused.specs.Refused.{IsPort};
+ghost use Rattle.rh_first_texts.specs.Ports.{IsPort};
 ghost use Rattle.rh_bodies.specs.Behind.{TakesHead};
 ghost use Rattle.rh_bodies.specs.Bodies.{RequestTells};
 

@@ -18,7 +18,7 @@ ghost use Rattle.rh_traced.specs.Cookies.{ByChanges};
 ghost use Rattle.rh_traced.specs.Ours.{AreOurs, deeds, rules};
 ghost use Rattle.rh_fifo.specs.Flows.{numbers_of};
 ghost use Rattle.rh_fifo.specs.Premises.{AreInRange};
-ghost use Rattle.rh_refused.specs.Refused.{IsPort};
+ghost use Rattle.rh_first_texts.specs.Ports.{IsPort};
 
 use crate::clients::what_a_client_puts_keeps_its_lengths;
 use crate::heads::heads_are_taken_by_their_lengths;

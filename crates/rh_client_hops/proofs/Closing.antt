@@ -47,21 +47,23 @@ use Rattle.rh_history.proofs.Numbers.{answered}
 use Rattle.rh_reading.specs.Reading.{all_read_of}
 use Rattle.rh_traced.specs.Cookies.{ByChanges}
 use Rattle.rh_traced.specs.Ours.{AreOurs, deeds, rules}
-use Rattle.rh_ordered.specs.Premises.{history_at}
+use Rattle.rh_traced.specs.Recordings.{history_at}
 use Rattle.rh_fifo.specs.Flows.{IsFlowing, numbers_of}
-use Rattle.rh_fifo.specs.Premises.{AreInRange}
+use Rattle.rh_fifo.specs.Premises.{AreDistinct, AreInRange}
 use Rattle.rh_honest.proofs.Closing.{EachComes, by_fed}
 use Rattle.rh_honest.proofs.Fed.{told_what, told_who}
 use Rattle.rh_hops.specs.Hops.{os_leg}
 use Rattle.rh_hops.specs.Refusing.{RefusesMessage}
 use Rattle.rh_hops.proofs.Moment.{Laws, NodeLaws, known}
 use Rattle.rh_hops.proofs.Stopping.{Readings}
-use Rattle.rh_client_hops.specs.Premises.{AreDistinct, HasOneWindow}
+use Rattle.rh_moments.specs.Moments.{AreJoined, Passages}
+use Rattle.rh_client_hops.specs.Premises.{HasOneWindow}
 use Rattle.rh_client_hops.proofs.Honest.{RoleLaws, are_honest, distinct_behind}
-use Rattle.rh_client_hops.proofs.Joined.{AreAlone, Reads, put_is_fine}
+use Rattle.rh_fifo.proofs.Joined.{AreAlone, put_is_fine}
+use Rattle.rh_fifo.proofs.Legs.{Reads}
 use Rattle.rh_client_hops.proofs.Moments.{client_next, flows, in_next, joined, out_next, passages, story, world}
 use Rattle.rh_client_hops.proofs.Refusing.{client_range, client_window, in_range, in_window, out_range, out_range_none, out_window}
-use Rattle.rh_client_hops.proofs.Routes.{AreHonest, AreJoined, Passages}
+use Rattle.rh_client_hops.proofs.Routes.{AreHonest}
 
 -- ---- the laws that this stands on
 
@@ -106,7 +108,7 @@ module _ {K : Type 0} (roles : RoleLaws) (nodes : NodesLaws) (reads : Reads) (re
     abbrev then_all : Passages
     then_all = passages reads readings m w v ours law alone by leg dir (λ k. may) count
 
-    then_joined : AreJoined v.readers then_all
+    then_joined : AreJoined (reader_of v.readers) then_all
     then_joined = joined reads readings m w v ours law alone by leg dir (λ k. may) count
 
     abbrev then_moves : List EndMove
@@ -172,7 +174,7 @@ module _ {K : Type 0} (roles : RoleLaws) (nodes : NodesLaws) (reads : Reads) (re
           let next = client_next reads readings m w v ours law alone by (co n) D (λ k. may)
           (refused.OutOfRange command value) (cause.OutOfRange (co n) command value) refl count
           who.Client refl nodes.client refl closes in
-          client_range v.readers (then_all (co n) D may next.0) (then_joined (co n) D may next.0)
+          client_range (reader_of v.readers) (then_all (co n) D may next.0) (then_joined (co n) D may next.0)
           (ours.in_config 1).window (then_moves (co n) D may next.0)
           (honest (co n) D may next.0) n next.1.message next.1.ahead command value
           next.1.refuses
@@ -197,7 +199,7 @@ module _ {K : Type 0} (roles : RoleLaws) (nodes : NodesLaws) (reads : Reads) (re
           (refused.Window (record { reached = reached; edge = edge }))
           (cause.WindowExceeded (co n) reached edge) refl count who.Client refl nodes.client refl
           closes in
-          client_window v.readers (then_all (co n) D may next.0)
+          client_window (reader_of v.readers) (then_all (co n) D may next.0)
           (then_joined (co n) D may next.0) (ours.in_config 1).window
           (then_moves (co n) D may next.0)
           (honest (co n) D may next.0) n next.1.message
@@ -259,7 +261,7 @@ module _ {K : Type 0} (roles : RoleLaws) (nodes : NodesLaws) (reads : Reads) (re
       (refused.Window (record { reached = reached; edge = edge }))
       (cause.WindowExceeded (ci n) reached edge) refl count (who.In k) here nodes.ins k refl node
       up there closes in
-      in_window v.readers (then_all (ci n) U may next.0) (then_joined (ci n) U may next.0)
+      in_window (reader_of v.readers) (then_all (ci n) U may next.0) (then_joined (ci n) U may next.0)
       (ours.in_config 1).window (then_moves (ci n) U may next.0)
       (honest (ci n) U may next.0) k n (in_number (reader_of v.readers n) k here)
       next.1.message next.1.ahead (record { reached = reached; edge = edge }) next.1.refuses
@@ -279,7 +281,7 @@ module _ {K : Type 0} (roles : RoleLaws) (nodes : NodesLaws) (reads : Reads) (re
       let next = in_next reads readings m w v ours law alone by (ci n) U (λ j. may)
       (refused.OutOfRange command value) (cause.OutOfRange (ci n) command value) refl count
       (who.In k) here nodes.ins k refl node up there closes in
-      in_range v.readers (then_all (ci n) U may next.0) (then_joined (ci n) U may next.0)
+      in_range (reader_of v.readers) (then_all (ci n) U may next.0) (then_joined (ci n) U may next.0)
       (ours.in_config 1).window (then_moves (ci n) U may next.0)
       (honest (ci n) U may next.0) k n next.1.message command value next.1.refuses
 
@@ -301,7 +303,7 @@ module _ {K : Type 0} (roles : RoleLaws) (nodes : NodesLaws) (reads : Reads) (re
       (refused.Window (record { reached = reached; edge = edge }))
       (cause.WindowExceeded (co n) reached edge) refl count (who.Out k) here nodes.outs k refl
       node up there closes in
-      out_window v.readers (then_all (co n) U may next.0) (then_joined (co n) U may next.0)
+      out_window (reader_of v.readers) (then_all (co n) U may next.0) (then_joined (co n) U may next.0)
       (ours.in_config 1).window (then_moves (co n) U may next.0)
       (honest (co n) U may next.0) k next.1.message
       (record { reached = reached; edge = edge })
@@ -335,7 +337,7 @@ module _ {K : Type 0} (roles : RoleLaws) (nodes : NodesLaws) (reads : Reads) (re
           let next = out_next reads readings m w v ours law alone by (co n) U (λ j. may)
           (refused.OutOfRange command value) (cause.OutOfRange l command value) refl count
           (who.Out k) here nodes.outs k refl node up there closes in
-          out_range_none v.readers (then_all (co n) U may next.0)
+          out_range_none (reader_of v.readers) (then_all (co n) U may next.0)
           (then_joined (co n) U may next.0) (ours.in_config 1).window
           (then_moves (co n) U may next.0)
           (honest (co n) U may next.0) k next.1.message command value
@@ -354,7 +356,7 @@ module _ {K : Type 0} (roles : RoleLaws) (nodes : NodesLaws) (reads : Reads) (re
           × RefusesMessage out_proxy.rules (all.outs k).role (os_leg j)
           (refused.OutOfRange command value) next.1.message) (out_number n k here)
           (next.1.ahead, next.1.refuses) in
-          out_range v.readers all (then_joined (os_leg n) D may next.0)
+          out_range (reader_of v.readers) all (then_joined (os_leg n) D may next.0)
           (ours.in_config 1).window (then_moves (os_leg n) D may next.0)
           (honest (os_leg n) D may next.0) k
           next.1.message both.0 command value both.1

@@ -14,6 +14,7 @@ use Rattle.rh_shell.specs.Moving.{Event, Hears, after_end_events}
 use Rattle.rh_shell.specs.Shells.{Shell}
 use Rattle.rh_shell.specs.Wires.{of_leg}
 use Rattle.rh_nodes.specs.Opening.{Makers}
+use Rattle.rh_nodes.specs.Readers.{reader_of}
 use Rattle.rh_nodes.specs.World.{World, at}
 use Rattle.rh_nodes.specs.Wires.{receiver}
 use Rattle.rh_nodes.specs.Halves.{is_same}
@@ -39,12 +40,14 @@ use Rattle.rh_passages.specs.Rising.{AreUpFirst, CameUpWith, HasComeUp}
 use Rattle.rh_out_sends.specs.Sending.{opens}
 use Rattle.rh_traced.specs.Ours.{AreOurs, deeds, rules}
 use Rattle.rh_fifo.specs.Flows.{IsFlowing, numbers_of}
-use Rattle.rh_fifo.specs.Premises.{AreInRange}
-use Rattle.rh_client_hops.specs.Premises.{AreDistinct, HasOneWindow}
-use Rattle.rh_client_hops.proofs.Joined.{Reads, all}
+use Rattle.rh_fifo.specs.Premises.{AreDistinct, AreInRange}
+use Rattle.rh_fifo.proofs.Joined.{all}
+use Rattle.rh_fifo.proofs.Legs.{Reads}
+use Rattle.rh_moments.specs.Moments.{AreJoined, Passages}
+use Rattle.rh_client_hops.specs.Premises.{HasOneWindow}
 use Rattle.rh_moments.proofs.Read.{front_count}
 use Rattle.rh_client_hops.proofs.Roles.{AreApart, ClientBegins, ClientReceives, ClientSends, InProxySees, OutProxySees, ServerSees}
-use Rattle.rh_client_hops.proofs.Routes.{AreHonest, AreJoined, Passages}
+use Rattle.rh_client_hops.proofs.Routes.{AreHonest}
 
 -- ---- the laws that this stands on, over every list of moves
 
@@ -78,7 +81,7 @@ module _ {K : Type 0} (law : RoleLaws) (reads : Reads) (m : Makers K InProxy Out
     (ours : AreOurs m w.company w.cast) (ranges : AreInRange (numbers_of ours))
     (u : World K ClientRole Server InProxy OutProxy) (g : History)
     (flowing : IsFlowing (numbers_of ours) w u g)
-    (joined : AreJoined u.readers (all reads m w u ours g flowing)) where
+    (joined : AreJoined (reader_of u.readers) (all reads m w u ours g flowing)) where
   abbrev passages : Passages
   passages = all reads m w u ours g flowing
 

@@ -1,10 +1,8 @@
 pub mod Roles
 pub mod Routes
 pub mod Refusing
-pub mod Joined
 pub mod Honest
 pub mod Stops
 pub mod Moments
 pub mod Closing
 pub mod Joining
-pub mod Distinct

@@ -43,16 +43,18 @@ use Rattle.rh_reading.specs.Reading.{all_read_of, messages_read}
 use Rattle.rh_traced.specs.Cookies.{ByChanges}
 use Rattle.rh_traced.specs.Ours.{AreOurs, deeds, rules}
 use Rattle.rh_fifo.specs.Flows.{IsFlowing, numbers_of}
-use Rattle.rh_honest.specs.Honest.{read_on, well_on}
-use Rattle.rh_honest.proofs.Fed.{node_reads, reads_on, strict_on}
+use Rattle.rh_honest.specs.Honest.{well_on}
+use Rattle.rh_honest.proofs.Fed.{strict_on}
 use Rattle.rh_hops.specs.Refusing.{refused_by}
 use Rattle.rh_hops.proofs.Fed.{heard_behind, in_events, out_events, piece, told_here}
 use Rattle.rh_hops.proofs.Moment.{Laws, NodeLaws, behind, closes_at, drawn_before, flowing_behind, known, noted_append, now, well_behind}
 use Rattle.rh_hops.proofs.OneByte.{AtByte}
 use Rattle.rh_hops.proofs.Pieces.{FedFronts, fed_fronts}
 use Rattle.rh_hops.proofs.Stopping.{Readings}
-use Rattle.rh_client_hops.proofs.Joined.{AreAlone, Reads, all, joined_at, reads_put}
-use Rattle.rh_client_hops.proofs.Routes.{AreJoined, Passages, put_by}
+use Rattle.rh_fifo.proofs.Heard.{node_reads, reads_on}
+use Rattle.rh_fifo.proofs.Joined.{AreAlone, all, joined_at, reads_put}
+use Rattle.rh_fifo.proofs.Legs.{Reads}
+use Rattle.rh_moments.specs.Moments.{AreJoined, Passages, put_by}
 use Rattle.rh_client_hops.proofs.Stops.{IsNext, end_next, stream_next}
 
 -- what a node drew it has drawn whatever changes
@@ -98,8 +100,10 @@ module _ {K : Type 0} (law_reads : Reads) (readings : Readings) (m : Makers K In
         noted x (now m w v ours law by leg dir may) (IsFed leg dir count)) by.leads.reached)
         (law.known world by_then.leads).traced
 
-    pub joined : AreJoined v.readers passages
-    joined = joined_at law_reads m w ours law alone world story flows traced
+    pub joined : AreJoined (reader_of v.readers) passages
+    joined =
+        joined_at law_reads m w ours world story flows (law.drawn world story traced)
+        (alone world story traced)
 
     -- the messages that were put at the other end of the leg
     abbrev pub all_put : List Message

@@ -13,7 +13,6 @@ use Rattle.rh_shell.specs.declared.answers.Refused.TheVariants as refused
 use Rattle.rh_shell.specs.Moves.{EndMove}
 use Rattle.rh_shell.specs.Rules.{Message, Text, Pdu, Packet}
 use Rattle.rh_shell.specs.Wires.{of_leg}
-use Rattle.rh_nodes.specs.Readers.{reader_of}
 use Rattle.rh_client.specs.Client as client
 use Rattle.rh_client.specs.State.{ci, co}
 use Rattle.rh_inproxy.specs.Machine as in_proxy
@@ -26,8 +25,10 @@ use Rattle.rh_passages.proofs.Messages.{bytes_append, has_last}
 use Rattle.rh_hops.specs.Hops.{is_leg, os_leg}
 use Rattle.rh_hops.specs.Refusing.{RefusesMessage}
 use Rattle.rh_moments.proofs.Read.{front_bytes, front_has, front_one}
+use Rattle.rh_moments.specs.Moments.{AreJoined, Passages}
+use Rattle.rh_moments.proofs.Joining.{in_front, in_reads}
 use Rattle.rh_client_hops.proofs.Roles.{Acks, AcksRoom, IsFalse, IsToldIn, IsToldOut, SendsWithin, TellsProxy}
-use Rattle.rh_client_hops.proofs.Routes.{AreHonest, AreJoined, Passages, client_put, from_client, from_out, in_front, in_reads, out_front, window_is}
+use Rattle.rh_client_hops.proofs.Routes.{AreHonest, client_put, from_client, from_out, out_front, window_is}
 
 -- the bytes that came with the next PDU are of what was put
 reached : (came put : List Message) (pdu : List ℕ)
@@ -55,7 +56,7 @@ true_false sent came received available all is small (inr great) =
 pdu_long : (pdu : List ℕ) → IsPdu pdu → 0 < length pdu
 pdu_long pdu is = let long : 16 ≤ length pdu = is.frame.long in omega (arith, long)
 
-module _ (readers : List ℕ) (all : Passages) (joined : AreJoined readers all) (window : ℕ)
+module _ (reader : ℕ → ℕ) (all : Passages) (joined : AreJoined reader all) (window : ℕ)
     (moves : List EndMove) (honest : AreHonest window moves all) where
   -- ---- what is known of an acknowledgement
 
@@ -71,7 +72,7 @@ module _ (readers : List ℕ) (all : Passages) (joined : AreJoined readers all) 
   came_in m n cookie begun =
       honest.begins.ins n cookie
       (front_one (BeginsIn cookie) (of_leg (ci n) (all.ins m).came) (of_leg (ci n) all.client.put)
-      (in_front readers all joined m n) begun)
+      (in_front reader all joined m n) begun)
 
   of_in : (m n received available : ℕ) (cookie : Cookie)
       → Has (AckTo 0 received available cookie) (of_leg (is_leg m) (all.ins m).put)
@@ -118,7 +119,7 @@ module _ (readers : List ℕ) (all : Passages) (joined : AreJoined readers all) 
 
   -- ---- an in proxy, on a leg of the client that it reads
 
-  module _ (m n : ℕ) (reads : reader_of readers n ≡ m) (pdu : List ℕ)
+  module _ (m n : ℕ) (reads : reader n ≡ m) (pdu : List ℕ)
       (ahead : IsPrefix (of_leg (ci n) (all.ins m).came ++ Pdu pdu ∷ [])
       (all_read_of (of_leg (ci n) all.client.put))) (count : Count) (why : WindowExceeded)
       (row : (in_proxy.rules.pdu (all.ins m).role (ci n) count pdu).1
@@ -131,12 +132,12 @@ module _ (readers : List ℕ) (all : Passages) (joined : AreJoined readers all) 
         all.client.came edge → edge < in_end
     in_acked edge room =
         let ack = room.ack in
-        let put = from_client readers all joined window moves honest 0 ack.received ack.available
+        let put = from_client reader all joined window moves honest 0 ack.received ack.available
         ack.cookie ack.number ack.has in
         let raised = honest.begins.ins n ack.cookie room.begun in
         let is = of_in put.0 n ack.received ack.available ack.cookie put.1 raised in
         let same : put.0 ≡ m =
-        sym (in_reads readers all joined (BeginsIn ack.cookie) put.0 n is.begun) ∙ reads in
+        sym (in_reads reader all joined (BeginsIn ack.cookie) put.0 n is.begun) ∙ reads in
         let here = subst (λ (k : ℕ).
         Has (AckTo 0 ack.received ack.available ack.cookie) (of_leg (is_leg k) (all.ins k).put)
         × HasBegunIn ack.cookie (of_leg (ci n) (all.ins k).came)) same (put.1, is.begun) in
@@ -149,7 +150,7 @@ module _ (readers : List ℕ) (all : Passages) (joined : AreJoined readers all) 
         → edge < in_end
     in_told edge (inl opened) =
         subst (λ (k : ℕ). k < in_end)
-        (window_is readers all joined window moves honest edge opened.0 opened.1)
+        (window_is reader all joined window moves honest edge opened.0 opened.1)
         ((honest.ins m).exceeded n count pdu why row)
     in_told edge (inr room) = in_acked edge room
 
@@ -168,7 +169,7 @@ module _ (readers : List ℕ) (all : Passages) (joined : AreJoined readers all) 
             let behind = in_told so.0 so.2 in let within = so.1 in
             let all_put = put in absurd (omega (arith, behind, within, all_put))
 
-  pub in_window : (m n : ℕ) → reader_of readers n ≡ m → (x : Message)
+  pub in_window : (m n : ℕ) → reader n ≡ m → (x : Message)
       → IsPrefix (of_leg (ci n) (all.ins m).came ++ x ∷ [])
       (all_read_of (of_leg (ci n) all.client.put)) → (why : WindowExceeded)
       → RefusesMessage in_proxy.rules (all.ins m).role (ci n) (refused.Window why) x → ⊥
@@ -196,14 +197,14 @@ module _ (readers : List ℕ) (all : Passages) (joined : AreJoined readers all) 
       → HasComeUp moves (ci n) cookie
       → IsFalse (pdu_bytes (of_leg (ci n) all.client.put)) received available → ⊥
   client_ack k named ahead n received available cookie is raised false_one =
-      let put = from_out readers all joined window moves honest 0 received available cookie k
+      let put = from_out reader all joined window moves honest 0 received available cookie k
       (subst (λ (x : Named). Has x (of_leg (co k) (all.outs k).put)) is
       (next_has (of_leg (co k) all.client.came) (of_leg (co k) (all.outs k).put) named ahead)) in
       let one = of_in put.0 n received available cookie put.1 raised in
       true_false (pdu_bytes (of_leg (ci n) all.client.put))
       (pdu_bytes (of_leg (ci n) (all.ins put.0).came)) received available
       (front_bytes (of_leg (ci n) (all.ins put.0).came) (of_leg (ci n) all.client.put)
-      (in_front readers all joined put.0 n)) one.came one.small false_one
+      (in_front reader all joined put.0 n)) one.came one.small false_one
 
   pub client_range : (k : ℕ) (x : Message)
       → IsPrefix (of_leg (co k) all.client.came ++ x ∷ [])
@@ -234,8 +235,8 @@ module _ (readers : List ℕ) (all : Passages) (joined : AreJoined readers all) 
           let ack = acked.0 in
           let came = front_has (AckTo 3 ack.received ack.available ack.cookie)
           (of_leg (os_leg ack.number) (all.outs k).came) (of_leg (os_leg ack.number) all.server.put)
-          (out_front readers all joined k ack.number) ack.has in
-          let put = client_put readers all joined window moves honest ack.number ack.received
+          (out_front reader all joined k ack.number) ack.has in
+          let put = client_put reader all joined window moves honest ack.number ack.received
           ack.available ack.cookie came in
           let raised = honest.begins.outs k ack.cookie (began_out k ack.cookie acked.1) in
           subst (λ (n : ℕ). n < client_end) acked.2
@@ -275,7 +276,7 @@ module _ (readers : List ℕ) (all : Passages) (joined : AreJoined readers all) 
       → HasBegunOut cookie (of_leg (co n) (all.outs n).came)
       → IsFalse (pdu_bytes (of_leg (co n) (all.outs n).put)) received available → ⊥
   out_ack n named ahead received available cookie is begun false_one =
-      let put = client_put readers all joined window moves honest n received available cookie
+      let put = client_put reader all joined window moves honest n received available cookie
       (subst (λ (x : Named). Has x (of_leg (os_leg n) all.server.put)) is
       (next_has (of_leg (os_leg n) (all.outs n).came) (of_leg (os_leg n) all.server.put) named
       ahead)) in

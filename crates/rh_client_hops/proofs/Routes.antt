@@ -1,65 +1,28 @@
 -- the way of an acknowledgement and of a window through the nodes, back to where it was made
 -- (MS-RPCH 3.2.1)
-use Rattle.std.proofs.Common.{◌≡◌, ◌⊎◌, ℕ, List, [], inl, inr, refl, sym, subst}
+use Rattle.std.proofs.Common.{◌≡◌, ◌⊎◌, ℕ, List, inl, inr, subst}
 use Rattle.std.proofs.lemmas.Bool.{cases_eq}
 use mathlib.Core.List.{IsPrefix}
-use Rattle.rh_text.specs.declared.ends.Dir.{Dir}
 use Rattle.rh_text.specs.declared.ends.Dir.TheVariants.{U, D}
 use Rattle.rh_text.specs.declared.ends.Side.{Side}
 use Rattle.rh_text.specs.declared.ends.Side.TheVariants as side
 use Rattle.rh_rts.specs.declared.command.Cookie.{Cookie}
 use Rattle.rh_sig.specs.declared.named.Named.{Named}
 use Rattle.rh_sig.specs.declared.named.Named.TheVariants.{AckTo}
-use Rattle.rh_line.specs.declared.leg.Leg.{Leg}
-use Rattle.rh_record.specs.declared.answer.Who.{Who}
 use Rattle.rh_record.specs.declared.answer.Who.TheVariants as who
-use Rattle.rh_shell.specs.Moves.{EndMove, OnLeg, Passage}
-use Rattle.rh_shell.specs.Rules.{Message}
+use Rattle.rh_shell.specs.Moves.{EndMove}
 use Rattle.rh_shell.specs.Wires.{of_leg}
-use Rattle.rh_nodes.specs.Readers.{reader_of}
-use Rattle.rh_nodes.specs.Wires.{receiver, sender}
-use Rattle.rh_client.specs.declared.state.ClientRole.{ClientRole}
 use Rattle.rh_client.specs.State.{ci, co}
-use Rattle.rh_inproxy.specs.State.{InProxy}
-use Rattle.rh_outproxy.specs.OutProxy.{OutProxy}
 use Rattle.rh_server.specs.States.{Server}
-use Rattle.rh_history.specs.Carried.{end_node}
 use Rattle.rh_reading.specs.Reading.{all_read_of}
 use Rattle.rh_passages.specs.Passing.{Has, HasOne}
 use Rattle.rh_hops.specs.Hops.{is_leg, os_leg}
+use Rattle.rh_moments.specs.Moments.{AreJoined, Passages, end_of}
+use Rattle.rh_moments.proofs.Joining.{in_front, nothing_front}
 use Rattle.rh_moments.proofs.Read.{front_has, front_one}
 use Rattle.rh_client_hops.proofs.Roles.{AreApart, ClientBegins, ClientReceives, ClientSends, InProxySees, OutProxySees, ServerSees, TellsClient, TellsOutProxy, TellsServer}
 
--- what passed the nodes
-pub record Passages : Type 0 where
-  pub client : Passage ClientRole
-  pub server : Passage Server
-  pub ins : ℕ → Passage InProxy
-  pub outs : ℕ → Passage OutProxy
-
-abbrev pub put_by : Passages → Who → List OnLeg
-put_by all who.Client = all.client.put
-put_by all who.Server = all.server.put
-put_by all (who.In n) = (all.ins n).put
-put_by all (who.Out n) = (all.outs n).put
-
-abbrev pub came_to : Passages → Who → List OnLeg
-came_to all who.Client = all.client.came
-came_to all who.Server = all.server.came
-came_to all (who.In n) = (all.ins n).came
-came_to all (who.Out n) = (all.outs n).came
-
--- what came at the one end of a leg is of what was put at the other, and nothing came at a node
--- that stands at none
-pub record AreJoined (readers : List ℕ) (all : Passages) : Type 0 where
-  pub front : (leg : Leg) (dir : Dir)
-      → IsPrefix (of_leg leg (came_to all (end_node readers leg (receiver dir))))
-      (all_read_of (of_leg leg (put_by all (end_node readers leg (sender dir)))))
-  pub elsewhere : (node : Who) (leg : Leg)
-      → ((end : Side) → end_node readers leg end ≡ node → ⊥)
-      → of_leg leg (came_to all node) ≡ []
-
--- and each role sees to its part, the client behind these moves; the in proxies have one window
+-- each role sees to its part, the client behind these moves; the in proxies have one window
 pub record AreHonest (window : ℕ) (moves : List EndMove) (all : Passages) : Type 0 where
   pub sends : ClientSends moves all.client
   pub receives : ClientReceives moves all.client
@@ -69,54 +32,15 @@ pub record AreHonest (window : ℕ) (moves : List EndMove) (all : Passages) : Ty
   pub ins : (m : ℕ) → InProxySees window m (all.ins m)
   pub outs : (n : ℕ) → OutProxySees n (all.outs n)
 
--- a front of all
-pub nothing_front : (came all : List Message) → came ≡ [] → IsPrefix came all
-nothing_front came all e =
-    subst (λ (ms : List Message). IsPrefix ms all) (sym e) (all, refl)
-
-module _ (readers : List ℕ) (all : Passages) (joined : AreJoined readers all) where
-  -- ---- what came at a proxy, whichever it is
-
-  -- the client put it on the leg of the channel, which the in proxy reads
-  pub in_front : (m n : ℕ) → IsPrefix (of_leg (ci n) (all.ins m).came)
-      (all_read_of (of_leg (ci n) all.client.put))
-  in_front m n = by (cases_eq (reader_of readers n) m)
-    where
-      at : (reader_of readers n ≡ m → ⊥) → (end : Side)
-          → end_node readers (ci n) end ≡ who.In m → ⊥
-      at apart side.Client e = absurd cc
-      at apart side.Server e = apart (let same = e in cc)
-
-      by : (reader_of readers n ≡ m) ⊎ (reader_of readers n ≡ m → ⊥)
-          → IsPrefix (of_leg (ci n) (all.ins m).came)
-          (all_read_of (of_leg (ci n) all.client.put))
-      by (inl is) =
-          subst (λ (k : ℕ). IsPrefix (of_leg (ci n) (all.ins k).came)
-          (all_read_of (of_leg (ci n) all.client.put))) is (joined.front (ci n) U)
-      by (inr apart) =
-          nothing_front (of_leg (ci n) (all.ins m).came) _
-          (joined.elsewhere (who.In m) (ci n) (at apart))
-
-  pub in_reads : (P : Named → Type 0) (m n : ℕ) → HasOne P (of_leg (ci n) (all.ins m).came)
-      → reader_of readers n ≡ m
-  in_reads P m n has = by (cases_eq (reader_of readers n) m)
-    where
-      at : (reader_of readers n ≡ m → ⊥) → (end : Side)
-          → end_node readers (ci n) end ≡ who.In m → ⊥
-      at apart side.Client e = absurd cc
-      at apart side.Server e = apart (let same = e in cc)
-
-      by : (reader_of readers n ≡ m) ⊎ (reader_of readers n ≡ m → ⊥) → reader_of readers n ≡ m
-      by (inl is) = is
-      by (inr apart) =
-          absurd (subst (HasOne P) (joined.elsewhere (who.In m) (ci n) (at apart)) has)
+module _ (reader : ℕ → ℕ) (all : Passages) (joined : AreJoined reader all) where
+  -- ---- what came at an out proxy, whichever it is
 
   -- the server put it on the leg of the out proxy
   pub out_front : (j n : ℕ) → IsPrefix (of_leg (os_leg n) (all.outs j).came)
       (all_read_of (of_leg (os_leg n) all.server.put))
   out_front j n = by (cases_eq n j)
     where
-      at : (n ≡ j → ⊥) → (end : Side) → end_node readers (os_leg n) end ≡ who.Out j → ⊥
+      at : (n ≡ j → ⊥) → (end : Side) → end_of reader (os_leg n) end ≡ who.Out j → ⊥
       at apart side.Client e = apart (let same = e in cc)
       at apart side.Server e = absurd cc
 
@@ -174,7 +98,7 @@ module _ (readers : List ℕ) (all : Passages) (joined : AreJoined readers all) 
           came.0,
           front_has (AckTo 3 received available cookie)
               (of_leg (ci came.0) (all.ins put.0).came) (of_leg (ci came.0) all.client.put)
-              (in_front put.0 came.0) came.1,
+              (in_front reader all joined put.0 came.0) came.1,
         )
 
     -- ---- windows

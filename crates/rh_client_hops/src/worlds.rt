@@ -17,10 +17,10 @@ ghost use Rattle.rh_history.specs.Closes.{ClosesNode};
 ghost use Rattle.rh_history.specs.Histories.{IsNew};
 ghost use Rattle.rh_traced.specs.Cookies.{ByChanges};
 ghost use Rattle.rh_traced.specs.Ours.{AreOurs, deeds, rules};
-ghost use Rattle.rh_ordered.specs.Premises.{history_at};
+ghost use Rattle.rh_traced.specs.Recordings.{history_at};
 ghost use Rattle.rh_fifo.specs.Flows.{numbers_of};
-ghost use Rattle.rh_fifo.specs.Premises.{AreInRange};
-ghost use Rattle.rh_client_hops.specs.Premises.{AreDistinct, HasOneWindow};
+ghost use Rattle.rh_fifo.specs.Premises.{AreDistinct, AreInRange};
+ghost use Rattle.rh_client_hops.specs.Premises.{HasOneWindow};
 
 use rh_acks::{
     a_server_passes_acknowledgements_on, a_server_tells_what_it_was_told,

@@ -14,7 +14,7 @@ ghost use Rattle.rh_history.specs.Histories.{IsNew};
 ghost use Rattle.rh_traced.specs.Ours.{AreOurs, deeds, rules};
 ghost use Rattle.rh_world.specs.declared.any_world.AnyWorld.TheVariants.{Before};
 ghost use Rattle.rh_world.specs.Any.{after, step};
-ghost use Rattle.rh_honest.specs.Cookies.{AreLeftIn};
+ghost use Rattle.rh_fifo.specs.Premises.{AreLeftIn};
 
 use rh_causes::a_clients_leg_comes_up_once;
 use rh_traced::{a_recording_of_roles_is_known, legs_of_roles_come_up_once};

@@ -41,7 +41,7 @@ use Rattle.rh_honest.proofs.Closing.{IsOfPiece, by_fed}
 use Rattle.rh_honest.proofs.Fed.{told_what, told_who}
 use Rattle.rh_hops.proofs.Moment.{Laws, well_behind}
 use Rattle.rh_hops.proofs.Stopping.{Readings}
-use Rattle.rh_client_hops.proofs.Joined.{Reads}
+use Rattle.rh_fifo.proofs.Legs.{Reads}
 use Rattle.rh_moments.specs.Expecting.{Expects, HasNoPingFirst, IsAmiss}
 use Rattle.rh_amiss.specs.Amiss.{amiss_by}
 use Rattle.rh_amiss.proofs.Next.{never_amiss}

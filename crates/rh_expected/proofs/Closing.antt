@@ -45,7 +45,7 @@ use Rattle.rh_history.proofs.Numbers.{answered}
 use Rattle.rh_reading.specs.Reading.{all_read_of}
 use Rattle.rh_traced.specs.Cookies.{ByChanges}
 use Rattle.rh_traced.specs.Ours.{AreOurs, deeds, rules}
-use Rattle.rh_ordered.specs.Premises.{history_at}
+use Rattle.rh_traced.specs.Recordings.{history_at}
 use Rattle.rh_fifo.specs.Flows.{IsFlowing, numbers_of}
 use Rattle.rh_causes.specs.Reasons.{ComesAmiss}
 use Rattle.rh_honest.specs.Honest.{well_on}
@@ -54,7 +54,7 @@ use Rattle.rh_honest.proofs.Fed.{told_what, told_who}
 use Rattle.rh_hops.specs.Hops.{is_leg, os_leg}
 use Rattle.rh_hops.proofs.Moment.{Laws, NodeLaws, well_behind}
 use Rattle.rh_hops.proofs.Stopping.{Readings}
-use Rattle.rh_client_hops.proofs.Joined.{Reads}
+use Rattle.rh_fifo.proofs.Legs.{Reads}
 use Rattle.rh_moments.specs.Expecting.{Expects, HasNoPingFirst, IsAmiss}
 use Rattle.rh_moments.specs.Moments.{Moves, Numbers, in_behind, out_behind, server_behind}
 use Rattle.rh_amiss.specs.Amiss.{amiss_by}

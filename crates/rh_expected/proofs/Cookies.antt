@@ -39,7 +39,7 @@ use Rattle.rh_honest.proofs.Closing.{EachComes, by_fed}
 use Rattle.rh_honest.proofs.Fed.{told_what, told_who}
 use Rattle.rh_hops.proofs.Moment.{Laws, NodeLaws, well_behind}
 use Rattle.rh_hops.proofs.Stopping.{Readings}
-use Rattle.rh_client_hops.proofs.Joined.{Reads}
+use Rattle.rh_fifo.proofs.Legs.{Reads}
 use Rattle.rh_amiss.specs.Amiss.{RefusesBy}
 use Rattle.rh_amiss.proofs.Moments.{AllFlow, OfStreams, client_then, flows}
 use Rattle.rh_amiss.proofs.Stops.{PingsFirst, RefusesAhead}

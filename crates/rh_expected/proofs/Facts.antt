@@ -29,11 +29,10 @@ use Rattle.rh_history.proofs.Working.{works_more}
 use Rattle.rh_passages.specs.Rising.{CameUpWith}
 use Rattle.rh_traced.specs.Cookies.{ByChanges}
 use Rattle.rh_traced.specs.Ours.{AreOurs, deeds, rules}
-use Rattle.rh_traced.specs.Recordings.{IsKnown}
-use Rattle.rh_ordered.specs.Premises.{history_at}
+use Rattle.rh_traced.specs.Recordings.{IsKnown, history_at}
 use Rattle.rh_fifo.specs.Flows.{IsFlowing, numbers_of}
 use Rattle.rh_hops.proofs.Moment.{noted_append}
-use Rattle.rh_client_hops.specs.Premises.{AreDistinct}
+use Rattle.rh_fifo.specs.Premises.{AreDistinct}
 use Rattle.rh_inproxy_expects.specs.Expected.{AreReadWhereUp}
 use Rattle.rh_moments.specs.Expecting.{HasNoPingFirst}
 use Rattle.rh_pasts.specs.Pasts.{moves_of}

@@ -35,13 +35,13 @@ use Rattle.rh_reading.specs.Reading.{all_read_of}
 use Rattle.rh_reading.specs.Well.{ReadsWell, is_named}
 use Rattle.rh_traced.specs.Cookies.{ByChanges}
 use Rattle.rh_traced.specs.Ours.{AreOurs, deeds, rules}
-use Rattle.rh_ordered.specs.Premises.{history_at}
+use Rattle.rh_traced.specs.Recordings.{history_at}
 use Rattle.rh_honest.proofs.Closing.{by_fed}
 use Rattle.rh_honest.proofs.Fed.{told_what, told_who}
 use Rattle.rh_hops.proofs.Moment.{Laws, known}
 use Rattle.rh_hops.proofs.Stopping.{Readings}
-use Rattle.rh_client_hops.proofs.Joined.{Reads}
-use Rattle.rh_client_hops.specs.Premises.{AreDistinct}
+use Rattle.rh_fifo.proofs.Legs.{Reads}
+use Rattle.rh_fifo.specs.Premises.{AreDistinct}
 use Rattle.rh_moments.specs.Expecting.{Expects}
 use Rattle.rh_moments.specs.Moments.{Moves, client_behind}
 use Rattle.rh_amiss.proofs.AtNodes.{ClientKnows, RolesKnow, client_next}

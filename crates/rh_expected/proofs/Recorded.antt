@@ -40,10 +40,9 @@ use Rattle.rh_closes.proofs.Showing.{shown_draws}
 use Rattle.rh_traced.specs.Cookies.{ByChanges}
 use Rattle.rh_traced.proofs.ByChanges.{lines_by_changes}
 use Rattle.rh_fifo.specs.Flows.{numbers_of}
-use Rattle.rh_fifo.specs.Premises.{AreInRange}
+use Rattle.rh_fifo.specs.Premises.{AreInRange, AreLeftIn}
 use Rattle.rh_fifo.proofs.Recorded.{in_range, ours}
-use Rattle.rh_honest.specs.Cookies.{AreLeftIn}
-use Rattle.rh_client_hops.proofs.Distinct.{own_distinct}
+use Rattle.rh_fifo.proofs.Distinct.{own_distinct}
 use Rattle.rh_expected.specs.Roles.{HaveCookies}
 use Rattle.rh_expected.proofs.Zeros.{some_cookies}
 

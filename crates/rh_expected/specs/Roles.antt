@@ -26,12 +26,11 @@ use Rattle.rh_passages.specs.Rising.{CameUpWith}
 use Rattle.rh_reading.specs.Reading.{all_read_of}
 use Rattle.rh_traced.specs.Cookies.{ByChanges}
 use Rattle.rh_traced.specs.Ours.{AreOurs, deeds, rules}
-use Rattle.rh_ordered.specs.Premises.{history_at}
+use Rattle.rh_traced.specs.Recordings.{history_at}
 use Rattle.rh_fifo.specs.Flows as fifo
 use Rattle.rh_fifo.specs.Flows.{IsFlowing}
-use Rattle.rh_fifo.specs.Premises.{AreInRange}
-use Rattle.rh_client_hops.specs.Premises.{AreDistinct}
-use Rattle.rh_refused.specs.Refused.{IsPort}
+use Rattle.rh_fifo.specs.Premises.{AreDistinct, AreInRange}
+use Rattle.rh_first_texts.specs.Ports.{IsPort}
 use Rattle.rh_hops.specs.Hops.{is_leg, os_leg}
 use Rattle.rh_pasts.specs.Pasts.{moves_of, numbers}
 use Rattle.rh_moments.specs.Expecting.{Expects, HasNoPingFirst}

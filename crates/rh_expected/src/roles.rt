@@ -20,12 +20,11 @@ ghost use Rattle.rh_history.specs.Closes.{ClosesNode};
 ghost use Rattle.rh_history.specs.Histories.{IsNew};
 ghost use Rattle.rh_traced.specs.Cookies.{ByChanges};
 ghost use Rattle.rh_traced.specs.Ours.{AreOurs, deeds, rules};
-ghost use Rattle.rh_ordered.specs.Premises.{history_at};
+ghost use Rattle.rh_traced.specs.Recordings.{history_at};
 ghost use Rattle.rh_fifo.specs.Flows.{numbers_of};
-ghost use Rattle.rh_fifo.specs.Premises.{AreInRange};
+ghost use Rattle.rh_fifo.specs.Premises.{AreDistinct, AreInRange};
 ghost use Rattle.rh_hops.specs.Hops.{is_leg, os_leg};
-ghost use Rattle.rh_client_hops.specs.Premises.{AreDistinct};
-ghost use Rattle.rh_refused.specs.Refused.{IsPort};
+ghost use Rattle.rh_first_texts.specs.Ports.{IsPort};
 ghost use Rattle.rh_expected.specs.Roles.{HaveCookies};
 
 use crate::connected::is_legs_of_lines_are_connected;

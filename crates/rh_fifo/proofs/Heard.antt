@@ -4,20 +4,20 @@ use Rattle.std.specs.Prelude.{if◌then◌else◌, Some, None}
 use Rattle.std.specs.List.{AllByRecursion}
 use Rattle.std.specs.declared.option.Option.{Option}
 use mathlib.Core.List.{IsPrefix}
-use Rattle.std.proofs.lemmas.Bool.{eq-eqb, true≢false}
+use Rattle.std.proofs.lemmas.Bool.{true≢false}
 use Rattle.rh_text.specs.declared.ends.Dir.{Dir}
 use Rattle.rh_text.specs.declared.ends.Dir.TheVariants.{U, D}
 use Rattle.rh_text.specs.declared.ends.Side.{Side}
 use Rattle.rh_text.specs.declared.ends.Side.TheVariants as side
 use Rattle.rh_sig.specs.declared.name.Pipe.{Pipe}
-use Rattle.rh_sig.specs.declared.name.Pipe.TheVariants.{CiU, IsU, IsD, CoU, CoD, OsU, OsD}
+use Rattle.rh_sig.specs.declared.name.Pipe.TheVariants.{IsD, CoU, OsD}
 use Rattle.rh_line.specs.declared.leg.Leg.{Leg}
 use Rattle.rh_line.specs.declared.leg.LegKind.{LegKind}
 use Rattle.rh_line.specs.declared.leg.LegKind.TheVariants.{ClientOut, OutServer, ClientIn, InServer}
 use Rattle.rh_record.specs.declared.answer.Who.{Who}
 use Rattle.rh_record.specs.declared.answer.Who.TheVariants as who
 use Rattle.rh_shell.specs.Rules.{Message}
-use Rattle.rh_shell.specs.Shells.{Shell, begun}
+use Rattle.rh_shell.specs.Shells.{Shell, begun, same_leg}
 use Rattle.rh_shell.specs.Wires.{of_leg}
 use Rattle.rh_legible.specs.Legible.{IsFineMessage}
 use Rattle.rh_nodes.specs.Company.{Company}
@@ -26,6 +26,7 @@ use Rattle.rh_nodes.specs.Opening.{Makers}
 use Rattle.rh_nodes.specs.Readers.{reader_of}
 use Rattle.rh_nodes.specs.Settling.{leg_at}
 use Rattle.rh_nodes.specs.Wires.{receiver, sender}
+use Rattle.rh_nodes.specs.World.{World, node_by}
 use Rattle.rh_client.specs.declared.state.ClientRole.{ClientRole}
 use Rattle.rh_client.specs.Client as client
 use Rattle.rh_client.specs.Legible as client_legible
@@ -48,9 +49,51 @@ use Rattle.rh_traced.specs.Ours.{AreOurs, deeds, rules}
 use Rattle.rh_reading.specs.Reading.{Begins, messages_read}
 use Rattle.rh_down.specs.Down as down
 use Rattle.rh_proxies_begin.specs.Pipes as pipes
-use Rattle.rh_fifo.specs.Flows.{AllFine, AllLegible, AreBegun, Flows, numbers_of}
+use Rattle.rh_fifo.specs.Flows.{AllFine, AllLegible, AreBegun, Flows, numbers_of, read_on}
 use Rattle.rh_fifo.proofs.Legs.{Reads, of_legs}
 use Rattle.rh_fifo.proofs.Fine.{Source, from_nothing, from_source, sourced}
+
+-- ---- what each node reads
+
+module _ {K : Type 0} {m : Makers K InProxy OutProxy}
+    {first : Company ClientRole Server InProxy OutProxy} {cast : K}
+    (ours : AreOurs m first cast) where
+  abbrev pub node_reads : Who → Leg → Option Pipe
+  node_reads who.Client leg = down.client_reads leg
+  node_reads who.Server leg = down.server_reads leg
+  node_reads (who.In n) leg = pipes.in_pipe (ours.in_config n) leg
+  node_reads (who.Out n) leg = down.proxy_reads (ours.out_config n) leg
+
+  its_own : (kind : LegKind) (a b : ℕ) → a ≡ b → same_leg (leg_at kind a) (leg_at kind b) ≡ true
+  its_own kind a b same =
+      subst (λ (n : ℕ). same_leg (leg_at kind a) (leg_at kind n) ≡ true) same
+      (same_itself (leg_at kind a))
+
+  pub reads_on : (reader n : ℕ) (kind : LegKind) (dir : Dir)
+      → read_on kind dir ≡ node_reads (node_by reader n kind (receiver dir)) (leg_at kind n)
+  reads_on reader n ClientOut U =
+      sym (ap (λ (t : Bool). if t then Some CoU else Some OsD)
+      (its_own ClientOut (ours.out_config n).number n (ours.out_number n)))
+  reads_on reader n ClientOut D = refl
+  reads_on reader n OutServer U = refl
+  reads_on reader n OutServer D = refl
+  reads_on reader n ClientIn U = refl
+  reads_on reader n ClientIn D = refl
+  reads_on reader n InServer U = refl
+  reads_on reader n InServer D =
+      sym (ap (λ (t : Bool). if t then Some IsD else None)
+      (its_own InServer (ours.in_config n).number n (ours.in_number n)))
+
+-- ---- what each node drew
+
+-- by the cast of the first world
+pub as_first : {K : Type 0} (m : Makers K InProxy OutProxy)
+    (w v : World K ClientRole Server InProxy OutProxy) → v.cast ≡ w.cast → (h : History)
+    (node : Who) (leg : Leg) (bytes : List ℕ)
+    → IsPrefix bytes (drawn_by rules m deeds w.company v.cast h node leg)
+    → IsPrefix bytes (drawn_by rules m deeds w.company w.cast h node leg)
+as_first {K} m w v cast h node leg bytes p =
+    subst (λ (k : K). IsPrefix bytes (drawn_by rules m deeds w.company k h node leg)) cast p
 
 module _ {K : Type 0} (m : Makers K InProxy OutProxy)
     (first : Company ClientRole Server InProxy OutProxy) (cast : K)
@@ -113,15 +156,9 @@ module _ {K : Type 0} (law : Reads) (m : Makers K InProxy OutProxy)
   came_to (who.In n) leg = of_leg leg (g.ins n).passage.came
   came_to (who.Out n) leg = of_leg leg (g.outs n).passage.came
 
-  abbrev pipe_read : Who → Leg → Option Pipe
-  pipe_read who.Client leg = down.client_reads leg
-  pipe_read who.Server leg = down.server_reads leg
-  pipe_read (who.In n) leg = pipes.in_pipe (ours.in_config n) leg
-  pipe_read (who.Out n) leg = down.proxy_reads (ours.out_config n) leg
-
   is_read : (node : Who) (leg : Leg)
       → IsPrefix (came_to node leg)
-      (messages_read (pipe_read node leg) (heard_on leg (events_of behind node)))
+      (messages_read (node_reads ours node leg) (heard_on leg (events_of behind node)))
   is_read who.Client leg = g.client.read leg
   is_read who.Server leg = g.server.read leg
   is_read (who.In n) leg = (g.ins n).read leg
@@ -145,42 +182,7 @@ module _ {K : Type 0} (law : Reads) (m : Makers K InProxy OutProxy)
   from_node (who.In n) = from_in m first cast ours h n
   from_node (who.Out n) = from_out m first cast ours h n
 
-  -- ---- each direction of a leg: the pipe that is read there, and what was put
-
-  abbrev pipe_on : LegKind → Dir → Option Pipe
-  pipe_on ClientIn U = Some CiU
-  pipe_on ClientIn D = None
-  pipe_on InServer U = Some IsU
-  pipe_on InServer D = Some IsD
-  pipe_on ClientOut U = Some CoU
-  pipe_on ClientOut D = Some CoD
-  pipe_on OutServer U = Some OsU
-  pipe_on OutServer D = Some OsD
-
-  -- a proxy reads these on the legs of its number
-  reads_co : (k : ℕ) → down.proxy_reads (ours.out_config k) (leg_at ClientOut k) ≡ Some CoU
-  reads_co k =
-      subst (λ (n : ℕ). down.proxy_reads (record (ours.out_config k) { number = n })
-      (leg_at ClientOut k) ≡ Some CoU) (sym (ours.out_number k))
-      (ap (λ (b : Bool). if b then Some CoU else Some OsD) (same_itself (leg_at ClientOut k)))
-
-  reads_is : (k : ℕ) → pipes.in_pipe (ours.in_config k) (leg_at InServer k) ≡ Some IsD
-  reads_is k =
-      subst (λ (n : ℕ). pipes.in_pipe (record (ours.in_config k) { number = n })
-      (leg_at InServer k) ≡ Some IsD) (sym (ours.in_number k))
-      (ap (λ (b : Bool). if b then Some IsD else None) (eq-eqb k k refl))
-
-  reads_pipe : (kind : LegKind) (n : ℕ) (dir : Dir)
-      → pipe_read (end_node later (leg_at kind n) (receiver dir)) (leg_at kind n)
-      ≡ pipe_on kind dir
-  reads_pipe ClientIn n U = refl
-  reads_pipe ClientIn n D = refl
-  reads_pipe InServer n U = refl
-  reads_pipe InServer n D = reads_is n
-  reads_pipe ClientOut n U = reads_co n
-  reads_pipe ClientOut n D = refl
-  reads_pipe OutServer n U = refl
-  reads_pipe OutServer n D = refl
+  -- ---- what was put on each direction of a leg
 
   module _ (leg : Leg) where
     client_source : Begins (client_legible.pipe_put leg) (put_by who.Client leg)
@@ -197,7 +199,7 @@ module _ {K : Type 0} (law : Reads) (m : Makers K InProxy OutProxy)
 
   source : (kind : LegKind) (n : ℕ) (dir : Dir)
       → (let node = end_node readers (leg_at kind n) (sender dir) in
-      Source (pipe_on kind dir) (put_by node (leg_at kind n)) (drawn_there node (leg_at kind n)))
+      Source (read_on kind dir) (put_by node (leg_at kind n)) (drawn_there node (leg_at kind n)))
   source ClientIn n U = client_source (leg_at ClientIn n) (starts.client_in n)
   source ClientOut n U = client_source (leg_at ClientOut n) (starts.client_out n)
   source InServer n D = server_source (leg_at InServer n) (starts.server_in n)
@@ -226,11 +228,12 @@ module _ {K : Type 0} (law : Reads) (m : Makers K InProxy OutProxy)
       let puts = end_node readers leg (sender dir) in
       let takes = end_node later leg (receiver dir) in
       let heard = heard_on leg (events_of behind takes) in
-      from_source law (pipe_on leg.kind dir) (put_by puts leg) (came_to takes leg)
+      from_source law (read_on leg.kind dir) (put_by puts leg) (came_to takes leg)
       (drawn_there puts leg) heard (source leg.kind leg.number dir)
       (from_node puts leg heard (before leg dir))
       (subst (λ (pipe : Option Pipe). IsPrefix (came_to takes leg) (messages_read pipe heard))
-      (reads_pipe leg.kind leg.number dir) (is_read takes leg))
+      (sym (reads_on ours (reader_of later leg.number) leg.number leg.kind dir))
+      (is_read takes leg))
 
   node_fine : (node : Who) (leg : Leg) → AllByRecursion IsFineMessage (came_to node leg)
   node_fine node leg =
@@ -255,7 +258,7 @@ module _ {K : Type 0} (law : Reads) (m : Makers K InProxy OutProxy)
       by true e s k = here side.Client e (end_fine leg D)
       by false e true k = here side.Server k (end_fine leg U)
       by false e false k =
-          from_nothing (pipe_read node leg) (came_to node leg)
+          from_nothing (node_reads ours node leg) (came_to node leg)
           (heard_on leg (events_of behind node)) (alone node leg none) (is_read node leg)
         where
           none : (end : Side) → end_node later leg end ≡ node → ⊥

@@ -23,9 +23,10 @@ use Rattle.rh_told.specs.Moments.{end_given, end_taken, next_take}
 use Rattle.rh_traced.specs.Cookies.{ByChanges, has_whole_cookie}
 use Rattle.rh_traced.specs.Ours.{AreOurs, deeds, rules}
 use Rattle.rh_traced.proofs.ByChanges.{lines_by_changes}
-use Rattle.rh_ordered.specs.Premises.{HasAll, KeepsOrder, history_at}
+use Rattle.rh_ordered.specs.Premises.{HasAll, KeepsOrder}
 use Rattle.rh_nodes.specs.Readers.{reader_of}
 use Rattle.rh_traced.specs.Numbers.{is_made}
+use Rattle.rh_traced.specs.Recordings.{history_at}
 use Rattle.rh_fifo.specs.Directions.{Directions}
 use Rattle.rh_fifo.specs.Flows.{numbers_of}
 use Rattle.rh_fifo.proofs.Fronts.{Ended, IsInOrder, in_order}

@@ -1,6 +1,8 @@
-mod Legs
+pub mod Legs
 pub mod Fine
 pub mod Heard
+pub mod Joined
+pub mod Distinct
 pub mod Flowing
 pub mod Starting
 mod Legal

@@ -1,7 +1,12 @@
 -- what passed the nodes of a recording by its history (profile)
 use Rattle.std.specs.Prelude.{◌≡◌, ℕ, Some, None}
+use Rattle.std.specs.declared.option.Option.{Option}
+use Rattle.rh_text.specs.declared.ends.Dir.{Dir}
+use Rattle.rh_text.specs.declared.ends.Dir.TheVariants.{U, D}
 use Rattle.rh_http.specs.declared.config.ClientConfig.{ClientConfig}
+use Rattle.rh_sig.specs.declared.name.Pipe.{Pipe}
 use Rattle.rh_sig.specs.declared.name.Pipe.TheVariants.{CiU, IsU, IsD, CoU, CoD, OsU, OsD}
+use Rattle.rh_line.specs.declared.leg.LegKind.{LegKind}
 use Rattle.rh_line.specs.declared.leg.LegKind.TheVariants.{ClientOut, OutServer, ClientIn, InServer}
 use Rattle.rh_shell.specs.Shells.{begun}
 use Rattle.rh_shell.specs.Wires.{of_leg}
@@ -51,6 +56,18 @@ numbers_of ours = record {
   ins = ours.in_config;
   outs = ours.out_config;
 }
+
+-- the pipe that is read where a direction of a leg goes; to a client no packet comes on a ci leg
+-- (MS-RPCH 2.2.4)
+abbrev pub read_on : LegKind → Dir → Option Pipe
+read_on ClientOut U = Some CoU
+read_on ClientOut D = Some CoD
+read_on OutServer U = Some OsU
+read_on OutServer D = Some OsD
+read_on ClientIn U = Some CiU
+read_on ClientIn D = None
+read_on InServer U = Some IsU
+read_on InServer D = Some IsD
 
 -- each node's stream
 pub record Flows (numbers : Numbers) (h : History) : Type 0 where

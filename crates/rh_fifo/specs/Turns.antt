@@ -13,7 +13,8 @@ use Rattle.rh_events.specs.Order.{IsPrefix}
 use Rattle.rh_told.specs.Moments.{end_given, end_taken, next_take}
 use Rattle.rh_traced.specs.Cookies.{ByChanges}
 use Rattle.rh_traced.specs.Ours.{deeds, rules}
-use Rattle.rh_ordered.specs.Premises.{HasAll, history_at}
+use Rattle.rh_traced.specs.Recordings.{history_at}
+use Rattle.rh_ordered.specs.Premises.{HasAll}
 use Rattle.rh_fifo.specs.Directions.{BothMark}
 use Rattle.rh_fifo.specs.Flows.{Numbers}
 

@@ -9,7 +9,7 @@ ghost use Rattle.rh_server.specs.States.{Server};
 ghost use Rattle.rh_history.specs.Histories.{IsNew};
 ghost use Rattle.rh_traced.specs.Cookies.{ByChanges};
 ghost use Rattle.rh_traced.specs.Ours.{AreOurs, deeds, rules};
-ghost use Rattle.rh_ordered.specs.Premises.{history_at};
+ghost use Rattle.rh_traced.specs.Recordings.{history_at};
 ghost use Rattle.rh_fifo.specs.Directions.{BothMark, Directions};
 ghost use Rattle.rh_fifo.specs.Flows.{IsFlowing, numbers_of};
 ghost use Rattle.rh_fifo.specs.Premises.{AreInRange};

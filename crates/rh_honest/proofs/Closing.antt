@@ -33,7 +33,8 @@ use Rattle.rh_history.specs.Histories.{in_place, out_place}
 use Rattle.rh_history.proofs.Numbers.{answered}
 use Rattle.rh_traced.specs.Ours.{rules}
 use Rattle.rh_honest.specs.Causes.{IsOfHeard, RowRefuses}
-use Rattle.rh_honest.specs.Honest.{IsOfNode, read_on}
+use Rattle.rh_fifo.specs.Flows.{read_on}
+use Rattle.rh_honest.specs.Honest.{IsOfNode}
 use Rattle.rh_honest.specs.Rows.{IsOfAck, RefusesAcks}
 use Rattle.rh_honest.proofs.Fed.{told_what}
 

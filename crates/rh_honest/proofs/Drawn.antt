@@ -63,9 +63,9 @@ use Rattle.rh_streams.proofs.LegLogs.{on_leg}
 use Rattle.rh_proxies_begin.specs.Pipes as pipes
 use Rattle.rh_down.specs.Down as down
 use Rattle.rh_traced.specs.Ours.{AreOurs, deeds, rules}
-use Rattle.rh_fifo.specs.Flows.{IsFlowing, numbers_of}
-use Rattle.rh_fifo.proofs.Heard.{from_client, from_in, from_out, from_server}
-use Rattle.rh_honest.specs.Honest.{read_on, well_on}
+use Rattle.rh_fifo.specs.Flows.{IsFlowing, numbers_of, read_on}
+use Rattle.rh_fifo.proofs.Heard.{as_first, from_client, from_in, from_out, from_server}
+use Rattle.rh_honest.specs.Honest.{well_on}
 
 -- ---- the laws that this stands on
 
@@ -209,15 +209,6 @@ module _ {S : Type 0} (law : Texts) (its : Rules S) (start : S) (rooms : Rooms)
       (prefix_trans bytes drawn (refusal_text refused.1) p refused.2)
 
 -- ---- what each node drew
-
--- by the cast of the first world
-pub as_first : {K : Type 0} (m : Makers K InProxy OutProxy)
-    (w v : World K ClientRole Server InProxy OutProxy) → v.cast ≡ w.cast → (h : History)
-    (node : Who) (leg : Leg) (bytes : List ℕ)
-    → IsPrefix bytes (drawn_by rules m deeds w.company v.cast h node leg)
-    → IsPrefix bytes (drawn_by rules m deeds w.company w.cast h node leg)
-as_first {K} m w v cast h node leg bytes p =
-    subst (λ (k : K). IsPrefix bytes (drawn_by rules m deeds w.company k h node leg)) cast p
 
 module _ {K : Type 0} (law : Texts) (m : Makers K InProxy OutProxy)
     (w v : World K ClientRole Server InProxy OutProxy) (ours : AreOurs m w.company w.cast)

@@ -8,7 +8,6 @@ use Rattle.rh_text.specs.declared.ends.Dir.{Dir}
 use Rattle.rh_text.specs.declared.ends.Dir.TheVariants.{U, D}
 use Rattle.rh_text.specs.declared.ends.Side.TheVariants as side
 use Rattle.rh_sig.specs.declared.name.Pipe.{Pipe}
-use Rattle.rh_sig.specs.declared.name.Pipe.TheVariants.{IsD, CoU, OsD}
 use Rattle.rh_line.specs.declared.cause.Cause.{Cause}
 use Rattle.rh_line.specs.declared.leg.Leg.{Leg}
 use Rattle.rh_line.specs.declared.leg.LegKind.{LegKind}
@@ -21,22 +20,20 @@ use Rattle.rh_shell.specs.Moving as moving
 use Rattle.rh_shell.specs.Moving.{EndEvent, after_end_events, after_events}
 use Rattle.rh_shell.specs.NearEnds.{NearEnd}
 use Rattle.rh_shell.specs.Rules.{Acts, Message, Rules}
-use Rattle.rh_shell.specs.Shells.{Shell, begun, end_at, same_leg}
+use Rattle.rh_shell.specs.Shells.{Shell, begun, end_at}
 use Rattle.rh_shell.specs.Wires.{of_leg}
 use Rattle.rh_nodes.specs.declared.event.Event.{Event}
 use Rattle.rh_nodes.specs.declared.event.Event.TheVariants.{Comes}
 use Rattle.rh_nodes.specs.declared.place.Place.{Place}
 use Rattle.rh_nodes.specs.declared.place.Place.TheVariants.{Absent, Here, Gone}
 use Rattle.rh_nodes.specs.Company as company
-use Rattle.rh_nodes.specs.Company.{Company}
 use Rattle.rh_nodes.specs.Halves.{is_same}
 use Rattle.rh_nodes.specs.Legs as legs
 use Rattle.rh_nodes.specs.Opening.{Makers}
 use Rattle.rh_nodes.specs.Places as places
 use Rattle.rh_nodes.specs.Readers.{reader_of}
-use Rattle.rh_nodes.specs.Settling.{leg_at}
 use Rattle.rh_nodes.specs.Wires.{receiver}
-use Rattle.rh_nodes.specs.World.{World, at, node_by}
+use Rattle.rh_nodes.specs.World.{World, at}
 use Rattle.rh_client.specs.declared.state.ClientRole.{ClientRole}
 use Rattle.rh_client.specs.Client as client
 use Rattle.rh_client.specs.State as client_state
@@ -58,12 +55,10 @@ use Rattle.rh_history.proofs.Numbers.{answered}
 use Rattle.rh_history.proofs.Wired.{same_itself}
 use Rattle.rh_reading.specs.Well.{Answers, ReadsWell, is_named, is_packet}
 use Rattle.rh_streams.specs.Streams.{EndStream, Seated, Stream}
-use Rattle.rh_proxies_begin.specs.Pipes as pipes
-use Rattle.rh_down.specs.Down as down
 use Rattle.rh_traced.specs.Ours.{AreOurs, deeds, rules}
-use Rattle.rh_fifo.specs.Flows.{IsFlowing, numbers_of}
+use Rattle.rh_fifo.specs.Flows.{IsFlowing, numbers_of, read_on}
 use Rattle.rh_honest.specs.Causes.{AreStrict, IsOfHeard}
-use Rattle.rh_honest.specs.Honest.{IsOfNode, read_on, well_on}
+use Rattle.rh_honest.specs.Honest.{IsOfNode, well_on}
 
 -- ---- the laws that this stands on
 
@@ -97,37 +92,6 @@ strict_on OutServer U = named_strict
 strict_on OutServer D = named_strict
 strict_on InServer U = named_strict
 strict_on InServer D = named_strict
-
--- ---- what each node reads
-
-module _ {K : Type 0} {m : Makers K InProxy OutProxy}
-    {first : Company ClientRole Server InProxy OutProxy} {cast : K}
-    (ours : AreOurs m first cast) where
-  abbrev pub node_reads : Who → Leg → Option Pipe
-  node_reads who.Client leg = down.client_reads leg
-  node_reads who.Server leg = down.server_reads leg
-  node_reads (who.In n) leg = pipes.in_pipe (ours.in_config n) leg
-  node_reads (who.Out n) leg = down.proxy_reads (ours.out_config n) leg
-
-  its_own : (kind : LegKind) (a b : ℕ) → a ≡ b → same_leg (leg_at kind a) (leg_at kind b) ≡ true
-  its_own kind a b same =
-      subst (λ (n : ℕ). same_leg (leg_at kind a) (leg_at kind n) ≡ true) same
-      (same_itself (leg_at kind a))
-
-  pub reads_on : (reader n : ℕ) (kind : LegKind) (dir : Dir)
-      → read_on kind dir ≡ node_reads (node_by reader n kind (receiver dir)) (leg_at kind n)
-  reads_on reader n ClientOut U =
-      sym (ap (λ (t : Bool). if t then Some CoU else Some OsD)
-      (its_own ClientOut (ours.out_config n).number n (ours.out_number n)))
-  reads_on reader n ClientOut D = refl
-  reads_on reader n OutServer U = refl
-  reads_on reader n OutServer D = refl
-  reads_on reader n ClientIn U = refl
-  reads_on reader n ClientIn D = refl
-  reads_on reader n InServer U = refl
-  reads_on reader n InServer D =
-      sym (ap (λ (t : Bool). if t then Some IsD else None)
-      (its_own InServer (ours.in_config n).number n (ours.in_number n)))
 
 -- ---- what is told to the node
 

@@ -54,16 +54,14 @@ use Rattle.rh_ends_begin.specs.Begins.{Asks, BeginsLegs, IsRequestOf}
 use Rattle.rh_traced.specs.Ours.{AreOurs, deeds, rules}
 use Rattle.rh_fifo.specs.Flows.{IsFlowing, numbers_of}
 use Rattle.rh_fifo.specs.Premises.{AreInRange}
-use Rattle.rh_fifo.proofs.Heard.{from_client, from_in, from_out}
-use Rattle.rh_refused.specs.Refused.{IsPort}
-use Rattle.rh_refused.proofs.InTexts.{IsEcho, echo_begins, echoes_alone}
-use Rattle.rh_refused.proofs.Losses.{whole_requests}
-use Rattle.rh_refused.proofs.Moments.{head_is}
-use Rattle.rh_refused.proofs.OutTexts.{Succeeds, in_range, puts_200, success_begins}
-use Rattle.rh_refused.proofs.Requests.{BegunBy, answered, head_holds, short, whole_verdict}
-use Rattle.rh_refused.proofs.Taken.{asked_for, in_asks, out_asks}
+use Rattle.rh_fifo.proofs.Heard.{as_first, from_client, from_in, from_out}
+use Rattle.rh_first_texts.specs.Ports.{IsPort}
+use Rattle.rh_first_texts.proofs.InTexts.{IsEcho, echo_begins, echoes_alone}
+use Rattle.rh_first_texts.proofs.Asking.{head_is, whole_requests}
+use Rattle.rh_first_texts.proofs.OutTexts.{Succeeds, in_range, puts_200, success_begins}
+use Rattle.rh_first_texts.proofs.Requests.{BegunBy, answered, head_holds, short, whole_verdict}
+use Rattle.rh_first_texts.proofs.Taken.{asked_for, in_asks, out_asks}
 use Rattle.rh_honest.specs.Heads.{HeadIsRead, IsRequest, IsResponse}
-use Rattle.rh_honest.proofs.Drawn.{as_first}
 
 -- ---- the laws that this stands on
 

@@ -1,14 +1,11 @@
 -- why an honest node closes by what is fed to it (MS-RPCH 3.2)
-use Rattle.std.specs.Prelude.{ℕ, List, Some, None}
-use Rattle.std.specs.declared.option.Option.{Option}
+use Rattle.std.specs.Prelude.{ℕ, List}
 use Rattle.rh_text.specs.declared.ends.Dir.{Dir}
-use Rattle.rh_text.specs.declared.ends.Dir.TheVariants.{U, D}
-use Rattle.rh_sig.specs.declared.name.Pipe.{Pipe}
-use Rattle.rh_sig.specs.declared.name.Pipe.TheVariants.{CiU, IsU, IsD, CoU, CoD, OsU, OsD}
+use Rattle.rh_text.specs.declared.ends.Dir.TheVariants.{D}
 use Rattle.rh_line.specs.declared.cause.Cause.{Cause}
 use Rattle.rh_line.specs.declared.leg.Leg.{Leg}
 use Rattle.rh_line.specs.declared.leg.LegKind.{LegKind}
-use Rattle.rh_line.specs.declared.leg.LegKind.TheVariants.{ClientOut, OutServer, ClientIn, InServer}
+use Rattle.rh_line.specs.declared.leg.LegKind.TheVariants.{ClientOut, ClientIn}
 use Rattle.rh_record.specs.declared.answer.Who.{Who}
 use Rattle.rh_record.specs.declared.answer.Who.TheVariants.{Client, Server, In, Out}
 use Rattle.rh_client.specs.Client as client
@@ -16,19 +13,8 @@ use Rattle.rh_inproxy.specs.Machine as in_proxy
 use Rattle.rh_outproxy.specs.Machine as out_proxy
 use Rattle.rh_server.specs.Servers as server
 use Rattle.rh_reading.specs.Well.{Answers, is_named, is_packet}
+use Rattle.rh_fifo.specs.Flows.{read_on}
 use Rattle.rh_honest.specs.Causes.{IsOfHeard}
-
--- the pipe that is read where a direction of a leg goes; to a client no packet comes on a ci leg
--- (MS-RPCH 2.2.4)
-abbrev pub read_on : LegKind → Dir → Option Pipe
-read_on ClientOut U = Some CoU
-read_on ClientOut D = Some CoD
-read_on OutServer U = Some OsU
-read_on OutServer D = Some OsD
-read_on ClientIn U = Some CiU
-read_on ClientIn D = None
-read_on InServer U = Some IsU
-read_on InServer D = Some IsD
 
 -- what reads well there: each packet has a name. But to a client an answer to an echo request may
 -- be put, and the packet in that has none (MS-RPCH 2.1.2)

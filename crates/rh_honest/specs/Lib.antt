@@ -2,4 +2,3 @@ pub mod Heads
 pub mod Causes
 pub mod Rows
 pub mod Honest
-pub mod Cookies

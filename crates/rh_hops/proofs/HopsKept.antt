@@ -55,10 +55,10 @@ use Rattle.rh_traced.specs.Cookies.{ByChanges}
 use Rattle.rh_traced.specs.Ours.{AreOurs, deeds, rules}
 use Rattle.rh_fifo.specs.Flows.{IsFlowing, numbers_of}
 use Rattle.rh_fifo.specs.Premises.{AreInRange}
-use Rattle.rh_fifo.proofs.Heard.{from_in, from_out, from_server}
+use Rattle.rh_fifo.proofs.Heard.{from_in, from_out, from_server, reads_on}
 use Rattle.rh_honest.specs.Honest.{well_on}
 use Rattle.rh_honest.proofs.Drawn.{free_by}
-use Rattle.rh_honest.proofs.Fed.{reads_on, strict_on}
+use Rattle.rh_honest.proofs.Fed.{strict_on}
 use Rattle.rh_hops.specs.Hops.{is_leg, os_leg, ReceivesWithin, SendsWithin}
 use Rattle.rh_hops.proofs.Fed.{piece, in_events, out_events, heard_behind}
 use Rattle.rh_hops.proofs.Hop.{never_exceeded, never_out_of_range}

@@ -28,10 +28,9 @@ use Rattle.rh_history.proofs.Working.{works_more}
 use Rattle.rh_reading.specs.Well.{ReadsWell}
 use Rattle.rh_traced.specs.Cookies.{ByChanges}
 use Rattle.rh_traced.specs.Ours.{AreOurs, deeds, rules}
-use Rattle.rh_traced.specs.Recordings.{IsKnown}
-use Rattle.rh_ordered.specs.Premises.{history_at}
-use Rattle.rh_fifo.specs.Flows.{IsFlowing, numbers_of}
-use Rattle.rh_honest.specs.Honest.{read_on, well_on}
+use Rattle.rh_traced.specs.Recordings.{IsKnown, history_at}
+use Rattle.rh_fifo.specs.Flows.{IsFlowing, numbers_of, read_on}
+use Rattle.rh_honest.specs.Honest.{well_on}
 use Rattle.rh_honest.proofs.HeardWell.{going_is}
 use Rattle.rh_hops.proofs.OneByte.{AtByte, at_byte}
 

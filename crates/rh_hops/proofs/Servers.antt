@@ -42,8 +42,8 @@ use Rattle.rh_streams.proofs.LegLogs.{on_leg}
 use Rattle.rh_down.specs.Down as down
 use Rattle.rh_traced.specs.Cookies.{ByChanges}
 use Rattle.rh_traced.specs.Ours.{AreOurs, deeds, rules}
-use Rattle.rh_fifo.specs.Flows.{IsFlowing, numbers_of}
-use Rattle.rh_honest.specs.Honest.{read_on, well_on}
+use Rattle.rh_fifo.specs.Flows.{IsFlowing, numbers_of, read_on}
+use Rattle.rh_honest.specs.Honest.{well_on}
 use Rattle.rh_honest.proofs.Fed.{strict_on}
 use Rattle.rh_hops.specs.Refusing.{refused_by}
 use Rattle.rh_hops.proofs.Fed.{piece, server_heard, server_behind}

@@ -148,23 +148,3 @@ module _ (config : ClientConfig) (moves : List EndMove) (opens : OpensInChannels
             follows = subst (λ (c : Cookie). Comes (ci (suc k)) c ⊎ ((k ≡ 0) × Early (ci 1)))
                 same.1 h.follows;
           }
-
-  -- ---- either
-
-  abbrev pub IsConnB1 : Named → Type 0
-  IsConnB1 (ConnB1 version connection channel lifetime keepalive group) = Unit {0}
-  IsConnB1 packet = ⊥
-
-  no_conn_b1 : (IsNext : Cookie → Type 0) (m : Named) → IsBehindPacket IsNext m → IsConnB1 m → ⊥
-  no_conn_b1 IsNext (ConnB1 version connection channel lifetime keepalive group) h is = h
-  no_conn_b1 IsNext m h is = is
-
-  -- CONN/B1 is on the first
-  pub conn_b1_on : (n : ℕ) → HasOne IsConnB1 (put n) → n ≡ 1
-  conn_b1_on n has =
-      let first = first_is IsConnB1 no_conn_b1 n has in
-      by first.0 first.1 first.2 first.3.0 first.3.1
-    where
-      by : (k : ℕ) → n ≡ suc k → (m : Named) → Begin k m → IsConnB1 m → n ≡ 1
-      by zero number m h is = number
-      by (suc k) number m h is = absurd (subst IsConnB1 h.is is)

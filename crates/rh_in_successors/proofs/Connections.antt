@@ -17,8 +17,9 @@ use Rattle.rh_proxy_counts.specs.OutCounts.{NamesNew}
 use Rattle.rh_outproxy_puts.specs.Puts.{AcksPacket, IsAck, IsToServer, OpensServer}
 use Rattle.rh_inproxy_puts.specs.Puts as puts
 use Rattle.rh_inproxy_puts.specs.Puts.{ci, IsRest, IsStream}
+use Rattle.rh_server_expects.proofs.Streams.{first_one}
 use Rattle.rh_in_successors.proofs.Logs.{each_one}
-use Rattle.rh_in_successors.proofs.Streams.{first_one, pings_rest}
+use Rattle.rh_in_successors.proofs.Streams.{pings_rest}
 
 -- ---- the client's CONN/A1
 

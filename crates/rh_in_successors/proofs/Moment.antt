@@ -42,14 +42,15 @@ use Rattle.rh_moments.specs.Expecting.{IsAhead}
 use Rattle.rh_moments.specs.Moments.{IsMoment, Moves, Numbers, client_behind, in_behind, out_behind, passages, server_behind}
 use Rattle.rh_moments.proofs.Joining.{co_front, in_front, in_reads, is_front, os_front}
 use Rattle.rh_moments.proofs.Read.{front_one}
+use Rattle.rh_server_expects.proofs.Logs.{counted_some, leg_of_all, some_leg}
+use Rattle.rh_server_expects.proofs.Streams.{first_one}
 use Rattle.rh_in_channels.specs.Announcing.{AnnounceNext, AreAnnounced, IsAnnouncedOn, channels}
 use Rattle.rh_in_successors.specs.Connected.{AreConnected}
 use Rattle.rh_in_successors.proofs.Begins as begins
 use Rattle.rh_in_successors.proofs.Connections.{connects_asked, new_of, stream_asked}
-use Rattle.rh_in_successors.proofs.Logs.{leg_of_kind, one_counts, some_leg}
 use Rattle.rh_in_successors.proofs.Numbered.{asked_on, up_most}
 use Rattle.rh_in_successors.proofs.Opened.{Opening, conn_b2_came, not_opening}
-use Rattle.rh_in_successors.proofs.Streams.{came_stream, first_one, last_begun}
+use Rattle.rh_in_successors.proofs.Streams.{came_stream, last_begun}
 use Rattle.rh_in_successors.proofs.Sums.{reader_behind, sum_both}
 use Rattle.rh_in_successors.proofs.Ups.{came_up_at, ups_at, ups_summed}
 
@@ -181,12 +182,12 @@ module _ (numbers : Numbers) (reader : ℕ → ℕ) (moves : Moves)
   counts_asked : (k : ℕ) → HasOne IsInR1A1 (of_leg (ci k) client.put)
       → 1 ≤ count_on is_in_r1_a1 ClientIn client.put k
   counts_asked k has =
-      one_counts IsInR1A1 is_in_r1_a1 in_r1_a1_counts (of_leg (ci k) client.put) has
+      counted_some IsInR1A1 is_in_r1_a1 in_r1_a1_counts (of_leg (ci k) client.put) has
 
   pub asked_some : (k : ℕ) → HasOne IsInR1A1 (of_leg (ci k) client.put) → 1 ≤ in_asked client
   asked_some k has =
       let here = counts_asked k has in
-      let all = leg_of_kind is_in_r1_a1 ClientIn client.put k in omega (arith, here, all)
+      let all = leg_of_all is_in_r1_a1 ClientIn client.put k in omega (arith, here, all)
 
   pub asked_number : (k : ℕ) → HasOne IsInR1A1 (of_leg (ci k) client.put)
       → (2 ≤ k) × (k ≤ in_asked client + 1)

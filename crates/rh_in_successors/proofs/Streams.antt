@@ -1,5 +1,5 @@
 -- what came of what an in proxy put on its is leg: a stream as it was put, without Pings
-use Rattle.std.proofs.Common.{◌≡◌, ℕ, suc, ◌+◌, ◌≤◌, List, [], ◌∷◌, ◌++◌, Some, None, inl, refl, sym, subst, arith}
+use Rattle.std.proofs.Common.{◌≡◌, ℕ, suc, ◌+◌, ◌≤◌, List, [], ◌∷◌, ◌++◌, Some, None, refl, sym, subst, arith}
 use Rattle.std.specs.List.{AllByRecursion}
 use mathlib.Core.List.{IsPrefix}
 use Rattle.rh_rts.specs.declared.command.Cookie.{Cookie}
@@ -16,15 +16,9 @@ use Rattle.rh_server_counts.specs.Counting.{is_conn_b2, is_in_r1_a2, is_in_r1_a6
 use Rattle.rh_server_in_rows.specs.Refusing.{last_of, named_by}
 use Rattle.rh_inproxy_puts.specs.Puts as puts
 use Rattle.rh_inproxy_puts.specs.Puts.{ci, CameOn, IsFirst, IsFront, IsPing, IsRest, IsStream, Joins}
+use Rattle.rh_server_expects.proofs.Streams.{first_one}
 
 -- ---- packets
-
--- what came first came
-pub first_one : (Is : Named → Type 0) (ms : List Message) → IsFront Is ms → HasOne Is ms
-first_one Is [] h = absurd h
-first_one Is (Text bytes ∷ ms) h = absurd h
-first_one Is (Pdu pdu ∷ ms) h = absurd h
-first_one Is (Packet m ∷ ms) h = inl h
 
 connects_begins : (connection channel group : Cookie) (m : Named)
     → puts.Connects connection channel group m → BeginsIn channel m

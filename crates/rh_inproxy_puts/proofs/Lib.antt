@@ -11,6 +11,5 @@ mod Fresh
 mod Laws
 mod Picks
 mod Ends
-mod Asked
 mod Windows
 mod Sends

@@ -1,17 +1,16 @@
 -- what stands on the is leg of an in proxy only behind what came, and what nothing stands behind
 -- (MS-RPCH 3.2.1, 3.2.3; the end is this profile's)
-use Rattle.std.specs.Prelude.{ℕ, ◌≡◌, ◌≤◌, ◌+◌, List, [], ◌∷◌, Bool, true, false}
+use Rattle.std.specs.Prelude.{ℕ, ◌≤◌, ◌+◌, List, [], ◌∷◌, Bool, true, false}
 use Rattle.std.specs.List.{AllByRecursion}
 use Rattle.rh_sig.specs.declared.named.Named.{Named}
-use Rattle.rh_sig.specs.declared.named.Named.TheVariants.{ConnB1, ConnB3, InR1A1, InR1B2, EndA2}
+use Rattle.rh_sig.specs.declared.named.Named.TheVariants.{ConnB3, InR1B2, EndA2}
 use Rattle.rh_shell.specs.Rules.{Message, Text, Pdu, Packet}
 use Rattle.rh_shell.specs.Moves.{Passage}
 use Rattle.rh_shell.specs.Wires.{of_leg}
 use Rattle.rh_passages.specs.Passing.{count_of}
 use Rattle.rh_inproxy.specs.declared.state.InProxyConfig.{InProxyConfig}
 use Rattle.rh_inproxy.specs.State.{InProxy}
-use Rattle.rh_inproxy.specs.Machine.{rules}
-use Rattle.rh_inproxy_puts.specs.Puts.{is_leg, CameFirst, HasPdu}
+use Rattle.rh_inproxy_puts.specs.Puts.{is_leg, HasPdu}
 
 -- ---- the window of the server
 
@@ -45,16 +44,3 @@ abbrev pub EndsLast : List Message → Type 0
 EndsLast [] = Unit {0}
 EndsLast (Packet EndA2 ∷ messages) = AllByRecursion MayFollowEnd messages
 EndsLast (message ∷ messages) = EndsLast messages
-
--- ---- the is leg
-
--- CONN/B1 or IN_R1/A1
-abbrev pub Opens : Named → Type 0
-Opens (ConnB1 version connection channel lifetime keepalive group) = Unit {0}
-Opens (InR1A1 version connection predecessor successor) = Unit {0}
-Opens packet = ⊥
-
--- the is leg was up only where one of them came first on the lowest ci leg
-abbrev pub ConnectsWhereAsked : InProxyConfig → Passage InProxy → Type 0
-ConnectsWhereAsked config p =
-    rules.was_up p.role (is_leg config.number) ≡ true → CameFirst config.number Opens p.came

@@ -15,7 +15,7 @@ ghost use Rattle.rh_history.specs.Histories.{IsNew};
 ghost use Rattle.rh_streams.specs.Streams.{is_up_on};
 ghost use Rattle.rh_traced.specs.Cookies.{ByChanges};
 ghost use Rattle.rh_traced.specs.Ours.{AreOurs, deeds, rules};
-ghost use Rattle.rh_ordered.specs.Premises.{history_at};
+ghost use Rattle.rh_traced.specs.Recordings.{history_at};
 ghost use Rattle.rh_fifo.specs.Flows.{IsFlowing, numbers_of};
 
 use rh_traced::a_recording_of_roles_is_known;

@@ -6,7 +6,6 @@ use Rattle.rh_line.specs.declared.state.Take.TheVariants as takes
 use Rattle.rh_nodes.specs.Opening.{Makers}
 use Rattle.rh_nodes.specs.World.{World}
 use Rattle.rh_history.specs.Changes.{Change, Leads, WorksBy}
-use Rattle.rh_history.specs.Histories.{History, all_noted, nothing}
 use Rattle.rh_client.specs.declared.state.ClientRole.{ClientRole}
 use Rattle.rh_inproxy.specs.State.{InProxy}
 use Rattle.rh_outproxy.specs.OutProxy.{OutProxy}
@@ -15,12 +14,8 @@ use Rattle.rh_events.specs.Events.{other}
 use Rattle.rh_events.specs.Order.{IsPrefix}
 use Rattle.rh_told.specs.Moments.{end_given, end_taken, next_take}
 use Rattle.rh_traced.specs.Ours.{deeds, rules}
+use Rattle.rh_traced.specs.Recordings.{history_at}
 use Rattle.rh_ordered.specs.Ends.{IsClosing}
-
--- what happened until a moment of a run
-abbrev pub history_at : {K : Type 0} (m : Makers K InProxy OutProxy)
-    (w v : World K ClientRole Server InProxy OutProxy) → Leads rules m deeds w v → History
-history_at m w v leads = all_noted rules m deeds w nothing leads.changes
 
 -- all that the other end gave was taken at this one, and the other was told to close
 pub record HasAll {K : Type 0} (m : Makers K InProxy OutProxy)

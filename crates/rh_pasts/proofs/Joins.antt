@@ -35,11 +35,10 @@ use Rattle.rh_history.specs.Histories.{History}
 use Rattle.rh_reading.specs.Reading.{all_read_of, messages_read}
 use Rattle.rh_traced.specs.Ours.{AreOurs, deeds, rules}
 use Rattle.rh_down.specs.Down as down
-use Rattle.rh_fifo.specs.Flows.{Flows, IsFlowing, numbers_of}
-use Rattle.rh_honest.specs.Honest.{read_on}
-use Rattle.rh_honest.proofs.Fed.{node_reads, reads_on}
-use Rattle.rh_client_hops.proofs.Joined.{Reads, all, reads_put}
-use Rattle.rh_client_hops.proofs.Routes as routes
+use Rattle.rh_fifo.specs.Flows.{Flows, IsFlowing, numbers_of, read_on}
+use Rattle.rh_fifo.proofs.Heard.{node_reads, reads_on}
+use Rattle.rh_fifo.proofs.Legs.{Reads}
+use Rattle.rh_fifo.proofs.Joined.{all, reads_put}
 use Rattle.rh_moments.specs.Moments as moments
 use Rattle.rh_moments.specs.Moments.{AreJoined}
 use Rattle.rh_pasts.specs.Pasts.{numbers}
@@ -65,7 +64,7 @@ module _ {K : Type 0} (reads : Reads) (m : Makers K InProxy OutProxy)
   abbrev pub f : Flows (numbers_of ours) h
   f = flowing.flows
 
-  abbrev pub passed : routes.Passages
+  abbrev pub passed : moments.Passages
   passed = all reads m w u ours h flowing
 
   -- by this history nodes heard what others had drawn here
@@ -138,7 +137,7 @@ module _ {K : Type 0} (reads : Reads) (m : Makers K InProxy OutProxy)
       abbrev first_server : EndPassage Server
       first_server = end_started (server.first ours.window)
 
-      puts : (node : Who) → IsPrefix (routes.put_by passed node) (moments.put_by now node)
+      puts : (node : Who) → IsPrefix (moments.put_by passed node) (moments.put_by now node)
       puts who.Client =
           subst (λ (p : EndPassage ClientRole). IsPrefix p.passage.put now.client.put)
           f.client.leads.reached
@@ -196,7 +195,7 @@ module _ {K : Type 0} (reads : Reads) (m : Makers K InProxy OutProxy)
           let gives = end_node u.readers leg (sender dir) in
           let came = of_leg leg (moments.came_to now takes) in
           let bytes = heard_on leg (events takes) in
-          let before = of_leg leg (routes.put_by passed gives) in
+          let before = of_leg leg (moments.put_by passed gives) in
           let put = of_leg leg (moments.put_by now gives) in
           prefix_trans came (all_read_of before) (all_read_of put)
           (prefix_trans came (messages_read (read_on leg.kind dir) bytes) (all_read_of before)
@@ -206,7 +205,7 @@ module _ {K : Type 0} (reads : Reads) (m : Makers K InProxy OutProxy)
           (reads_put reads m w u ours h flowing u.readers leg dir bytes
           (drew_on leg.kind leg.number dir)))
           (read_front before put
-          (leg_front leg (routes.put_by passed gives) (moments.put_by now gives) (puts gives)))
+          (leg_front leg (moments.put_by passed gives) (moments.put_by now gives) (puts gives)))
 
       elsewhere : (node : Who) (leg : Leg)
           → ((end : Side) → end_node u.readers leg end ≡ node → ⊥)

@@ -21,13 +21,15 @@ use Rattle.rh_traced.specs.Numbers.{ComeUpInOrder, HasWholeCookie, HaveWholeCook
 use Rattle.rh_traced.specs.Ours.{AreOurs, deeds, rules}
 use Rattle.rh_traced.specs.Recordings.{IsKnown}
 use Rattle.rh_fifo.specs.Flows.{Flows, IsFlowing, numbers_of}
-use Rattle.rh_client_hops.specs.Premises.{AreDistinct}
-use Rattle.rh_moments.specs.Moments.{HaveCookies, IsMoment}
+use Rattle.rh_fifo.specs.Premises.{AreDistinct}
+use Rattle.rh_moments.specs.Moments.{AreJoined, HaveCookies, IsMoment, passages}
 use Rattle.rh_pasts.specs.Pasts.{HasMoment, moves_of, numbers}
 use Rattle.rh_pasts.proofs.Family.{Family, family, grown_last, last}
+use Rattle.rh_pasts.proofs.Joins.{HeardOf}
 use Rattle.rh_pasts.proofs.Legal.{have_cookies}
+use Rattle.rh_pasts.proofs.Made.{made}
 use Rattle.rh_pasts.proofs.Once.{comes_up_under_one}
-use Rattle.rh_pasts.proofs.Pasts.{AreSized, Here, Laws, OurWorld, Whole, first_is, flowing_at, heard_now, joined_then, last_is, pasts}
+use Rattle.rh_pasts.proofs.Pasts.{AreSized, Here, Laws, OurWorld, Whole, first_is, flowing_at, heard_now, joined_then, last_is, legs_then, pasts}
 
 whole_cookie : (event : Event) → HasWholeCookie event → ComesUpWith IsCookie event
 whole_cookie (ComesUp leg cookie) is = is
@@ -102,29 +104,49 @@ module _ {K : Type 0} (m : Makers K InProxy OutProxy) (w : OurWorld K) (new : Is
   from_none none front is =
       subst (λ (ms : List EndMove). IsPrefix ms front) (sym is) (front, refl)
 
+  -- ---- at the end of all changes
+
+  abbrev u : OurWorld K
+  u = all_changed rules m deeds w by.leads.changes
+
+  abbrev asked : List EndMove
+  asked = f.client.leads.moves
+
+  abbrev served : List EndMove
+  served = f.server.leads.moves
+
+  abbrev now : HeardOf law.reads m w u ours h (flowing_at m w ours law u h f end_is) h
+  now = heard_now m w ours law u h f end_is
+
+  legs_there : AreJoined (reader_of u.readers) (passages (numbers ours) (Whole m w ours law h f))
+  legs_there =
+      legs_then m w ours law u h f end_is h h now now asked served f f (prefix_self asked)
+      (prefix_self asked) (prefix_self served) (prefix_self served) h f
+      (grown_last m (numbers_of ours) u h [] f tt) (prefix_self asked) (prefix_self served)
+
+  legs_here : AreJoined (reader_of v.readers) (passages (numbers ours) (moves_of flowing))
+  legs_here =
+      subst (λ (x : OurWorld K).
+      AreJoined (reader_of x.readers) (passages (numbers ours) (Whole m w ours law h f)))
+      by.leads.reached legs_there
+
   module _ (have : HaveCookies f.client.leads.moves) where
-    moment_there : IsMoment (numbers ours)
-        (reader_of (all_changed rules m deeds w by.leads.changes).readers) (Whole m w ours law h f)
-    moment_there =
-        let u = all_changed rules m deeds w by.leads.changes in
-        let asked = f.client.leads.moves in
-        let served = f.server.leads.moves in
-        let now = heard_now m w ours law u h f end_is in
-        record {
-          now =
-              joined_then m w ours law u h f end_is h h now now asked served f f
-              (prefix_self asked) (prefix_self asked) (prefix_self served) (prefix_self served) h f
-              (grown_last m (numbers_of ours) u h [] f tt) (prefix_self asked)
-              (prefix_self served) have;
-          client_past = λ front later is.
-              pasts m w ours law side.Client w nothing by.leads.changes streams.start streams.all first
-              by.leads.allowed sized have front
-              (from_none streams.start.client.leads.moves front streams.client) (later, sym is);
-          server_past = λ front later is.
-              pasts m w ours law side.Server w nothing by.leads.changes streams.start streams.all first
-              by.leads.allowed sized have front
-              (from_none streams.start.server.leads.moves front streams.server) (later, sym is);
-        }
+    moment_there : IsMoment (numbers ours) (reader_of u.readers) (Whole m w ours law h f)
+    moment_there = record {
+      now =
+          joined_then m w ours law u h f end_is h h now now asked served f f (prefix_self asked)
+          (prefix_self asked) (prefix_self served) (prefix_self served) h f
+          (grown_last m (numbers_of ours) u h [] f tt) (prefix_self asked) (prefix_self served)
+          have;
+      client_past = λ front later is.
+          pasts m w ours law side.Client w nothing by.leads.changes streams.start streams.all first
+          by.leads.allowed sized have front
+          (from_none streams.start.client.leads.moves front streams.client) (later, sym is);
+      server_past = λ front later is.
+          pasts m w ours law side.Server w nothing by.leads.changes streams.start streams.all first
+          by.leads.allowed sized have front
+          (from_none streams.start.server.leads.moves front streams.server) (later, sym is);
+    }
 
     moment_here : IsMoment (numbers ours) (reader_of v.readers) (moves_of flowing)
     moment_here =
@@ -133,4 +155,9 @@ module _ {K : Type 0} (m : Makers K InProxy OutProxy) (w : OurWorld K) (new : Is
         moment_there
 
   pub has_moment : HasMoment m w ours v by
-  has_moment = record { flowing = flowing; moment = λ distinct. moment_here (cookies distinct) }
+  has_moment = record {
+    flowing = flowing;
+    made = made ours h h f f asked served (prefix_self asked) (prefix_self served);
+    joined = legs_here;
+    moment = λ distinct. moment_here (cookies distinct);
+  }

@@ -42,8 +42,9 @@ use Rattle.rh_fifo.specs.Flows.{AllLegible, Flows, IsFlowing, numbers_of}
 use Rattle.rh_fifo.specs.Premises.{AreInRange}
 use Rattle.rh_fifo.proofs.Heard.{heard_fine}
 use Rattle.rh_fifo.proofs.Starting.{Beginning, starts}
-use Rattle.rh_client_hops.proofs.Joined.{AreAlone, Reads}
-use Rattle.rh_moments.specs.Moments.{HaveCookies, IsJoined, IsPast, Moves, ReadInTurn}
+use Rattle.rh_fifo.proofs.Legs.{Reads}
+use Rattle.rh_fifo.proofs.Joined.{AreAlone}
+use Rattle.rh_moments.specs.Moments.{AreJoined, HaveCookies, IsJoined, IsPast, Moves, ReadInTurn, passages}
 use Rattle.rh_pasts.specs.Pasts.{numbers}
 use Rattle.rh_pasts.proofs.Family.{AllGrow, AllRise, Grown, grown_last, last}
 use Rattle.rh_pasts.proofs.Joins.{HeardOf, are_joined}
@@ -201,9 +202,7 @@ module _ {K : Type 0} (m : Makers K InProxy OutProxy) (w : OurWorld K)
             legible =
                 all_legible law.legal (numbers_of ours) g next law.ranges cookies
                 (none_there v g traced_next)
-                (heard_fine
-                (record { put = law.reads.put; fine = law.reads.fine; refusal = law.reads.refusal }) m
-                w.company w.cast ours h g u.readers v.readers drew_before
+                (heard_fine law.reads m w.company w.cast ours h g u.readers v.readers drew_before
                 (law.alone v g traced_next) f flowing.begun is.legible next);
             read = law.numbered u h is.traced is.once is.read change may;
           }
@@ -220,31 +219,36 @@ module _ {K : Type 0} (m : Makers K InProxy OutProxy) (w : OurWorld K)
             (within_server : IsPrefix of_server later_server.server.leads.moves) (e : History)
             (end : Flows (numbers_of ours) e) (grown : Grown (numbers_of ours) h e f end)
             (in_client : IsPrefix of_client end.client.leads.moves)
-            (in_server : IsPrefix of_server end.server.leads.moves)
-            (cookies : HaveCookies end.client.leads.moves) where
-          pub joined_then : IsJoined (numbers ours) (reader_of u.readers)
-              (moves_with ours h f of_client of_server)
-          joined_then = record {
-            made = made ours h e f end of_client of_server in_client in_server;
-            joined =
-                are_joined law.reads m w u ours h flowing drew_here (law.alone u h is.traced) k j
-                at_client at_server of_client of_server later later_server on_client within_client
-                on_server within_server;
-            read = read_in_turn u.readers (is_made u.company) is.read;
-            cookies = cookies_front of_client end.client.leads.moves in_client cookies;
-          }
+            (in_server : IsPrefix of_server end.server.leads.moves) where
+          abbrev then_moves : Moves
+          then_moves = moves_with ours h f of_client of_server
 
-          abbrev pub past : IsPast (numbers ours)
-              (moves_with ours e end end.client.leads.moves end.server.leads.moves)
-          past = record {
-            moves_then = moves_with ours h f of_client of_server;
-            reader_then = reader_of u.readers;
-            then_joined = joined_then;
-            client = in_client;
-            server = in_server;
-            ins = grown.ins;
-            outs = grown.outs;
-          }
+          pub legs_then : AreJoined (reader_of u.readers) (passages (numbers ours) then_moves)
+          legs_then =
+              are_joined law.reads m w u ours h flowing drew_here (law.alone u h is.traced) k j
+              at_client at_server of_client of_server later later_server on_client within_client
+              on_server within_server
+
+          module _ (cookies : HaveCookies end.client.leads.moves) where
+            pub joined_then : IsJoined (numbers ours) (reader_of u.readers) then_moves
+            joined_then = record {
+              made = made ours h e f end of_client of_server in_client in_server;
+              joined = legs_then;
+              read = read_in_turn u.readers (is_made u.company) is.read;
+              cookies = cookies_front of_client end.client.leads.moves in_client cookies;
+            }
+
+            abbrev pub past : IsPast (numbers ours)
+                (moves_with ours e end end.client.leads.moves end.server.leads.moves)
+            past = record {
+              moves_then = then_moves;
+              reader_then = reader_of u.readers;
+              then_joined = joined_then;
+              client = in_client;
+              server = in_server;
+              ins = grown.ins;
+              outs = grown.outs;
+            }
 
     -- ---- along changes
 

@@ -11,11 +11,11 @@ use Rattle.rh_history.specs.Carried.{happened}
 use Rattle.rh_history.specs.Histories.{History}
 use Rattle.rh_traced.specs.Cookies.{ByChanges}
 use Rattle.rh_traced.specs.Ours.{AreOurs, deeds, rules}
-use Rattle.rh_ordered.specs.Premises.{history_at}
+use Rattle.rh_traced.specs.Recordings.{history_at}
 use Rattle.rh_fifo.specs.Flows as fifo
 use Rattle.rh_fifo.specs.Flows.{IsFlowing, numbers_of}
-use Rattle.rh_client_hops.specs.Premises.{AreDistinct}
-use Rattle.rh_moments.specs.Moments.{IsMoment, Moves, Numbers}
+use Rattle.rh_fifo.specs.Premises.{AreDistinct}
+use Rattle.rh_moments.specs.Moments.{AreJoined, AreMade, IsMoment, Moves, Numbers, passages}
 
 -- the numbers with which the roles of a world were made
 abbrev pub numbers : {K : Type 0} {m : Makers K InProxy OutProxy}
@@ -37,12 +37,14 @@ moves_of flowing = record {
   outs = λ n. (flowing.flows.outs n).leads.moves;
 }
 
--- each node has its stream, by whose moves the world is at a moment where no two legs of one kind
--- came up at the client under one cookie
+-- each node has its stream, whose moves are made as they may be and are joined by legs; by them the
+-- world is at a moment where no two legs of one kind came up at the client under one cookie
 pub record HasMoment {K : Type 0} (m : Makers K InProxy OutProxy)
     (w : World K ClientRole Server InProxy OutProxy) (ours : AreOurs m w.company w.cast)
     (v : World K ClientRole Server InProxy OutProxy) (by : ByChanges rules m deeds w v) : Type 0
   where
     pub flowing : IsFlowing (numbers_of ours) w v (history_at m w v by.leads)
+    pub made : AreMade (numbers ours) (moves_of flowing)
+    pub joined : AreJoined (reader_of v.readers) (passages (numbers ours) (moves_of flowing))
     pub moment : AreDistinct (happened (history_at m w v by.leads).client)
         → IsMoment (numbers ours) (reader_of v.readers) (moves_of flowing)

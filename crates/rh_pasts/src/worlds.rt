@@ -37,11 +37,11 @@ use rh_unused::{
     a_leg_that_an_in_proxy_left_stays_unused, a_leg_that_an_out_proxy_left_stays_unused,
 };
 
-/// Each world that changes of lines and half steps reach from new roles whose numbers are in their
-/// ranges is at a moment, where no two legs of one kind came up at the client under one cookie: the
-/// moves of its roles are allowed and in turn, with true counts; what came at the one end of a leg
-/// is of what was put at the other; and each front of the moves of the client, or of the server,
-/// was all of them at a moment before, at which the others had made fronts of theirs.
+/// In each world that changes of lines and half steps reach from new roles whose numbers are in
+/// their ranges, the moves of the roles are allowed and in turn, with true counts, and what came at
+/// the one end of a leg is of what was put at the other. Where no two legs of one kind came up at
+/// the client under one cookie, it is at a moment: each front of the moves of the client, or of the
+/// server, was all of them at a moment before, at which the others had made fronts of theirs.
 pub fn a_world_of_roles_is_at_a_moment<K>()
     ensures { (m : Makers K InProxy OutProxy) (w : World K ClientRole Server InProxy OutProxy)
         → IsNew w → (ours : AreOurs m w.company w.cast) → AreInRange (numbers_of ours)

@@ -32,8 +32,7 @@ use Rattle.rh_history.specs.Histories.{History, IsNew, IsRun, in_place, out_plac
 use Rattle.rh_history.proofs.Leading.{cast_kept}
 use Rattle.rh_traced.specs.Numbers.{is_made}
 use Rattle.rh_traced.specs.Ours.{AreOurs, deeds, rules}
-use Rattle.rh_traced.specs.Recordings.{IsKnown}
-use Rattle.rh_ordered.specs.Premises.{history_at}
+use Rattle.rh_traced.specs.Recordings.{IsKnown, history_at}
 use Rattle.rh_up.specs.Up as goes_up
 use Rattle.rh_up.proofs.Laws.{BeginLaws, are_begun}
 use Rattle.rh_fifo.specs.Directions.{Directions, down_route_of, up_route_of}

@@ -7,7 +7,7 @@ use Rattle.rh_world.specs.declared.config.WorldConfig.{WorldConfig}
 use Rattle.rh_world.specs.Roles as roles
 use Rattle.rh_traced.specs.Cookies.{ByChanges}
 use Rattle.rh_traced.specs.Ours.{AreOurs}
-use Rattle.rh_ordered.specs.Premises.{history_at}
+use Rattle.rh_traced.specs.Recordings.{history_at}
 use Rattle.rh_fifo.specs.Directions.{BothMark}
 use Rattle.rh_fifo.specs.Flows.{numbers_of}
 use Rattle.rh_paths.specs.Ways.{AreOnTheirWay}

@@ -15,7 +15,7 @@ ghost use Rattle.rh_traced.specs.Cookies.{ByChanges};
 ghost use Rattle.rh_history.specs.Histories.{History, IsNew};
 ghost use Rattle.rh_streams.specs.Streams.{all_given, all_taken};
 ghost use Rattle.rh_traced.specs.Ours.{AreOurs, deeds, rules};
-ghost use Rattle.rh_ordered.specs.Premises.{history_at};
+ghost use Rattle.rh_traced.specs.Recordings.{history_at};
 ghost use Rattle.rh_fifo.specs.Directions.{down_route_of, up_route_of};
 ghost use Rattle.rh_fifo.specs.Flows.{Numbers, numbers_of};
 ghost use Rattle.rh_fifo.specs.Premises.{AreInRange};

@@ -1,14 +1,11 @@
 -- a proxy whose client is refused was told that its server is lost
-use Rattle.std.proofs.Common.{arith, ◌≡◌, inl, inr, ℕ, List, refl, sym, ap, subst}
+use Rattle.std.proofs.Common.{arith, ◌≡◌, ℕ, List, refl, sym, ap, subst}
 use Rattle.std.specs.Prelude.{Some}
-use Rattle.rh_http.specs.declared.config.ClientConfig.{ClientConfig}
-use Rattle.rh_http.specs.Texts.{in_request, out_request}
 use Rattle.rh_sig.specs.declared.name.Pipe.TheVariants.{CoD}
 use Rattle.rh_line.specs.declared.leg.Leg.{Leg}
 use Rattle.rh_shell.specs.declared.course.Course.{Course}
 use Rattle.rh_line.specs.declared.leg.LegKind.{LegKind}
 use Rattle.rh_line.specs.declared.leg.LegKind.TheVariants.{ClientIn, ClientOut, InServer, OutServer}
-use Rattle.rh_shell.specs.Intakes.{is_whole_head}
 use Rattle.rh_shell.specs.Moves.{Move, Passage, started, all_moved, AreAllowed}
 use Rattle.rh_shell.specs.Moving.{Event, after_events}
 use Rattle.rh_shell.specs.Shells.{begun}
@@ -23,33 +20,18 @@ use Rattle.rh_outproxy.specs.Legible.{IsConfig}
 use Rattle.rh_outproxy.specs.Machine as out_proxy
 use Rattle.rh_outproxy.specs.OutProxy.{OutProxy, new_proxy}
 use Rattle.rh_history.specs.Carried.{drawn_on}
-use Rattle.rh_reading.specs.Reading.{Begins, IsWholeText}
+use Rattle.rh_reading.specs.Reading.{Begins}
 use Rattle.rh_streams.specs.Streams.{Stream}
 use Rattle.rh_streams.specs.Turns.{AreInTurn}
-use Rattle.rh_ends_begin.specs.Begins.{IsRequestOf}
 use Rattle.rh_proxies_begin.specs.Pipes.{in_pipe, out_pipe}
 use Rattle.rh_causes.specs.Refusals.{MayRefuseOn}
 use Rattle.rh_traced.specs.Refusals.{DrawsRightly}
 use Rattle.rh_refused.specs.Refused.{DrewRefusal, IsUnreached}
 use Rattle.rh_refused.proofs.Fronts.{Traced}
-use Rattle.rh_refused.proofs.InTexts.{echoes_alone}
+use Rattle.rh_first_texts.proofs.InTexts.{echoes_alone}
 use Rattle.rh_refused.proofs.Lost.{PutsNone, lost_503}
 use Rattle.rh_refused.proofs.Refusals.{echo_success, put_none}
-use Rattle.rh_refused.proofs.OutTexts.{puts_200}
-
--- requests are whole
-pub whole_requests : ((config : ClientConfig) → IsWholeText is_whole_head (in_request config))
-    → ((config : ClientConfig) (n : ℕ) → IsWholeText is_whole_head (out_request config n))
-    → (config : ClientConfig) (kind : LegKind) (request : List ℕ)
-    → IsRequestOf config kind request → IsWholeText is_whole_head request
-whole_requests ins outs config ClientIn request is =
-    subst (IsWholeText is_whole_head) (sym is) (ins config)
-whole_requests ins outs config ClientOut request (inl is) =
-    subst (IsWholeText is_whole_head) (sym is) (outs config 76)
-whole_requests ins outs config ClientOut request (inr is) =
-    subst (IsWholeText is_whole_head) (sym is) (outs config 120)
-whole_requests ins outs config OutServer request is = absurd is
-whole_requests ins outs config InServer request is = absurd is
+use Rattle.rh_first_texts.proofs.OutTexts.{puts_200}
 
 -- the legs that a proxy of this number refuses on
 own_legs : (client server : LegKind) (number n : ℕ) → number ≡ n → (c : Course)

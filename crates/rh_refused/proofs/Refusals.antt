@@ -20,9 +20,9 @@ use Rattle.rh_reading.specs.Reading.{Begins}
 use Rattle.rh_streams.specs.Streams.{IsDrawn}
 use Rattle.rh_refused.specs.Refused.{BeginsRefused, DrewRefusal}
 use Rattle.rh_refused.proofs.Drawn.{refused_more}
-use Rattle.rh_refused.proofs.InTexts.{IsEcho, echo_begins}
-use Rattle.rh_refused.proofs.OutTexts.{IsSuccess, Succeeds, in_range, success_begins}
-use Rattle.rh_refused.proofs.Told.{front_told, read_whole}
+use Rattle.rh_first_texts.proofs.InTexts.{IsEcho, echo_begins}
+use Rattle.rh_first_texts.proofs.OutTexts.{IsSuccess, Succeeds, in_range, success_begins}
+use Rattle.rh_first_texts.proofs.Told.{front_told, read_whole}
 
 -- no text is a front of nothing, and is a response
 pub none_refused : (leg : Leg) (status : ℕ) → BeginsRefused [] leg status → ⊥

@@ -1,5 +1,5 @@
 -- what a client heard where its channel is refused (MS-RPCH 3.2.2)
-use Rattle.std.specs.Prelude.{◌≡◌, ◌≤◌, ◌<◌, ◌++◌, ◌∷◌, ℕ, List, false}
+use Rattle.std.specs.Prelude.{◌≡◌, ◌++◌, ◌∷◌, ℕ, List, false}
 use mathlib.Core.List.{IsPrefix}
 use Rattle.rh_http.specs.declared.refusal.Refusal.{Refusal}
 use Rattle.rh_http.specs.Texts.{refusal_text, status_of}
@@ -9,11 +9,6 @@ use Rattle.rh_nodes.specs.declared.event.Event.{Event}
 use Rattle.rh_nodes.specs.declared.event.Event.TheVariants.{Comes}
 use Rattle.rh_history.specs.Carried.{came_up}
 use Rattle.rh_causes.specs.Refusals.{IsRefusedBy}
-
--- a server has a port of this range
-pub record IsPort (port : ℕ) : Type 0 where
-  pub least : 1 ≤ port
-  pub most : port < 65536
 
 -- the bytes of the leg begin with a response that refuses the channel with this status
 pub record BeginsRefused (bytes : List ℕ) (leg : Leg) (status : ℕ) : Type 0 where

@@ -25,10 +25,11 @@ ghost use Rattle.rh_history.specs.Changes.{Leads};
 ghost use Rattle.rh_traced.specs.Cookies.{ByChanges};
 ghost use Rattle.rh_history.specs.Histories.{IsNew, all_noted, nothing};
 ghost use Rattle.rh_traced.specs.Ours.{AreOurs, deeds, rules};
-ghost use Rattle.rh_ordered.specs.Premises.{history_at};
+ghost use Rattle.rh_traced.specs.Recordings.{history_at};
 ghost use Rattle.rh_fifo.specs.Flows.{numbers_of};
 ghost use Rattle.rh_fifo.specs.Premises.{AreInRange};
-ghost use Rattle.rh_refused.specs.Refused.{BeginsRefused, DrewRefusal, IsPort, IsUnreached};
+ghost use Rattle.rh_first_texts.specs.Ports.{IsPort};
+ghost use Rattle.rh_refused.specs.Refused.{BeginsRefused, DrewRefusal, IsUnreached};
 
 use crate::clients::what_a_client_holds_of_a_head;
 use rh_causes::a_proxy_refuses_for_a_reason;

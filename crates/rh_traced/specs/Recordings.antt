@@ -7,10 +7,15 @@ use Rattle.rh_outproxy.specs.OutProxy.{OutProxy}
 use Rattle.rh_server.specs.States.{Server}
 use Rattle.rh_history.specs.Carried.{IsTraced, LegsComeUpOnce}
 use Rattle.rh_history.specs.Changes.{Leads}
-use Rattle.rh_history.specs.Histories.{all_noted, nothing}
+use Rattle.rh_history.specs.Histories.{History, all_noted, nothing}
 use Rattle.rh_traced.specs.Numbers.{AreRead, is_made}
 use Rattle.rh_traced.specs.Ours.{rules, deeds}
 use Rattle.rh_traced.specs.Turns.{HearInTurn}
+
+-- what happened until a moment of a run
+abbrev pub history_at : {K : Type 0} (m : Makers K InProxy OutProxy)
+    (w v : World K ClientRole Server InProxy OutProxy) → Leads rules m deeds w v → History
+history_at m w v leads = all_noted rules m deeds w nothing leads.changes
 
 -- what changes from a new world lead to: the history traces nodes and legs, pieces are heard in
 -- turn, and readers have their numbers

@@ -27,9 +27,9 @@ use Rattle.rh_history.specs.Carried.{end_drawn_on}
 use Rattle.rh_reading.specs.Reading.{IsWholeText}
 use Rattle.rh_streams.specs.Streams.{EndStream, IsFirstHead, IsHeadOf}
 use Rattle.rh_down.specs.Down as down
-use Rattle.rh_refused.specs.Refused.{IsPort}
-use Rattle.rh_refused.proofs.Requests.{BegunBy, head_holds, request_asks}
-use Rattle.rh_refused.proofs.Taken.{asked_for}
+use Rattle.rh_first_texts.specs.Ports.{IsPort}
+use Rattle.rh_first_texts.proofs.Requests.{BegunBy, head_holds, request_asks}
+use Rattle.rh_first_texts.proofs.Taken.{asked_for}
 use Rattle.rh_asked.specs.Requests.{AsksFor, IsRequest}
 use Rattle.rh_world_asked.specs.Heads.{IsOwn, IsOwnHead}
 

@@ -23,9 +23,9 @@ ghost use Rattle.rh_reading.specs.Reading.{all_read_of};
 ghost use Rattle.rh_moments.specs.Expecting.{Expects};
 ghost use Rattle.rh_traced.specs.Cookies.{ByChanges};
 ghost use Rattle.rh_traced.specs.Ours.{AreOurs, deeds, rules};
-ghost use Rattle.rh_ordered.specs.Premises.{history_at};
+ghost use Rattle.rh_traced.specs.Recordings.{history_at};
 ghost use Rattle.rh_fifo.specs.Flows.{IsFlowing, numbers_of};
-ghost use Rattle.rh_refused.specs.Refused.{IsPort};
+ghost use Rattle.rh_first_texts.specs.Ports.{IsPort};
 
 use crate::heads::an_out_proxy_hears_its_clients_request;
 use crate::nodes::frames_come_to_an_out_proxy_behind_a_request;

@@ -12,9 +12,9 @@ ghost use Rattle.rh_server.specs.States.{Server};
 ghost use Rattle.rh_history.specs.Histories.{IsNew};
 ghost use Rattle.rh_traced.specs.Cookies.{ByChanges};
 ghost use Rattle.rh_traced.specs.Ours.{AreOurs, deeds, rules};
-ghost use Rattle.rh_ordered.specs.Premises.{history_at};
+ghost use Rattle.rh_traced.specs.Recordings.{history_at};
 ghost use Rattle.rh_fifo.specs.Flows.{IsFlowing, numbers_of};
-ghost use Rattle.rh_refused.specs.Refused.{IsPort};
+ghost use Rattle.rh_first_texts.specs.Ports.{IsPort};
 ghost use Rattle.rh_asked.specs.Requests.{IsRequest};
 ghost use Rattle.rh_world_asked.specs.Heads.{IsOwnHead};
 

@@ -18,11 +18,11 @@ ghost use Rattle.rh_history.specs.Changes.{Change, MayChange, changed};
 ghost use Rattle.rh_history.specs.Histories.{IsNew, noted};
 ghost use Rattle.rh_traced.specs.Cookies.{ByChanges};
 ghost use Rattle.rh_traced.specs.Ours.{AreOurs, deeds, rules};
-ghost use Rattle.rh_ordered.specs.Premises.{history_at};
+ghost use Rattle.rh_traced.specs.Recordings.{history_at};
 ghost use Rattle.rh_reading.specs.Well.{ReadsWell, is_named};
 ghost use Rattle.rh_fifo.specs.Flows.{numbers_of};
 ghost use Rattle.rh_fifo.specs.Premises.{AreInRange};
-ghost use Rattle.rh_refused.specs.Refused.{IsPort};
+ghost use Rattle.rh_first_texts.specs.Ports.{IsPort};
 
 use crate::heads::an_out_proxy_hears_its_clients_request;
 use rh_asked::what_an_out_proxy_serves_reads_well;

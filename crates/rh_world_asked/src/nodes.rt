@@ -23,7 +23,7 @@ ghost use Rattle.rh_history.specs.Histories.{IsNew};
 ghost use Rattle.rh_streams.specs.Streams.{HearsInTurn};
 ghost use Rattle.rh_traced.specs.Cookies.{ByChanges};
 ghost use Rattle.rh_traced.specs.Ours.{AreOurs, deeds, rules};
-ghost use Rattle.rh_ordered.specs.Premises.{history_at};
+ghost use Rattle.rh_traced.specs.Recordings.{history_at};
 
 use rh_proxies_begin::proxies_keep_their_pipes;
 use rh_traced::{a_recording_of_roles_is_known, legs_of_roles_come_up_once};

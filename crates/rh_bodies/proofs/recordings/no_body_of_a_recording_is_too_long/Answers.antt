@@ -1,7 +1,7 @@
 use Rattle.rh_line.specs.declared.cause.Cause.TheVariants as cause
 use Rattle.rh_world.specs.Roles as roles
 use Rattle.rh_fifo.proofs.Recorded.{new, ours}
-use Rattle.rh_refused.proofs.Taken.{recorded_port}
+use Rattle.rh_first_texts.proofs.Taken.{recorded_port}
 use Rattle.rh_honest.proofs.Recorded.{of_recording}
 use Rattle.rh_bodies.proofs.recordings.no_body_of_a_recording_is_too_long.Goals as goal
 

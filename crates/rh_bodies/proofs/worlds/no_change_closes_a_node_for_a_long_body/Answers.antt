@@ -23,7 +23,7 @@ use Rattle.rh_nodes.specs.World.{at}
 use Rattle.rh_down.specs.Down as down
 use Rattle.rh_proxies_begin.specs.Pipes as pipes
 use Rattle.rh_traced.specs.Ours.{deeds, rules}
-use Rattle.rh_ordered.specs.Premises.{history_at}
+use Rattle.rh_traced.specs.Recordings.{history_at}
 use Rattle.rh_honest.proofs.Closing.{EachComes, by_fed}
 use Rattle.rh_bodies.proofs.Lifetimes.{EachDrew, response_none}
 use Rattle.rh_bodies.proofs.Fits.{whole_requests}

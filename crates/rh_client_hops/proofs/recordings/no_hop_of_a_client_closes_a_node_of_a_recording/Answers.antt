@@ -2,7 +2,7 @@ use Rattle.std.proofs.Common.{ℕ, refl}
 use Rattle.rh_line.specs.declared.cause.Cause.TheVariants as cause
 use Rattle.rh_record.specs.declared.answer.Who.TheVariants as who
 use Rattle.rh_history.specs.Carried.{happened}
-use Rattle.rh_ordered.specs.Premises.{history_at}
+use Rattle.rh_traced.specs.Recordings.{history_at}
 use Rattle.rh_world.specs.declared.config.WorldConfig.{WorldConfig}
 use Rattle.rh_world.specs.Roles as roles
 use Rattle.rh_client.specs.State.{ci, co}
@@ -10,7 +10,7 @@ use Rattle.rh_fifo.specs.Flows.{numbers_of}
 use Rattle.rh_fifo.proofs.Recorded.{new, ours}
 use Rattle.rh_honest.proofs.Recorded.{of_recording_apart}
 use Rattle.rh_client_hops.specs.Premises.{HasOneWindow}
-use Rattle.rh_client_hops.proofs.Distinct.{own_distinct}
+use Rattle.rh_fifo.proofs.Distinct.{own_distinct}
 use Rattle.rh_client_hops.proofs.recordings.no_hop_of_a_client_closes_a_node_of_a_recording.Goals as goal
 
 -- its in proxies have the window that was set, whatever their numbers

@@ -19,7 +19,8 @@ use Rattle.rh_hops.proofs.Moment.{Laws}
 use Rattle.rh_hops.proofs.Stopping.{Readings}
 use Rattle.rh_client_hops.proofs.Closing.{NodesLaws, no_client_range, no_client_window, no_in_range, no_in_window, no_out_range, no_out_window}
 use Rattle.rh_client_hops.proofs.Honest.{RoleLaws}
-use Rattle.rh_client_hops.proofs.Joined.{AreAlone, Reads}
+use Rattle.rh_fifo.proofs.Joined.{AreAlone}
+use Rattle.rh_fifo.proofs.Legs.{Reads}
 use Rattle.rh_client_hops.proofs.Joining.{client_begins, client_opens_once, client_receives, client_sends, in_proxy_sees, out_proxy_sees, server_sees}
 use Rattle.rh_client_hops.proofs.worlds.no_hop_of_a_client_closes_a_node.Goals as goal
 

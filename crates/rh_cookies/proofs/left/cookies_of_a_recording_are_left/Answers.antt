@@ -5,7 +5,7 @@ use Rattle.rh_world.specs.declared.any_world.AnyWorld.{AnyWorld}
 use Rattle.rh_world.specs.declared.any_world.AnyWorld.TheVariants.{Before, Direct, Settings, Roles}
 use Rattle.rh_world.specs.Any.{after, prepared, step}
 use Rattle.rh_world.specs.Roles as roles
-use Rattle.rh_honest.specs.Cookies.{AreLeftIn}
+use Rattle.rh_fifo.specs.Premises.{AreLeftIn}
 use Rattle.rh_cookies.proofs.left.cookies_of_a_recording_are_left.Goals as goal
 
 pub returns : goal.returns

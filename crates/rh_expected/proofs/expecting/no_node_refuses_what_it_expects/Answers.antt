@@ -15,19 +15,18 @@ use Rattle.rh_history.specs.Histories.{IsNew}
 use Rattle.rh_up.proofs.Unread.{refusal_unread}
 use Rattle.rh_traced.specs.Cookies.{ByChanges}
 use Rattle.rh_traced.specs.Ours.{AreOurs, deeds, rules}
-use Rattle.rh_ordered.specs.Premises.{history_at}
+use Rattle.rh_traced.specs.Recordings.{history_at}
 use Rattle.rh_fifo.specs.Flows.{numbers_of}
-use Rattle.rh_fifo.specs.Premises.{AreInRange}
+use Rattle.rh_fifo.specs.Premises.{AreDistinct, AreInRange}
 use Rattle.rh_hops.specs.Hops.{is_leg, os_leg}
 use Rattle.rh_hops.proofs.Moment.{Laws}
 use Rattle.rh_hops.proofs.Stopping.{Readings}
-use Rattle.rh_client_hops.proofs.Joined.{Reads}
+use Rattle.rh_fifo.proofs.Legs.{Reads}
 use Rattle.rh_moments.specs.Moments.{Moves, Numbers}
 use Rattle.rh_amiss.proofs.AtNodes.{ClientKnows, RolesKnow}
 use Rattle.rh_amiss.proofs.Moments.{AllFlow}
 use Rattle.rh_pasts.specs.Pasts.{numbers}
-use Rattle.rh_client_hops.specs.Premises.{AreDistinct}
-use Rattle.rh_refused.specs.Refused.{IsPort}
+use Rattle.rh_first_texts.specs.Ports.{IsPort}
 use Rattle.rh_expected.specs.Roles.{ClientExpects, HaveCookies, InExpects, IsByLines, OfClient, OutExpectsClient, OutExpectsServer, OutsServe, Premise, ServerExpectsIn, ServerExpectsOut, WorldsExpect, WorldsServe}
 use Rattle.rh_expected.proofs.Facts.{client_kept, distinct_of_cookies, have_of_cookies, lines_kept}
 use Rattle.rh_expected.proofs.Closing.{AtMoment, NodesLaws, no_in_amiss, no_out_amiss_of_client, no_out_amiss_of_server, no_server_amiss_of_in, no_server_amiss_of_out}

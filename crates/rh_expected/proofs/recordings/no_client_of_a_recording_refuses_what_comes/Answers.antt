@@ -3,7 +3,7 @@ use Rattle.rh_record.specs.declared.answer.Who.TheVariants as who
 use Rattle.rh_client.specs.State.{co}
 use Rattle.rh_world.specs.Roles as roles
 use Rattle.rh_fifo.proofs.Recorded.{new, ours}
-use Rattle.rh_refused.proofs.Taken.{recorded_port}
+use Rattle.rh_first_texts.proofs.Taken.{recorded_port}
 use Rattle.rh_expected.proofs.Recorded.{of_recording_drawn}
 use Rattle.rh_expected.proofs.recordings.no_client_of_a_recording_refuses_what_comes.Goals as goal
 

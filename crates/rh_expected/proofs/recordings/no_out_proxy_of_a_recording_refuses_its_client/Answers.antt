@@ -4,7 +4,7 @@ use Rattle.rh_client.specs.State.{co}
 use Rattle.rh_world.specs.Roles as roles
 use Rattle.rh_fifo.proofs.Recorded.{new, ours}
 use Rattle.rh_honest.proofs.Recorded.{of_recording}
-use Rattle.rh_refused.proofs.Taken.{recorded_port}
+use Rattle.rh_first_texts.proofs.Taken.{recorded_port}
 use Rattle.rh_expected.proofs.recordings.no_out_proxy_of_a_recording_refuses_its_client.Goals as goal
 
 pub returns : goal.returns

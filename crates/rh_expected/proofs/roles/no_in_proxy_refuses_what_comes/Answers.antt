@@ -2,9 +2,9 @@ use Rattle.rh_shell.specs.Wires.{of_leg}
 use Rattle.rh_nodes.specs.Readers.{reader_of}
 use Rattle.rh_client.specs.Order.{client_moved}
 use Rattle.rh_client.specs.State.{ci}
-use Rattle.rh_ordered.specs.Premises.{history_at}
+use Rattle.rh_traced.specs.Recordings.{history_at}
 use Rattle.rh_pasts.specs.Pasts.{moves_of, numbers}
-use Rattle.rh_client_hops.specs.Premises.{AreDistinct}
+use Rattle.rh_fifo.specs.Premises.{AreDistinct}
 use Rattle.rh_expected.specs.Roles.{InExpects, OfClient, WorldsExpect}
 use Rattle.rh_expected.proofs.Facts.{are_read, no_ping}
 use Rattle.rh_expected.proofs.roles.no_in_proxy_refuses_what_comes.Goals as goal

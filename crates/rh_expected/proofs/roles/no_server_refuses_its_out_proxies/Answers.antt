@@ -1,6 +1,6 @@
 use Rattle.rh_nodes.specs.Readers.{reader_of}
 use Rattle.rh_pasts.specs.Pasts.{moves_of, numbers}
-use Rattle.rh_client_hops.specs.Premises.{AreDistinct}
+use Rattle.rh_fifo.specs.Premises.{AreDistinct}
 use Rattle.rh_expected.specs.Roles.{OfClient, ServerExpectsOut, WorldsExpect}
 use Rattle.rh_expected.proofs.roles.no_server_refuses_its_out_proxies.Goals as goal
 

@@ -11,7 +11,7 @@ use Rattle.rh_fifo.specs.Flows.{numbers_of}
 use Rattle.rh_fifo.specs.Premises.{AreInRange}
 use Rattle.rh_hops.proofs.Moment.{Laws}
 use Rattle.rh_hops.proofs.Stopping.{Readings}
-use Rattle.rh_client_hops.proofs.Joined.{Reads}
+use Rattle.rh_fifo.proofs.Legs.{Reads}
 use Rattle.rh_expected.proofs.Cookies.{ClientLaws, no_cookie}
 use Rattle.rh_expected.proofs.worlds.a_client_refuses_no_cookie.Goals as goal
 

@@ -1,5 +1,5 @@
 use Rattle.rh_traced.specs.Ours.{deeds, rules}
-use Rattle.rh_ordered.specs.Premises.{history_at}
+use Rattle.rh_traced.specs.Recordings.{history_at}
 use Rattle.rh_honest.proofs.FirstHeads.{Heads, head_read}
 use Rattle.rh_honest.proofs.worlds.heads_that_are_heard_break_no_rule.Goals as goal
 

@@ -8,7 +8,7 @@ use Rattle.rh_nodes.specs.World.{at}
 use Rattle.rh_history.specs.Carried.{events_of, heard_on}
 use Rattle.rh_history.specs.Changes.{IsFed}
 use Rattle.rh_history.specs.Histories.{noted}
-use Rattle.rh_ordered.specs.Premises.{history_at}
+use Rattle.rh_traced.specs.Recordings.{history_at}
 use Rattle.rh_honest.specs.Honest.{IsOfNode}
 use Rattle.rh_honest.proofs.BadHeads.{no_bad_head}
 use Rattle.rh_honest.proofs.Closing.{EachRefuses, by_fed, each_of, of_acknowledgement, of_rules}

@@ -1,4 +1,4 @@
-use Rattle.rh_ordered.specs.Premises.{history_at}
+use Rattle.rh_traced.specs.Recordings.{history_at}
 use Rattle.rh_history.specs.Changes.{IsFed}
 use Rattle.rh_honest.proofs.Fed.{EachCloses, fed_closes}
 use Rattle.rh_honest.proofs.worlds.what_is_fed_closes_for_the_role.Goals as goal

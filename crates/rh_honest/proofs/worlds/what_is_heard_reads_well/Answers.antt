@@ -1,5 +1,5 @@
 use Rattle.rh_traced.specs.Ours.{deeds, rules}
-use Rattle.rh_ordered.specs.Premises.{history_at}
+use Rattle.rh_traced.specs.Recordings.{history_at}
 use Rattle.rh_honest.proofs.Drawn.{Texts, leg_well}
 use Rattle.rh_honest.proofs.worlds.what_is_heard_reads_well.Goals as goal
 

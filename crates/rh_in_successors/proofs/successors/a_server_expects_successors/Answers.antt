@@ -3,7 +3,6 @@ use Rattle.rh_shell.specs.Moves.{end_started}
 use Rattle.rh_client.specs.Client.{acts as client_acts, rules as client_rules}
 use Rattle.rh_client.specs.State.{ci}
 use Rattle.rh_client.specs.State.{first as first_client}
-use Rattle.rh_client.specs.declared.state.ClientRole.{ClientRole}
 use Rattle.rh_server.specs.Servers.{acts as server_acts, first as first_server, rules as server_rules}
 use Rattle.rh_server.specs.States.{Server}
 use Rattle.rh_causes.specs.Numbers.{ClientIsNumbered}

@@ -11,7 +11,7 @@ use Rattle.rh_fifo.proofs.Starting.{Beginning}
 use Rattle.rh_fifo.specs.Flows.{numbers_of}
 use Rattle.rh_fifo.specs.Premises.{AreInRange}
 use Rattle.rh_traced.specs.Ours.{AreOurs, deeds, rules}
-use Rattle.rh_client_hops.proofs.Joined.{Reads}
+use Rattle.rh_fifo.proofs.Legs.{Reads}
 use Rattle.rh_pasts.proofs.Family.{AllRise}
 use Rattle.rh_pasts.proofs.Legal.{Legalities}
 use Rattle.rh_pasts.proofs.Moments.{has_moment}

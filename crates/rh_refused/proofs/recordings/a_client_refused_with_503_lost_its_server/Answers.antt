@@ -8,7 +8,7 @@ use Rattle.rh_inproxy.specs.State.{InProxy}
 use Rattle.rh_outproxy.specs.Machine as out_proxy
 use Rattle.rh_outproxy.specs.OutProxy.{OutProxy}
 use Rattle.rh_traced.specs.Refusals.{DrawsRightly}
-use Rattle.rh_ordered.specs.Premises.{history_at}
+use Rattle.rh_traced.specs.Recordings.{history_at}
 use Rattle.rh_refused.specs.Refused.{DrewRefusal}
 use Rattle.rh_refused.proofs.Losses.{in_lost_503, its_own, out_lost_503}
 use Rattle.rh_refused.proofs.Moments.{ProxyLaws, in_traced, out_traced}

@@ -22,15 +22,14 @@ use Rattle.rh_streams.specs.Turns.{RefusesInTurn}
 use Rattle.rh_down.specs.Down.{proxy_reads}
 use Rattle.rh_proxies_begin.specs.Pipes.{in_pipe}
 use Rattle.rh_traced.specs.Ours.{deeds, rules}
+use Rattle.rh_traced.specs.Recordings.{history_at}
 use Rattle.rh_history.proofs.Leading.{cast_kept}
-use Rattle.rh_ordered.specs.Premises.{history_at}
 use Rattle.rh_refused.specs.Refused.{BeginsRefused}
-use Rattle.rh_refused.proofs.Losses.{whole_requests}
 use Rattle.rh_refused.proofs.Lost.{has_503}
-use Rattle.rh_refused.proofs.Moments.{head_is}
-use Rattle.rh_refused.proofs.OutTexts.{puts_200}
+use Rattle.rh_first_texts.proofs.Asking.{head_is, whole_requests}
+use Rattle.rh_first_texts.proofs.OutTexts.{puts_200}
 use Rattle.rh_refused.proofs.Refusals.{none_refused, put_none}
-use Rattle.rh_refused.proofs.Taken.{in_taken, none_echoes, out_taken}
+use Rattle.rh_first_texts.proofs.Taken.{in_taken, none_echoes, out_taken}
 use Rattle.rh_refused.proofs.recordings.a_refused_client_lost_its_server.Goals as goal
 
 pub returns : goal.returns

@@ -7,11 +7,11 @@ use Rattle.rh_shell.specs.Wires.{of_leg}
 use Rattle.rh_inproxy.specs.Machine as in_proxy
 use Rattle.rh_inproxy.specs.State.{InProxy}
 use Rattle.rh_history.specs.Carried.{drawn_on}
-use Rattle.rh_ordered.specs.Premises.{history_at}
 use Rattle.rh_traced.specs.Ours.{deeds, rules}
+use Rattle.rh_traced.specs.Recordings.{history_at}
 use Rattle.rh_history.proofs.Leading.{cast_kept}
 use Rattle.rh_refused.specs.Refused.{BeginsRefused}
-use Rattle.rh_refused.proofs.InTexts.{echoes_alone}
+use Rattle.rh_first_texts.proofs.InTexts.{echoes_alone}
 use Rattle.rh_refused.proofs.Refusals.{by_drawn, echo_success}
 use Rattle.rh_refused.proofs.recordings.a_refused_in_channel_was_refused_by_its_proxy.Goals as goal
 

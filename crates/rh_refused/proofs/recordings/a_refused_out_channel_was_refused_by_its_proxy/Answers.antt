@@ -8,10 +8,10 @@ use Rattle.rh_outproxy.specs.declared.out_proxy.TheConstants.{ROOMS}
 use Rattle.rh_outproxy.specs.Machine as out_proxy
 use Rattle.rh_outproxy.specs.OutProxy.{new_proxy}
 use Rattle.rh_history.specs.Carried.{drawn_on, happened, heard_on}
-use Rattle.rh_ordered.specs.Premises.{history_at}
 use Rattle.rh_traced.specs.Ours.{deeds, rules}
+use Rattle.rh_traced.specs.Recordings.{history_at}
 use Rattle.rh_refused.proofs.Drawn.{heard_refused, refused_more}
-use Rattle.rh_refused.proofs.OutTexts.{puts_200}
+use Rattle.rh_first_texts.proofs.OutTexts.{puts_200}
 use Rattle.rh_refused.proofs.Refusals.{by_drawn, put_none}
 use Rattle.rh_refused.proofs.recordings.a_refused_out_channel_was_refused_by_its_proxy.Goals as goal
 

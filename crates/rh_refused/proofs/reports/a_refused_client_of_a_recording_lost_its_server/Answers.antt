@@ -5,7 +5,7 @@ use Rattle.rh_world.specs.Roles as roles
 use Rattle.rh_traced.proofs.ByChanges.{lines_by_changes}
 use Rattle.rh_fifo.proofs.Recorded.{in_range, new, ours}
 use Rattle.rh_refused.proofs.Reporting.{an_in_proxy, an_out_proxy, reported_loss}
-use Rattle.rh_refused.proofs.Taken.{recorded_port}
+use Rattle.rh_first_texts.proofs.Taken.{recorded_port}
 use Rattle.rh_refused.proofs.reports.a_refused_client_of_a_recording_lost_its_server.Goals as goal
 
 pub returns : goal.returns

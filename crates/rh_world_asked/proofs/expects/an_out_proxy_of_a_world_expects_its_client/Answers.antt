@@ -1,4 +1,4 @@
-use Rattle.rh_ordered.specs.Premises.{history_at}
+use Rattle.rh_traced.specs.Recordings.{history_at}
 use Rattle.rh_world_asked.proofs.Expecting.{flow_expects}
 use Rattle.rh_world_asked.proofs.expects.an_out_proxy_of_a_world_expects_its_client.Goals as goal
 

@@ -16,7 +16,7 @@ use Rattle.rh_history.specs.Carried.{end_drawn_on, heard_on}
 use Rattle.rh_history.specs.Histories.{IsNew}
 use Rattle.rh_traced.specs.Cookies.{ByChanges}
 use Rattle.rh_traced.specs.Ours.{AreOurs, deeds, rules}
-use Rattle.rh_ordered.specs.Premises.{history_at}
+use Rattle.rh_traced.specs.Recordings.{history_at}
 use Rattle.rh_fifo.specs.Flows.{IsFlowing, numbers_of}
 use Rattle.rh_world_asked.specs.Heads.{IsOwnHead}
 use Rattle.rh_world_asked.proofs.OwnHeads.{heads_own, heads_read}

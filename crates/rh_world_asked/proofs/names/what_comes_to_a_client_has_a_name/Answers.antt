@@ -3,9 +3,8 @@ use Rattle.rh_line.specs.declared.leg.LegKind.TheVariants.{ClientOut}
 use Rattle.rh_record.specs.declared.answer.Who.TheVariants as who
 use Rattle.rh_nodes.specs.Settling.{leg_at}
 use Rattle.rh_traced.specs.Ours.{deeds, rules}
-use Rattle.rh_ordered.specs.Premises.{history_at}
-use Rattle.rh_fifo.proofs.Heard.{from_out}
-use Rattle.rh_honest.proofs.Drawn.{as_first}
+use Rattle.rh_traced.specs.Recordings.{history_at}
+use Rattle.rh_fifo.proofs.Heard.{as_first, from_out}
 use Rattle.rh_world_asked.proofs.Named.{Texts, reads_named}
 use Rattle.rh_world_asked.proofs.names.what_comes_to_a_client_has_a_name.Goals as goal
 

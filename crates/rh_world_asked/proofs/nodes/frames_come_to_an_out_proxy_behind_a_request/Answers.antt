@@ -12,7 +12,7 @@ use Rattle.rh_outproxy.specs.OutProxy.{OutProxy, new_proxy}
 use Rattle.rh_history.specs.Carried.{AreAccepted, ComesUpOnce}
 use Rattle.rh_history.proofs.Leading.{cast_kept}
 use Rattle.rh_traced.specs.Ours.{deeds, rules}
-use Rattle.rh_ordered.specs.Premises.{history_at}
+use Rattle.rh_traced.specs.Recordings.{history_at}
 use Rattle.rh_world_asked.proofs.nodes.frames_come_to_an_out_proxy_behind_a_request.Goals as goal
 
 pub returns : goal.returns

@@ -1,0 +1,6 @@
+mod ServerRows
+mod InRows
+mod OutRows
+mod ClientRows
+mod Exceeded
+mod Closing
