@@ -29,8 +29,7 @@ use Rattle.rh_history.proofs.Working.{works_more}
 use Rattle.rh_passages.specs.Rising.{CameUpWith}
 use Rattle.rh_traced.specs.Cookies.{ByChanges}
 use Rattle.rh_traced.specs.Ours.{AreOurs, deeds, rules}
-use Rattle.rh_traced.specs.Recordings.{IsKnown}
-use Rattle.rh_traced.specs.Recordings.{history_at}
+use Rattle.rh_traced.specs.Recordings.{IsKnown, history_at}
 use Rattle.rh_fifo.specs.Flows.{IsFlowing, numbers_of}
 use Rattle.rh_hops.proofs.Moment.{noted_append}
 use Rattle.rh_fifo.specs.Premises.{AreDistinct}

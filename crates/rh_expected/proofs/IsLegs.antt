@@ -28,9 +28,8 @@ use Rattle.rh_streams.specs.Streams.{is_end_up_on}
 use Rattle.rh_traced.specs.Cookies.{ByChanges}
 use Rattle.rh_traced.specs.Numbers.{ComeUpByLines, is_made}
 use Rattle.rh_traced.specs.Ours.{AreOurs, deeds, rules}
-use Rattle.rh_traced.specs.Recordings.{IsKnown}
+use Rattle.rh_traced.specs.Recordings.{IsKnown, history_at}
 use Rattle.rh_traced.proofs.ByChanges.{lines_by_changes}
-use Rattle.rh_traced.specs.Recordings.{history_at}
 use Rattle.rh_fifo.specs.Flows.{IsFlowing, numbers_of}
 use Rattle.rh_hops.specs.Hops.{is_leg}
 use Rattle.rh_in_successors.specs.Connected.{AreConnected}
