@@ -7,38 +7,27 @@ ghost use Rattle.rh_cli.specs.Claims.{Claims};
 
 use rh_bodies::no_body_of_a_recording_is_too_long;
 use rh_bounds::windows_hold_in_every_recording;
-use rh_client_hops::no_hop_of_a_client_closes_a_node_of_a_recording;
 use rh_closes::{
     a_node_of_a_recording_falls_silent, a_recording_reports_a_node_closed_once,
     each_cause_of_a_recording_shows, each_close_of_a_recording_shows,
     only_a_client_of_a_recording_is_refused,
 };
-use rh_expected::{
-    a_client_of_a_recording_refuses_no_cookie, no_client_of_a_recording_refuses_what_comes,
-    no_in_proxy_of_a_recording_refuses_what_comes, no_out_proxy_of_a_recording_refuses_its_client,
-    no_out_proxy_of_a_recording_refuses_its_server,
-    no_server_of_a_recording_refuses_its_in_proxies,
-    no_server_of_a_recording_refuses_its_out_proxies,
-};
+use rh_expected::no_node_of_a_recording_refuses_what_comes;
 use rh_fifo::every_recording_is_ordered;
-use rh_honest::{
-    no_node_of_a_recording_closes_for_bad_bytes,
-    only_acknowledgements_of_a_recording_are_out_of_range,
-};
-use rh_hops::no_hop_on_one_leg_closes_a_node_of_a_recording;
+use rh_honest::no_node_of_a_recording_closes_for_bad_bytes;
 use rh_named::an_end_of_a_recording_names_its_cause;
 use rh_ordered::a_recording_counts;
 use rh_paths::every_recording_keeps_what_is_on_its_way;
 use rh_refused::a_refused_client_of_a_recording_lost_its_server;
+use rh_windows::no_window_closes_a_node_of_a_recording;
 
 /// In every recording what each end takes is what the other end gave, each PDU once and in order,
 /// whatever its lines cut, delay, break and replace; what was given and not taken is on its way,
 /// unless a leg is lost. No more is held for a channel than its window, and each node is reported
 /// as closed once at most, by a line whose answers show why; each later answer of that end names
-/// the same cause (MS-RPCH 3.2). No node closes for bytes that read badly, for a body that is too
-/// long, or for the window of a hop, on one leg or between the client and its proxies; no proxy and
-/// no server for what comes out of its turn or names another cookie, nor the client for what comes
-/// so from an out proxy, nor for any cookie.
+/// the same cause (MS-RPCH 3.2). No node closes for bytes that read badly, for what comes out of its
+/// turn or names another cookie, for a PDU behind its window, for a value out of its range, or for a
+/// body that is too long.
 pub fn recordings_keep_to_their_claims()
     ensures { (lines : List Line) → Claims lines }
 {
@@ -50,17 +39,9 @@ pub fn recordings_keep_to_their_claims()
     only_a_client_of_a_recording_is_refused();
     a_refused_client_of_a_recording_lost_its_server();
     no_node_of_a_recording_closes_for_bad_bytes();
-    only_acknowledgements_of_a_recording_are_out_of_range();
+    no_node_of_a_recording_refuses_what_comes();
+    no_window_closes_a_node_of_a_recording();
     no_body_of_a_recording_is_too_long();
-    no_hop_on_one_leg_closes_a_node_of_a_recording();
-    no_hop_of_a_client_closes_a_node_of_a_recording();
-    no_in_proxy_of_a_recording_refuses_what_comes();
-    no_out_proxy_of_a_recording_refuses_its_server();
-    no_out_proxy_of_a_recording_refuses_its_client();
-    no_server_of_a_recording_refuses_its_out_proxies();
-    no_server_of_a_recording_refuses_its_in_proxies();
-    no_client_of_a_recording_refuses_what_comes();
-    a_client_of_a_recording_refuses_no_cookie();
     every_recording_keeps_what_is_on_its_way();
     a_node_of_a_recording_falls_silent();
     a_recording_reports_a_node_closed_once();

@@ -161,7 +161,7 @@ of_reached node why X before line law is =
     (prepared_is_recorded (after Before before) line (behind_lines Before before tt)) line law is
 
 -- and where the cookies differ, since there are some left behind the line
-pub of_recording_by_lines : (node : Who) (why : Cause) (X : Type 0)
+pub of_recording : (node : Who) (why : Cause) (X : Type 0)
     → ((config : WorldConfig) → AreInRange (numbers_of (ours config)) → (v : roles.World)
     → (by : ByChanges roles.rules roles.makers roles.deeds (roles.begun config) v)
     → list_all of_line by.leads.changes ≡ true
@@ -172,21 +172,8 @@ pub of_recording_by_lines : (node : Who) (why : Cause) (X : Type 0)
     → (before : List Line) (line : Line)
     → AreLeftIn (act (prepared (after Before before) line) line).0
     → IsLicensedIn (prepared (after Before before) line) line node why → X
-of_recording_by_lines node why X law before line left =
+of_recording node why X law before line left =
     of_reached node why X before line (λ config ranges v by own.
     law config (in_range config ranges) v
     (lines_by_changes roles.rules roles.makers roles.deeds (roles.begun config) v by) by.work
     (own left))
-
-pub of_recording_drawn : (node : Who) (why : Cause) (X : Type 0)
-    → ((config : WorldConfig) → AreInRange (numbers_of (ours config)) → (v : roles.World)
-    → (by : ByChanges roles.rules roles.makers roles.deeds (roles.begun config) v)
-    → HaveCookies (happened (all_noted roles.rules roles.makers roles.deeds
-    (roles.begun config) nothing by.leads.changes).client)
-    → (change : Change) → MayChange roles.rules v change
-    → ClosesNode roles.rules v change node why → X)
-    → (before : List Line) (line : Line)
-    → AreLeftIn (act (prepared (after Before before) line) line).0
-    → IsLicensedIn (prepared (after Before before) line) line node why → X
-of_recording_drawn node why X law =
-    of_recording_by_lines node why X (λ config ranges v by lines. law config ranges v by)

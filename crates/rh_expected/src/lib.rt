@@ -7,20 +7,16 @@ pub mod connected;
 pub mod expecting;
 pub mod recordings;
 pub mod roles;
+pub mod whole;
 pub mod worlds;
 
 pub use connected::is_legs_of_lines_are_connected;
 pub use expecting::no_node_refuses_what_it_expects;
-pub use recordings::{
-    a_client_of_a_recording_refuses_no_cookie, no_client_of_a_recording_refuses_what_comes,
-    no_in_proxy_of_a_recording_refuses_what_comes, no_out_proxy_of_a_recording_refuses_its_client,
-    no_out_proxy_of_a_recording_refuses_its_server,
-    no_server_of_a_recording_refuses_its_in_proxies,
-    no_server_of_a_recording_refuses_its_out_proxies,
-};
+pub use recordings::no_node_of_a_recording_refuses_what_comes;
 pub use roles::{
     no_in_proxy_refuses_what_comes, no_out_proxy_refuses_its_client,
     no_out_proxy_refuses_its_server, no_server_refuses_its_in_proxies,
     no_server_refuses_its_out_proxies,
 };
+pub use whole::no_node_refuses_what_comes;
 pub use worlds::{a_client_refuses_no_cookie, no_client_refuses_what_comes};

@@ -23,59 +23,15 @@ returns c = λ lines. record {
     out_channel = c.a_refused_client_of_a_recording_lost_its_server.ensures.out_channel before line;
     in_channel = c.a_refused_client_of_a_recording_lost_its_server.ensures.in_channel before line;
   };
-  reads = λ before behind line is. record {
+  honest = λ before behind line is. record {
     frame = c.no_node_of_a_recording_closes_for_bad_bytes.ensures.frame before line;
     packet = c.no_node_of_a_recording_closes_for_bad_bytes.ensures.packet before line;
+    unexpected = c.no_node_of_a_recording_refuses_what_comes.ensures.unexpected before line;
+    cookie = c.no_node_of_a_recording_refuses_what_comes.ensures.cookie before line;
+    window = c.no_window_closes_a_node_of_a_recording.ensures.windows before line;
+    range = c.no_window_closes_a_node_of_a_recording.ensures.ranges before line;
     head = c.no_node_of_a_recording_closes_for_bad_bytes.ensures.head before line;
-    range = c.only_acknowledgements_of_a_recording_are_out_of_range.ensures before line;
-  };
-  bodies = λ before behind line is. c.no_body_of_a_recording_is_too_long.ensures before line;
-  hops = λ before behind line is. record {
-    server_window =
-        c.no_hop_on_one_leg_closes_a_node_of_a_recording.ensures.server_window before line;
-    server_range =
-        c.no_hop_on_one_leg_closes_a_node_of_a_recording.ensures.server_range before line;
-    in_range =
-        c.no_hop_on_one_leg_closes_a_node_of_a_recording.ensures.in_range before line;
-    out_window =
-        c.no_hop_on_one_leg_closes_a_node_of_a_recording.ensures.out_window before line;
-  };
-  client_hops = λ before behind line is. record {
-    in_window =
-        c.no_hop_of_a_client_closes_a_node_of_a_recording.ensures.in_window before line;
-    in_range =
-        c.no_hop_of_a_client_closes_a_node_of_a_recording.ensures.in_range before line;
-    client_window =
-        c.no_hop_of_a_client_closes_a_node_of_a_recording.ensures.client_window before line;
-    client_range =
-        c.no_hop_of_a_client_closes_a_node_of_a_recording.ensures.client_range before line;
-    out_window =
-        c.no_hop_of_a_client_closes_a_node_of_a_recording.ensures.out_window before line;
-    out_range =
-        c.no_hop_of_a_client_closes_a_node_of_a_recording.ensures.out_range before line;
-  };
-  expected = λ before behind line is. record {
-    in_unexpected =
-        c.no_in_proxy_of_a_recording_refuses_what_comes.ensures.unexpected before line;
-    in_cookie = c.no_in_proxy_of_a_recording_refuses_what_comes.ensures.cookie before line;
-    out_unexpected =
-        c.no_out_proxy_of_a_recording_refuses_its_server.ensures.unexpected before line;
-    out_cookie = c.no_out_proxy_of_a_recording_refuses_its_server.ensures.cookie before line;
-    out_client_unexpected =
-        c.no_out_proxy_of_a_recording_refuses_its_client.ensures.unexpected before line;
-    out_client_cookie =
-        c.no_out_proxy_of_a_recording_refuses_its_client.ensures.cookie before line;
-    server_unexpected =
-        c.no_server_of_a_recording_refuses_its_out_proxies.ensures.unexpected before line;
-    server_cookie =
-        c.no_server_of_a_recording_refuses_its_out_proxies.ensures.cookie before line;
-    server_in_unexpected =
-        c.no_server_of_a_recording_refuses_its_in_proxies.ensures.unexpected before line;
-    server_in_cookie =
-        c.no_server_of_a_recording_refuses_its_in_proxies.ensures.cookie before line;
-    client_unexpected =
-        c.no_client_of_a_recording_refuses_what_comes.ensures.unexpected before line;
-    client_cookie = c.a_client_of_a_recording_refuses_no_cookie.ensures before line;
+    body = c.no_body_of_a_recording_is_too_long.ensures before line;
   };
   once = c.a_recording_reports_a_node_closed_once.ensures lines;
   named = c.an_end_of_a_recording_names_its_cause.ensures lines;
