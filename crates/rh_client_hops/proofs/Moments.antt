@@ -42,7 +42,7 @@ use Rattle.rh_down.specs.Down as down
 use Rattle.rh_reading.specs.Reading.{all_read_of, messages_read}
 use Rattle.rh_traced.specs.Cookies.{ByChanges}
 use Rattle.rh_traced.specs.Ours.{AreOurs, deeds, rules}
-use Rattle.rh_fifo.specs.Flows.{IsFlowing, numbers_of}
+use Rattle.rh_fifo.specs.Flows.{IsFlowing, numbers_of, read_on}
 use Rattle.rh_honest.specs.Honest.{well_on}
 use Rattle.rh_honest.proofs.Fed.{strict_on}
 use Rattle.rh_hops.specs.Refusing.{refused_by}

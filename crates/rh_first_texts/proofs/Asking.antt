@@ -46,14 +46,15 @@ whole_requests ins outs config InServer request is = absurd is
 
 -- ---- what the client drew begins with its request
 
-module _ (begins : (config : ClientConfig) (moves : List EndMove) → AreAllowedMoves config moves
+module _ {reads : Leg → Option Pipe}
+    (begins : (config : ClientConfig) (moves : List EndMove) → AreAllowedMoves config moves
     → BeginsLegs pipe_put (client_moved config moves).passage.put)
     (asks : (config : ClientConfig) (moves : List EndMove) (leg : Leg)
     → AreAllowedMoves config moves
     → AllByRecursion (Asks config leg.kind) (of_leg leg (client_moved config moves).passage.put))
     (whole : (config : ClientConfig) (kind : LegKind) (request : List ℕ)
     → IsRequestOf config kind request → IsWholeText is_whole_head request)
-    (config : ClientConfig) {reads : Leg → Option Pipe} (events : List EndEvent)
+    (config : ClientConfig) (events : List EndEvent)
     (stream : EndStream client.rules client.acts (client_state.first config) client.rooms reads
     events)
     (leg : Leg) (asks_first : first_stage (pipe_put leg) ≡ stage.Head) where

@@ -57,6 +57,7 @@ use Rattle.rh_reading.specs.Well.{Answers, ReadsWell, is_named, is_packet}
 use Rattle.rh_streams.specs.Streams.{EndStream, Seated, Stream}
 use Rattle.rh_traced.specs.Ours.{AreOurs, deeds, rules}
 use Rattle.rh_fifo.specs.Flows.{IsFlowing, numbers_of, read_on}
+use Rattle.rh_fifo.proofs.Heard.{node_reads, reads_on}
 use Rattle.rh_honest.specs.Causes.{AreStrict, IsOfHeard}
 use Rattle.rh_honest.specs.Honest.{IsOfNode, well_on}
 
