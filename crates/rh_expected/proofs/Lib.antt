@@ -6,4 +6,4 @@ pub mod Recorded
 pub mod AtClients
 pub mod OwnClient
 mod IsLegs
-mod Whole
+mod EachNode

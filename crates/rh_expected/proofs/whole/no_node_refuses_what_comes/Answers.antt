@@ -1,7 +1,7 @@
 use Rattle.rh_line.specs.declared.cause.Cause.TheVariants as cause
 use Rattle.rh_history.specs.Closes.{ClosesNode}
 use Rattle.rh_traced.specs.Ours.{rules}
-use Rattle.rh_expected.proofs.Whole.{closes_none}
+use Rattle.rh_expected.proofs.EachNode.{closes_none}
 use Rattle.rh_expected.proofs.whole.no_node_refuses_what_comes.Goals as goal
 
 pub returns : goal.returns
