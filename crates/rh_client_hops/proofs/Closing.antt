@@ -174,7 +174,8 @@ module _ {K : Type 0} (roles : RoleLaws) (nodes : NodesLaws) (reads : Reads) (re
           let next = client_next reads readings m w v ours law alone by (co n) D (λ k. may)
           (refused.OutOfRange command value) (cause.OutOfRange (co n) command value) refl count
           who.Client refl nodes.client refl closes in
-          client_range (reader_of v.readers) (then_all (co n) D may next.0) (then_joined (co n) D may next.0)
+          client_range (reader_of v.readers) (then_all (co n) D may next.0)
+          (then_joined (co n) D may next.0)
           (ours.in_config 1).window (then_moves (co n) D may next.0)
           (honest (co n) D may next.0) n next.1.message next.1.ahead command value
           next.1.refuses
@@ -261,7 +262,8 @@ module _ {K : Type 0} (roles : RoleLaws) (nodes : NodesLaws) (reads : Reads) (re
       (refused.Window (record { reached = reached; edge = edge }))
       (cause.WindowExceeded (ci n) reached edge) refl count (who.In k) here nodes.ins k refl node
       up there closes in
-      in_window (reader_of v.readers) (then_all (ci n) U may next.0) (then_joined (ci n) U may next.0)
+      in_window (reader_of v.readers) (then_all (ci n) U may next.0)
+      (then_joined (ci n) U may next.0)
       (ours.in_config 1).window (then_moves (ci n) U may next.0)
       (honest (ci n) U may next.0) k n (in_number (reader_of v.readers n) k here)
       next.1.message next.1.ahead (record { reached = reached; edge = edge }) next.1.refuses
@@ -281,7 +283,8 @@ module _ {K : Type 0} (roles : RoleLaws) (nodes : NodesLaws) (reads : Reads) (re
       let next = in_next reads readings m w v ours law alone by (ci n) U (λ j. may)
       (refused.OutOfRange command value) (cause.OutOfRange (ci n) command value) refl count
       (who.In k) here nodes.ins k refl node up there closes in
-      in_range (reader_of v.readers) (then_all (ci n) U may next.0) (then_joined (ci n) U may next.0)
+      in_range (reader_of v.readers) (then_all (ci n) U may next.0)
+      (then_joined (ci n) U may next.0)
       (ours.in_config 1).window (then_moves (ci n) U may next.0)
       (honest (ci n) U may next.0) k n next.1.message command value next.1.refuses
 
@@ -303,7 +306,8 @@ module _ {K : Type 0} (roles : RoleLaws) (nodes : NodesLaws) (reads : Reads) (re
       (refused.Window (record { reached = reached; edge = edge }))
       (cause.WindowExceeded (co n) reached edge) refl count (who.Out k) here nodes.outs k refl
       node up there closes in
-      out_window (reader_of v.readers) (then_all (co n) U may next.0) (then_joined (co n) U may next.0)
+      out_window (reader_of v.readers) (then_all (co n) U may next.0)
+      (then_joined (co n) U may next.0)
       (ours.in_config 1).window (then_moves (co n) U may next.0)
       (honest (co n) U may next.0) k next.1.message
       (record { reached = reached; edge = edge })
