@@ -1,5 +1,5 @@
 -- a close of any node, on any leg: of the kinds of legs that it has, or none
-use Rattle.std.proofs.Common.{◌≡◌, ◌⊎◌, inl, inr, ℕ, ap, subst}
+use Rattle.std.proofs.Common.{◌≡◌, inl, inr, ℕ, ap, subst}
 use Rattle.rh_line.specs.declared.leg.Leg.{Leg}
 use Rattle.rh_line.specs.declared.leg.LegKind.{LegKind}
 use Rattle.rh_line.specs.declared.leg.LegKind.TheVariants.{ClientOut, OutServer, InServer}

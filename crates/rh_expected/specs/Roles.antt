@@ -115,10 +115,10 @@ pub record IsByLines {K : Type 0} (m : Makers K InProxy OutProxy)
 -- ---- and in the worlds of roles
 
 -- a world has streams that the roles expect so, where that is said of it
-pub record IsExpecting {K : Type 0} (Fits : Premise K)
-    (Holds : Numbers → (ℕ → ℕ) → Moves → Type 0) (m : Makers K InProxy OutProxy)
-    (w : World K ClientRole Server InProxy OutProxy) (ours : AreOurs m w.company w.cast)
-    (v : World K ClientRole Server InProxy OutProxy) (by : ByChanges rules m deeds w v) : Type 0
+pub record IsExpecting {K : Type 0} (Fits : Premise K) (Holds : Numbers → Facts)
+    (m : Makers K InProxy OutProxy) (w : World K ClientRole Server InProxy OutProxy)
+    (ours : AreOurs m w.company w.cast) (v : World K ClientRole Server InProxy OutProxy)
+    (by : ByChanges rules m deeds w v) : Type 0
   where
     pub flowing : IsFlowing (fifo.numbers_of ours) w v (history_at m w v by.leads)
     pub expects : Fits m w v (history_at m w v by.leads)
@@ -126,8 +126,7 @@ pub record IsExpecting {K : Type 0} (Fits : Premise K)
 
 -- so it is in each world that changes of lines and half steps reach from new roles whose numbers
 -- are in their ranges
-abbrev pub WorldsExpect : (K : Type 0) → Premise K → (Numbers → (ℕ → ℕ) → Moves → Type 0)
-    → Type 0
+abbrev pub WorldsExpect : (K : Type 0) → Premise K → (Numbers → Facts) → Type 0
 WorldsExpect K Fits Holds =
     (m : Makers K InProxy OutProxy) (w : World K ClientRole Server InProxy OutProxy) → IsNew w
     → (ours : AreOurs m w.company w.cast) → AreInRange (fifo.numbers_of ours)

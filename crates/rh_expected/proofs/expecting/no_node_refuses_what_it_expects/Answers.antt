@@ -1,4 +1,4 @@
-use Rattle.std.proofs.Common.{◌≡◌, ℕ, true, refl}
+use Rattle.std.proofs.Common.{◌≡◌, true, refl}
 use Rattle.std.specs.List.{list_all}
 use Rattle.rh_line.specs.declared.cause.Cause.TheVariants as cause
 use Rattle.rh_shell.specs.declared.answers.Refused.TheVariants as refused
@@ -22,12 +22,12 @@ use Rattle.rh_hops.specs.Hops.{is_leg, os_leg}
 use Rattle.rh_hops.proofs.Moment.{Laws}
 use Rattle.rh_hops.proofs.Stopping.{Readings}
 use Rattle.rh_fifo.proofs.Legs.{Reads}
-use Rattle.rh_moments.specs.Moments.{Moves, Numbers}
+use Rattle.rh_moments.specs.Moments.{Numbers}
 use Rattle.rh_amiss.proofs.AtNodes.{ClientKnows, RolesKnow}
 use Rattle.rh_amiss.proofs.Moments.{AllFlow}
 use Rattle.rh_pasts.specs.Pasts.{numbers}
 use Rattle.rh_first_texts.specs.Ports.{IsPort}
-use Rattle.rh_expected.specs.Roles.{ClientExpects, HaveCookies, InExpects, IsByLines, OfClient, OutExpectsClient, OutExpectsServer, OutsServe, Premise, ServerExpectsIn, ServerExpectsOut, WorldsExpect, WorldsServe}
+use Rattle.rh_expected.specs.Roles.{ClientExpects, Facts, HaveCookies, InExpects, IsByLines, OfClient, OutExpectsClient, OutExpectsServer, OutsServe, Premise, ServerExpectsIn, ServerExpectsOut, WorldsExpect, WorldsServe}
 use Rattle.rh_expected.proofs.Facts.{client_kept, distinct_of_cookies, have_of_cookies, lines_kept}
 use Rattle.rh_expected.proofs.Closing.{AtMoment, NodesLaws, no_in_amiss, no_out_amiss_of_client, no_out_amiss_of_server, no_server_amiss_of_in, no_server_amiss_of_out}
 use Rattle.rh_expected.proofs.AtClients.{no_out_amiss_at_end}
@@ -252,7 +252,7 @@ returns g c = record {
       drawn = c.what_is_heard_was_drawn.ensures rules m deeds w.company;
     }
 
-    flow : (Fits : Premise g.row.K.Denot) (Holds : Numbers → (ℕ → ℕ) → Moves → Type 0)
+    flow : (Fits : Premise g.row.K.Denot) (Holds : Numbers → Facts)
         → WorldsExpect g.row.K.Denot Fits Holds → (m : Makers g.row.K.Denot InProxy OutProxy)
         (w : World g.row.K.Denot ClientRole Server InProxy OutProxy) → IsNew w
         → (ours : AreOurs m w.company w.cast) → AreInRange (numbers_of ours)
