@@ -1,7 +1,7 @@
 -- where few wait at an out proxy, nothing is refused for want of room
-use Rattle.std.proofs.Common.{◌≡◌, ℕ, suc, ◌+◌, ◌≤◌, ◌==◌, ◌&&◌, nat_lt, Bool, true, false, if◌then◌else◌, List, [], ◌∷◌, ◌++◌, length, Ok, Err, refl, sym, ap, ◌∙◌, subst, arith, rules}
+use Rattle.std.proofs.Common.{◌≡◌, ℕ, suc, ◌+◌, ◌≤◌, ◌==◌, ◌&&◌, nat_lt, Bool, true, false, if◌then◌else◌, List, [], ◌∷◌, ◌++◌, length, Err, refl, subst, arith, rules}
 use Rattle.std.proofs.lemmas.Bool.Decides.{nat_tests}
-use Rattle.std.proofs.lemmas.List.{count_by-le-length}
+use Rattle.std.proofs.lemmas.List.Sums.{count_by-le-length}
 use Rattle.std.specs.List.{AllByRecursion, list_any}
 use Rattle.rh_rts.specs.declared.command.Cookie.{Cookie}
 use Rattle.rh_sig.specs.declared.named.Named.{Named}
@@ -29,8 +29,8 @@ use Rattle.rh_outproxy.specs.Machine.{packet, on_co, on_os}
 use Rattle.rh_passages.specs.Passing.{count_of}
 use Rattle.rh_client_counts.specs.Counting.{is_in_a4}
 use Rattle.rh_proxy_counts.specs.Kinds.{is_conn_c2, is_out_r1_a2, is_out_r1_a6}
-use Rattle.rh_out_room.specs.Room.{AcksFewBetween, HasRoom, PassOneByOne}
-use Rattle.rh_out_room.specs.Waits.{IsForwarded, IsToForward, WaitsInOrder, cookie_in, cookies_in, from_server, packets_of, to_client, waiting_at}
+use Rattle.rh_out_room.specs.Room.{HasRoom, PassOneByOne}
+use Rattle.rh_out_room.specs.Waits.{IsForwarded, IsToForward, WaitsInOrder, cookie_in, cookies_in, packets_of, waiting_at}
 
 -- ---- how many wait
 
@@ -43,7 +43,7 @@ all_kinds : (dues : List Due) → AllByRecursion IsToForward dues
 all_kinds [] each = refl
 all_kinds (due ∷ dues) each = by due.packet each.0 (all_kinds dues each.1)
   where
-    abbrev ms : List Message
+    ms : List Message
     ms = packets_of dues
 
     by : (m : Named) → IsForwarded m
@@ -66,15 +66,27 @@ pub few_in_all : (n : ℕ) (p : Passage OutProxy) → WaitsInOrder n p → PassO
     → length (cookies_in (waiting_at p)) ≤ 10 → length (waiting_at p) ≤ 14
 few_in_all n p order singly acks =
     let all = all_kinds (waiting_at p) order.each in
-    let c2 = order.connection in
-    let a4 = order.ins in
-    let a2 = order.wishes in
-    let a6 = order.answers in
-    let c1 = singly.connection in
-    let a3 = singly.ins in
-    let a1 = singly.wishes in
-    let a5 = singly.answers in
-    omega (arith, all, acks, c2, a4, a2, a6, c1, a3, a1, a5)
+    let connection = order.connection in
+    let ins = order.ins in
+    let wishes = order.wishes in
+    let answers = order.answers in
+    let one_connection = singly.connection in
+    let one_in = singly.ins in
+    let one_wish = singly.wishes in
+    let one_answer = singly.answers in
+    omega (
+      arith,
+      all,
+      acks,
+      connection,
+      ins,
+      wishes,
+      answers,
+      one_connection,
+      one_in,
+      one_wish,
+      one_answer,
+    )
 
 -- ---- rows
 

@@ -1,13 +1,12 @@
 -- what waits at an out proxy, with more that came, with a packet more to forward, and behind a put
-use Rattle.std.proofs.Common.{◌≡◌, ℕ, zero, suc, ◌+◌, ◌≤◌, Bool, true, false, List, [], ◌∷◌, ◌++◌, refl, sym, ap, subst, arith}
-use Rattle.std.specs.List.{AllByRecursion, list_any}
-use Rattle.rh_rts.specs.declared.command.Cookie.{Cookie}
+use Rattle.std.proofs.Common.{◌≡◌, ℕ, ◌+◌, ◌≤◌, Bool, List, [], ◌∷◌, ◌++◌, refl, sym, subst, arith}
+use Rattle.std.specs.List.{AllByRecursion}
 use Rattle.rh_sig.specs.declared.named.Named.{Named}
 use Rattle.rh_sig.specs.declared.named.Named.TheVariants.{AckTo}
 use Rattle.rh_shell.specs.declared.due.Due.{Due}
-use Rattle.rh_shell.specs.Rules.{Message, Text, Pdu, Packet}
+use Rattle.rh_shell.specs.Rules.{Message, Packet}
 use Rattle.rh_shell.specs.Shells.{one_if}
-use Rattle.rh_shell.specs.Waiting.{Waiting, forwarded, merged, takes, to_forward}
+use Rattle.rh_shell.specs.Waiting.{Waiting, forwarded, to_forward}
 use Rattle.rh_passages.specs.Passing.{count_of}
 use Rattle.rh_passages.proofs.Messages.{all_append, count_append, count_rises}
 use Rattle.rh_client_counts.specs.Counting.{is_in_a4}
@@ -105,7 +104,7 @@ module _ (w : Waiting) (came put : List Message) (m other : Named) where
       → InOrder (forwarded w other).0.due came_now put
   one_more_waits as_other h =
       let k = count_of is_in_a4 put in record {
-        each = forwarded_so (AllByRecursion IsToForward) w other
+        each = forwarded_so (λ (v : Waiting). AllByRecursion IsToForward v.due) w other
             (merged_each w.due other h.each)
             (λ e. all_append IsToForward w.due (to_forward other ∷ []) h.each (as_other.is, tt))
             h.each;
@@ -116,10 +115,10 @@ module _ (w : Waiting) (came put : List Message) (m other : Named) where
             as_other.wishes h.wishes;
         answers = one_within is_out_r1_a5 is_out_r1_a6 (λ to received available of. refl)
             as_other.answers h.answers;
-        different = forwarded_so (λ (dues : List Due). AreDifferent (cookies_in dues)) w other
+        different = forwarded_so (λ (v : Waiting). AreDifferent (cookies_in v.due)) w other
             (subst AreDifferent (sym (merged_cookies w.due other)) h.different)
             (λ e. differ_pushed w.due other as_other.is h.each e h.different) h.different;
-        follow = forwarded_so (λ (dues : List Due). Follow k dues came_now) w other
+        follow = forwarded_so (λ (v : Waiting). Follow k v.due came_now) w other
             (follow_merged k w.due other came_now
             (follow_more k w.due came (Packet m ∷ []) h.follow))
             (λ e. follow_pushed k w.due other came_now

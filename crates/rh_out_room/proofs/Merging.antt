@@ -1,8 +1,8 @@
 -- what waits to be forwarded, with a packet more that is merged, or that waits behind the others
-use Rattle.std.proofs.Common.{◌≡◌, ℕ, zero, suc, ◌+◌, ◌≤◌, ◌==◌, ◌&&◌, ◌||◌, nat_lt, Bool, true, false, true≢false, if◌then◌else◌, List, [], ◌∷◌, ◌++◌, Some, None, refl, sym, ap, ◌∙◌, subst, arith, length}
-use Rattle.std.proofs.lemmas.Bool.{and_parts, eqb-true}
+use Rattle.std.proofs.Common.{◌≡◌, ℕ, suc, ◌+◌, ◌==◌, ◌&&◌, nat_lt, Bool, true, false, true≢false, if◌then◌else◌, List, [], ◌∷◌, ◌++◌, Some, None, refl, sym, ap, ◌∙◌, subst, arith}
+use Rattle.std.proofs.lemmas.Bool.{and_parts, eqb-true, or_parts}
 use Rattle.std.proofs.lemmas.Bool.Decides.{nat_tests}
-use Rattle.std.proofs.lemmas.List.{append-nil}
+use Rattle.std.proofs.lemmas.List.{append-nil, append_assoc}
 use Rattle.std.proofs.lemmas.Slice.Eq.{bytes_eq-Decides}
 use Rattle.std.specs.Prelude.{bytes_eq}
 use Rattle.std.specs.List.{AllByRecursion, list_any}
@@ -13,7 +13,7 @@ use Rattle.rh_sig.specs.declared.named.Named.TheVariants.{AckTo}
 use Rattle.rh_order.proofs.ByNumber.{by_test}
 use Rattle.rh_shell.specs.declared.due.Due.{Due}
 use Rattle.rh_shell.specs.declared.due.Origin.TheVariants.{Forwarded}
-use Rattle.rh_shell.specs.Rules.{Message, Packet}
+use Rattle.rh_shell.specs.Rules.{Message}
 use Rattle.rh_shell.specs.Shells.{one_if}
 use Rattle.rh_shell.specs.Waiting.{Waiting, Key, key_of, are_one, better, edge_of, merged, takes, with_due, pushed, to_forward, count, forwarded}
 use Rattle.rh_passages.specs.Passing.{count_of, HasOne}
@@ -21,28 +21,20 @@ use Rattle.rh_passages.proofs.Messages.{all_append}
 use Rattle.rh_client_counts.specs.Counting.{is_in_a4}
 use Rattle.rh_proxy_counts.proofs.Waits.{waits}
 use Rattle.rh_out_room.specs.Waits.{AcksFor, AreDifferent, IsForwarded, IsToForward, behind, cookie_in, cookies_in, is_in_a3, packets_of}
-use Rattle.rh_out_room.proofs.Behind.{fewer_behind, last_behind, more_behind}
+use Rattle.rh_out_room.proofs.Behind.{fewer_behind, more_behind}
 
 -- ---- a packet more is to be forwarded
 
 -- it is merged with one, or waits behind the others, or is refused
-pub forwarded_so : (P : List Due → Type 0) (w : Waiting) (m : Named)
-    → P (merged w.due m)
-    → (list_any (takes m) w.due ≡ false → P (w.due ++ to_forward m ∷ [])) → P w.due
-    → P (forwarded w m).0.due
+pub forwarded_so : (P : Waiting → Type 0) (w : Waiting) (m : Named)
+    → P (with_due w (merged w.due m))
+    → (list_any (takes m) w.due ≡ false → P (pushed w (to_forward m))) → P w
+    → P (forwarded w m).0
 forwarded_so P w m merges pushes none =
-    by_test (λ (x : Waiting × Bool). P x.0.due) (list_any (takes m) w.due)
+    by_test (λ (x : Waiting × Bool). P x.0) (list_any (takes m) w.due)
     (with_due w (merged w.due m), true) _ (λ e. merges)
-    (λ e. by_test (λ (x : Waiting × Bool). P x.0.due) (nat_lt (count Forwarded w.due) w.room)
+    (λ e. by_test (λ (x : Waiting × Bool). P x.0) (nat_lt (count Forwarded w.due) w.room)
     (pushed w (to_forward m), true) (w, false) (λ f. pushes e) (λ f. none))
-
-pub forwarded_room : (w : Waiting) (m : Named) → (forwarded w m).0.room ≡ w.room
-forwarded_room w m =
-    by_test (λ (x : Waiting × Bool). x.0.room ≡ w.room) (list_any (takes m) w.due)
-    (with_due w (merged w.due m), true) _ (λ e. refl)
-    (λ e. by_test (λ (x : Waiting × Bool). x.0.room ≡ w.room)
-    (nat_lt (count Forwarded w.due) w.room) (pushed w (to_forward m), true) (w, false)
-    (λ f. refl) (λ f. refl))
 
 -- ---- it takes the place of one for the same channel
 
@@ -114,11 +106,7 @@ pub pushed_cookies : (dues : List Due) (due : Due)
 pushed_cookies [] due = append-nil (cookie_in due.packet)
 pushed_cookies (first ∷ dues) due =
     ap (λ (cs : List Cookie). cookie_in first.packet ++ cs) (pushed_cookies dues due)
-    ∙ joined (cookie_in first.packet) (cookies_in dues) (cookie_in due.packet)
-  where
-    joined : (a b c : List Cookie) → a ++ (b ++ c) ≡ (a ++ b) ++ c
-    joined [] b c = refl
-    joined (x ∷ a) b c = ap (λ (cs : List Cookie). x ∷ cs) (joined a b c)
+    ∙ sym (append_assoc (cookie_in first.packet) (cookies_in dues) (cookie_in due.packet))
 
 -- one more that is none of them
 pub differ_more : (cookies : List Cookie) (cookie : Cookie) → AreDifferent cookies
@@ -137,10 +125,6 @@ differ_fewer [] cookies are = are
 differ_fewer (cookie ∷ some) cookies are = differ_fewer some cookies are.1
 
 -- where none takes it, it is for another channel
-or_parts : (a b : Bool) → (a || b) ≡ false → (a ≡ false) × (b ≡ false)
-or_parts true b e = absurd (true≢false e)
-or_parts false b e = (refl, e)
-
 none_takes : (dues : List Due) (to received available : ℕ) (of : Cookie) → to ≡ 0
     → AllByRecursion IsToForward dues
     → list_any (takes (AckTo to received available of)) dues ≡ false

@@ -1,14 +1,12 @@
 -- what goes round between the ends passes each out proxy one by one
-use Rattle.std.proofs.Common.{◌≡◌, ℕ, zero, suc, ◌+◌, ◌≤◌, ◌==◌, Bool, true, false, List, refl, sym, ap, subst, arith}
+use Rattle.std.proofs.Common.{◌≡◌, ℕ, zero, suc, ◌+◌, ◌≤◌, ◌==◌, Bool, true, false, List, refl, ap, arith}
 use Rattle.std.proofs.lemmas.Bool.Decides.{nat_tests}
 use Rattle.rh_sig.specs.declared.named.Named.{Named}
 use Rattle.rh_sig.specs.declared.named.Named.TheVariants as named
 use Rattle.rh_line.specs.declared.leg.LegKind.TheVariants.{ClientOut, OutServer}
-use Rattle.rh_shell.specs.Moves.{OnLeg, Passage}
-use Rattle.rh_outproxy.specs.OutProxy.{OutProxy}
+use Rattle.rh_shell.specs.Moves.{OnLeg}
 use Rattle.rh_passages.specs.Passing.{of_kind}
 use Rattle.rh_client_counts.specs.Counting as at_client
-use Rattle.rh_client_counts.specs.Replacing.{in_answered, out_wanted, out_answered}
 use Rattle.rh_server_counts.specs.Counting as at_server
 use Rattle.rh_server_counts.specs.Counting.{out_put}
 use Rattle.rh_proxy_counts.specs.Kinds as at_proxy
@@ -16,7 +14,7 @@ use Rattle.rh_chains.specs.Sums.{count_on, sum_below}
 use Rattle.rh_chains.specs.Ways.{AreFronts, Logs, total}
 use Rattle.rh_chains.proofs.Summing.{all_legs, some_legs, sum_rises}
 use Rattle.rh_moments.specs.Moments.{AreJoined, Passages}
-use Rattle.rh_rounds.specs.Rounds.{GoRound, taken_in}
+use Rattle.rh_rounds.specs.Rounds.{GoRound}
 use Rattle.rh_rounds.proofs.Fronts.{are_fronts, logs_of}
 use Rattle.rh_rounds.proofs.Rounding.{agrees, grants, once, same_counts, sum_counts, wants, wishes}
 use Rattle.rh_out_room.specs.Room.{IsOneAhead, PassOneByOne}
@@ -82,10 +80,10 @@ module _ (reader : ℕ → ℕ) (all : Passages) (joined : AreJoined reader all)
       let put = count_on before OutServer all.server.put in
       let each : (k : ℕ) → came k ≤ put k
       = λ k. (
-        let last = f.co_down after k in
-        let pass = passes k in
-        let first = f.os_down before k in
-        omega (arith, last, pass, first)) in
+      let last = f.co_down after k in
+      let pass = passes k in
+      let first = f.os_down before k in
+      omega (arith, last, pass, first)) in
       let legs = all_legs after ClientOut all.client.came in
       let m = legs.bound + suc n in
       let most = legs.all m (omega arith) in
@@ -116,27 +114,51 @@ module _ (reader : ℕ → ℕ) (all : Passages) (joined : AreJoined reader all)
         (of_kind OutServer all.server.put) in
         let came = same_counts at_proxy.is_out_r1_a2 at_client.is_out_r1_a2 wishes
         (of_kind ClientOut all.client.came) in
-        let a1 = round.outs.a1_behind_a9 in
-        let a9 = round.outs.a9_behind_a8 in
-        let a8 = round.outs.a8_behind_a7 in
-        let a7 = round.outs.a7_behind_a6 in
-        let a6 = round.outs.a6_behind_a5 in
-        let a5 = round.outs.a5_behind_a4 in
-        let a4 = round.outs.a4_behind_a3 in
-        let a3 = round.outs.a3_behind_a2 in
-        omega (arith, put, came, a1, a9, a8, a7, a6, a5, a4, a3)) n;
+        let wanting = round.outs.a1_behind_a9 in
+        let handed_over = round.outs.a9_behind_a8 in
+        let confirmed = round.outs.a8_behind_a7 in
+        let switched = round.outs.a7_behind_a6 in
+        let answered = round.outs.a6_behind_a5 in
+        let granted = round.outs.a5_behind_a4 in
+        let opened = round.outs.a4_behind_a3 in
+        let asked = round.outs.a3_behind_a2 in
+        omega (
+          arith,
+          put,
+          came,
+          wanting,
+          handed_over,
+          confirmed,
+          switched,
+          answered,
+          granted,
+          opened,
+          asked,
+        )) n;
     answers = one_ahead at_proxy.is_out_r1_a5 at_proxy.is_out_r1_a6 (λ k. (waits k).answers)
         (let put = same_counts at_proxy.is_out_r1_a5 at_server.is_out_r1_a5 grants
         (of_kind OutServer all.server.put) in
         let came = same_counts at_proxy.is_out_r1_a6 at_client.is_out_r1_a6 agrees
         (of_kind ClientOut all.client.came) in
-        let a5 = round.outs.a5_behind_a4 in
-        let a4 = round.outs.a4_behind_a3 in
-        let a3 = round.outs.a3_behind_a2 in
-        let a2 = round.outs.a2_behind_a1 in
-        let a1 = round.outs.a1_behind_a9 in
-        let a9 = round.outs.a9_behind_a8 in
-        let a8 = round.outs.a8_behind_a7 in
-        let a7 = round.outs.a7_behind_a6 in
-        omega (arith, put, came, a5, a4, a3, a2, a1, a9, a8, a7)) n;
+        let granted = round.outs.a5_behind_a4 in
+        let opened = round.outs.a4_behind_a3 in
+        let asked = round.outs.a3_behind_a2 in
+        let wanted = round.outs.a2_behind_a1 in
+        let wanting = round.outs.a1_behind_a9 in
+        let handed_over = round.outs.a9_behind_a8 in
+        let confirmed = round.outs.a8_behind_a7 in
+        let switched = round.outs.a7_behind_a6 in
+        omega (
+          arith,
+          put,
+          came,
+          granted,
+          opened,
+          asked,
+          wanted,
+          wanting,
+          handed_over,
+          confirmed,
+          switched,
+        )) n;
   }

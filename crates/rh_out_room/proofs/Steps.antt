@@ -1,9 +1,8 @@
 -- each step of an out proxy keeps what waits there in order
-use Rattle.std.proofs.Common.{◌≡◌, ℕ, ◌+◌, ◌≤◌, ◌==◌, ◌&&◌, Bool, true, false, if◌then◌else◌, List, [], ◌∷◌, ◌++◌, length, Some, None, Ok, Err, refl, sym, ap, ◌∙◌, subst, arith, rules, nat_lt}
+use Rattle.std.proofs.Common.{◌≡◌, ℕ, ◌≤◌, ◌==◌, ◌&&◌, Bool, true, false, if◌then◌else◌, List, [], ◌∷◌, ◌++◌, Some, None, Ok, Err, refl, sym, ap, ◌∙◌, subst, arith, rules}
 use Rattle.std.proofs.lemmas.Bool.{and_parts, eqb-true}
 use Rattle.std.proofs.lemmas.List.{append-nil}
 use Rattle.std.specs.Prelude.{IfSome}
-use Rattle.std.specs.List.{list_any}
 use Rattle.std.specs.declared.option.Option.{Option}
 use Rattle.rh_rts.specs.declared.command.Cookie.{Cookie}
 use Rattle.rh_sig.specs.declared.named.Named.{Named}
@@ -13,7 +12,6 @@ use Rattle.rh_line.specs.declared.leg.Leg.{Leg}
 use Rattle.rh_order.proofs.ByNumber.{by_test}
 use Rattle.rh_shell.specs.declared.answers.Count.{Count}
 use Rattle.rh_shell.specs.declared.due.Due.{Due}
-use Rattle.rh_shell.specs.declared.due.Origin.TheVariants.{Forwarded}
 use Rattle.rh_shell.specs.declared.waiting.TheConstants.{FORWARDED_ROOM}
 use Rattle.rh_shell.specs.Moves.{OnLeg, Move, all_moved, started}
 use Rattle.rh_shell.specs.Rules.{Message, Pdu, Packet}
@@ -41,9 +39,10 @@ use Rattle.rh_passages.proofs.Logs.{PutKeeps, RowKeeps, StepsKeep, moves_keep}
 use Rattle.rh_passages.proofs.Messages.{leg_more}
 use Rattle.rh_proxy_counts.specs.OutCounts.{co_leg, os_leg}
 use Rattle.rh_proxy_counts.proofs.Counts.{here_more, leg_is}
+use Rattle.rh_proxy_counts.proofs.Waits.{IsNoAck, IsSame, refused_waits}
 use Rattle.rh_out_room.specs.Waits.{IsForwarded, is_in_a3}
 use Rattle.rh_out_room.proofs.Held.{SameAck, CountsNone, InOrder, IsForwardedAs, first_put, more_came, nothing_waits, one_more_waits, other_put}
-use Rattle.rh_out_room.proofs.Merging.{forwarded_room}
+use Rattle.rh_out_room.proofs.Merging.{forwarded_so}
 
 pub record Seen : Type 0 where
   pub number : ℕ
@@ -178,8 +177,12 @@ module _ (n : ℕ) where
         by_test (Row s came put h (on_server m)) (is_client_marked s.client) (taken s)
         (forwarded_by s (waits.forwarded s.waiting other))
         (λ e. came_holds (seen s) came put (on_server m) h)
-        (λ e. by (waits.forwarded s.waiting other) next kept)
+        (λ e. by (waits.forwarded s.waiting other) next
+        (refused_waits is_in_a4 no_acks s.waiting other))
       where
+        no_acks : IsNoAck is_in_a4
+        no_acks to received available of = refl
+
         Next : Waiting → Type 0
         Next w = Held n (record { number = s.config.number; waiting = w })
             (came ++ on_server m ∷ []) put
@@ -187,7 +190,8 @@ module _ (n : ℕ) where
         next : Next (waits.forwarded s.waiting other).0
         next = record {
           is = h.is;
-          room = forwarded_room s.waiting other ∙ h.room;
+          room = forwarded_so (λ (v : Waiting). v.room ≡ FORWARDED_ROOM) s.waiting other h.room
+              (λ e. h.room) h.room;
           order = subst (λ (ms : List Message).
               InOrder (waits.forwarded s.waiting other).0.due ms (of_leg (co_leg n) put))
               (sym (here_more (os_leg n) came (Packet m)))
@@ -195,19 +199,7 @@ module _ (n : ℕ) where
               as_other h.order);
         }
 
-        IsKept : Waiting × Bool → Type 0
-        IsKept (w, true) = Unit {0}
-        IsKept (w, false) = w ≡ s.waiting
-
-        kept : IsKept (waits.forwarded s.waiting other)
-        kept =
-            by_test IsKept (list_any (waits.takes other) s.waiting.due)
-            (waits.with_due s.waiting (waits.merged s.waiting.due other), true) _ (λ e. tt)
-            (λ e. by_test IsKept (nat_lt (waits.count Forwarded s.waiting.due) s.waiting.room)
-            (waits.pushed s.waiting (waits.to_forward other), true) (s.waiting, false)
-            (λ f. tt) (λ f. refl))
-
-        by : (r : Waiting × Bool) → Next r.0 → IsKept r
+        by : (r : Waiting × Bool) → Next r.0 → IsSame is_in_a4 no_acks s.waiting r
             → Row s came put h (on_server m) (forwarded_by s r)
         by (w, true) all same = all
         by (w, false) all same =

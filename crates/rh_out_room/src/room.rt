@@ -14,7 +14,7 @@ use rh_server_counts::a_server_opens_once;
 
 /// Where the moves of the roles are joined by legs: at most one CONN/C1 came to an out proxy from
 /// the server; and of IN_R1/A3 and IN_R2/A3, of OUT_R1/A1, and of OUT_R1/A5 no more came than went
-/// on to the client as A4, A2 and A6, but for one.
+/// on to the client as A4, A2 and A6, but for one (the replacement of channels is this profile's).
 pub fn what_goes_round_passes_an_out_proxy_one_by_one()
     ensures { (numbers : Numbers) (reader : ℕ → ℕ) (moves : Moves) → AreMade numbers moves
         → AreJoined reader (passages numbers moves) → (n : ℕ)
@@ -25,9 +25,10 @@ pub fn what_goes_round_passes_an_out_proxy_one_by_one()
     a_server_opens_once();
 }
 
-/// And if in each stretch without IN_R1/A3 and IN_R2/A3 of what the server put on the leg of an out
-/// proxy at most five channels are acknowledged to the client, no more than fourteen packets wait
-/// at that proxy to be forwarded, and it refuses no packet for want of room.
+/// Where the moves of the roles are joined by legs, and in each stretch without IN_R1/A3 and
+/// IN_R2/A3 of what the server put on the leg of an out proxy at most five channels are
+/// acknowledged to the client: no more than fourteen packets wait at that proxy to be forwarded,
+/// and it refuses no packet for want of room (MS-RPCH 2.2.4; the room is this profile's).
 pub fn an_out_proxy_has_room_to_forward()
     ensures { (numbers : Numbers) (reader : ℕ → ℕ) (moves : Moves) → AreMade numbers moves
         → AreJoined reader (passages numbers moves) → (n : ℕ)

@@ -1,4 +1,4 @@
-use Rattle.std.proofs.Common.{ℕ, List, length, subst, ◌≤◌, arith}
+use Rattle.std.proofs.Common.{ℕ, List, subst, arith}
 use Rattle.rh_shell.specs.Rules.{Message}
 use Rattle.rh_shell.specs.Wires.{of_leg}
 use Rattle.rh_outproxy.specs.OutProxy.{OutProxy}
@@ -7,7 +7,7 @@ use Rattle.rh_passages.specs.Passing.{count_of}
 use Rattle.rh_client_counts.specs.Counting.{is_in_a4}
 use Rattle.rh_proxy_counts.specs.OutCounts.{os_leg}
 use Rattle.rh_reading.specs.Reading.{all_read_of}
-use Rattle.rh_moments.specs.Moments.{AreJoined, AreMade, Moves, Numbers, out_behind, passages, server_behind}
+use Rattle.rh_moments.specs.Moments.{out_behind, passages, server_behind}
 use Rattle.rh_moments.proofs.Joining.{os_back}
 use mathlib.Core.List.{IsPrefix}
 use Rattle.rh_out_room.specs.Room.{AcksFewBetween, HasRoom, PassOneByOne}

@@ -1,5 +1,5 @@
 use Rattle.std.proofs.Common.{ℕ, subst}
-use Rattle.rh_moments.specs.Moments.{AreMade, Moves, Numbers, out_behind, passages}
+use Rattle.rh_moments.specs.Moments.{out_behind, passages}
 use Rattle.rh_out_room.specs.Waits.{WaitsInOrder}
 use Rattle.rh_out_room.proofs.Rounds.{one_by_one}
 use Rattle.rh_out_room.proofs.room.what_goes_round_passes_an_out_proxy_one_by_one.Goals as goal

@@ -1,14 +1,12 @@
-use Rattle.std.proofs.Common.{◌≡◌, ℕ, ◌+◌, ◌≤◌, Bool, List, arith, subst}
+use Rattle.std.proofs.Common.{◌≡◌, ℕ, ◌+◌, Bool, arith, subst}
 use Rattle.rh_sig.specs.declared.named.Named.{Named}
-use Rattle.rh_shell.specs.Moves.{Move, Passage, all_moved, started}
-use Rattle.rh_shell.specs.Wires.{of_leg}
-use Rattle.rh_outproxy.specs.declared.state.OutProxyConfig.{OutProxyConfig}
+use Rattle.rh_shell.specs.Moves.{Passage, all_moved, started}
 use Rattle.rh_outproxy.specs.Machine.{rules as proxy_rules}
 use Rattle.rh_outproxy.specs.OutProxy.{OutProxy, new_proxy}
 use Rattle.rh_passages.specs.Passing.{count_of}
 use Rattle.rh_client_counts.specs.Counting.{is_in_a4}
 use Rattle.rh_proxy_counts.specs.Kinds.{is_conn_c1, is_conn_c2, is_out_r1_a1, is_out_r1_a2, is_out_r1_a5, is_out_r1_a6}
-use Rattle.rh_out_room.specs.Waits.{AreOfCame, WaitsInOrder, from_server, is_in_a3, packets_of, to_client, waiting_at}
+use Rattle.rh_out_room.specs.Waits.{AreOfCame, WaitsInOrder, from_server, is_in_a3, to_client, waiting_at}
 use Rattle.rh_out_room.proofs.Held.{AreWithin}
 use Rattle.rh_out_room.proofs.Merging.{Follow, all_wait, follow_acks}
 use Rattle.rh_out_room.proofs.Steps.{Held, proxy_holds, seen}
