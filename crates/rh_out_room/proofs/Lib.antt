@@ -1,0 +1,7 @@
+pub mod Behind
+pub mod Few
+pub mod Fits
+pub mod Held
+pub mod Merging
+pub mod Rounds
+pub mod Steps
