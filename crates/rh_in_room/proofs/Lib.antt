@@ -1,0 +1,5 @@
+pub mod Turns
+pub mod Apart
+pub mod Seen
+pub mod Came
+pub mod InProxy

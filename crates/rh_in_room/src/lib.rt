@@ -1,0 +1,7 @@
+//! An in proxy never has too little room for what it forwards. Its functions do nothing: their
+//! contracts are the laws.
+#![tactic(auto)]
+
+pub mod in_proxies;
+
+pub use in_proxies::what_waits_in_an_in_proxy_came_in_turn;
