@@ -3,3 +3,8 @@ pub mod Apart
 pub mod Seen
 pub mod Came
 pub mod InProxy
+pub mod Known
+pub mod ClientRows
+pub mod ClientPuts
+pub mod Client
+pub mod OnEach
