@@ -8,3 +8,10 @@ pub mod ClientRows
 pub mod ClientPuts
 pub mod Client
 pub mod OnEach
+pub mod Keeping
+pub mod Share
+pub mod Names
+pub mod Found
+pub mod Places
+pub mod Full
+pub mod Moment
