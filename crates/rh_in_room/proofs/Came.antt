@@ -1,5 +1,5 @@
 -- what comes to an in proxy, and what waits behind it
-use Rattle.std.proofs.Common.{◌≡◌, ℕ, suc, ◌+◌, ◌≤◌, ◌<◌, ◌==◌, ◌&&◌, ◌||◌, Bool, true, false, not, nat_lt, if◌then◌else◌, List, [], ◌∷◌, ◌++◌, Some, None, Ok, Err, arith, rules, refl, sym, ap, ◌∙◌, subst}
+use Rattle.std.proofs.Common.{◌≡◌, ℕ, suc, ◌+◌, ◌==◌, ◌&&◌, ◌||◌, Bool, true, false, not, nat_lt, if◌then◌else◌, List, [], ◌∷◌, ◌++◌, Some, None, arith, rules, refl, sym, ap, ◌∙◌, subst}
 use Rattle.std.proofs.lemmas.Bool.{and_parts, eqb-true, false≢true, true≢false}
 use Rattle.std.proofs.lemmas.Bool.Decides.{nat_tests}
 use Rattle.std.specs.List.{list_any}
@@ -20,12 +20,11 @@ use Rattle.rh_shell.specs.declared.due.Due.{Due}
 use Rattle.rh_shell.specs.declared.due.Origin.TheVariants.{Forwarded}
 use Rattle.rh_shell.specs.Moves.{OnLeg}
 use Rattle.rh_shell.specs.Rules.{Pdu, Packet}
-use Rattle.rh_shell.specs.Shells.{is_of, one_if}
+use Rattle.rh_shell.specs.Shells.{is_of}
 use Rattle.rh_shell.specs.Waiting as waits
 use Rattle.rh_passages.specs.Passing.{count_of}
 use Rattle.rh_passages.proofs.Logs.{RowKeeps}
 use Rattle.rh_client_counts.specs.Counting.{is_out_r1_a7}
-use Rattle.rh_server_counts.specs.Counting.{is_out_r1_a8}
 use Rattle.rh_inproxy.specs.declared.opening.TheConstants.{KEEPALIVE}
 use Rattle.rh_inproxy.specs.declared.state.Entry.TheVariants.{Connects, Replaces}
 use Rattle.rh_inproxy.specs.declared.state.Joining.TheVariants.{TellsServer, Told, Follows}
@@ -43,10 +42,11 @@ use Rattle.rh_inproxy.specs.InReplacement.{is_newcomer, joined, join, on_later_i
 use Rattle.rh_inproxy.specs.Passing.{on_pdu}
 use Rattle.rh_inproxy.specs.Time.{on_keep_alive}
 use Rattle.rh_inproxy.specs.Machine.{pdu, pdu_by, packet, on_channel, on_channel_by, on_ci, on_is}
-use Rattle.rh_in_room.specs.Waiting.{AreApart, IsInTurn, WaitFrom, ci, passed, switches}
+use Rattle.rh_client.specs.State.{ci}
+use Rattle.rh_in_room.specs.Waiting.{AreApart, WaitFrom, passed, switches}
 use Rattle.rh_in_room.proofs.Turns.{wait_more, wait_pushed, wait_merged}
 use Rattle.rh_in_room.proofs.Apart.{push_apart, merged_apart}
-use Rattle.rh_in_room.proofs.Seen.{IsAt, IsNear, Holds, Seen, Same, at_channel, behind_of, came_one, counts, followed_holds, newest, newest_of, none_more, same_holds, same_row, seen, switches_more}
+use Rattle.rh_in_room.proofs.Seen.{IsAt, IsUpTo, Holds, Same, at_channel, behind_of, came_one, counts, followed_holds, newest, newest_of, none_more, same_holds, same_row, seen, switches_more}
 
 -- ---- what leaves these alone
 
@@ -124,7 +124,7 @@ module _ (own : ℕ) where
 
   -- where it waits, what waits is sound behind a message that came; else nothing changed
   forward_row : (s : InProxy) (one : OnLeg) (came put : List OnLeg) (m : Named)
-      → IsNear (seen s) one.0 → Holds own s came put
+      → IsUpTo (seen s) one.0 → Holds own s came put
       → ((w : waits.Waiting) → w.room ≡ s.waiting.room
       → WaitFrom (passed own put) (came ++ one ∷ []) w.due → AreApart w.due
       → Holds own (record s { waiting = w }) (came ++ one ∷ []) put)
@@ -147,7 +147,7 @@ module _ (own : ℕ) where
       (λ f. so _ refl (pushes h.turn) (push_apart m s.waiting.due e h.apart))
       (λ f. h))
 
-  waits_so : (s : InProxy) (one : OnLeg) (came put : List OnLeg) → IsNear (seen s) one.0
+  waits_so : (s : InProxy) (one : OnLeg) (came put : List OnLeg) → IsUpTo (seen s) one.0
       → Holds own s came put → (w : waits.Waiting) → w.room ≡ s.waiting.room
       → WaitFrom (passed own put) (came ++ one ∷ []) w.due → AreApart w.due
       → Holds own (record s { waiting = w }) (came ++ one ∷ []) put
@@ -164,7 +164,7 @@ module _ (own : ℕ) where
   -- on a ci leg, by its channel
   module _ (s : InProxy) (n : ℕ) (came put : List OnLeg) (h : Holds own s came put)
       (at : IsAt (seen s) n) where
-    near : IsNear (seen s) (ci n)
+    near : IsUpTo (seen s) (ci n)
     near e = at.high
 
     ack_row : (received available : ℕ) (channel : Cookie) (to : ℕ) → to ≡ 3
@@ -352,7 +352,7 @@ module _ (own : ℕ) where
             ∙ ap (λ (y : Successor). record (seen s) { behind = behind_of y }) (sym f)
 
         near : (z : Successor) → s.successor ≡ z → is_newcomer z n ≡ true
-            → IsNear (seen s) (ci n)
+            → IsUpTo (seen s) (ci n)
         near successors.Absent f g = absurd (false≢true g)
         near (successors.Joined leg stage) f g = absurd (false≢true g)
         near (successors.Up number) f g =

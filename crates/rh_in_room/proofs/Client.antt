@@ -1,5 +1,5 @@
 -- which OUT channels a client acknowledges, whatever happens to it
-use Rattle.std.proofs.Common.{◌≡◌, ◌⊎◌, ℕ, ◌+◌, ◌==◌, ◌&&◌, ◌||◌, nat_le, Bool, true, false, not, List, [], length, Ok, Err, inl, inr, refl, sym, ap, ◌∙◌, subst, arith, ◌∷◌, ◌++◌}
+use Rattle.std.proofs.Common.{◌≡◌, ℕ, ◌+◌, ◌==◌, ◌&&◌, ◌||◌, nat_le, Bool, true, false, not, List, [], length, Ok, Err, inl, inr, refl, ◌∙◌, subst, ◌∷◌, ◌++◌}
 use Rattle.std.proofs.lemmas.Bool.{and_parts, false≢true, true≢false}
 use Rattle.std.specs.declared.result.Result.{Result}
 use Rattle.rh_rts.specs.declared.command.Cookie.{Cookie}

@@ -1,6 +1,5 @@
 -- a client acknowledges the OUT channels that are near
-use Rattle.std.proofs.Common.{◌≡◌, ◌⊎◌, ℕ, suc, ◌+◌, ◌≤◌, ◌==◌, ◌&&◌, Bool, true, false, if◌then◌else◌, List, [], ◌∷◌, ◌++◌, Some, None, arith, inl, inr, refl, sym, ap, ◌∙◌, subst}
-use Rattle.std.proofs.lemmas.Bool.{false≢true, and_parts}
+use Rattle.std.proofs.Common.{◌≡◌, ◌⊎◌, ℕ, suc, ◌≤◌, ◌&&◌, Bool, true, false, if◌then◌else◌, List, [], ◌∷◌, ◌++◌, Some, None, arith, inl, inr, refl, sym, ap, ◌∙◌, subst}
 use Rattle.std.proofs.lemmas.List.{append-nil}
 use Rattle.std.specs.declared.option.Option.{Option}
 use Rattle.rh_rts.specs.declared.command.Cookie.{Cookie}
@@ -14,11 +13,11 @@ use Rattle.rh_line.specs.declared.leg.LegKind.{LegKind}
 use Rattle.rh_line.specs.declared.leg.LegKind.TheVariants.{ClientOut, OutServer, ClientIn, InServer}
 use Rattle.rh_line.specs.declared.which.Which.{Which}
 use Rattle.rh_line.specs.declared.which.Which.TheVariants.{Current, Next}
-use Rattle.rh_order.proofs.ByNumber.{by_test, same_number}
+use Rattle.rh_order.proofs.ByNumber.{by_test}
 use Rattle.rh_shell.specs.NearEnds.{first_of}
 use Rattle.rh_shell.specs.Rules.{Message, Text, Pdu, Packet}
 use Rattle.rh_shell.specs.Moves.{OnLeg}
-use Rattle.rh_passages.specs.Passing.{count_of, of_kind}
+use Rattle.rh_passages.specs.Passing.{of_kind}
 use Rattle.rh_passages.proofs.Logs.{PutKeeps}
 use Rattle.rh_passages.proofs.Messages.{count_append, kind_more}
 use Rattle.rh_client.specs.declared.channels.Opening.{Opening}
@@ -31,12 +30,10 @@ use Rattle.rh_client.specs.declared.replacement.OutStage.TheVariants as out_stag
 use Rattle.rh_client.specs.declared.state.ClientRole.{ClientRole}
 use Rattle.rh_client.specs.Acknowledging.{ack_due, cookie_of}
 use Rattle.rh_client.specs.Channels.{no_cookie, unopened_in}
-use Rattle.rh_client.specs.Replacements.{is_in}
-use Rattle.rh_client.specs.State.{co, is_writing, is_in_successor, is_current, is_out_successor}
+use Rattle.rh_client.specs.State.{ci, co, is_writing, is_in_successor, is_current, is_out_successor}
 use Rattle.rh_client.specs.InReplacement.{handed_over}
 use Rattle.rh_client.specs.Putting.{Pick, or_else, put_conn_b1, put_in_r1_a1, put_current, put_out_successor, put_out, due_by, put_due, ack_by, put_ack_of, put_ack, lets_pdu, pdu_by, put_pdu, is_end_due, put_end, put_ping, put_successor_ping, put_next, put_writing, put_in_successor, put_in, settled_pick, put_by}
 use Rattle.rh_client_counts.specs.Counting.{is_out_r1_a7}
-use Rattle.rh_in_room.specs.Waiting.{ci}
 use Rattle.rh_in_room.specs.Acks.{AcksFrom, IsNear}
 use Rattle.rh_in_room.proofs.Known.{IsSo, So, View, acks_more, after_in_so, at, idle, last, often_in, settled_so, view, with_stage}
 

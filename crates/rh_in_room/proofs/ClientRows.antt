@@ -1,5 +1,5 @@
 -- what comes leaves a client's facts of its OUT channels
-use Rattle.std.proofs.Common.{◌≡◌, ℕ, ◌==◌, nat_lt, Bool, true, false, ◌&&◌, ◌||◌, not, if◌then◌else◌, List, Some, None, Ok, Err, refl, ap, ◌∙◌}
+use Rattle.std.proofs.Common.{◌≡◌, ℕ, ◌==◌, nat_lt, Bool, true, false, ◌&&◌, ◌||◌, not, if◌then◌else◌, List, Some, None, refl}
 use Rattle.std.specs.Option.{is_some}
 use Rattle.std.specs.declared.option.Option.{Option}
 use Rattle.rh_rts.specs.declared.command.Cookie.{Cookie}
@@ -26,7 +26,7 @@ use Rattle.rh_client.specs.declared.replacement.Waits.{Waits}
 use Rattle.rh_client.specs.declared.replacement.Waits.TheVariants as waits
 use Rattle.rh_client.specs.declared.state.ClientRole.{ClientRole}
 use Rattle.rh_client.specs.Channels.{is_put, is_asked, is_named, told_in}
-use Rattle.rh_client.specs.Replacements.{is_in, has_out, with_out}
+use Rattle.rh_client.specs.Replacements.{has_out, with_out}
 use Rattle.rh_client.specs.State.{Done, taken, unexpected, is_open, is_opening, is_over, is_current, is_out_successor, settled}
 use Rattle.rh_client.specs.Opening.{on_conn_a3, on_conn_c2}
 use Rattle.rh_client.specs.Acknowledging.{pdu_channel, pdu_on, acked, ack_row, ack_named, on_ack_to}
@@ -78,7 +78,8 @@ module _ (Comes : Leg → Cookie → Type 0) (s : ClientRole) (messages : List M
           let t : ClientRole = record s { line = after_end s.line which } in
           by_test Keeps (channel_of s.line which).ended (unexpected s) (taken (settled t))
           (λ e. h)
-          (λ e. by_test (So Comes messages) (is_over t) (record t { phase = phase.Ended }) t (λ f. h)
+          (λ e. by_test (So Comes messages) (is_over t) (record t { phase = phase.Ended }) t
+          (λ f. h)
           (λ f. h))
 
   ack_so : (to received available : ℕ) (of : Cookie) → Keeps (on_ack_to s to received available of)
@@ -187,7 +188,9 @@ module _ (Comes : Leg → Cookie → Type 0) (s : ClientRole) (messages : List M
             line = after_finish s.line;
             replacement = Out out_stage.Finished waiting;
           } in
-          taken_or (s.line.has_next && is_current s n) (passed t) (passed_so Comes messages t (at Comes messages s (Out out_stage.Switched waiting) e h))
+          taken_or (s.line.has_next && is_current s n) (passed t)
+          (passed_so Comes messages t
+          (at Comes messages s (Out out_stage.Switched waiting) e h))
       stands waiting out_stage.Finished e = h
 
       by : (r : Replacement) → s.replacement ≡ r → Keeps (a10_by s n r)

@@ -1,5 +1,5 @@
 -- acknowledgements that wait, and where they stand in what a client put
-use Rattle.std.proofs.Common.{◌≡◌, ◌⊎◌, ℕ, zero, suc, ◌+◌, ◌≤◌, ◌<◌, ◌==◌, ◌&&◌, Bool, true, false, true≢false, if◌then◌else◌, List, [], ◌∷◌, ◌++◌, append_assoc, length, Some, None, inl, inr, arith, refl, sym, ap, ◌∙◌, subst}
+use Rattle.std.proofs.Common.{◌≡◌, ℕ, suc, ◌+◌, ◌≤◌, ◌==◌, ◌&&◌, Bool, true, false, true≢false, if◌then◌else◌, List, [], ◌∷◌, ◌++◌, append_assoc, length, arith, sym, ap, ◌∙◌, subst}
 use Rattle.std.proofs.lemmas.Bool.{and_from, eq-eqb}
 use Rattle.std.proofs.lemmas.Slice.Eq.{bytes_eq-Decides}
 use Rattle.std.specs.List.{AllByRecursion}
@@ -7,7 +7,7 @@ use Rattle.std.specs.Str.{bytes_eq}
 use mathlib.Core.List.{IsPrefix}
 use Rattle.rh_rts.specs.declared.command.Cookie.{Cookie}
 use Rattle.rh_sig.specs.declared.named.Named.{Named}
-use Rattle.rh_sig.specs.declared.named.Named.TheVariants.{AckTo, OutR1A7, OutR1A8, Ping}
+use Rattle.rh_sig.specs.declared.named.Named.TheVariants.{AckTo, OutR1A7, OutR1A8}
 use Rattle.rh_line.specs.declared.leg.Leg.{Leg}
 use Rattle.rh_order.proofs.ByNumber.{test_same}
 use Rattle.rh_shell.specs.declared.due.Due.{Due}
@@ -19,7 +19,8 @@ use Rattle.rh_shell.specs.Waiting.{are_one, key_of}
 use Rattle.rh_shell.specs.Wires.{of_leg}
 use Rattle.rh_reading.specs.Reading.{all_read_of}
 use Rattle.rh_server_counts.specs.Counting.{is_out_r1_a8}
-use Rattle.rh_in_room.specs.Waiting.{AreApart, CameBehind, IsInTurn, WaitFrom, ci, switches}
+use Rattle.rh_client.specs.State.{ci}
+use Rattle.rh_in_room.specs.Waiting.{AreApart, CameBehind, IsInTurn, WaitFrom, switches}
 use Rattle.rh_in_room.specs.Acks.{AcksFrom, IsNear}
 use Rattle.rh_in_room.proofs.Keeping.{leg_append, on_here}
 use Rattle.rh_in_room.proofs.Known.{often_in}

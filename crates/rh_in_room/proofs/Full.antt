@@ -1,5 +1,5 @@
 -- an in proxy refuses a packet for too little room only where as many wait
-use Rattle.std.proofs.Common.{◌≡◌, ℕ, ◌<◌, ◌==◌, ◌&&◌, nat_lt, Bool, true, false, not, true≢false, if◌then◌else◌, Some, None, Ok, Err, arith, rules, refl, sym, ap, ◌∙◌, subst}
+use Rattle.std.proofs.Common.{◌≡◌, ℕ, ◌==◌, ◌&&◌, nat_lt, Bool, true, false, not, true≢false, if◌then◌else◌, Some, None, Err, rules, sym, ◌∙◌, subst}
 use Rattle.std.specs.List.{list_any}
 use Rattle.std.specs.declared.option.Option.{Option}
 use Rattle.rh_sig.specs.declared.named.Named.{Named}

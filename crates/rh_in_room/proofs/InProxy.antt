@@ -1,6 +1,5 @@
 -- what waits in an in proxy came in turn
-use Rattle.std.proofs.Common.{◌≡◌, ℕ, suc, ◌+◌, ◌≤◌, ◌<◌, ◌==◌, ◌&&◌, Bool, true, false, if◌then◌else◌, List, [], ◌∷◌, ◌++◌, length, Some, None, arith, rules, refl, sym, ap, ◌∙◌, subst}
-use Rattle.std.proofs.lemmas.Bool.Decides.{nat_tests}
+use Rattle.std.proofs.Common.{◌≡◌, ℕ, ◌+◌, ◌==◌, true, if◌then◌else◌, List, [], ◌∷◌, ◌++◌, length, Some, None, arith, rules, refl, sym, ap, ◌∙◌, subst}
 use Rattle.std.specs.Prelude.{IfSome}
 use Rattle.std.specs.declared.option.Option.{Option}
 use Rattle.rh_rts.specs.declared.command.Cookie.{Cookie}
@@ -35,8 +34,8 @@ use Rattle.rh_inproxy.specs.declared.state.Successor.TheVariants as successors
 use Rattle.rh_inproxy.specs.declared.state.Work.{Work}
 use Rattle.rh_inproxy.specs.Answers.{Pick, or_else}
 use Rattle.rh_inproxy.specs.State.{InProxy, first, is_client_leg, is_server_leg}
-use Rattle.rh_inproxy.specs.Opening.{head, drawn, announcement, first_by, put_first, echo_by, put_echo, up}
-use Rattle.rh_inproxy.specs.Acknowledging.{ack_due, ack_by, put_ack, current_ack, next_ack, put_acks}
+use Rattle.rh_inproxy.specs.Opening.{head, drawn, announcement, first_by, put_first, echo_by, put_echo}
+use Rattle.rh_inproxy.specs.Acknowledging.{ack_due, ack_by, current_ack, next_ack, put_acks}
 use Rattle.rh_inproxy.specs.Ending.{is_newest, mark, put_end, settled, settled_pick}
 use Rattle.rh_inproxy.specs.InReplacement.{told_by, one_less, put_in_r2_a2, put_in_r1_a6}
 use Rattle.rh_inproxy.specs.Passing.{passed as pdu_passed, next_pdu, put_pdu}

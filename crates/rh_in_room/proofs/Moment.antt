@@ -1,9 +1,8 @@
 -- few packets wait in an in proxy at a moment
-use Rattle.std.proofs.Common.{◌≡◌, ℕ, zero, suc, ◌+◌, ◌≤◌, ◌<◌, ◌==◌, nat_lt, Bool, true, false, if◌then◌else◌, List, [], ◌∷◌, ◌++◌, length, inl, inr, arith, refl, sym, ap, ◌∙◌, subst}
+use Rattle.std.proofs.Common.{◌≡◌, ℕ, suc, ◌+◌, ◌≤◌, ◌<◌, ◌==◌, nat_lt, Bool, true, false, if◌then◌else◌, List, [], ◌∷◌, ◌++◌, length, inl, inr, arith, refl, sym, ap, ◌∙◌, subst}
 use Rattle.std.proofs.lemmas.Bool.{eq-eqb}
 use Rattle.std.proofs.lemmas.Bool.Decides.{nat_tests}
 use Rattle.std.proofs.lemmas.List.Sums.{count_by-le-length}
-use Rattle.std.specs.List.{AllByRecursion}
 use mathlib.Core.List.{IsPrefix}
 use Rattle.rh_rts.specs.declared.command.Cookie.{Cookie}
 use Rattle.rh_sig.specs.declared.named.Named.{Named}
@@ -14,7 +13,7 @@ use Rattle.rh_order.proofs.ByNumber.{test_other, test_same}
 use Rattle.rh_shell.specs.declared.due.Due.{Due}
 use Rattle.rh_shell.specs.declared.due.Origin.TheVariants.{Forwarded}
 use Rattle.rh_shell.specs.declared.waiting.TheConstants.{FORWARDED_ROOM}
-use Rattle.rh_shell.specs.Moves.{OnLeg}
+use Rattle.rh_shell.specs.Moves.{Move, OnLeg, all_moved, started}
 use Rattle.rh_shell.specs.Rules.{Message, Text, Pdu, Packet}
 use Rattle.rh_shell.specs.Waiting.{is_of}
 use Rattle.rh_shell.specs.Wires.{of_leg}
@@ -26,13 +25,17 @@ use Rattle.rh_chains.specs.Sums.{count_on, sum_below}
 use Rattle.rh_chains.proofs.Summing.{all_legs, some_legs, sum_rises}
 use Rattle.rh_client_counts.specs.Counting.{is_out_r1_a7}
 use Rattle.rh_server_counts.specs.Counting.{is_out_r1_a8}
-use Rattle.rh_moments.specs.Moments.{IsJoined, ReadInTurn, Moves, Numbers, client_behind, in_behind, passages, server_behind}
+use Rattle.rh_inproxy.specs.declared.state.InProxyConfig.{InProxyConfig}
+use Rattle.rh_inproxy.specs.Machine.{rules}
+use Rattle.rh_inproxy.specs.State.{first}
+use Rattle.rh_moments.specs.Moments.{AreMade, IsJoined, ReadInTurn, Moves, Numbers, client_behind, in_behind, passages, server_behind}
 use Rattle.rh_moments.proofs.Joining.{in_front, in_reads}
 use Rattle.rh_rounds.specs.Rounds.{GoRound}
 use Rattle.rh_rounds.proofs.Fronts.{are_fronts}
+use Rattle.rh_client.specs.State.{ci}
 use Rattle.rh_in_room.specs.Acks.{AcksNear, AcksOnEach, IsNear}
 use Rattle.rh_in_room.specs.Room.{FewWait, HasRoom}
-use Rattle.rh_in_room.specs.Waiting.{AreApart, CameBehind, WaitFrom, WaitsInTurn, ci, passed, switches}
+use Rattle.rh_in_room.specs.Waiting.{AreApart, CameBehind, WaitFrom, WaitsInTurn, passed, switches}
 use Rattle.rh_in_room.proofs.Found.{acked, found, near_it}
 use Rattle.rh_in_room.proofs.Full.{never_full}
 use Rattle.rh_in_room.proofs.Keeping.{leg_append, on_here, total}
@@ -91,7 +94,8 @@ module _ (reader : ℕ → ℕ) (turn : ReadInTurn reader) (put server_came : Li
   -- up to one that it reads
   up_to : (n : ℕ) → reader n ≡ m → sum_below all_on n ≡ base + sum_below its_on n
   up_to n is =
-      sums_from its_on all_on m n (let under = reader_most reader turn n in omega (arith, under, is))
+      sums_from its_on all_on m n
+      (let under = reader_most reader turn n in omega (arith, under, is))
       (λ k l. on_its k false (apart k l))
       (λ k from to. on_its k true
       (eq-eqb (reader k) m (reads_between reader turn m n least is k from (omega (arith, to)))))
@@ -199,6 +203,14 @@ module _ (reader : ℕ → ℕ) (turn : ReadInTurn reader) (put server_came : Li
         omega (arith, few, counted, switched)
 
 -- ---- a moment
+
+pub of_each : (numbers : Numbers) (moves : Moves) → AreMade numbers moves
+    → ((config : InProxyConfig) (made : List Move)
+    → WaitsInTurn config.number (all_moved rules (started (first config)) made))
+    → (m : ℕ) → WaitsInTurn m (in_behind numbers moves m)
+of_each numbers moves made each m =
+    subst (λ (k : ℕ). WaitsInTurn k (in_behind numbers moves m)) (made.in_number m)
+    (each (numbers.ins m) (moves.ins m))
 
 within : (few room : ℕ) → few ≤ 11 → room ≡ FORWARDED_ROOM → nat_lt few room ≡ true
 within few room least is = grind (arith, nat_tests, least, is)

@@ -1,8 +1,7 @@
 -- what a client acknowledges on each of its IN channels, by what it puts on all of them in turn
-use Rattle.std.proofs.Common.{◌≡◌, ◌≢◌, ℕ, zero, suc, ◌+◌, ◌≤◌, ◌<◌, ◌==◌, nat_lt, Bool, true, false, if◌then◌else◌, List, [], ◌∷◌, arith, refl, sym, ap, ◌∙◌, subst}
+use Rattle.std.proofs.Common.{◌≡◌, ◌≢◌, ℕ, zero, suc, ◌+◌, ◌<◌, ◌==◌, nat_lt, Bool, true, false, if◌then◌else◌, List, [], ◌∷◌, arith, refl, sym, ◌∙◌, subst}
 use Rattle.std.proofs.lemmas.Bool.Decides.{nat_tests}
 use Rattle.rh_rts.specs.declared.command.Cookie.{Cookie}
-use Rattle.rh_sig.specs.declared.named.Named.{Named}
 use Rattle.rh_sig.specs.declared.named.Named.TheVariants.{AckTo, EndA1, InR1A5, OutR1A7}
 use Rattle.rh_line.specs.declared.leg.Leg.{Leg}
 use Rattle.rh_line.specs.declared.leg.LegKind.TheVariants.{ClientIn}
@@ -15,7 +14,7 @@ use Rattle.rh_chains.specs.Sums.{count_on, sum_below}
 use Rattle.rh_chains.proofs.Summing.{sum_rises}
 use Rattle.rh_client_counts.specs.Counting.{is_out_r1_a7}
 use Rattle.rh_client_turns.specs.Turns.{Turn, StandFrom, behind}
-use Rattle.rh_in_room.specs.Waiting.{ci}
+use Rattle.rh_client.specs.State.{ci}
 use Rattle.rh_in_room.specs.Acks.{AcksFrom, AcksOnEach, IsNear}
 
 -- ---- sums

@@ -1,5 +1,5 @@
 -- of which channels acknowledgements wait, by how many OUT_R1/A8 their in proxy put
-use Rattle.std.proofs.Common.{◌≡◌, ◌⊎◌, ℕ, zero, suc, ◌+◌, ◌≤◌, ◌<◌, ◌==◌, nat_lt, Bool, true, false, List, [], ◌∷◌, ◌++◌, length, inl, inr, arith, refl, sym, ap, ◌∙◌, subst}
+use Rattle.std.proofs.Common.{◌≡◌, ◌⊎◌, ℕ, zero, suc, ◌+◌, ◌≤◌, ◌<◌, ◌==◌, nat_lt, Bool, true, false, List, [], ◌∷◌, ◌++◌, inl, inr, arith, refl, sym, ap, ◌∙◌, subst}
 use Rattle.std.proofs.lemmas.Bool.Decides.{nat_tests}
 use Rattle.std.specs.List.{AllByRecursion}
 use Rattle.rh_rts.specs.declared.command.Cookie.{Cookie}
@@ -7,12 +7,9 @@ use Rattle.rh_line.specs.declared.leg.Leg.{Leg}
 use Rattle.rh_order.proofs.ByNumber.{same_number}
 use Rattle.rh_passages.proofs.Messages.{each_so}
 use Rattle.rh_chains.specs.Sums.{sum_below}
-use Rattle.rh_chains.proofs.Summing.{sum_rises}
-use Rattle.rh_client.specs.Channels.{no_cookie}
-use Rattle.rh_client.specs.State.{co}
 use Rattle.rh_moments.specs.Moments.{ReadInTurn}
-use Rattle.rh_in_room.specs.Acks.{IsNear, IsOfNear}
-use Rattle.rh_in_room.proofs.Names.{Among, IsNamed, among_first, among_last, among_window, window}
+use Rattle.rh_in_room.specs.Acks.{IsNear}
+use Rattle.rh_in_room.proofs.Names.{Among, among_first, among_last, among_window, window}
 use Rattle.rh_in_room.proofs.OnEach.{sum_none}
 
 -- ---- numbers
@@ -108,8 +105,8 @@ sums_end f n (suc more) none =
 
 -- ---- where it is of
 
--- below: the sums of OUT_R1/A7 that the client put on the channels that the in proxy reads; often:
--- OUT_R1/A8 that it put; base: OUT_R1/A7 on the channels before its own
+-- f: the OUT_R1/A7 that the client put on each channel that the in proxy reads; often: the
+-- OUT_R1/A8 that it put; base: the OUT_R1/A7 on the channels before its own
 module _ (Comes : Leg → Cookie → Type 0)
     (one : (leg : Leg) (a b : Cookie) → Comes leg a → Comes leg b → a ≡ b) (f : ℕ → ℕ)
     (base often : ℕ) (most : (n : ℕ) → sum_below f n ≤ suc often) where
@@ -122,7 +119,7 @@ module _ (Comes : Leg → Cookie → Type 0)
     pub high : switched ≤ sum_below f (suc number)
     pub reach : often ≤ sum_below f (suc (suc number))
 
-  -- of the channels before, one alone has some that were not reached there
+  -- behind one channel alone so many were reached first
   record IsLow (n : ℕ) : Type 0 where
     under : sum_below f (suc n) < often
     reach : often ≤ sum_below f (suc (suc n))
@@ -187,18 +184,6 @@ module _ (Comes : Leg → Cookie → Type 0)
           (among_window Comes one (base + sum_below f (suc p.number)) 4 (suc h.number) cookie
           (omega (arith, low, under)) (omega (arith, high, above)) h.comes))
 
-  is_low : (cookie : Cookie) (p : IsPlaced cookie) → (often ≤ suc p.switched → ⊥)
-      → IsLow p.number
-  is_low cookie p not_high =
-      record { under = let low = p.low in at (nat_lt (suc p.switched) often) refl low; reach = p.reach }
-    where
-      at : (b : Bool) → nat_lt (suc p.switched) often ≡ b
-          → sum_below f (suc p.number) ≤ suc p.switched → sum_below f (suc p.number) < often
-      at true e low = let less : suc p.switched < often = grind (arith, nat_tests, e) in
-          omega (arith, less, low)
-      at false e low =
-          absurd (not_high (grind (arith, nat_tests, e)))
-
   -- one of two
   high_or_low : (cookie : Cookie) (p : IsPlaced cookie)
       → (often ≤ suc p.switched) ⊎ IsLow p.number
@@ -209,7 +194,8 @@ module _ (Comes : Leg → Cookie → Type 0)
       by false e = inl (grind (arith, nat_tests, e))
       by true e =
           let less : suc p.switched < often = grind (arith, nat_tests, e) in
-          inr (is_low cookie p (λ least. omega (arith, least, less)))
+          let low = p.low in
+          inr (record { under = omega (arith, less, low); reach = p.reach })
 
   all_named : (n : ℕ) → IsLow n → (cookie : Cookie) → IsPlaced cookie
       → Named (sum_below f (suc n)) cookie

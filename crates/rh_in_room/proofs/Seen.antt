@@ -1,19 +1,16 @@
 -- what is known of an in proxy of what waits and of its ci legs, and what leaves that alone
-use Rattle.std.proofs.Common.{◌≡◌, ℕ, zero, suc, ◌+◌, ◌≤◌, ◌<◌, ◌==◌, Bool, true, false, ◌&&◌, if◌then◌else◌, List, [], ◌∷◌, ◌++◌, Some, None, Ok, Err, arith, rules, refl, sym, ap, ◌∙◌, subst}
+use Rattle.std.proofs.Common.{◌≡◌, ℕ, suc, ◌+◌, ◌≤◌, ◌<◌, ◌==◌, Bool, true, false, ◌&&◌, if◌then◌else◌, List, [], ◌∷◌, ◌++◌, Some, None, Ok, Err, arith, refl, sym, ap, ◌∙◌, subst}
 use Rattle.std.proofs.lemmas.Bool.Decides.{nat_tests}
-use Rattle.std.proofs.lemmas.List.{append-nil}
 use Rattle.std.specs.declared.option.Option.{Option}
-use Rattle.rh_sig.specs.declared.named.Named.{Named}
 use Rattle.rh_line.specs.declared.leg.Leg.{Leg}
 use Rattle.rh_line.specs.declared.leg.LegKind.TheVariants.{ClientIn}
 use Rattle.rh_line.specs.declared.which.Which.{Which}
 use Rattle.rh_line.specs.declared.which.Which.TheVariants.{Current, Next}
 use Rattle.rh_order.proofs.ByNumber.{by_test}
-use Rattle.rh_shell.specs.declared.answers.Count.{Count}
 use Rattle.rh_shell.specs.declared.waiting.TheConstants.{FORWARDED_ROOM}
 use Rattle.rh_shell.specs.Moves.{OnLeg}
-use Rattle.rh_shell.specs.Rules.{Message, Packet}
-use Rattle.rh_shell.specs.Shells.{is_of, one_if, same_leg}
+use Rattle.rh_shell.specs.Rules.{Message}
+use Rattle.rh_shell.specs.Shells.{is_of, same_leg}
 use Rattle.rh_shell.specs.Waiting.{Waiting}
 use Rattle.rh_shell.specs.Wires.{of_leg}
 use Rattle.rh_passages.specs.Passing.{count_of, of_kind}
@@ -26,7 +23,8 @@ use Rattle.rh_inproxy.specs.declared.state.Successor.TheVariants as successors
 use Rattle.rh_inproxy.specs.Answers.{Done}
 use Rattle.rh_inproxy.specs.State.{InProxy, channel_of, has_opened, next_of, follows, followed, is_client_leg}
 use Rattle.rh_proxy_counts.specs.InCounts.{is_leg}
-use Rattle.rh_in_room.specs.Waiting.{AreApart, WaitFrom, ci, passed, switches}
+use Rattle.rh_client.specs.State.{ci}
+use Rattle.rh_in_room.specs.Waiting.{AreApart, WaitFrom, passed, switches}
 use Rattle.rh_in_room.proofs.Turns.{wait_more}
 
 -- ---- what the facts are about
@@ -83,10 +81,10 @@ same_holds own s t came put same h =
 -- ---- a message came
 
 -- on a ci leg up to the newest one
-abbrev pub IsNear : Seen → Leg → Type 0
-IsNear x leg = is_client_leg leg ≡ true → leg.number ≤ newest x
+abbrev pub IsUpTo : Seen → Leg → Type 0
+IsUpTo x leg = is_client_leg leg ≡ true → leg.number ≤ newest x
 
-pub none_more : (x : Seen) (came : List OnLeg) (one : OnLeg) → IsNear x one.0
+pub none_more : (x : Seen) (came : List OnLeg) (one : OnLeg) → IsUpTo x one.0
     → ((k : ℕ) → newest x < k → of_leg (ci k) came ≡ [])
     → (k : ℕ) → newest x < k → of_leg (ci k) (came ++ one ∷ []) ≡ []
 none_more x came one near none k above =
@@ -121,7 +119,7 @@ switches_more came one =
 
 -- it is none
 pub came_one : (own : ℕ) (s : InProxy) (one : OnLeg) (came put : List OnLeg)
-    → IsNear (seen s) one.0 → counts one ≡ 0 → Holds own s came put
+    → IsUpTo (seen s) one.0 → counts one ≡ 0 → Holds own s came put
     → Holds own s (came ++ one ∷ []) put
 came_one own s one came put near quiet h = record {
   number = h.number;
@@ -137,7 +135,7 @@ came_one own s one came put near quiet h = record {
 
 -- a row takes it so, or refuses it
 pub same_row : (own : ℕ) (s : InProxy) (one : OnLeg) (came put : List OnLeg)
-    → IsNear (seen s) one.0 → counts one ≡ 0 → Holds own s came put → (x : Done)
+    → IsUpTo (seen s) one.0 → counts one ≡ 0 → Holds own s came put → (x : Done)
     → Same s x.0 → RowKeeps (Holds own) one came put x
 same_row own s one came put near quiet h (t, Ok taken) same =
     same_holds own s t (came ++ one ∷ []) put same (came_one own s one came put near quiet h)

@@ -1,5 +1,5 @@
 -- an in proxy put OUT_R1/A8 for all OUT_R1/A7 on the channels that it reads, but one
-use Rattle.std.proofs.Common.{◌≡◌, ℕ, zero, suc, ◌+◌, ◌≤◌, ◌<◌, ◌==◌, nat_lt, Bool, true, false, not, if◌then◌else◌, List, [], ◌∷◌, arith, refl, sym, ap, ◌∙◌, subst}
+use Rattle.std.proofs.Common.{◌≡◌, ℕ, suc, ◌+◌, ◌≤◌, ◌==◌, Bool, true, false, not, if◌then◌else◌, List, [], ◌∷◌, arith, refl, ap, ◌∙◌}
 use Rattle.std.proofs.lemmas.Bool.Decides.{nat_tests}
 use Rattle.rh_sig.specs.declared.named.Named.{Named}
 use Rattle.rh_line.specs.declared.leg.Leg.{Leg}
@@ -9,16 +9,15 @@ use Rattle.rh_shell.specs.Moves.{OnLeg}
 use Rattle.rh_shell.specs.Rules.{Message}
 use Rattle.rh_shell.specs.Shells.{one_if, same_leg}
 use Rattle.rh_shell.specs.Wires.{of_leg}
-use Rattle.rh_passages.specs.Passing.{count_of, of_kind}
-use Rattle.rh_chains.specs.Sums.{count_on, sum_below}
+use Rattle.rh_passages.specs.Passing.{count_of}
+use Rattle.rh_chains.specs.Sums.{count_on}
 use Rattle.rh_chains.proofs.Along.{by_in_proxies}
 use Rattle.rh_chains.proofs.Summing.{all_legs, some_legs, sum_rises}
 use Rattle.rh_client_counts.specs.Counting.{is_out_r1_a7}
 use Rattle.rh_server_counts.specs.Counting.{is_out_r1_a8}
-use Rattle.rh_moments.specs.Moments.{AreJoined, Moves, Numbers, client_behind, in_behind, passages, server_behind}
-use Rattle.rh_rounds.proofs.Fronts.{are_fronts}
 use Rattle.rh_proxy_counts.specs.InCounts.{is_leg}
-use Rattle.rh_in_room.specs.Waiting.{WaitFrom, WaitsInTurn, ci, passed, switches}
+use Rattle.rh_client.specs.State.{ci}
+use Rattle.rh_in_room.specs.Waiting.{WaitFrom, passed, switches}
 use Rattle.rh_in_room.proofs.Keeping.{keep, keep_both, keep_leg, keep_on, total}
 
 -- no more were put than came
@@ -75,7 +74,10 @@ module _ (reader : ℕ → ℕ) (put came : List OnLeg) (in_came in_put : ℕ �
 
       by : (b : Bool) → (k == m) ≡ b → count_on is_out_r1_a8 InServer elsewhere k
           ≤ count_on is_out_r1_a8 InServer (if b then [] else in_put k) k
-      by true e = let none : count_on is_out_r1_a8 InServer elsewhere k ≡ 0 = is ∙ ap (λ (c : Bool). if not c then count_on is_out_r1_a8 InServer came k else 0) e in omega (arith, none)
+      by true e =
+          let none : count_on is_out_r1_a8 InServer elsewhere k ≡ 0 =
+          is ∙ ap (λ (c : Bool). if not c then count_on is_out_r1_a8 InServer came k else 0) e in
+          omega (arith, none)
       by false e =
           let up = is_up k in
           let all : count_on is_out_r1_a8 InServer elsewhere k

@@ -1,8 +1,7 @@
 -- a packet more waits in its turn
-use Rattle.std.proofs.Common.{◌≡◌, ℕ, suc, ◌+◌, ◌≤◌, ◌<◌, ◌==◌, Bool, true, false, ◌&&◌, nat_lt, List, [], ◌∷◌, ◌++◌, append_assoc, Some, None, arith, refl, sym, ap, ◌∙◌, subst}
+use Rattle.std.proofs.Common.{◌≡◌, ℕ, ◌+◌, ◌==◌, Bool, true, nat_lt, List, [], ◌∷◌, ◌++◌, append_assoc, Some, None, arith, refl, sym, ap, ◌∙◌, subst}
 use Rattle.std.proofs.lemmas.Bool.{and_parts, eqb-true}
 use Rattle.std.proofs.lemmas.Slice.Eq.{bytes_eq-Decides}
-use Rattle.std.specs.List.{AllByRecursion}
 use Rattle.std.specs.Str.{bytes_eq}
 use Rattle.std.specs.declared.option.Option.{Option}
 use Rattle.rh_rts.specs.declared.command.Cookie.{Cookie}
@@ -15,7 +14,8 @@ use Rattle.rh_shell.specs.Rules.{Packet}
 use Rattle.rh_shell.specs.Shells.{one_if}
 use Rattle.rh_shell.specs.Waiting.{Key, key_of, are_one, better, edge_of, merged, takes, to_forward}
 use Rattle.rh_server_counts.specs.Counting.{is_out_r1_a8}
-use Rattle.rh_in_room.specs.Waiting.{ci, switches, CameBehind, IsInTurn, WaitFrom}
+use Rattle.rh_client.specs.State.{ci}
+use Rattle.rh_in_room.specs.Waiting.{switches, CameBehind, IsInTurn, WaitFrom}
 
 -- ---- keys
 

@@ -12,10 +12,9 @@ use Rattle.rh_shell.specs.Wires.{of_leg}
 use Rattle.rh_passages.specs.Rising.{HasComeUp}
 use Rattle.rh_chains.specs.Sums.{count_on, sum_below}
 use Rattle.rh_client.specs.Channels.{no_cookie}
-use Rattle.rh_client.specs.State.{co}
+use Rattle.rh_client.specs.State.{ci, co}
 use Rattle.rh_client.specs.Order.{client_moved}
 use Rattle.rh_client_counts.specs.Counting.{is_out_r1_a7}
-use Rattle.rh_in_room.specs.Waiting.{ci}
 
 -- below, Comes says of a leg and a cookie that the leg came up with it
 

@@ -1,5 +1,5 @@
 -- an in proxy has room for what it forwards (profile)
-use Rattle.std.specs.Prelude.{ℕ, ◌≡◌, ◌≤◌, Err}
+use Rattle.std.specs.Prelude.{◌≡◌, ◌≤◌, Err}
 use Rattle.rh_sig.specs.declared.named.Named.{Named}
 use Rattle.rh_line.specs.declared.leg.Leg.{Leg}
 use Rattle.rh_shell.specs.declared.answers.Count.{Count}

@@ -4,7 +4,6 @@ use Rattle.std.specs.List.{AllByRecursion}
 use Rattle.rh_rts.specs.declared.command.Cookie.{Cookie}
 use Rattle.rh_sig.specs.declared.named.Named.{Named}
 use Rattle.rh_sig.specs.declared.named.Named.TheVariants.{AckTo, OutR1A8}
-use Rattle.rh_line.specs.declared.leg.Leg.{Leg}
 use Rattle.rh_line.specs.declared.leg.LegKind.TheVariants.{ClientIn}
 use Rattle.rh_shell.specs.declared.due.Due.{Due}
 use Rattle.rh_shell.specs.declared.waiting.TheConstants.{FORWARDED_ROOM}
@@ -14,13 +13,11 @@ use Rattle.rh_shell.specs.Shells.{one_if}
 use Rattle.rh_shell.specs.Waiting.{takes}
 use Rattle.rh_shell.specs.Wires.{of_leg}
 use Rattle.rh_passages.specs.Passing.{count_of, of_kind}
+use Rattle.rh_client.specs.State.{ci}
 use Rattle.rh_client_counts.specs.Counting.{is_out_r1_a7}
 use Rattle.rh_server_counts.specs.Counting.{is_out_r1_a8}
 use Rattle.rh_proxy_counts.specs.InCounts.{is_leg}
 use Rattle.rh_inproxy.specs.State.{InProxy}
-
-abbrev pub ci : ℕ → Leg
-ci n = record { kind = ClientIn; number = n }
 
 -- OUT_R1/A7 that came on all ci legs, and OUT_R1/A8 that were put on the is leg of this number
 abbrev pub switches : List OnLeg → ℕ
