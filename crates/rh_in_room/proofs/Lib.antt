@@ -1,0 +1,17 @@
+pub mod Turns
+pub mod Apart
+pub mod Seen
+pub mod Came
+pub mod InProxy
+pub mod Known
+pub mod ClientRows
+pub mod ClientPuts
+pub mod Client
+pub mod OnEach
+pub mod Keeping
+pub mod Share
+pub mod Names
+pub mod Found
+pub mod Places
+pub mod Full
+pub mod Moment
