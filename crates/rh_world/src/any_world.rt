@@ -1,6 +1,6 @@
 //! The world of a recording of either form.
 
-ghost use Rattle.std.specs.Prelude.{◌≡◌, ◌+◌, ◌<◌, ◌≤◌, ◌++◌, IfOk, OnOk};
+ghost use Rattle.std.specs.Prelude.{◌≡◌, ◌+◌, ◌<◌, ◌≤◌, IfOk, OnOk};
 ghost use Rattle.rh_text.specs.Writing.{Writes};
 
 use crate::config::WorldConfig;
@@ -79,7 +79,7 @@ impl AnyWorld {
 
     /// Does what a line says, and adds its answers to the report.
     ///
-    /// Fails where there is no memory.
+    /// Fails where there is no memory; a front of them may be added then, and nothing else.
     pub fn step(
         &mut self,
         alloc: Global,
@@ -88,7 +88,7 @@ impl AnyWorld {
     ) -> Result<(), AllocError>
         requires { seen.given self.old < MOST_PDUS }
         ensures world { OnOk result (self.new ≡ (seen.step self.old line.now).0) }
-        ensures report { OnOk result (report.new ≡ report.old ++ (seen.step self.old line.now).1) }
+        ensures report { Writes (seen.step self.old line.now).1 result report.old report.new }
         ensures given { OnOk result (seen.given self.new ≤ seen.given self.old + 1) }
     {
         self.prepare(alloc, line)?;
@@ -114,10 +114,10 @@ impl AnyWorld {
     /// Does a round of settling, and adds what it does to the report. A round that adds nothing is
     /// quiet, and ends a settling. Only a world that settles does any.
     ///
-    /// Fails where there is no memory.
+    /// Fails where there is no memory; a front of this may be added then, and nothing else.
     pub fn round(&mut self, alloc: Global, report: &mut Report) -> Result<(), AllocError>
         ensures world { OnOk result (self.new ≡ (seen.round self.old).0) }
-        ensures report { OnOk result (report.new ≡ report.old ++ (seen.round self.old).1) }
+        ensures report { Writes (seen.round self.old).1 result report.old report.new }
     {
         match self {
             AnyWorld::Roles(world) => world.round(alloc, report),
@@ -128,7 +128,7 @@ impl AnyWorld {
     /// Does up to so many rounds of settling, and adds what they do and what stands behind them to
     /// the report, as a line says it. A direct world doesn't settle.
     ///
-    /// Fails where there is no memory.
+    /// Fails where there is no memory; a front of this may be added then, and nothing else.
     pub fn settle(
         &mut self,
         alloc: Global,
@@ -137,8 +137,8 @@ impl AnyWorld {
     ) -> Result<(), AllocError>
         requires { seen.given self.old < MOST_PDUS }
         ensures world { OnOk result (self.new ≡ (seen.step self.old (Settle rounds)).0) }
-        ensures report { OnOk result
-            (report.new ≡ report.old ++ (seen.step self.old (Settle rounds)).1) }
+        ensures report { Writes (seen.step self.old (Settle rounds)).1 result
+            report.old report.new }
     {
         self.step(alloc, &Line::Settle { rounds }, report)
     }
@@ -159,10 +159,10 @@ impl AnyWorld {
 
     /// Adds what stands behind a line's own answers: which nodes closed.
     ///
-    /// Fails where there is no memory.
+    /// Fails where there is no memory; a front of this may be added then, and nothing else.
     pub fn end_line(&mut self, report: &mut Report) -> Result<(), AllocError>
         ensures world { OnOk result (self.new ≡ (seen.end_line self.old).0) }
-        ensures report { OnOk result (report.new ≡ report.old ++ (seen.end_line self.old).1) }
+        ensures report { Writes (seen.end_line self.old).1 result report.old report.new }
     {
         match self {
             AnyWorld::Roles(world) => world.tell_closed(report),
