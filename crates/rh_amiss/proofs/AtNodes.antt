@@ -49,7 +49,6 @@ use Rattle.rh_ends_begin.specs.Begins.{Asks}
 use Rattle.rh_history.specs.Carried.{IsTraced, LegsComeUpOnce, AreAccepted, AreAcceptedAtEnd, ComesUpOnce, ComesUpOnceAtEnd, events_of, happened, heard_on}
 use Rattle.rh_history.specs.Changes.{IsFed, MayChange}
 use Rattle.rh_history.specs.Histories.{History, in_place, out_place}
-use Rattle.rh_moments.specs.Expecting.{IsAmiss}
 use Rattle.rh_proxies_begin.specs.Pipes.{in_pipe, out_pipe}
 use Rattle.rh_down.specs.Down as down
 use Rattle.rh_reading.specs.Reading.{IsWholeText}
@@ -180,7 +179,7 @@ module _ {K : Type 0} (roles : RolesKnow) (law_reads : Reads) (readings : Readin
         (of_leg one (client_moved ours.config f.leads.moves).passage.put)
         (roles.asks ours.config f.leads.moves one f.leads.allowed))
 
-  module _ (r : Refused) (amiss : IsAmiss r) (well : Answers) (named : HaveNames well r)
+  module _ (r : Refused) (well : Answers) (named : HaveNames well r)
       (fits : (next : ℕ) → ReadsWell well (read_on leg.kind dir)
       (heard_on leg (events_of (behind m w v ours law by leg dir may next)
       (at v leg (receiver dir))))) (why : Cause) (tells : amiss_by why ≡ Some r) (count : ℕ)
@@ -194,9 +193,9 @@ module _ {K : Type 0} (roles : RolesKnow) (law_reads : Reads) (readings : Readin
     next : {S : Type 0} (its : Rules S) (k : ℕ) (p : Passage S) (s : Shell S) (heard : List ℕ)
         → ((end : NearEnd) → s.course ≡ Going → end_at s leg ≡ Some end
         → KnowsEnd its s.role (read_on leg.kind dir) leg heard end)
-        → Then its k p s heard → AmissNext its p leg (read_on leg.kind dir) (put_then k)
+        → Then its k p s heard → AmissNext its p leg (read_on leg.kind dir) (put_then k) r
     next its k p s heard knows was =
-        amiss_next its p s was.role leg (read_on leg.kind dir) r amiss (put_then k) heard was.byte
+        amiss_next its p s was.role leg (read_on leg.kind dir) r (put_then k) heard was.byte
         knows was.stops (λ ping none first.
         leg_pinged law_reads m w (world_then k) ours (story_then k) (flows_then k) (heads k) r
         was.stops.end.count heard was.byte v.readers leg dir was.drew ping none first)
@@ -233,7 +232,7 @@ module _ {K : Type 0} (roles : RolesKnow) (law_reads : Reads) (readings : Readin
           ours.client (traced_then k).accepted.client) (turns_then k).client leg end going at)
 
       pub client_next : (k : ℕ) × AmissNext client.rules (passages_then k).client leg
-          (read_on leg.kind dir) (put_then k)
+          (read_on leg.kind dir) (put_then k) r
       client_next =
           let was = client_then law_reads readings m w v ours law Holds flow by leg dir may r well
           named fits why tells count node here law_node is closes in (
@@ -268,7 +267,7 @@ module _ {K : Type 0} (roles : RolesKnow) (law_reads : Reads) (readings : Readin
           ((traced_then k).accepted.ins n)) ((turns_then k).ins n) leg end going at)
 
       pub in_next : (k : ℕ) × AmissNext in_proxy.rules ((passages_then k).ins n) leg
-          (read_on leg.kind dir) (put_then k)
+          (read_on leg.kind dir) (put_then k) r
       in_next =
           let was = in_then law_reads readings m w v ours law Holds flow by leg dir may r well named
           fits why tells count node here law_node n is shell up there closes in (
@@ -303,7 +302,7 @@ module _ {K : Type 0} (roles : RolesKnow) (law_reads : Reads) (readings : Readin
           ((traced_then k).accepted.outs n)) ((turns_then k).outs n) leg end going at)
 
       pub out_next : (k : ℕ) × AmissNext out_proxy.rules ((passages_then k).outs n) leg
-          (read_on leg.kind dir) (put_then k)
+          (read_on leg.kind dir) (put_then k) r
       out_next =
           let was = out_then law_reads readings m w v ours law Holds flow by leg dir may r well named
           fits why tells count node here law_node n is shell up there closes in (
@@ -320,7 +319,7 @@ module _ {K : Type 0} (roles : RolesKnow) (law_reads : Reads) (readings : Readin
         pub at : end_at (out_node count_then n) leg ≡ Some end
         pub frames : end.intake.stage ≡ stage.Frames
         pub amiss_there : AmissNext out_proxy.rules ((passages_then count_then).outs n) leg
-            (read_on leg.kind dir) (put_then count_then)
+            (read_on leg.kind dir) (put_then count_then) r
 
       pub out_amiss : OutAmiss
       out_amiss =
@@ -358,7 +357,7 @@ module _ {K : Type 0} (roles : RolesKnow) (law_reads : Reads) (readings : Readin
           ours.server (traced_then k).accepted.server) (turns_then k).server leg end going at)
 
       pub server_next : (k : ℕ) × AmissNext server.rules (passages_then k).server leg
-          (read_on leg.kind dir) (put_then k)
+          (read_on leg.kind dir) (put_then k) r
       server_next =
           let was = server_then law_reads readings m w v ours law Holds flow by leg dir may r well named
           fits why tells count node here law_node is closes in (

@@ -44,7 +44,7 @@ kept leg place refused.Unexpected r e = cc
 kept leg place (refused.Cookie expected got) r e = cc
 kept leg place (refused.Window window) r e = absurd cc
 kept leg place (refused.OutOfRange command value) r e = absurd cc
-kept leg place (refused.Full full) r e = absurd cc
+kept leg place (refused.Full full) r e = cc
 
 pub ping_is : (named : Named) → is_ping named ≡ true → named ≡ Ping
 ping_is Ping e = refl

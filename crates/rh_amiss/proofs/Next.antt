@@ -43,7 +43,7 @@ no_packets count.One n e tells = absurd cc
 no_packets count.More n e tells = absurd cc
 
 module _ {S : Type 0} (rules : Rules S) (p : Passage S) (s : Shell S) (role : p.role ≡ s.role)
-    (leg : Leg) (pipe : Option Pipe) (r : Refused) (amiss : IsAmiss r) (put : List Message)
+    (leg : Leg) (pipe : Option Pipe) (r : Refused) (put : List Message)
     (heard : List ℕ) (b : ℕ)
     (knows : (end : NearEnd) → s.course ≡ Going → end_at s leg ≡ Some end
     → KnowsEnd rules s.role pipe leg heard end)
@@ -61,7 +61,7 @@ module _ {S : Type 0} (rules : Rules S) (p : Passage S) (s : Shell S) (role : p.
       (is_ended (rules.phase s.role)) at.on)
 
   refused : RefusesAhead rules s.role leg r at.end.count (of_leg leg p.came) (all_read_of put)
-      → NextIsAmiss rules p leg (all_read_of put)
+      → NextIsAmiss rules p leg (all_read_of put) r
   refused next = record {
     in_use = subst (λ (x : S). is_in_use rules x leg ≡ true) (sym role) in_use;
     was_up = subst (λ (x : S). rules.was_up x leg ≡ true) (sym role) known.was_up;
@@ -70,8 +70,6 @@ module _ {S : Type 0} (rules : Rules S) (p : Passage S) (s : Shell S) (role : p.
         subst (λ (ms : List Message). Tells at.end.count (packets ms)) (sym at.came_is) counts;
     message = next.message;
     ahead = next.ahead;
-    why = r;
-    amiss = amiss;
     refuses =
         subst (λ (x : S). RefusesBy rules x leg at.end.count r next.message) (sym role)
         next.refuses;
@@ -79,14 +77,15 @@ module _ {S : Type 0} (rules : Rules S) (p : Passage S) (s : Shell S) (role : p.
 
   pub amiss_next : (PingsFirst pipe r at.end.count heard b
       → packets (messages_read pipe heard) ≡ 0 → HasNoPingFirst put → ⊥)
-      → AmissNext rules p leg pipe put
+      → AmissNext rules p leg pipe put r
   amiss_next pings = by at.how
     where
       by : RefusesAhead rules s.role leg r at.end.count (of_leg leg p.came) (all_read_of put)
-          ⊎ PingsFirst pipe r at.end.count heard b → AmissNext rules p leg pipe put
+          ⊎ PingsFirst pipe r at.end.count heard b → AmissNext rules p leg pipe put r
       by (inl next) = inl (refused next)
       by (inr ping) =
           inr (
+            ping.unexpected,
             ping.upward,
             pings ping (no_packets at.end.count (packets (messages_read pipe heard)) ping.none
                 counts),
@@ -95,22 +94,22 @@ module _ {S : Type 0} (rules : Rules S) (p : Passage S) (s : Shell S) (role : p.
 -- ---- what expects that refuses nothing so
 
 refuses_none : {S : Type 0} (rules : Rules S) (p : Passage S) (leg : Leg) (all : List Message)
-    → Expects rules p leg all → (next : NextIsAmiss rules p leg all) → (message : Message)
-    → next.message ≡ message → ⊥
-refuses_none rules p leg all expects next (Text bytes) e =
-    subst (RefusesBy rules p.role leg next.count next.why) e next.refuses
-refuses_none rules p leg all expects next (Pdu bytes) e =
-    expects.pdu next.count bytes next.why next.in_use next.was_up
+    (r : Refused) → IsAmiss r → Expects rules p leg all → (next : NextIsAmiss rules p leg all r)
+    → (message : Message) → next.message ≡ message → ⊥
+refuses_none rules p leg all r amiss expects next (Text bytes) e =
+    subst (RefusesBy rules p.role leg next.count r) e next.refuses
+refuses_none rules p leg all r amiss expects next (Pdu bytes) e =
+    expects.pdu next.count bytes r next.in_use next.was_up
     (subst (IsAhead p leg all) e next.ahead)
-    (subst (RefusesBy rules p.role leg next.count next.why) e next.refuses) next.amiss
-refuses_none rules p leg all expects next (Packet named) e =
-    expects.packet next.count named next.why next.in_use next.was_up next.counts
+    (subst (RefusesBy rules p.role leg next.count r) e next.refuses) amiss
+refuses_none rules p leg all r amiss expects next (Packet named) e =
+    expects.packet next.count named r next.in_use next.was_up next.counts
     (subst (IsAhead p leg all) e next.ahead)
-    (subst (RefusesBy rules p.role leg next.count next.why) e next.refuses) next.amiss
+    (subst (RefusesBy rules p.role leg next.count r) e next.refuses) amiss
 
 pub never_amiss : {S : Type 0} (rules : Rules S) (p : Passage S) (leg : Leg) (pipe : Option Pipe)
-    (put : List Message) → Expects rules p leg (all_read_of put)
-    → (is_upward pipe ≡ true → HasNoPingFirst put) → AmissNext rules p leg pipe put → ⊥
-never_amiss rules p leg pipe put expects first (inl next) =
-    refuses_none rules p leg (all_read_of put) expects next next.message refl
-never_amiss rules p leg pipe put expects first (inr pinged) = pinged.1 (first pinged.0)
+    (put : List Message) (r : Refused) → IsAmiss r → Expects rules p leg (all_read_of put)
+    → (is_upward pipe ≡ true → HasNoPingFirst put) → AmissNext rules p leg pipe put r → ⊥
+never_amiss rules p leg pipe put r amiss expects first (inl next) =
+    refuses_none rules p leg (all_read_of put) r amiss expects next next.message refl
+never_amiss rules p leg pipe put r amiss expects first (inr pinged) = pinged.2 (first pinged.1)

@@ -1,5 +1,6 @@
--- a node that closes since it was not the turn of what came, or another cookie was named (MS-RPCH
--- 3.2): its role refuses the next message that was put at the other end of the leg
+-- a node that closes since it was not the turn of what came, another cookie was named (MS-RPCH 3.2),
+-- or too many packets wait (profile): its role refuses the next message that was put at the other
+-- end of the leg
 use Rattle.std.specs.Prelude.{◌≡◌, ◌⊎◌, List, IsTrue, true, Some, None, Err}
 use Rattle.std.specs.declared.option.Option.{Option}
 use Rattle.rh_sig.specs.declared.name.Pipe.{Pipe}
@@ -15,12 +16,13 @@ use Rattle.rh_shell.specs.Rules.{Message, Text, Pdu, Packet, Rules}
 use Rattle.rh_shell.specs.Wires.{of_leg}
 use Rattle.rh_reading.specs.Reading.{all_read_of}
 use Rattle.rh_passages.specs.Counted.{Tells, packets}
-use Rattle.rh_moments.specs.Expecting.{HasNoPingFirst, IsAhead, IsAmiss}
+use Rattle.rh_moments.specs.Expecting.{HasNoPingFirst, IsAhead}
 
 -- what a row refused, by the cause of the node
 abbrev pub amiss_by : Cause → Option Refused
 amiss_by (cause.Unexpected leg place) = Some refused.Unexpected
 amiss_by (cause.CookieMismatch leg expected got) = Some (refused.Cookie expected got)
+amiss_by (cause.ControlFull full) = Some (refused.Full full)
 amiss_by why = None
 
 -- a row of the role in this state refuses the message, where so many packets came before
@@ -32,20 +34,18 @@ RefusesBy rules role leg count why (Packet named) =
 
 -- on a leg that was up and is in use, a row refuses the next message so, by its true count
 pub record NextIsAmiss {S : Type 0} (rules : Rules S) (p : Passage S) (leg : Leg)
-    (all : List Message) : Type 0 where
+    (all : List Message) (why : Refused) : Type 0 where
   pub in_use : IsTrue (is_in_use rules p.role leg)
   pub was_up : IsTrue (rules.was_up p.role leg)
   pub count : Count
   pub counts : Tells count (packets (of_leg leg p.came))
   pub message : Message
   pub ahead : IsAhead p leg all message
-  pub why : Refused
-  pub amiss : IsAmiss why
   pub refuses : RefusesBy rules p.role leg count why message
 
--- or it is so of the first packet that was put on a leg towards the server: that is a Ping
+-- or the first packet that was put on a leg towards the server is a Ping, which is unexpected
 abbrev pub AmissNext : {S : Type 0} → Rules S → Passage S → Leg → Option Pipe → List Message
-    → Type 0
-AmissNext rules p leg pipe put =
-    NextIsAmiss rules p leg (all_read_of put)
-    ⊎ ((is_upward pipe ≡ true) × (HasNoPingFirst put → ⊥))
+    → Refused → Type 0
+AmissNext rules p leg pipe put why =
+    NextIsAmiss rules p leg (all_read_of put) why
+    ⊎ ((why ≡ refused.Unexpected) × (is_upward pipe ≡ true) × (HasNoPingFirst put → ⊥))

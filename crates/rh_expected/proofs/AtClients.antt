@@ -87,7 +87,7 @@ module _ {K : Type 0} (roles : RolesKnow) (nodes : NodesLaws) (reads : Reads) (r
       out_at D count node up there may here closes = absurd cc
       out_at U count node up there may here closes =
           let was = out_amiss roles reads readings m w v ours law (OutsServe ours) flow by (co n) U
-          (λ j. may) r amiss (well_on ClientOut U) (λ e. refl)
+          (λ j. may) r (well_on ClientOut U) (λ e. refl)
           (well_behind m w v ours law by (co n) U (λ j. may)) why tells count (who.Out k) here
           nodes.outs k refl node up there closes in
           let then_flowing = flowing reads readings m w v ours law (OutsServe ours) flow by (co n) U
@@ -95,7 +95,7 @@ module _ {K : Type 0} (roles : RolesKnow) (nodes : NodesLaws) (reads : Reads) (r
           let same = out_number n k here in
           let f = then_flowing.flows.flows in
           let put = of_leg (co n) f.client.passage.passage.put in
-          never_amiss out_proxy.rules (f.outs k).passage (co n) (Some CoU) put
+          never_amiss out_proxy.rules (f.outs k).passage (co n) (Some CoU) put r amiss
           (subst (λ (j : ℕ). Expects out_proxy.rules (f.outs k).passage (co j)
           (all_read_of (of_leg (co j) f.client.passage.passage.put))) (sym same)
           (then_flowing.holds k was.end was.going

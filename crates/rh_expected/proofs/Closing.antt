@@ -181,7 +181,7 @@ module _ {K : Type 0} (roles : RolesKnow) (nodes : NodesLaws) (reads : Reads) (r
       in_at_client expects n D count node up there may here closes = absurd cc
       in_at_client expects n U count node up there may here closes =
           let next = in_next roles reads readings m w v ours law (AtMoment Fits Holds ours) flow by
-          (ci n) U (λ j. may) r amiss (well_on ClientIn U) (λ e. refl)
+          (ci n) U (λ j. may) r (well_on ClientIn U) (λ e. refl)
           (well_behind m w v ours law by (ci n) U (λ j. may)) why tells
           count (who.In k) here nodes.ins k refl
           node up there closes in
@@ -189,7 +189,7 @@ module _ {K : Type 0} (roles : RolesKnow) (nodes : NodesLaws) (reads : Reads) (r
           let moves : Moves = moves_of flowed in
           let now = moment (ci n) U may next.0 in
           let put = of_leg (ci n) flowed.flows.client.passage.passage.put in
-          never_amiss in_proxy.rules (flowed.flows.ins k).passage (ci n) (Some CiU) put
+          never_amiss in_proxy.rules (flowed.flows.ins k).passage (ci n) (Some CiU) put r amiss
           (subst (λ (p : Passage InProxy). Expects in_proxy.rules p (ci n) (all_read_of put))
           (flowed.flows.ins k).leads.reached
           (subst (λ (p : EndPassage ClientRole).
@@ -205,7 +205,7 @@ module _ {K : Type 0} (roles : RolesKnow) (nodes : NodesLaws) (reads : Reads) (r
       in_at_server expects n U count node up there may here closes = absurd cc
       in_at_server expects n D count node up there may here closes =
           let next = in_next roles reads readings m w v ours law (AtMoment Fits Holds ours) flow by
-          (is_leg n) D (λ j. may) r amiss (well_on InServer D) (λ e. refl)
+          (is_leg n) D (λ j. may) r (well_on InServer D) (λ e. refl)
           (well_behind m w v ours law by (is_leg n) D (λ j. may)) why tells
           count (who.In k) here nodes.ins
           k refl node up there closes in
@@ -213,7 +213,7 @@ module _ {K : Type 0} (roles : RolesKnow) (nodes : NodesLaws) (reads : Reads) (r
           let moves : Moves = moves_of flowed in
           let now = moment (is_leg n) D may next.0 in
           let put = of_leg (is_leg n) flowed.flows.server.passage.passage.put in
-          never_amiss in_proxy.rules (flowed.flows.ins k).passage (is_leg n) (Some IsD) put
+          never_amiss in_proxy.rules (flowed.flows.ins k).passage (is_leg n) (Some IsD) put r amiss
           (subst (λ (j : ℕ). Expects in_proxy.rules (flowed.flows.ins j).passage (is_leg n)
           (all_read_of put)) (in_number n k here)
           (subst (λ (p : Passage InProxy). Expects in_proxy.rules p (is_leg n) (all_read_of put))
@@ -269,7 +269,7 @@ module _ {K : Type 0} (roles : RolesKnow) (nodes : NodesLaws) (reads : Reads) (r
       out_at_client expects n D count node up there may here closes = absurd cc
       out_at_client expects n U count node up there may here closes =
           let next = out_next roles reads readings m w v ours law (AtMoment Fits Holds ours) flow by
-          (co n) U (λ j. may) r amiss (well_on ClientOut U) (λ e. refl)
+          (co n) U (λ j. may) r (well_on ClientOut U) (λ e. refl)
           (well_behind m w v ours law by (co n) U (λ j. may)) why tells
           count (who.Out k) here nodes.outs k
           refl node up there closes in
@@ -277,7 +277,7 @@ module _ {K : Type 0} (roles : RolesKnow) (nodes : NodesLaws) (reads : Reads) (r
           let moves : Moves = moves_of flowed in
           let now = moment (co n) U may next.0 in
           let put = of_leg (co n) flowed.flows.client.passage.passage.put in
-          never_amiss out_proxy.rules (flowed.flows.outs k).passage (co n) (Some CoU) put
+          never_amiss out_proxy.rules (flowed.flows.outs k).passage (co n) (Some CoU) put r amiss
           (subst (λ (j : ℕ). Expects out_proxy.rules (flowed.flows.outs j).passage (co n)
           (all_read_of put)) (out_number n k here)
           (subst (λ (p : Passage OutProxy). Expects out_proxy.rules p (co n) (all_read_of put))
@@ -294,7 +294,7 @@ module _ {K : Type 0} (roles : RolesKnow) (nodes : NodesLaws) (reads : Reads) (r
       out_at_server expects n U count node up there may here closes = absurd cc
       out_at_server expects n D count node up there may here closes =
           let next = out_next roles reads readings m w v ours law (AtMoment Fits Holds ours) flow by
-          (os_leg n) D (λ j. may) r amiss (well_on OutServer D) (λ e. refl)
+          (os_leg n) D (λ j. may) r (well_on OutServer D) (λ e. refl)
           (well_behind m w v ours law by (os_leg n) D (λ j. may)) why tells
           count (who.Out k) here nodes.outs
           k refl node up there closes in
@@ -303,6 +303,7 @@ module _ {K : Type 0} (roles : RolesKnow) (nodes : NodesLaws) (reads : Reads) (r
           let now = moment (os_leg n) D may next.0 in
           let put = of_leg (os_leg n) flowed.flows.server.passage.passage.put in
           never_amiss out_proxy.rules (flowed.flows.outs k).passage (os_leg n) (Some OsD) put
+          r amiss
           (subst (λ (j : ℕ). Expects out_proxy.rules (flowed.flows.outs j).passage (os_leg n)
           (all_read_of put)) (out_number n k here)
           (subst (λ (p : Passage OutProxy). Expects out_proxy.rules p (os_leg n) (all_read_of put))
@@ -360,7 +361,7 @@ module _ {K : Type 0} (roles : RolesKnow) (nodes : NodesLaws) (reads : Reads) (r
     server_at_in expects n D count may here closes = absurd cc
     server_at_in expects n U count may here closes =
         let next = server_next roles reads readings m w v ours law (AtMoment Fits Holds ours) flow
-        by (is_leg n) U (λ j. may) r amiss (well_on InServer U) (λ e. refl)
+        by (is_leg n) U (λ j. may) r (well_on InServer U) (λ e. refl)
         (well_behind m w v ours law by (is_leg n) U (λ j. may)) why tells
         count who.Server here nodes.server
         refl closes in
@@ -369,6 +370,7 @@ module _ {K : Type 0} (roles : RolesKnow) (nodes : NodesLaws) (reads : Reads) (r
         let now = moment (is_leg n) U may next.0 in
         let put = of_leg (is_leg n) (flowed.flows.ins n).passage.put in
         never_amiss server.rules flowed.flows.server.passage.passage (is_leg n) (Some IsU) put
+        r amiss
         (subst (λ (p : EndPassage Server).
         Expects server.rules p.passage (is_leg n) (all_read_of put))
         flowed.flows.server.leads.reached
@@ -384,7 +386,7 @@ module _ {K : Type 0} (roles : RolesKnow) (nodes : NodesLaws) (reads : Reads) (r
     server_at_out expects n D count may here closes = absurd cc
     server_at_out expects n U count may here closes =
         let next = server_next roles reads readings m w v ours law (AtMoment Fits Holds ours) flow
-        by (os_leg n) U (λ j. may) r amiss (well_on OutServer U) (λ e. refl)
+        by (os_leg n) U (λ j. may) r (well_on OutServer U) (λ e. refl)
         (well_behind m w v ours law by (os_leg n) U (λ j. may)) why tells
         count who.Server here nodes.server
         refl closes in
@@ -393,6 +395,7 @@ module _ {K : Type 0} (roles : RolesKnow) (nodes : NodesLaws) (reads : Reads) (r
         let now = moment (os_leg n) U may next.0 in
         let put = of_leg (os_leg n) (flowed.flows.outs n).passage.put in
         never_amiss server.rules flowed.flows.server.passage.passage (os_leg n) (Some OsU) put
+        r amiss
         (subst (λ (p : EndPassage Server).
         Expects server.rules p.passage (os_leg n) (all_read_of put))
         flowed.flows.server.leads.reached

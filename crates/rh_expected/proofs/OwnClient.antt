@@ -82,7 +82,7 @@ module _ {K : Type 0} (roles : RolesKnow) (client_roles : ClientKnows) (nodes : 
   client_at D count may here closes =
       let next = client_next roles reads readings m w v ours law
       (AtMoment (OfClient AreDistinct) (ClientExpects (numbers ours)) ours) flow by (co n) D
-      (λ j. may) refused.Unexpected tt is_named (λ e. refl) (λ k. named (IsFed (co n) D k) may n)
+      (λ j. may) refused.Unexpected is_named (λ e. refl) (λ k. named (IsFed (co n) D k) may n)
       why refl count who.Client here client_roles nodes.client refl closes in
       let then_flowing = flowing reads readings m w v ours law
       (AtMoment (OfClient AreDistinct) (ClientExpects (numbers ours)) ours) flow by (co n) D
@@ -95,6 +95,7 @@ module _ {K : Type 0} (roles : RolesKnow) (client_roles : ClientKnows) (nodes : 
       (known m w v ours law by (co n) D (λ k. may)).traced.runs.client) distinct) in
       let put = of_leg (co n) (f.outs n).passage.put in
       never_amiss client.rules f.client.passage.passage (co n) (Some CoD) put
+      refused.Unexpected tt
       (subst (λ (p : EndPassage ClientRole).
       Expects client.rules p.passage (co n) (all_read_of put)) f.client.leads.reached
       (subst (λ (p : Passage OutProxy).
