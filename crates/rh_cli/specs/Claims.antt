@@ -2,13 +2,14 @@
 use Rattle.std.specs.Prelude.{◌≡◌, ◌≤◌, ◌++◌, ℕ, List, [], ◌∷◌, true}
 use Rattle.rh_http.specs.declared.fault.HttpFault.{HttpFault}
 use Rattle.rh_line.specs.declared.cause.Cause.{Cause}
-use Rattle.rh_line.specs.declared.cause.Cause.TheVariants.{BadFrame, BadHead, BadPacket, BodyOver, CookieMismatch, HttpRefused, OutOfRange, Silent, Unexpected, WindowExceeded}
+use Rattle.rh_line.specs.declared.cause.Cause.TheVariants.{BadFrame, BadHead, BadPacket, BodyOver, ControlFull, CookieMismatch, HttpRefused, OutOfRange, Silent, Unexpected, WindowExceeded}
 use Rattle.rh_line.specs.declared.leg.Leg.{Leg}
 use Rattle.rh_line.specs.declared.leg.LegKind.TheVariants.{ClientIn, ClientOut, InServer, OutServer}
 use Rattle.rh_nodes.specs.Settling.{leg_at}
 use Rattle.rh_pdu.specs.declared.fault.HeadFault.{HeadFault}
 use Rattle.rh_record.specs.declared.answer.Answer.TheVariants.{NodeClosed}
 use Rattle.rh_record.specs.declared.answer.Who.{Who}
+use Rattle.rh_record.specs.declared.answer.Who.TheVariants as who
 use Rattle.rh_record.specs.declared.line.Line.{Line}
 use Rattle.rh_record.specs.declared.line.Line.TheVariants.{First}
 use Rattle.rh_rts.specs.declared.command.Cookie.{Cookie}
@@ -55,7 +56,8 @@ pub record RefusesForBreak (before : List Line) (line : Line) : Type 0 where
 
 -- no line reports a node as closed for what another node did: each frame, packet and head is good;
 -- what comes is in its turn and names the cookies that the node knows; RPC PDUs are within the
--- window, values in their range, and bodies no longer than their heads told (MS-RPCH 3.2)
+-- window, values in their range, and bodies no longer than their heads told (MS-RPCH 3.2). Nor does
+-- a client or an in proxy close since too many packets wait
 pub record RolesAreHonest (world : AnyWorld) (line : Line) : Type 0 where
   pub frame : (node : Who) (leg : Leg) (place : ℕ) (fault : HeadFault)
       → IsOneOf (NodeClosed node (BadFrame leg place fault)) (step world line).1 → ⊥
@@ -73,13 +75,17 @@ pub record RolesAreHonest (world : AnyWorld) (line : Line) : Type 0 where
       → IsOneOf (NodeClosed node (BadHead leg place fault)) (step world line).1 → ⊥
   pub body : (node : Who) (leg : Leg) (count told : ℕ)
       → IsOneOf (NodeClosed node (BodyOver leg count told)) (step world line).1 → ⊥
+  pub client_room : (full : Leg)
+      → IsOneOf (NodeClosed who.Client (ControlFull full)) (step world line).1 → ⊥
+  pub in_room : (k : ℕ) (full : Leg)
+      → IsOneOf (NodeClosed (who.In k) (ControlFull full)) (step world line).1 → ⊥
 
 -- at every line of the report what an end took is a front of what the other end gave, each PDU
 -- once and in order, and all of it at a clean end; and a report of roles counts what it tells.
 -- Behind each front of the lines no more is held for a channel than its window, nothing stands
 -- behind a handover mark, and what was given is what was taken and what is on its way, unless a leg
--- is lost. Each line closes nodes for a reason, and none for what another node did but that too
--- many packets wait; in all of the report each node is closed once at most, and each later answer
+-- is lost. Each line closes nodes for a reason, and none for what another node did but an out proxy
+-- or the server since too many packets wait; in all of the report each node is closed once at most, and each later answer
 -- of an end that closed names the same cause.
 pub record Claims (lines : List Line) : Type 0 where
   pub ordered : OffersBehindFirst lines → IsOrdered lines (run lines)

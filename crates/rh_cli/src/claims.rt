@@ -19,6 +19,7 @@ use rh_named::an_end_of_a_recording_names_its_cause;
 use rh_ordered::a_recording_counts;
 use rh_paths::every_recording_keeps_what_is_on_its_way;
 use rh_refused::a_refused_client_of_a_recording_lost_its_server;
+use rh_room::no_node_of_a_recording_lacks_room;
 use rh_windows::no_window_closes_a_node_of_a_recording;
 
 /// In every recording what each end takes is what the other end gave, each PDU once and in order,
@@ -27,7 +28,7 @@ use rh_windows::no_window_closes_a_node_of_a_recording;
 /// as closed once at most, by a line whose answers show why; each later answer of that end names
 /// the same cause (MS-RPCH 3.2). No node closes for bytes that read badly, for what comes out of its
 /// turn or names another cookie, for a PDU behind its window, for a value out of its range, or for a
-/// body that is too long.
+/// body that is too long; nor the client or an in proxy since too many packets wait.
 pub fn recordings_keep_to_their_claims()
     ensures { (lines : List Line) → Claims lines }
 {
@@ -42,6 +43,7 @@ pub fn recordings_keep_to_their_claims()
     no_node_of_a_recording_refuses_what_comes();
     no_window_closes_a_node_of_a_recording();
     no_body_of_a_recording_is_too_long();
+    no_node_of_a_recording_lacks_room();
     every_recording_keeps_what_is_on_its_way();
     a_node_of_a_recording_falls_silent();
     a_recording_reports_a_node_closed_once();
