@@ -85,8 +85,8 @@ pub record RolesAreHonest (world : AnyWorld) (line : Line) : Type 0 where
 -- Behind each front of the lines no more is held for a channel than its window, nothing stands
 -- behind a handover mark, and what was given is what was taken and what is on its way, unless a leg
 -- is lost. Each line closes nodes for a reason, and none for what another node did but an out proxy
--- or the server since too many packets wait; in all of the report each node is closed once at most, and each later answer
--- of an end that closed names the same cause.
+-- or the server since too many packets wait; in all of the report each node is closed once at most,
+-- and each later answer of an end that closed names the same cause.
 pub record Claims (lines : List Line) : Type 0 where
   pub ordered : OffersBehindFirst lines → IsOrdered lines (run lines)
   pub counted : (behind : List Line) → lines ≡ First true ∷ behind
