@@ -1,0 +1,5 @@
+mod Channels
+mod Dues
+mod Rows
+mod Puts
+mod Kept

@@ -1,0 +1,7 @@
+//! What a server has to forward to the client: which channels an in proxy acknowledges, and when.
+//! Its functions do nothing: their contracts are the laws.
+#![tactic(auto)]
+
+pub mod acks;
+
+pub use acks::an_in_proxy_acknowledges_in_order;
