@@ -3,3 +3,6 @@ mod Dues
 mod Rows
 mod Puts
 mod Kept
+mod Ahead
+mod Legs
+mod Overtaking
