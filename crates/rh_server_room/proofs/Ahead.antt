@@ -285,3 +285,22 @@ module _ (channel : Cookie) where
       by true e rest = first_of (here first dues h (is_for first) refl)
       by false e rest =
           later may_go first dues (without_first may_go dues) (find may_go dues) e h rest
+
+  -- ---- one that is no answer goes
+
+  pub dropped_stays : (may_go : Due → Bool)
+      → ((due : Due) → may_go due ≡ true → (is_for due ≡ false) × (bytes_of due.packet ≡ 0))
+      → (dues : List Due) → is_there dues ≡ true → Stays dues (without_first may_go dues)
+  dropped_stays may_go plain [] h = absurd cc
+  dropped_stays may_go plain (first ∷ dues) h =
+      by_test (Stays (first ∷ dues)) (may_go first) dues (first ∷ without_first may_go dues)
+      (λ e. let is = plain first e in
+      let weighed = ap (λ (b : Bool). if b then 0 else bytes_of first.packet + weight dues) is.0 in
+      let none = is.1 in
+      let counted = ap (λ (b : Bool). if b then 0 else suc (count dues)) is.0 in record {
+        there = there_behind first dues h is.0;
+        same = omega (arith, weighed, none);
+        fewer = omega (arith, counted);
+      })
+      (λ e. behind_one first dues (without_first may_go dues)
+      (λ f. dropped_stays may_go plain dues (there_behind first dues h f)))

@@ -6,3 +6,5 @@ mod Kept
 mod Ahead
 mod Legs
 mod Overtaking
+mod Counted
+mod Serving
