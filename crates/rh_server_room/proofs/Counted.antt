@@ -10,21 +10,23 @@ use Rattle.rh_server_room.proofs.Legs.{each_got, others_so, sorted_set}
 use Rattle.rh_server_room.proofs.Overtaking.{Seen, Phase, InTurn, IsRefused, HasRoom, IsBase, Base, IsTotal, IsNow, IsKept, Kept, Fine}
 
 module _ (channel : Cookie) (least budget : ℕ) where
-  abbrev counted : Seen → List OutLeg → ℕ → ℕ → Seen
-  counted x legs weight count = record x { legs = legs; weight = weight; count = count }
+  abbrev counted : Seen → List OutLeg → Bool → ℕ → ℕ → Seen
+  counted x legs there weight count =
+      record x { legs = legs; there = there; weight = weight; count = count }
 
   module _ (x : Seen) (place : ℕ) (leg new : OutLeg) (len : ℕ)
       (at : slice_get x.legs place ≡ Some leg) (writes : leg.number ≡ x.writing)
       (number : new.number ≡ leg.number) (meter : new.meter ≡ after_put leg.meter len)
       (base : Base channel least budget x) where
-    abbrev now : ℕ → ℕ → Seen
-    now weight count = counted x (slice_set x.legs place new) weight count
+    abbrev now : Bool → ℕ → ℕ → Seen
+    now there weight count = counted x (slice_set x.legs place new) there weight count
 
-    pub counted_base : (weight count : ℕ) → Base channel least budget (now weight count)
-    counted_base weight count = record {
+    pub counted_base : (there : Bool) (weight count : ℕ)
+        → Base channel least budget (now there weight count)
+    counted_base there weight count = record {
       answered = base.answered;
       sorted = sorted_set x.legs place leg new at number base.sorted;
-      legs = others_so (IsBase channel least budget x) (IsBase channel least budget (now weight count)) x.legs place leg new at
+      legs = others_so (IsBase channel least budget x) (IsBase channel least budget (now there weight count)) x.legs place leg new at
           base.sorted (λ other apart is. record { number = is.number; next = is.next })
           (λ is. record {
             number = subst (λ (n : ℕ). n ≤ x.newest) (sym number) is.number;
@@ -48,14 +50,15 @@ module _ (channel : Cookie) (least budget : ℕ) where
         (λ is e. subst (IsNow channel least budget other_phase other_total count) (sym meter) (so (is writes))) h
 
     abbrev Fits : ℕ → Type 0
-    Fits bytes = (bytes ≤ len) × (len ≤ 56) × (leg.meter.count + len ≤ leg.meter.length)
+    Fits bytes = (bytes ≤ len) × (leg.meter.count + len ≤ leg.meter.length)
 
     -- one of those before it goes
-    pub before_kept : (put bytes weight count : ℕ) → Fits bytes → weight + bytes ≡ x.weight
-        → suc count ≡ x.count → x.there ≡ true → Kept channel least budget x put
-        → Kept channel least budget (now weight count) (put + bytes)
-    before_kept put bytes weight count fits less one there k = record {
-      there = there;
+    pub before_kept : (put bytes : ℕ) (there : Bool) (weight count : ℕ) → Fits bytes → len ≤ 56
+        → weight + bytes ≡ x.weight → suc count ≡ x.count → there ≡ true
+        → Kept channel least budget x put
+        → Kept channel least budget (now there weight count) (put + bytes)
+    before_kept put bytes there weight count fits small less one is k = record {
+      there = is;
       room = let room = k.room in omega (arith, room, one);
       phase = k.phase;
       total = by_total k.phase (subst (IsTotal channel least budget k.phase x) (sym same) k.total);
@@ -68,7 +71,7 @@ module _ (channel : Cookie) (least budget : ℕ) where
         same = omega (arith, less)
 
         by_total : (phase : Phase) → IsTotal channel least budget phase x (put + bytes + weight)
-            → IsTotal channel least budget phase (now weight count) (put + bytes + weight)
+            → IsTotal channel least budget phase (now there weight count) (put + bytes + weight)
         by_total InTurn h = h
         by_total IsRefused h = h
         by_total HasRoom h = h
@@ -80,16 +83,16 @@ module _ (channel : Cookie) (least budget : ℕ) where
         by_now IsRefused h =
             let short = h.0 in
             let sum = h.2 in
-            let in_it = fits.2 in
+            let in_it = fits.1 in
             (omega (arith, short), in_it, omega (arith, sum))
-        by_now HasRoom h = let small = fits.1 in omega (arith, h, one, small)
+        by_now HasRoom h = omega (arith, h, one, small)
 
     -- one behind it goes, since the meter refused it
-    pub refused_kept : (put bytes weight count : ℕ) → Fits bytes → weight ≡ x.weight
-        → count ≤ x.count → x.begun ≡ true → leg.number ≤ x.newest
-        → leg.meter.length ≤ leg.meter.count + 311 → x.there ≡ true → Kept channel least budget x put
-        → Kept channel least budget (now weight count) (put + bytes)
-    refused_kept put bytes weight count fits same fewer begun newest short there k =
+    pub refused_kept : (put bytes : ℕ) (there : Bool) (weight count : ℕ) → Fits bytes
+        → weight ≡ x.weight → count ≤ x.count → x.begun ≡ true → leg.number ≤ x.newest
+        → leg.meter.length ≤ leg.meter.count + 311 → there ≡ true → Kept channel least budget x put
+        → Kept channel least budget (now there weight count) (put + bytes)
+    refused_kept put bytes there weight count fits same fewer begun newest short is k =
         by k.phase k.total k.now
       where
         sum : put + bytes + weight ≡ put + x.weight + bytes
@@ -101,22 +104,19 @@ module _ (channel : Cookie) (least budget : ℕ) where
         up : x.writing ≤ x.newest
         up = omega (arith, writes, newest)
 
-        at_most : bytes ≤ 56
-        at_most = let a = fits.0 in let b = fits.1 in omega (arith, a, b)
-
         -- the leg's meter is short of bytes
         is_now : put + x.weight + leg.meter.length ≤ budget + 311 + leg.meter.count
             → IsNow channel least budget IsRefused (put + bytes + weight) count (after_put leg.meter len)
         is_now so =
             let less = fits.0 in
-            let in_it = fits.2 in
+            let in_it = fits.1 in
             (omega (arith, short), in_it, omega (arith, so, less, sum))
 
         is_total : put + x.weight + leg.meter.length ≤ budget + 311 + leg.meter.count
             → put + bytes + weight ≤ budget + 311
         is_total so =
             let less = fits.0 in
-            let in_it = fits.2 in omega (arith, so, less, in_it, sum)
+            let in_it = fits.1 in omega (arith, so, less, in_it, sum)
 
         got : (phase : Phase) → AllByRecursion (IsKept channel least budget phase x (put + x.weight)) x.legs
             → (IsNow channel least budget phase (put + x.weight) x.count leg.meter
@@ -134,9 +134,9 @@ module _ (channel : Cookie) (least budget : ℕ) where
         with_phase : (phase : Phase)
             → AllByRecursion (IsKept channel least budget phase x (put + x.weight)) x.legs
             → put + x.weight + leg.meter.length ≤ budget + 311 + leg.meter.count
-            → Kept channel least budget (now weight count) (put + bytes)
+            → Kept channel least budget (now there weight count) (put + bytes)
         with_phase phase h so = record {
-          there = there;
+          there = is;
           room = room;
           phase = IsRefused;
           total = (begun, up, is_total so);
@@ -146,11 +146,11 @@ module _ (channel : Cookie) (least budget : ℕ) where
 
         by : (phase : Phase) → IsTotal channel least budget phase x (put + x.weight)
             → AllByRecursion (IsKept channel least budget phase x (put + x.weight)) x.legs
-            → Kept channel least budget (now weight count) (put + bytes)
+            → Kept channel least budget (now there weight count) (put + bytes)
         by InTurn total h = with_phase InTurn h (omega (arith, total, short))
-        by IsRefused total h = with_phase IsRefused h (got IsRefused h (λ is. is.2))
+        by IsRefused total h = with_phase IsRefused h (got IsRefused h (λ now. now.2))
         by HasRoom total h =
-            with_phase HasRoom h (got HasRoom h (λ is. absurd (omega (arith, is, short))))
+            with_phase HasRoom h (got HasRoom h (λ now. absurd (omega (arith, now, short))))
 
   -- ---- OUT_R1/A9
 

@@ -8,3 +8,4 @@ mod Legs
 mod Overtaking
 mod Counted
 mod Serving
+mod ServerPuts

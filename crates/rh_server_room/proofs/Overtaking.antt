@@ -143,16 +143,20 @@ module _ (channel : Cookie) (least budget : ℕ) where
             (fewer_now h.phase (put + x.weight) x.count count leg.meter le (now e))) x.legs h.now;
       }
 
+  pub dues_base : (x : Seen) (there : Bool) (weight count : ℕ) → Base x
+      → Base (with_dues x there weight count)
+  dues_base x there weight count h = record {
+    answered = h.answered;
+    sorted = h.sorted;
+    legs = each_so (IsBase x) (IsBase (with_dues x there weight count))
+        (λ leg is. record { number = is.number; next = is.next }) x.legs h.legs;
+  }
+
   pub dues_fine : (A : Type 0) (x : Seen) (put : ℕ) (there : Bool) (weight count : ℕ)
       → (x.there ≡ true → (there ≡ true) × (weight ≡ x.weight) × (count ≤ x.count))
       → Fine A put x → Fine A put (with_dues x there weight count)
   dues_fine A x put there weight count so h = record {
-    base = record {
-      answered = h.base.answered;
-      sorted = h.base.sorted;
-      legs = each_so (IsBase x) (IsBase (with_dues x there weight count))
-          (λ leg is. record { number = is.number; next = is.next }) x.legs h.base.legs;
-    };
+    base = dues_base x there weight count h.base;
     kept = λ a. let k = h.kept a in
         let all = so k.there in
         dues_kept x put there weight count all.0 all.1 all.2 k;
