@@ -1,13 +1,13 @@
 -- an os leg's meter counts what is put there, and the successor takes the channel's place
-use Rattle.std.proofs.Common.{◌≡◌, ℕ, suc, ◌+◌, ◌*◌, ◌≤◌, Bool, true, false, true≢false, List, Some, refl, sym, ap, ◌∙◌, subst, arith}
+use Rattle.std.proofs.Common.{◌≡◌, ℕ, suc, ◌+◌, ◌*◌, ◌≤◌, Bool, true, false, true≢false, List, Some, sym, ◌∙◌, subst, arith}
 use Rattle.std.specs.Prelude.{IfSome, slice_get, slice_set}
 use Rattle.std.specs.List.{AllByRecursion}
 use Rattle.rh_rts.specs.declared.command.Cookie.{Cookie}
-use Rattle.rh_keep.specs.Meters.{Meter, after_put}
+use Rattle.rh_keep.specs.Meters.{after_put}
 use Rattle.rh_passages.proofs.Messages.{each_so}
 use Rattle.rh_server.specs.declared.state.OutLeg.{OutLeg}
 use Rattle.rh_server_room.proofs.Legs.{each_got, others_so, sorted_set}
-use Rattle.rh_server_room.proofs.Overtaking.{Seen, Phase, InTurn, IsRefused, HasRoom, IsBase, Base, IsTotal, IsNow, IsKept, Kept, Fine}
+use Rattle.rh_server_room.proofs.Meters.{Seen, Phase, InTurn, IsRefused, HasRoom, IsBase, Base, IsTotal, IsNow, IsKept, Kept, Fine}
 
 module _ (channel : Cookie) (least budget : ℕ) where
   abbrev counted : Seen → List OutLeg → Bool → ℕ → ℕ → Seen

@@ -1,9 +1,9 @@
 -- what holds of each os leg of a server, where one of them changes
-use Rattle.std.proofs.Common.{◌≡◌, ◌<◌, ◌≤◌, ◌+◌, ℕ, zero, suc, List, [], ◌∷◌, ◌++◌, Some, None, refl, sym, ap, ◌∙◌, subst, arith}
+use Rattle.std.proofs.Common.{◌≡◌, ◌<◌, ◌≤◌, ℕ, zero, suc, List, [], ◌∷◌, ◌++◌, Some, None, sym, ap, ◌∙◌, subst, arith}
 use Rattle.std.specs.Prelude.{slice_get, slice_set, remove, IfSome}
 use Rattle.std.specs.List.{AllByRecursion}
 use Rattle.std.specs.declared.option.Option.{Option}
-use Rattle.rh_passages.proofs.Messages.{all_append, each_so}
+use Rattle.rh_passages.proofs.Messages.{all_append}
 use Rattle.rh_server.specs.declared.state.OutLeg.{OutLeg}
 
 -- ---- any elements

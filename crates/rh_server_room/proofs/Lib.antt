@@ -5,7 +5,8 @@ mod Puts
 mod Kept
 mod Ahead
 mod Legs
-mod Overtaking
+mod Meters
 mod Counted
 mod Serving
 mod ServerPuts
+mod Overtaken

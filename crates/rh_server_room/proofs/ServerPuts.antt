@@ -1,8 +1,8 @@
 -- what a server puts on os legs keeps what is known of an acknowledgement to the client that waits
-use Rattle.std.proofs.Common.{◌≡◌, ◌⊎◌, inl, inr, ℕ, suc, ◌+◌, ◌≤◌, ◌==◌, ◌&&◌, Bool, true, false, true≢false, not, if◌then◌else◌, nat_lt, List, [], ◌∷◌, Some, None, refl, sym, ap, ◌∙◌, subst, rules, arith}
+use Rattle.std.proofs.Common.{◌≡◌, inl, inr, ℕ, ◌+◌, ◌≤◌, ◌==◌, ◌&&◌, Bool, true, false, true≢false, if◌then◌else◌, nat_lt, List, [], ◌∷◌, Some, None, refl, sym, ap, ◌∙◌, subst, arith}
 use Rattle.std.proofs.lemmas.Bool.{and_parts, false≢true}
 use Rattle.std.proofs.lemmas.Bool.Decides.{nat_tests}
-use Rattle.std.specs.Prelude.{IfSome, find, nat_le, slice_get, slice_set}
+use Rattle.std.specs.Prelude.{IfSome, find, slice_get, slice_set}
 use Rattle.std.specs.Str.{bytes_eq}
 use Rattle.std.specs.declared.option.Option.{Option}
 use Rattle.rh_rts.specs.declared.command.Cookie.{Cookie}
@@ -14,7 +14,7 @@ use Rattle.rh_order.proofs.ByNumber.{by_test, same_number, test_same}
 use Rattle.rh_shell.specs.declared.due.Due.{Due}
 use Rattle.rh_shell.specs.NearEnds.{first_of}
 use Rattle.rh_shell.specs.Rules.{Message, Text, Pdu, Packet}
-use Rattle.rh_shell.specs.Waiting.{Waiting, key_of, taken, with_due, without_first}
+use Rattle.rh_shell.specs.Waiting.{Waiting, taken, with_due, without_first}
 use Rattle.rh_server.specs.declared.state.EndMark.TheVariants as end_mark
 use Rattle.rh_server.specs.declared.state.Greeting.TheVariants.{Put}
 use Rattle.rh_server.specs.declared.state.OutLeg.{OutLeg}
@@ -22,16 +22,15 @@ use Rattle.rh_server.specs.declared.state.Replacement.{Replacement}
 use Rattle.rh_server.specs.declared.state.Replacement.TheVariants as replacement
 use Rattle.rh_server.specs.declared.state.Stage.{Stage}
 use Rattle.rh_server.specs.declared.state.Stage.TheVariants as stage
-use Rattle.rh_server.specs.OutLegs.{counted, may_end, may_go, went}
+use Rattle.rh_server.specs.OutLegs.{counted, may_go, went}
 use Rattle.rh_server.specs.OutLines.{Gate, length_of, lets, lets_packet}
 use Rattle.rh_server.specs.OutReplacement.{handed, last_number}
-use Rattle.rh_server.specs.States.{Server, is_confirmed, is_due, is_open, out_place, same_cookie}
-use Rattle.rh_server.specs.Ending.{settled}
-use Rattle.rh_server.specs.Putting.{Pick, or_else, counts, counts_at, gate, gate_at, goes, is_end_due, may_end_at, may_go_at, next_out, out_greeting_at, pdu_by, put_end, put_in, put_open, put_out_at, put_out_greeting, put_pdu, put_pdu_or_end, put_waiting, settled_pick, waiting_at, waiting_by, was_put, went_at}
+use Rattle.rh_server.specs.States.{Server, is_confirmed, is_due, is_open, same_cookie}
+use Rattle.rh_server.specs.Putting.{Pick, or_else, counts, counts_at, gate, gate_at, is_end_due, may_end_at, may_go_at, next_out, out_greeting_at, pdu_by, put_end, put_open, put_out_at, put_out_greeting, put_pdu, put_pdu_or_end, put_waiting, settled_pick, waiting_at, waiting_by, was_put, went_at}
 use Rattle.rh_server_room.specs.Overtaking.{is_ack_for}
 use Rattle.rh_server_room.proofs.Ahead as ahead
 use Rattle.rh_server_room.proofs.Legs.{each_got}
-use Rattle.rh_server_room.proofs.Overtaking.{Seen, is_begun, is_answered, seen, IsBase, Base, Kept, Fine, dues_base, dues_kept, leg_fine}
+use Rattle.rh_server_room.proofs.Meters.{Seen, is_begun, is_answered, seen, IsBase, Base, Kept, Fine, dues_base, dues_kept, leg_fine}
 use Rattle.rh_server_room.proofs.Counted.{before_kept, counted_base, handed_fine, refused_kept}
 use Rattle.rh_server_room.proofs.Serving.{settled_serves}
 
@@ -447,3 +446,35 @@ module _ (channel : Cookie) where
           waiting_goes)
           (λ none. or_goes (put_pdu s place) (put_end s place)
           (pdu_goes none (front_length s.queue)) (λ no_pdu. end_goes none))
+
+    -- where there is no leg at the place
+    nothing_goes : (place : ℕ) → slice_get s.outs place ≡ None → Goes (next_out s place)
+    nothing_goes place at =
+        or_goes (put_waiting s place) (put_pdu_or_end s place)
+        (subst (λ (o : Option OutLeg). Goes (waiting_at s place (gate_at s o))) (sym at) tt)
+        (λ none. or_goes (put_pdu s place) (put_end s place) (by (front_length s.queue))
+        (λ no_pdu. by_test Goes (is_end_due s && may_end_at s (slice_get s.outs place)) _ None
+        (λ e. absurd (false≢true (subst (λ (o : Option OutLeg). may_end_at s o ≡ true) at
+        (and_parts (is_end_due s) (may_end_at s (slice_get s.outs place)) e).1)))
+        (λ e. tt)))
+      where
+        by : (len : Option ℕ) → Goes (pdu_by s place len)
+        by None = tt
+        by (Some len) =
+            by_test Goes (may_go_at s len (slice_get s.outs place)) _ None
+            (λ e. absurd (false≢true
+            (subst (λ (o : Option OutLeg). may_go_at s len o ≡ true) at e)))
+            (λ e. tt)
+
+    pub os_goes : (place : Option ℕ) → Goes (put_out_at s place)
+    os_goes None = tt
+    os_goes (Some place) =
+        or_goes (put_out_greeting s place) (put_open s place)
+        (greets place (slice_get s.outs place) refl)
+        (λ none. by_test Goes (is_open s.stage) (settled_pick (next_out s place)) None
+        (λ e. settled_goes (next_out s place) (by e (slice_get s.outs place) refl)) (λ e. tt))
+      where
+        by : is_open s.stage ≡ true → (o : Option OutLeg) → slice_get s.outs place ≡ o
+            → Goes (next_out s place)
+        by e None at = nothing_goes place at
+        by e (Some leg) at = out_goes e place leg at

@@ -1,7 +1,7 @@
 -- what comes to a server, and what else happens there but puts, keeps what is known of an
 -- acknowledgement to the client that waits
-use Rattle.std.proofs.Common.{◌≡◌, ◌⊎◌, inl, inr, ℕ, suc, ◌+◌, ◌≤◌, ◌==◌, ◌&&◌, ◌||◌, Bool, true, false, true≢false, nat_lt, not, if◌then◌else◌, List, [], ◌∷◌, ◌++◌, Some, None, Ok, Err, refl, sym, ap, ◌∙◌, subst, rules, arith}
-use Rattle.std.proofs.lemmas.Bool.{and_parts, false≢true}
+use Rattle.std.proofs.Common.{◌≡◌, ℕ, ◌+◌, ◌≤◌, ◌==◌, ◌&&◌, ◌||◌, Bool, true, false, true≢false, nat_lt, not, if◌then◌else◌, List, Some, None, Ok, Err, refl, sym, ap, ◌∙◌, subst, rules, arith}
+use Rattle.std.proofs.lemmas.Bool.{and_parts}
 use Rattle.std.proofs.lemmas.List.Quantifiers.{position-Some}
 use Rattle.std.proofs.lemmas.Option.{get_or_from_slice_get}
 use Rattle.std.specs.Prelude.{IfSome, slice_get, slice_set}
@@ -26,7 +26,6 @@ use Rattle.rh_shell.specs.declared.answers.Refused.TheVariants as refused
 use Rattle.rh_shell.specs.declared.due.Due.{Due}
 use Rattle.rh_shell.specs.declared.due.Origin.TheVariants.{Forwarded}
 use Rattle.rh_shell.specs.declared.end_role.RecycleRefused.{RecycleRefused}
-use Rattle.rh_shell.specs.Rules.{Row}
 use Rattle.rh_shell.specs.Waiting.{Waiting, added, own, pushed, takes, to_forward, with_due, merged, forwarded, without_first, Key, key_of, are_one}
 use Rattle.rh_shell.specs.Waiting as waits
 use Rattle.rh_server.specs.declared.state.InLeg.{InLeg}
@@ -44,15 +43,15 @@ use Rattle.rh_server.specs.OutLegs.{acked}
 use Rattle.rh_server.specs.declared.state.Edge.TheVariants.{Shut}
 use Rattle.rh_server.specs.States.{Server, is_fresh, in_leg, out_at, out_place, out_cookie, same_cookie, with_in, without_in, without_out, removed_at}
 use Rattle.rh_server.specs.Opening.{Done, took, refuse, unexpected, is_first, opens, first_in, with_first_in, first_out_at, with_first_out, out_leg_up, may_up_by, has_room, up, up_by, conn_a2_at, on_conn_a2, conn_b2_at, on_conn_b2}
-use Rattle.rh_server.specs.Acknowledging.{channel_at, channel_leg, forward_by, forwards, forwards_to, forwards_writing, is_full, on_ack_to, out_server, acked_at, acked_cookie, acked_in, on_ack, on_ping_traffic}
+use Rattle.rh_server.specs.Acknowledging.{channel_at, channel_leg, forward_by, forwards, forwards_to, forwards_writing, on_ack_to, out_server, acked_at, acked_cookie, acked_in, on_ack, on_ping_traffic}
 use Rattle.rh_server.specs.InReplacement.{announced, becomes_current, first_waiting, hands_over, has_fresh_below, in_r1_a2_at, in_r1_a2_by, in_r2_a2_on, leaves_by, moved_if, next_opened, on_in_r1_a2, on_in_r1_a6, on_in_r2_a2, opens_leg, opens_next, take}
-use Rattle.rh_server.specs.OutReplacement.{answered_by, answered_on, asks, confirms, is_asked, is_under_way, last_number, may_answer, on_out_r1_a4, on_out_r1_a8, out_r1_a4_at, out_r1_a4_by, out_r1_a8_at, recycle, wishes, wished}
+use Rattle.rh_server.specs.OutReplacement.{answered_by, answered_on, asks, confirms, is_under_way, last_number, may_answer, on_out_r1_a4, on_out_r1_a8, out_r1_a4_at, out_r1_a4_by, out_r1_a8_at, recycle, wishes}
 use Rattle.rh_server.specs.Ending.{completed, drawn_by, give, in_is_drawn, is_complete, lost_in, mark_by, on_end_a2, settled, with_ack_dropped, without_ack_of}
 use Rattle.rh_server.specs.Servers.{on_is, on_os, packet_by, pdu}
 use Rattle.rh_server_room.specs.Overtaking.{IsLong}
 use Rattle.rh_server_room.proofs.Ahead as ahead
 use Rattle.rh_server_room.proofs.Legs.{each_got, others_so, sorted_set}
-use Rattle.rh_server_room.proofs.Overtaking.{Seen, Phase, InTurn, IsRefused, HasRoom, is_begun, is_answered, seen, IsBase, Base, IsTotal, IsNow, IsKept, Kept, Fine, dues_fine, leg_fine, new_fine, removed_fine, stage_fine}
+use Rattle.rh_server_room.proofs.Meters.{Seen, Phase, InTurn, IsRefused, HasRoom, is_begun, is_answered, seen, IsBase, IsTotal, IsKept, Kept, Fine, dues_fine, leg_fine, new_fine, removed_fine, stage_fine}
 
 -- the os leg that is found has the number
 pub number_found : (n : ℕ) (legs : List OutLeg) (place : ℕ) (leg : OutLeg)
@@ -451,7 +450,7 @@ module _ (channel : Cookie) (least budget : ℕ) where
         by stage.Ended e = h
 
     -- where it is taken, its lifetime is no less
-    abbrev LongServes : Type 0 → Done → Type 0
+    abbrev pub LongServes : Type 0 → Done → Type 0
     LongServes L (t, Ok taken) = L → Serves t
     LongServes L (t, Err why) = Serves t
 
@@ -475,7 +474,9 @@ module _ (channel : Cookie) (least budget : ℕ) where
             (record s {
               replacement = replacement.Answered c;
               outs = slice_set s.outs place (record leg {
-                cookie = Some c; window = _; meter = started d 0;
+                cookie = Some c;
+                window = _;
+                meter = started d 0;
               });
             }) (named.OutR1A5 0 1 f)
             (answered_leg A (seen channel least budget s) put place leg _ begun at

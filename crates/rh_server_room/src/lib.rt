@@ -3,5 +3,7 @@
 #![tactic(auto)]
 
 pub mod acks;
+pub mod overtaking;
 
 pub use acks::an_in_proxy_acknowledges_in_order;
+pub use overtaking::few_answers_overtake_an_acknowledgement;

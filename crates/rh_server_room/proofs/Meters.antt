@@ -1,9 +1,9 @@
 -- an acknowledgement to the client that waits at a server: what goes before it, by the meters
-use Rattle.std.proofs.Common.{◌≡◌, ◌⊎◌, inl, inr, ℕ, suc, ◌+◌, ◌*◌, ◌<◌, ◌≤◌, ◌==◌, ◌&&◌, Bool, true, false, true≢false, nat_lt, if◌then◌else◌, List, [], ◌∷◌, ◌++◌, length, Some, None, refl, sym, ap, ◌∙◌, subst, arith}
+use Rattle.std.proofs.Common.{◌≡◌, ℕ, ◌+◌, ◌*◌, ◌≤◌, Bool, true, false, List, [], ◌∷◌, ◌++◌, Some, refl, sym, ap, ◌∙◌, subst, arith}
 use Rattle.std.specs.Prelude.{slice_get, slice_set, remove}
 use Rattle.std.specs.List.{AllByRecursion}
 use Rattle.rh_rts.specs.declared.command.Cookie.{Cookie}
-use Rattle.rh_keep.specs.Meters.{Meter, after_put}
+use Rattle.rh_keep.specs.Meters.{Meter}
 use Rattle.rh_passages.proofs.Messages.{all_append, each_so}
 use Rattle.rh_server.specs.declared.state.OutLeg.{OutLeg}
 use Rattle.rh_server.specs.declared.state.Replacement.{Replacement}
@@ -267,12 +267,14 @@ module _ (channel : Cookie) (least budget : ℕ) where
           (λ leg is_base. record {
             number = let least = is_base.number in omega (arith, least, is);
             next = is_base.next;
-          }) x.legs h.base.legs)
-          (record {
-            number = omega arith;
-            next = λ e f. absurd (let least = (h.base.answered e).1 in
-                omega (arith, least, is, f));
-          }, tt);
+          }) x.legs h.base.legs) (
+            record {
+              number = omega arith;
+              next = λ e f. absurd (let least = (h.base.answered e).1 in
+                  omega (arith, least, is, f));
+            },
+            tt,
+          );
     };
     kept = λ a. let k = h.kept a in record {
       there = k.there;
