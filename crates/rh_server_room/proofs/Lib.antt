@@ -10,3 +10,4 @@ mod Counted
 mod Serving
 mod ServerPuts
 mod Overtaken
+mod AckedLegs

@@ -1,2 +1,3 @@
 pub mod Acks
 pub mod Overtaking
+pub mod Answered
