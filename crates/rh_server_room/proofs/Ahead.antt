@@ -26,7 +26,7 @@ same_cookies : (a b : Cookie) → bytes_eq a.0 b.0 ≡ true → a ≡ b
 same_cookies a b e =
     ap (λ (bytes : List ℕ). record { 0 = bytes }) ((bytes_eq-Decides a.0 b.0).0 e)
 
-same_keys : (a b : Option Key) → are_one a b ≡ true → a ≡ b
+pub same_keys : (a b : Option Key) → are_one a b ≡ true → a ≡ b
 same_keys None b e = absurd cc
 same_keys (Some a) None e = absurd cc
 same_keys (Some a) (Some b) e =

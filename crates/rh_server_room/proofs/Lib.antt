@@ -11,3 +11,5 @@ mod Serving
 mod ServerPuts
 mod Overtaken
 mod AckedLegs
+mod Apart
+mod Forwarded

@@ -1,3 +1,4 @@
 pub mod Acks
 pub mod Overtaking
 pub mod Answered
+pub mod Forwarding
