@@ -1,5 +1,5 @@
 -- which channels are acknowledged, of what is read of an is leg, and that they were answered
-use Rattle.std.proofs.Common.{◌≡◌, ◌⊎◌, inl, inr, ℕ, suc, ◌+◌, ◌≤◌, Bool, true, false, if◌then◌else◌, List, [], ◌∷◌, ◌++◌, refl, sym, ap, ◌∙◌, subst, arith}
+use Rattle.std.proofs.Common.{◌≡◌, inl, inr, ℕ, suc, ◌+◌, ◌≤◌, Bool, true, false, if◌then◌else◌, List, [], ◌∷◌, ◌++◌, refl, sym, ◌∙◌, subst, arith}
 use mathlib.Core.List.{IsPrefix}
 use Rattle.std.proofs.lemmas.List.{append_assoc}
 use Rattle.rh_rts.specs.declared.command.Cookie.{Cookie}
@@ -8,25 +8,23 @@ use Rattle.rh_sig.specs.declared.named.Named.TheVariants as named
 use Rattle.rh_line.specs.declared.leg.Leg.{Leg}
 use Rattle.rh_line.specs.declared.leg.LegKind.TheVariants.{ClientIn}
 use Rattle.rh_shell.specs.Hearing.{is_ping}
-use Rattle.rh_shell.specs.Moves.{OnLeg, Passage}
+use Rattle.rh_shell.specs.Moves.{OnLeg}
 use Rattle.rh_shell.specs.Rules.{Message, Text, Pdu, Packet}
 use Rattle.rh_shell.specs.Shells.{is_of, same_leg}
 use Rattle.rh_shell.specs.Wires.{of_leg}
-use Rattle.rh_order.proofs.ByNumber.{by_test, same_number}
-use Rattle.rh_passages.specs.Passing.{BeginsIn, HasOne, count_of, of_kind}
+use Rattle.rh_order.proofs.ByNumber.{same_number}
+use Rattle.rh_passages.specs.Passing.{BeginsIn, count_of, of_kind}
 use Rattle.rh_passages.proofs.Messages.{count_append}
 use Rattle.rh_reading.specs.Reading.{all_read_of}
-use Rattle.rh_client.specs.declared.state.ClientRole.{ClientRole}
 use Rattle.rh_client.specs.State.{ci}
 use Rattle.rh_client_counts.specs.Counting.{is_in_r1_a5}
-use Rattle.rh_client_counts.specs.Replacing.{ReplacesIns, in_answered, in_handed_over}
+use Rattle.rh_client_counts.specs.Replacing.{ReplacesIns}
 use Rattle.rh_client_turns.specs.Turns.{Turn, Stands, StandFrom, WritesInTurn, behind, first_turn}
 use Rattle.rh_inproxy_puts.specs.Puts.{HasPdu}
 use Rattle.rh_proxy_counts.specs.InCounts.{is_leg}
-use Rattle.rh_server.specs.States.{Server}
 use Rattle.rh_server_counts.specs.Counting.{is_in_r2_a2}
-use Rattle.rh_rounds.specs.Rounds.{GoRound, taken_in}
-use Rattle.rh_moments.specs.Moments.{IsJoined, Moves, Numbers, Passages, client_behind, in_behind, passages, server_behind}
+use Rattle.rh_rounds.specs.Rounds.{GoRound}
+use Rattle.rh_moments.specs.Moments.{IsJoined, Moves, Numbers, Passages, passages}
 use Rattle.rh_moments.proofs.Joining.{in_front, in_reads}
 use Rattle.rh_moments.proofs.Read.{front_one}
 use Rattle.rh_server_room.specs.Acks.{Acknowledge, AcknowledgesInOrder, IsOfTwo, IsUsed}

@@ -1,5 +1,5 @@
 -- the packets that wait at a server: of each channel and destination one acknowledgement
-use Rattle.std.proofs.Common.{◌≡◌, ◌⊎◌, inl, inr, ℕ, suc, ◌+◌, ◌≤◌, ◌==◌, ◌&&◌, ◌||◌, Bool, true, false, true≢false, nat_lt, if◌then◌else◌, List, [], ◌∷◌, ◌++◌, Some, None, refl, sym, ap, ◌∙◌, subst, arith}
+use Rattle.std.proofs.Common.{◌≡◌, ◌⊎◌, inl, inr, ℕ, suc, ◌+◌, ◌≤◌, ◌||◌, Bool, true, false, nat_lt, if◌then◌else◌, List, [], ◌∷◌, ◌++◌, Some, None, refl, sym, ap, ◌∙◌, subst, arith}
 use Rattle.std.proofs.lemmas.Bool.{false≢true}
 use Rattle.std.proofs.lemmas.List.Sums.{sum_by-cons}
 use Rattle.std.specs.List.{AllByRecursion, list_any}
@@ -8,8 +8,7 @@ use Rattle.rh_sig.specs.declared.named.Named.{Named}
 use Rattle.rh_order.proofs.ByNumber.{by_test}
 use Rattle.rh_passages.proofs.Messages.{all_append}
 use Rattle.rh_shell.specs.declared.due.Due.{Due}
-use Rattle.rh_shell.specs.declared.due.Origin.{Origin}
-use Rattle.rh_shell.specs.declared.due.Origin.TheVariants.{Own, Forwarded}
+use Rattle.rh_shell.specs.declared.due.Origin.TheVariants.{Forwarded}
 use Rattle.rh_shell.specs.Waiting.{Key, Waiting, are_one, better, edge_of, is_of, key_of, merged, own, takes, to_forward, without_first}
 use Rattle.rh_shell.specs.Waiting as waits
 use Rattle.rh_server_counts.specs.Counting.{is_ack_to, waiting_of}
@@ -235,7 +234,7 @@ pub forwarded_acks : (dues : List Due) → AllByRecursion IsRight dues
     ≤ waiting_of (is_ack_to 0) dues + waiting_of (is_ack_to 3) dues
 forwarded_acks [] h = omega arith
 forwarded_acks (due ∷ dues) h =
-    by (is_of Forwarded due) refl 
+    by (is_of Forwarded due) refl
     (sum_by-cons (λ (d : Due). if is_of Forwarded d then 1 else 0) due dues)
     (one_more (is_ack_to 0) due dues) (one_more (is_ack_to 3) due dues)
     (forwarded_acks dues h.1)

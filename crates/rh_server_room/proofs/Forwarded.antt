@@ -1,6 +1,6 @@
 -- what a server forwards are acknowledgements, of each channel one, whatever happens
-use Rattle.std.proofs.Common.{◌≡◌, ◌⊎◌, inl, inr, ℕ, suc, ◌+◌, ◌≤◌, ◌==◌, ◌&&◌, ◌||◌, Bool, true, false, true≢false, nat_lt, not, if◌then◌else◌, List, [], ◌∷◌, ◌++◌, Some, None, Ok, Err, refl, sym, ap, ◌∙◌, subst, rules, arith}
-use Rattle.std.proofs.lemmas.Bool.{and_parts, false≢true}
+use Rattle.std.proofs.Common.{◌≡◌, inl, inr, ℕ, ◌+◌, ◌≤◌, ◌==◌, ◌&&◌, ◌||◌, Bool, true, false, nat_lt, not, if◌then◌else◌, List, [], ◌∷◌, Some, None, Ok, Err, refl, sym, ap, ◌∙◌, subst, rules, arith}
+use Rattle.std.proofs.lemmas.Bool.{false≢true}
 use Rattle.std.proofs.lemmas.Bool.Decides.{nat_tests}
 use Rattle.std.specs.Prelude.{IfSome, find, nat_le, slice_get}
 use Rattle.std.specs.List.{list_any}
@@ -16,16 +16,15 @@ use Rattle.rh_line.specs.declared.leg.LegKind.TheVariants.{ClientOut, OutServer,
 use Rattle.rh_line.specs.declared.which.Which.{Which}
 use Rattle.rh_line.specs.declared.which.Which.TheVariants.{Current, Next}
 use Rattle.rh_line.specs.Lines.{after_finish, after_take}
-use Rattle.rh_order.proofs.ByNumber.{by_test}
+use Rattle.rh_order.proofs.ByNumber.{by_test, same_number}
 use Rattle.rh_passages.proofs.Logs.{ActsKeep, PutKeeps, RowKeeps, StepsKeep, end_moves_keep}
 use Rattle.rh_shell.specs.declared.answers.Count.{Count}
-use Rattle.rh_shell.specs.declared.answers.Refused.{Refused}
 use Rattle.rh_shell.specs.declared.answers.Refused.TheVariants as refused
 use Rattle.rh_shell.specs.declared.due.Due.{Due}
 use Rattle.rh_shell.specs.declared.due.Origin.TheVariants.{Forwarded}
 use Rattle.rh_shell.specs.declared.end_role.RecycleRefused.{RecycleRefused}
-use Rattle.rh_shell.specs.Moves.{OnLeg, EndMove, all_end_moved, end_started}
-use Rattle.rh_shell.specs.Rules.{Message, Packet, Pdu}
+use Rattle.rh_shell.specs.Moves.{OnLeg, EndMove, end_started}
+use Rattle.rh_shell.specs.Rules.{Message, Packet, Pdu, Row}
 use Rattle.rh_shell.specs.Waiting.{Waiting, added, merged, pushed, taken, takes, to_forward, with_due, without_first}
 use Rattle.rh_shell.specs.Waiting as waits
 use Rattle.rh_server.specs.declared.state.Edge.TheVariants.{Shut}
@@ -45,14 +44,14 @@ use Rattle.rh_server.specs.Opening.{Done, took, refuse, unexpected, is_first, op
 use Rattle.rh_server.specs.Acknowledging.{channel_at, channel_leg, elsewhere, forward_by, forwards, forwards_to, forwards_writing, is_full, on_ack_to, out_server}
 use Rattle.rh_server.specs.InReplacement.{announced, becomes_current, first_waiting, hands_over, has_fresh_below, in_r1_a2_at, in_r1_a2_by, in_r2_a2_on, leaves_by, moved_if, next_opened, on_in_r1_a2, on_in_r1_a6, on_in_r2_a2, opens_leg, opens_next, take}
 use Rattle.rh_server.specs.OutReplacement.{answered_by, answered_on, asks, confirms, is_under_way, last_number, may_answer, on_out_r1_a4, on_out_r1_a8, out_r1_a4_at, out_r1_a4_by, out_r1_a8_at, recycle, wishes}
-use Rattle.rh_server.specs.Ending.{close, completed, drawn_by, give, in_is_drawn, is_complete, lost_in, mark_by, settled, with_ack_dropped, without_ack_of}
+use Rattle.rh_server.specs.Ending.{completed, drawn_by, give, in_is_drawn, is_complete, lost_in, mark_by, settled, with_ack_dropped, without_ack_of}
 use Rattle.rh_server.specs.Putting.{Pick, or_else, counts, counts_at, gate, gate_at, is_end_due, may_end_at, may_go_at, next_out, out_greeting_at, pdu_by, put_by as put_by_kind, put_end, put_in, put_open, put_out_at, put_out_greeting, put_pdu, put_pdu_or_end, put_waiting, settled_pick, waiting_at, waiting_by, was_put}
 use Rattle.rh_server.specs.Servers.{acts, first, on_is, on_os, packet_by, pdu}
 use Rattle.rh_server.specs.Servers.{rules as server_rules}
-use Rattle.rh_server_counts.specs.Counting.{is_ack_to}
+use Rattle.rh_server_counts.specs.Counting.{is_ack_to, waits_for}
 use Rattle.rh_server_in_rows.specs.Handovers.{passed}
-use Rattle.rh_server_room.specs.Forwarding.{ForwardsAcks, IsFull, IsFullFor}
-use Rattle.rh_server_room.proofs.Apart.{AreRight, IsAck, added_right, any_of, forwarded_acks, forwarded_right, less_right, merged_right, none_waiting, once_waiting, taken_any}
+use Rattle.rh_server_room.specs.Forwarding.{ForwardsAcks, IsFull, IsFullFor, is_ack_at}
+use Rattle.rh_server_room.proofs.Apart.{AreRight, IsAck, added_right, forwarded_acks, forwarded_right, less_right, merged_right, none_waiting, once_waiting, taken_any}
 
 pub record Right (w : Waiting) : Type 0 where
   pub room : w.room ≡ 20
@@ -507,3 +506,148 @@ pub right : (window : ℕ) (moves : List EndMove) → Right (passed window moves
 right window moves =
     end_moves_keep server_rules Holds steps acts calls (end_started (first window)) moves
     (record { room = refl; dues = record { each = tt; apart = tt } })
+
+-- a row refused for want of room
+abbrev is_full_row : Row → Bool
+is_full_row (Err (refused.Full at)) = true
+is_full_row row = false
+
+none_full : (row : Row) → is_full_row row ≡ false → (at : Leg) → row ≡ Err (refused.Full at) → ⊥
+none_full row none at e = false≢true (sym none ∙ ap is_full_row e)
+
+other_is : (s : Server) (n : ℕ) (count : Count) (m : Named) → lines.is_ack m ≡ false
+    → is_full_row (on_is s n count m).1 ≡ false
+other_is s n count (named.AckTo to received window cookie) e = absurd cc
+other_is s n count m e = search rules
+
+no_os : (s : Server) (n : ℕ) (count : Count) (m : Named)
+    → is_full_row (on_os s n count m).1 ≡ false
+no_os s n count m = search rules
+
+has_none : (test : Due → Bool) (dues : List Due) → is_some (find test dues) ≡ false
+    → list_any test dues ≡ false
+has_none test [] e = refl
+has_none test (due ∷ dues) e = by (test due) e (has_none test dues)
+  where
+    by : (b : Bool) → is_some (if b then Some due else find test dues) ≡ false
+        → (is_some (find test dues) ≡ false → list_any test dues ≡ false)
+        → b || list_any test dues ≡ false
+    by true e rest = absurd cc
+    by false e rest = rest e
+
+both_so : (a b : Bool) → a && not b ≡ true → (a ≡ true) × (b ≡ false)
+both_so false b e = absurd cc
+both_so true true e = absurd cc
+both_so true false e = (refl, refl)
+
+at_least : (a b : ℕ) → nat_le a b ≡ true → a ≤ b
+at_least a b e = grind (arith, nat_tests)
+
+no_less : (a b : ℕ) → nat_lt a b ≡ false → b ≤ a
+no_less a b e = grind (arith, nat_tests)
+
+module _ (s : Server) (h : Serves s) (to received window : ℕ) (channel : Cookie) where
+  abbrev packet_is : Named
+  packet_is = named.AckTo to received window channel
+
+  none_there : list_any (takes packet_is) s.waiting.due ≡ false
+      → waits_for (is_ack_at to channel) s ≡ 0
+  none_there none =
+      none_waiting (record { destination = to; channel = channel }) s.waiting.due
+      (sym (taken_any packet_is s.waiting.due) ∙ none)
+
+  all_acks : waits.count Forwarded s.waiting.due
+      ≤ waits_for (is_ack_to 0) s + waits_for (is_ack_to 3) s
+  all_acks = forwarded_acks s.waiting.due h.dues.each
+
+  abbrev Fills : Done → Type 0
+  Fills x = (at : Leg) → x.1 ≡ Err (refused.Full at) → IsFull s to channel
+
+  forward_fills : (n : ℕ) → Fills (forwards s n packet_is)
+  forward_fills n =
+      by_test Answers (list_any (takes packet_is) s.waiting.due)
+      (with_due s.waiting (merged s.waiting.due packet_is), true)
+      (if nat_lt (waits.count Forwarded s.waiting.due) s.waiting.room
+      then (pushed s.waiting (to_forward packet_is), true) else (s.waiting, false))
+      (λ e at f. absurd cc)
+      (λ e. by_test Answers (nat_lt (waits.count Forwarded s.waiting.due) s.waiting.room)
+      (pushed s.waiting (to_forward packet_is), true) (s.waiting, false)
+      (λ f at g. absurd cc)
+      (λ f at g. let most = no_less (waits.count Forwarded s.waiting.due) s.waiting.room f in
+      let room = h.room in
+      let acks = all_acks in (none_there e, inr (omega (arith, most, room, acks)))))
+    where
+      Answers : Waiting × Bool → Type 0
+      Answers x = Fills (forward_by s n x)
+
+  writing_fills : Fills (forwards_writing s packet_is)
+  writing_fills =
+      by_test Fills (is_full s && not (has (takes packet_is) s.waiting))
+      (refuse s (refused.Full (out_server s.writing))) (forwards s s.writing packet_is)
+      (λ e at f. let both = both_so (is_full s) (has (takes packet_is) s.waiting) e in
+      let least = at_least (16 + elsewhere s) (waits.count Forwarded s.waiting.due) both.0 in
+      let acks = all_acks in (
+        none_there (has_none (takes packet_is) s.waiting.due both.1),
+        inl (omega (arith, least, acks)),
+      ))
+      (λ e. forward_fills s.writing)
+
+module _ (s : Server) (h : Serves s) where
+  ack_fills : (count : Count) (to received window : ℕ) (channel : Cookie) (at : Leg)
+      → (on_ack_to s count to received window channel).1 ≡ Err (refused.Full at)
+      → IsFull s to channel
+  ack_fills count to received window channel =
+      by_test Fill (is_first count) (unexpected s) _ (λ e at f. absurd cc)
+      (λ e. by_test Fill (to == 0) (forwards_writing s (named.AckTo 0 received window channel)) _
+      (λ f. subst (λ (n : ℕ). Fills s h n received window channel
+      (forwards_writing s (named.AckTo 0 received window channel)))
+      (sym (same_number to 0 f)) (writing_fills s h 0 received window channel))
+      (λ f. by_test Fill (to == 3)
+      (forwards_to s (named.AckTo 3 received window channel) (channel_leg channel s.outs))
+      (unexpected s)
+      (λ g. subst (λ (n : ℕ). Fills s h n received window channel
+      (forwards_to s (named.AckTo 3 received window channel) (channel_leg channel s.outs)))
+      (sym (same_number to 3 g)) (by (channel_leg channel s.outs)))
+      (λ g at i. absurd cc)))
+    where
+      Fill : Done → Type 0
+      Fill x = (at : Leg) → x.1 ≡ Err (refused.Full at) → IsFull s to channel
+
+      by : (o : Option ℕ)
+          → (at : Leg)
+          → (forwards_to s (named.AckTo 3 received window channel) o).1 ≡ Err (refused.Full at)
+          → IsFull s 3 channel
+      by None = λ at e. absurd cc
+      by (Some n) =
+          by_test (Fills s h 3 received window channel) (n == s.writing)
+          (forwards_writing s (named.AckTo 3 received window channel))
+          (forwards s n (named.AckTo 3 received window channel))
+          (λ e. writing_fills s h 3 received window channel)
+          (λ e. forward_fills s h 3 received window channel n)
+
+  is_fills : (n : ℕ) (count : Count) (m : Named) (at : Leg)
+      → (on_is s n count m).1 ≡ Err (refused.Full at) → IsFullFor s m
+  is_fills n count (named.AckTo to received window channel) at e =
+      ack_fills count to received window channel at e
+  is_fills n count m at e =
+      absurd (none_full (on_is s n count m).1 (other_is s n count m refl) at e)
+
+  packet_fills : (n : ℕ) (count : Count) (m : Named) (at : Leg) (k : LegKind)
+      → (packet_by s n count m k).1 ≡ Err (refused.Full at) → IsFullFor s m
+  packet_fills n count m at InServer e = is_fills n count m at e
+  packet_fills n count m at OutServer e =
+      absurd (none_full (on_os s n count m).1 (no_os s n count m) at e)
+  packet_fills n count m at ClientIn e = absurd cc
+  packet_fills n count m at ClientOut e = absurd cc
+
+pub forwards_acks : (window : ℕ) (moves : List EndMove)
+    → ForwardsAcks (passed window moves).role
+forwards_acks window moves =
+    let h = right window moves in record {
+      acks = forwarded_acks (passed window moves).role.waiting.due h.dues.each;
+      once = λ to channel.
+          once_waiting (record { destination = to; channel = channel })
+          (passed window moves).role.waiting.due h.dues.apart;
+      full = λ leg count packet at e.
+          packet_fills (passed window moves).role h leg.number count packet at leg.kind e;
+    }
