@@ -110,7 +110,7 @@ forwarded_right dues packet is none h = record {
 
 -- ---- one in the place of another
 
-better_key : (due : Due) (packet : Named) → takes packet due ≡ true
+pub better_key : (due : Due) (packet : Named) → takes packet due ≡ true
     → key_of (better due packet).packet ≡ key_of due.packet
 better_key due packet e =
     by_test (λ (d : Due). key_of d.packet ≡ key_of due.packet)

@@ -57,7 +57,7 @@ pub record Right (w : Waiting) : Type 0 where
   pub room : w.room ≡ 20
   pub dues : AreRight w.due
 
-abbrev Serves : Server → Type 0
+abbrev pub Serves : Server → Type 0
 Serves s = Right s.waiting
 
 abbrev RowServes : Done → Type 0
@@ -424,7 +424,7 @@ module _ (s : Server) (h : Serves s) where
 
 -- ---- the role
 
-abbrev Holds : Server → List OnLeg → List OnLeg → Type 0
+abbrev pub Holds : Server → List OnLeg → List OnLeg → Type 0
 Holds s came put = Serves s
 
 row_keeps : (one : OnLeg) (came put : List OnLeg) (x : Done) → RowServes x
@@ -474,7 +474,7 @@ pdu_same s leg count bytes = search rules
 give_same : (s : Server) (bytes : List ℕ) → (give s bytes).0.waiting ≡ s.waiting
 give_same s bytes = search rules
 
-steps : StepsKeep server_rules Holds
+pub steps : StepsKeep server_rules Holds
 steps = record {
   up = λ s leg cookie came put h. same_serves s (up s leg cookie) (up_same s leg cookie) h;
   head = λ s leg text came put h. h;
@@ -492,7 +492,7 @@ steps = record {
   ping = λ s leg came put h. h;
 }
 
-calls : ActsKeep acts Holds
+pub calls : ActsKeep acts Holds
 calls = record {
   give = λ s bytes came put h. same_serves s (give s bytes).0 (give_same s bytes) h;
   take = λ s came put h. take_serves s h;

@@ -13,3 +13,4 @@ mod Overtaken
 mod AckedLegs
 mod Apart
 mod Forwarded
+mod Owners
