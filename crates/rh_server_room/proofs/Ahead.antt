@@ -22,7 +22,7 @@ bytes_of packet = 0
 
 -- ---- keys
 
-same_cookies : (a b : Cookie) → bytes_eq a.0 b.0 ≡ true → a ≡ b
+pub same_cookies : (a b : Cookie) → bytes_eq a.0 b.0 ≡ true → a ≡ b
 same_cookies a b e =
     ap (λ (bytes : List ℕ). record { 0 = bytes }) ((bytes_eq-Decides a.0 b.0).0 e)
 

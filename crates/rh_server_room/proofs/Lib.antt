@@ -14,3 +14,4 @@ mod AckedLegs
 mod Apart
 mod Forwarded
 mod Owners
+mod Owning
