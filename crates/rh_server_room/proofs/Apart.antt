@@ -179,7 +179,7 @@ less_right may_go (due ∷ dues) h =
 
 -- ---- counts
 
-one_more : (test : Named → Bool) (due : Due) (dues : List Due)
+pub one_more : (test : Named → Bool) (due : Due) (dues : List Due)
     → waiting_of test (due ∷ dues) ≡ (if test due.packet then 1 else 0) + waiting_of test dues
 one_more test due dues = by (test due.packet)
   where

@@ -14,4 +14,5 @@ mod AckedLegs
 mod Apart
 mod Forwarded
 mod Owners
-mod Owning
+mod KeptLegs
+mod OwnCounts

@@ -37,15 +37,15 @@ use Rattle.rh_server_room.proofs.ServerPuts.{Goes, bytes_in, is_acked, os_goes}
 
 -- ---- what is put on is legs leaves alone
 
-record Core : Type 0 where
-  at : Stage
-  how : Replacement
-  writing : ℕ
-  newest : ℕ
-  legs : List OutLeg
-  waits : Waiting
+pub record Core : Type 0 where
+  pub at : Stage
+  pub how : Replacement
+  pub writing : ℕ
+  pub newest : ℕ
+  pub legs : List OutLeg
+  pub waits : Waiting
 
-abbrev core : Server → Core
+abbrev pub core : Server → Core
 core s = record {
   at = s.stage;
   how = s.replacement;
@@ -55,7 +55,7 @@ core s = record {
   waits = s.waiting;
 }
 
-core_same : (s : Server) (n : ℕ)
+pub core_same : (s : Server) (n : ℕ)
     → IfSome (put_in s n) (λ (one : Server × Message). core one.0 ≡ core s)
 core_same s n = search rules
 

@@ -1,6 +1,6 @@
 -- each acknowledgement to an out proxy that waits at a server is for the channel of an os leg
-use Rattle.std.proofs.Common.{◌≡◌, ◌⊎◌, inl, inr, ℕ, zero, suc, ◌+◌, ◌<◌, ◌≤◌, ◌==◌, ◌&&◌, ◌||◌, Bool, true, false, true≢false, nat_lt, if◌then◌else◌, List, [], ◌∷◌, ◌++◌, Some, None, refl, sym, ap, ◌∙◌, subst, arith}
-use Rattle.std.proofs.lemmas.Bool.{and_parts, false≢true}
+use Rattle.std.proofs.Common.{◌≡◌, ℕ, zero, suc, ◌||◌, Bool, true, false, if◌then◌else◌, List, [], ◌∷◌, ◌++◌, Some, None, refl, sym, ap, ◌∙◌, subst}
+use Rattle.std.proofs.lemmas.Bool.{false≢true}
 use Rattle.std.proofs.lemmas.List.Quantifiers.{position-Some}
 use Rattle.std.proofs.lemmas.Option.{get_or_from_slice_get}
 use Rattle.std.specs.Prelude.{IfSome, slice_get, slice_set, remove}
@@ -8,21 +8,17 @@ use Rattle.std.specs.List.{AllByRecursion}
 use Rattle.std.specs.declared.option.Option.{Option}
 use Rattle.rh_rts.specs.declared.command.Cookie.{Cookie}
 use Rattle.rh_sig.specs.declared.named.Named.{Named}
-use Rattle.rh_sig.specs.declared.named.Named.TheVariants as named
-use Rattle.rh_order.proofs.ByNumber.{by_test, same_number}
+use Rattle.rh_order.proofs.ByNumber.{by_test}
 use Rattle.rh_passages.proofs.Messages.{all_append, each_so}
 use Rattle.rh_shell.specs.declared.due.Due.{Due}
 use Rattle.rh_shell.specs.Waiting.{Key, are_one, better, key_of, merged, own, takes, to_forward, without_first}
 use Rattle.rh_server.specs.declared.state.OutLeg.{OutLeg}
-use Rattle.rh_server.specs.declared.state.Stage.{Stage}
-use Rattle.rh_server.specs.declared.state.Stage.TheVariants as stage
 use Rattle.rh_server.specs.Acknowledging.{channel_leg, channel_place, is_of_channel, number_by}
 use Rattle.rh_server.specs.OutLines.{is_ack_of}
-use Rattle.rh_server.specs.States.{Server, out_at, same_cookie}
+use Rattle.rh_server.specs.States.{out_at, same_cookie}
 use Rattle.rh_server_room.proofs.Ahead.{same_keys}
 use Rattle.rh_server_room.proofs.Apart.{Apart, any_of, better_key}
-use Rattle.rh_server_room.proofs.Legs.{each_got, each_removed, each_set, some_same}
-use Rattle.rh_server_room.proofs.Meters.{is_answered}
+use Rattle.rh_server_room.proofs.Legs.{some_same}
 
 -- ---- the leg of a channel
 
@@ -120,9 +116,11 @@ AreOwned legs dues = AllByRecursion (Owned legs) dues
 pub owned_added : (legs : List OutLeg) (dues : List Due) (packet : Named) → key_of packet ≡ None
     → AreOwned legs dues → AreOwned legs (dues ++ own packet ∷ [])
 owned_added legs dues packet none h =
-    all_append (Owned legs) dues (own packet ∷ []) h
-    ((λ cookie e. absurd (false≢true (ap (λ (k : Option Key).
-    are_one k (Some (record { destination = 3; channel = cookie }))) (sym none) ∙ e))), tt)
+    all_append (Owned legs) dues (own packet ∷ []) h (
+      (λ cookie e. absurd (false≢true (ap (λ (k : Option Key).
+          are_one k (Some (record { destination = 3; channel = cookie }))) (sym none) ∙ e))),
+      tt,
+    )
 
 pub owned_pushed : (legs : List OutLeg) (dues : List Due) (packet : Named)
     → Owned legs (to_forward packet) → AreOwned legs dues
