@@ -19,7 +19,7 @@ use Rattle.rh_shell.specs.Waiting.{Waiting}
 use Rattle.rh_server.specs.declared.state.OutLeg.{OutLeg}
 use Rattle.rh_server.specs.declared.state.Replacement.{Replacement}
 use Rattle.rh_server.specs.declared.state.Stage.{Stage}
-use Rattle.rh_server.specs.States.{Server, out_place}
+use Rattle.rh_server.specs.States.{Server, no_cookie, out_place}
 use Rattle.rh_server.specs.Opening.{Done, up}
 use Rattle.rh_server.specs.InReplacement.{take}
 use Rattle.rh_server.specs.OutReplacement.{recycle}
@@ -31,6 +31,7 @@ use Rattle.rh_server_counts.specs.Counting.{is_in_r1_a3, is_in_r2_a3, leg_at, of
 use Rattle.rh_server_in_rows.specs.Handovers.{passed}
 use Rattle.rh_server_room.specs.Overtaking.{AreLong, FewOvertake, IsLong, IsLongOn, answer_bytes, is_ack_for}
 use Rattle.rh_server_room.proofs.Ahead as ahead
+use Rattle.rh_server_room.proofs.Legs.{Sorted}
 use Rattle.rh_server_room.proofs.Meters.{Seen, Phase, InTurn, IsRefused, HasRoom, IsTotal, IsKept, seen, is_begun, is_answered, Base, Kept, Fine}
 use Rattle.rh_server_room.proofs.Serving.{LongServes, drawn_serves, give_serves, mark_serves, packet_row, pdu_row, recycles, take_serves, up_serves}
 use Rattle.rh_server_room.proofs.ServerPuts.{Goes, bytes_in, is_acked, os_goes}
@@ -363,3 +364,20 @@ few_overtake window front later least channel long room waits few =
     (passed window (front ++ later)) refl long few in
     let due = ahead.weight_at_most channel (passed window front).role.waiting.due in
     omega (arith, most, due)
+
+-- ---- legs in the order of their numbers
+
+all_long : (came : List OnLeg) → AreLong 0 came
+all_long [] = tt
+all_long ((leg, m) ∷ came) = (by m, all_long came)
+  where
+    by : (m : Message) → IsLongOn 0 (leg, m)
+    by (Text bytes) = tt
+    by (Pdu pdu) = tt
+    by (Packet (named.OutR1A4 v a b c lifetime d e)) = omega arith
+    by (Packet packet) = tt
+
+pub legs_sorted : (window : ℕ) (moves : List EndMove) → Sorted (passed window moves).role.outs
+legs_sorted window moves =
+    (kept_by no_cookie 0 0 0 false (end_started (first window)) moves
+    (started_holds no_cookie 0 0 window) (all_long (passed window moves).came)).base.sorted

@@ -1,14 +1,15 @@
 -- no more acknowledgements to out proxies wait at a server than it has legs for them
-use Rattle.std.proofs.Common.{◌≡◌, ℕ, suc, ◌+◌, ◌≤◌, ◌==◌, ◌&&◌, ◌||◌, Bool, true, false, not, if◌then◌else◌, List, [], ◌∷◌, Some, None, refl, sym, ap, ◌∙◌, subst, arith}
+use Rattle.std.proofs.Common.{◌≡◌, ℕ, suc, ◌+◌, ◌<◌, ◌≤◌, ◌==◌, ◌&&◌, ◌||◌, Bool, true, false, not, if◌then◌else◌, List, [], ◌∷◌, Some, None, refl, sym, ap, ◌∙◌, subst, arith}
 use Rattle.std.proofs.lemmas.List.Sums.{sum_by-cons}
 use Rattle.std.proofs.lemmas.Slice.Eq.{bytes_eq-Decides}
 use Rattle.std.specs.Str.{bytes_eq}
 use Rattle.std.specs.Prelude.{count_by, find}
+use Rattle.std.specs.List.{AllByRecursion}
 use Rattle.std.specs.declared.option.Option.{Option}
 use Rattle.rh_rts.specs.declared.command.Cookie.{Cookie}
 use Rattle.rh_sig.specs.declared.named.Named.{Named}
 use Rattle.rh_sig.specs.declared.named.Named.TheVariants as named
-use Rattle.rh_order.proofs.ByNumber.{same_number}
+use Rattle.rh_order.proofs.ByNumber.{same_number, test_other}
 use Rattle.rh_shell.specs.declared.due.Due.{Due}
 use Rattle.rh_shell.specs.Moves.{EndMove}
 use Rattle.rh_shell.specs.Waiting.{Key, Waiting, are_one, key_of}
@@ -22,6 +23,8 @@ use Rattle.rh_server_room.specs.Owning.{AcksHaveLegs}
 use Rattle.rh_server_room.proofs.Ahead.{same_cookies}
 use Rattle.rh_server_room.proofs.Apart.{Apart, any_of, one_more}
 use Rattle.rh_server_room.proofs.Forwarded.{right}
+use Rattle.rh_server_room.proofs.Legs.{Sorted}
+use Rattle.rh_server_room.proofs.Overtaken.{legs_sorted}
 use Rattle.rh_server_room.proofs.Owners.{AreOwned, has_leg}
 use Rattle.rh_server_room.proofs.KeptLegs.{are_owned}
 
@@ -168,9 +171,52 @@ counted s (leg ∷ legs) =
     once ((l.number == s.writing) && has_ack_by s.waiting l.cookie)) leg legs in
     let rest = counted s legs in omega (arith, same, two, one, other, rest)
 
+-- one leg at most has a number
+none_numbered : (test : OutLeg → Bool) (n : ℕ) (legs : List OutLeg)
+    → AllByRecursion (λ (leg : OutLeg). n < leg.number) legs
+    → count_by (λ (leg : OutLeg). (leg.number == n) && test leg) legs ≡ 0
+none_numbered test n [] above = refl
+none_numbered test n (leg ∷ legs) above =
+    let more = sum_by-cons (λ (l : OutLeg). once ((l.number == n) && test l)) leg legs in
+    let other = ap {B = ℕ} (λ (b : Bool). once (b && test leg)) (apart above.0) in
+    let rest = none_numbered test n legs above.1 in omega (arith, more, other, rest)
+  where
+    apart : n < leg.number → (leg.number == n) ≡ false
+    apart less = test_other leg.number n (λ e. absurd (omega (arith, less, e)))
+
+one_numbered : (test : OutLeg → Bool) (n : ℕ) (legs : List OutLeg) → Sorted legs
+    → count_by (λ (leg : OutLeg). (leg.number == n) && test leg) legs ≤ 1
+one_numbered test n [] sorted = omega arith
+one_numbered test n (leg ∷ legs) sorted =
+    let more = sum_by-cons (λ (l : OutLeg). once ((l.number == n) && test l)) leg legs in
+    by (leg.number == n) refl more (one_numbered test n legs sorted.1)
+  where
+    at_most : (b : Bool) → once b ≤ 1
+    at_most true = omega arith
+    at_most false = omega arith
+
+    by : (b : Bool) → (leg.number == n) ≡ b
+        → count_by (λ (l : OutLeg). (l.number == n) && test l) (leg ∷ legs)
+        ≡ once ((leg.number == n) && test leg)
+        + count_by (λ (l : OutLeg). (l.number == n) && test l) legs
+        → count_by (λ (l : OutLeg). (l.number == n) && test l) legs ≤ 1
+        → count_by (λ (l : OutLeg). (l.number == n) && test l) (leg ∷ legs) ≤ 1
+    by true e more rest =
+        let none = none_numbered test n legs
+        (subst (λ (k : ℕ). AllByRecursion (λ (l : OutLeg). k < l.number) legs)
+        (same_number leg.number n e) sorted.0) in
+        let one = at_most ((leg.number == n) && test leg) in omega (arith, more, none, one)
+    by false e more rest =
+        let none = ap {B = ℕ} (λ (b : Bool). once (b && test leg)) e in
+        omega (arith, more, rest, none)
+
 pub have_legs : (window : ℕ) (moves : List EndMove) → AcksHaveLegs (passed window moves).role
 have_legs window moves =
     let s = (passed window moves).role in
     let hit = acks_hit s.outs s.waiting.due (right window moves).dues.apart
     (are_owned window moves) in
-    let most = counted s s.outs in omega (arith, hit, most)
+    let most = counted s s.outs in record {
+      legs = omega (arith, hit, most);
+      one = one_numbered (λ (leg : OutLeg). has_ack_by s.waiting leg.cookie) s.writing s.outs
+          (legs_sorted window moves);
+    }

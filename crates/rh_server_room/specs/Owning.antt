@@ -11,6 +11,8 @@ abbrev pub on_writing : Server → ℕ
 on_writing s =
     count_by (λ (leg : OutLeg). (leg.number == s.writing) && has_ack_by s.waiting leg.cookie) s.outs
 
--- no more wait than there are such legs, and others for whose channel one waits
-abbrev pub AcksHaveLegs : Server → Type 0
-AcksHaveLegs s = waits_for (is_ack_to 3) s ≤ elsewhere s + on_writing s
+-- no more wait than there are such legs, of which one at most, and others for whose channel one
+-- waits
+pub record AcksHaveLegs (s : Server) : Type 0 where
+  pub legs : waits_for (is_ack_to 3) s ≤ elsewhere s + on_writing s
+  pub one : on_writing s ≤ 1

@@ -6,8 +6,8 @@ ghost use Rattle.rh_server_in_rows.specs.Handovers.{passed};
 ghost use Rattle.rh_server_room.specs.Owning.{AcksHaveLegs};
 
 /// Whatever moves a server makes, allowed or not: no more acknowledgements to out proxies wait
-/// there than it keeps os legs for whose channel one waits, those of the number that writes and the
-/// others (MS-RPCH 3.2.1).
+/// there than it keeps os legs for whose channel one waits, the writing one, which is one at most,
+/// and the others (MS-RPCH 3.2.1).
 pub fn acknowledgements_have_their_legs()
     ensures { (window : ℕ) (moves : List EndMove) → AcksHaveLegs (passed window moves).role }
 {}
