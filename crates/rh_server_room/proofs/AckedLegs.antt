@@ -166,7 +166,8 @@ module _ (numbers : Numbers) (reader : ℕ → ℕ) (moves : Moves)
           let answered = round.ins.a4_behind_a3 in omega (arith, most, handed, answered);
     }
 
-    acks_so : (n : ℕ) → Acknowledge (all.ins n).came n (all_read_of (of_leg (is_leg n) (all.ins n).put))
+    acks_so : (n : ℕ) → Acknowledge (all.ins n).came n (all_read_of (of_leg (is_leg n)
+        (all.ins n).put))
     acks_so n =
         read_acks (all.ins n).came n (of_leg (is_leg n) (all.ins n).put)
         (subst (λ (k : ℕ). Acknowledge (all.ins n).came k (of_leg (is_leg k) (all.ins n).put))

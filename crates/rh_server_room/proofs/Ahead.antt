@@ -252,7 +252,8 @@ module _ (channel : Cookie) where
       lifted (Some due) e (inr (inl before)) =
           let less = before.less in
           let one = before.one in
-          let weighs = ap (λ (b : Bool). if b then 0 else bytes_of first.packet + weight others) e in
+          let weighs = ap (λ (b : Bool). if b then 0 else bytes_of first.packet + weight others) e
+          in
           let weighed = ap (λ (b : Bool). if b then 0 else bytes_of first.packet + weight dues) e in
           let counts = ap (λ (b : Bool). if b then 0 else suc (count others)) e in
           let counted = ap (λ (b : Bool). if b then 0 else suc (count dues)) e in

@@ -195,7 +195,8 @@ none_waiting key (due ∷ dues) h =
     let parts = either_false (are_one (key_of due.packet) (Some key)) (any_of (Some key) dues) h in
     let rest = none_waiting key dues parts.1 in
     let more = one_more (λ (packet : Named). are_one (key_of packet) (Some key)) due dues in
-    let none = ap {B = ℕ} (λ (b : Bool). if b then 1 else 0) parts.0 in omega (arith, rest, more, none)
+    let none = ap {B = ℕ} (λ (b : Bool). if b then 1 else 0) parts.0 in omega
+    (arith, rest, more, none)
 
 pub once_waiting : (key : Key) (dues : List Due) → Apart dues
     → waiting_of (λ (packet : Named). are_one (key_of packet) (Some key)) dues ≤ 1
@@ -220,7 +221,8 @@ once_waiting key (due ∷ dues) h =
         (same_keys (key_of due.packet) (Some key) e) h.0) in
         let one = ap {B = ℕ} (λ (b : Bool). if b then 1 else 0) e in omega (arith, more, none, one)
     by false e more rest =
-        let none = ap {B = ℕ} (λ (b : Bool). if b then 1 else 0) e in omega (arith, more, rest, none)
+        let none = ap {B = ℕ} (λ (b : Bool). if b then 1 else 0) e in omega
+        (arith, more, rest, none)
 
 acks_least : (packet : Named) → IsAck packet
     → 1 ≤ (if is_ack_to 0 packet then 1 else 0) + (if is_ack_to 3 packet then 1 else 0)

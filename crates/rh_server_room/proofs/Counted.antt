@@ -26,7 +26,8 @@ module _ (channel : Cookie) (least budget : ℕ) where
     counted_base there weight count = record {
       answered = base.answered;
       sorted = sorted_set x.legs place leg new at number base.sorted;
-      legs = others_so (IsBase channel least budget x) (IsBase channel least budget (now there weight count)) x.legs place leg new at
+      legs = others_so (IsBase channel least budget x) (IsBase channel least budget
+          (now there weight count)) x.legs place leg new at
           base.sorted (λ other apart is. record { number = is.number; next = is.next })
           (λ is. record {
             number = subst (λ (n : ℕ). n ≤ x.newest) (sym number) is.number;
@@ -40,14 +41,17 @@ module _ (channel : Cookie) (least budget : ℕ) where
         → IsNow channel least budget other_phase other_total count (after_put leg.meter len))
         → AllByRecursion (IsKept channel least budget phase x total) x.legs
         → AllByRecursion (λ (other : OutLeg). other.number ≡ x.writing
-        → IsNow channel least budget other_phase other_total count other.meter) (slice_set x.legs place new)
+        → IsNow channel least budget other_phase other_total count other.meter)
+        (slice_set x.legs place new)
     one_now phase other_phase total other_total count so h =
         others_so (IsKept channel least budget phase x total)
         (λ (other : OutLeg). other.number ≡ x.writing
-        → IsNow channel least budget other_phase other_total count other.meter) x.legs place leg new at
+        → IsNow channel least budget other_phase other_total count other.meter) x.legs place leg
+        new at
         base.sorted
         (λ other apart is e. absurd (apart (e ∙ sym writes)))
-        (λ is e. subst (IsNow channel least budget other_phase other_total count) (sym meter) (so (is writes))) h
+        (λ is e. subst (IsNow channel least budget other_phase other_total count) (sym meter) (so
+        (is writes))) h
 
     abbrev Fits : ℕ → Type 0
     Fits bytes = (bytes ≤ len) × (leg.meter.count + len ≤ leg.meter.length)
@@ -63,7 +67,8 @@ module _ (channel : Cookie) (least budget : ℕ) where
       phase = k.phase;
       total = by_total k.phase (subst (IsTotal channel least budget k.phase x) (sym same) k.total);
       now = one_now k.phase k.phase (put + x.weight) (put + bytes + weight) count
-          (λ h. by_now k.phase (subst (λ (n : ℕ). IsNow channel least budget k.phase n x.count leg.meter)
+          (λ h. by_now k.phase (subst (λ
+          (n : ℕ). IsNow channel least budget k.phase n x.count leg.meter)
           (sym same) h)) k.now;
     }
       where
@@ -78,7 +83,8 @@ module _ (channel : Cookie) (least budget : ℕ) where
 
         by_now : (phase : Phase)
             → IsNow channel least budget phase (put + bytes + weight) x.count leg.meter
-            → IsNow channel least budget phase (put + bytes + weight) count (after_put leg.meter len)
+            → IsNow channel least budget phase (put + bytes + weight) count
+            (after_put leg.meter len)
         by_now InTurn h = tt
         by_now IsRefused h =
             let short = h.0 in
@@ -106,7 +112,8 @@ module _ (channel : Cookie) (least budget : ℕ) where
 
         -- the leg's meter is short of bytes
         is_now : put + x.weight + leg.meter.length ≤ budget + 311 + leg.meter.count
-            → IsNow channel least budget IsRefused (put + bytes + weight) count (after_put leg.meter len)
+            → IsNow channel least budget IsRefused (put + bytes + weight) count
+            (after_put leg.meter len)
         is_now so =
             let less = fits.0 in
             let in_it = fits.1 in
@@ -118,7 +125,8 @@ module _ (channel : Cookie) (least budget : ℕ) where
             let less = fits.0 in
             let in_it = fits.1 in omega (arith, so, less, in_it, sum)
 
-        got : (phase : Phase) → AllByRecursion (IsKept channel least budget phase x (put + x.weight)) x.legs
+        got : (phase : Phase)
+            → AllByRecursion (IsKept channel least budget phase x (put + x.weight)) x.legs
             → (IsNow channel least budget phase (put + x.weight) x.count leg.meter
             → put + x.weight + leg.meter.length ≤ budget + 311 + leg.meter.count)
             → put + x.weight + leg.meter.length ≤ budget + 311 + leg.meter.count
@@ -129,7 +137,8 @@ module _ (channel : Cookie) (least budget : ℕ) where
                 → IsNow channel least budget phase (put + x.weight) x.count leg.meter
             found phase h =
                 subst (λ o. IfSome o (IsKept channel least budget phase x (put + x.weight))) at
-                (each_got (IsKept channel least budget phase x (put + x.weight)) x.legs place h) writes
+                (each_got (IsKept channel least budget phase x
+                (put + x.weight)) x.legs place h) writes
 
         with_phase : (phase : Phase)
             → AllByRecursion (IsKept channel least budget phase x (put + x.weight)) x.legs
@@ -178,7 +187,8 @@ module _ (channel : Cookie) (least budget : ℕ) where
       up : x.writing + 1 ≤ x.newest
       up = (h.base.answered answered).1
 
-      whole : 56 * x.count + 312 ≤ least → (total : ℕ) (leg : OutLeg) → IsBase channel least budget x leg
+      whole : 56 * x.count + 312 ≤ least → (total : ℕ) (leg : OutLeg)
+          → IsBase channel least budget x leg
           → leg.number ≡ x.writing + 1 → IsNow channel least budget HasRoom total x.count leg.meter
       whole room total leg is e =
           let both = is.next answered e in
@@ -192,18 +202,21 @@ module _ (channel : Cookie) (least budget : ℕ) where
         room = k.room;
         phase = HasRoom;
         total = (next, up, total);
-        now = each_so (IsBase channel least budget x) (IsKept channel least budget HasRoom (handed x) (put + x.weight))
+        now = each_so (IsBase channel least budget x) (IsKept channel least budget HasRoom
+            (handed x) (put + x.weight))
             (whole k.room (put + x.weight)) x.legs h.base.legs;
       }
 
-      by : Kept channel least budget x put → (phase : Phase) → IsTotal channel least budget phase x (put + x.weight)
+      by : Kept channel least budget x put → (phase : Phase)
+          → IsTotal channel least budget phase x (put + x.weight)
           → Kept channel least budget (handed x) put
       by k InTurn total = record {
         there = k.there;
         room = k.room;
         phase = InTurn;
         total = total;
-        now = each_so (IsBase channel least budget x) (IsKept channel least budget InTurn (handed x) (put + x.weight))
+        now = each_so (IsBase channel least budget x) (IsKept channel least budget InTurn
+            (handed x) (put + x.weight))
             (λ leg is e. tt) x.legs h.base.legs;
       }
       by k IsRefused total = has_room k total.2

@@ -363,7 +363,8 @@ module _ (channel : Cookie) where
           (counted_goes due gone (subst (IsLet (gate s leg)) (sym is)
           (let_of (gate s leg) (named.AckTo to received window cookie)
           (λ to_there a b c same three. true≢false (sym (test_same 3)
-          ∙ sym (ap (λ (n : ℕ). n == 3) (to_is to to_there received a window b cookie c same ∙ three))
+          ∙ sym (ap (λ (n : ℕ). n == 3)
+          (to_is to to_there received a window b cookie c same ∙ three))
           ∙ f)) e)))))
         where
           to_of : Named → ℕ

@@ -44,8 +44,8 @@ due_bytes s = 52 * waits_for is_in_r1_a3 s + 28 * waits_for is_in_r2_a3 s
 
 -- ---- the law
 
--- while an acknowledgement waits that waited behind the front of the moves, the answers that are put
--- are those that were due there, and others of at most 311 bytes
+-- while an acknowledgement waits that waited behind the front of the moves, the answers that are
+-- put are those that were due there, and others of at most 311 bytes
 abbrev pub FewOvertake : ℕ → List EndMove → List EndMove → Type 0
 FewOvertake window front later =
     (least : ℕ) (channel : Cookie) → AreLong least (passed window (front ++ later)).came

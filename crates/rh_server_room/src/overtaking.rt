@@ -1,5 +1,5 @@
-//! What a server puts before an acknowledgement that waits. This function does nothing: its contract
-//! is the law.
+//! What a server puts before an acknowledgement that waits. This function does nothing: its
+//! contract is the law.
 
 ghost use Rattle.std.specs.Prelude.{List, ℕ};
 ghost use Rattle.rh_shell.specs.Moves.{EndMove};
