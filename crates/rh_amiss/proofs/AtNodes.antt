@@ -186,8 +186,8 @@ module _ {K : Type 0} (roles : RolesKnow) (law_reads : Reads) (readings : Readin
       (node : Who) (here : at v leg (receiver dir) ≡ node) where
     abbrev Then : {S : Type 0} → Rules S → (k : ℕ) → Passage S → Shell S → List ℕ → Type 0
     Then =
-        AmissThen law_reads readings m w v ours law Holds flow by leg dir may r well named fits why tells
-        count node here
+        AmissThen law_reads readings m w v ours law Holds flow by leg dir may r well named fits why
+        tells count node here
 
     -- at the moment before the byte
     next : {S : Type 0} (its : Rules S) (k : ℕ) (p : Passage S) (s : Shell S) (heard : List ℕ)
@@ -207,8 +207,8 @@ module _ {K : Type 0} (roles : RolesKnow) (law_reads : Reads) (readings : Readin
 
     abbrev fed : List ℕ
     fed =
-        fed_bytes law_reads readings m w v ours law Holds flow by leg dir may r well named fits why tells
-        count node here
+        fed_bytes law_reads readings m w v ours law Holds flow by leg dir may r well named fits why
+        tells count node here
 
     -- the client
     module _ (client_roles : ClientKnows) (law_node : NodeLaws client.rules)
@@ -304,8 +304,8 @@ module _ {K : Type 0} (roles : RolesKnow) (law_reads : Reads) (readings : Readin
       pub out_next : (k : ℕ) × AmissNext out_proxy.rules ((passages_then k).outs n) leg
           (read_on leg.kind dir) (put_then k) r
       out_next =
-          let was = out_then law_reads readings m w v ours law Holds flow by leg dir may r well named
-          fits why tells count node here law_node n is shell up there closes in (
+          let was = out_then law_reads readings m w v ours law Holds flow by leg dir may r well
+          named fits why tells count node here law_node n is shell up there closes in (
             was.0,
             next out_proxy.rules was.0 ((passages_then was.0).outs n) (out_node was.0 n)
                 (heard_on leg ((story_then was.0).outs n)) (out_knows was.0) was.1,
@@ -323,8 +323,8 @@ module _ {K : Type 0} (roles : RolesKnow) (law_reads : Reads) (readings : Readin
 
       pub out_amiss : OutAmiss
       out_amiss =
-          let was = out_then law_reads readings m w v ours law Holds flow by leg dir may r well named
-          fits why tells count node here law_node n is shell up there closes in
+          let was = out_then law_reads readings m w v ours law Holds flow by leg dir may r well
+          named fits why tells count node here law_node n is shell up there closes in
           record {
             count_then = was.0;
             end = was.1.stops.end;
@@ -359,8 +359,8 @@ module _ {K : Type 0} (roles : RolesKnow) (law_reads : Reads) (readings : Readin
       pub server_next : (k : ℕ) × AmissNext server.rules (passages_then k).server leg
           (read_on leg.kind dir) (put_then k) r
       server_next =
-          let was = server_then law_reads readings m w v ours law Holds flow by leg dir may r well named
-          fits why tells count node here law_node is closes in (
+          let was = server_then law_reads readings m w v ours law Holds flow by leg dir may r well
+          named fits why tells count node here law_node is closes in (
             was.0,
             next server.rules was.0 (passages_then was.0).server (server_node was.0)
                 (heard_on leg (happened (story_then was.0).server)) (server_knows was.0) was.1,

@@ -99,8 +99,8 @@ module _ {K : Type 0} (roles : RolesKnow) (nodes : NodesLaws) (reads : Reads) (r
           (subst (λ (j : ℕ). Expects out_proxy.rules (f.outs k).passage (co j)
           (all_read_of (of_leg (co j) f.client.passage.passage.put))) (sym same)
           (then_flowing.holds k was.end was.going
-          (subst (λ (j : ℕ). end_at (out_shell reads readings m w v ours law (OutsServe ours) flow by
-          (co n) U (λ i. may) was.count_then k) (co j) ≡ Some was.end) same was.at) was.frames))
+          (subst (λ (j : ℕ). end_at (out_shell reads readings m w v ours law (OutsServe ours) flow
+          by (co n) U (λ i. may) was.count_then k) (co j) ≡ Some was.end) same was.at) was.frames))
           (λ upward.
           subst (λ (p : EndPassage ClientRole). HasNoPingFirst (of_leg (co n) p.passage.put))
           f.client.leads.reached

@@ -60,7 +60,10 @@ module _ (n : ℕ) (log : List OnLeg) where
   read_acks (Packet named.InR1B1 ∷ ms) (inr h) =
       subst (λ (rest : List Message). Each (all_read_of (Packet named.InR1B1 ∷ rest))
       × Others (all_read_of (Packet named.InR1B1 ∷ rest))) (sym h.1)
-      ((counts_one (Is at_proxy.is_in_r1_a6) at_server.is_in_r1_a6 in_r1_a6_is came h.0, tt), (refl, tt))
+      (
+        (counts_one (Is at_proxy.is_in_r1_a6) at_server.is_in_r1_a6 in_r1_a6_is came h.0, tt),
+        (refl, tt),
+      )
   read_acks (m ∷ ms) (inl h) = absurd h.0
   read_acks (m ∷ ms) (inr h) = absurd h.0
 
@@ -69,7 +72,10 @@ module _ (n : ℕ) (log : List OnLeg) where
   read_tells (Packet (named.ConnB3 size version) ∷ ms) h =
       let rest = read_acks ms h.1 in
       record {
-        each = (counts_one (Is at_proxy.is_conn_b2) at_server.is_conn_b2 conn_b2_is came h.0.1, rest.0);
+        each = (
+          counts_one (Is at_proxy.is_conn_b2) at_server.is_conn_b2 conn_b2_is came h.0.1,
+          rest.0,
+        );
         order = (refl, rest.1);
       }
   read_tells (Packet (named.InR1B2 size) ∷ ms) h =

@@ -37,7 +37,8 @@ end_is : (m : Named) → is_end_a1 m ≡ true → named.EndA1 ≡ m
 end_is named.EndA1 e = refl
 end_is m e = absurd cc
 
-in_r1_a5_is : (m : Named) → is_in_r1_a5 m ≡ true → (successor : Cookie) × (m ≡ named.InR1A5 successor)
+in_r1_a5_is : (m : Named) → is_in_r1_a5 m ≡ true
+    → (successor : Cookie) × (m ≡ named.InR1A5 successor)
 in_r1_a5_is (named.InR1A5 successor) e = (successor, refl)
 in_r1_a5_is m e = absurd cc
 
@@ -116,7 +117,8 @@ module _ (config : ClientConfig) (moves : List EndMove) (first : ℕ) (p : Passa
   module _ (n : ℕ) (m : Message) (ahead : IsPrefix (came n ++ m ∷ []) (all_read_of (puts n))) where
     not_left : IsLeft p n → ⊥
     not_left left =
-        next_behind is_in_r1_a5 Never (came n) (all_read_of (puts n)) m (behind_in_r1_a5 n) ahead left
+        next_behind is_in_r1_a5 Never (came n) (all_read_of (puts n)) m (behind_in_r1_a5 n) ahead
+        left
 
     late_behind : IsEnded p n → IsLate m
     late_behind ended =

@@ -56,8 +56,8 @@ module _ (first n : ℕ) where
     at_first : opener_of s.opening ≡ None
         → (s.current.number ≡ first) × (is_absent s.successor ≡ true)
     at_first none =
-        subst (λ (o : Option Opener). known.Opened first o s.current.number (is_absent s.successor) came)
-        none h.opened
+        subst (λ (o : Option Opener). known.Opened first o s.current.number (is_absent s.successor)
+        came) none h.opened
 
     absent_newest : (z : Successor) → is_absent z ≡ true → newest_by s.current z ≡ s.current.number
     absent_newest Absent e = refl

@@ -289,8 +289,8 @@ module _ {K : Type 0} (m : Makers K InProxy OutProxy) where
               server.rooms down.server_reads [] x grown_server.start)
               (all_later (at_end side.Server who.Server) (λ h. h.server) (λ u h change. refl) w
               nothing changes) grown_server.grows;
-          ins = λ n. subst (λ x. Grows in_proxy.rules (in_state.first (numbers.ins n)) in_proxy.rooms
-              (in_pipe (numbers.ins n)) [] x (grown_in n).start)
+          ins = λ n. subst (λ x. Grows in_proxy.rules (in_state.first (numbers.ins n))
+              in_proxy.rooms (in_pipe (numbers.ins n)) [] x (grown_in n).start)
               (all_later (at_in n) (λ h. h.ins n) (λ u h change. refl) w nothing changes)
               (grown_in n).grows;
           outs = λ n. subst (λ x. Grows out_proxy.rules (new_proxy (numbers.outs n)) ROOMS

@@ -379,7 +379,8 @@ module _ {K : Type 0} (m : Makers K InProxy OutProxy) (w : OurWorld K)
         by (inl before) later =
             past_by which u h f is (noted u h change) (heard_next u h f is change allowed.0) all.0
             front on before (all_noted rules m deeds u h (change ∷ changes))
-            (end_of u h (change ∷ changes) f all) (grows_to u h (change ∷ changes) f all) within cookies
+            (end_of u h (change ∷ changes) f all) (grows_to u h (change ∷ changes) f all) within
+            cookies
         by (inr behind) later = later behind
 
     -- ---- before any change

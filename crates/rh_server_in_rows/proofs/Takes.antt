@@ -271,7 +271,8 @@ module _ (n : ℕ) where
           (ap (λ (k : ℕ). has_fresh_below k s.ins) number ∙ below) (all n)
           (λ is. (
             began n m packet c came put counts names (is ∙ number),
-            subst (λ (k : ℕ). 1 ≤ often_at is_in_r1_a2 InServer k more) (sym (is ∙ number)) came_now,
+            subst (λ (k : ℕ). 1 ≤ often_at is_in_r1_a2 InServer k more) (sym (is ∙ number))
+                came_now,
             subst (λ (k : ℕ). named_at successor_by k more ≡ Some c) (sym (is ∙ number))
                 (named_own successor_by m came packet ∙ succeeds (named_at successor_by m came)),
           ))
@@ -610,11 +611,21 @@ module _ (n : ℕ) where
   is_row s m count (named.AckTo a b c d) came put kept all =
       row_same s (leg_at InServer m) (Packet (named.AckTo a b c d)) came put
       (on_ack_to s count a b c d) (ack_to_same s count a b c d)
-      (record { conn_b2 = refl; in_r1_a2 = refl; names = λ before. refl; succeeds = λ before. refl }) (all n)
+      (record {
+        conn_b2 = refl;
+        in_r1_a2 = refl;
+        names = λ before. refl;
+        succeeds = λ before. refl;
+      }) (all n)
   is_row s m count packet came put kept all =
       row_same s (leg_at InServer m) (Packet packet) came put (on_is s m count packet)
       (search rules)
-      (record { conn_b2 = refl; in_r1_a2 = refl; names = λ before. refl; succeeds = λ before. refl }) (all n)
+      (record {
+        conn_b2 = refl;
+        in_r1_a2 = refl;
+        names = λ before. refl;
+        succeeds = λ before. refl;
+      }) (all n)
 
   conn_a2_row : (s : Server) (m : ℕ) (count : Count) (a b : Cookie) (c d : ℕ) (packet : Named)
       (came put : List OnLeg) → IsQuiet (Packet packet) → Holds s came put
@@ -636,7 +647,8 @@ module _ (n : ℕ) where
           (tally n (came ++ one ∷ []) put)
           (out_look s (is_begun new) b c d ∙ ap (λ (t : Bool). look_at t s) begun)
           (grows_fine s (tally n came put) (tally n (came ++ one ∷ []) put)
-          (quiet_came n came put (leg_at OutServer m) (Packet packet) q.conn_b2 q.in_r1_a2 q.names q.succeeds)
+          (quiet_came n came put (leg_at OutServer m) (Packet packet) q.conn_b2 q.in_r1_a2 q.names
+          q.succeeds)
           h)
 
       by : (x : Stage) → s.stage ≡ x → Row (conn_a2_at s x a b c d)
@@ -654,14 +666,24 @@ module _ (n : ℕ) where
       → RowKeeps Holds (leg_at OutServer m, Packet packet) came put (on_os s m count packet)
   os_row s m count (named.ConnA2 v a b c d) came put h =
       conn_a2_row s m count a b c d (named.ConnA2 v a b c d) came put
-      (record { conn_b2 = refl; in_r1_a2 = refl; names = λ before. refl; succeeds = λ before. refl }) h
+      (record {
+        conn_b2 = refl;
+        in_r1_a2 = refl;
+        names = λ before. refl;
+        succeeds = λ before. refl;
+      }) h
   os_row s m count (named.ConnB2 v a b c d e f g) came put h = h
   os_row s m count (named.InR1A2 v a b c d e) came put h = h
   os_row s m count (named.InR2A2 a) came put h = h
   os_row s m count packet came put h =
       row_same s (leg_at OutServer m) (Packet packet) came put (on_os s m count packet)
       (search rules)
-      (record { conn_b2 = refl; in_r1_a2 = refl; names = λ before. refl; succeeds = λ before. refl }) h
+      (record {
+        conn_b2 = refl;
+        in_r1_a2 = refl;
+        names = λ before. refl;
+        succeeds = λ before. refl;
+      }) h
 
   pub packet_row : (s : Server) (m : ℕ) (count : Count) (packet : Named) (k : LegKind)
       (came put : List OnLeg) → (k ≡ InServer → IsKept (in_leg m s.ins))
@@ -680,4 +702,9 @@ module _ (n : ℕ) where
   pdu_row s leg bytes came put h =
       row_same s leg (Pdu bytes) came put (pdu_by s leg.number bytes leg.kind)
       (pdu_same s leg.number bytes leg.kind)
-      (record { conn_b2 = refl; in_r1_a2 = refl; names = λ before. refl; succeeds = λ before. refl }) h
+      (record {
+        conn_b2 = refl;
+        in_r1_a2 = refl;
+        names = λ before. refl;
+        succeeds = λ before. refl;
+      }) h
