@@ -59,8 +59,7 @@ module _ (n : ℕ) (log : List OnLeg) where
       ((one_so (Begins cookie) (Tells cookie) (tells_so cookie) came h.0, rest.0), (refl, rest.1))
   read_acks (Packet named.InR1B1 ∷ ms) (inr h) =
       subst (λ (rest : List Message). Each (all_read_of (Packet named.InR1B1 ∷ rest))
-      × Others (all_read_of (Packet named.InR1B1 ∷ rest))) (sym h.1)
-      (
+      × Others (all_read_of (Packet named.InR1B1 ∷ rest))) (sym h.1) (
         (counts_one (Is at_proxy.is_in_r1_a6) at_server.is_in_r1_a6 in_r1_a6_is came h.0, tt),
         (refl, tt),
       )
