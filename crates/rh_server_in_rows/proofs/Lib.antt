@@ -16,3 +16,4 @@ mod Stays
 mod Opened
 mod Replaced
 mod Handed
+mod Totals
