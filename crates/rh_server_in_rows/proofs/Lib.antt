@@ -17,3 +17,5 @@ mod Opened
 mod Replaced
 mod Handed
 mod Totals
+mod Follows
+mod OutLegs

@@ -42,7 +42,7 @@ sum_more f g j more here other (suc n) less =
         let before = rest (omega (arith, apart, less)) in
         let now = other n (λ same. apart (sym same)) in omega (arith, now, before)
 
-sum_none : (n : ℕ) → sum_below (λ k. 0) n ≡ 0
+pub sum_none : (n : ℕ) → sum_below (λ k. 0) n ≡ 0
 sum_none zero = refl
 sum_none (suc n) = let rest = sum_none n in omega (arith, rest)
 
