@@ -9,7 +9,7 @@ use Rattle.rh_server_counts.specs.Counting.{is_in_r1_a6, in_came}
 use Rattle.rh_server_in_rows.specs.Refusing.{first_at}
 use Rattle.rh_server_in_rows.specs.Handovers.{IsStillOpen, TwoAreOpen, answers, passed}
 use Rattle.rh_server_in_rows.proofs.Opened.{Place, Since, since_opened}
-use Rattle.rh_server_in_rows.proofs.Standing.{Closed, Says, Stand, firsts, lefts, stand}
+use Rattle.rh_server_in_rows.proofs.Standing.{Closed, Stand, firsts, lefts, stand}
 use Rattle.rh_server_in_rows.proofs.Stays.{HoldsAt, moves_stay}
 use Rattle.rh_server_in_rows.proofs.Steps.{known}
 use Rattle.rh_server_in_rows.proofs.Totals.{above, none_above, sum_all, sum_more, sum_none, sum_same}
@@ -119,7 +119,8 @@ module _ (window : ℕ) (moves : List EndMove)
   one_at_most false = omega arith
 
   pub few_answers : answers p ≤ in_came is_in_r1_a6 p + 1
-  few_answers = let most = one_at_most p.role.line.has_next in let is = even in omega (arith, is, most)
+  few_answers =
+      let most = one_at_most p.role.line.has_next in let is = even in omega (arith, is, most)
 
   pub answers_enough : in_came is_in_r1_a6 p ≤ answers p
   answers_enough = by p.role.line.finished refl
@@ -138,7 +139,8 @@ module _ (window : ℕ) (moves : List EndMove)
   s = stand p.role p.put
 
   now_or_next : (n : ℕ) → IsStillOpen window moves n → (n ≡ s.current) ⊎ (n ≡ s.next)
-  now_or_next n open_now = by (since_opened window answered moves may n open_now.front open_now.opened)
+  now_or_next n open_now =
+      by (since_opened window answered moves may n open_now.front open_now.opened)
     where
       most : ℕ
       most = answers (passed window open_now.front)

@@ -1,9 +1,9 @@
 -- a server keeps at most four os legs
-use Rattle.std.proofs.Common.{◌≡◌, ℕ, zero, suc, ◌+◌, ◌≤◌, ◌<◌, ◌==◌, ◌&&◌, nat_lt, Bool, true, false, not, if◌then◌else◌, List, [], ◌∷◌, ◌++◌, length, Some, None, Ok, Err, arith, refl, rules, sym, ap, ◌∙◌, subst}
+use Rattle.std.proofs.Common.{◌≡◌, ℕ, zero, suc, ◌+◌, ◌≤◌, ◌==◌, ◌&&◌, nat_lt, true, not, List, [], ◌∷◌, length, Some, None, Ok, Err, arith, refl, rules, ap, ◌∙◌}
 use Rattle.std.proofs.lemmas.Bool.{and_parts}
 use Rattle.std.proofs.lemmas.Bool.Decides.{nat_tests}
-use Rattle.std.proofs.lemmas.List.{length-append}
-use Rattle.std.specs.Prelude.{IfSome, remove, slice_get, slice_set}
+use Rattle.std.proofs.lemmas.List.{length-append, length-set}
+use Rattle.std.specs.Prelude.{IfSome, remove, slice_get}
 use Rattle.std.specs.declared.option.Option.{Option}
 use Rattle.std.specs.declared.result.Result.{Result}
 use Rattle.rh_rts.specs.declared.command.Cookie.{Cookie}
@@ -16,7 +16,7 @@ use Rattle.rh_order.proofs.ByNumber.{by_test}
 use Rattle.rh_shell.specs.declared.answers.Count.{Count}
 use Rattle.rh_shell.specs.declared.end_role.GiveRefused.{GiveRefused}
 use Rattle.rh_shell.specs.Rules.{Message, Pdu, Packet}
-use Rattle.rh_shell.specs.Moves.{Move, Up, HeadCame, PduCame, PacketCame, Puts, IsDrawn, Marks, Pings, Passage, EndMove, Moves, Gives, Takes, Closes, Recycles, EndPassage, moved, taken_by, put_by, end_moved, end_now_at, end_started, given_by, with_first, all_end_moved}
+use Rattle.rh_shell.specs.Moves.{Move, Up, HeadCame, PduCame, PacketCame, Puts, IsDrawn, Marks, Pings, Passage, EndMove, Moves, Gives, Takes, Closes, Recycles, EndPassage, moved, taken_by, put_by, end_moved, end_now_at, given_by, with_first, all_end_moved}
 use Rattle.rh_server.specs.declared.state.OutLeg.{OutLeg}
 use Rattle.rh_window.specs.declared.recv_window.Ack.{Ack}
 use Rattle.rh_line.specs.Lines.{after_tell}
@@ -41,8 +41,8 @@ use Rattle.rh_server.specs.OutReplacement.{answered_by, answered_on, may_answer,
 use Rattle.rh_line.specs.Queue.{front_length}
 use Rattle.rh_server.specs.Putting.{Pick, ack_due, counts, counts_at, gate_at, is_end_due, may_end_at, may_go_at, next_out, or_else, out_greeting_at, put_ack, put_ack_by, put_b1, put_b1_by, put_end, put_in_by, put_in_greeting, put_open, put_out_at, put_out_greeting, put_out_place, put_pdu, put_pdu_or_end, put_tells, put_tells_by, put_waiting, settled_pick, waiting_at, waiting_by, was_current, was_put, went_at, pdu_by as pdu_by_length, put_by as put_by_kind}
 use Rattle.rh_server.specs.Ending.{drawn_by, give, in_is_drawn, lost_in, mark_by, on_end_a2, settled, with_ack_dropped}
-use Rattle.rh_server.specs.InReplacement.{take, moved_if, becomes_current, next_opened, on_in_r1_a2, on_in_r1_a6}
-use Rattle.rh_server.specs.Servers.{acts, first, on_is, on_os, packet_by, pdu_by}
+use Rattle.rh_server.specs.InReplacement.{take, on_in_r1_a2, on_in_r1_a6}
+use Rattle.rh_server.specs.Servers.{acts, on_is, on_os, packet_by, pdu_by}
 use Rattle.rh_server.specs.Servers.{rules as server_rules}
 
 -- ---- what leaves the legs alone
@@ -55,12 +55,6 @@ give_same s bytes = search rules
 
 recycle_same : (s : Server) → (recycle s).0.outs ≡ s.outs
 recycle_same s = search rules
-
-next_same : (s : Server) → (next_opened s).outs ≡ s.outs
-next_same s = search rules
-
-moved_same : (had_next : Bool) (s : Server) → (moved_if had_next s).outs ≡ s.outs
-moved_same had_next s = search rules
 
 take_same : (s : Server) → (take s).outs ≡ s.outs
 take_same s = search rules
@@ -101,17 +95,11 @@ AsMany s t = length t.outs ≡ length s.outs
 same_many : (s t : Server) → t.outs ≡ s.outs → AsMany s t
 same_many s t same = ap (λ (legs : List OutLeg). length legs) same
 
-set_many : (legs : List OutLeg) (place : ℕ) (z : OutLeg)
-    → length (slice_set legs place z) ≡ length legs
-set_many [] place z = refl
-set_many (leg ∷ legs) zero z = refl
-set_many (leg ∷ legs) (suc place) z = ap suc (set_many legs place z)
-
 first_many : (s : Server) (cookie : Cookie) (lifetime window : ℕ) (place : Option ℕ)
     (o : Option OutLeg) → AsMany s (first_out_at s cookie lifetime window place o)
 first_many s cookie lifetime window None o = refl
 first_many s cookie lifetime window (Some place) None = refl
-first_many s cookie lifetime window (Some place) (Some leg) = set_many s.outs place _
+first_many s cookie lifetime window (Some place) (Some leg) = length-set s.outs place _
 
 module _ (s : Server) where
   abbrev Row : Done → Type 0
@@ -144,7 +132,7 @@ module _ (s : Server) where
       answers : (place : Option ℕ) (o : Option OutLeg) → Row (answered_by s c d e f place o)
       answers None o = refl
       answers (Some place) None = refl
-      answers (Some place) (Some leg) = set_many s.outs place _
+      answers (Some place) (Some leg) = length-set s.outs place _
 
       on : (known : Cookie) (o : Option Cookie) → Row (out_r1_a4_by s m known a b c d e f o)
       on known None = refl
@@ -168,7 +156,7 @@ module _ (s : Server) where
     where
       at : (place : ℕ) (o : Option OutLeg) → Row (acked_at s place received window o)
       at place None = refl
-      at place (Some leg) = set_many s.outs place _
+      at place (Some leg) = length-set s.outs place _
 
       on : (o : Option ℕ) → Row (acked_in s received window o)
       on None = refl
@@ -219,7 +207,8 @@ module _ (s : Server) where
       told tells.ConnB3 = by_test Put (is_open s.stage) _ None (λ e. refl) (λ e. tt)
       told tells.InR1B2 =
           by_test Put (was_current s leg) _ None
-          (λ e. by_test (λ (u : Server). AsMany s (with_in u (record leg { tells = tells.Nothing })))
+          (λ e. by_test (λ (u : Server).
+          AsMany s (with_in u (record leg { tells = tells.Nothing })))
           ((leg.number == s.current.leg) && is_shut s.edge)
           (record s { line = after_tell s.line Current; edge = Told }) s (λ f. refl) (λ f. refl))
           (λ e. tt)
@@ -240,7 +229,7 @@ module _ (s : Server) where
       where
         by : (o : Option OutLeg) → AsMany t (counts_at t place len o)
         by None = refl
-        by (Some leg) = set_many t.outs place _
+        by (Some leg) = length-set t.outs place _
 
     was_put_many : (t : Server) (packet : Named) → AsMany t (was_put t place packet)
     was_put_many t named.OutR1A9 = counts_many t 24
@@ -267,7 +256,7 @@ module _ (s : Server) where
         went_many : (len : ℕ) (o : Option OutLeg)
             → length (went_at s place len o) ≡ length s.outs
         went_many len None = refl
-        went_many len (Some leg) = set_many s.outs place _
+        went_many len (Some leg) = length-set s.outs place _
 
         sends : (len : Option ℕ) → Put (pdu_by_length s place len)
         sends None = tt
@@ -290,7 +279,7 @@ module _ (s : Server) where
         greets : (o : Option OutLeg) → Put (out_greeting_at s place o)
         greets None = tt
         greets (Some leg) =
-            by_test Put (is_due leg.greeting) _ None (λ e. set_many s.outs place _) (λ e. tt)
+            by_test Put (is_due leg.greeting) _ None (λ e. length-set s.outs place _) (λ e. tt)
 
         settles : (pick : Pick) → Put pick → Put (settled_pick pick)
         settles None h = tt

@@ -1,6 +1,6 @@
 -- a server's moves keep what its steps keep of its current channel, the next one and the answers
 use Rattle.std.proofs.Common.{◌≡◌, ℕ, ◌+◌, ◌≤◌, ◌==◌, ◌&&◌, Bool, true, false, true≢false, not, if◌then◌else◌, List, [], ◌∷◌, ◌++◌, Some, None, Ok, Err, arith, refl, rules, sym, ap, ◌∙◌, subst}
-use Rattle.std.proofs.lemmas.Bool.{and_parts}
+use Rattle.std.proofs.lemmas.Bool.{and_parts, not-true}
 use Rattle.std.specs.Prelude.{IfSome, slice_get}
 use Rattle.std.specs.declared.option.Option.{Option}
 use Rattle.std.specs.declared.result.Result.{Result}
@@ -474,12 +474,9 @@ module _ (Q : Says) (q : Closed Q) where
       current e = same_number m s.current.leg (and_parts (m == s.current.leg) _ e).0
 
       unfinished : test ≡ true → s.line.finished ≡ false
-      unfinished e = by s.line.finished
+      unfinished e =
+          not-true s.line.finished
           (and_parts (not s.line.finished) _ (and_parts (m == s.current.leg) _ e).1).0
-        where
-          by : (b : Bool) → not b ≡ true → b ≡ false
-          by false is = refl
-          by true is = sym is
 
       once : test ≡ true → lefts more s.current.leg ≡ lefts came s.current.leg + 1
       once e =

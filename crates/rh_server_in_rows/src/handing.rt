@@ -33,5 +33,4 @@ pub fn handovers_make_room_for_answers()
 pub fn a_server_keeps_few_out_legs()
     ensures { (window : ℕ) (moves : List EndMove)
         → length (passed window moves).role.outs ≤ 4 }
-{
-}
+{}

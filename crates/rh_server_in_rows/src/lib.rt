@@ -1,5 +1,5 @@
-//! Why a server refuses what comes on IN channels, and how many channels it opens. Its functions
-//! do nothing: their contracts are the laws.
+//! Why a server refuses what comes on IN channels, how many it opens, and how many os legs it
+//! keeps. Its functions do nothing: their contracts are the laws.
 #![tactic(auto)]
 
 pub mod handing;
