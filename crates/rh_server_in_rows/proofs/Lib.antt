@@ -16,3 +16,6 @@ mod Stays
 mod Opened
 mod Replaced
 mod Handed
+mod Totals
+mod Follows
+mod OutLegs

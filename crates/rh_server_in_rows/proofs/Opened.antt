@@ -55,11 +55,11 @@ begun_closed = record {
       let is = still k in
       let some = h k (omega (arith, is, left)) in
       let most = up k in omega (arith, some, most);
-  begins = λ x y l f early h. h;
+  begins = λ x y l f early finished followed as_many h. h;
   opens = λ x next answers l f none is h. h;
-  finishes = λ x l m f begun some left other h k now.
+  finishes = λ x l m f begun unfinished followed some left other h k now.
       by x l m f some other h k now (k == x.current) refl;
-  moves_on = λ x l f left h. h;
+  moves_on = λ x l f finished followed left h. h;
 }
   where
     by : (x : Stand) (l m f : ℕ → ℕ) → 1 ≤ f x.current
@@ -154,10 +154,11 @@ module _ (n most : ℕ) (Later : ℕ → Type 0) where
   pub since_closed : (Later n → ⊥) → Closed Since
   since_closed not_later = record {
     same = λ x l m f g still up h. since_same x l m f g still h;
-    begins = since_begins;
+    begins = λ x y l f early finished followed as_many h. since_begins x y l f early h;
     opens = since_opens;
-    finishes = λ x l m f begun some left other h. since_finishes x l m f left other h;
-    moves_on = since_moves_on not_later;
+    finishes = λ x l m f begun unfinished followed some left other h.
+        since_finishes x l m f (omega (arith, left)) other h;
+    moves_on = λ x l f finished followed left h. since_moves_on not_later x l f left h;
   }
 
 -- where no leg is found, none has the number

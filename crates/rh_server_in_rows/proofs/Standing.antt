@@ -66,15 +66,18 @@ pub record Closed (Q : Says) : Type 0 where
   pub same : (x : Stand) (l m f g : ℕ → ℕ) → ((k : ℕ) → m k ≡ l k) → ((k : ℕ) → f k ≤ g k)
       → Q x l f → Q x m g
   -- the first channel begins
-  pub begins : (x y : Stand) (l f : ℕ → ℕ) → x.begun ≡ false → Q x l f → Q y l f
+  pub begins : (x y : Stand) (l f : ℕ → ℕ) → x.begun ≡ false → y.finished ≡ x.finished
+      → y.has_next ≡ x.has_next → y.answers ≡ x.answers → Q x l f → Q y l f
   pub opens : (x : Stand) (next answers : ℕ) (l f : ℕ → ℕ) → x.has_next ≡ false
       → answers ≡ x.answers + 1 → Q x l f
       → Q (record x { has_next = true; next = next; answers = answers }) l f
   -- IN_R1/A6 came on the current leg
-  pub finishes : (x : Stand) (l m f : ℕ → ℕ) → x.begun ≡ true → 1 ≤ f x.current
-      → 1 ≤ m x.current → ((k : ℕ) → (k ≡ x.current → ⊥) → m k ≡ l k) → Q x l f
+  pub finishes : (x : Stand) (l m f : ℕ → ℕ) → x.begun ≡ true → x.finished ≡ false
+      → x.has_next ≡ true → 1 ≤ f x.current → m x.current ≡ l x.current + 1
+      → ((k : ℕ) → (k ≡ x.current → ⊥) → m k ≡ l k) → Q x l f
       → Q (record x { finished = true }) m f
-  pub moves_on : (x : Stand) (l f : ℕ → ℕ) → 1 ≤ l x.current → Q x l f
+  pub moves_on : (x : Stand) (l f : ℕ → ℕ) → x.finished ≡ true → x.has_next ≡ true
+      → 1 ≤ l x.current → Q x l f
       → Q (record x { current = x.next; has_next = false; finished = false }) l f
 
 -- one more is due
@@ -130,11 +133,12 @@ module _ (Q : Says) (q : Closed Q) (put : List OnLeg) (l f : ℕ → ℕ) where
       by none (Some leg) = opens_fine s leg leg.stage none h
 
   -- the next channel is the current one
-  moves_fine : (s : Server) → 1 ≤ l s.current.leg → Fine s
+  moves_fine : (s : Server) → s.line.finished ≡ true → s.line.has_next ≡ true
+      → 1 ≤ l s.current.leg → Fine s
       → Fine (becomes_current (record s { line = moved_on s.line }))
-  moves_fine s left h =
+  moves_fine s finished followed left h =
       next_fine (record s { line = moved_on s.line; current = s.next; edge = Shut })
-      (q.moves_on (stand s put) l f left h)
+      (q.moves_on (stand s put) l f finished followed left h)
 
   never : (b : Bool) → b && not b ≡ true → ⊥
   never true e = false≢true e
@@ -158,7 +162,8 @@ module _ (Q : Says) (q : Closed Q) (put : List OnLeg) (l f : ℕ → ℕ) where
           → Fine (moved_if s.line.has_next (record s { line = moved_on s.line }))
       goes finished =
           subst (λ (b : Bool). Fine (moved_if b (record s { line = moved_on s.line })))
-          (sym (followed finished)) (moves_fine s (left finished) h)
+          (sym (followed finished))
+          (moves_fine s finished (followed finished) (left finished) h)
 
   pub take_fine : (s : Server) → (s.line.finished ≡ true → 1 ≤ l s.current.leg)
       → (s.line.finished ≡ true → s.line.has_next ≡ true) → Fine s → Fine (take s)

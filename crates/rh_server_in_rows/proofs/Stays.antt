@@ -1,6 +1,6 @@
 -- a server's moves keep what its steps keep of its current channel, the next one and the answers
 use Rattle.std.proofs.Common.{◌≡◌, ℕ, ◌+◌, ◌≤◌, ◌==◌, ◌&&◌, Bool, true, false, true≢false, not, if◌then◌else◌, List, [], ◌∷◌, ◌++◌, Some, None, Ok, Err, arith, refl, rules, sym, ap, ◌∙◌, subst}
-use Rattle.std.proofs.lemmas.Bool.{and_parts}
+use Rattle.std.proofs.lemmas.Bool.{and_parts, not-true}
 use Rattle.std.specs.Prelude.{IfSome, slice_get}
 use Rattle.std.specs.declared.option.Option.{Option}
 use Rattle.std.specs.declared.result.Result.{Result}
@@ -8,7 +8,7 @@ use Rattle.rh_rts.specs.declared.command.Cookie.{Cookie}
 use Rattle.rh_sig.specs.declared.named.Named.{Named}
 use Rattle.rh_sig.specs.declared.named.Named.TheVariants as named
 use Rattle.rh_window.specs.declared.recv_window.Ack.{Ack}
-use Rattle.rh_line.specs.Lines.{after_finish, after_tell}
+use Rattle.rh_line.specs.Lines.{Line, after_finish, after_tell}
 use Rattle.rh_line.specs.declared.leg.Leg.{Leg}
 use Rattle.rh_line.specs.declared.leg.LegKind.{LegKind}
 use Rattle.rh_line.specs.declared.leg.LegKind.TheVariants.{ClientOut, OutServer, ClientIn, InServer}
@@ -24,7 +24,7 @@ use Rattle.rh_shell.specs.declared.end_role.GiveRefused.{GiveRefused}
 use Rattle.rh_shell.specs.declared.end_role.RecycleRefused.{RecycleRefused}
 use Rattle.rh_shell.specs.Moves.{Move, Up, HeadCame, PduCame, PacketCame, Puts, IsDrawn, Marks, Pings, Passage, EndMove, Moves, Gives, Takes, Closes, Recycles, EndPassage, AreAllowedAtEnd, OnLeg, moved, taken_by, put_by, end_moved, end_now_at, given_by, with_first, all_end_moved}
 use Rattle.rh_shell.specs.Rules.{Message, Pdu, Packet, Row}
-use Rattle.rh_shell.specs.Waiting.{own}
+use Rattle.rh_shell.specs.Waiting.{Waiting, own}
 use Rattle.rh_server.specs.declared.state.Edge.TheVariants.{Told}
 use Rattle.rh_server.specs.declared.state.InLeg.{InLeg}
 use Rattle.rh_server.specs.declared.state.InStage.{InStage}
@@ -39,7 +39,7 @@ use Rattle.rh_server.specs.declared.state.Tells.TheVariants as tells
 use Rattle.rh_server.specs.declared.out_line.Kind.TheVariants as kinds
 use Rattle.rh_server.specs.OutLines.{waits}
 use Rattle.rh_server.specs.States.{Server, is_due, is_fresh, is_open, is_shut, is_waiting, same_cookie, stays, in_leg, out_place, with_in, without_in, without_out}
-use Rattle.rh_server.specs.Opening.{Done, took, refuse, unexpected, is_first, opens, with_first_in, with_first_out, may_up_by, up, up_by, conn_a2_at, on_conn_a2, conn_b2_at, on_conn_b2}
+use Rattle.rh_server.specs.Opening.{Done, took, refuse, unexpected, is_first, first_in, opens, with_first_in, with_first_out, may_up_by, up, up_by, conn_a2_at, on_conn_a2, conn_b2_at, on_conn_b2}
 use Rattle.rh_server.specs.Acknowledging.{channel_at}
 use Rattle.rh_server.specs.InReplacement.{announced, has_fresh_below, hands_over, in_r1_a2_at, in_r1_a2_by, in_r2_a2_on, leaves_by, moved_if, on_in_r1_a2, on_in_r1_a6, on_in_r2_a2, take}
 use Rattle.rh_server.specs.OutReplacement.{asks, is_under_way, last_number, recycle, wishes}
@@ -52,7 +52,7 @@ use Rattle.rh_server_counts.specs.Counting.{is_conn_b2, is_in_r1_a2, is_in_r1_a3
 use Rattle.rh_server_in_rows.proofs.Kept.{Look, is_begun, look}
 use Rattle.rh_server_in_rows.proofs.Takes.{Holds as Knows}
 use Rattle.rh_server_in_rows.proofs.Takes.{ack_to_same, look_at, out_look, pdu_same}
-use Rattle.rh_server_in_rows.proofs.Tallies.{none_here, now_often, often_more, other_here}
+use Rattle.rh_server_in_rows.proofs.Tallies.{none_here, often_more, once_more, other_here}
 use Rattle.rh_server_in_rows.proofs.Puts.{Alone, open_begun, or_alone, out_alone, settled_same}
 use Rattle.rh_server_in_rows.proofs.Steps.{AllHold, end_move_keeps}
 use Rattle.rh_server_in_rows.proofs.Standing.{Closed, Says, Stand, answered, firsts, lefts, next_fine, settles, stand, take_fine, waits_more, with_answers}
@@ -233,6 +233,11 @@ conn_a2_look s m count a b c d =
     by (stage.Open known) at = refl
     by stage.Ended at = refl
 
+-- the first IN channel leaves the line and the packets that wait alone
+record AreKept (s t : Server) : Type 0 where
+  line : t.line ≡ s.line
+  waiting : t.waiting ≡ s.waiting
+
 -- ---- what is put
 
 -- on is legs
@@ -355,17 +360,40 @@ module _ (Q : Says) (q : Closed Q) where
       Row : Done → Type 0
       Row x = RowKeeps Holds one came put x
 
-      begins : is_begun s.stage ≡ false → (t : Server) → Holds t (came ++ one ∷ []) put
-      begins early t =
+      first : Server
+      first = with_first_in s b
+
+      kept : (o : Option InLeg) → AreKept s (first_in s b o)
+      kept None = record { line = refl; waiting = refl }
+      kept (Some leg) = record { line = refl; waiting = refl }
+
+      same : AreKept s first
+      same = kept (in_leg 1 s.ins)
+
+      begins : is_begun s.stage ≡ false → (t : Server) → t.line ≡ s.line
+          → answered t put ≡ answered s put → Holds t (came ++ one ∷ []) put
+      begins early t line as_many =
           more_came (stand t put) (leg_at InServer m) (Packet packet) came none
-          (q.begins (stand s put) (stand t put) (lefts came) (firsts came) early h)
+          (q.begins (stand s put) (stand t put) (lefts came) (firsts came) early
+          (ap (λ (x : Line). x.finished) line) (ap (λ (x : Line). x.has_next) line) as_many h)
+
+      as_before : answered first put ≡ answered s put
+      as_before =
+          ap (λ (w : Waiting). often is_in_r1_a3 OutServer put + waiting_of is_in_r1_a3 w.due)
+          same.waiting
+
+      with_conn_c1 : answered (opens first a c d) put ≡ answered s put
+      with_conn_c1 =
+          let more = waits_more is_in_r1_a3 first.waiting.due (own (named.ConnC1 1 c d)) in
+          omega (arith, more, as_before)
 
       by : (x : Stage) → s.stage ≡ x → Row (conn_b2_at s x a b c d)
       by stage.Waits at =
-          begins (ap is_begun at) (record (with_first_in s b) { stage = stage.InCame a c d })
+          begins (ap is_begun at) (record first { stage = stage.InCame a c d }) same.line as_before
       by (stage.OutCame known) at =
-          by_test Row (same_cookie known a) (took (opens (with_first_in s b) known c d)) _
-          (λ e. begins (ap is_begun at) (opens (with_first_in s b) known c d)) (λ e. h)
+          by_test Row (same_cookie known a) (took (opens first known c d)) _
+          (λ e. begins (ap is_begun at) (opens first known c d) same.line with_conn_c1)
+          (λ e. h)
       by (stage.InCame known window timeout) at = h
       by (stage.Open known) at = h
       by stage.Ended at = h
@@ -445,10 +473,18 @@ module _ (Q : Says) (q : Closed Q) where
       current : test ≡ true → m ≡ s.current.leg
       current e = same_number m s.current.leg (and_parts (m == s.current.leg) _ e).0
 
+      unfinished : test ≡ true → s.line.finished ≡ false
+      unfinished e =
+          not-true s.line.finished
+          (and_parts (not s.line.finished) _ (and_parts (m == s.current.leg) _ e).1).0
+
+      once : test ≡ true → lefts more s.current.leg ≡ lefts came s.current.leg + 1
+      once e =
+          subst (λ (k : ℕ). lefts more k ≡ lefts came k + 1) (current e)
+          (once_more is_in_r1_a6 m (named.InR1A6 successor) came refl)
+
       left : test ≡ true → 1 ≤ lefts more s.current.leg
-      left e =
-          subst (λ (k : ℕ). 1 ≤ lefts more k) (current e)
-          (now_often is_in_r1_a6 m (named.InR1A6 successor) came refl)
+      left e = let more = once e in omega (arith, more)
 
       other : test ≡ true → (k : ℕ) → (k ≡ s.current.leg → ⊥) → lefts more k ≡ lefts came k
       other e k apart =
@@ -464,10 +500,10 @@ module _ (Q : Says) (q : Closed Q) where
           → Q (record (stand s put) { finished = true }) (lefts more) (firsts more)
       finished e =
           q.finishes (stand s put) (lefts came) (lefts more) (firsts more)
-          (begun e (is_begun s.stage) refl)
+          (begun e (is_begun s.stage) refl) (unfinished e) (has e)
           (let some = (knows s.current.leg).tail.began (begun e (is_begun s.stage) refl) refl in
           let most = first_more s.current.leg came one in omega (arith, some, most))
-          (left e) (other e) grown
+          (once e) (other e) grown
 
       goes : (e : test ≡ true) → (o : Option InLeg)
           → Holds (moved_if true (record (leaves_by s o) { line = after_finish s.line })) more put

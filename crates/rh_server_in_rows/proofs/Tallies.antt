@@ -241,14 +241,21 @@ other_put n k came put m apart =
     (other_here is_in_r1_b2 n k m apart)
 
 -- what comes now on its leg
-pub now_often : (test : Named → Bool) (k : ℕ) (packet : Named) (came : List OnLeg)
+pub once_more : (test : Named → Bool) (k : ℕ) (packet : Named) (came : List OnLeg)
     → test packet ≡ true
-    → 1 ≤ often_at test InServer k (came ++ (leg_at InServer k, Packet packet) ∷ [])
-now_often test k packet came passes =
+    → often_at test InServer k (came ++ (leg_at InServer k, Packet packet) ∷ [])
+    ≡ often_at test InServer k came + 1
+once_more test k packet came passes =
     let all = often_more test k came (leg_at InServer k, Packet packet) in
     let own = own_here test k (Packet packet) in
     let is : count_of test (Packet packet ∷ []) ≡ 1 =
     ap {B = ℕ} (λ (b : Bool). if b then 1 else 0) passes in omega (arith, all, own, is)
+
+pub now_often : (test : Named → Bool) (k : ℕ) (packet : Named) (came : List OnLeg)
+    → test packet ≡ true
+    → 1 ≤ often_at test InServer k (came ++ (leg_at InServer k, Packet packet) ∷ [])
+now_often test k packet came passes =
+    let more = once_more test k packet came passes in omega (arith, more)
 
 -- and what came before, with one that begins a channel of this cookie
 pub record Begins (cookie : Cookie) (c d : Tally) : Type 0 where

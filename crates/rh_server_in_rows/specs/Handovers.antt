@@ -53,6 +53,20 @@ pub record NextNames (window : ℕ) (moves : List EndMove) (n : ℕ) (expected :
   pub only : (m : ℕ) (before front : List EndMove) → HadOpened window moves n before
       → first_at (passed window before) m ≡ 0 → HadOpened window moves m front → m ≡ leg
 
+-- ---- channels that stay
+
+-- behind a front of the moves its channel had opened, and IN_R1/A6 did not come there by now
+pub record IsStillOpen (window : ℕ) (moves : List EndMove) (n : ℕ) : Type 0 where
+  pub front : List EndMove
+  pub opened : HadOpened window moves n front
+  pub stays : came_at is_in_r1_a6 (passed window moves) n ≡ 0
+
+-- of three such legs two are the same
+abbrev pub TwoAreOpen : ℕ → List EndMove → Type 0
+TwoAreOpen window moves =
+    (k m n : ℕ) → IsStillOpen window moves k → IsStillOpen window moves m
+    → IsStillOpen window moves n → (k ≡ m) ⊎ (m ≡ n) ⊎ (k ≡ n)
+
 -- ---- the law
 
 pub record RefusesInR1A6 (window : ℕ) (moves : List EndMove) : Type 0 where
