@@ -1,0 +1,6 @@
+mod Views
+mod Replacements
+mod Rows
+mod Puts
+mod Moves
+mod Since
