@@ -4,3 +4,6 @@ mod Rows
 mod Puts
 mod Moves
 mod Since
+mod Until
+mod Allowed
+mod Before
