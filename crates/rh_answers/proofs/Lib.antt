@@ -7,3 +7,4 @@ mod Since
 mod Until
 mod Allowed
 mod Before
+mod OnTheWay

@@ -4,9 +4,13 @@ use Rattle.std.specs.Prelude.{ℕ, suc, ◌≤◌, Bool, if◌then◌else◌, Li
 use Rattle.rh_sig.specs.declared.named.Named.{Named}
 use Rattle.rh_shell.specs.Moves.{Passage}
 use Rattle.rh_shell.specs.Rules.{Message, Text, Pdu, Packet}
+use Rattle.rh_shell.specs.Wires.{of_leg}
+use Rattle.rh_client.specs.declared.state.ClientRole.{ClientRole}
+use Rattle.rh_server.specs.States.{Server}
 use Rattle.rh_outproxy.specs.OutProxy.{OutProxy}
 use Rattle.rh_client_counts.specs.Counting.{is_in_a4}
 use Rattle.rh_proxy_counts.specs.Kinds.{is_out_r1_a1, is_out_r1_a2}
+use Rattle.rh_proxy_counts.specs.OutCounts.{co_leg, os_leg}
 use Rattle.rh_out_room.specs.Waits.{from_server, is_in_a3, to_client}
 
 -- how many packets pass the test before the first that passes the other
@@ -24,3 +28,9 @@ abbrev pub AnswersKeepBefore : ℕ → Passage OutProxy → Type 0
 AnswersKeepBefore n p =
     count_until is_in_a4 is_out_r1_a2 (to_client n p)
     ≤ count_until is_in_a3 is_out_r1_a1 (from_server n p)
+
+-- nor come to it so
+abbrev pub AnswersComeBefore : ℕ → Passage ClientRole → Passage Server → Type 0
+AnswersComeBefore n client server =
+    count_until is_in_a4 is_out_r1_a2 (of_leg (co_leg n) client.came)
+    ≤ count_until is_in_a3 is_out_r1_a1 (of_leg (os_leg n) server.put)
