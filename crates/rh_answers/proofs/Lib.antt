@@ -8,3 +8,5 @@ mod Until
 mod Allowed
 mod Before
 mod OnTheWay
+mod Sums
+mod Following

@@ -9,7 +9,7 @@ use Rattle.rh_shell.specs.Rules.{Message, Text, Pdu, Packet}
 use Rattle.rh_shell.specs.Waiting.{Key, key_of, are_one, better, edge_of, merged, takes}
 use Rattle.rh_passages.specs.Passing.{count_of}
 use Rattle.rh_proxy_counts.proofs.Waits.{IsNoAck}
-use Rattle.rh_out_room.specs.Waits.{packets_of}
+use Rattle.rh_out_room.specs.Waits.{behind, packets_of}
 use Rattle.rh_answers.specs.Passing.{count_until}
 
 module _ (test stop : Named → Bool) where
@@ -150,3 +150,41 @@ module _ (test stop : Named → Bool) (none : IsNoAck test) (other : IsNoAck sto
       (sym (better_same test none due m e)))
       (λ e. ap (λ (i : ℕ). if stop due.packet then 0 else if test due.packet then suc i else i)
       rest)
+
+-- ---- before the first and behind it
+
+module _ (test stop : Named → Bool) where
+  pub until_all : (ms : List Message) → count_of stop ms ≡ 0
+      → count_until test stop ms ≡ count_of test ms
+  until_all [] none = refl
+  until_all (Text bytes ∷ ms) none = until_all ms none
+  until_all (Pdu pdu ∷ ms) none = until_all ms none
+  until_all (Packet m ∷ ms) none = by (stop m) (test m) none (until_all ms)
+    where
+      by : (s t : Bool) → (if s then suc (count_of stop ms) else count_of stop ms) ≡ 0
+          → (count_of stop ms ≡ 0 → count_until test stop ms ≡ count_of test ms)
+          → (if s then 0 else if t then suc (count_until test stop ms)
+          else count_until test stop ms)
+          ≡ (if t then suc (count_of test ms) else count_of test ms)
+      by true t none rest = absurd (omega (arith, none))
+      by false true none rest = ap suc (rest none)
+      by false false none rest = rest none
+
+  pub until_split : ((m : Named) → stop m ≡ true → test m ≡ false) → (ms : List Message)
+      → count_of test ms ≡ count_until test stop ms + count_of test (behind stop 1 ms)
+  until_split apart [] = refl
+  until_split apart (Text bytes ∷ ms) = until_split apart ms
+  until_split apart (Pdu pdu ∷ ms) = until_split apart ms
+  until_split apart (Packet m ∷ ms) =
+      by (stop m) (test m) (apart m) (until_split apart ms)
+    where
+      by : (s t : Bool) → (s ≡ true → t ≡ false)
+          → count_of test ms ≡ count_until test stop ms + count_of test (behind stop 1 ms)
+          → (if t then suc (count_of test ms) else count_of test ms)
+          ≡ (if s then 0 else if t then suc (count_until test stop ms)
+          else count_until test stop ms)
+          + count_of test (if s then ms else behind stop 1 ms)
+      by true true apart rest = absurd (true≢false (apart refl))
+      by true false apart rest = omega arith
+      by false true apart rest = omega (arith, rest)
+      by false false apart rest = rest
