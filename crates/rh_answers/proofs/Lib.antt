@@ -10,3 +10,4 @@ mod Before
 mod OnTheWay
 mod Sums
 mod Following
+mod OneMore

@@ -629,7 +629,7 @@ moves_keep wanted answered p moves allowed h =
     (keeps.Holds (Holds wanted answered) (events wanted answered))
     (client_keeps (Holds wanted answered) (events wanted answered)) p moves allowed h
 
-allowed_parts : (p : EndPassage ClientRole) (before later : List EndMove)
+pub allowed_parts : (p : EndPassage ClientRole) (before later : List EndMove)
     → AreAllowedAtEnd rules acts p (before ++ later)
     → AreAllowedAtEnd rules acts p before
     × AreAllowedAtEnd rules acts (all_end_moved rules acts p before) later
