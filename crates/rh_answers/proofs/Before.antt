@@ -116,7 +116,8 @@ record IsForwardedAs (m other : Named) : Type 0 where
   answers : is_in_a4 other ≡ is_in_a3 m
   wishes : is_out_r1_a2 other ≡ is_out_r1_a1 m
   -- a wish is not merged
-  merges : (is_out_r1_a1 m ≡ false) ⊎ ((dues : List Due) → list_any (waits.takes other) dues ≡ false)
+  merges : (is_out_r1_a1 m ≡ false)
+      ⊎ ((dues : List Due) → list_any (waits.takes other) dues ≡ false)
 
 one_until : (m other : Named) → IsForwardedAs m other
     → count_until is_in_a4 is_out_r1_a2 (Packet other ∷ [])
@@ -545,7 +546,8 @@ module _ (n : ℕ) where
         (no_wish_in (os_leg n) (Packet (named.AckTo to received available cookie)) refl)
         (same_ack s received available cookie))
         (λ e. passed_row (named.AckTo to received available cookie)
-        (named.AckTo 0 received available cookie) to (λ is. record { answers = refl; wishes = refl; merges = inl refl }))
+        (named.AckTo 0 received available cookie) to
+        (λ is. record { answers = refl; wishes = refl; merges = inl refl }))
 
   -- CONN/C1 is forwarded where the channel then is joined
   c1_row : (s : OutProxy) (came put : List OnLeg) (h : Holds s came put)
@@ -555,7 +557,8 @@ module _ (n : ℕ) where
   c1_row s came put h version size timeout channels.Unknown = h
   c1_row s came put h version size timeout (channels.New connection cookie) =
       forwarded_row (record s { channel = channels.Joined connection cookie }) came put h
-      (named.ConnC1 version size timeout) (named.ConnC2 version size timeout) (record { answers = refl; wishes = refl; merges = inl refl })
+      (named.ConnC1 version size timeout) (named.ConnC2 version size timeout)
+      (record { answers = refl; wishes = refl; merges = inl refl })
   c1_row s came put h version size timeout (channels.Joined connection cookie) = h
   c1_row s came put h version size timeout
       (channels.Successor connection predecessor cookie) = h

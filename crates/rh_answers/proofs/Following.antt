@@ -1,16 +1,16 @@
 -- where a wish for an OUT channel came to a client, at most one answer for an IN channel follows
-use Rattle.std.proofs.Common.{◌≡◌, ◌⊎◌, inl, inr, ℕ, zero, suc, ◌+◌, ◌<◌, ◌≤◌, Bool, true, false, List, [], ◌∷◌, ◌++◌, if◌then◌else◌, arith, refl, sym, ap, ◌∙◌, subst}
+use Rattle.std.proofs.Common.{◌≡◌, ◌⊎◌, inl, inr, ℕ, zero, suc, ◌+◌, ◌≤◌, Bool, true, false, List, [], ◌∷◌, ◌++◌, if◌then◌else◌, arith, refl, sym, ap, ◌∙◌, subst}
 use Rattle.std.proofs.lemmas.List.{append-nil}
 use Rattle.rh_http.specs.declared.config.ClientConfig.{ClientConfig}
 use Rattle.rh_sig.specs.declared.named.Named.{Named}
 use Rattle.rh_sig.specs.declared.named.Named.TheVariants as named
 use Rattle.rh_line.specs.declared.leg.Leg.{Leg}
 use Rattle.rh_line.specs.declared.leg.LegKind.TheVariants.{ClientIn, ClientOut, OutServer}
-use Rattle.rh_shell.specs.Moves.{EndMove, EndPassage, OnLeg, Passage, all_end_moved, end_moved, end_started}
+use Rattle.rh_shell.specs.Moves.{EndMove, EndPassage, OnLeg, Passage, all_end_moved, end_moved}
 use Rattle.rh_shell.specs.Rules.{Message, Text, Pdu, Packet}
 use Rattle.rh_shell.specs.Shells.{is_of, same_leg}
 use Rattle.rh_shell.specs.Wires.{of_leg}
-use Rattle.rh_passages.specs.Passing.{count_of, of_kind}
+use Rattle.rh_passages.specs.Passing.{count_of}
 use Rattle.rh_passages.proofs.Messages.{count_append, count_rises, leg_more}
 use Rattle.rh_client.specs.Client.{acts, rules}
 use Rattle.rh_client.specs.Order.{client_moved}
@@ -25,7 +25,7 @@ use Rattle.rh_proxy_counts.specs.OutCounts.{co_leg, os_leg}
 use Rattle.rh_proxy_counts.proofs.Counts.{leg_is}
 use Rattle.rh_server_counts.specs.Counting as at_server
 use Rattle.rh_server_counts.specs.Replacing.{ArePutInTurn}
-use Rattle.rh_server_expects.proofs.Fronts.{IsOneMore, all_fronts, behind_all, one_more}
+use Rattle.rh_server_expects.proofs.Fronts.{IsOneMore, all_fronts, one_more}
 use Rattle.rh_moments.specs.Moments.{AreJoined, Passages}
 use Rattle.rh_moments.proofs.Joining.{co_back, os_back}
 use Rattle.rh_moments.proofs.Read.{front_count}

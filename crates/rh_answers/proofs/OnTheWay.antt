@@ -4,7 +4,6 @@ use mathlib.Core.List.{IsPrefix}
 use Rattle.rh_sig.specs.declared.named.Named.{Named}
 use Rattle.rh_sig.specs.declared.named.Named.TheVariants as named
 use Rattle.rh_shell.specs.Hearing.{is_ping}
-use Rattle.rh_shell.specs.Moves.{Passage}
 use Rattle.rh_shell.specs.Rules.{Message, Text, Pdu, Packet}
 use Rattle.rh_shell.specs.Wires.{of_leg}
 use Rattle.rh_reading.specs.Reading.{all_read_of}

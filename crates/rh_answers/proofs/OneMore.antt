@@ -1,17 +1,14 @@
 -- behind a wish for an OUT channel the server puts at most one answer for an IN channel on its leg
 use Rattle.std.proofs.Common.{◌≡◌, ◌⊎◌, inl, inr, ℕ, zero, suc, ◌+◌, ◌<◌, ◌≤◌, Bool, true, false, true≢false, List, [], ◌∷◌, ◌++◌, Some, None, Ok, Err, if◌then◌else◌, append_assoc, arith, refl, sym, ap, ◌∙◌, subst}
-use Rattle.std.proofs.lemmas.List.{append-nil}
 use Rattle.std.specs.declared.option.Option.{Option}
 use Rattle.std.specs.declared.result.Result.{Result}
-use mathlib.Core.List.{IsPrefix}
-use Rattle.rh_http.specs.declared.config.ClientConfig.{ClientConfig}
 use Rattle.rh_sig.specs.declared.named.Named.{Named}
 use Rattle.rh_sig.specs.declared.named.Named.TheVariants as named
 use Rattle.rh_line.specs.declared.leg.Leg.{Leg}
 use Rattle.rh_line.specs.declared.leg.LegKind.TheVariants.{ClientOut, OutServer}
 use Rattle.rh_shell.specs.declared.end_role.GiveRefused.{GiveRefused}
 use Rattle.rh_shell.specs.Moves.{EndMove, EndPassage, OnLeg, Passage, Move, Up, HeadCame, PduCame, PacketCame, Puts, IsDrawn, Marks, Pings, Moves, Gives, Takes, Closes, Recycles, moved, taken_by, put_by, end_now_at, given_by, with_first, all_end_moved, end_moved, end_started}
-use Rattle.rh_shell.specs.Rules.{Acts, Message, Row, Rules, Text, Pdu, Packet}
+use Rattle.rh_shell.specs.Rules.{Message, Row, Text, Pdu, Packet}
 use Rattle.rh_shell.specs.Shells.{same_leg}
 use Rattle.rh_shell.specs.Wires.{of_leg}
 use Rattle.rh_streams.proofs.EndMoves.{all_end_moved_append}
@@ -22,7 +19,7 @@ use Rattle.rh_client.specs.Order.{AreAllowedMoves, client_moved}
 use Rattle.rh_client.specs.State.{first}
 use Rattle.rh_client.specs.declared.state.ClientRole.{ClientRole}
 use Rattle.rh_client_counts.specs.Counting.{is_in_a4}
-use Rattle.rh_client_counts.specs.Replacing.{AsksWhereWanted, ReplacesOuts, in_answered, in_asked, out_switched, out_wanted}
+use Rattle.rh_client_counts.specs.Replacing.{AsksWhereWanted, ReplacesOuts, in_answered, in_asked, out_switched}
 use Rattle.rh_client_counts.proofs.Standing.{passes, total_stays}
 use Rattle.rh_proxy_counts.specs.Kinds.{is_out_r1_a1, is_out_r1_a2}
 use Rattle.rh_proxy_counts.specs.OutCounts.{co_leg, os_leg}
@@ -40,7 +37,7 @@ use Rattle.rh_moments.proofs.Read.{front_count}
 use Rattle.rh_out_room.specs.Waits.{WaitsInOrder, behind, is_in_a3}
 use Rattle.rh_rounds.specs.Rounds.{GoRound}
 use Rattle.rh_rounds.proofs.Rounding.{once, sum_counts}
-use Rattle.rh_answers.specs.Passing.{AnswersComeBefore, OneFollows, count_until}
+use Rattle.rh_answers.specs.Passing.{AnswersComeBefore, OneFollows}
 use Rattle.rh_answers.specs.Wishes.{AsksOneBehind}
 use Rattle.rh_answers.proofs.Following.{AreFewer, IsWish, IsWished, all_fewer, came_on, find_wish, left_before, wish_step, wishes_on}
 use Rattle.rh_answers.proofs.Since.{allowed_parts}
@@ -307,7 +304,8 @@ module _ (numbers : Numbers) (reader : ℕ → ℕ) (moves : AllMoves)
   -- ---- at each front of what the server did
 
   abbrev served : List EndMove → EndPassage Server
-  served ms = all_end_moved servers.rules servers.acts (end_started (servers.first numbers.window)) ms
+  served ms =
+      all_end_moved servers.rules servers.acts (end_started (servers.first numbers.window)) ms
 
   next : (front : List EndMove) (move : EndMove) (later : List EndMove)
       → moves.server ≡ front ++ move ∷ later → after n (served front).passage ≤ 1

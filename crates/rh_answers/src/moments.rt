@@ -16,9 +16,10 @@ use rh_rounds::replacements_go_round;
 use rh_server_counts::a_server_replaces_out_channels_one_by_one;
 use rh_server_turns::a_server_writes_on_channels_that_began;
 
-/// Where the moves of the roles are joined by legs: no more IN_R1/A4 and IN_R2/A4 came to the client
-/// on a co leg before the first OUT_R1/A2 than the server put IN_R1/A3 and IN_R2/A3 on the os leg of
-/// that number before the first OUT_R1/A1 (the replacement of channels is this profile's).
+/// Where the moves of the roles are joined by legs: no more IN_R1/A4 and IN_R2/A4 came to the
+/// client on a co leg before the first OUT_R1/A2 than the server put IN_R1/A3 and IN_R2/A3 on the
+/// os leg of that number before the first OUT_R1/A1 (the replacement of channels is this
+/// profile's).
 pub fn answers_come_before_a_wish()
     ensures { (numbers : Numbers) (reader : ℕ → ℕ) (moves : Moves) → AreMade numbers moves
         → AreJoined reader (passages numbers moves) → (n : ℕ)
@@ -28,8 +29,9 @@ pub fn answers_come_before_a_wish()
     an_out_proxy_keeps_answers_before_a_wish();
 }
 
-/// At each moment of a virtual connection: of what the server put on an os leg, at most one IN_R1/A3
-/// or IN_R2/A3 stands behind the first OUT_R1/A1 (the replacement of channels is this profile's).
+/// At each moment of a virtual connection: of what the server put on an os leg, at most one
+/// IN_R1/A3 or IN_R2/A3 stands behind the first OUT_R1/A1 (the replacement of channels is this
+/// profile's).
 pub fn one_answer_follows_a_wish()
     ensures { (numbers : Numbers) (reader : ℕ → ℕ) (moves : Moves)
         → IsMoment numbers reader moves → (n : ℕ)
