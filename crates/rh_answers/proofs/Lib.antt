@@ -1,0 +1,13 @@
+mod Views
+mod Replacements
+mod Rows
+mod Puts
+mod Moves
+mod Since
+mod Until
+mod Allowed
+mod Before
+mod OnTheWay
+mod Sums
+mod Following
+mod OneMore
