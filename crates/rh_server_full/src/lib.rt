@@ -1,0 +1,7 @@
+//! What a server has room for: the acknowledgements that come to be forwarded to the client. Its
+//! functions do nothing: their contracts are the laws.
+#![tactic(auto)]
+
+pub mod keeping;
+
+pub use keeping::a_server_forwards_what_came;
