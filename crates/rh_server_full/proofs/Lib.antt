@@ -1,2 +1,3 @@
 mod Dues
 pub mod Kept
+pub mod Longest

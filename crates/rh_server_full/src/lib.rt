@@ -3,5 +3,7 @@
 #![tactic(auto)]
 
 pub mod keeping;
+pub mod oldest;
 
 pub use keeping::a_server_forwards_what_came;
+pub use oldest::an_acknowledgement_waits_longest;
