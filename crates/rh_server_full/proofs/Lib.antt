@@ -1,3 +1,5 @@
 mod Dues
 pub mod Kept
 pub mod Longest
+mod Streams
+pub mod Late

@@ -95,7 +95,7 @@ for_itself : (received window : ℕ) (channel : Cookie)
 for_itself received window channel = (bytes_eq-Decides channel.0 channel.0).1 refl
 
 -- it is one of that channel
-is_for : (other : Cookie) (m : Named) → is_ack_for other m ≡ true
+pub is_for : (other : Cookie) (m : Named) → is_ack_for other m ≡ true
     → (received : ℕ) × (window : ℕ) × (m ≡ named.AckTo 0 received window other)
 is_for other (named.AckTo to received window of) e =
     let parts = and_parts (to == 0) (bytes_eq of.0 other.0) e in

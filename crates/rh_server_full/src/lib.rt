@@ -3,7 +3,9 @@
 #![tactic(auto)]
 
 pub mod keeping;
+pub mod numbered;
 pub mod oldest;
 
 pub use keeping::a_server_forwards_what_came;
+pub use numbered::acknowledgements_are_of_late_channels;
 pub use oldest::an_acknowledgement_waits_longest;
