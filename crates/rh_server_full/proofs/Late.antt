@@ -272,9 +272,6 @@ module _ (numbers : Numbers) (reader : ℕ → ℕ) (moves : Moves)
       by : Stands (is_ack_for channel) grows.0 → IsLate numbers reader moves front channel
       by at = found (is_for channel at.m at.passes)
         where
-          before : List Message
-          before = there at.n ++ of_leg (is_leg at.n) at.before
-
           found : (received : ℕ) × (window : ℕ) × (at.m ≡ AckTo 0 received window channel)
               → IsLate numbers reader moves front channel
           found of =

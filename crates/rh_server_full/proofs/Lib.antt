@@ -3,3 +3,4 @@ pub mod Kept
 pub mod Longest
 mod Streams
 pub mod Late
+pub mod Counting

@@ -90,7 +90,7 @@ same_cookies : (a b : Cookie) → bytes_eq a.0 b.0 ≡ true → a ≡ b
 same_cookies a b e =
     ap (λ (bytes : List ℕ). record { 0 = bytes }) ((bytes_eq-Decides a.0 b.0).0 e)
 
-for_itself : (received window : ℕ) (channel : Cookie)
+pub for_itself : (received window : ℕ) (channel : Cookie)
     → is_ack_for channel (named.AckTo 0 received window channel) ≡ true
 for_itself received window channel = (bytes_eq-Decides channel.0 channel.0).1 refl
 
@@ -104,7 +104,7 @@ is_for other (named.AckTo to received window of) e =
     ∙ ap (λ (c : Cookie). named.AckTo 0 received window c) (same_cookies of other parts.1))
 is_for other m e = absurd cc
 
-at_least : (a b : ℕ) → nat_le a b ≡ true → a ≤ b
+pub at_least : (a b : ℕ) → nat_le a b ≡ true → a ≤ b
 at_least a b e = grind (arith, nat_tests)
 
 at_most_then : (a b : ℕ) → a ≤ b → nat_le a b ≡ true
@@ -116,7 +116,7 @@ more_than a b e = grind (arith, nat_tests)
 both : {a b : Bool} → a ≡ true → b ≡ true → a && b ≡ true
 both {a} {b} e f = ap (λ (c : Bool). c && b) e ∙ f
 
-one_more : (other : Cookie) (due : Due) (dues : List Due)
+pub one_more : (other : Cookie) (due : Due) (dues : List Due)
     → 1 ≤ waiting_of (is_ack_for other) dues → 1 ≤ waiting_of (is_ack_for other) (due ∷ dues)
 one_more other due dues k = by (is_ack_for other due.packet) k
   where
@@ -126,7 +126,7 @@ one_more other due dues k = by (is_ack_for other due.packet) k
     by true k = omega arith
     by false k = k
 
-first_is : (channel : Cookie) (due : Due) (dues : List Due)
+pub first_is : (channel : Cookie) (due : Due) (dues : List Due)
     → is_ack_for channel due.packet ≡ true → 1 ≤ waiting_of (is_ack_for channel) (due ∷ dues)
 first_is channel due dues e =
     subst (λ (b : Bool). 1 ≤ (if b then suc (waiting_of (is_ack_for channel) dues)

@@ -1,3 +1,4 @@
+pub mod Few
 pub mod Keeping
 pub mod Numbered
 pub mod Oldest
