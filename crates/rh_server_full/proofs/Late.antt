@@ -49,7 +49,7 @@ kind_append kind (one ∷ a) b = by (is_of kind one.0) (kind_append kind a b)
     by true e = ap (λ (ms : List Message). one.1 ∷ ms) e
     by false e = e
 
-leg_append : (leg : Leg) (a b : List OnLeg)
+pub leg_append : (leg : Leg) (a b : List OnLeg)
     → of_leg leg (a ++ b) ≡ of_leg leg a ++ of_leg leg b
 leg_append leg [] b = refl
 leg_append leg (one ∷ a) b = by (same_leg one.0 leg) (leg_append leg a b)

@@ -4,3 +4,4 @@ pub mod Longest
 mod Streams
 pub mod Late
 pub mod Counting
+pub mod Placing

@@ -2,3 +2,4 @@ pub mod Few
 pub mod Keeping
 pub mod Numbered
 pub mod Oldest
+pub mod Placed

@@ -6,8 +6,10 @@ pub mod few;
 pub mod keeping;
 pub mod numbered;
 pub mod oldest;
+pub mod placed;
 
 pub use few::no_more_acknowledgements_wait_than_channels;
 pub use keeping::a_server_forwards_what_came;
 pub use numbered::acknowledgements_are_of_late_channels;
 pub use oldest::an_acknowledgement_waits_longest;
+pub use placed::late_channels_are_placed;
