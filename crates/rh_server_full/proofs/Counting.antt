@@ -1,21 +1,20 @@
 -- no more acknowledgements to the client wait than there are numbers of their channels
-use Rattle.std.proofs.Common.{◌≡◌, ◌⊎◌, inl, inr, ℕ, suc, ◌+◌, ◌<◌, ◌≤◌, ◌==◌, Bool, true, false, if◌then◌else◌, List, [], ◌∷◌, ◌++◌, length, refl, sym, ap, ◌∙◌, subst, arith}
+use Rattle.std.proofs.Common.{◌≡◌, ◌⊎◌, inl, inr, ℕ, suc, ◌≤◌, Bool, true, false, if◌then◌else◌, List, [], ◌∷◌, ◌++◌, length, refl, sym, ap, ◌∙◌, subst, arith}
 use Rattle.rh_rts.specs.declared.command.Cookie.{Cookie}
 use Rattle.rh_sig.specs.declared.named.Named.{Named}
 use Rattle.rh_sig.specs.declared.named.Named.TheVariants as named
 use Rattle.rh_order.proofs.ByNumber.{same_number}
-use Rattle.rh_passages.specs.Passing.{BeginsIn, HasBegunIn, HasOne}
+use Rattle.rh_passages.specs.Passing.{BeginsIn, HasOne}
 use Rattle.rh_shell.specs.declared.due.Due.{Due}
-use Rattle.rh_shell.specs.Moves.{EndMove, Passage}
+use Rattle.rh_shell.specs.Moves.{EndMove}
 use Rattle.rh_shell.specs.Wires.{of_leg}
 use Rattle.rh_client.specs.State.{ci}
 use Rattle.rh_client_counts.specs.Naming.{NamesIns}
-use Rattle.rh_server.specs.States.{Server}
-use Rattle.rh_server_counts.specs.Counting.{in_came, is_ack_to, waiting_of, waits_for}
+use Rattle.rh_server_counts.specs.Counting.{is_ack_to, waiting_of}
 use Rattle.rh_moments.specs.Moments.{Moves, Numbers, client_behind, server_behind}
 use Rattle.rh_server_room.specs.Forwarding.{ForwardsAcks}
 use Rattle.rh_server_room.specs.Overtaking.{is_ack_for}
-use Rattle.rh_server_full.specs.Few.{FewWait, IsAmong, NoMoreWait}
+use Rattle.rh_server_full.specs.Few.{IsAmong, NoMoreWait}
 use Rattle.rh_server_full.specs.Numbered.{AreLate, IsLate}
 use Rattle.rh_server_full.specs.Oldest.{Oldest}
 use Rattle.rh_server_full.proofs.Longest.{first_is, for_itself, one_more}
@@ -54,9 +53,11 @@ less n (first ∷ all) (inr h) = more (less n all h)
 -- an acknowledgement to the client is for a channel
 for_some : (m : Named) → is_ack_to 0 m ≡ true
     → (channel : Cookie) × (is_ack_for channel m ≡ true)
-for_some (named.AckTo to received window channel) e =
-    (channel, ap (λ (n : ℕ). is_ack_for channel (named.AckTo n received window channel))
-    (same_number to 0 e) ∙ for_itself received window channel)
+for_some (named.AckTo to received window channel) e = (
+  channel,
+  ap (λ (n : ℕ). is_ack_for channel (named.AckTo n received window channel))
+      (same_number to 0 e) ∙ for_itself received window channel,
+)
 for_some m e = absurd cc
 
 module _ (Is : Cookie → ℕ → Type 0)

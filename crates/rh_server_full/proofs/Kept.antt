@@ -1,8 +1,6 @@
 -- what a server forwards to the client came, of each channel, and it forwards none twice
-use Rattle.std.proofs.Common.{◌≡◌, inl, inr, ℕ, ◌+◌, ◌≤◌, ◌==◌, ◌&&◌, ◌||◌, Bool, true, false, nat_lt, not, if◌then◌else◌, List, [], ◌∷◌, Some, None, Ok, Err, refl, sym, ap, ◌∙◌, subst, rules, arith}
-use Rattle.std.proofs.lemmas.Bool.{false≢true}
-use Rattle.std.proofs.lemmas.Bool.Decides.{nat_tests}
-use Rattle.std.specs.Prelude.{IfSome, find, nat_le, slice_get}
+use Rattle.std.proofs.Common.{◌≡◌, ℕ, ◌+◌, ◌≤◌, ◌==◌, ◌&&◌, ◌||◌, Bool, true, false, nat_lt, not, if◌then◌else◌, List, [], ◌∷◌, Some, None, Ok, Err, refl, sym, ap, ◌∙◌, subst, rules, arith}
+use Rattle.std.specs.Prelude.{IfSome, find, slice_get}
 use Rattle.std.specs.List.{list_any}
 use Rattle.std.specs.declared.option.Option.{Option}
 use Rattle.std.specs.declared.result.Result.{Result}
@@ -24,7 +22,7 @@ use Rattle.rh_shell.specs.declared.due.Due.{Due}
 use Rattle.rh_shell.specs.declared.due.Origin.TheVariants.{Forwarded}
 use Rattle.rh_shell.specs.declared.end_role.RecycleRefused.{RecycleRefused}
 use Rattle.rh_shell.specs.Moves.{OnLeg, EndMove, end_started}
-use Rattle.rh_shell.specs.Rules.{Message, Packet, Pdu, Row}
+use Rattle.rh_shell.specs.Rules.{Message, Packet, Pdu}
 use Rattle.rh_shell.specs.Waiting.{Waiting, added, merged, pushed, taken, takes, to_forward, with_due, without_first}
 use Rattle.rh_shell.specs.Waiting as waits
 use Rattle.rh_server.specs.declared.state.Edge.TheVariants.{Shut}
@@ -39,25 +37,22 @@ use Rattle.rh_server.specs.declared.state.Stage.TheVariants as stage
 use Rattle.rh_server.specs.declared.out_line.Kind.TheVariants as kinds
 use Rattle.rh_server.specs.OutLines as lines
 use Rattle.rh_server.specs.OutLines.{has, is_ack_of, lets}
-use Rattle.rh_server.specs.States.{Server, in_leg, is_due, is_fresh, is_open, is_some, out_at, out_place, out_cookie, same_cookie, with_in, without_in, without_out}
+use Rattle.rh_server.specs.States.{Server, in_leg, is_due, is_fresh, is_open, out_at, out_place, out_cookie, same_cookie, with_in, without_in, without_out}
 use Rattle.rh_server.specs.Opening.{Done, took, refuse, unexpected, is_first, opens, first_in, with_first_in, first_out_at, with_first_out, up, conn_a2_at, on_conn_a2, conn_b2_at, on_conn_b2}
-use Rattle.rh_server.specs.Acknowledging.{channel_at, channel_leg, elsewhere, forward_by, forwards, forwards_to, forwards_writing, is_full, on_ack_to, out_server}
+use Rattle.rh_server.specs.Acknowledging.{channel_at, channel_leg, forward_by, forwards, forwards_to, forwards_writing, on_ack_to, out_server}
 use Rattle.rh_server.specs.InReplacement.{announced, becomes_current, first_waiting, hands_over, has_fresh_below, in_r1_a2_at, in_r1_a2_by, in_r2_a2_on, leaves_by, moved_if, next_opened, on_in_r1_a2, on_in_r1_a6, on_in_r2_a2, opens_leg, opens_next, take}
 use Rattle.rh_server.specs.OutReplacement.{answered_by, answered_on, asks, confirms, is_under_way, last_number, may_answer, on_out_r1_a4, on_out_r1_a8, out_r1_a4_at, out_r1_a4_by, out_r1_a8_at, recycle, wishes}
 use Rattle.rh_server.specs.Ending.{completed, drawn_by, give, in_is_drawn, is_complete, lost_in, mark_by, settled, with_ack_dropped, without_ack_of}
 use Rattle.rh_server.specs.Putting.{Pick, or_else, counts, counts_at, gate, gate_at, is_end_due, may_end_at, may_go_at, next_out, out_greeting_at, pdu_by, put_by as put_by_kind, put_end, put_in, put_open, put_out_at, put_out_greeting, put_pdu, put_pdu_or_end, put_waiting, settled_pick, waiting_at, waiting_by, was_put}
 use Rattle.rh_server.specs.Servers.{acts, first, on_is, on_os, packet_by, pdu}
 use Rattle.rh_server.specs.Servers.{rules as server_rules}
-use Rattle.rh_server_counts.specs.Counting.{is_ack_to, waits_for}
+use Rattle.rh_server_counts.specs.Counting.{waits_for}
 use Rattle.rh_server_in_rows.specs.Handovers.{passed}
-
 use Rattle.std.proofs.Common.{suc, ◌++◌}
-use Rattle.std.proofs.lemmas.List.{append-nil}
 use Rattle.rh_passages.specs.Passing.{count_of, of_kind}
 use Rattle.rh_passages.proofs.Messages.{count_append, kind_more}
 use Rattle.rh_streams.proofs.EndMoves.{all_end_moved_append}
 use Rattle.rh_shell.specs.Moves.{EndPassage, Passage, all_end_moved}
-use Rattle.rh_shell.specs.Rules.{Text}
 use Rattle.rh_shell.specs.Waiting.{better, own}
 use Rattle.rh_server_counts.specs.Counting.{leg_at, often, waiting_of}
 use Rattle.rh_server_full.proofs.Dues.{Went, alone_none, first_goes, one_waits, push_waits}
@@ -528,16 +523,25 @@ module _ (channel : Cookie) where
         by : (o : Option Due)
             → Went (is_ack_for channel) s.waiting.due
             (without_first (lets (gate s leg)) s.waiting.due) o
-            → Goes s (waiting_by s place (with_due s.waiting
-            (without_first (lets (gate s leg)) s.waiting.due), o))
+            → Goes s (waiting_by s place (
+              with_due s.waiting
+                  (without_first (lets (gate s leg)) s.waiting.due),
+              o,
+            ))
         by None less = tt
         by (Some due) less =
-            let same = as_many (record s { waiting = with_due s.waiting
-            (without_first (lets (gate s leg)) s.waiting.due) })
-            (was_put (record s { waiting = with_due s.waiting
-            (without_first (lets (gate s leg)) s.waiting.due) }) place due.packet)
-            (put_same (record s { waiting = with_due s.waiting
-            (without_first (lets (gate s leg)) s.waiting.due) }) place due.packet) in
+            let same = as_many (record s {
+              waiting = with_due s.waiting
+                  (without_first (lets (gate s leg)) s.waiting.due);
+            })
+            (was_put (record s {
+              waiting = with_due s.waiting
+                  (without_first (lets (gate s leg)) s.waiting.due);
+            }) place due.packet)
+            (put_same (record s {
+              waiting = with_due s.waiting
+                  (without_first (lets (gate s leg)) s.waiting.due);
+            }) place due.packet) in
             omega (arith, same, less)
 
     out_goes : (place : Option ℕ) → Goes s (put_out_at s place)

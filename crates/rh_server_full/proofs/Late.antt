@@ -1,6 +1,5 @@
 -- of which channels acknowledgements to the client came at a server since a front of its moves
-use Rattle.std.proofs.Common.{◌≡◌, ◌⊎◌, inl, inr, ℕ, zero, suc, ◌+◌, ◌<◌, ◌≤◌, ◌==◌, Bool, true, false, if◌then◌else◌, List, [], ◌∷◌, ◌++◌, append_assoc, Ok, Err, Some, None, refl, sym, ap, ◌∙◌, subst, arith}
-use Rattle.std.proofs.lemmas.List.{append-nil}
+use Rattle.std.proofs.Common.{◌≡◌, ◌⊎◌, inl, inr, ℕ, zero, suc, ◌+◌, ◌<◌, ◌≤◌, Bool, true, false, if◌then◌else◌, List, [], ◌∷◌, ◌++◌, append_assoc, Ok, Err, Some, None, refl, sym, ap, ◌∙◌, subst, arith}
 use mathlib.Core.List.{IsPrefix}
 use Rattle.rh_rts.specs.declared.command.Cookie.{Cookie}
 use Rattle.rh_sig.specs.declared.named.Named.{Named}
@@ -26,15 +25,14 @@ use Rattle.rh_server.specs.States.{Server}
 use Rattle.rh_server.specs.Putting.{Pick}
 use Rattle.rh_server.specs.Servers.{acts, first, rules}
 use Rattle.rh_server_counts.specs.Counting.{in_came, is_conn_b2, is_in_r1_a2, is_in_r1_a6, is_in_r2_a2, leg_at, often}
-use Rattle.rh_server_in_rows.specs.Refusing.{came_at, first_at}
-use Rattle.rh_in_channels.specs.Announcing.{IsAnnouncedOn, passed}
+use Rattle.rh_in_channels.specs.Announcing.{passed}
 use Rattle.rh_moments.specs.Moments.{IsJoined, Moves, Numbers, ReadInTurn, in_behind, passages, server_behind}
 use Rattle.rh_moments.proofs.Joining.{is_front}
-use Rattle.rh_server_room.specs.Answered.{AreAnsweredFirst, IsAckOf}
+use Rattle.rh_server_room.specs.Answered.{AreAnsweredFirst}
 use Rattle.rh_server_room.specs.Overtaking.{is_ack_for}
 use Rattle.rh_server_full.specs.Numbered.{AreLate, IsLate}
 use Rattle.rh_server_full.proofs.Longest.{is_for}
-use Rattle.rh_server_full.proofs.Streams.{IsOpen, open_before}
+use Rattle.rh_server_full.proofs.Streams.{open_before}
 
 -- ---- logs
 
@@ -282,10 +280,11 @@ module _ (numbers : Numbers) (reader : ℕ → ℕ) (moves : Moves)
               ++ Packet m ∷ []) (all_read_of (of_leg (is_leg at.n) (proxy at.n).put))) of.2
               (prefix_trans ((there at.n ++ of_leg (is_leg at.n) at.before) ++ Packet at.m ∷ [])
               (of_leg (is_leg at.n) now.came)
-              (all_read_of (of_leg (is_leg at.n) (proxy at.n).put))
-              (of_leg (is_leg at.n) at.later,
-              append_assoc (there at.n ++ of_leg (is_leg at.n) at.before) (Packet at.m ∷ [])
-              (of_leg (is_leg at.n) at.later) ∙ sym whole)
+              (all_read_of (of_leg (is_leg at.n) (proxy at.n).put)) (
+                of_leg (is_leg at.n) at.later,
+                append_assoc (there at.n ++ of_leg (is_leg at.n) at.before) (Packet at.m ∷ [])
+                    (of_leg (is_leg at.n) at.later) ∙ sym whole,
+              )
               (is_front reader (passages numbers moves) joined.joined at.n)))
             where
               whole : of_leg (is_leg at.n) now.came

@@ -5,3 +5,4 @@ mod Streams
 pub mod Late
 pub mod Counting
 pub mod Placing
+pub mod Answers

@@ -1,11 +1,10 @@
 -- the acknowledgement to the client that waits longest at a server
-use Rattle.std.proofs.Common.{◌≡◌, ◌⊎◌, inl, inr, ℕ, zero, suc, ◌+◌, ◌<◌, ◌≤◌, ◌==◌, ◌&&◌, Bool, true, false, if◌then◌else◌, List, [], ◌∷◌, ◌++◌, append_assoc, Some, None, Ok, Err, refl, sym, ap, ◌∙◌, subst, arith}
+use Rattle.std.proofs.Common.{◌≡◌, ℕ, zero, suc, ◌+◌, ◌<◌, ◌≤◌, ◌==◌, ◌&&◌, Bool, true, false, if◌then◌else◌, List, [], ◌∷◌, ◌++◌, Some, None, Ok, Err, refl, sym, ap, ◌∙◌, subst, arith}
 use Rattle.std.proofs.lemmas.Bool.{and_parts, false≢true}
 use Rattle.std.proofs.lemmas.Bool.Decides.{nat_tests}
 use Rattle.std.proofs.lemmas.Slice.Eq.{bytes_eq-Decides}
-use Rattle.std.specs.Prelude.{IfSome, nat_le}
+use Rattle.std.specs.Prelude.{nat_le}
 use Rattle.std.specs.Str.{bytes_eq}
-use Rattle.std.specs.declared.option.Option.{Option}
 use Rattle.rh_rts.specs.declared.command.Cookie.{Cookie}
 use Rattle.rh_sig.specs.declared.named.Named.{Named}
 use Rattle.rh_sig.specs.declared.named.Named.TheVariants as named
@@ -18,9 +17,8 @@ use Rattle.rh_passages.proofs.Messages.{count_append, kind_more}
 use Rattle.rh_streams.proofs.EndMoves.{all_end_moved_append}
 use Rattle.rh_shell.specs.declared.due.Due.{Due}
 use Rattle.rh_shell.specs.Moves.{EndMove, EndPassage, OnLeg, Passage, all_end_moved, end_moved, end_started}
-use Rattle.rh_shell.specs.Rules.{Message, Row, Pdu, Packet}
+use Rattle.rh_shell.specs.Rules.{Row, Pdu, Packet}
 use Rattle.rh_server.specs.States.{Server}
-use Rattle.rh_server.specs.Opening.{Done}
 use Rattle.rh_server.specs.Putting.{Pick}
 use Rattle.rh_server.specs.Servers.{acts, first, rules}
 use Rattle.rh_server_counts.specs.Counting.{in_came, is_ack_to, often, out_put, waiting_of, waits_for}
@@ -98,10 +96,12 @@ for_itself received window channel = (bytes_eq-Decides channel.0 channel.0).1 re
 pub is_for : (other : Cookie) (m : Named) → is_ack_for other m ≡ true
     → (received : ℕ) × (window : ℕ) × (m ≡ named.AckTo 0 received window other)
 is_for other (named.AckTo to received window of) e =
-    let parts = and_parts (to == 0) (bytes_eq of.0 other.0) e in
-    (received, window,
-    ap (λ (n : ℕ). named.AckTo n received window of) (same_number to 0 parts.0)
-    ∙ ap (λ (c : Cookie). named.AckTo 0 received window c) (same_cookies of other parts.1))
+    let parts = and_parts (to == 0) (bytes_eq of.0 other.0) e in (
+      received,
+      window,
+      ap (λ (n : ℕ). named.AckTo n received window of) (same_number to 0 parts.0)
+          ∙ ap (λ (c : Cookie). named.AckTo 0 received window c) (same_cookies of other parts.1),
+    )
 is_for other m e = absurd cc
 
 pub at_least : (a b : ℕ) → nat_le a b ≡ true → a ≤ b
@@ -144,11 +144,13 @@ some_waits (due ∷ dues) h =
         → (1 ≤ waiting_of (is_ack_to 0) dues
         → (channel : Cookie) × (1 ≤ waiting_of (is_ack_for channel) dues))
         → (channel : Cookie) × (1 ≤ waiting_of (is_ack_for channel) (due ∷ dues))
-    by (named.AckTo to received window channel) is true e h rest =
-        (channel, first_is channel due dues
-        (ap (is_ack_for channel)
-        (is ∙ ap (λ (n : ℕ). named.AckTo n received window channel) (same_number to 0 e))
-        ∙ for_itself received window channel))
+    by (named.AckTo to received window channel) is true e h rest = (
+      channel,
+      first_is channel due dues
+          (ap (is_ack_for channel)
+          (is ∙ ap (λ (n : ℕ). named.AckTo n received window channel) (same_number to 0 e))
+          ∙ for_itself received window channel),
+    )
     by m is false e h rest = let one = rest h in (one.0, one_more one.0 due dues one.1)
     by m is true e h rest = absurd cc
 
@@ -176,8 +178,7 @@ module _ (put : Cookie → ℕ) where
       × (put channel ≤ out_put (is_ack_for channel) p)
   is_so p channel e =
       let parts = and_parts (nat_le 1 (waits_for (is_ack_for channel) p.role))
-      (nat_le (put channel) (out_put (is_ack_for channel) p)) e in
-      (
+      (nat_le (put channel) (out_put (is_ack_for channel) p)) e in (
         at_least 1 (waits_for (is_ack_for channel) p.role) parts.0,
         at_least (put channel) (out_put (is_ack_for channel) p) parts.1,
       )
@@ -198,13 +199,12 @@ module _ (put : Cookie → ℕ) where
           → (channel : Cookie) × (1 ≤ waiting_of (is_ack_for channel) (due ∷ dues))
           × (is_held p channel ≡ true)
       at received window channel to is true e found h =
-          let parts = and_parts (to == 0) (is_held p channel) e in
-          (
+          let parts = and_parts (to == 0) (is_held p channel) e in (
             channel,
             first_is channel due dues (ap (is_ack_for channel)
-            (is ∙ ap (λ (n : ℕ). named.AckTo n received window channel)
-            (same_number to 0 parts.0))
-            ∙ for_itself received window channel),
+                (is ∙ ap (λ (n : ℕ). named.AckTo n received window channel)
+                (same_number to 0 parts.0))
+                ∙ for_itself received window channel),
             parts.1,
           )
       at received window channel to is false e found h =

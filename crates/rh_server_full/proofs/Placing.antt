@@ -2,7 +2,6 @@
 use Rattle.std.proofs.Common.{◌≡◌, ◌⊎◌, inl, inr, ℕ, zero, suc, ◌+◌, ◌-◌, ◌<◌, ◌≤◌, Bool, true, false, List, ◌++◌, refl, sym, ap, ◌∙◌, subst, arith}
 use Rattle.std.proofs.lemmas.Bool.Decides.{nat_tests}
 use Rattle.std.specs.Prelude.{nat_lt}
-use Rattle.rh_rts.specs.declared.command.Cookie.{Cookie}
 use Rattle.rh_sig.specs.declared.named.Named.{Named}
 use Rattle.rh_passages.specs.Passing.{count_of}
 use Rattle.rh_passages.proofs.Messages.{count_append}
@@ -14,7 +13,6 @@ use Rattle.rh_server_counts.specs.Counting.{is_conn_b2, is_in_r1_a2, is_in_r2_a2
 use Rattle.rh_server_in_rows.specs.Refusing.{came_at, first_at}
 use Rattle.rh_in_channels.specs.Announcing.{AreAnnounced, IsAnnouncedOn, channels, passed}
 use Rattle.rh_moments.specs.Moments.{IsMoment, Moves, Numbers, ReadInTurn, server_behind}
-use Rattle.rh_server_full.specs.Numbered.{IsLate}
 use Rattle.rh_server_full.specs.Placed.{ArePlaced, IsOnLast, IsOnOlder, last_on}
 use Rattle.rh_server_full.proofs.Late.{came_grows, leg_append}
 

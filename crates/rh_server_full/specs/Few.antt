@@ -8,8 +8,7 @@ use Rattle.rh_shell.specs.Rules.{Packet}
 use Rattle.rh_shell.specs.Wires.{of_leg}
 use Rattle.rh_reading.specs.Reading.{all_read_of}
 use Rattle.rh_proxy_counts.specs.InCounts.{is_leg}
-use Rattle.rh_server_counts.specs.Counting.{in_came, is_ack_to, waits_for}
-use Rattle.rh_in_channels.specs.Announcing.{passed}
+use Rattle.rh_server_counts.specs.Counting.{is_ack_to, waits_for}
 use Rattle.rh_moments.specs.Expecting.{IsAhead}
 use Rattle.rh_moments.specs.Moments.{Moves, Numbers, in_behind, server_behind}
 use Rattle.rh_server_room.specs.Overtaking.{is_ack_for}

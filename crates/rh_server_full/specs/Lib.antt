@@ -3,3 +3,4 @@ pub mod Keeping
 pub mod Numbered
 pub mod Oldest
 pub mod Placed
+pub mod Taken

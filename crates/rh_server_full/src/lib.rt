@@ -7,9 +7,11 @@ pub mod keeping;
 pub mod numbered;
 pub mod oldest;
 pub mod placed;
+pub mod taken;
 
 pub use few::no_more_acknowledgements_wait_than_channels;
 pub use keeping::a_server_forwards_what_came;
 pub use numbered::acknowledgements_are_of_late_channels;
 pub use oldest::an_acknowledgement_waits_longest;
 pub use placed::late_channels_are_placed;
+pub use taken::few_channels_are_answered_before_an_acknowledgement;

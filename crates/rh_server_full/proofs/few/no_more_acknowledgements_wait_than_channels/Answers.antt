@@ -1,4 +1,3 @@
-use Rattle.rh_moments.specs.Moments.{IsJoined, Moves, Numbers}
 use Rattle.rh_server_full.proofs.Counting.{few_wait}
 use Rattle.rh_server_full.proofs.few.no_more_acknowledgements_wait_than_channels.Goals as goal
 

@@ -1,4 +1,3 @@
-use Rattle.rh_moments.specs.Moments.{IsJoined, Moves, Numbers}
 use Rattle.rh_server_full.proofs.Late.{are_late}
 use Rattle.rh_server_full.proofs.numbered.acknowledgements_are_of_late_channels.Goals as goal
 
