@@ -6,3 +6,4 @@ pub mod Late
 pub mod Counting
 pub mod Placing
 pub mod Answers
+pub mod Filling

@@ -28,6 +28,7 @@ use Rattle.rh_server_room.specs.Forwarding.{ForwardsAcks}
 use Rattle.rh_server_room.specs.Overtaking.{is_ack_for}
 use Rattle.rh_in_handovers.proofs.Crossing.{Crossing, crossing}
 use Rattle.rh_server_full.specs.Oldest.{HasOldest, Oldest}
+use Rattle.rh_server_full.proofs.Dues.{same_cookies}
 use Rattle.rh_server_full.proofs.Kept.{what_came}
 
 -- ---- no less was put later
@@ -83,10 +84,6 @@ put_grows test window front later =
     (all_end_moved rules acts (end_started (first window)) front) later (omega arith))
 
 -- ---- one that waits
-
-same_cookies : (a b : Cookie) → bytes_eq a.0 b.0 ≡ true → a ≡ b
-same_cookies a b e =
-    ap (λ (bytes : List ℕ). record { 0 = bytes }) ((bytes_eq-Decides a.0 b.0).0 e)
 
 pub for_itself : (received window : ℕ) (channel : Cookie)
     → is_ack_for channel (named.AckTo 0 received window channel) ≡ true

@@ -1,4 +1,5 @@
 pub mod Few
+pub mod Filled
 pub mod Keeping
 pub mod Numbered
 pub mod Oldest

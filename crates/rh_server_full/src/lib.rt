@@ -3,6 +3,7 @@
 #![tactic(auto)]
 
 pub mod few;
+pub mod filled;
 pub mod keeping;
 pub mod numbered;
 pub mod oldest;
@@ -10,6 +11,7 @@ pub mod placed;
 pub mod taken;
 
 pub use few::no_more_acknowledgements_wait_than_channels;
+pub use filled::fifteen_wait_where_there_is_no_room;
 pub use keeping::a_server_forwards_what_came;
 pub use numbered::acknowledgements_are_of_late_channels;
 pub use oldest::an_acknowledgement_waits_longest;
