@@ -19,7 +19,8 @@ least s legs few (inl h) =
 least s legs few (inr h) =
     let most = legs.legs in
     let one = legs.one in
-    let others = count_by-le-length (has_ack_elsewhere s) s.outs in omega (arith, h, most, one, others, few)
+    let others = count_by-le-length (has_ack_elsewhere s) s.outs in
+    omega (arith, h, most, one, others, few)
 
 pub fills_first : (s : Server) → ForwardsAcks s → AcksHaveLegs s → length s.outs ≤ 4
     → FillsFirst s

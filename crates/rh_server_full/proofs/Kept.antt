@@ -423,7 +423,8 @@ module _ (channel : Cookie) (most : ℕ) where
       (λ f. by_test Counts (to == 3)
       (forwards_to s (named.AckTo 3 received window cookie) (channel_leg cookie s.outs))
       (unexpected s)
-      (λ g. told 3 (forwards_to s (named.AckTo 3 received window cookie) (channel_leg cookie s.outs))
+      (λ g. told 3 (forwards_to s (named.AckTo 3 received window cookie)
+      (channel_leg cookie s.outs))
       (same_number to 3 g) (by (channel_leg cookie s.outs))) (λ g. h)))
     where
       Counts : Done → Type 0

@@ -56,8 +56,10 @@ module _ (test : Named → Bool) (least : ℕ) where
   steps = record {
     up = λ s leg cookie came put h. h;
     head = λ s leg text came put h. h;
-    pdu = λ s leg count bytes came put h. row_keeps (leg, Pdu bytes) came put (rules.pdu s leg count bytes) h;
-    packet = λ s leg count m came put h. row_keeps (leg, Packet m) came put (rules.packet s leg count m) h;
+    pdu = λ s leg count bytes came put h.
+        row_keeps (leg, Pdu bytes) came put (rules.pdu s leg count bytes) h;
+    packet = λ s leg count m came put h.
+        row_keeps (leg, Packet m) came put (rules.packet s leg count m) h;
     put = λ s leg came put h. put_keeps leg came put (rules.put s leg) h;
     drawn = λ s leg came put h. h;
     mark = λ s leg came put h. h;
@@ -286,7 +288,8 @@ module _ (window : ℕ) (moves : List EndMove)
 
   some_now : 1 ≤ held_at (all_end_moved rules acts start moves)
   some_now =
-      let one = some_waits dues some in some_then put_now dues now one.0 one.1 (held_now one.0 one.1)
+      let one = some_waits dues some in
+      some_then put_now dues now one.0 one.1 (held_now one.0 one.1)
 
   at : Crossing rules acts held_at 1 start moves
   at = crossing rules acts held_at 1 start moves none_first some_now

@@ -1,4 +1,5 @@
--- which acknowledgement to the client waits longest at a server, and what came since (MS-RPCH 3.2.1)
+-- which acknowledgement to the client waits longest at a server, and what came since (MS-RPCH
+-- 3.2.1)
 use Rattle.std.specs.Prelude.{ℕ, ◌≡◌, ◌<◌, ◌≤◌, ◌++◌, List, [], ◌∷◌}
 use Rattle.rh_rts.specs.declared.command.Cookie.{Cookie}
 use Rattle.rh_shell.specs.Moves.{EndMove}
