@@ -1,0 +1,45 @@
+-- no more acknowledgements to the client wait at a server than there are channels of which they can
+-- be (MS-RPCH 3.2.1)
+use Rattle.std.specs.Prelude.{ℕ, suc, ◌≡◌, ◌⊎◌, ◌≤◌, List, [], ◌∷◌, length}
+use Rattle.rh_rts.specs.declared.command.Cookie.{Cookie}
+use Rattle.rh_sig.specs.declared.named.Named.TheVariants.{AckTo}
+use Rattle.rh_shell.specs.Moves.{EndMove}
+use Rattle.rh_shell.specs.Rules.{Packet}
+use Rattle.rh_shell.specs.Wires.{of_leg}
+use Rattle.rh_reading.specs.Reading.{all_read_of}
+use Rattle.rh_proxy_counts.specs.InCounts.{is_leg}
+use Rattle.rh_server_counts.specs.Counting.{is_ack_to, waits_for}
+use Rattle.rh_moments.specs.Expecting.{IsAhead}
+use Rattle.rh_moments.specs.Moments.{Moves, Numbers, in_behind, server_behind}
+use Rattle.rh_server_room.specs.Overtaking.{is_ack_for}
+use Rattle.rh_server_full.specs.Numbered.{IsLate}
+use Rattle.rh_server_full.specs.Oldest.{Oldest}
+
+abbrev pub IsAmong : ℕ → List ℕ → Type 0
+IsAmong n [] = ⊥
+IsAmong n (first ∷ others) = (n ≡ first) ⊎ IsAmong n others
+
+-- where the late channels are among these: no more wait, and one less where one of another channel
+-- stands next on an is leg
+pub record NoMoreWait (numbers : Numbers) (reader : ℕ → ℕ) (moves : Moves) (front : List EndMove)
+    : Type 0 where
+  pub waiting : (channels : List ℕ)
+      → ((channel : Cookie) (late : IsLate numbers reader moves front channel)
+      → IsAmong late.number channels)
+      → waits_for (is_ack_to 0) (server_behind numbers moves).passage.role ≤ length channels
+  pub next : (channels : List ℕ)
+      → ((channel : Cookie) (late : IsLate numbers reader moves front channel)
+      → IsAmong late.number channels)
+      → (n received window : ℕ) (channel : Cookie)
+      → IsAhead (server_behind numbers moves).passage (is_leg n)
+      (all_read_of (of_leg (is_leg n) (in_behind numbers moves n).put))
+      (Packet (AckTo 0 received window channel))
+      → waits_for (is_ack_for channel) (server_behind numbers moves).passage.role ≡ 0
+      → suc (waits_for (is_ack_to 0) (server_behind numbers moves).passage.role)
+      ≤ length channels
+
+-- by the move behind which the one waited that waits longest
+abbrev pub FewWait : Numbers → (ℕ → ℕ) → Moves → Type 0
+FewWait numbers reader moves =
+    (oldest : Oldest numbers.window moves.server)
+    → NoMoreWait numbers reader moves oldest.front

@@ -1,0 +1,23 @@
+-- how many acknowledgements to the client wait where a server has no room for one more (MS-RPCH
+-- 3.2.1; the room is this profile's)
+use Rattle.std.specs.Prelude.{ℕ, ◌≡◌, ◌≤◌, Err}
+use Rattle.rh_rts.specs.declared.command.Cookie.{Cookie}
+use Rattle.rh_sig.specs.declared.named.Named.TheVariants.{AckTo}
+use Rattle.rh_line.specs.declared.leg.Leg.{Leg}
+use Rattle.rh_shell.specs.declared.answers.Count.{Count}
+use Rattle.rh_shell.specs.declared.answers.Refused.TheVariants as refused
+use Rattle.rh_server.specs.Servers.{rules}
+use Rattle.rh_server.specs.States.{Server}
+use Rattle.rh_server_counts.specs.Counting.{is_ack_to, waits_for}
+use Rattle.rh_server_room.specs.Forwarding.{is_ack_at}
+
+-- none of its channel waits, and fifteen for the client do
+pub record IsFilled (s : Server) (to : ℕ) (channel : Cookie) : Type 0 where
+  pub none : waits_for (is_ack_at to channel) s ≡ 0
+  pub least : 15 ≤ waits_for (is_ack_to 0) s
+
+abbrev pub FillsFirst : Server → Type 0
+FillsFirst s =
+    (leg : Leg) (count : Count) (to received window : ℕ) (channel : Cookie) (at : Leg)
+    → (rules.packet s leg count (AckTo to received window channel)).1 ≡ Err (refused.Full at)
+    → IsFilled s to channel

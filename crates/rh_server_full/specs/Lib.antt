@@ -1,0 +1,7 @@
+pub mod Few
+pub mod Filled
+pub mod Keeping
+pub mod Numbered
+pub mod Oldest
+pub mod Placed
+pub mod Taken

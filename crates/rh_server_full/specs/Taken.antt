@@ -1,0 +1,28 @@
+-- how many IN channels a server answers while an acknowledgement waits (MS-RPCH 3.2.1)
+use Rattle.std.specs.Prelude.{ℕ, ◌+◌, ◌*◌, ◌≤◌, ◌++◌, ◌∷◌, [], List, length}
+use Rattle.rh_shell.specs.Moves.{EndMove, Passage}
+use Rattle.rh_server.specs.States.{Server}
+use Rattle.rh_server_counts.specs.Counting.{is_in_r1_a3, is_in_r2_a3, waits_for}
+use Rattle.rh_server_in_rows.specs.Handovers.{passed}
+use Rattle.rh_rounds.specs.Rounds.{taken_in}
+use Rattle.rh_server_room.specs.Overtaking.{AreLong}
+use Rattle.rh_server_full.specs.Oldest.{Oldest}
+
+-- IN_R1/A3 and IN_R2/A3 that are due
+abbrev pub due_in : Server → ℕ
+due_in s = waits_for is_in_r1_a3 s + waits_for is_in_r2_a3 s
+
+-- behind the move behind which the one waited that waits longest
+abbrev pub behind_oldest : (window : ℕ) (moves : List EndMove) → Oldest window moves
+    → Passage Server
+behind_oldest window moves oldest = passed window (oldest.front ++ oldest.move ∷ [])
+
+-- no more are put than the one that was due there, and eleven
+abbrev pub FewAreTaken : ℕ → List EndMove → Type 0
+FewAreTaken window moves =
+    (oldest : Oldest window moves) (least : ℕ) → AreLong least (passed window moves).came
+    → 56 * length (behind_oldest window moves oldest).role.waiting.due + 312 ≤ least
+    → due_in (behind_oldest window moves oldest).role ≤ 1
+    → taken_in (passed window moves)
+    ≤ taken_in (behind_oldest window moves oldest)
+    + due_in (behind_oldest window moves oldest).role + 11

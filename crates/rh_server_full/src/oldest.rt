@@ -1,0 +1,17 @@
+//! Which acknowledgement waits longest at a server. This function does nothing: its contract is the
+//! law.
+
+ghost use Rattle.std.specs.Prelude.{List, ℕ};
+ghost use Rattle.rh_shell.specs.Moves.{EndMove};
+ghost use Rattle.rh_server_full.specs.Oldest.{HasOldest};
+
+use rh_server_room::what_a_server_forwards;
+
+/// Whatever moves a server makes, allowed or not: where acknowledgements to the client wait, there
+/// is a move behind which one waited that waits still and was not put since; and of each channel
+/// for which one waits, one came on an is leg by this move or behind it (MS-RPCH 3.2.1).
+pub fn an_acknowledgement_waits_longest()
+    ensures { (window : ℕ) (moves : List EndMove) → HasOldest window moves }
+{
+    what_a_server_forwards();
+}
