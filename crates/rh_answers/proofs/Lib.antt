@@ -1,13 +1,13 @@
-mod Views
-mod Replacements
-mod Rows
-mod Puts
-mod Moves
-mod Since
-mod Until
-mod Allowed
-mod Before
-mod OnTheWay
-mod Sums
-mod Following
-mod OneMore
+pub mod Views
+pub mod Replacements
+pub mod Rows
+pub mod Puts
+pub mod Moves
+pub mod Since
+pub mod Until
+pub mod Allowed
+pub mod Before
+pub mod OnTheWay
+pub mod Sums
+pub mod Following
+pub mod OneMore

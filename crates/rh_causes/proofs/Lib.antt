@@ -1,21 +1,21 @@
-mod Sorts
-mod HeardBytes
-mod FirstSilent
-mod LegChanges
-mod Places
-mod Touches
-mod NodeMoments
-mod OnceUp
-mod NoHeads
-mod Refusing
-mod MoveRoles
-mod ServerLegs
-mod InProxyLegs
+pub mod Sorts
+pub mod HeardBytes
+pub mod FirstSilent
+pub mod LegChanges
+pub mod Places
+pub mod Touches
+pub mod NodeMoments
+pub mod OnceUp
+pub mod NoHeads
+pub mod Refusing
+pub mod MoveRoles
+pub mod ServerLegs
+pub mod InProxyLegs
 pub mod OutProxyLegs
-mod ClientSteps
-mod ClientLegs
-mod ClientTimes
-mod ClosedBy
-mod RoleRefusals
-mod SilentLegs
-mod StaysClosed
+pub mod ClientSteps
+pub mod ClientLegs
+pub mod ClientTimes
+pub mod ClosedBy
+pub mod RoleRefusals
+pub mod SilentLegs
+pub mod StaysClosed

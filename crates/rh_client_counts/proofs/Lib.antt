@@ -1,16 +1,16 @@
 pub mod Allowed
 pub mod Standing
-mod Views
-mod Replacements
-mod Rows
-mod Puts
-mod Moves
+pub mod Views
+pub mod Replacements
+pub mod Rows
+pub mod Puts
+pub mod Moves
 pub mod InCounts
 pub mod OutCounts
 pub mod Wishes
 pub mod Opens
 pub mod Behind
-mod Began
+pub mod Began
 pub mod OneCookie
-mod InNames
-mod OutNames
+pub mod InNames
+pub mod OutNames

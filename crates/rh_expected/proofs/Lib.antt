@@ -5,5 +5,5 @@ pub mod Zeros
 pub mod Recorded
 pub mod AtClients
 pub mod OwnClient
-mod IsLegs
-mod EachNode
+pub mod IsLegs
+pub mod EachNode

@@ -1,12 +1,12 @@
-mod WaitedHeads
+pub mod WaitedHeads
 pub mod HeardWell
-mod FirstHeads
-mod BadHeads
-mod AckRows
-mod ClientRows
-mod ServerRows
-mod InRows
-mod OutRows
+pub mod FirstHeads
+pub mod BadHeads
+pub mod AckRows
+pub mod ClientRows
+pub mod ServerRows
+pub mod InRows
+pub mod OutRows
 pub mod Drawn
 pub mod Fed
 pub mod Closing

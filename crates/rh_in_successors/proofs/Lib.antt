@@ -1,11 +1,11 @@
-mod Logs
-mod Sums
-mod Ups
-mod Streams
-mod Begins
-mod Numbered
-mod Opened
-mod Connections
-mod Refused
-mod Moment
-mod Expects
+pub mod Logs
+pub mod Sums
+pub mod Ups
+pub mod Streams
+pub mod Begins
+pub mod Numbered
+pub mod Opened
+pub mod Connections
+pub mod Refused
+pub mod Moment
+pub mod Expects

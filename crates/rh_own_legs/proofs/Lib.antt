@@ -1,5 +1,5 @@
-mod Ends
-mod LegKinds
-mod InLegs
-mod Amiss
-mod Fed
+pub mod Ends
+pub mod LegKinds
+pub mod InLegs
+pub mod Amiss
+pub mod Fed

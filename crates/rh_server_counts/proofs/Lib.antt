@@ -1,22 +1,22 @@
-mod Logs
-mod Dues
-mod Adding
-mod Packets
-mod Stages
-mod OutRows
-mod Replacing
-mod InLegs
-mod Openings
-mod Announcing
-mod Announced
-mod LegsKept
-mod Connecting
-mod OpeningRows
-mod Rows
-mod Puts
-mod Steps
-mod EndMarks
-mod BeforeC1
-mod BeforeC1Open
-mod BeforeC1Rows
-mod BeforeC1Steps
+pub mod Logs
+pub mod Dues
+pub mod Adding
+pub mod Packets
+pub mod Stages
+pub mod OutRows
+pub mod Replacing
+pub mod InLegs
+pub mod Openings
+pub mod Announcing
+pub mod Announced
+pub mod LegsKept
+pub mod Connecting
+pub mod OpeningRows
+pub mod Rows
+pub mod Puts
+pub mod Steps
+pub mod EndMarks
+pub mod BeforeC1
+pub mod BeforeC1Open
+pub mod BeforeC1Rows
+pub mod BeforeC1Steps

@@ -1,20 +1,20 @@
-mod InProxies
+pub mod InProxies
 pub mod Logs
-mod Cookies
-mod Refused
-mod Opened
-mod Moment
+pub mod Cookies
+pub mod Refused
+pub mod Opened
+pub mod Moment
 pub mod FirstIn
-mod Connections
-mod Ahead
-mod InOrder
+pub mod Connections
+pub mod Ahead
+pub mod InOrder
 pub mod Fronts
-mod Confirms
-mod Confirmed
+pub mod Confirms
+pub mod Confirmed
 pub mod Streams
-mod Ended
-mod OpenFirst
-mod NoCookie
-mod InAhead
-mod NoPing
-mod InTurn
+pub mod Ended
+pub mod OpenFirst
+pub mod NoCookie
+pub mod InAhead
+pub mod NoPing
+pub mod InTurn

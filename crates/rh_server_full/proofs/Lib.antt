@@ -1,7 +1,7 @@
-mod Dues
+pub mod Dues
 pub mod Kept
 pub mod Longest
-mod Streams
+pub mod Streams
 pub mod Late
 pub mod Counting
 pub mod Placing

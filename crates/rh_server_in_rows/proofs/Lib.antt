@@ -1,21 +1,21 @@
-mod Numbered
-mod Places
-mod Tallies
-mod Kept
-mod Rows
-mod Takes
-mod Puts
-mod Steps
-mod Numbers
-mod CameUp
-mod Tests
-mod Orders
-mod Why
-mod Standing
-mod Stays
-mod Opened
-mod Replaced
-mod Handed
-mod Totals
-mod Follows
-mod OutLegs
+pub mod Numbered
+pub mod Places
+pub mod Tallies
+pub mod Kept
+pub mod Rows
+pub mod Takes
+pub mod Puts
+pub mod Steps
+pub mod Numbers
+pub mod CameUp
+pub mod Tests
+pub mod Orders
+pub mod Why
+pub mod Standing
+pub mod Stays
+pub mod Opened
+pub mod Replaced
+pub mod Handed
+pub mod Totals
+pub mod Follows
+pub mod OutLegs

@@ -1,18 +1,18 @@
-mod Channels
-mod Dues
-mod Rows
-mod Puts
-mod Kept
-mod Ahead
-mod Legs
-mod Meters
-mod Counted
-mod Serving
-mod ServerPuts
-mod Overtaken
-mod AckedLegs
-mod Apart
-mod Forwarded
-mod Owners
-mod KeptLegs
-mod OwnCounts
+pub mod Channels
+pub mod Dues
+pub mod Rows
+pub mod Puts
+pub mod Kept
+pub mod Ahead
+pub mod Legs
+pub mod Meters
+pub mod Counted
+pub mod Serving
+pub mod ServerPuts
+pub mod Overtaken
+pub mod AckedLegs
+pub mod Apart
+pub mod Forwarded
+pub mod Owners
+pub mod KeptLegs
+pub mod OwnCounts

@@ -1,15 +1,15 @@
-mod Tests
-mod Places
-mod Ascending
-mod Allowed
-mod Told
-mod Steps
-mod Begun
-mod BegunSteps
-mod FirstLeg
-mod Writing
-mod WritingSteps
-mod Openings
-mod OutRows
-mod Mismatches
-mod Packets
+pub mod Tests
+pub mod Places
+pub mod Ascending
+pub mod Allowed
+pub mod Told
+pub mod Steps
+pub mod Begun
+pub mod BegunSteps
+pub mod FirstLeg
+pub mod Writing
+pub mod WritingSteps
+pub mod Openings
+pub mod OutRows
+pub mod Mismatches
+pub mod Packets
