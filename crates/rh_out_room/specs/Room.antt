@@ -36,17 +36,17 @@ abbrev pub AreAcked : List Message → List Cookie → Type 0
 AreAcked messages cookies =
     AllByRecursion (λ (cookie : Cookie). HasOne (AcksFor cookie) messages) cookies
 
--- at most five are
+-- at most ten are
 abbrev pub AcksFew : List Message → Type 0
 AcksFew messages =
     (cookies : List Cookie) → AreDifferent cookies → AreAcked messages cookies
-    → length cookies ≤ 5
+    → length cookies ≤ 10
 
--- so it is in each stretch without IN_R1/A3 and IN_R2/A3
+-- so it is in each stretch with one IN_R1/A3 or IN_R2/A3 at most
 abbrev pub AcksFewBetween : List Message → Type 0
 AcksFewBetween messages =
     (before stretch behind : List Message) → messages ≡ before ++ stretch ++ behind
-    → count_of is_in_a3 stretch ≡ 0 → AcksFew stretch
+    → count_of is_in_a3 stretch ≤ 1 → AcksFew stretch
 
 -- ---- room
 

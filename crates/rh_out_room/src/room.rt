@@ -25,8 +25,8 @@ pub fn what_goes_round_passes_an_out_proxy_one_by_one()
     a_server_opens_once();
 }
 
-/// Where the moves of the roles are joined by legs, and in each stretch without IN_R1/A3 and
-/// IN_R2/A3 of what the server put on the leg of an out proxy at most five channels are
+/// Where the moves of the roles are joined by legs, and in each stretch with one IN_R1/A3 or
+/// IN_R2/A3 at most of what the server put on the leg of an out proxy at most ten channels are
 /// acknowledged to the client: no more than fourteen packets wait at that proxy to be forwarded,
 /// and it refuses no packet for want of room (MS-RPCH 2.2.4; the room is this profile's).
 pub fn an_out_proxy_has_room_to_forward()

@@ -1,0 +1,48 @@
+//! What a server puts for an out proxy, at a moment of a virtual connection. These functions call
+//! the laws that they stand on: their contracts are the laws.
+
+ghost use Rattle.std.specs.Prelude.{ℕ};
+ghost use Rattle.rh_shell.specs.Wires.{of_leg};
+ghost use Rattle.rh_proxy_counts.specs.OutCounts.{os_leg};
+ghost use Rattle.rh_moments.specs.Moments.{IsMoment, Moves, Numbers, out_behind, server_behind};
+ghost use Rattle.rh_out_room.specs.Room.{AcksFewBetween, HasRoom};
+ghost use Rattle.rh_outproxy_expects.specs.Early.{HaveLifetimes};
+
+use rh_answers::one_answer_follows_a_wish;
+use rh_late_channels::{few_channels_are_late, one_answer_is_due};
+use rh_out_room::an_out_proxy_has_room_to_forward;
+use rh_server_full::{
+    a_server_forwards_what_came, acknowledgements_are_of_late_channels,
+    an_acknowledgement_waits_longest, few_packets_wait_at_a_server,
+};
+use rh_server_wishes::few_answers_pass_an_acknowledgement;
+
+/// At each moment of a virtual connection whose OUT channels have lifetimes in their range: in each
+/// part of what the server put on an os leg in which one IN_R1/A3 or IN_R2/A3 stands at most, few
+/// IN channels are acknowledged to the client (MS-RPCH 3.2.1; the replacement of channels is this
+/// profile's).
+pub fn a_server_acknowledges_few_between_answers()
+    ensures { (numbers : Numbers) (reader : ℕ → ℕ) (moves : Moves)
+        → IsMoment numbers reader moves → HaveLifetimes numbers → (n : ℕ)
+        → AcksFewBetween (of_leg (os_leg n) (server_behind numbers moves).passage.put) }
+{
+    a_server_forwards_what_came();
+    acknowledgements_are_of_late_channels();
+    an_acknowledgement_waits_longest();
+    few_answers_pass_an_acknowledgement();
+    few_channels_are_late();
+    few_packets_wait_at_a_server();
+    one_answer_follows_a_wish();
+    one_answer_is_due();
+}
+
+/// There each out proxy has room for what comes from the server (MS-RPCH 2.2.4; the room is this
+/// profile's).
+pub fn an_out_proxy_has_room()
+    ensures { (numbers : Numbers) (reader : ℕ → ℕ) (moves : Moves)
+        → IsMoment numbers reader moves → HaveLifetimes numbers → (n : ℕ)
+        → HasRoom (out_behind numbers moves n) }
+{
+    a_server_acknowledges_few_between_answers();
+    an_out_proxy_has_room_to_forward();
+}

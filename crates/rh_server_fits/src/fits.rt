@@ -1,0 +1,31 @@
+//! A server at a moment of a virtual connection. This function calls the laws that it stands on:
+//! its contract is the law.
+
+ghost use Rattle.std.specs.Prelude.{ℕ};
+ghost use Rattle.rh_moments.specs.Moments.{IsMoment, Moves, Numbers};
+ghost use Rattle.rh_outproxy_expects.specs.Early.{HaveLifetimes};
+ghost use Rattle.rh_server_fits.specs.Fits.{HasRoom};
+
+use rh_late_channels::{few_channels_are_late, one_answer_is_due};
+use rh_server_full::{
+    acknowledgements_are_of_late_channels, an_acknowledgement_waits_longest,
+    few_channels_are_answered_before_an_acknowledgement, fifteen_wait_where_there_is_no_room,
+    few_packets_wait_at_a_server, no_more_acknowledgements_wait_than_channels,
+};
+
+/// At each moment of a virtual connection whose OUT channels have lifetimes in their range: no
+/// packet that stands next on an is leg is refused at the server for want of room. At most fifteen
+/// acknowledgements to the client wait there (MS-RPCH 3.2.1; the room is this profile's).
+pub fn a_server_has_room()
+    ensures { (numbers : Numbers) (reader : ℕ → ℕ) (moves : Moves)
+        → IsMoment numbers reader moves → HaveLifetimes numbers → HasRoom numbers moves }
+{
+    acknowledgements_are_of_late_channels();
+    an_acknowledgement_waits_longest();
+    few_channels_are_answered_before_an_acknowledgement();
+    few_channels_are_late();
+    few_packets_wait_at_a_server();
+    fifteen_wait_where_there_is_no_room();
+    no_more_acknowledgements_wait_than_channels();
+    one_answer_is_due();
+}
