@@ -7,3 +7,6 @@ pub mod Counting
 pub mod Placing
 pub mod Answers
 pub mod Filling
+pub mod Adding
+pub mod Lengths
+pub mod Quiet
