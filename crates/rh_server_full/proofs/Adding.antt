@@ -1,5 +1,5 @@
 -- what holds of the packets that wait at a server, where its own become due and others go
-use Rattle.std.proofs.Common.{◌≡◌, ℕ, ◌+◌, ◌==◌, ◌&&◌, ◌||◌, Bool, true, false, nat_lt, not, if◌then◌else◌, Some, None, Ok, Err, List, refl, sym, subst, rules}
+use Rattle.std.proofs.Common.{◌≡◌, ℕ, ◌+◌, ◌≤◌, ◌==◌, ◌&&◌, ◌||◌, Bool, true, false, nat_lt, not, if◌then◌else◌, Some, None, Ok, Err, List, refl, sym, subst, rules, arith}
 use Rattle.std.proofs.lemmas.Bool.{and_parts, not-true, or_parts}
 use Rattle.std.specs.Prelude.{IfSome, find, slice_get}
 use Rattle.std.specs.declared.option.Option.{Option}
@@ -42,6 +42,8 @@ use Rattle.rh_server.specs.OutReplacement.{answered_by, answered_on, asks, confi
 use Rattle.rh_server.specs.Ending.{completed, drawn_by, give, in_is_drawn, is_complete, lost_in, mark_by, settled, with_ack_dropped, without_ack_of}
 use Rattle.rh_server.specs.Putting.{Pick, or_else, counts, counts_at, gate, gate_at, is_end_due, may_end_at, may_go_at, next_out, out_greeting_at, pdu_by, put_by as put_by_kind, put_end, put_in, put_open, put_out_at, put_out_greeting, put_pdu, put_pdu_or_end, put_waiting, settled_pick, waiting_at, waiting_by, was_put}
 use Rattle.rh_server.specs.Servers.{on_is, on_os, pdu}
+use Rattle.rh_server_counts.specs.Counting.{waiting_of}
+use Rattle.rh_server_counts.proofs.Dues.{Went, first_goes}
 
 -- ---- what leaves them alone
 
@@ -77,14 +79,14 @@ pdu_same s leg count bytes = search rules
 pub give_same : (s : Server) (bytes : List ℕ) → (give s bytes).0.waiting ≡ s.waiting
 give_same s bytes = search rules
 
-counts_same : (s : Server) (place len : ℕ) → (counts s place len).waiting ≡ s.waiting
+pub counts_same : (s : Server) (place len : ℕ) → (counts s place len).waiting ≡ s.waiting
 counts_same s place len = by (slice_get s.outs place)
   where
     by : (o : Option OutLeg) → (counts_at s place len o).waiting ≡ s.waiting
     by None = refl
     by (Some leg) = refl
 
-in_same : (s : Server) (n : ℕ)
+pub in_same : (s : Server) (n : ℕ)
     → IfSome (put_in s n) (λ (one : Server × Message). one.0.waiting ≡ s.waiting)
 in_same s n = search rules
 
@@ -101,6 +103,16 @@ unwished s e =
 
 third_not : (a b c : Bool) → a && (b && not c) ≡ true → c ≡ false
 third_not a b c e = not-true c (and_parts b (not c) (and_parts a (b && not c) e).1).1
+
+-- one is gone, or none
+pub fewer : (test : Named → Bool) (may_go : Due → Bool) (dues : List Due)
+    → waiting_of test (without_first may_go dues) ≤ waiting_of test dues
+fewer test may_go dues = by (find may_go dues) (first_goes test may_go dues)
+  where
+    by : (o : Option Due) → Went test dues (without_first may_go dues) o
+        → waiting_of test (without_first may_go dues) ≤ waiting_of test dues
+    by None same = omega (arith, same)
+    by (Some due) less = omega (arith, less)
 
 -- a packet of the server's own becomes due where none of its kind waits, and one may go
 pub record Keeps (Right : Waiting → Type 0) : Type 0 where

@@ -3,7 +3,6 @@ use Rattle.std.proofs.Common.{◌≡◌, ℕ, ◌+◌, ◌<◌, ◌≤◌, ◌==
 use Rattle.std.proofs.lemmas.Bool.{false≢true}
 use Rattle.std.proofs.lemmas.Bool.Decides.{nat_tests}
 use Rattle.std.proofs.lemmas.List.Sums.{sum_by-cons, sum_by_push}
-use Rattle.std.specs.Prelude.{find}
 use Rattle.std.specs.List.{AllByRecursion, list_any}
 use Rattle.std.specs.declared.option.Option.{Option}
 use Rattle.rh_rts.specs.declared.command.Cookie.{Cookie}
@@ -37,10 +36,10 @@ use Rattle.rh_server.specs.Servers.{acts, first, on_is, on_os, packet_by, pdu}
 use Rattle.rh_server.specs.Servers.{rules as server_rules}
 use Rattle.rh_shell.specs.declared.answers.Refused.TheVariants as refused
 use Rattle.rh_server_counts.specs.Counting.{waiting_of}
-use Rattle.rh_server_counts.proofs.Dues.{Apart, HasOrigin, HaveOrigins, IsOfKind, Went, adds_forwarded, alone_none, first_goes, none_waits, others_have, push_waits}
+use Rattle.rh_server_counts.proofs.Dues.{Apart, HasOrigin, HaveOrigins, IsOfKind, adds_forwarded, alone_none, none_waits, others_have, push_waits}
 use Rattle.rh_server_in_rows.specs.Handovers.{passed}
 use Rattle.rh_server_room.proofs.Apart.{one_more}
-use Rattle.rh_server_full.proofs.Adding.{Goes, Keeps, all_go, drawn_serves, give_same, is_row, mark_serves, os_row, pdu_same, recycle_serves, same_serves, take_serves, up_same}
+use Rattle.rh_server_full.proofs.Adding.{Goes, Keeps, all_go, drawn_serves, fewer, give_same, is_row, mark_serves, os_row, pdu_same, recycle_serves, same_serves, take_serves, up_same}
 
 -- ---- kinds of the server's own packets
 
@@ -117,15 +116,6 @@ joins w kind packet is none h = record {
         let one = at_most_one (is_kind other packet) in omega (arith, more, before, one)
 
 -- ---- one less
-
-fewer : (test : Named → Bool) (may_go : Due → Bool) (dues : List Due)
-    → waiting_of test (without_first may_go dues) ≤ waiting_of test dues
-fewer test may_go dues = by (find may_go dues) (first_goes test may_go dues)
-  where
-    by : (o : Option Due) → Went test dues (without_first may_go dues) o
-        → waiting_of test (without_first may_go dues) ≤ waiting_of test dues
-    by None same = omega (arith, same)
-    by (Some due) less = omega (arith, less)
 
 count_less : (origin : Origin) (may_go : Due → Bool) (dues : List Due)
     → count origin (without_first may_go dues) ≤ count origin dues

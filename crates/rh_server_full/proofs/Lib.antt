@@ -1,4 +1,3 @@
-pub mod Dues
 pub mod Kept
 pub mod Longest
 pub mod Streams

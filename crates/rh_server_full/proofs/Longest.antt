@@ -29,7 +29,7 @@ use Rattle.rh_server_room.specs.Overtaking.{is_ack_for}
 use Rattle.rh_in_handovers.proofs.Crossing.{Crossing, crossing}
 use Rattle.rh_rounds.specs.Rounds.{taken_in}
 use Rattle.rh_server_full.specs.Oldest.{HasOldest, Oldest, due_in}
-use Rattle.rh_server_full.proofs.Dues.{same_cookies}
+use Rattle.rh_server_room.proofs.Ahead.{same_cookies}
 use Rattle.rh_server_full.proofs.Kept.{what_came}
 use Rattle.rh_server_full.proofs.Quiet.{quiet_by}
 
