@@ -1,5 +1,5 @@
 -- how many acknowledgements to the client wait where a server has no room for one more
-use Rattle.std.proofs.Common.{◌≡◌, ◌⊎◌, inl, inr, ℕ, zero, suc, ◌+◌, ◌<◌, ◌≤◌, ◌==◌, ◌&&◌, Bool, true, false, nat_lt, not, if◌then◌else◌, List, [], ◌∷◌, length, Some, None, Ok, Err, refl, sym, ap, ◌∙◌, subst, arith}
+use Rattle.std.proofs.Common.{◌≡◌, ◌⊎◌, inl, inr, ℕ, zero, suc, ◌+◌, ◌<◌, ◌≤◌, ◌==◌, ◌&&◌, Bool, true, false, nat_lt, not, if◌then◌else◌, List, [], ◌∷◌, length, Some, None, Err, refl, sym, ap, ◌∙◌, subst, arith}
 use Rattle.std.proofs.lemmas.Bool.Decides.{nat_tests}
 use Rattle.std.proofs.lemmas.List.Quantifiers.{position-Some}
 use Rattle.std.proofs.lemmas.List.Sums.{sum_by-cons}
@@ -28,7 +28,7 @@ use Rattle.rh_server.specs.Servers.{packet_by, rules}
 use Rattle.rh_server.specs.States.{Server, is_some, out_at}
 use Rattle.rh_server_counts.specs.Counting.{is_ack_to, waiting_of, waits_for}
 use Rattle.rh_server_room.specs.Forwarding.{ForwardsAcks, is_ack_at}
-use Rattle.rh_server_room.specs.Owning.{AcksHaveLegs, on_writing}
+use Rattle.rh_server_room.specs.Owning.{AcksHaveLegs}
 use Rattle.rh_server_room.proofs.Ahead.{same_cookies}
 use Rattle.rh_server_room.proofs.Legs.{Above, Sorted, each_got, some_same}
 use Rattle.rh_server_full.specs.Filled.{FillsFirst}

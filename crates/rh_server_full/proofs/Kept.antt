@@ -7,7 +7,6 @@ use Rattle.rh_rts.specs.declared.command.Cookie.{Cookie}
 use Rattle.rh_sig.specs.declared.named.Named.{Named}
 use Rattle.rh_sig.specs.declared.named.Named.TheVariants as named
 use Rattle.rh_line.specs.Queue.{front_length}
-use Rattle.rh_line.specs.declared.leg.Leg.{Leg}
 use Rattle.rh_line.specs.declared.leg.LegKind.{LegKind}
 use Rattle.rh_line.specs.declared.leg.LegKind.TheVariants.{ClientOut, OutServer, ClientIn, InServer}
 use Rattle.rh_order.proofs.ByNumber.{by_test, same_number}
@@ -28,7 +27,7 @@ use Rattle.rh_server.specs.declared.state.OutLeg.{OutLeg}
 use Rattle.rh_server.specs.OutLines as lines
 use Rattle.rh_server.specs.OutLines.{kind_of, lets}
 use Rattle.rh_server.specs.States.{Server, is_due, is_open, out_place}
-use Rattle.rh_server.specs.Opening.{Done, took, refuse, unexpected, is_first, up}
+use Rattle.rh_server.specs.Opening.{Done, refuse, unexpected, is_first, up}
 use Rattle.rh_server.specs.Acknowledging.{channel_leg, forward_by, forwards, forwards_to, forwards_writing, on_ack_to, out_server}
 use Rattle.rh_server.specs.InReplacement.{take}
 use Rattle.rh_server.specs.OutReplacement.{recycle}

@@ -12,7 +12,7 @@ use Rattle.rh_line.specs.declared.leg.Leg.{Leg}
 use Rattle.rh_line.specs.declared.leg.LegKind.{LegKind}
 use Rattle.rh_line.specs.declared.leg.LegKind.TheVariants.{ClientOut, OutServer, ClientIn, InServer}
 use Rattle.rh_line.proofs.Queues.{each_push}
-use Rattle.rh_order.proofs.ByNumber.{by_test, same_number}
+use Rattle.rh_order.proofs.ByNumber.{by_test}
 use Rattle.rh_passages.proofs.Logs.{ActsKeep, PutKeeps, RowKeeps, StepsKeep, end_moves_keep}
 use Rattle.rh_passages.proofs.Messages.{all_append}
 use Rattle.rh_shell.specs.declared.answers.Count.{Count}
@@ -20,19 +20,17 @@ use Rattle.rh_shell.specs.declared.due.Due.{Due}
 use Rattle.rh_shell.specs.declared.due.Origin.{Origin}
 use Rattle.rh_shell.specs.declared.due.Origin.TheVariants.{Forwarded}
 use Rattle.rh_shell.specs.Moves.{OnLeg, EndMove, end_started}
-use Rattle.rh_shell.specs.Rules.{Message, Packet, Pdu}
+use Rattle.rh_shell.specs.Rules.{Packet, Pdu}
 use Rattle.rh_shell.specs.Waiting.{Key, Waiting, added, are_one, better, count, edge_of, forwarded, is_of, key_of, merged, own, pushed, takes, to_forward, with_due, without_first}
 use Rattle.rh_server.specs.declared.out_line.Kind.{Kind}
 use Rattle.rh_server.specs.declared.out_line.Kind.TheVariants as kinds
 use Rattle.rh_server.specs.OutLines.{are_kind, is_ack, is_kind, kind_of, waits}
 use Rattle.rh_server.specs.States.{Server, is_some}
-use Rattle.rh_server.specs.Opening.{Done, is_first, refuse, took, unexpected, up}
+use Rattle.rh_server.specs.Opening.{Done, is_first, refuse, unexpected, up}
 use Rattle.rh_server.specs.Acknowledging.{channel_leg, forward_by, forwards, forwards_to, forwards_writing, on_ack_to, out_server}
-use Rattle.rh_server.specs.Ending.{drawn_by, give, mark_by}
-use Rattle.rh_server.specs.InReplacement.{take}
-use Rattle.rh_server.specs.OutReplacement.{recycle}
+use Rattle.rh_server.specs.Ending.{give}
 use Rattle.rh_server.specs.Putting.{Pick, put_by as put_by_kind}
-use Rattle.rh_server.specs.Servers.{acts, first, on_is, on_os, packet_by, pdu}
+use Rattle.rh_server.specs.Servers.{acts, first, on_is, packet_by, pdu}
 use Rattle.rh_server.specs.Servers.{rules as server_rules}
 use Rattle.rh_shell.specs.declared.answers.Refused.TheVariants as refused
 use Rattle.rh_server_counts.specs.Counting.{waiting_of}

@@ -1,5 +1,5 @@
 -- a move by which an acknowledgement to the client comes makes no answer due
-use Rattle.std.proofs.Common.{◌≡◌, ◌⊎◌, inl, inr, ℕ, ◌+◌, ◌<◌, ◌≤◌, ◌==◌, List, [], ◌∷◌, ◌++◌, Some, None, Ok, Err, refl, ap, ◌∙◌, arith}
+use Rattle.std.proofs.Common.{◌≡◌, ◌⊎◌, inl, inr, ℕ, ◌+◌, ◌<◌, ◌≤◌, List, [], ◌∷◌, ◌++◌, Some, None, Ok, Err, refl, ap, ◌∙◌, arith}
 use Rattle.std.specs.declared.option.Option.{Option}
 use Rattle.std.specs.declared.result.Result.{Result}
 use Rattle.rh_rts.specs.declared.command.Cookie.{Cookie}
@@ -18,7 +18,7 @@ use Rattle.rh_server.specs.Acknowledging.{on_ack_to}
 use Rattle.rh_server.specs.Opening.{Done}
 use Rattle.rh_server.specs.Servers.{acts, packet_by, rules}
 use Rattle.rh_server.specs.States.{Server}
-use Rattle.rh_server_counts.specs.Counting.{in_came, is_in_r1_a3, is_in_r2_a3, leg_at, often}
+use Rattle.rh_server_counts.specs.Counting.{is_in_r1_a3, is_in_r2_a3, leg_at, often}
 use Rattle.rh_server_counts.proofs.Adding.{ack_to_adds}
 use Rattle.rh_server_counts.proofs.Connecting.{ack_alone}
 use Rattle.rh_rounds.specs.Rounds.{taken_in}
