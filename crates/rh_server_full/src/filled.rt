@@ -10,8 +10,8 @@ use rh_server_in_rows::a_server_keeps_few_out_legs;
 use rh_server_room::{acknowledgements_have_their_legs, what_a_server_forwards};
 
 /// Whatever moves a server makes, allowed or not: where it refuses an acknowledgement for want of
-/// room, none of its channel to its destination waits, and fifteen to the client do, or sixteen where
-/// it is to an out proxy (MS-RPCH 3.2.1; the room is this profile's).
+/// room, none of its channel to its destination waits, and fifteen to the client do, or sixteen
+/// where it is to an out proxy (MS-RPCH 3.2.1; the room is this profile's).
 pub fn fifteen_wait_where_there_is_no_room()
     ensures { (window : ℕ) (moves : List EndMove) → FillsFirst (passed window moves).role }
 {
