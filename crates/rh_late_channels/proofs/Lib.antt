@@ -1,0 +1,4 @@
+mod Due
+mod Search
+mod Fronts
+mod Channels

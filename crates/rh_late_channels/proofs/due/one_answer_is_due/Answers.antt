@@ -1,0 +1,9 @@
+use Rattle.rh_late_channels.proofs.Due.{one_is_due}
+use Rattle.rh_late_channels.proofs.due.one_answer_is_due.Goals as goal
+
+pub returns : goal.returns
+returns c numbers reader moves moment =
+    one_is_due numbers reader moves moment
+    (λ reader moves made joined.
+    c.replacements_go_round.ensures numbers reader moves made joined)
+    (c.a_server_answers_each_in_channel_once.ensures.answers numbers.window)
