@@ -108,34 +108,33 @@ module _ (numbers : Numbers) (reader : ℕ → ℕ) (moves : Moves)
 
   -- ---- of two open legs
 
-  module _ (bound : ℕ)
-      (are_open : (leg : ℕ) → leg < bound → Stays leg → IsStillOpen numbers.window front leg)
-    where
-      at_most_two : AtMost Stays decide 2 bound
-      at_most_two n n_less n_stays m m_less m_stays k k_less k_stays =
-          by (two_open k m n (are_open k (omega (arith, n_less, m_less, k_less)) k_stays)
-          (are_open m (omega (arith, n_less, m_less)) m_stays) (are_open n n_less n_stays))
-        where
-          by : (k ≡ m) ⊎ ((m ≡ n) ⊎ (k ≡ n)) → ⊥
-          by (inl same) = absurd (omega (arith, k_less, same))
-          by (inr (inl same)) = absurd (omega (arith, m_less, same))
-          by (inr (inr same)) = absurd (omega (arith, m_less, k_less, same))
+  module _ (bound : ℕ) (are_open : (leg : ℕ) → leg < bound → Stays leg
+      → IsStillOpen numbers.window front leg) where
+    at_most_two : AtMost Stays decide 2 bound
+    at_most_two n n_less n_stays m m_less m_stays k k_less k_stays =
+        by (two_open k m n (are_open k (omega (arith, n_less, m_less, k_less)) k_stays)
+        (are_open m (omega (arith, n_less, m_less)) m_stays) (are_open n n_less n_stays))
+      where
+        by : (k ≡ m) ⊎ ((m ≡ n) ⊎ (k ≡ n)) → ⊥
+        by (inl same) = absurd (omega (arith, k_less, same))
+        by (inr (inl same)) = absurd (omega (arith, m_less, same))
+        by (inr (inr same)) = absurd (omega (arith, m_less, k_less, same))
 
-      legs : Those Stays decide 2 bound
-      legs = those_below Stays decide 2 bound at_most_two
+    legs : Those Stays decide 2 bound
+    legs = those_below Stays decide 2 bound at_most_two
 
-      abbrev those : List ℕ
-      those = two_of_each (last_on was) legs.those
+    abbrev those : List ℕ
+    those = two_of_each (last_on was) legs.those
 
-      four : length those ≤ 4
-      four =
-          let twice = twice_as_many (last_on was) legs.those in
-          let few = legs.few in omega (arith, twice, few)
+    four : length those ≤ 4
+    four =
+        let twice = twice_as_many (last_on was) legs.those in
+        let few = legs.few in omega (arith, twice, few)
 
-      covered : (leg number : ℕ) → leg < bound → Stays leg → IsAnnouncedOn was leg number
-          → last_on was leg ≤ suc number → IsAmong number those
-      covered leg number less stays h near =
-          among_two (last_on was) leg number legs.those (legs.each leg less stays) h.most near
+    covered : (leg number : ℕ) → leg < bound → Stays leg → IsAnnouncedOn was leg number
+        → last_on was leg ≤ suc number → IsAmong number those
+    covered leg number less stays h near =
+        among_two (last_on was) leg number legs.those (legs.each leg less stays) h.most near
 
   -- ---- the numbers
 

@@ -62,55 +62,56 @@ module _ (numbers : Numbers) (front later : List EndMove) where
 
 -- ---- the front
 
-module _ (numbers : Numbers) (answered : (moves : List EndMove) → AreAnswered (passed numbers moves))
+module _ (numbers : Numbers)
+    (answered : (moves : List EndMove) → AreAnswered (passed numbers moves))
     (opens : (moves : List EndMove) → OpensOnce (passed numbers moves)) (front : List EndMove)
     (ahead : (earlier later : List EndMove) → front ≡ earlier ++ later
-    → announced (passed numbers earlier) ≤ suc (taken_in (passed numbers earlier)))
-  where
-    abbrev start : EndPassage Server
-    start = end_started (first numbers.window)
+    → announced (passed numbers earlier) ≤ suc (taken_in (passed numbers earlier))) where
+  abbrev start : EndPassage Server
+  start = end_started (first numbers.window)
 
-    -- all channels but the last had been announced there, and none waited
-    pub record BeforeLast : Type 0 where
-      pub earlier : List EndMove
-      pub on : IsPrefix earlier front
-      pub but_one : suc (channels (passed numbers earlier)) ≡ channels (passed numbers front)
-      pub none_wait : in_came is_in_r1_a2 (passed numbers earlier)
-          ≤ out_put is_in_r1_a3 (passed numbers earlier)
+  -- all channels but the last had been announced there, and none waited
+  pub record BeforeLast : Type 0 where
+    pub earlier : List EndMove
+    pub on : IsPrefix earlier front
+    pub but_one : suc (channels (passed numbers earlier)) ≡ channels (passed numbers front)
+    pub none_wait : in_came is_in_r1_a2 (passed numbers earlier)
+        ≤ out_put is_in_r1_a3 (passed numbers earlier)
 
-    pub before_last : 1 ≤ announced (passed numbers front) → BeforeLast
-    before_last some =
-        by (crossing rules acts (λ (p : EndPassage Server). announced p.passage)
-        (announced (passed numbers front)) start front (omega (arith, some)) (omega arith))
-      where
-        by : Crossing rules acts (λ (p : EndPassage Server). announced p.passage)
-            (announced (passed numbers front)) start front → BeforeLast
-        by at =
-            let same : passed numbers (at.front ++ at.move ∷ [])
-            ≡ (end_moved rules acts (all_end_moved rules acts start at.front) at.move).passage =
-            ap (λ (x : EndPassage Server). x.passage) (behind_all rules acts start at.front at.move) in
-            let above : announced (passed numbers front)
-            ≤ announced (passed numbers (at.front ++ at.move ∷ [])) =
-            subst (λ (p : Passage Server). announced (passed numbers front) ≤ announced p) (sym same)
-            at.above in
-            let below = at.below in
-            let behind = announced_by (passed numbers at.front)
-            (passed numbers (at.front ++ at.move ∷ []))
-            (subst (λ (q : Passage Server). IsOneMore rules acts (passed numbers at.front) q)
-            (sym same) (one_more rules acts (all_end_moved rules acts start at.front) at.move))
-            (omega (arith, below, above)) in
-            let next = behind.next in
-            let still = behind.still in
-            let most = ahead (at.front ++ at.move ∷ []) at.later
-            (at.is ∙ sym (append_assoc at.front (at.move ∷ []) at.later)) in
-            let opened = connected (passed numbers front) (opens front) some in
-            let opened_behind = connected (passed numbers (at.front ++ at.move ∷ []))
-            (opens (at.front ++ at.move ∷ [])) (omega (arith, next)) in
-            let opened_there = behind.connected in
-            record {
-              earlier = at.front;
-              on = (at.move ∷ at.later, sym at.is);
-              but_one = omega (arith, next, above, below, opened, opened_behind, opened_there);
-              none_wait = none_waits (passed numbers at.front) (answered at.front)
-                  (omega (arith, next, still, most));
-            }
+  pub before_last : 1 ≤ announced (passed numbers front) → BeforeLast
+  before_last some =
+      by (crossing rules acts (λ (p : EndPassage Server). announced p.passage)
+      (announced (passed numbers front)) start front (omega (arith, some)) (omega arith))
+    where
+      by : Crossing rules acts (λ (p : EndPassage Server). announced p.passage)
+          (announced (passed numbers front)) start front → BeforeLast
+      by at =
+          let same : passed numbers (at.front ++ at.move ∷ [])
+          ≡ (end_moved rules acts (all_end_moved rules acts start at.front) at.move).passage =
+          ap (λ (x : EndPassage Server). x.passage)
+          (behind_all rules acts start at.front at.move) in
+          let above : announced (passed numbers front)
+          ≤ announced (passed numbers (at.front ++ at.move ∷ [])) =
+          subst (λ (p : Passage Server). announced (passed numbers front) ≤ announced p)
+          (sym same) at.above in
+          let below = at.below in
+          let behind = announced_by (passed numbers at.front)
+          (passed numbers (at.front ++ at.move ∷ []))
+          (subst (λ (q : Passage Server). IsOneMore rules acts (passed numbers at.front) q)
+          (sym same) (one_more rules acts (all_end_moved rules acts start at.front) at.move))
+          (omega (arith, below, above)) in
+          let next = behind.next in
+          let still = behind.still in
+          let most = ahead (at.front ++ at.move ∷ []) at.later
+          (at.is ∙ sym (append_assoc at.front (at.move ∷ []) at.later)) in
+          let opened = connected (passed numbers front) (opens front) some in
+          let opened_behind = connected (passed numbers (at.front ++ at.move ∷ []))
+          (opens (at.front ++ at.move ∷ [])) (omega (arith, next)) in
+          let opened_there = behind.connected in
+          record {
+            earlier = at.front;
+            on = (at.move ∷ at.later, sym at.is);
+            but_one = omega (arith, next, above, below, opened, opened_behind, opened_there);
+            none_wait = none_waits (passed numbers at.front) (answered at.front)
+                (omega (arith, next, still, most));
+          }

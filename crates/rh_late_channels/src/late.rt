@@ -1,4 +1,5 @@
-//! Which channels are late. This function calls the laws that it stands on: its contract is the law.
+//! Which channels are late. This function calls the laws that it stands on: its contract is the
+//! law.
 
 ghost use Rattle.std.specs.Prelude.{ℕ};
 ghost use Rattle.rh_moments.specs.Moments.{IsMoment, Moves, Numbers};
