@@ -17,7 +17,7 @@ use Rattle.rh_server_full.specs.Few.{IsAmong}
 use Rattle.rh_server_full.specs.Placed.{last_on}
 use Rattle.rh_server_full.specs.Taken.{due_in}
 use Rattle.rh_late_channels.specs.Late.{AreThese, FewAreLate}
-use Rattle.rh_late_channels.proofs.Due.{all_answered, one_ahead}
+use Rattle.rh_late_channels.proofs.Answered.{all_answered, one_ahead}
 use Rattle.rh_late_channels.proofs.Search.{AtMost, Those, among_two, less_or_not, less_or_same, those_below, twice_as_many, two_of_each}
 use Rattle.rh_late_channels.proofs.Fronts.{BeforeLast, before_last, still_announced}
 

@@ -1,4 +1,4 @@
-mod Due
+mod Answered
 mod Search
 mod Fronts
 mod Channels

@@ -1,4 +1,4 @@
-use Rattle.rh_late_channels.proofs.Due.{one_is_due}
+use Rattle.rh_late_channels.proofs.Answered.{one_is_due}
 use Rattle.rh_late_channels.proofs.due.one_answer_is_due.Goals as goal
 
 pub returns : goal.returns
