@@ -1,0 +1,7 @@
+mod Between
+mod Cuts
+mod Ends
+mod Gates
+mod Messages
+mod Numbers
+mod Stretches
