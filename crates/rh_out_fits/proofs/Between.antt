@@ -1,5 +1,5 @@
 -- what a server wrote on OUT channels while one was the writing channel stands on the leg of that
-use Rattle.std.proofs.Common.{◌≡◌, ℕ, suc, ◌+◌, ◌≤◌, ◌==◌, Bool, true, false, if◌then◌else◌, List, [], ◌∷◌, ◌++◌, append_assoc, refl, sym, ap, ◌∙◌, subst, arith}
+use Rattle.std.proofs.Common.{◌≡◌, ℕ, suc, ◌+◌, ◌≤◌, ◌==◌, Bool, true, false, if◌then◌else◌, List, [], ◌∷◌, ◌++◌, append_assoc, refl, sym, ap, ◌∙◌, arith}
 use Rattle.rh_sig.specs.declared.named.Named.{Named}
 use Rattle.rh_line.specs.declared.leg.LegKind.{LegKind}
 use Rattle.rh_line.specs.declared.leg.LegKind.TheVariants.{ClientOut, OutServer, ClientIn, InServer}
@@ -12,7 +12,7 @@ use Rattle.rh_passages.proofs.Messages.{count_append}
 use Rattle.rh_proxy_counts.specs.OutCounts.{os_leg}
 use Rattle.rh_server.specs.States.{Server}
 use Rattle.rh_server_counts.specs.Counting.{is_ack_to, is_out_r1_a9, leg_at, often}
-use Rattle.rh_server_turns.specs.Channels.{IsWritten, WritesOnBegun}
+use Rattle.rh_server_turns.specs.Channels.{WritesOnBegun}
 use Rattle.rh_server_turns.proofs.Splits.{kind_append}
 
 pub often_append : (test : Named → Bool) (a b : List OnLeg)

@@ -1,11 +1,11 @@
 -- the moves by which a server put the first and the last acknowledgement to the client of a stretch
-use Rattle.std.proofs.Common.{◌≡◌, ℕ, suc, ◌+◌, ◌<◌, ◌≤◌, Bool, if◌then◌else◌, List, [], ◌∷◌, ◌++◌, append_assoc, Some, refl, sym, ap, ◌∙◌, subst, arith}
+use Rattle.std.proofs.Common.{◌≡◌, ℕ, suc, ◌+◌, ◌<◌, ◌≤◌, Bool, if◌then◌else◌, List, [], ◌∷◌, ◌++◌, append_assoc, sym, ap, ◌∙◌, arith}
 use Rattle.std.specs.declared.option.Option.{Option}
 use Rattle.rh_rts.specs.declared.command.Cookie.{Cookie}
 use Rattle.rh_sig.specs.declared.named.Named.{Named}
 use Rattle.rh_line.specs.declared.leg.LegKind.TheVariants.{OutServer}
 use Rattle.rh_order.proofs.ByNumber.{test_same}
-use Rattle.rh_shell.specs.Moves.{EndMove, EndPassage, Moves, OnLeg, Passage, Puts, all_end_moved, end_started, put_by}
+use Rattle.rh_shell.specs.Moves.{EndMove, EndPassage, Moves, OnLeg, Puts, all_end_moved, end_started, put_by}
 use Rattle.rh_shell.specs.Rules.{Message, Packet}
 use Rattle.rh_shell.specs.Wires.{of_leg}
 use Rattle.rh_passages.specs.Passing.{count_of, HasOne}

@@ -8,7 +8,7 @@ use Rattle.rh_shell.specs.Rules.{Message, Text, Pdu, Packet}
 use Rattle.rh_passages.specs.Passing.{count_of, HasOne}
 use Rattle.rh_passages.proofs.Messages.{count_append}
 use Rattle.rh_out_room.specs.Waits.{AcksFor, behind, is_in_a3}
-use Rattle.rh_server_counts.specs.Counting.{is_ack_to, is_in_r1_a3, is_in_r2_a3, is_out_r1_a9}
+use Rattle.rh_server_counts.specs.Counting.{is_ack_to, is_in_r1_a3, is_in_r2_a3}
 use Rattle.rh_server_room.specs.Overtaking.{is_ack_for}
 use Rattle.rh_server_full.proofs.Longest.{for_itself, is_for}
 

@@ -2,7 +2,6 @@
 use Rattle.std.proofs.Common.{◌≡◌, ◌⊎◌, inl, inr, ℕ, zero, suc, ◌+◌, ◌-◌, ◌*◌, ◌<◌, ◌≤◌, Bool, true, List, [], ◌∷◌, ◌++◌, append_assoc, length, Some, refl, sym, ap, ◌∙◌, subst, arith}
 use Rattle.std.proofs.lemmas.List.{length-append}
 use Rattle.std.specs.List.{AllByRecursion}
-use mathlib.Core.List.{IsPrefix}
 use Rattle.rh_rts.specs.declared.command.Cookie.{Cookie}
 use Rattle.rh_sig.specs.declared.named.Named.{Named}
 use Rattle.rh_line.specs.declared.leg.LegKind.TheVariants.{InServer}
@@ -30,14 +29,14 @@ use Rattle.rh_server_turns.specs.Channels.{WritesOnBegun}
 use Rattle.rh_server_turns.proofs.Splits.{kind_append}
 use Rattle.rh_in_channels.specs.Announcing.{IsAnnouncedOn, channels}
 use Rattle.rh_moments.specs.Moments.{IsJoined, IsMoment, IsPast, Moves, Numbers, client_behind, server_behind}
-use Rattle.rh_server_room.specs.Overtaking.{AreLong, IsLongOn, is_ack_for}
+use Rattle.rh_server_room.specs.Overtaking.{AreLong, is_ack_for}
 use Rattle.rh_server_full.specs.Few.{IsAmong}
 use Rattle.rh_server_full.specs.Keeping.{ForwardsWhatCame}
 use Rattle.rh_server_full.specs.Numbered.{AreLate, IsLate}
 use Rattle.rh_server_full.specs.Oldest.{HasOldest, Oldest}
 use Rattle.rh_server_full.specs.Taken.{due_in}
 use Rattle.rh_server_full.proofs.Late.{came_grows, leg_append}
-use Rattle.rh_out_fits.proofs.Cuts.{Grows, grows}
+use Rattle.rh_out_fits.proofs.Cuts.{grows}
 use Rattle.rh_out_fits.proofs.Ends.{Ends, ends}
 use Rattle.rh_out_fits.proofs.Messages.{First, acked_counts, acks_client, behind_rises, counts_fewer, first_that}
 use Rattle.rh_out_fits.proofs.Numbers.{HaveNumbers, among_first, among_next, among_second, behind_number, no_more, so_many}
@@ -174,9 +173,12 @@ module _ (numbers : Numbers) (reader : ℕ → ℕ) (moves : Moves)
           → in_came (is_ack_for cookie) (then_at front)
           < in_came (is_ack_for cookie) (then_at (front ++ later))
           → (n : ℕ) × Begins cookie n × IsAmong n all
-      numbered cookie more =
-          (late.number, late.is.begun, by (found.all late.leg late.number announced late.near
-          late.stays))
+      numbered cookie more = (
+        late.number,
+        late.is.begun,
+        by (found.all late.leg late.number announced late.near
+            late.stays),
+      )
         where
           late : IsLate numbers past.0.reader_then moves_then front cookie
           late =
