@@ -4,4 +4,5 @@ mod Ends
 mod Gates
 mod Messages
 mod Numbers
+mod Opened
 mod Stretches

@@ -112,10 +112,6 @@ module _ (numbers : Numbers) (reader : ℕ → ℕ) (moves : Moves)
     pub writes : WritesOnBegun now
     pub forwards : (front later : List EndMove) → ForwardsWhatCame numbers.window front later
     pub oldest : (front : List EndMove) → HasOldest numbers.window front
-    pub quiet : (front : List EndMove) (old : Oldest numbers.window front)
-        → taken_in (then_at (old.front ++ old.move ∷ []))
-        + due_in (then_at (old.front ++ old.move ∷ [])).role
-        ≤ taken_in (then_at old.front) + due_in (then_at old.front).role
     pub answers : (front later : List EndMove) → FewAnswers least front later
     pub are_late : (reader : ℕ → ℕ) (moves : Moves) → IsJoined numbers reader moves
         → (front later : List EndMove) → moves.server ≡ front ++ later
@@ -316,7 +312,7 @@ module _ (numbers : Numbers) (reader : ℕ → ℕ) (moves : Moves)
           ≤ taken_in (then_at old.front) + due_in (then_at old.front).role + 3) same_then
           (let until_first = few_then in
           let follow = follows (then_at with_move).role.writing in
-          let quiet = known.quiet F old in
+          let quiet = old.quiet in
           let until_last = ended.taken in
           omega (arith, until_first, follow, quiet, until_last))
 

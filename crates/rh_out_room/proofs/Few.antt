@@ -1,5 +1,5 @@
--- where few channels are acknowledged in each stretch with one IN_R1/A3 or IN_R2/A3 at most, few are
--- behind the last but one of these
+-- where few channels are acknowledged in each stretch with one IN_R1/A3 or IN_R2/A3 at most, few
+-- are behind the last but one of these
 use Rattle.std.proofs.Common.{◌≡◌, ℕ, suc, ◌+◌, ◌≤◌, Bool, true, false, if◌then◌else◌, List, [], ◌∷◌, ◌++◌, length, refl, sym, ap, ◌∙◌, subst, arith}
 use Rattle.std.proofs.lemmas.List.{append-nil, append_assoc}
 use mathlib.Core.List.{IsPrefix}
