@@ -23,9 +23,11 @@ use rh_server_turns::a_server_writes_on_channels_that_began;
 use rh_server_wishes::few_answers_pass_an_acknowledgement;
 
 /// At each moment of a virtual connection whose OUT channels have lifetimes in their range: in each
-/// part of what the server put on an os leg in which one IN_R1/A3 or IN_R2/A3 stands at most, few
-/// IN channels are acknowledged to the client (MS-RPCH 3.2.1; the replacement of channels is this
-/// profile's).
+/// part of what the server put on an os leg in which one IN_R1/A3 or IN_R2/A3 stands at most, at
+/// most ten IN channels are acknowledged to the client. For when the first of these
+/// acknowledgements goes, few answers were put since the one came that waits longest; so the
+/// channels that are acknowledged by the last one are few (MS-RPCH 3.2.1; the replacement of
+/// channels is this profile's).
 pub fn a_server_acknowledges_few_between_answers()
     ensures { (numbers : Numbers) (reader : ℕ → ℕ) (moves : Moves)
         → IsMoment numbers reader moves → HaveLifetimes numbers → (n : ℕ)
@@ -46,7 +48,8 @@ pub fn a_server_acknowledges_few_between_answers()
     replacements_go_round();
 }
 
-/// There each out proxy has room for what comes from the server (MS-RPCH 2.2.4; the room is this
+/// There each out proxy has room for what it is to forward from the server to its client: at most
+/// fourteen packets wait, and it refuses none for want of room (MS-RPCH 2.2.4; the room is this
 /// profile's).
 pub fn an_out_proxy_has_room()
     ensures { (numbers : Numbers) (reader : ℕ → ℕ) (moves : Moves)
