@@ -1,9 +1,8 @@
 -- no more IN channels are announced than were answered, but for the first and one that is asked for
 use Rattle.std.proofs.Common.{◌≡◌, ℕ, ◌+◌, ◌≤◌, List, ◌++◌, subst, arith}
-use Rattle.rh_shell.specs.Moves.{EndMove, Passage}
+use Rattle.rh_shell.specs.Moves.{EndMove}
 use Rattle.rh_server.specs.declared.state.Stage.{Stage}
 use Rattle.rh_server.specs.declared.state.Stage.TheVariants as stage
-use Rattle.rh_server.specs.States.{Server}
 use Rattle.rh_server_counts.specs.Opening.{OpensOnce, since_conn_b2}
 use Rattle.rh_server_in_rows.specs.Handovers.{passed}
 use Rattle.rh_rounds.specs.Rounds.{GoRound, taken_in}
