@@ -1,8 +1,7 @@
--- where few channels are acknowledged in each stretch without IN_R1/A3 and IN_R2/A3, few are behind
--- the last but one of these
-use Rattle.std.proofs.Common.{◌≡◌, ◌⊎◌, inl, inr, ℕ, suc, ◌+◌, ◌≤◌, Bool, true, false, if◌then◌else◌, List, [], ◌∷◌, ◌++◌, length, refl, sym, ap, ◌∙◌, subst, arith}
+-- where few channels are acknowledged in each stretch with one IN_R1/A3 or IN_R2/A3 at most, few
+-- are behind the last but one of these
+use Rattle.std.proofs.Common.{◌≡◌, ℕ, suc, ◌+◌, ◌≤◌, Bool, true, false, if◌then◌else◌, List, [], ◌∷◌, ◌++◌, length, refl, sym, ap, ◌∙◌, subst, arith}
 use Rattle.std.proofs.lemmas.List.{append-nil, append_assoc}
-use Rattle.std.specs.List.{AllByRecursion}
 use mathlib.Core.List.{IsPrefix}
 use Rattle.rh_rts.specs.declared.command.Cookie.{Cookie}
 use Rattle.rh_sig.specs.declared.named.Named.{Named}
@@ -122,12 +121,13 @@ read_has P put came e has =
 
 few_in : (put came before stretch after : List Message) → AcksFewBetween put
     → IsPrefix came (all_read_of put) → came ≡ (before ++ stretch) ++ after
-    → count_of is_in_a3 stretch ≡ 0 → AcksFew stretch
-few_in put came before stretch after few front is none cookies different acked =
+    → count_of is_in_a3 stretch ≤ 1 → AcksFew stretch
+few_in put came before stretch after few front is most cookies different acked =
     few first.before second.before second.after
     (first.is ∙ ap (λ (ms : List Message). first.before ++ ms) second.is
     ∙ sym (append_assoc first.before second.before second.after))
-    (sym (read_same is_in_a3 refl second.before) ∙ ap (count_of is_in_a3) second.first ∙ none)
+    (subst (λ (n : ℕ). n ≤ 1)
+    (ap (count_of is_in_a3) (sym second.first) ∙ read_same is_in_a3 refl second.before) most)
     cookies different (all_acked cookies acked)
   where
     all : all_read_of put ≡ before ++ (stretch ++ (after ++ front.0))
@@ -150,194 +150,16 @@ few_in put came before stretch after few front is none cookies different acked =
       all_acked cookies acked.1,
     )
 
--- ---- cookies in two parts
-
-record InTwo (one other : List Message) (cookies : List Cookie) : Type 1 where
-  pub these : List Cookie
-  pub those : List Cookie
-  pub all : length cookies ≡ length these + length those
-  pub in_one : AreAcked one these
-  pub in_other : AreAcked other those
-  pub these_of : (P : Cookie → Type 0) → AllByRecursion P cookies → AllByRecursion P these
-  pub those_of : (P : Cookie → Type 0) → AllByRecursion P cookies → AllByRecursion P those
-  pub these_differ : AreDifferent these
-  pub those_differ : AreDifferent those
-
-in_two : (one other : List Message) (cookies : List Cookie) → AreDifferent cookies
-    → AllByRecursion (λ (c : Cookie). HasOne (AcksFor c) one ⊎ HasOne (AcksFor c) other) cookies
-    → InTwo one other cookies
-in_two one other [] different each = record {
-  these = [];
-  those = [];
-  all = refl;
-  in_one = tt;
-  in_other = tt;
-  these_of = λ P h. tt;
-  those_of = λ P h. tt;
-  these_differ = tt;
-  those_differ = tt;
-}
-in_two one other (cookie ∷ cookies) different each =
-    by each.0 (in_two one other cookies different.1 each.1)
-  where
-    by : HasOne (AcksFor cookie) one ⊎ HasOne (AcksFor cookie) other
-        → InTwo one other cookies → InTwo one other (cookie ∷ cookies)
-    by (inl has) rest =
-        let before = rest.all in record {
-          these = cookie ∷ rest.these;
-          those = rest.those;
-          all = omega (arith, before);
-          in_one = (has, rest.in_one);
-          in_other = rest.in_other;
-          these_of = λ P h. (h.0, rest.these_of P h.1);
-          those_of = λ P h. rest.those_of P h.1;
-          these_differ = (
-            rest.these_of (λ (c : Cookie). c ≡ cookie → ⊥) different.0,
-            rest.these_differ,
-          );
-          those_differ = rest.those_differ;
-        }
-    by (inr has) rest =
-        let before = rest.all in record {
-          these = rest.these;
-          those = cookie ∷ rest.those;
-          all = omega (arith, before);
-          in_one = rest.in_one;
-          in_other = (has, rest.in_other);
-          these_of = λ P h. rest.these_of P h.1;
-          those_of = λ P h. (h.0, rest.those_of P h.1);
-          these_differ = rest.these_differ;
-          those_differ = (
-            rest.those_of (λ (c : Cookie). c ≡ cookie → ⊥) different.0,
-            rest.those_differ,
-          );
-        }
-
--- ---- the first that passes a test
-
-record First (test : Named → Bool) (ms : List Message) : Type 0 where
-  pub front : List Message
-  pub it : Named
-  pub rest : List Message
-  pub is : ms ≡ front ++ Packet it ∷ rest
-  pub passes : test it ≡ true
-  pub none : count_of test front ≡ 0
-  pub left : suc (count_of test rest) ≡ count_of test ms
-
-module _ (test : Named → Bool) where
-  first_over : (m : Message) (ms : List Message)
-      → ((more : List Message) → count_of test (m ∷ more) ≡ count_of test more)
-      → (count_of test ms ≡ 0) ⊎ First test ms
-      → (count_of test (m ∷ ms) ≡ 0) ⊎ First test (m ∷ ms)
-  first_over m ms over (inl none) = inl (over ms ∙ none)
-  first_over m ms over (inr found) = inr (record {
-    front = m ∷ found.front;
-    it = found.it;
-    rest = found.rest;
-    is = ap (λ (all : List Message). m ∷ all) found.is;
-    passes = found.passes;
-    none = over found.front ∙ found.none;
-    left = found.left ∙ sym (over ms);
-  })
-
-  first_that : (ms : List Message) → (count_of test ms ≡ 0) ⊎ First test ms
-  first_that [] = inl refl
-  first_that (Text bytes ∷ ms) = first_over (Text bytes) ms (λ more. refl) (first_that ms)
-  first_that (Pdu pdu ∷ ms) = first_over (Pdu pdu) ms (λ more. refl) (first_that ms)
-  first_that (Packet m ∷ ms) = by (test m) refl (first_that ms)
-    where
-      counted : (b : Bool) → test m ≡ b → (more : List Message)
-          → count_of test (Packet m ∷ more)
-          ≡ (if b then suc (count_of test more) else count_of test more)
-      counted b e more =
-          ap (λ (t : Bool). if t then suc (count_of test more) else count_of test more) e
-
-      by : (b : Bool) → test m ≡ b → (count_of test ms ≡ 0) ⊎ First test ms
-          → (count_of test (Packet m ∷ ms) ≡ 0) ⊎ First test (Packet m ∷ ms)
-      by true e found = inr (record {
-        front = [];
-        it = m;
-        rest = ms;
-        is = refl;
-        passes = e;
-        none = refl;
-        left = sym (counted true e ms);
-      })
-      by false e found = first_over (Packet m) ms (counted false e) found
-
--- an acknowledgement stands before it or behind it
-no_ack : (m : Named) (cookie : Cookie) → is_in_a3 m ≡ true → AcksFor cookie m → ⊥
-no_ack (named.AckTo to received available of) cookie e acks = absurd cc
-no_ack m cookie e acks = acks
-
-before_or_behind : (m : Named) (rest : List Message) (cookie : Cookie) → is_in_a3 m ≡ true
-    → (front : List Message) → HasOne (AcksFor cookie) (front ++ Packet m ∷ rest)
-    → HasOne (AcksFor cookie) front ⊎ HasOne (AcksFor cookie) rest
-before_or_behind m rest cookie e [] (inl acks) = absurd (no_ack m cookie e acks)
-before_or_behind m rest cookie e [] (inr has) = inr has
-before_or_behind m rest cookie e (Text bytes ∷ front) has =
-    before_or_behind m rest cookie e front has
-before_or_behind m rest cookie e (Pdu pdu ∷ front) has =
-    before_or_behind m rest cookie e front has
-before_or_behind m rest cookie e (Packet other ∷ front) (inl acks) = inl (inl acks)
-before_or_behind m rest cookie e (Packet other ∷ front) (inr has) =
-    by (before_or_behind m rest cookie e front has)
-  where
-    by : HasOne (AcksFor cookie) front ⊎ HasOne (AcksFor cookie) rest
-        → (AcksFor cookie other ⊎ HasOne (AcksFor cookie) front) ⊎ HasOne (AcksFor cookie) rest
-    by (inl has) = inl (inr has)
-    by (inr has) = inr has
-
 -- ---- behind all IN_R1/A3 and IN_R2/A3 but one
 
 module _ (put came : List Message) (few : AcksFewBetween put)
     (front : IsPrefix came (all_read_of put)) where
-  few_behind : (before after : List Message) → came ≡ before ++ after
-      → count_of is_in_a3 after ≤ 1 → (cookies : List Cookie) → AreDifferent cookies
-      → AreAcked after cookies → length cookies ≤ 10
-  few_behind before after is most cookies different acked = by (first_that is_in_a3 after)
-    where
-      by : (count_of is_in_a3 after ≡ 0) ⊎ First is_in_a3 after → length cookies ≤ 10
-      by (inl none) =
-          let five = few_in put came before after [] few front
-          (is ∙ sym (append-nil (before ++ after))) none cookies different acked in
-          omega (arith, five)
-      by (inr found) =
-          let all = two.all in
-          let five = few_in put came before found.front (Packet found.it ∷ found.rest) few front
-          (whole ∙ sym (append_assoc before found.front (Packet found.it ∷ found.rest)))
-          found.none two.these two.these_differ two.in_one in
-          let other = few_in put came (before ++ (found.front ++ Packet found.it ∷ []))
-          found.rest [] few front
-          (whole ∙ ap (λ (ms : List Message). before ++ ms)
-          (sym (append_assoc found.front (Packet found.it ∷ []) found.rest))
-          ∙ sym (append_assoc before (found.front ++ Packet found.it ∷ []) found.rest)
-          ∙ sym (append-nil ((before ++ (found.front ++ Packet found.it ∷ [])) ++ found.rest)))
-          (let left = found.left in omega (arith, left, most)) two.those two.those_differ
-          two.in_other in
-          omega (arith, all, five, other)
-        where
-          whole : came ≡ before ++ (found.front ++ Packet found.it ∷ found.rest)
-          whole = is ∙ ap (λ (ms : List Message). before ++ ms) found.is
-
-          each : (cs : List Cookie) → AreAcked after cs
-              → AllByRecursion (λ (c : Cookie).
-              HasOne (AcksFor c) found.front ⊎ HasOne (AcksFor c) found.rest) cs
-          each [] acked = tt
-          each (c ∷ cs) acked = (
-            before_or_behind found.it found.rest c found.passes found.front
-                (subst (HasOne (AcksFor c)) found.is acked.0),
-            each cs acked.1,
-          )
-
-          two : InTwo found.front found.rest cookies
-          two = in_two found.front found.rest cookies different (each cookies acked)
-
   pub few_wait : (k : ℕ) → k ≤ count_of is_in_a3 came → count_of is_in_a3 came ≤ k + 1
       → (cookies : List Cookie) → AreDifferent cookies
       → AreAcked (behind is_in_a3 k came) cookies → length cookies ≤ 10
   few_wait k least most cookies different acked =
       let split = split_behind is_in_a3 k came least in
       let left = split.left in
-      few_behind split.front (behind is_in_a3 k came) split.is (omega (arith, left, most)) cookies
-      different acked
+      few_in put came split.front (behind is_in_a3 k came) [] few front
+      (split.is ∙ sym (append-nil (split.front ++ behind is_in_a3 k came)))
+      (omega (arith, left, most)) cookies different acked
