@@ -1,5 +1,5 @@
 -- a server has room for what comes next: fifteen acknowledgements to the client wait there at most
-use Rattle.std.proofs.Common.{◌≡◌, ◌⊎◌, inl, inr, ℕ, suc, ◌+◌, ◌*◌, ◌==◌, ◌<◌, ◌≤◌, true, false, List, [], ◌∷◌, ◌++◌, append_assoc, length, Err, refl, sym, ap, ◌∙◌, subst, arith}
+use Rattle.std.proofs.Common.{◌≡◌, ◌⊎◌, inl, inr, ℕ, suc, ◌+◌, ◌*◌, ◌==◌, ◌<◌, ◌≤◌, true, false, List, [], ◌∷◌, ◌++◌, append_assoc, length, Err, sym, ◌∙◌, subst, arith}
 use Rattle.std.proofs.lemmas.List.{append-nil, length-append}
 use Rattle.rh_rts.specs.declared.command.Cookie.{Cookie}
 use Rattle.rh_sig.specs.declared.named.Named.{Named}
@@ -31,8 +31,8 @@ use Rattle.rh_server_room.specs.Overtaking.{AreLong, is_ack_for}
 use Rattle.rh_server_full.specs.Few.{FewWait, IsAmong}
 use Rattle.rh_server_full.specs.Filled.{FillsFirst, IsFilled}
 use Rattle.rh_server_full.specs.Numbered.{IsLate}
-use Rattle.rh_server_full.specs.Oldest.{HasOldest, Oldest}
-use Rattle.rh_server_full.specs.Taken.{FewAreTaken, due_in}
+use Rattle.rh_server_full.specs.Oldest.{HasOldest, Oldest, due_in}
+use Rattle.rh_server_full.specs.Taken.{FewAreTaken}
 use Rattle.rh_late_channels.specs.Late.{AreThese, FewAreLate, OneIsDue}
 use Rattle.rh_server_fits.specs.Fits.{HasRoom}
 use Rattle.rh_server_fits.proofs.Lists.{UpTo, among_behind, among_front, among_next, as_many, next_ones, up_to}
@@ -143,7 +143,7 @@ module _ (numbers : Numbers) (reader : ℕ → ℕ) (moves : Moves)
     these : (those : List ℕ) × AreThese before now those
     these =
         let found = known.late oldest.front since []
-        (oldest.is ∙ ap (λ (ms : List EndMove). oldest.front ++ ms) (sym (append-nil since))) in (
+        (oldest.is ∙ sym (append-nil (oldest.front ++ since))) in (
           found.0,
           subst (λ (ms : List EndMove). AreThese before (passed numbers ms) found.0)
               (sym oldest.is) found.1,
@@ -228,6 +228,6 @@ module _ (numbers : Numbers) (reader : ℕ → ℕ) (moves : Moves)
           → IsAhead now (is_leg n)
           (all_read_of (of_leg (is_leg n) (in_behind numbers moves n).put)) (Packet m)
           → (rules.packet now.role (is_leg n) count m).1 ≡ Err (refused.Full at) → ⊥
-      by (AckTo to received window channel) so next no =
-          ack_has_room n count to received window channel at next no
-      by m so next no = absurd so
+      by (AckTo to received window channel) so next is =
+          ack_has_room n count to received window channel at next is
+      by m so next is = absurd so

@@ -87,7 +87,7 @@ module _ (config : OutProxyConfig) (is : IsLifetime config.lifetime) where
   opens_so : (came : List Message) (cookie : Cookie) (m : Named)
       → OpensServer config came cookie m → Long m
   opens_so came cookie (ConnA2 version connection channel lifetime window) h =
-      in_range lifetime h.2
+      let least = in_range lifetime h.2 in grind (arith, least)
   opens_so came cookie
       (OutR1A4 version connection predecessor successor lifetime window timeout) h =
       in_range lifetime h.2
