@@ -1,5 +1,5 @@
 -- a server has room for what comes next: fifteen acknowledgements to the client wait there at most
-use Rattle.std.proofs.Common.{◌≡◌, ◌⊎◌, inl, inr, ℕ, suc, ◌+◌, ◌*◌, ◌==◌, ◌<◌, ◌≤◌, true, false, List, [], ◌∷◌, ◌++◌, append_assoc, length, Err, sym, ◌∙◌, subst, arith}
+use Rattle.std.proofs.Common.{◌≡◌, ◌⊎◌, inl, inr, ℕ, ◌+◌, ◌==◌, ◌<◌, ◌≤◌, List, [], ◌∷◌, ◌++◌, append_assoc, length, Err, sym, ◌∙◌, subst, arith}
 use Rattle.std.proofs.lemmas.List.{append-nil, length-append}
 use Rattle.rh_rts.specs.declared.command.Cookie.{Cookie}
 use Rattle.rh_sig.specs.declared.named.Named.{Named}
@@ -120,6 +120,12 @@ module _ (numbers : Numbers) (reader : ℕ → ℕ) (moves : Moves)
   abbrev now : Passage Server
   now = (server_behind numbers moves).passage
 
+  -- it stands next on an is leg
+  abbrev IsNext : ℕ → Named → Type 0
+  IsNext n m =
+      IsAhead now (is_leg n) (all_read_of (of_leg (is_leg n) (in_behind numbers moves n).put))
+      (Packet m)
+
   module _ (oldest : Oldest numbers.window moves.server) where
     abbrev behind : List EndMove
     behind = oldest.front ++ oldest.move ∷ []
@@ -133,75 +139,75 @@ module _ (numbers : Numbers) (reader : ℕ → ℕ) (moves : Moves)
     abbrev was : Passage Server
     was = passed numbers behind
 
+    -- how many answers were put behind the move
     few_taken : taken_in now ≤ taken_in was + due_in was.role + 11
     few_taken =
         known.taken oldest LEAST_LIFETIME known.long
-        (let few = known.packets behind in omega (arith, few))
+        (let most = known.packets behind in omega (arith, most))
         (known.due behind oldest.later
         (oldest.is ∙ sym (append_assoc oldest.front (oldest.move ∷ []) oldest.later)))
 
-    these : (those : List ℕ) × AreThese before now those
-    these =
-        let found = known.late oldest.front since []
-        (oldest.is ∙ sym (append-nil (oldest.front ++ since))) in (
-          found.0,
-          subst (λ (ms : List EndMove). AreThese before (passed numbers ms) found.0)
-              (sym oldest.is) found.1,
-        )
+    -- which channels of those that were announced before are late
+    found : (those : List ℕ) × AreThese before (passed numbers (oldest.front ++ since)) those
+    found =
+        known.late oldest.front since [] (oldest.is ∙ sym (append-nil (oldest.front ++ since)))
 
+    these : AreThese before now found.0
+    these =
+        subst (λ (ms : List EndMove). AreThese before (passed numbers ms) found.0)
+        (sym oldest.is) found.1
+
+    -- and those that were announced since and may be answered
     gap : UpTo (channels before) (taken_in now + 1)
     gap = up_to (channels before) (taken_in now + 1)
 
-    abbrev late_ones : List ℕ
-    late_ones = these.0 ++ next_ones (channels before) gap.count
+    abbrev new_ones : List ℕ
+    new_ones = next_ones (channels before) gap.count
 
-    among_them : (channel : Cookie) (late : IsLate numbers reader moves oldest.front channel)
-        → IsAmong late.number late_ones
-    among_them channel late =
-        by (these.1.all late.leg late.number late.announced late.near late.stays)
+    are_among : (channel : Cookie) (late : IsLate numbers reader moves oldest.front channel)
+        → IsAmong late.number (found.0 ++ new_ones)
+    are_among channel late =
+        by (these.all late.leg late.number late.announced late.near late.stays)
       where
-        by : (channels before < late.number) ⊎ IsAmong late.number these.0
-            → IsAmong late.number late_ones
+        by : (channels before < late.number) ⊎ IsAmong late.number found.0
+            → IsAmong late.number (found.0 ++ new_ones)
         by (inl more) =
-            among_behind late.number these.0 (next_ones (channels before) gap.count)
+            among_behind late.number found.0 new_ones
             (among_next gap.count (channels before) late.number more
             (let most = late.is.answered in let reaches = gap.reaches in
             omega (arith, most, reaches)))
-        by (inr there) =
-            among_front late.number these.0 (next_ones (channels before) gap.count) there
+        by (inr there) = among_front late.number found.0 new_ones there
 
-    few_late : length late_ones ≤ 15
-    few_late =
-        let sum = length-append these.0 (next_ones (channels before) gap.count) in
+    few : length (found.0 ++ new_ones) ≤ 15
+    few =
+        let sum = length-append found.0 new_ones in
         let many = as_many (channels before) gap.count in
-        let fit = sums_fit (length these.0) (taken_in before) (due_in before.role)
-        (channels before) (taken_in was) (due_in was.role) (taken_in now) gap.count these.1.few
+        let fit = sums_fit (length found.0) (taken_in before) (due_in before.role)
+        (channels before) (taken_in was) (due_in was.role) (taken_in now) gap.count these.few
         oldest.quiet few_taken (known.answered oldest.front since oldest.is) gap.least in
         omega (arith, sum, many, fit)
 
-    -- one to the client has room where none of its channel waits
+    -- so one to the client has room where none of its channel waits
     to_client : (n received window : ℕ) (channel : Cookie)
-        → IsAhead now (is_leg n) (all_read_of (of_leg (is_leg n) (in_behind numbers moves n).put))
-        (Packet (AckTo 0 received window channel))
+        → IsNext n (AckTo 0 received window channel)
         → waits_for (is_ack_for channel) now.role ≡ 0
         → 15 ≤ waits_for (is_ack_to 0) now.role → ⊥
-    to_client n received window channel ahead none least =
-        let most = (known.wait oldest).next late_ones among_them n received window channel ahead
-        none in
-        let few = few_late in absurd (omega (arith, most, few, least))
+    to_client n received window channel next none least =
+        let most = (known.wait oldest).next (found.0 ++ new_ones) are_among n received window
+        channel next none in
+        let all = few in absurd (omega (arith, most, all, least))
 
     -- and one to an out proxy
     to_proxy : 16 ≤ waits_for (is_ack_to 0) now.role → ⊥
     to_proxy least =
-        let most = (known.wait oldest).waiting late_ones among_them in
-        let few = few_late in absurd (omega (arith, most, few, least))
+        let most = (known.wait oldest).waiting (found.0 ++ new_ones) are_among in
+        let all = few in absurd (omega (arith, most, all, least))
 
   ack_has_room : (n : ℕ) (count : Count) (to received window : ℕ) (channel : Cookie) (at : Leg)
-      → IsAhead now (is_leg n) (all_read_of (of_leg (is_leg n) (in_behind numbers moves n).put))
-      (Packet (AckTo to received window channel))
+      → IsNext n (AckTo to received window channel)
       → (rules.packet now.role (is_leg n) count (AckTo to received window channel)).1
       ≡ Err (refused.Full at) → ⊥
-  ack_has_room n count to received window channel at ahead full =
+  ack_has_room n count to received window channel at next full =
       by (has_place now.role count to received window channel at full)
     where
       filled : IsFilled now.role to channel
@@ -213,21 +219,17 @@ module _ (numbers : Numbers) (reader : ℕ → ℕ) (moves : Moves)
       by : (to ≡ 0) ⊎ (to ≡ 3) → ⊥
       by (inl client) =
           to_client oldest n received window channel
-          (subst (λ (k : ℕ). IsAhead now (is_leg n)
-          (all_read_of (of_leg (is_leg n) (in_behind numbers moves n).put))
-          (Packet (AckTo k received window channel))) client ahead)
+          (subst (λ (k : ℕ). IsNext n (AckTo k received window channel)) client next)
           (subst (λ (k : ℕ). waits_for (is_ack_at k channel) now.role ≡ 0) client filled.none)
           filled.least
       by (inr proxy) = to_proxy oldest (filled.own proxy)
 
   pub has_room : HasRoom numbers moves
-  has_room n count named at ahead full =
-      by named (known.forwards.full (is_leg n) count named at full) ahead full
+  has_room n count named at next full =
+      by named (known.forwards.full (is_leg n) count named at full) next full
     where
-      by : (m : Named) → IsFullFor now.role m
-          → IsAhead now (is_leg n)
-          (all_read_of (of_leg (is_leg n) (in_behind numbers moves n).put)) (Packet m)
+      by : (m : Named) → IsFullFor now.role m → IsNext n m
           → (rules.packet now.role (is_leg n) count m).1 ≡ Err (refused.Full at) → ⊥
-      by (AckTo to received window channel) so next is =
-          ack_has_room n count to received window channel at next is
-      by m so next is = absurd so
+      by (AckTo to received window channel) so ahead refused_so =
+          ack_has_room n count to received window channel at ahead refused_so
+      by m so ahead refused_so = absurd so
