@@ -6,12 +6,16 @@ ghost use Rattle.rh_moments.specs.Moments.{IsMoment, Moves, Numbers};
 ghost use Rattle.rh_outproxy_expects.specs.Early.{HaveLifetimes};
 ghost use Rattle.rh_server_fits.specs.Fits.{HasRoom};
 
+use crate::lifetimes::lifetimes_are_long;
 use rh_late_channels::{few_channels_are_late, one_answer_is_due};
+use rh_rounds::replacements_go_round;
+use rh_server_counts::a_server_opens_once;
 use rh_server_full::{
-    acknowledgements_are_of_late_channels, an_acknowledgement_waits_longest,
-    few_channels_are_answered_before_an_acknowledgement, fifteen_wait_where_there_is_no_room,
-    few_packets_wait_at_a_server, no_more_acknowledgements_wait_than_channels,
+    an_acknowledgement_waits_longest, few_channels_are_answered_before_an_acknowledgement,
+    few_packets_wait_at_a_server, fifteen_wait_where_there_is_no_room,
+    no_more_acknowledgements_wait_than_channels,
 };
+use rh_server_room::what_a_server_forwards;
 
 /// At each moment of a virtual connection whose OUT channels have lifetimes in their range: no
 /// packet that stands next on an is leg is refused at the server for want of room. At most fifteen
@@ -20,12 +24,15 @@ pub fn a_server_has_room()
     ensures { (numbers : Numbers) (reader : ℕ → ℕ) (moves : Moves)
         → IsMoment numbers reader moves → HaveLifetimes numbers → HasRoom numbers moves }
 {
-    acknowledgements_are_of_late_channels();
+    lifetimes_are_long();
+    few_channels_are_late();
+    one_answer_is_due();
+    replacements_go_round();
+    a_server_opens_once();
     an_acknowledgement_waits_longest();
     few_channels_are_answered_before_an_acknowledgement();
-    few_channels_are_late();
     few_packets_wait_at_a_server();
     fifteen_wait_where_there_is_no_room();
     no_more_acknowledgements_wait_than_channels();
-    one_answer_is_due();
+    what_a_server_forwards();
 }

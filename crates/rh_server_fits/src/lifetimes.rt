@@ -1,0 +1,23 @@
+//! Which lifetimes a server is told of OUT channels. This function calls the laws that it stands
+//! on: its contract is the law.
+
+ghost use Rattle.std.specs.Prelude.{ℕ};
+ghost use Rattle.rh_sig.specs.declared.ranges.TheConstants.{LEAST_LIFETIME};
+ghost use Rattle.rh_moments.specs.Moments.{IsMoment, Moves, Numbers, server_behind};
+ghost use Rattle.rh_outproxy_expects.specs.Early.{HaveLifetimes};
+ghost use Rattle.rh_server_room.specs.Overtaking.{AreLong};
+
+use rh_outproxy_puts::an_out_proxy_opens_to_the_server_first;
+use rh_server_expects::an_in_proxy_in_turn_puts_in_order;
+
+/// At each moment of a virtual connection whose OUT channels have lifetimes in their range: each
+/// that came at the server, by CONN/A2 or OUT_R1/A4, is no less than the least of that range
+/// (MS-RPCH 2.2.3.5, 2.2.4).
+pub fn lifetimes_are_long()
+    ensures { (numbers : Numbers) (reader : ℕ → ℕ) (moves : Moves)
+        → IsMoment numbers reader moves → HaveLifetimes numbers
+        → AreLong LEAST_LIFETIME (server_behind numbers moves).passage.came }
+{
+    an_in_proxy_in_turn_puts_in_order();
+    an_out_proxy_opens_to_the_server_first();
+}
