@@ -18,7 +18,6 @@ use Rattle.rh_line.specs.Lines.{after_finish, after_take}
 use Rattle.rh_order.proofs.ByNumber.{by_test, same_number}
 use Rattle.rh_shell.specs.declared.answers.Count.{Count}
 use Rattle.rh_shell.specs.declared.answers.Refused.TheVariants as refused
-use Rattle.rh_shell.specs.declared.due.Due.{Due}
 use Rattle.rh_shell.specs.declared.due.Origin.TheVariants.{Forwarded}
 use Rattle.rh_shell.specs.declared.end_role.RecycleRefused.{RecycleRefused}
 use Rattle.rh_shell.specs.Waiting.{Waiting, added, own, pushed, takes, to_forward, with_due, merged, forwarded, without_first}
@@ -321,16 +320,18 @@ module _ (least : ℕ) (F : View → Type 0) (keeps : AreKept least F) where
           → (now : Stage) → is_begun s.stage ≡ false → had_out s.stage ≡ false
           → had_out now ≡ true → least ≤ c
           → Serves (record (first_out_at s b c d place o) { stage = now })
-      early None o at now e had yes long = keeps.came_out (view s) now e had yes h
-      early (Some place) None at now e had yes long = keeps.came_out (view s) now e had yes h
-      early (Some place) (Some leg) at now e had yes long =
-          keeps.first_out (view s) now place leg _ e had yes at refl refl long h
+      early None o at now e had now_out long = keeps.came_out (view s) now e had now_out h
+      early (Some place) None at now e had now_out long =
+          keeps.came_out (view s) now e had now_out h
+      early (Some place) (Some leg) at now e had now_out long =
+          keeps.first_out (view s) now place leg _ e had now_out at refl refl long h
 
       here : (now : Stage) → is_begun s.stage ≡ false → had_out s.stage ≡ false
           → had_out now ≡ true → least ≤ c
           → Serves (record (with_first_out s b c d) { stage = now })
-      here now e had yes long =
-          early (out_place 1 s.outs) (out_at s.outs (out_place 1 s.outs)) refl now e had yes long
+      here now e had now_out long =
+          early (out_place 1 s.outs) (out_at s.outs (out_place 1 s.outs)) refl now e had now_out
+          long
 
       by : (x : Stage) → s.stage ≡ x → Answers (conn_a2_at s x a b c d)
       by stage.Waits e =

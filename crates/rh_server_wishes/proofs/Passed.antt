@@ -205,7 +205,8 @@ module _ (channel : Cookie) (least from most before : ℕ) where
         (answers_in p.put) (count_of is_out_r1_a1 ms) (behind_first ms))
         (sym (in_leg_same n from one.1 p.put)) now))
 
-    abbrev Gone : AreLong least p.came → acks p.put ≤ before → ℕ → Message → View → Type 0
+    abbrev Gone : AreLong least p.came → acks p.put ≤ before → ℕ → Message → View
+        → Type 0
     Gone long few n m x =
         IsGone channel least from most n p.role (answers_in p.put) (asked_on from p.put)
         (more_on from p.put) (claim long few) (known.base long) (known.ready long) known.steady
@@ -379,7 +380,8 @@ module _ (window : ℕ) (front later : List EndMove) (least : ℕ) (channel : Co
       are : AreReplaced p
       are = are_replaced window front
 
-      asked : (k : ℕ) → waits_for is_out_r1_a1 p.role ≡ k → is_steady p.role.replacement ≡ false
+      asked : (k : ℕ) → waits_for is_out_r1_a1 p.role ≡ k
+          → is_steady p.role.replacement ≡ false
           → StandsAt channel least from most before (view p.role) p.put
       asked zero none other =
           let since = asked_since p.role.replacement other in
@@ -435,7 +437,8 @@ module _ (window : ℕ) (front later : List EndMove) (least : ℕ) (channel : Co
       (subst (λ (q : Passage Server). OneDue channel least from most before q.role)
       (one_more done move)
       (one_due (front ++ (done ++ move ∷ [])) rest
-      (ap (λ (moves : List EndMove). front ++ moves) (e ∙ sym (append_assoc done (move ∷ []) rest))
+      (ap (λ (moves : List EndMove). front ++ moves)
+      (e ∙ sym (append_assoc done (move ∷ []) rest))
       ∙ sym (append_assoc front (done ++ move ∷ []) rest)))))
 
   goes : (done rest : List EndMove) → later ≡ done ++ rest
@@ -460,8 +463,9 @@ module _ (window : ℕ) (front later : List EndMove) (least : ℕ) (channel : Co
       → AreSo IsShort q.role.writing q.role.outs → ⊥
   not_short e all = by (out_place q.role.writing q.role.outs) refl e
     where
-      at : (place : ℕ) → out_place q.role.writing q.role.outs ≡ Some place → (o : Option OutLeg)
-          → slice_get q.role.outs place ≡ o → lets_acks_on o ≡ true → ⊥
+      at : (place : ℕ) → out_place q.role.writing q.role.outs ≡ Some place
+          → (o : Option OutLeg) → slice_get q.role.outs place ≡ o
+          → lets_acks_on o ≡ true → ⊥
       at place is None there_is e = other_way (sym e)
       at place is (Some leg) there_is e =
           let short = subst (λ o. IfSome o (λ (one : OutLeg). one.number ≡ q.role.writing
@@ -475,7 +479,8 @@ module _ (window : ℕ) (front later : List EndMove) (least : ℕ) (channel : Co
       by None is e = other_way (sym e)
       by (Some place) is e = at place is (slice_get q.role.outs place) refl e
 
-  pub at_most : AreLong least q.came → MayGoOn q.role → out_put (is_ack_for channel) q ≤ before
+  pub at_most : AreLong least q.came → MayGoOn q.role
+      → out_put (is_ack_for channel) q ≤ before
       → taken_in q ≤ taken_in p + due_in p.role + 1 + behind_wish from q
   at_most long may few = by s.phase s.holds
     where
