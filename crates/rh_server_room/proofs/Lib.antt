@@ -10,6 +10,9 @@ pub mod Counted
 pub mod Serving
 pub mod ServerPuts
 pub mod Overtaken
+pub mod Views
+pub mod ViewRows
+pub mod ViewPuts
 pub mod AckedLegs
 pub mod Apart
 pub mod Forwarded

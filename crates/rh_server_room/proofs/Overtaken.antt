@@ -374,6 +374,7 @@ all_long ((leg, m) ∷ came) = (by m, all_long came)
     by : (m : Message) → IsLongOn 0 (leg, m)
     by (Text bytes) = tt
     by (Pdu pdu) = tt
+    by (Packet (named.ConnA2 v a b lifetime c)) = omega arith
     by (Packet (named.OutR1A4 v a b c lifetime d e)) = omega arith
     by (Packet packet) = tt
 
@@ -381,3 +382,12 @@ pub legs_sorted : (window : ℕ) (moves : List EndMove) → Sorted (passed windo
 legs_sorted window moves =
     (kept_by no_cookie 0 0 0 false (end_started (first window)) moves
     (started_holds no_cookie 0 0 window) (all_long (passed window moves).came)).base.sorted
+
+-- ---- what is known of the legs
+
+pub bases : (channel : Cookie) (least window : ℕ) (moves : List EndMove)
+    → AreLong least (passed window moves).came
+    → Base channel least 0 (seen channel least 0 (passed window moves).role)
+bases channel least window moves long =
+    (kept_by channel least 0 0 false (end_started (first window)) moves
+    (started_holds channel least 0 window) long).base

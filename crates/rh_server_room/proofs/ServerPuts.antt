@@ -36,34 +36,34 @@ use Rattle.rh_server_room.proofs.Serving.{settled_serves}
 
 -- ---- tests
 
-open_begun : (x : Stage) → is_open x ≡ true → is_begun x ≡ true
+pub open_begun : (x : Stage) → is_open x ≡ true → is_begun x ≡ true
 open_begun stage.Waits e = absurd cc
 open_begun (stage.OutCame connection) e = absurd cc
 open_begun (stage.InCame connection window timeout) e = absurd cc
 open_begun (stage.Open connection) e = refl
 open_begun stage.Ended e = absurd cc
 
-confirmed_answered : (x : Replacement) → is_confirmed x ≡ true → is_answered x ≡ true
+pub confirmed_answered : (x : Replacement) → is_confirmed x ≡ true → is_answered x ≡ true
 confirmed_answered replacement.Steady e = absurd cc
 confirmed_answered replacement.Asked e = absurd cc
 confirmed_answered (replacement.Answered successor) e = absurd cc
 confirmed_answered replacement.Confirmed e = refl
 
-fits_so : (meter : Meter) (len : ℕ) → fits meter len ≡ true → meter.count + len ≤ meter.length
+pub fits_so : (meter : Meter) (len : ℕ) → fits meter len ≡ true → meter.count + len ≤ meter.length
 fits_so meter len e = grind (arith, nat_tests)
 
-leaves_so : (meter : Meter) (len : ℕ) → may_put meter len ≡ true
+pub leaves_so : (meter : Meter) (len : ℕ) → may_put meter len ≡ true
     → meter.count + len ≤ meter.length
 leaves_so meter len e = grind (arith, nat_tests)
 
-short_so : (meter : Meter) → may_put meter 56 ≡ false → meter.length ≤ meter.count + 311
+pub short_so : (meter : Meter) → may_put meter 56 ≡ false → meter.length ≤ meter.count + 311
 short_so meter e = grind (arith, nat_tests)
 
-none_so : {X : Type 0} (b : Bool) (x : X) → (if b then Some x else None) ≡ None → b ≡ false
+pub none_so : {X : Type 0} (b : Bool) (x : X) → (if b then Some x else None) ≡ None → b ≡ false
 none_so true x e = absurd cc
 none_so false x e = refl
 
-found_may : (may_go : Due → Bool) (dues : List Due)
+pub found_may : (may_go : Due → Bool) (dues : List Due)
     → IfSome (find may_go dues) (λ (due : Due). may_go due ≡ true)
 found_may may_go [] = tt
 found_may may_go (due ∷ dues) =
@@ -88,7 +88,7 @@ is_let g packet b e so bytes small =
       in_it = so parts.1;
     }
 
-let_of : (g : Gate) (packet : Named)
+pub let_of : (g : Gate) (packet : Named)
     → ((to received window : ℕ) (cookie : Cookie)
     → packet ≡ named.AckTo to received window cookie → to ≡ 3 → ⊥)
     → lets_packet g packet ≡ true → IsLet g packet
@@ -138,7 +138,7 @@ module _ (channel : Cookie) where
   bytes_in (Packet packet) = ahead.bytes_of packet
 
   -- the meter of the writing channel refused it
-  short_of : (s : Server) (leg : OutLeg) (due : Due) → ahead.is_for channel due ≡ true
+  pub short_of : (s : Server) (leg : OutLeg) (due : Due) → ahead.is_for channel due ≡ true
       → lets (gate s leg) due ≡ false → leg.number ≡ s.writing
       → leg.meter.length ≤ leg.meter.count + 311
   short_of s leg due is e writes = by due.packet is e

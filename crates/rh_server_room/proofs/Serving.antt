@@ -535,7 +535,7 @@ module _ (channel : Cookie) (least budget : ℕ) where
     os_row : (s : Server) (n : ℕ) (count : Count) (m : Named) → Serves s
         → LongServes (IsLong least m) (on_os s n count m)
     os_row s n count (named.ConnA2 v a b c d) h =
-        long_of (Unit {0}) (on_conn_a2 s n count a b c d) (conn_a2_row s n count a b c d h)
+        long_of (least ≤ c) (on_conn_a2 s n count a b c d) (conn_a2_row s n count a b c d h)
     os_row s n count (named.OutR1A4 v a b c d e f) h = a4_row s n count a b c d e f h
     os_row s n count (named.Ack received window cookie) h =
         long_of (Unit {0}) (on_ack s n count received window cookie)

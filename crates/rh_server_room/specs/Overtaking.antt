@@ -4,7 +4,7 @@ use Rattle.std.specs.Prelude.{ℕ, ◌+◌, ◌*◌, ◌≤◌, ◌++◌, List, 
 use Rattle.std.specs.List.{AllByRecursion}
 use Rattle.rh_rts.specs.declared.command.Cookie.{Cookie}
 use Rattle.rh_sig.specs.declared.named.Named.{Named}
-use Rattle.rh_sig.specs.declared.named.Named.TheVariants.{OutR1A4}
+use Rattle.rh_sig.specs.declared.named.Named.TheVariants.{ConnA2, OutR1A4}
 use Rattle.rh_shell.specs.Moves.{EndMove, OnLeg, Passage}
 use Rattle.rh_shell.specs.Rules.{Text, Pdu, Packet}
 use Rattle.rh_shell.specs.Waiting.{are_one, key_of}
@@ -19,8 +19,9 @@ abbrev pub is_ack_for : Cookie → Named → Bool
 is_ack_for channel packet =
     are_one (key_of packet) (Some (record { destination = 0; channel = channel }))
 
--- the lifetime that OUT_R1/A4 tells of a channel is no less than so many bytes
+-- the lifetime that CONN/A2 or OUT_R1/A4 tells of a channel is no less than so many bytes
 abbrev pub IsLong : ℕ → Named → Type 0
+IsLong least (ConnA2 version connection cookie lifetime window) = least ≤ lifetime
 IsLong least (OutR1A4 version connection predecessor successor lifetime window timeout) =
     least ≤ lifetime
 IsLong least packet = Unit {0}
