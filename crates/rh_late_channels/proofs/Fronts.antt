@@ -1,5 +1,5 @@
 -- the front of a server's moves behind which the last IN channel that was announced came
-use Rattle.std.proofs.Common.{◌≡◌, ℕ, suc, ◌+◌, ◌≤◌, Bool, List, [], ◌∷◌, ◌++◌, append_assoc, sym, ap, ◌∙◌, subst, arith}
+use Rattle.std.proofs.Common.{◌≡◌, ℕ, suc, ◌≤◌, Bool, List, [], ◌∷◌, ◌++◌, append_assoc, sym, ap, ◌∙◌, subst, arith}
 use mathlib.Core.List.{IsPrefix}
 use Rattle.rh_sig.specs.declared.named.Named.{Named}
 use Rattle.rh_passages.specs.Passing.{count_of}
