@@ -1,84 +1,54 @@
 -- what a server forwards to the client came, of each channel, and it forwards none twice
-use Rattle.std.proofs.Common.{◌≡◌, ℕ, ◌+◌, ◌≤◌, ◌==◌, ◌&&◌, ◌||◌, Bool, true, false, nat_lt, not, if◌then◌else◌, List, [], ◌∷◌, Some, None, Ok, Err, refl, sym, ap, ◌∙◌, subst, rules, arith}
+use Rattle.std.proofs.Common.{◌≡◌, ℕ, suc, ◌+◌, ◌≤◌, ◌==◌, ◌&&◌, Bool, true, false, nat_lt, if◌then◌else◌, List, [], ◌∷◌, ◌++◌, Some, None, Ok, Err, refl, sym, ap, ◌∙◌, subst, arith}
 use Rattle.std.specs.Prelude.{IfSome, find, slice_get}
 use Rattle.std.specs.List.{list_any}
 use Rattle.std.specs.declared.option.Option.{Option}
-use Rattle.std.specs.declared.result.Result.{Result}
 use Rattle.rh_rts.specs.declared.command.Cookie.{Cookie}
 use Rattle.rh_sig.specs.declared.named.Named.{Named}
 use Rattle.rh_sig.specs.declared.named.Named.TheVariants as named
 use Rattle.rh_line.specs.Queue.{front_length}
-use Rattle.rh_line.specs.declared.leg.Leg.{Leg}
 use Rattle.rh_line.specs.declared.leg.LegKind.{LegKind}
 use Rattle.rh_line.specs.declared.leg.LegKind.TheVariants.{ClientOut, OutServer, ClientIn, InServer}
-use Rattle.rh_line.specs.declared.which.Which.{Which}
-use Rattle.rh_line.specs.declared.which.Which.TheVariants.{Current, Next}
-use Rattle.rh_line.specs.Lines.{after_finish, after_take}
 use Rattle.rh_order.proofs.ByNumber.{by_test, same_number}
+use Rattle.rh_passages.specs.Passing.{count_of, of_kind}
 use Rattle.rh_passages.proofs.Logs.{ActsKeep, PutKeeps, RowKeeps, StepsKeep, end_moves_keep}
+use Rattle.rh_passages.proofs.Messages.{count_append, kind_more}
+use Rattle.rh_streams.proofs.EndMoves.{all_end_moved_append}
 use Rattle.rh_shell.specs.declared.answers.Count.{Count}
 use Rattle.rh_shell.specs.declared.answers.Refused.TheVariants as refused
 use Rattle.rh_shell.specs.declared.due.Due.{Due}
 use Rattle.rh_shell.specs.declared.due.Origin.TheVariants.{Forwarded}
-use Rattle.rh_shell.specs.declared.end_role.RecycleRefused.{RecycleRefused}
-use Rattle.rh_shell.specs.Moves.{OnLeg, EndMove, end_started}
+use Rattle.rh_shell.specs.Moves.{OnLeg, EndMove, EndPassage, Passage, all_end_moved, end_started}
 use Rattle.rh_shell.specs.Rules.{Message, Packet, Pdu}
-use Rattle.rh_shell.specs.Waiting.{Waiting, added, merged, pushed, taken, takes, to_forward, with_due, without_first}
+use Rattle.rh_shell.specs.Waiting.{Waiting, better, merged, own, pushed, takes, to_forward, with_due, without_first}
 use Rattle.rh_shell.specs.Waiting as waits
-use Rattle.rh_server.specs.declared.state.Edge.TheVariants.{Shut}
-use Rattle.rh_server.specs.declared.state.InLeg.{InLeg}
-use Rattle.rh_server.specs.declared.state.InStage.{InStage}
-use Rattle.rh_server.specs.declared.state.InStage.TheVariants as in_stage
+use Rattle.rh_server.specs.declared.out_line.Kind.{Kind}
 use Rattle.rh_server.specs.declared.state.OutLeg.{OutLeg}
-use Rattle.rh_server.specs.declared.state.Replacement.{Replacement}
-use Rattle.rh_server.specs.declared.state.Replacement.TheVariants as replacement
-use Rattle.rh_server.specs.declared.state.Stage.{Stage}
-use Rattle.rh_server.specs.declared.state.Stage.TheVariants as stage
-use Rattle.rh_server.specs.declared.out_line.Kind.TheVariants as kinds
 use Rattle.rh_server.specs.OutLines as lines
-use Rattle.rh_server.specs.OutLines.{has, is_ack_of, lets}
-use Rattle.rh_server.specs.States.{Server, in_leg, is_due, is_fresh, is_open, out_at, out_place, out_cookie, same_cookie, with_in, without_in, without_out}
-use Rattle.rh_server.specs.Opening.{Done, took, refuse, unexpected, is_first, opens, first_in, with_first_in, first_out_at, with_first_out, up, conn_a2_at, on_conn_a2, conn_b2_at, on_conn_b2}
-use Rattle.rh_server.specs.Acknowledging.{channel_at, channel_leg, forward_by, forwards, forwards_to, forwards_writing, on_ack_to, out_server}
-use Rattle.rh_server.specs.InReplacement.{announced, becomes_current, first_waiting, hands_over, has_fresh_below, in_r1_a2_at, in_r1_a2_by, in_r2_a2_on, leaves_by, moved_if, next_opened, on_in_r1_a2, on_in_r1_a6, on_in_r2_a2, opens_leg, opens_next, take}
-use Rattle.rh_server.specs.OutReplacement.{answered_by, answered_on, asks, confirms, is_under_way, last_number, may_answer, on_out_r1_a4, on_out_r1_a8, out_r1_a4_at, out_r1_a4_by, out_r1_a8_at, recycle, wishes}
-use Rattle.rh_server.specs.Ending.{completed, drawn_by, give, in_is_drawn, is_complete, lost_in, mark_by, settled, with_ack_dropped, without_ack_of}
-use Rattle.rh_server.specs.Putting.{Pick, or_else, counts, counts_at, gate, gate_at, is_end_due, may_end_at, may_go_at, next_out, out_greeting_at, pdu_by, put_by as put_by_kind, put_end, put_in, put_open, put_out_at, put_out_greeting, put_pdu, put_pdu_or_end, put_waiting, settled_pick, waiting_at, waiting_by, was_put}
+use Rattle.rh_server.specs.OutLines.{kind_of, lets}
+use Rattle.rh_server.specs.States.{Server, is_due, is_open, out_place}
+use Rattle.rh_server.specs.Opening.{Done, refuse, unexpected, is_first, up}
+use Rattle.rh_server.specs.Acknowledging.{channel_leg, forward_by, forwards, forwards_to, forwards_writing, on_ack_to, out_server}
+use Rattle.rh_server.specs.InReplacement.{take}
+use Rattle.rh_server.specs.OutReplacement.{recycle}
+use Rattle.rh_server.specs.Ending.{drawn_by, give, mark_by}
+use Rattle.rh_server.specs.Putting.{Pick, or_else, counts, gate, gate_at, is_end_due, may_end_at, may_go_at, next_out, out_greeting_at, pdu_by, put_by as put_by_kind, put_end, put_in, put_open, put_out_at, put_out_greeting, put_pdu, put_pdu_or_end, put_waiting, settled_pick, waiting_at, waiting_by, was_put}
 use Rattle.rh_server.specs.Servers.{acts, first, on_is, on_os, packet_by, pdu}
 use Rattle.rh_server.specs.Servers.{rules as server_rules}
-use Rattle.rh_server_counts.specs.Counting.{waits_for}
+use Rattle.rh_server_counts.specs.Counting.{leg_at, often, waiting_of, waits_for}
+use Rattle.rh_server_counts.proofs.Dues.{Went, alone_none, first_goes, one_waits, push_waits}
 use Rattle.rh_server_in_rows.specs.Handovers.{passed}
-use Rattle.std.proofs.Common.{suc, ◌++◌}
-use Rattle.rh_passages.specs.Passing.{count_of, of_kind}
-use Rattle.rh_passages.proofs.Messages.{count_append, kind_more}
-use Rattle.rh_streams.proofs.EndMoves.{all_end_moved_append}
-use Rattle.rh_shell.specs.Moves.{EndPassage, Passage, all_end_moved}
-use Rattle.rh_shell.specs.Waiting.{better, own}
-use Rattle.rh_server_counts.specs.Counting.{leg_at, often, waiting_of}
-use Rattle.rh_server_full.proofs.Dues.{Went, alone_none, first_goes, one_waits, push_waits}
 use Rattle.rh_server_room.specs.Overtaking.{is_ack_for}
-use Rattle.rh_server_full.proofs.Dues.{same_keys}
+use Rattle.rh_server_room.proofs.Ahead.{same_keys}
 use Rattle.rh_server_full.specs.Keeping.{ForwardsWhatCame}
+use Rattle.rh_server_full.proofs.Adding.{Keeps, counts_same, drawn_serves, fewer, give_same, in_same, is_row, mark_serves, os_row, pdu_same, recycle_serves, same_serves, settled_serves, take_serves, up_same}
 
 -- ---- what waits
 
-no_key : (channel : Cookie) (packet : Named) → waits.key_of packet ≡ None
+no_kind : (channel : Cookie) (packet : Named) (kind : Kind) → kind_of packet ≡ Some kind
     → is_ack_for channel packet ≡ false
-no_key channel (named.AckTo to received window of) e = absurd cc
-no_key channel packet e = refl
-
--- one is gone, or none
-fewer : (channel : Cookie) (may_go : Due → Bool) (dues : List Due)
-    → waiting_of (is_ack_for channel) (without_first may_go dues)
-    ≤ waiting_of (is_ack_for channel) dues
-fewer channel may_go dues = by (find may_go dues) (first_goes (is_ack_for channel) may_go dues)
-  where
-    by : (o : Option Due)
-        → Went (is_ack_for channel) dues (without_first may_go dues) o
-        → waiting_of (is_ack_for channel) (without_first may_go dues)
-        ≤ waiting_of (is_ack_for channel) dues
-    by None same = omega (arith, same)
-    by (Some due) less = omega (arith, less)
+no_kind channel (named.AckTo to received window of) kind e = absurd cc
+no_kind channel packet kind e = refl
 
 -- merged with one for the same channel, in its place
 merged_same : (channel : Cookie) (dues : List Due) (packet : Named)
@@ -113,31 +83,6 @@ merged_same channel (due ∷ dues) packet =
     by false e rest =
         ap (λ (n : ℕ). if is_ack_for channel due.packet then suc n else n) rest
 
-completed_same : (s : Server) → (completed s).waiting ≡ s.waiting
-completed_same s =
-    by_test (λ (t : Server). t.waiting ≡ s.waiting) (is_complete s)
-    (record s { stage = stage.Ended }) s (λ e. refl) (λ e. refl)
-
-first_out_same : (s : Server) (b : Cookie) (c d : ℕ)
-    → (with_first_out s b c d).waiting ≡ s.waiting
-first_out_same s b c d = by (out_place 1 s.outs) (out_at s.outs (out_place 1 s.outs))
-  where
-    by : (place : Option ℕ) (o : Option OutLeg)
-        → (first_out_at s b c d place o).waiting ≡ s.waiting
-    by (Some place) (Some leg) = refl
-    by (Some place) None = refl
-    by None o = refl
-
-up_same : (s : Server) (leg : Leg) (cookie : Cookie) → (up s leg cookie).waiting ≡ s.waiting
-up_same s leg cookie = search rules
-
-pdu_same : (s : Server) (leg : Leg) (count : Count) (bytes : List ℕ)
-    → (pdu s leg count bytes).0.waiting ≡ s.waiting
-pdu_same s leg count bytes = search rules
-
-give_same : (s : Server) (bytes : List ℕ) → (give s bytes).0.waiting ≡ s.waiting
-give_same s bytes = search rules
-
 module _ (channel : Cookie) (most : ℕ) where
   abbrev Right : Waiting → Type 0
   Right w = waiting_of (is_ack_for channel) w.due ≤ most
@@ -148,231 +93,15 @@ module _ (channel : Cookie) (most : ℕ) where
   abbrev RowServes : Done → Type 0
   RowServes x = Serves x.0
 
-  added_serves : (w : Waiting) (packet : Named) → waits.key_of packet ≡ None → Right w
-      → Right (added w packet)
-  added_serves w packet none h =
-      let more = push_waits (is_ack_for channel) w.due (own packet) in
-      let zero = alone_none (is_ack_for channel) packet (no_key channel packet none) in
-      omega (arith, h, more, zero)
-
-  less_serves : (w : Waiting) (may_go : Due → Bool) → Right w
-      → Right (with_due w (without_first may_go w.due))
-  less_serves w may_go h = let less = fewer channel may_go w.due in omega (arith, less, h)
-
-  settled_serves : (s : Server) → Serves s → Serves (settled s)
-  settled_serves s h =
-      let done = subst Right (sym (completed_same s)) h in
-      by_test Serves (wishes (completed s)) (asks (completed s)) (completed s)
-      (λ e. added_serves (completed s).waiting (named.OutR1A1 0) refl done) (λ e. done)
-
-  recycle_serves : (s : Server) → Serves s → Serves (recycle s).0
-  recycle_serves s h =
-      by_test Recycles (s.writing == last_number) _ _ (λ e. h)
-      (λ e. by_test Recycles (is_under_way s) _ _ (λ f. h)
-      (λ f. added_serves s.waiting (named.OutR1A1 0) refl h))
-    where
-      Recycles : Server × Result (Unit {0}) RecycleRefused → Type 0
-      Recycles x = Serves x.0
-
-  -- ---- IN channels
-
-  opens_serves : (s : Server) (leg : InLeg) (x : InStage) → Serves s → Serves (opens_next s leg x)
-  opens_serves s leg in_stage.Fresh h = h
-  opens_serves s leg in_stage.Opened h = h
-  opens_serves s leg (in_stage.Waits window timeout ended) h =
-      added_serves s.waiting (named.InR1A3 0 1 window timeout) refl h
-
-  next_serves : (s : Server) → Serves s → Serves (next_opened s)
-  next_serves s h =
-      by_test Serves (s.line.has_next || lines.waits kinds.InR1A3 s.waiting) s
-      (opens_leg s (first_waiting s.ins)) (λ e. h) (λ e. by (first_waiting s.ins))
-    where
-      by : (o : Option InLeg) → Serves (opens_leg s o)
-      by None = h
-      by (Some leg) = opens_serves s leg leg.stage h
-
-  moved_serves : (b : Bool) (s : Server) → Serves s → Serves (moved_if b s)
-  moved_serves b s h =
-      by_test Serves (b && not s.line.has_next) (becomes_current s) s
-      (λ e. next_serves (record s { current = s.next; edge = Shut }) h) (λ e. h)
-
-  take_serves : (s : Server) → Serves s → Serves (take s)
-  take_serves s h = moved_serves s.line.has_next (record s { line = after_take s.line }) h
-
-  conn_b2_row : (s : Server) (n : ℕ) (count : Count) (a b : Cookie) (c d : ℕ) → Serves s
-      → RowServes (on_conn_b2 s n count a b c d)
-  conn_b2_row s n count a b c d h =
-      by_test RowServes
-      (is_first count && ((n == 1) && not (lines.waits kinds.ConnC1 s.waiting)))
-      (conn_b2_at s s.stage a b c d) (unexpected s) (λ e. by s.stage) (λ e. h)
-    where
-      same : (o : Option InLeg) → (first_in s b o).waiting ≡ s.waiting
-      same None = refl
-      same (Some leg) = refl
-
-      here : Right (with_first_in s b).waiting
-      here = subst Right (sym (same (in_leg 1 s.ins))) h
-
-      by : (x : Stage) → RowServes (conn_b2_at s x a b c d)
-      by stage.Waits = here
-      by (stage.OutCame known) =
-          by_test RowServes (same_cookie known a) (took (opens (with_first_in s b) known c d)) _
-          (λ f. added_serves (with_first_in s b).waiting (named.ConnC1 1 c d) refl here) (λ f. h)
-      by (stage.InCame known window timeout) = h
-      by (stage.Open known) = h
-      by stage.Ended = h
-
-  in_r1_a2_row : (s : Server) (n : ℕ) (count : Count) (a b c : Cookie) (d e : ℕ) → Serves s
-      → RowServes (on_in_r1_a2 s n count a b c d e)
-  in_r1_a2_row s n count a b c d e h =
-      by_test RowServes (is_first count && not (has_fresh_below n s.ins))
-      (in_r1_a2_at s s.stage n a b c d e) (unexpected s) (λ f. by s.stage) (λ f. h)
-    where
-      on : (known : Cookie) (o : Option InLeg) → RowServes (in_r1_a2_by s known a b c d e o)
-      on known None = h
-      on known (Some leg) =
-          by_test RowServes (not (is_fresh leg.stage)) (unexpected s) _ (λ f. h)
-          (λ f. by_test RowServes (not (same_cookie known a))
-          (refuse s (refused.Cookie known a)) _ (λ g. h)
-          (λ g. by_test RowServes (not (same_cookie s.newest.cookie b))
-          (refuse s (refused.Cookie s.newest.cookie b)) (took (announced s leg c d e)) (λ i. h)
-          (λ i. next_serves
-          (with_in (record s { newest = record { leg = leg.number; cookie = c } })
-          (record leg { cookie = c; stage = in_stage.Waits d e false })) h)))
-
-      by : (x : Stage) → RowServes (in_r1_a2_at s x n a b c d e)
-      by stage.Waits = h
-      by (stage.OutCame known) = h
-      by (stage.InCame known window timeout) = h
-      by (stage.Open known) = on known (in_leg n s.ins)
-      by stage.Ended = h
-
-  in_r1_a6_row : (s : Server) (n : ℕ) (successor : Cookie) → Serves s
-      → RowServes (on_in_r1_a6 s n successor)
-  in_r1_a6_row s n successor h =
-      by_test RowServes _ (if same_cookie s.next.cookie successor
-      then took (hands_over s n)
-      else refuse s (refused.Cookie s.next.cookie successor)) (unexpected s)
-      (λ e. by_test RowServes (same_cookie s.next.cookie successor) (took (hands_over s n)) _
-      (λ f. by (in_leg n s.ins)) (λ f. h)) (λ e. h)
-    where
-      by : (o : Option InLeg)
-          → Serves (moved_if true (record (leaves_by s o) { line = after_finish s.line }))
-      by None = moved_serves true (record s { line = after_finish s.line }) h
-      by (Some leg) =
-          moved_serves true (record (leaves_by s (Some leg)) { line = after_finish s.line }) h
-
-  in_r2_a2_row : (s : Server) (n : ℕ) (count : Count) (successor : Cookie) → Serves s
-      → RowServes (on_in_r2_a2 s n count successor)
-  in_r2_a2_row s n count successor h =
-      by_test RowServes _ (in_r2_a2_on s n successor (channel_at s n)) (unexpected s)
-      (λ e. by (channel_at s n)) (λ e. h)
-    where
-      by : (o : Option Which) → RowServes (in_r2_a2_on s n successor o)
-      by None = h
-      by (Some Current) = added_serves s.waiting (named.InR2A3 0) refl h
-      by (Some Next) = added_serves s.waiting (named.InR2A3 0) refl h
-
-  -- ---- OUT channels
-
-  a8_row : (s : Server) (count : Count) (to : ℕ) (successor : Cookie) → Serves s
-      → RowServes (on_out_r1_a8 s count to successor)
-  a8_row s count to successor h =
-      by_test RowServes _ (out_r1_a8_at s successor s.replacement) (unexpected s)
-      (λ e. by s.replacement) (λ e. h)
-    where
-      by : (x : Replacement) → RowServes (out_r1_a8_at s successor x)
-      by replacement.Steady = h
-      by replacement.Asked = h
-      by replacement.Confirmed = h
-      by (replacement.Answered cookie) =
-          by_test RowServes (same_cookie cookie successor) (took (confirms s)) _
-          (λ f. added_serves s.waiting named.OutR1A9 refl h) (λ f. h)
-
-  conn_a2_row : (s : Server) (n : ℕ) (count : Count) (a b : Cookie) (c d : ℕ) → Serves s
-      → RowServes (on_conn_a2 s n count a b c d)
-  conn_a2_row s n count a b c d h =
-      by_test RowServes
-      (is_first count && ((n == 1) && not (lines.waits kinds.ConnC1 s.waiting)))
-      (conn_a2_at s s.stage a b c d) (unexpected s) (λ e. by s.stage) (λ e. h)
-    where
-      here : Right (with_first_out s b c d).waiting
-      here = subst Right (sym (first_out_same s b c d)) h
-
-      by : (x : Stage) → RowServes (conn_a2_at s x a b c d)
-      by stage.Waits = here
-      by (stage.InCame known window timeout) =
-          by_test RowServes (same_cookie known a)
-          (took (opens (with_first_out s b c d) known window timeout)) _
-          (λ f. added_serves (with_first_out s b c d).waiting (named.ConnC1 1 window timeout) refl
-          here) (λ f. h)
-      by (stage.OutCame known) = h
-      by (stage.Open known) = h
-      by stage.Ended = h
-
-  a4_row : (s : Server) (n : ℕ) (count : Count) (a b c : Cookie) (d e f : ℕ) → Serves s
-      → RowServes (on_out_r1_a4 s n count a b c d e f)
-  a4_row s n count a b c d e f h =
-      by_test RowServes (may_answer s n count) (out_r1_a4_at s s.stage n a b c d e f)
-      (unexpected s) (λ g. by_stage s.stage) (λ g. h)
-    where
-      answers : (place : Option ℕ) (o : Option OutLeg) → RowServes (answered_by s c d e f place o)
-      answers (Some place) (Some leg) = added_serves s.waiting (named.OutR1A5 0 1 f) refl h
-      answers (Some place) None = h
-      answers None o = h
-
-      by_writing : (known : Cookie) (o : Option Cookie)
-          → RowServes (out_r1_a4_by s n known a b c d e f o)
-      by_writing known None = h
-      by_writing known (Some writing) =
-          by_test RowServes (not (same_cookie known a)) (refuse s (refused.Cookie known a)) _
-          (λ g. h)
-          (λ g. by_test RowServes (not (same_cookie writing b))
-          (refuse s (refused.Cookie writing b)) (answered_on s n c d e f) (λ i. h)
-          (λ i. answers (out_place n s.outs) (out_at s.outs (out_place n s.outs))))
-
-      by_stage : (at : Stage) → RowServes (out_r1_a4_at s at n a b c d e f)
-      by_stage (stage.Open known) = by_writing known (out_cookie s.writing s.outs)
-      by_stage stage.Waits = h
-      by_stage (stage.OutCame connection) = h
-      by_stage (stage.InCame connection in_window timeout) = h
-      by_stage stage.Ended = h
-
-  os_row : (s : Server) (n : ℕ) (count : Count) (m : Named) → Serves s
-      → RowServes (on_os s n count m)
-  os_row s n count (named.ConnA2 v a b c d) h = conn_a2_row s n count a b c d h
-  os_row s n count (named.OutR1A4 v a b c d e f) h = a4_row s n count a b c d e f h
-  os_row s n count m h = same (on_os s n count m).0 (search rules)
-    where
-      same : (t : Server) → t.waiting ≡ s.waiting → Serves t
-      same t e = subst Right (sym e) h
-
-  drawn_serves : (s : Server) (n : ℕ) (k : LegKind) → Serves s → Serves (drawn_by s n k)
-  drawn_serves s n InServer h =
-      by_test Serves (in_is_drawn (in_leg n s.ins)) (settled (without_in s n)) s
-      (λ e. settled_serves (without_in s n) h) (λ e. h)
-  drawn_serves s n OutServer h = h
-  drawn_serves s n ClientIn h = h
-  drawn_serves s n ClientOut h = h
-
-  mark_serves : (s : Server) (n : ℕ) (k : LegKind) → Serves s → Serves (mark_by s n k)
-  mark_serves s n InServer h =
-      settled_serves (lost_in s n (in_leg n s.ins)) (lost (in_leg n s.ins))
-    where
-      lost : (o : Option InLeg) → Serves (lost_in s n o)
-      lost None = h
-      lost (Some leg) = by_test Serves _ (with_in s _) (without_in s n) (λ e. h) (λ e. h)
-  mark_serves s n OutServer h =
-      settled_serves (without_out (with_ack_dropped s n) n) (dropped (out_cookie n s.outs))
-    where
-      dropped : (o : Option Cookie) → Right (without_ack_of s.waiting o)
-      dropped None = h
-      dropped (Some cookie) = less_serves s.waiting (is_ack_of cookie) h
-  mark_serves s n ClientIn h = h
-  mark_serves s n ClientOut h = h
-
-  same_serves : (s t : Server) → t.waiting ≡ s.waiting → Serves s → Serves t
-  same_serves s t same h = subst Right (sym same) h
+  right_keeps : Keeps Right
+  right_keeps = record {
+    joins = λ w kind packet is none h.
+        let more = push_waits (is_ack_for channel) w.due (own packet) in
+        let zero = alone_none (is_ack_for channel) packet (no_kind channel packet kind is) in
+        omega (arith, h, more, zero);
+    goes = λ w may_go h.
+        let less = fewer (is_ack_for channel) may_go w.due in omega (arith, less, h);
+  }
 
   -- ---- acknowledgements
 
@@ -448,28 +177,10 @@ module _ (channel : Cookie) (most : ℕ) where
 
   is_counts : (s : Server) (n : ℕ) (count : Count) (m : Named) → Serves s
       → RowCounts m (on_is s n count m)
-  is_counts s n count (named.ConnB2 v a b c d e f g) h =
-      row_counts (named.ConnB2 v a b c d e f g) (on_conn_b2 s n count a b c d)
-      (conn_b2_row s n count a b c d h)
-  is_counts s n count (named.InR1A2 v a b c d e) h =
-      row_counts (named.InR1A2 v a b c d e) (on_in_r1_a2 s n count a b c d e)
-      (in_r1_a2_row s n count a b c d e h)
-  is_counts s n count (named.InR1A6 successor) h =
-      row_counts (named.InR1A6 successor) (on_in_r1_a6 s n successor)
-      (in_r1_a6_row s n successor h)
-  is_counts s n count (named.InR2A2 successor) h =
-      row_counts (named.InR2A2 successor) (on_in_r2_a2 s n count successor)
-      (in_r2_a2_row s n count successor h)
   is_counts s n count (named.AckTo to received window cookie) h =
       ack_to_counts s count to received window cookie h
-  is_counts s n count (named.OutR1A8 to successor) h =
-      row_counts (named.OutR1A8 to successor) (on_out_r1_a8 s count to successor)
-      (a8_row s count to successor h)
   is_counts s n count m h =
-      row_counts m (on_is s n count m) (same (on_is s n count m).0 (search rules))
-    where
-      same : (t : Server) → t.waiting ≡ s.waiting → Serves t
-      same t e = subst Right (sym e) h
+      row_counts m (on_is s n count m) (is_row Right right_keeps s n count m refl h)
 
 -- ---- what is put
 
@@ -489,13 +200,6 @@ module _ (channel : Cookie) where
   or_goes s None b one other = other
   or_goes s (Some pick) b one other = one
 
-  counts_same : (s : Server) (place len : ℕ) → (counts s place len).waiting ≡ s.waiting
-  counts_same s place len = by (slice_get s.outs place)
-    where
-      by : (o : Option OutLeg) → (counts_at s place len o).waiting ≡ s.waiting
-      by None = refl
-      by (Some leg) = refl
-
   put_same : (s : Server) (place : ℕ) (packet : Named)
       → (was_put s place packet).waiting ≡ s.waiting
   put_same s place (named.AckTo to received window cookie) =
@@ -503,10 +207,6 @@ module _ (channel : Cookie) where
       (λ e. counts_same s place 56)
   put_same s place named.OutR1A9 = counts_same s place 24
   put_same s place packet = counts_same s place (lines.length_of packet)
-
-  in_same : (s : Server) (n : ℕ)
-      → IfSome (put_in s n) (λ (one : Server × Message). one.0.waiting ≡ s.waiting)
-  in_same s n = search rules
 
   as_many : (s t : Server) → t.waiting ≡ s.waiting → waiting t ≡ waiting s
   as_many s t e = ap (λ (w : Waiting). waiting_of (is_ack_for channel) w.due) e
@@ -559,7 +259,8 @@ module _ (channel : Cookie) where
         settles : (pick : Pick) → Goes s pick → Goes s (settled_pick pick)
         settles None k = tt
         settles (Some one) k =
-            let most = settled_serves channel (waiting one.0) one.0 (omega arith) in
+            let most = settled_serves (Right channel (waiting one.0))
+            (right_keeps channel (waiting one.0)) one.0 (omega arith) in
             omega (arith, k, most)
 
         greets : (o : Option OutLeg) → Goes s (out_greeting_at s place o)
@@ -595,6 +296,12 @@ module _ (channel : Cookie) (before since : ℕ) where
 
   abbrev acks : List OnLeg → ℕ
   acks came = often (is_ack_for channel) InServer came
+
+  abbrev Rightly : Server → Waiting → Type 0
+  Rightly s = Right channel (waits_for (is_ack_for channel) s)
+
+  rightly_keep : (s : Server) → Keeps (Rightly s)
+  rightly_keep s = right_keeps channel (waits_for (is_ack_for channel) s)
 
   -- what waits or was put since came since, or waited before
   abbrev Holds : Server → List OnLeg → List OnLeg → Type 0
@@ -636,7 +343,7 @@ module _ (channel : Cookie) (before since : ℕ) where
       (is_counts channel (waits_for (is_ack_for channel) s) s n count m) h
   packet_keeps s n count m OutServer came put h =
       row_keeps s (leg_at OutServer n, Packet m) came put (on_os s n count m)
-      (os_row channel (waits_for (is_ack_for channel) s) s n count m) h
+      (os_row (Rightly s) (rightly_keep s) s n count m) h
   packet_keeps s n count m ClientIn came put h = h
   packet_keeps s n count m ClientOut came put h = h
 
@@ -659,7 +366,7 @@ module _ (channel : Cookie) (before since : ℕ) where
   put_keeps : (s : Server) (n : ℕ) (k : LegKind) (came put : List OnLeg) → Holds s came put
       → PutKeeps Holds (leg_at k n) came put (put_by_kind s n k)
   put_keeps s n InServer came put h =
-      put_in_keeps s n came put (put_in s n) (in_same channel s n) h
+      put_in_keeps s n came put (put_in s n) (in_same s n) h
   put_keeps s n OutServer came put h =
       put_out_keeps s n came put (put_out_at s (out_place n s.outs))
       (out_goes channel s (out_place n s.outs)) h
@@ -670,22 +377,22 @@ module _ (channel : Cookie) (before since : ℕ) where
   steps = record {
     up = λ s leg cookie came put h.
         same_holds s (up s leg cookie) came put
-        (same_serves channel (waits_for (is_ack_for channel) s) s (up s leg cookie)
+        (same_serves (Rightly s) (rightly_keep s) s (up s leg cookie)
         (up_same s leg cookie)) h;
     head = λ s leg text came put h. h;
     pdu = λ s leg count bytes came put h.
         row_keeps s (leg, Pdu bytes) came put (pdu s leg count bytes)
-        (same_serves channel (waits_for (is_ack_for channel) s) s (pdu s leg count bytes).0
+        (same_serves (Rightly s) (rightly_keep s) s (pdu s leg count bytes).0
         (pdu_same s leg count bytes)) h;
     packet = λ s leg count m came put h.
         packet_keeps s leg.number count m leg.kind came put h;
     put = λ s leg came put h. put_keeps s leg.number leg.kind came put h;
     drawn = λ s leg came put h.
         same_holds s (drawn_by s leg.number leg.kind) came put
-        (drawn_serves channel (waits_for (is_ack_for channel) s) s leg.number leg.kind) h;
+        (drawn_serves (Rightly s) (rightly_keep s) s leg.number leg.kind) h;
     mark = λ s leg came put h.
         same_holds s (mark_by s leg.number leg.kind) came put
-        (mark_serves channel (waits_for (is_ack_for channel) s) s leg.number leg.kind) h;
+        (mark_serves (Rightly s) (rightly_keep s) s leg.number leg.kind) h;
     ping = λ s leg came put h. h;
   }
 
@@ -693,15 +400,15 @@ module _ (channel : Cookie) (before since : ℕ) where
   calls = record {
     give = λ s bytes came put h.
         same_holds s (give s bytes).0 came put
-        (same_serves channel (waits_for (is_ack_for channel) s) s (give s bytes).0
+        (same_serves (Rightly s) (rightly_keep s) s (give s bytes).0
         (give_same s bytes)) h;
     take = λ s came put h.
         same_holds s (take s) came put
-        (take_serves channel (waits_for (is_ack_for channel) s) s) h;
+        (take_serves (Rightly s) (rightly_keep s) s) h;
     close = λ s came put h. h;
     recycle = λ s came put h.
         same_holds s (recycle s).0 came put
-        (recycle_serves channel (waits_for (is_ack_for channel) s) s) h;
+        (recycle_serves (Rightly s) (rightly_keep s) s) h;
   }
 
   pub kept_by : (p : EndPassage Server) (moves : List EndMove)

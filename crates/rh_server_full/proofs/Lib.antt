@@ -1,4 +1,3 @@
-pub mod Dues
 pub mod Kept
 pub mod Longest
 pub mod Streams
@@ -7,3 +6,6 @@ pub mod Counting
 pub mod Placing
 pub mod Answers
 pub mod Filling
+pub mod Adding
+pub mod Lengths
+pub mod Quiet

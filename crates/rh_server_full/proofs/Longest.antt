@@ -27,9 +27,11 @@ use Rattle.rh_server_in_rows.specs.Handovers.{passed}
 use Rattle.rh_server_room.specs.Forwarding.{ForwardsAcks}
 use Rattle.rh_server_room.specs.Overtaking.{is_ack_for}
 use Rattle.rh_in_handovers.proofs.Crossing.{Crossing, crossing}
-use Rattle.rh_server_full.specs.Oldest.{HasOldest, Oldest}
-use Rattle.rh_server_full.proofs.Dues.{same_cookies}
+use Rattle.rh_rounds.specs.Rounds.{taken_in}
+use Rattle.rh_server_full.specs.Oldest.{HasOldest, Oldest, due_in}
+use Rattle.rh_server_room.proofs.Ahead.{same_cookies}
 use Rattle.rh_server_full.proofs.Kept.{what_came}
+use Rattle.rh_server_full.proofs.Quiet.{quiet_by}
 
 -- ---- no less was put later
 
@@ -310,41 +312,64 @@ module _ (window : ℕ) (moves : List EndMove)
   none_before : held put_now dues (passed window at.front) ≡ 0
   none_before = let below = at.below in omega (arith, below)
 
+  -- of a channel for which one is held behind later moves, one came by then
+  came_by : (later : List EndMove) (other : Cookie)
+      → 1 ≤ waits_for (is_ack_for other) now.role
+      → 1 ≤ waits_for (is_ack_for other) (passed window (at.front ++ later)).role
+      → put_now other ≤ out_put (is_ack_for other) (passed window (at.front ++ later))
+      → in_came (is_ack_for other) (passed window at.front)
+      < in_came (is_ack_for other) (passed window (at.front ++ later))
+  came_by later other waits waited put =
+      by (waits_for (is_ack_for other) (passed window at.front).role)
+      (out_put (is_ack_for other) (passed window at.front))
+      (none_held put_now dues (passed window at.front) none_before other waits)
+      (what_came window at.front later other)
+      ((forwards at.front).once 0 other)
+      (put_grows (is_ack_for other) window at.front later)
+    where
+      p : Passage Server
+      p = passed window (at.front ++ later)
+
+      by : (waited_then before : ℕ) → nat_le 1 waited_then && nat_le (put_now other) before ≡ false
+          → waits_for (is_ack_for other) p.role + out_put (is_ack_for other) p
+          + in_came (is_ack_for other) (passed window at.front)
+          ≤ in_came (is_ack_for other) p + (waited_then + before)
+          → waited_then ≤ 1 → before ≤ out_put (is_ack_for other) p
+          → in_came (is_ack_for other) (passed window at.front) < in_came (is_ack_for other) p
+      by waited_then before none sum once grows = at_case (nat_le 1 waited_then) refl none
+        where
+          at_case : (b : Bool) → nat_le 1 waited_then ≡ b
+              → b && nat_le (put_now other) before ≡ false
+              → in_came (is_ack_for other) (passed window at.front)
+              < in_came (is_ack_for other) p
+          at_case true e f =
+              let less = more_than (put_now other) before f in
+              omega (arith, less, sum, once, waited, put)
+          at_case false e f =
+              let zero_then = more_than 1 waited_then e in
+              omega (arith, zero_then, sum, grows, waited)
+
   came_since : (other : Cookie) → 1 ≤ waits_for (is_ack_for other) now.role
       → in_came (is_ack_for other) (passed window at.front) < in_came (is_ack_for other) now
   came_since other waits =
-      by (waits_for (is_ack_for other) (passed window at.front).role)
-      (put_now other) (out_put (is_ack_for other) (passed window at.front))
-      (none_held put_now dues (passed window at.front) none_before other waits)
-      (subst (λ (ms : List EndMove). waits_for (is_ack_for other) (passed window ms).role
-      + out_put (is_ack_for other) (passed window ms)
-      + in_came (is_ack_for other) (passed window at.front)
-      ≤ in_came (is_ack_for other) (passed window ms)
-      + (waits_for (is_ack_for other) (passed window at.front).role
-      + out_put (is_ack_for other) (passed window at.front))) (sym at.is)
-      (what_came window at.front (at.move ∷ at.later) other))
-      ((forwards at.front).once 0 other)
-      (subst (λ (ms : List EndMove). out_put (is_ack_for other) (passed window at.front)
-      ≤ out_put (is_ack_for other) (passed window ms)) (sym at.is)
-      (put_grows (is_ack_for other) window at.front (at.move ∷ at.later)))
-    where
-      by : (waited later before : ℕ) → nat_le 1 waited && nat_le later before ≡ false
-          → waits_for (is_ack_for other) now.role + later
-          + in_came (is_ack_for other) (passed window at.front)
-          ≤ in_came (is_ack_for other) now + (waited + before)
-          → waited ≤ 1 → before ≤ later
-          → in_came (is_ack_for other) (passed window at.front)
-          < in_came (is_ack_for other) now
-      by waited later before none sum once grows = at_case (nat_le 1 waited) refl none
-        where
-          at_case : (b : Bool) → nat_le 1 waited ≡ b → b && nat_le later before ≡ false
-              → in_came (is_ack_for other) (passed window at.front)
-              < in_came (is_ack_for other) now
-          at_case true e f =
-              let less = more_than later before f in omega (arith, less, sum, once, waits)
-          at_case false e f =
-              let zero_then = more_than 1 waited e in
-              omega (arith, zero_then, sum, grows, waits)
+      subst (λ (ms : List EndMove).
+      1 ≤ waits_for (is_ack_for other) (passed window ms).role
+      → put_now other ≤ out_put (is_ack_for other) (passed window ms)
+      → in_came (is_ack_for other) (passed window at.front)
+      < in_came (is_ack_for other) (passed window ms)) (sym at.is)
+      (came_by (at.move ∷ at.later) other waits) waits (omega arith)
+
+  -- so this move is one by which one came
+  quiet : taken_in (passed window behind) + due_in (passed window behind).role
+      ≤ taken_in (passed window at.front) + due_in (passed window at.front).role
+  quiet =
+      let one = is_so put_now (passed window behind) found.0 found.2 in
+      subst (λ (p : Passage Server).
+      in_came (is_ack_for found.0) (passed window at.front) < in_came (is_ack_for found.0) p
+      → taken_in p + due_in p.role
+      ≤ taken_in (passed window at.front) + due_in (passed window at.front).role) (sym same)
+      (quiet_by found.0 (all_end_moved rules acts start at.front) at.move)
+      (came_by (at.move ∷ []) found.0 found.1 one.0 one.1)
 
   pub is_oldest : Oldest window moves
   is_oldest =
@@ -358,6 +383,7 @@ module _ (window : ℕ) (moves : List EndMove)
         waits = found.1;
         stays = one.1;
         since = came_since;
+        quiet = quiet;
       }
 
 pub oldest : (window : ℕ) (moves : List EndMove)

@@ -11,10 +11,12 @@ use Rattle.rh_server.specs.States.{Server}
 use Rattle.rh_server_counts.specs.Counting.{is_ack_to, waits_for}
 use Rattle.rh_server_room.specs.Forwarding.{is_ack_at}
 
--- none of its channel waits, and fifteen for the client do
+-- none of its channel waits, and fifteen for the client do, and one more where it is for an out
+-- proxy
 pub record IsFilled (s : Server) (to : ℕ) (channel : Cookie) : Type 0 where
   pub none : waits_for (is_ack_at to channel) s ≡ 0
   pub least : 15 ≤ waits_for (is_ack_to 0) s
+  pub own : to ≡ 3 → 16 ≤ waits_for (is_ack_to 0) s
 
 abbrev pub FillsFirst : Server → Type 0
 FillsFirst s =

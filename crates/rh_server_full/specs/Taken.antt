@@ -2,15 +2,11 @@
 use Rattle.std.specs.Prelude.{ℕ, ◌+◌, ◌*◌, ◌≤◌, ◌++◌, ◌∷◌, [], List, length}
 use Rattle.rh_shell.specs.Moves.{EndMove, Passage}
 use Rattle.rh_server.specs.States.{Server}
-use Rattle.rh_server_counts.specs.Counting.{is_in_r1_a3, is_in_r2_a3, waits_for}
 use Rattle.rh_server_in_rows.specs.Handovers.{passed}
 use Rattle.rh_rounds.specs.Rounds.{taken_in}
 use Rattle.rh_server_room.specs.Overtaking.{AreLong}
 use Rattle.rh_server_full.specs.Oldest.{Oldest}
-
--- IN_R1/A3 and IN_R2/A3 that are due
-abbrev pub due_in : Server → ℕ
-due_in s = waits_for is_in_r1_a3 s + waits_for is_in_r2_a3 s
+pub use Rattle.rh_server_full.specs.Oldest.{due_in}
 
 -- behind the move behind which the one waited that waits longest
 abbrev pub behind_oldest : (window : ℕ) (moves : List EndMove) → Oldest window moves

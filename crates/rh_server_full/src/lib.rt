@@ -11,7 +11,7 @@ pub mod placed;
 pub mod taken;
 
 pub use few::no_more_acknowledgements_wait_than_channels;
-pub use filled::fifteen_wait_where_there_is_no_room;
+pub use filled::{few_packets_wait_at_a_server, fifteen_wait_where_there_is_no_room};
 pub use keeping::a_server_forwards_what_came;
 pub use numbered::acknowledgements_are_of_late_channels;
 pub use oldest::an_acknowledgement_waits_longest;
