@@ -1,10 +1,13 @@
-//! Which channels are late. This function calls the laws that it stands on: its contract is the law.
+//! Which channels are late. This function calls the laws that it stands on: its contract is the
+//! law.
 
 ghost use Rattle.std.specs.Prelude.{ℕ};
 ghost use Rattle.rh_moments.specs.Moments.{IsMoment, Moves, Numbers};
 ghost use Rattle.rh_late_channels.specs.Late.{FewAreLate};
 
-use rh_in_channels::{in_channels_are_announced_in_order, in_channels_are_answered_in_order};
+use rh_in_channels::in_channels_are_announced_in_order;
+use rh_rounds::replacements_go_round;
+use rh_server_counts::{a_server_answers_each_in_channel_once, a_server_opens_once};
 use rh_server_in_rows::handovers_make_room_for_answers;
 
 /// At each moment of a virtual connection, behind each front of the server's moves: of the channels
@@ -16,6 +19,8 @@ pub fn few_channels_are_late()
         → IsMoment numbers reader moves → FewAreLate numbers moves }
 {
     in_channels_are_announced_in_order();
-    in_channels_are_answered_in_order();
+    replacements_go_round();
+    a_server_answers_each_in_channel_once();
+    a_server_opens_once();
     handovers_make_room_for_answers();
 }

@@ -1,0 +1,4 @@
+mod Answered
+mod Search
+mod Fronts
+mod Channels
