@@ -1,5 +1,5 @@
 -- few answers pass an acknowledgement to the client that waits at a server, whatever happens
-use Rattle.std.proofs.Common.{◌≡◌, ◌⊎◌, inl, inr, ℕ, zero, suc, ◌+◌, ◌*◌, ◌<◌, ◌≤◌, ◌==◌, ◌&&◌, ◌||◌, Bool, true, false, nat_lt, not, if◌then◌else◌, List, [], ◌∷◌, ◌++◌, length, Some, None, Ok, Err, refl, sym, ap, ◌∙◌, subst, arith}
+use Rattle.std.proofs.Common.{◌≡◌, inl, inr, ℕ, zero, suc, ◌+◌, ◌*◌, ◌<◌, ◌≤◌, ◌&&◌, ◌||◌, Bool, true, false, nat_lt, not, if◌then◌else◌, List, [], ◌∷◌, ◌++◌, length, Some, None, Ok, Err, refl, sym, ap, ◌∙◌, subst, arith}
 use Rattle.std.proofs.lemmas.Bool.Decides.{nat_tests}
 use Rattle.std.proofs.lemmas.List.{append_assoc, append-nil}
 use Rattle.std.specs.Prelude.{IfSome, find, slice_get}
@@ -27,18 +27,17 @@ use Rattle.rh_server.specs.Putting.{Pick, put_in, put_out_at, put_by as put_by_k
 use Rattle.rh_server.specs.Servers.{acts, first, packet_by, pdu}
 use Rattle.rh_server.specs.Servers.{rules as server_rules}
 use Rattle.rh_server.specs.States.{Server, is_some, is_steady, out_at, out_leg, out_place}
-use Rattle.rh_server_counts.specs.Counting.{is_in_r1_a3, is_in_r2_a3, is_out_r1_a1, is_out_r1_a5, is_out_r1_a9, leg_at, often, often_at, out_put, waiting_of, waits_for}
+use Rattle.rh_server_counts.specs.Counting.{is_out_r1_a1, is_out_r1_a5, is_out_r1_a9, leg_at, often, out_put, waiting_of, waits_for}
 use Rattle.rh_server_counts.specs.Replacing.{AreReplaced, since_answered, since_asked, since_confirmed}
 use Rattle.rh_server_counts.proofs.Replacing.{are_put_in_turn, are_replaced}
 use Rattle.rh_server_full.specs.Taken.{due_in}
 use Rattle.rh_server_full.proofs.Longest.{put_grows}
 use Rattle.rh_server_in_rows.specs.Handovers.{passed}
-use Rattle.rh_server_room.specs.Overtaking.{AreLong, IsLong, IsLongOn, is_ack_for}
+use Rattle.rh_server_room.specs.Overtaking.{AreLong, IsLong, is_ack_for}
 use Rattle.rh_server_room.proofs.Ahead as ahead
 use Rattle.rh_server_room.proofs.Legs.{each_got}
 use Rattle.rh_server_room.proofs.Meters.{Base, seen}
 use Rattle.rh_server_room.proofs.Overtaken.{bases}
-use Rattle.rh_server_room.proofs.ServerPuts.{is_acked}
 use Rattle.rh_server_room.proofs.Serving.{number_found}
 use Rattle.rh_server_room.proofs.ViewPuts.{os_goes}
 use Rattle.rh_server_room.proofs.ViewRows.{LongServes, drawn_serves, give_serves, mark_serves, packet_row, pdu_row, recycles, take_serves, up_serves}
@@ -46,18 +45,18 @@ use Rattle.rh_server_room.proofs.Views.{AreKept, View, view}
 use Rattle.rh_shell.specs.declared.due.Due.{Due}
 use Rattle.rh_shell.specs.declared.due.Origin.TheVariants.{Own}
 use Rattle.rh_shell.specs.declared.end_role.GiveRefused.{GiveRefused}
-use Rattle.rh_shell.specs.Moves.{OnLeg, Move, Up, HeadCame, PduCame, PacketCame, Puts, IsDrawn, Marks, Pings, Passage, taken_by, put_by, EndMove, Moves, Gives, Takes, Closes, Recycles, EndPassage, end_moved, end_now_at, given_by, with_first, all_end_moved, end_started, now_at}
-use Rattle.rh_shell.specs.Rules.{Message, Text, Pdu, Packet}
+use Rattle.rh_shell.specs.Moves.{OnLeg, Up, HeadCame, PduCame, PacketCame, Puts, IsDrawn, Marks, Pings, Passage, taken_by, put_by, EndMove, Moves, Gives, Takes, Closes, Recycles, EndPassage, end_moved, end_now_at, given_by, with_first, all_end_moved, end_started, now_at}
+use Rattle.rh_shell.specs.Rules.{Message, Pdu, Packet}
 use Rattle.rh_shell.specs.Waiting.{is_of}
 use Rattle.rh_streams.proofs.EndMoves.{all_end_moved_append}
 use Rattle.std.specs.declared.result.Result.{Result}
 use Rattle.rh_server_wishes.specs.Passing.{FewPass, MayGoOn, OneIsDue, behind_wish, lets_acks_on}
 use Rattle.rh_server_wishes.proofs.Fits.{are_fit, in_same, long_before}
 use Rattle.rh_server_wishes.proofs.Logs.{acks_more, asked_on, behind_first, in_leg_same, in_often, in_put_in, more_on, one_ack, put_in as answers_in, put_more, rises}
-use Rattle.rh_server_wishes.proofs.PhasePuts.{IsGone, answers, phase_put}
+use Rattle.rh_server_wishes.proofs.PhasePuts.{IsGone, phase_put}
 use Rattle.rh_server_wishes.proofs.Phases.{Phase, Early, Asking, Wished, Late, Over, AreSo, IsPhase, IsShort, IsSo, Stands, so_kept}
 use Rattle.rh_server_wishes.proofs.Ready.{AreReady, under}
-use Rattle.rh_server_wishes.proofs.Spans.{both_kinds, found_there, is_wish, span, span_all}
+use Rattle.rh_server_wishes.proofs.Spans.{both_kinds, found_there, span, span_all}
 
 -- ---- where no replacement is under way, no packet of one waits
 
@@ -357,9 +356,9 @@ module _ (window : ℕ) (front later : List EndMove) (least : ℕ) (channel : Co
 
   -- ---- behind the front
 
-  sum_all : (p_q r : Bool) → span channel p_q r p.role.waiting.due ≤ due_in p.role
-  sum_all p_q r =
-      let all = span_all channel p_q r p.role.waiting.due in
+  sum_all : (one other : Bool) → span channel one other p.role.waiting.due ≤ due_in p.role
+  sum_all one other =
+      let all = span_all channel one other p.role.waiting.due in
       let both = both_kinds p.role.waiting.due in omega (arith, all, both)
 
   begins : ClaimAt p

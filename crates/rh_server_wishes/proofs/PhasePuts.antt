@@ -1,8 +1,7 @@
 -- what a server puts on os legs keeps how far an acknowledgement to the client has come that waits
 use Rattle.std.proofs.Common.{◌≡◌, ◌⊎◌, inl, inr, ℕ, suc, ◌+◌, ◌*◌, ◌≤◌, ◌==◌, ◌&&◌, Bool, true, false, nat_lt, if◌then◌else◌, List, [], ◌∷◌, Some, None, refl, sym, ap, ◌∙◌, subst, arith}
 use Rattle.std.proofs.lemmas.Bool.Decides.{nat_tests}
-use Rattle.std.specs.Prelude.{IfSome, find, slice_get, slice_set}
-use Rattle.std.specs.declared.option.Option.{Option}
+use Rattle.std.specs.Prelude.{IfSome, find, slice_set}
 use Rattle.rh_rts.specs.declared.command.Cookie.{Cookie}
 use Rattle.rh_sig.specs.declared.named.Named.{Named}
 use Rattle.rh_sig.specs.declared.named.Named.TheVariants as named
@@ -31,13 +30,13 @@ use Rattle.rh_server_room.proofs.ViewRows.{settled_serves}
 use Rattle.rh_server_room.proofs.Views.{View, view}
 use Rattle.rh_server_wishes.proofs.Phases.{Phase, Early, Asking, Wished, Late, Over, AreSo, HasRoom, IsHeld, IsPhase, IsShort, IsSo, Moved, Stands, dues_stand, legs_stand, rise_stand, set_so, so_kept}
 use Rattle.rh_server_wishes.proofs.Ready.{AreReady, IsReadyAt, IsShut, IsWide, open_has, under}
-use Rattle.rh_server_wishes.proofs.Spans.{AreLet, ack_span, answer_ack, answer_span, answer_wish, is_answer, is_for, is_there, is_wish, less_ack, less_span, span, there_gone, wish_answer}
+use Rattle.rh_server_wishes.proofs.Spans.{ack_span, answer_span, answer_wish, is_for, is_wish, less_ack, less_span, span, there_gone}
 
 -- ---- tests
 
 not_true : (b : Bool) → (b ≡ true → ⊥) → b ≡ false
-not_true true no = absurd (no refl)
-not_true false no = refl
+not_true true unlike = absurd (unlike refl)
+not_true false unlike = refl
 
 other_way : true ≡ false → ⊥
 other_way e = absurd cc
@@ -230,7 +229,7 @@ module _ (channel : Cookie) (least from most n : ℕ) (s : Server) (put asked mo
 
       module _ (may : IsLet (gate s leg) due.packet) (asks mores : ℕ)
           (rise : Rises n from asked more (Packet due.packet) asks mores) where
-        new : OutLeg
+        abbrev new : OutLeg
         new = counted leg (length_of due.packet)
 
         abbrev news : List OutLeg
@@ -363,12 +362,12 @@ module _ (channel : Cookie) (least from most n : ℕ) (s : Server) (put asked mo
                   h.1,
                   omega (arith, sum, most_acks, less, zero_more),
                 )
-            asking false no h =
+            asking false unlike h =
                 let sum = h.2 in
                 let fewer = less_span channel (lets (gate s leg)) due true true s.waiting.due
-                first.found other no in
+                first.found other unlike in
                 standing news (put + answers (Packet due.packet)) asks mores Asking (
-                  there_gone is_wish (lets (gate s leg)) s.waiting.due due first.found no h.0,
+                  there_gone is_wish (lets (gate s leg)) s.waiting.due due first.found unlike h.0,
                   h.1,
                   omega (arith, sum, fewer, zero_more),
                 )
@@ -514,7 +513,7 @@ module _ (channel : Cookie) (least from most n : ℕ) (s : Server) (put asked mo
       → is_for channel due ≡ false → is_wish due ≡ false → (puts asks mores : ℕ)
       → puts ≤ put → asked ≤ asks → more ≤ mores
       → StandsAt (record (view s) { dues = rest s leg }) puts asks mores
-  alone_goes place leg due first other no puts asks mores a b c =
+  alone_goes place leg due first other unlike puts asks mores a b c =
       dues_stand channel least from most (view s) (rest s leg) puts asks mores moved
       (rise_stand channel least from most (view s) put asked more puts asks mores a b c stands)
     where
@@ -534,10 +533,10 @@ module _ (channel : Cookie) (least from most n : ℕ) (s : Server) (put asked mo
       moved = record {
         there = (by gone).0;
         fewer = (by gone).1;
-        wish = there_gone is_wish (lets (gate s leg)) s.waiting.due due first.found no;
+        wish = there_gone is_wish (lets (gate s leg)) s.waiting.due due first.found unlike;
         acks = less_ack channel (lets (gate s leg)) due true s.waiting.due first.found other;
         both = λ wish. less_span channel (lets (gate s leg)) due true true s.waiting.due
-            first.found other no;
+            first.found other unlike;
       }
 
   -- ---- all steps

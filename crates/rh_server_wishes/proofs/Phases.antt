@@ -1,16 +1,13 @@
 -- how far an acknowledgement to the client has come that waits at a server: whether its meter
 -- refused it, and where OUT_R1/A1 is then
 use Rattle.std.proofs.Common.{◌≡◌, ℕ, ◌+◌, ◌*◌, ◌≤◌, Bool, true, false, nat_lt, if◌then◌else◌, List, [], ◌∷◌, ◌++◌, Some, refl, sym, ap, ◌∙◌, subst, arith}
-use Rattle.std.proofs.lemmas.Bool.{and_parts}
 use Rattle.std.specs.Prelude.{IfSome, slice_get, slice_set, remove}
-use Rattle.std.specs.Str.{bytes_eq}
 use Rattle.std.specs.List.{AllByRecursion}
 use Rattle.std.specs.declared.option.Option.{Option}
 use Rattle.rh_rts.specs.declared.command.Cookie.{Cookie}
 use Rattle.rh_sig.specs.declared.named.Named.{Named}
 use Rattle.rh_sig.specs.declared.named.Named.TheVariants as named
 use Rattle.rh_keep.specs.Meters.{Meter}
-use Rattle.rh_order.proofs.ByNumber.{same_number}
 use Rattle.rh_out_room.specs.Waits.{is_in_a3}
 use Rattle.rh_passages.proofs.Messages.{all_append}
 use Rattle.rh_shell.specs.declared.due.Due.{Due}
@@ -29,7 +26,7 @@ use Rattle.rh_server_room.proofs.Ahead.{same_keys}
 use Rattle.rh_server_room.proofs.Ahead as ahead
 use Rattle.rh_server_room.proofs.Legs.{each_got, each_removed, each_set}
 use Rattle.rh_server_room.proofs.Meters.{is_begun}
-use Rattle.rh_server_room.proofs.Views.{AreKept, IsOther, View}
+use Rattle.rh_server_room.proofs.Views.{AreKept, View}
 use Rattle.rh_server_wishes.proofs.Spans.{is_answer, is_for, is_there, is_wish, keyed_answer, keyed_wish, merged_all, merged_span, plain_all, plain_span, pushed_span, span, span_all, there_last, there_pushed, wish_merged}
 
 -- the meter didn't refuse it; OUT_R1/A1 waits, or was put on the channel that wrote at first; the
@@ -119,8 +116,7 @@ module _ (channel : Cookie) (least from most : ℕ) where
       (h.0, h.1, omega (arith, less, sum))
   dues_hold x others put asked more m Late h =
       let less = m.acks in
-      let sum = h.1 in
-      (
+      let sum = h.1 in (
         h.0,
         omega (arith, less, sum),
         fewer_so (ahead.count channel x.dues) (ahead.count channel others) x.writing m.fewer
@@ -262,8 +258,7 @@ module _ (channel : Cookie) (least from most : ℕ) where
   new_hold x new put asked more number Asking h = h
   new_hold x new put asked more number Wished h = h
   new_hold x new put asked more number Late h =
-      let le = (h.0).1 in
-      (
+      let le = (h.0).1 in (
         ((h.0).0, omega (arith, le, number)),
         h.1,
         new_so x new number le (HasRoom (ahead.count channel x.dues)) h.2,

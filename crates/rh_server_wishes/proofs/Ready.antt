@@ -1,16 +1,14 @@
 -- where no replacement is under way, the writing channel of a server has room for an
 -- acknowledgement to the client, or for nothing
-use Rattle.std.proofs.Common.{◌≡◌, ◌⊎◌, inl, inr, ℕ, suc, ◌+◌, ◌≤◌, ◌==◌, ◌&&◌, ◌||◌, cond, Bool, true, false, nat_lt, not, if◌then◌else◌, List, [], ◌∷◌, ◌++◌, Some, None, refl, sym, ap, ◌∙◌, subst, arith}
-use Rattle.std.proofs.lemmas.Bool.{and_parts}
+use Rattle.std.proofs.Common.{◌≡◌, ◌⊎◌, inl, inr, ℕ, ◌+◌, ◌≤◌, ◌==◌, ◌&&◌, ◌||◌, cond, Bool, true, false, nat_lt, not, if◌then◌else◌, List, [], ◌∷◌, ◌++◌, Some, None, refl, sym, ap, ◌∙◌, subst, arith}
 use Rattle.std.proofs.lemmas.Bool.Decides.{nat_tests}
-use Rattle.std.specs.Prelude.{IfSome, find, position, slice_get, slice_set, remove}
+use Rattle.std.specs.Prelude.{IfSome, find, slice_get, slice_set}
 use Rattle.std.specs.List.{AllByRecursion}
 use Rattle.std.specs.declared.option.Option.{Option}
-use Rattle.rh_rts.specs.declared.command.Cookie.{Cookie}
 use Rattle.rh_sig.specs.declared.named.Named.{Named}
 use Rattle.rh_sig.specs.declared.named.Named.TheVariants as named
 use Rattle.rh_keep.specs.Meters.{Meter, started, wanted}
-use Rattle.rh_order.proofs.ByNumber.{by_test, same_number, test_same, test_other}
+use Rattle.rh_order.proofs.ByNumber.{by_test, same_number, test_same}
 use Rattle.rh_passages.proofs.Messages.{all_append, each_so}
 use Rattle.rh_shell.specs.declared.due.Due.{Due}
 use Rattle.rh_shell.specs.declared.due.Origin.TheVariants.{Own}
@@ -28,7 +26,6 @@ use Rattle.rh_server.specs.States.{Server, is_open, is_some, is_steady, out_at, 
 use Rattle.rh_server_rows.proofs.Places.{next_place, place_step}
 use Rattle.rh_server_room.proofs.Ahead.{same_keys}
 use Rattle.rh_server_room.proofs.Legs.{Above, Sorted, each_got, each_removed, each_set, sorted_pushed, sorted_removed, sorted_set}
-use Rattle.rh_server_room.proofs.Meters.{is_begun}
 use Rattle.rh_server_room.proofs.ViewPuts.{ArePut}
 use Rattle.rh_server_room.proofs.ViewRows.{settled_serves}
 use Rattle.rh_server_room.proofs.Views.{AreKept, View, had_out, has_out, view}
@@ -107,10 +104,10 @@ found_merged (first ∷ dues) packet key is e =
     one false e rest = rest e
 
     better_other : of_wishes first ≡ false → of_wishes (better first packet) ≡ false
-    better_other no =
+    better_other unlike =
         by_test (λ (d : Due). of_wishes d ≡ false)
         (nat_lt (edge_of packet) (edge_of first.packet)) first
-        (record { packet = packet; origin = first.origin }) (λ f. no)
+        (record { packet = packet; origin = first.origin }) (λ f. unlike)
         (λ f. keyed_other (record { packet = packet; origin = first.origin }) key is)
 
     by : (b : Bool) → takes packet first ≡ b
@@ -119,11 +116,11 @@ found_merged (first ∷ dues) packet key is e =
         → (finds of_wishes (merged dues packet) ≡ false → finds of_wishes dues ≡ false)
         → if_first of_wishes (of_wishes first) first dues ≡ false
     by true same e rest =
-        let no = keyed_other first key
+        let unlike = keyed_other first key
         (same_keys (key_of first.packet) (key_of packet) same ∙ is) in
-        ap (λ (b : Bool). if_first of_wishes b first dues) no
+        ap (λ (b : Bool). if_first of_wishes b first dues) unlike
         ∙ sym (ap (λ (b : Bool). if_first of_wishes b (better first packet) dues)
-        (better_other no)) ∙ e
+        (better_other unlike)) ∙ e
     by false same e rest = one (of_wishes first) e rest
 
 -- ---- the writing leg
@@ -164,13 +161,13 @@ not_wanted n (leg ∷ legs) sorted e =
           absurd (omega (arith, above, f, here))) legs sorted.0,
     )
     by false is e rest = (
-      λ f. absurd (no
+      λ f. absurd (unlike
           (sym (subst (λ (k : ℕ). (k == n) ≡ true) (sym f) (test_same n)) ∙ is)),
       rest (behind (out_place n legs) e),
     )
       where
-        no : true ≡ false → ⊥
-        no f = absurd cc
+        unlike : true ≡ false → ⊥
+        unlike f = absurd cc
 
 wide_so : (m : Meter) → wanted m ≡ false → m.count + 312 ≤ m.length
 wide_so m e = grind (arith, nat_tests)
@@ -285,8 +282,7 @@ module _ (least : ℕ) (enough : 340 ≤ least) where
         (λ e. sym had ∙ e) (λ e. sym has ∙ e) (λ e. e) refl refl h;
     came_out = λ x now early none had h. comes x now none had h;
     first_out = λ x now place leg new early none had at number count long h.
-        each_set (IsReadyAt (record x { at = now })) x.legs place new
-        (
+        each_set (IsReadyAt (record x { at = now })) x.legs place new (
           λ e f. absurd (other_way (sym had ∙ e)),
           λ e f g i. inr (omega (arith, enough, count, long)),
         )

@@ -1,6 +1,6 @@
 -- the answers to IN channels that stand before an acknowledgement to the client, and before
 -- OUT_R1/A1, among what waits
-use Rattle.std.proofs.Common.{◌≡◌, ◌⊎◌, inl, inr, ℕ, suc, ◌+◌, ◌≤◌, ◌&&◌, ◌||◌, Bool, true, false, nat_lt, not, if◌then◌else◌, List, [], ◌∷◌, ◌++◌, Some, None, refl, sym, ap, ◌∙◌, subst, arith}
+use Rattle.std.proofs.Common.{◌≡◌, ◌⊎◌, inl, inr, ℕ, suc, ◌+◌, ◌≤◌, ◌&&◌, ◌||◌, Bool, true, false, nat_lt, not, if◌then◌else◌, List, [], ◌∷◌, ◌++◌, Some, refl, sym, ap, ◌∙◌, subst, arith}
 use Rattle.std.specs.Prelude.{find}
 use Rattle.std.specs.declared.option.Option.{Option}
 use Rattle.rh_rts.specs.declared.command.Cookie.{Cookie}
@@ -47,9 +47,9 @@ there_last test (first ∷ dues) due is = by (test first) (there_last test dues 
 pub there_gone : (test may_go : Due → Bool) (dues : List Due) (due : Due)
     → find may_go dues ≡ Some due → test due ≡ false → is_there test dues ≡ true
     → is_there test (without_first may_go dues) ≡ true
-there_gone test may_go [] due found no h = absurd cc
-there_gone test may_go (first ∷ dues) due found no h =
-    by (may_go first) found (λ e. there_gone test may_go dues due e no)
+there_gone test may_go [] due found unlike h = absurd cc
+there_gone test may_go (first ∷ dues) due found unlike h =
+    by (may_go first) found (λ e. there_gone test may_go dues due e unlike)
   where
     behind : test first ≡ false → is_there test dues ≡ true
     behind e = subst (λ (b : Bool). (if b then true else is_there test dues) ≡ true) e h
@@ -64,7 +64,7 @@ there_gone test may_go (first ∷ dues) due found no h =
         → (find may_go dues ≡ Some due → is_there test dues ≡ true
         → is_there test (without_first may_go dues) ≡ true)
         → is_there test (if b then dues else first ∷ without_first may_go dues) ≡ true
-    by true e rest = behind (ap test (some_same first due e) ∙ no)
+    by true e rest = behind (ap test (some_same first due e) ∙ unlike)
     by false e rest = one (test first) refl (rest e)
 
 pub found_there : (test : Named → Bool) (dues : List Due) → 1 ≤ waiting_of test dues
@@ -207,10 +207,10 @@ module _ (channel : Cookie) where
       (if (p || q) && answer then 1 else 0) + span (p && not for) (q && not wish) dues
 
   plain_step : (p q : Bool) (dues : List Due) → step p q false false false dues ≡ span p q dues
-  plain_step true true dues = refl
-  plain_step true false dues = refl
-  plain_step false true dues = refl
-  plain_step false false dues = refl
+  plain_step true true dues = omega arith
+  plain_step true false dues = omega arith
+  plain_step false true dues = omega arith
+  plain_step false false dues = omega arith
 
   -- one of another kind
   as_step : (p q : Bool) (due : Due) (dues : List Due) (for wish answer : Bool)
@@ -233,14 +233,14 @@ module _ (channel : Cookie) where
       → (p ≡ true → ahead.is_there channel dues ≡ true)
       → (q ≡ true → is_there is_wish dues ≡ true)
       → span p q (dues ++ due ∷ []) ≡ span p q dues
-  pushed_span true q [] due ack wish = absurd (no (ack refl))
+  pushed_span true q [] due ack wish = absurd (unlike (ack refl))
     where
-      no : false ≡ true → ⊥
-      no e = absurd cc
-  pushed_span false true [] due ack wish = absurd (no (wish refl))
+      unlike : false ≡ true → ⊥
+      unlike e = absurd cc
+  pushed_span false true [] due ack wish = absurd (unlike (wish refl))
     where
-      no : false ≡ true → ⊥
-      no e = absurd cc
+      unlike : false ≡ true → ⊥
+      unlike e = absurd cc
   pushed_span false false [] due ack wish = refl
   pushed_span p q (first ∷ dues) due ack wish =
       ap (λ (n : ℕ). (if (p || q) && is_in_a3 first.packet then 1 else 0) + n)
@@ -310,11 +310,11 @@ module _ (channel : Cookie) where
     pub less_span : (p q : Bool) (dues : List Due) → find may_go dues ≡ Some due
         → is_for due ≡ false → is_wish due ≡ false
         → span p q (without_first may_go dues) ≤ span p q dues
-    less_span p q [] found no none = omega arith
-    less_span p q (first ∷ dues) found no none =
+    less_span p q [] found unlike none = omega arith
+    less_span p q (first ∷ dues) found unlike none =
         by (may_go first) found
         (λ e. less_span (p && not (is_ack_for channel first.packet))
-        (q && not (is_out_r1_a1 first.packet)) dues e no none)
+        (q && not (is_out_r1_a1 first.packet)) dues e unlike none)
       where
         by : (b : Bool) → (if b then Some first else find may_go dues) ≡ Some due
             → (find may_go dues ≡ Some due
@@ -328,17 +328,17 @@ module _ (channel : Cookie) where
             let same = some_same first due e in
             subst (λ (n : ℕ). span p q dues ≤ n)
             (sym (as_step p q first dues false false (is_answer first)
-            (ap is_for same ∙ no) (ap is_wish same ∙ none) refl))
+            (ap is_for same ∙ unlike) (ap is_wish same ∙ none) refl))
             (rest_most p q (is_answer first) dues)
         by false e rest = let less = rest e in omega (arith, less)
 
     pub less_ack : (p : Bool) (dues : List Due) → find may_go dues ≡ Some due
         → is_for due ≡ false
         → span p false (without_first may_go dues) ≤ span p false dues
-    less_ack p [] found no = omega arith
-    less_ack p (first ∷ dues) found no =
+    less_ack p [] found unlike = omega arith
+    less_ack p (first ∷ dues) found unlike =
         by (may_go first) found
-        (λ e. less_ack (p && not (is_ack_for channel first.packet)) dues e no)
+        (λ e. less_ack (p && not (is_ack_for channel first.packet)) dues e unlike)
       where
         by : (b : Bool) → (if b then Some first else find may_go dues) ≡ Some due
             → (find may_go dues ≡ Some due
@@ -351,7 +351,7 @@ module _ (channel : Cookie) where
             let same = some_same first due e in
             subst (λ (n : ℕ). span p false dues ≤ n)
             (sym (as_step p false first dues false (is_wish first) (is_answer first)
-            (ap is_for same ∙ no) refl refl))
+            (ap is_for same ∙ unlike) refl refl))
             (ack_most p (is_wish first) (is_answer first) dues)
         by false e rest = let less = rest e in omega (arith, less)
 
@@ -367,19 +367,19 @@ module _ (channel : Cookie) where
     one_more true true dues h = omega arith
     one_more true false dues h = omega arith
     one_more false true dues h = omega arith
-    one_more false false dues (inl h) = absurd (no h.0)
+    one_more false false dues (inl h) = absurd (unlike h.0)
       where
-        no : false ≡ true → ⊥
-        no e = absurd cc
-    one_more false false dues (inr h) = absurd (no h.0)
+        unlike : false ≡ true → ⊥
+        unlike e = absurd cc
+    one_more false false dues (inr h) = absurd (unlike h.0)
       where
-        no : false ≡ true → ⊥
-        no e = absurd cc
+        unlike : false ≡ true → ⊥
+        unlike e = absurd cc
 
     still : (p for : Bool) → p ≡ true → (for ≡ true → ⊥) → p && not for ≡ true
-    still true true e no = absurd (no refl)
-    still true false e no = refl
-    still false for e no = absurd cc
+    still true true e unlike = absurd (unlike refl)
+    still true false e unlike = refl
+    still false for e unlike = absurd cc
 
     refused : (test : Due → Bool) (first : Due) → AreLet test → may_go first ≡ false
         → test first ≡ true → ⊥
