@@ -56,8 +56,9 @@ pub record RefusesForBreak (before : List Line) (line : Line) : Type 0 where
 
 -- no line reports a node as closed for what another node did: each frame, packet and head is good;
 -- what comes is in its turn and names the cookies that the node knows; RPC PDUs are within the
--- window, values in their range, and bodies no longer than their heads told (MS-RPCH 3.2). Nor does
--- a client or an in proxy close since too many packets wait
+-- window, values in their range, and bodies no longer than their heads told; and never do too many
+-- packets wait to be forwarded (MS-RPCH 3.2). So a node closes since a leg ended or broke, since
+-- nothing came for too long, or for a refused request
 pub record RolesAreHonest (world : AnyWorld) (line : Line) : Type 0 where
   pub frame : (node : Who) (leg : Leg) (place : ℕ) (fault : HeadFault)
       → IsOneOf (NodeClosed node (BadFrame leg place fault)) (step world line).1 → ⊥
@@ -75,18 +76,16 @@ pub record RolesAreHonest (world : AnyWorld) (line : Line) : Type 0 where
       → IsOneOf (NodeClosed node (BadHead leg place fault)) (step world line).1 → ⊥
   pub body : (node : Who) (leg : Leg) (count told : ℕ)
       → IsOneOf (NodeClosed node (BodyOver leg count told)) (step world line).1 → ⊥
-  pub client_room : (full : Leg)
-      → IsOneOf (NodeClosed who.Client (ControlFull full)) (step world line).1 → ⊥
-  pub in_room : (k : ℕ) (full : Leg)
-      → IsOneOf (NodeClosed (who.In k) (ControlFull full)) (step world line).1 → ⊥
+  pub room : (node : Who) (full : Leg)
+      → IsOneOf (NodeClosed node (ControlFull full)) (step world line).1 → ⊥
 
 -- at every line of the report what an end took is a front of what the other end gave, each PDU
 -- once and in order, and all of it at a clean end; and a report of roles counts what it tells.
 -- Behind each front of the lines no more is held for a channel than its window, nothing stands
 -- behind a handover mark, and what was given is what was taken and what is on its way, unless a leg
--- is lost. Each line closes nodes for a reason, and none for what another node did but an out proxy
--- or the server since too many packets wait; in all of the report each node is closed once at most,
--- and each later answer of an end that closed names the same cause.
+-- is lost. Each line closes nodes for a reason, and none for what another node did; in all of the
+-- report each node is closed once at most, and each later answer of an end that closed names the
+-- same cause.
 pub record Claims (lines : List Line) : Type 0 where
   pub ordered : OffersBehindFirst lines → IsOrdered lines (run lines)
   pub counted : (behind : List Line) → lines ≡ First true ∷ behind

@@ -32,8 +32,7 @@ returns c = λ lines. record {
     range = c.no_window_closes_a_node_of_a_recording.ensures.ranges before line;
     head = c.no_node_of_a_recording_closes_for_bad_bytes.ensures.head before line;
     body = c.no_body_of_a_recording_is_too_long.ensures before line;
-    client_room = c.no_node_of_a_recording_lacks_room.ensures.client before line;
-    in_room = c.no_node_of_a_recording_lacks_room.ensures.in_proxies before line;
+    room = c.no_node_of_a_recording_lacks_room.ensures before line;
   };
   once = c.a_recording_reports_a_node_closed_once.ensures lines;
   named = c.an_end_of_a_recording_names_its_cause.ensures lines;
