@@ -1,19 +1,13 @@
 -- what holds of every recording, beside its report
 use Rattle.std.specs.Prelude.{◌≡◌, ◌≤◌, ◌++◌, ℕ, List, [], ◌∷◌, true}
-use Rattle.rh_http.specs.declared.fault.HttpFault.{HttpFault}
 use Rattle.rh_line.specs.declared.cause.Cause.{Cause}
-use Rattle.rh_line.specs.declared.cause.Cause.TheVariants.{BadFrame, BadHead, BadPacket, BodyOver, ControlFull, CookieMismatch, HttpRefused, OutOfRange, Silent, Unexpected, WindowExceeded}
-use Rattle.rh_line.specs.declared.leg.Leg.{Leg}
+use Rattle.rh_line.specs.declared.cause.Cause.TheVariants.{HttpRefused, LegBroken, LegEnded, Silent}
 use Rattle.rh_line.specs.declared.leg.LegKind.TheVariants.{ClientIn, ClientOut, InServer, OutServer}
 use Rattle.rh_nodes.specs.Settling.{leg_at}
-use Rattle.rh_pdu.specs.declared.fault.HeadFault.{HeadFault}
 use Rattle.rh_record.specs.declared.answer.Answer.TheVariants.{NodeClosed}
 use Rattle.rh_record.specs.declared.answer.Who.{Who}
-use Rattle.rh_record.specs.declared.answer.Who.TheVariants as who
 use Rattle.rh_record.specs.declared.line.Line.{Line}
 use Rattle.rh_record.specs.declared.line.Line.TheVariants.{First}
-use Rattle.rh_rts.specs.declared.command.Cookie.{Cookie}
-use Rattle.rh_rts.specs.declared.fault.RtsFault.{RtsFault}
 use Rattle.rh_history.specs.Closes.{IsOneOf, closings_of}
 use Rattle.rh_world.specs.declared.any_world.AnyWorld.{AnyWorld}
 use Rattle.rh_world.specs.declared.any_world.AnyWorld.TheVariants.{Before}
@@ -54,39 +48,31 @@ pub record RefusesForBreak (before : List Line) (line : Line) : Type 0 where
       (step (after Before before) line).1
       → (status ≡ 503) × ReportsBreak (before ++ line ∷ []) (leg_at InServer n)
 
--- no line reports a node as closed for what another node did: each frame, packet and head is good;
--- what comes is in its turn and names the cookies that the node knows; RPC PDUs are within the
--- window, values in their range, and bodies no longer than their heads told (MS-RPCH 3.2). Nor does
--- a client or an in proxy close since too many packets wait
-pub record RolesAreHonest (world : AnyWorld) (line : Line) : Type 0 where
-  pub frame : (node : Who) (leg : Leg) (place : ℕ) (fault : HeadFault)
-      → IsOneOf (NodeClosed node (BadFrame leg place fault)) (step world line).1 → ⊥
-  pub packet : (node : Who) (leg : Leg) (place : ℕ) (fault : RtsFault)
-      → IsOneOf (NodeClosed node (BadPacket leg place fault)) (step world line).1 → ⊥
-  pub unexpected : (node : Who) (leg : Leg) (place : ℕ)
-      → IsOneOf (NodeClosed node (Unexpected leg place)) (step world line).1 → ⊥
-  pub cookie : (node : Who) (leg : Leg) (expected got : Cookie)
-      → IsOneOf (NodeClosed node (CookieMismatch leg expected got)) (step world line).1 → ⊥
-  pub window : (node : Who) (leg : Leg) (reached edge : ℕ)
-      → IsOneOf (NodeClosed node (WindowExceeded leg reached edge)) (step world line).1 → ⊥
-  pub range : (node : Who) (leg : Leg) (command value : ℕ)
-      → IsOneOf (NodeClosed node (OutOfRange leg command value)) (step world line).1 → ⊥
-  pub head : (node : Who) (leg : Leg) (place : ℕ) (fault : HttpFault)
-      → IsOneOf (NodeClosed node (BadHead leg place fault)) (step world line).1 → ⊥
-  pub body : (node : Who) (leg : Leg) (count told : ℕ)
-      → IsOneOf (NodeClosed node (BodyOver leg count told)) (step world line).1 → ⊥
-  pub client_room : (full : Leg)
-      → IsOneOf (NodeClosed who.Client (ControlFull full)) (step world line).1 → ⊥
-  pub in_room : (k : ℕ) (full : Leg)
-      → IsOneOf (NodeClosed (who.In k) (ControlFull full)) (step world line).1 → ⊥
+-- what no node did: a leg broke or ended, a channel's proxy refused its request, or no byte came
+-- for too long
+abbrev pub IsFromOutside : Cause → Type 0
+IsFromOutside (LegBroken leg) = Unit {0}
+IsFromOutside (LegEnded leg partial) = Unit {0}
+IsFromOutside (HttpRefused leg status) = Unit {0}
+IsFromOutside (Silent leg since now) = Unit {0}
+IsFromOutside why = ⊥
+
+-- no line reports a node as closed for what another node put or how much of it: each frame, packet
+-- and head is good; what comes is in its turn and names the cookies that the node knows; RPC PDUs
+-- are within the window, values in their range, and bodies no longer than their heads told; and
+-- there is room for what is to be forwarded (MS-RPCH 3.2)
+abbrev pub RolesAreHonest : AnyWorld → Line → Type 0
+RolesAreHonest world line =
+    (node : Who) (why : Cause) → IsOneOf (NodeClosed node why) (step world line).1
+    → IsFromOutside why
 
 -- at every line of the report what an end took is a front of what the other end gave, each PDU
 -- once and in order, and all of it at a clean end; and a report of roles counts what it tells.
 -- Behind each front of the lines no more is held for a channel than its window, nothing stands
 -- behind a handover mark, and what was given is what was taken and what is on its way, unless a leg
--- is lost. Each line closes nodes for a reason, and none for what another node did but an out proxy
--- or the server since too many packets wait; in all of the report each node is closed once at most,
--- and each later answer of an end that closed names the same cause.
+-- is lost. Each line closes nodes for a reason, and none for what another node did; in all of the
+-- report each node is closed once at most, and each later answer of an end that closed names the
+-- same cause.
 pub record Claims (lines : List Line) : Type 0 where
   pub ordered : OffersBehindFirst lines → IsOrdered lines (run lines)
   pub counted : (behind : List Line) → lines ≡ First true ∷ behind

@@ -5,4 +5,3 @@ pub mod OutRows
 pub mod ServerRows
 pub mod Full
 pub mod Closing
-pub mod Kept

@@ -1,8 +1,7 @@
 //! No node of a world of roles closes for a full leg, where its role has room. This function does
 //! nothing: its contract is the law.
 
-ghost use Rattle.std.specs.Prelude.{◌≡◌, ℕ, true};
-ghost use Rattle.std.specs.List.{list_all};
+ghost use Rattle.std.specs.Prelude.{ℕ};
 ghost use Rattle.rh_line.specs.declared.cause.Cause.TheVariants.{ControlFull};
 ghost use Rattle.rh_line.specs.declared.leg.Leg.{Leg};
 ghost use Rattle.rh_record.specs.declared.answer.Who.TheVariants.{Client as AtClient, In, Out};
@@ -14,7 +13,7 @@ ghost use Rattle.rh_inproxy.specs.State.{InProxy};
 ghost use Rattle.rh_outproxy.specs.OutProxy.{OutProxy};
 ghost use Rattle.rh_server.specs.States.{Server};
 ghost use Rattle.rh_history.specs.Carried.{happened};
-ghost use Rattle.rh_history.specs.Changes.{Change, MayChange, of_line};
+ghost use Rattle.rh_history.specs.Changes.{Change, MayChange};
 ghost use Rattle.rh_history.specs.Closes.{ClosesNode};
 ghost use Rattle.rh_history.specs.Histories.{IsNew};
 ghost use Rattle.rh_traced.specs.Cookies.{ByChanges};
@@ -22,9 +21,8 @@ ghost use Rattle.rh_traced.specs.Ours.{AreOurs, deeds, rules};
 ghost use Rattle.rh_traced.specs.Recordings.{history_at};
 ghost use Rattle.rh_fifo.specs.Flows.{numbers_of};
 ghost use Rattle.rh_fifo.specs.Premises.{AreDistinct, AreInRange};
-ghost use Rattle.rh_expected.specs.Roles.{HaveCookies, OfClient, WorldsExpect};
+ghost use Rattle.rh_expected.specs.Roles.{OfClient, WorldsExpect};
 ghost use Rattle.rh_room.specs.Room.{InHasRoom, OutHasRoom, ServerHasRoom};
-ghost use Rattle.rh_room.specs.Worlds.{IsOfLines};
 
 use rh_causes::{
     a_clients_leg_comes_up_once, a_node_closes_once, a_servers_leg_comes_up_once,
@@ -52,12 +50,10 @@ use rh_unused::{
 
 /// In each world of new roles whose numbers are in their ranges, at every moment that changes of
 /// lines and half steps reach: no further change closes the client with `ControlFull`, whichever
-/// leg is named. Nor does one close an in proxy so, where no two legs of the client of one kind came
-/// up under one cookie, if in proxies have room, at each such moment of each such world, for what
-/// the client put next on the legs that they read. Nor does one close an out proxy or the server
-/// so, where changes of lines alone led there, and no OUT leg of the client came up under the
-/// cookie of zeros either, if out proxies have room at each such moment for what the server put
-/// next, and the server for what in proxies did (MS-RPCH 3.2; profile).
+/// leg is named. Nor does one close another node so, where no two legs of the client of one kind
+/// came up under one cookie, if at each such moment of each such world in proxies have room for what
+/// the client put next on the legs that they read, out proxies for what the server put next, and the
+/// server for what in proxies did (MS-RPCH 3.2; profile).
 pub fn no_node_that_has_room_closes_for_a_full_leg<K>()
     ensures client { (m : Makers K InProxy OutProxy)
         (w : World K ClientRole Server InProxy OutProxy) → IsNew w
@@ -73,22 +69,20 @@ pub fn no_node_that_has_room_closes_for_a_full_leg<K>()
         → AreDistinct (happened (history_at m w v by.leads).client)
         → (change : Change) → MayChange rules v change → (k : ℕ) (full : Leg)
         → ClosesNode rules v change (In k) (ControlFull full) → ⊥ }
-    ensures out_proxies { WorldsExpect K IsOfLines OutHasRoom
+    ensures out_proxies { WorldsExpect K (OfClient AreDistinct) OutHasRoom
         → (m : Makers K InProxy OutProxy)
         (w : World K ClientRole Server InProxy OutProxy) → IsNew w
         → (ours : AreOurs m w.company w.cast) → AreInRange (numbers_of ours)
         → (v : World K ClientRole Server InProxy OutProxy) (by : ByChanges rules m deeds w v)
-        → list_all of_line by.leads.changes ≡ true
-        → HaveCookies (happened (history_at m w v by.leads).client)
+        → AreDistinct (happened (history_at m w v by.leads).client)
         → (change : Change) → MayChange rules v change → (k : ℕ) (full : Leg)
         → ClosesNode rules v change (Out k) (ControlFull full) → ⊥ }
-    ensures server { WorldsExpect K IsOfLines ServerHasRoom
+    ensures server { WorldsExpect K (OfClient AreDistinct) ServerHasRoom
         → (m : Makers K InProxy OutProxy)
         (w : World K ClientRole Server InProxy OutProxy) → IsNew w
         → (ours : AreOurs m w.company w.cast) → AreInRange (numbers_of ours)
         → (v : World K ClientRole Server InProxy OutProxy) (by : ByChanges rules m deeds w v)
-        → list_all of_line by.leads.changes ≡ true
-        → HaveCookies (happened (history_at m w v by.leads).client)
+        → AreDistinct (happened (history_at m w v by.leads).client)
         → (change : Change) → MayChange rules v change → (full : Leg)
         → ClosesNode rules v change AtServer (ControlFull full) → ⊥ }
 {

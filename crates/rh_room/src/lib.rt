@@ -1,6 +1,5 @@
-//! No node closes for a full leg, where its role has room for the packets that it forwards; so it
-//! is of clients and in proxies. Its functions do nothing of their own: their contracts are the
-//! laws.
+//! No node closes for a full leg, where its role has room for the packets that it forwards; and
+//! each has. Its functions do nothing of their own: their contracts are the laws.
 #![tactic(auto)]
 
 pub mod having;

@@ -1,8 +1,11 @@
 -- each claim is a law
 use Rattle.std.proofs.Common.{List, subst, sym}
+use Rattle.rh_line.specs.declared.cause.Cause.TheVariants.{BadFrame, BadHead, BadPacket, BodyOver, ControlFull, CookieMismatch, HttpRefused, LegBroken, LegEnded, OutOfRange, Silent, Unexpected, WindowExceeded}
 use Rattle.rh_record.specs.declared.line.Line.{Line}
-use Rattle.rh_world.specs.Any.{run}
+use Rattle.rh_world.specs.declared.any_world.AnyWorld.TheVariants.{Before}
+use Rattle.rh_world.specs.Any.{after, run}
 use Rattle.rh_ordered.specs.Counted.{CountsCapped}
+use Rattle.rh_cli.specs.Claims.{RolesAreHonest}
 use Rattle.rh_cli.proofs.claims.recordings_keep_to_their_claims.Goals as goal
 
 pub returns : goal.returns
@@ -23,18 +26,38 @@ returns c = λ lines. record {
     out_channel = c.a_refused_client_of_a_recording_lost_its_server.ensures.out_channel before line;
     in_channel = c.a_refused_client_of_a_recording_lost_its_server.ensures.in_channel before line;
   };
-  honest = λ before behind line is. record {
-    frame = c.no_node_of_a_recording_closes_for_bad_bytes.ensures.frame before line;
-    packet = c.no_node_of_a_recording_closes_for_bad_bytes.ensures.packet before line;
-    unexpected = c.no_node_of_a_recording_refuses_what_comes.ensures.unexpected before line;
-    cookie = c.no_node_of_a_recording_refuses_what_comes.ensures.cookie before line;
-    window = c.no_window_closes_a_node_of_a_recording.ensures.windows before line;
-    range = c.no_window_closes_a_node_of_a_recording.ensures.ranges before line;
-    head = c.no_node_of_a_recording_closes_for_bad_bytes.ensures.head before line;
-    body = c.no_body_of_a_recording_is_too_long.ensures before line;
-    client_room = c.no_node_of_a_recording_lacks_room.ensures.client before line;
-    in_room = c.no_node_of_a_recording_lacks_room.ensures.in_proxies before line;
-  };
+  honest = λ before behind line is. honest before line;
   once = c.a_recording_reports_a_node_closed_once.ensures lines;
   named = c.an_end_of_a_recording_names_its_cause.ensures lines;
 }
+  where
+    honest : (before : List Line) (line : Line) → RolesAreHonest (after Before before) line
+    honest before line node (LegBroken leg) told = tt
+    honest before line node (LegEnded leg partial) told = tt
+    honest before line node (BadFrame leg place fault) told =
+        c.no_node_of_a_recording_closes_for_bad_bytes.ensures.frame before line node leg place fault
+        told
+    honest before line node (BadPacket leg place fault) told =
+        c.no_node_of_a_recording_closes_for_bad_bytes.ensures.packet before line node leg place
+        fault told
+    honest before line node (Unexpected leg place) told =
+        c.no_node_of_a_recording_refuses_what_comes.ensures.unexpected before line node leg place
+        told
+    honest before line node (CookieMismatch leg expected got) told =
+        c.no_node_of_a_recording_refuses_what_comes.ensures.cookie before line node leg expected got
+        told
+    honest before line node (WindowExceeded leg reached edge) told =
+        c.no_window_closes_a_node_of_a_recording.ensures.windows before line node leg reached edge
+        told
+    honest before line node (OutOfRange leg command value) told =
+        c.no_window_closes_a_node_of_a_recording.ensures.ranges before line node leg command value
+        told
+    honest before line node (HttpRefused leg status) told = tt
+    honest before line node (BadHead leg place fault) told =
+        c.no_node_of_a_recording_closes_for_bad_bytes.ensures.head before line node leg place fault
+        told
+    honest before line node (Silent leg since now) told = tt
+    honest before line node (ControlFull leg) told =
+        c.no_node_of_a_recording_lacks_room.ensures before line node leg told
+    honest before line node (BodyOver leg count length) told =
+        c.no_body_of_a_recording_is_too_long.ensures before line node leg count length told

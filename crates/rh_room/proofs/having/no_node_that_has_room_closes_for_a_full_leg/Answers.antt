@@ -1,18 +1,12 @@
-use Rattle.std.proofs.Common.{◌≡◌, true, refl}
-use Rattle.std.specs.List.{list_all}
 use Rattle.rh_nodes.specs.Opening.{Makers}
 use Rattle.rh_nodes.specs.World.{World}
 use Rattle.rh_client.specs.declared.state.ClientRole.{ClientRole}
 use Rattle.rh_inproxy.specs.State.{InProxy}
 use Rattle.rh_outproxy.specs.OutProxy.{OutProxy}
 use Rattle.rh_server.specs.States.{Server}
-use Rattle.rh_history.specs.Carried.{happened}
-use Rattle.rh_history.specs.Changes.{of_line}
 use Rattle.rh_history.specs.Histories.{IsNew}
 use Rattle.rh_up.proofs.Unread.{refusal_unread}
-use Rattle.rh_traced.specs.Cookies.{ByChanges}
 use Rattle.rh_traced.specs.Ours.{AreOurs, deeds, rules}
-use Rattle.rh_traced.specs.Recordings.{history_at}
 use Rattle.rh_fifo.specs.Flows.{numbers_of}
 use Rattle.rh_fifo.specs.Premises.{AreDistinct, AreInRange}
 use Rattle.rh_fifo.proofs.Legs.{Reads}
@@ -23,13 +17,11 @@ use Rattle.rh_amiss.proofs.AtNodes.{ClientKnows, RolesKnow}
 use Rattle.rh_amiss.proofs.Closing.{EachCloses}
 use Rattle.rh_amiss.proofs.Moments.{AllFlow}
 use Rattle.rh_pasts.specs.Pasts.{numbers}
-use Rattle.rh_expected.specs.Roles.{Facts, HaveCookies, OfClient, Premise, WorldsExpect}
+use Rattle.rh_expected.specs.Roles.{Facts, OfClient, Premise, WorldsExpect}
 use Rattle.rh_expected.proofs.Closing.{AtMoment}
-use Rattle.rh_expected.proofs.Facts.{client_kept, distinct_of_cookies}
+use Rattle.rh_expected.proofs.Facts.{IsKept, client_kept, distinct_of_cookies}
 use Rattle.rh_room.specs.Room.{InHasRoom, OutHasRoom, ServerHasRoom}
-use Rattle.rh_room.specs.Worlds.{IsOfLines}
 use Rattle.rh_room.proofs.Closing.{no_client_full, no_in_full, no_out_full, no_server_full}
-use Rattle.rh_room.proofs.Kept.{of_lines_kept}
 use Rattle.rh_room.proofs.having.no_node_that_has_room_closes_for_a_full_leg.Goals as goal
 
 pub returns : goal.returns
@@ -40,20 +32,22 @@ returns g c = record {
       client_roles change may closes;
   in_proxies = λ room m w new ours ranges v by distinct change may k full closes.
       no_in_full roles each reads readings m w ours (law m w new ours ranges)
-      (OfClient AreDistinct)
-      (client_kept m w (law m w new ours ranges).known AreDistinct distinct_of_cookies)
-      (InHasRoom (numbers ours)) (flow (OfClient AreDistinct) InHasRoom room m w new ours ranges) v
-      by distinct full (λ reader moves holds. holds) k change may closes;
-  out_proxies = λ room m w new ours ranges v by lines have change may k full closes.
-      no_out_full roles each reads readings m w ours (law m w new ours ranges) IsOfLines
-      (of_lines_kept m w (law m w new ours ranges).known) (OutHasRoom (numbers ours))
-      (flow IsOfLines OutHasRoom room m w new ours ranges) v by (of_lines m w v by lines have) full
+      (OfClient AreDistinct) (kept m w new ours ranges)
+      (InHasRoom (numbers ours))
+      (flow (OfClient AreDistinct) InHasRoom room m w new ours ranges) v by distinct full
       (λ reader moves holds. holds) k change may closes;
-  server = λ room m w new ours ranges v by lines have change may full closes.
-      no_server_full roles each reads readings m w ours (law m w new ours ranges) IsOfLines
-      (of_lines_kept m w (law m w new ours ranges).known) (ServerHasRoom (numbers ours))
-      (flow IsOfLines ServerHasRoom room m w new ours ranges) v by (of_lines m w v by lines have)
-      full (λ reader moves holds. holds) change may closes;
+  out_proxies = λ room m w new ours ranges v by distinct change may k full closes.
+      no_out_full roles each reads readings m w ours (law m w new ours ranges)
+      (OfClient AreDistinct) (kept m w new ours ranges)
+      (OutHasRoom (numbers ours))
+      (flow (OfClient AreDistinct) OutHasRoom room m w new ours ranges) v by distinct full
+      (λ reader moves holds. holds) k change may closes;
+  server = λ room m w new ours ranges v by distinct change may full closes.
+      no_server_full roles each reads readings m w ours (law m w new ours ranges)
+      (OfClient AreDistinct) (kept m w new ours ranges)
+      (ServerHasRoom (numbers ours))
+      (flow (OfClient AreDistinct) ServerHasRoom room m w new ours ranges) v by distinct full
+      (λ reader moves holds. holds) change may closes;
 }
   where
     roles : RolesKnow
@@ -159,19 +153,12 @@ returns g c = record {
         let here = expect m w new ours ranges u by in
         record { flows = here.flowing; holds = here.expects }
 
-    of_lines : (m : Makers g.row.K.Denot InProxy OutProxy)
-        (w v : World g.row.K.Denot ClientRole Server InProxy OutProxy)
-        (by : ByChanges rules m deeds w v) → list_all of_line by.leads.changes ≡ true
-        → HaveCookies (happened (history_at m w v by.leads).client)
-        → IsOfLines m w v (history_at m w v by.leads)
-    of_lines m w v by lines have = record {
-      lines = record {
-        lines = record { leads = by.leads; work = lines };
-        same = refl;
-        distinct = have.distinct;
-      };
-      cookies = have;
-    }
+    kept : (m : Makers g.row.K.Denot InProxy OutProxy)
+        (w : World g.row.K.Denot ClientRole Server InProxy OutProxy) → IsNew w
+        → (ours : AreOurs m w.company w.cast) → AreInRange (numbers_of ours)
+        → IsKept m w (OfClient AreDistinct)
+    kept m w new ours ranges =
+        client_kept m w (law m w new ours ranges).known AreDistinct distinct_of_cookies
 
     -- of the client nothing is said
     anyhow : Premise g.row.K.Denot
