@@ -21,7 +21,7 @@ use Rattle.rh_server.specs.OutLines.{is_ack_of}
 use Rattle.rh_server.specs.OutReplacement.{last_number}
 use Rattle.rh_server.specs.States.{is_steady}
 use Rattle.rh_server_counts.specs.Counting.{waiting_of}
-use Rattle.rh_server_full.proofs.Dues.{push_waits}
+use Rattle.rh_server_counts.proofs.Dues.{push_waits}
 use Rattle.rh_server_room.proofs.Ahead.{same_keys}
 use Rattle.rh_server_room.proofs.Ahead as ahead
 use Rattle.rh_server_room.proofs.Legs.{each_got, each_removed, each_set}
