@@ -14,9 +14,8 @@ use Rattle.rh_in_channels.specs.Announcing.{AreAnnounced, IsAnnouncedOn, channel
 use Rattle.rh_moments.specs.Moments.{AreJoined, AreMade, IsMoment, Moves, Numbers, client_behind, passages, server_behind}
 use Rattle.rh_in_handovers.proofs.Known.{connected}
 use Rattle.rh_server_full.specs.Few.{IsAmong}
-use Rattle.rh_server_full.specs.Placed.{last_on}
 use Rattle.rh_server_full.specs.Taken.{due_in}
-use Rattle.rh_late_channels.specs.Late.{AreThese, FewAreLate}
+use Rattle.rh_late_channels.specs.Late.{AreThese, FewAreLate, last_on}
 use Rattle.rh_late_channels.proofs.Answered.{all_answered, one_ahead}
 use Rattle.rh_late_channels.proofs.Search.{AtMost, Those, among_two, less_or_not, less_or_same, those_below, twice_as_many, two_of_each}
 use Rattle.rh_late_channels.proofs.Fronts.{BeforeLast, before_last, still_announced}

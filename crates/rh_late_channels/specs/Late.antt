@@ -17,12 +17,16 @@ OneIsDue numbers moves =
     (front later : List EndMove) → moves.server ≡ front ++ later
     → due_in (passed numbers front).role ≤ 1
 
+-- the last channel that was announced on a leg which had begun
+abbrev pub last_on : Passage Server → ℕ → ℕ
+last_on p leg = leg + came_at is_in_r2_a2 p leg
+
 -- of each leg on which no IN_R1/A6 had come behind the front, the channels from the last but one
 -- that was announced there then were announced since, or are among these, which are few
 pub record AreThese (before now : Passage Server) (numbers : List ℕ) : Type 0 where
   pub few : length numbers + taken_in before + due_in before.role ≤ channels before + 3
   pub all : (leg number : ℕ) → IsAnnouncedOn now leg number
-      → leg + came_at is_in_r2_a2 before leg ≤ suc number
+      → last_on before leg ≤ suc number
       → came_at is_in_r1_a6 before leg ≡ 0
       → (channels before < number) ⊎ IsAmong number numbers
 

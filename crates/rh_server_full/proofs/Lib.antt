@@ -3,7 +3,6 @@ pub mod Longest
 pub mod Streams
 pub mod Late
 pub mod Counting
-pub mod Placing
 pub mod Answers
 pub mod Filling
 pub mod Adding

@@ -3,5 +3,4 @@ pub mod Filled
 pub mod Keeping
 pub mod Numbered
 pub mod Oldest
-pub mod Placed
 pub mod Taken

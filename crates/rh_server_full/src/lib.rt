@@ -7,7 +7,6 @@ pub mod filled;
 pub mod keeping;
 pub mod numbered;
 pub mod oldest;
-pub mod placed;
 pub mod taken;
 
 pub use few::no_more_acknowledgements_wait_than_channels;
@@ -15,5 +14,4 @@ pub use filled::{few_packets_wait_at_a_server, fifteen_wait_where_there_is_no_ro
 pub use keeping::a_server_forwards_what_came;
 pub use numbered::acknowledgements_are_of_late_channels;
 pub use oldest::an_acknowledgement_waits_longest;
-pub use placed::late_channels_are_placed;
 pub use taken::few_channels_are_answered_before_an_acknowledgement;
