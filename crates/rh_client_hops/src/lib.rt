@@ -2,8 +2,6 @@
 //! do nothing: their contracts are the laws.
 #![tactic(auto)]
 
-pub mod recordings;
 pub mod worlds;
 
-pub use recordings::no_hop_of_a_client_closes_a_node_of_a_recording;
 pub use worlds::no_hop_of_a_client_closes_a_node;

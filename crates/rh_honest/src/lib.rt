@@ -11,10 +11,7 @@ pub use pieces::{
     a_piece_that_reads_well_closes_for_the_role, what_is_heard_well_closes_for_the_role,
 };
 pub use ranges::rows_refuse_values_of_acknowledgements;
-pub use recordings::{
-    no_node_of_a_recording_closes_for_bad_bytes,
-    only_acknowledgements_of_a_recording_are_out_of_range,
-};
+pub use recordings::no_node_of_a_recording_closes_for_bad_bytes;
 pub use worlds::{
     heads_that_are_heard_break_no_rule, no_change_closes_a_node_for_bad_bytes,
     what_is_fed_closes_for_the_role, what_is_heard_reads_well,

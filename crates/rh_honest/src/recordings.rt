@@ -1,11 +1,10 @@
-//! What closes no node of a recording. These functions do nothing: their contracts are the laws.
+//! What closes no node of a recording. This function does nothing: its contract is the law.
 
-ghost use Rattle.std.specs.Prelude.{◌≡◌, List, ℕ};
+ghost use Rattle.std.specs.Prelude.{List, ℕ};
 ghost use Rattle.rh_http.specs.declared.fault.HttpFault.{HttpFault};
 ghost use Rattle.rh_pdu.specs.declared.fault.HeadFault.{HeadFault};
 ghost use Rattle.rh_rts.specs.declared.fault.RtsFault.{RtsFault};
-ghost use Rattle.rh_window.specs.declared.fault.TheConstants.{FLOW_CONTROL_ACK};
-ghost use Rattle.rh_line.specs.declared.cause.Cause.TheVariants.{BadFrame, BadHead, BadPacket, OutOfRange};
+ghost use Rattle.rh_line.specs.declared.cause.Cause.TheVariants.{BadFrame, BadHead, BadPacket};
 ghost use Rattle.rh_line.specs.declared.leg.Leg.{Leg};
 ghost use Rattle.rh_record.specs.declared.answer.Answer.TheVariants.{NodeClosed};
 ghost use Rattle.rh_record.specs.declared.answer.Who.{Who};
@@ -39,17 +38,6 @@ pub fn no_node_of_a_recording_closes_for_bad_bytes()
         (fault : HttpFault)
         → IsOneOf (NodeClosed node (BadHead leg place fault)) (step (after Before before) line).1
         → ⊥ }
-{
-    each_close_of_a_recording_shows();
-    no_change_closes_a_node_for_bad_bytes::<WorldConfig>();
-}
-
-/// In no recording does a report tell of a node that closed with `OutOfRange`, but for the value of
-/// an acknowledgement.
-pub fn only_acknowledgements_of_a_recording_are_out_of_range()
-    ensures { (before : List Line) (line : Line) (node : Who) (leg : Leg) (command value : ℕ)
-        → IsOneOf (NodeClosed node (OutOfRange leg command value))
-        (step (after Before before) line).1 → command ≡ FLOW_CONTROL_ACK }
 {
     each_close_of_a_recording_shows();
     no_change_closes_a_node_for_bad_bytes::<WorldConfig>();

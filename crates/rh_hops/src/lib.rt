@@ -4,12 +4,10 @@
 
 pub mod in_proxy;
 pub mod out_proxy;
-pub mod recordings;
 pub mod server;
 pub mod worlds;
 
 pub use in_proxy::an_in_proxy_sends_within_the_servers_window;
 pub use out_proxy::an_out_proxy_receives_within_its_window;
-pub use recordings::no_hop_on_one_leg_closes_a_node_of_a_recording;
 pub use server::{a_server_receives_within_its_window, a_server_sends_within_the_proxys_window};
 pub use worlds::no_hop_on_one_leg_closes_a_node;
