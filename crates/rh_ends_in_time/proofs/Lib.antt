@@ -1,0 +1,4 @@
+pub mod Behind
+pub mod Goes
+pub mod Losing
+pub mod Rounds

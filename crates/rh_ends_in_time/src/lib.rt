@@ -1,0 +1,7 @@
+//! Lines end a leg only where it is over, unless they break or end it themselves. Its functions do
+//! nothing: their contracts are the laws.
+#![tactic(auto)]
+
+pub mod settling;
+
+pub use settling::settling_ends_legs_in_time;
