@@ -116,3 +116,57 @@ module _ {K C S I O : Type 0} (r : Rulebook C S I O) (m : Makers K I O) (d : Dee
       (none_before w before)
       (each_saw NoLeg w before change behind
       (subst (λ (list : List Change). EndBehind NoLeg w list) split h))
+
+  -- ---- and the other way round
+
+  now_front : (w : World K C S I O) (leg : Leg) (earlier later : List Change)
+      → [] ≡ earlier ++ later → IsOver r (all_changed r m d w earlier) leg → IsOver r w leg
+  now_front w leg [] later front over = over
+  now_front w leg (c ∷ earlier) later front over = absurd cc
+
+  first_now : (P : Leg → Type 0) (w : World K C S I O) (leg : Leg) → Saw P w [] leg
+      → OrNow P w leg
+  first_now P w leg (inl was) = inl was
+  first_now P w leg (inr saw) =
+      inr (now_front w leg saw.earlier saw.later saw.front saw.over)
+
+  less_front : (P : Leg → Type 0) (w : World K C S I O) (c : Change) (before : List Change)
+      (leg : Leg) (earlier later : List Change) → c ∷ before ≡ earlier ++ later
+      → IsOver r (all_changed r m d w earlier) leg
+      → Saw (OrNow P w) (changed r m d w c) before leg
+  less_front P w c before leg [] later front over = inl (inr over)
+  less_front P w c before leg (x ∷ earlier) later front over =
+      let same : x ≡ c = cc in
+      inr (record {
+        earlier = earlier;
+        later = later;
+        front = cc;
+        over =
+            subst (λ y. IsOver r (all_changed r m d (changed r m d w y) earlier) leg) same over;
+      })
+
+  less_saw : (P : Leg → Type 0) (w : World K C S I O) (c : Change) (before : List Change)
+      (leg : Leg) → Saw P w (c ∷ before) leg → Saw (OrNow P w) (changed r m d w c) before leg
+  less_saw P w c before leg (inl was) = inl (inl was)
+  less_saw P w c before leg (inr saw) =
+      less_front P w c before leg saw.earlier saw.later saw.front saw.over
+
+  all_behind : (P : Leg → Type 0) (w : World K C S I O) (cs : List Change)
+      → ((before : List Change) (change : Change) (behind : List Change)
+      → cs ≡ before ++ change ∷ behind → IfSome (ended_by change) (Saw P w before))
+      → EndBehind P w cs
+  all_behind P w [] saw = tt
+  all_behind P w (c ∷ cs) saw = (
+    some_wider (ended_by c) (Saw P w []) (OrNow P w) (first_now P w) (saw [] c cs refl),
+    all_behind (OrNow P w) (changed r m d w c) cs (λ before change behind split.
+        some_wider (ended_by change) (Saw P w (c ∷ before))
+        (Saw (OrNow P w) (changed r m d w c) before) (less_saw P w c before)
+        (saw (c ∷ before) change behind (ap (λ (list : List Change). c ∷ list) split))),
+  )
+
+  pub in_time_behind : (w : World K C S I O) (cs : List Change) → AllEndInTime r m d w cs
+      → EndBehind NoLeg w cs
+  in_time_behind w cs all =
+      all_behind NoLeg w cs (λ before change behind split.
+      some_wider (ended_by change) (WasOver r m d w before) (Saw NoLeg w before)
+      (λ leg was. inr was) (all before change behind split))

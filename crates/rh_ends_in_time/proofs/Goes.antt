@@ -13,7 +13,7 @@ use Rattle.rh_history.specs.Changes.{ByLines, Change, GoesUp, OpensIn, OpensOut,
 use Rattle.rh_history.proofs.Connecting.{connects, quiet_connects}
 use Rattle.rh_history.proofs.Working.{all_wider, quiet_work, work_of_line, works_none, works_one, works_then}
 use Rattle.rh_ends_in_time.specs.InTime.{EndsInTime, IsOver, ended_by}
-use Rattle.rh_ends_in_time.proofs.Behind.{EndBehind, NoLeg, OrNow, all_in_time, ends_append, ends_over, ends_wider}
+use Rattle.rh_ends_in_time.proofs.Behind.{EndBehind, NoLeg, OrNow, all_in_time, ends_append, ends_over, in_time_behind}
 
 -- what connects a leg ends none
 connects_line : (change : Change) → connects change ≡ true → of_line change ≡ true
@@ -105,3 +105,15 @@ module _ {K C S I O : Type 0} (r : Rulebook C S I O) (m : Makers K I O) (d : Dee
     lines = a.lines;
     in_time = all_in_time r m d w a.lines.leads.changes a.ends;
   }
+
+  goes_in_time : (w v : World K C S I O) → EndsInTime r m d w v → InTime w v
+  goes_in_time w v a = record {
+    lines = a.lines;
+    ends = in_time_behind r m d w a.lines.leads.changes a.in_time;
+  }
+
+  pub in_time_then : (w v u : World K C S I O) → EndsInTime r m d w v → EndsInTime r m d v u
+      → EndsInTime r m d w u
+  in_time_then w v u a b =
+      ends_in_time w u
+      (goes_then NoLeg w v u (goes_in_time w v a) (goes_in_time v u b))

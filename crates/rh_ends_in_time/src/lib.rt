@@ -2,6 +2,10 @@
 //! nothing: their contracts are the laws.
 #![tactic(auto)]
 
+pub mod lines;
+pub mod recordings;
 pub mod settling;
 
+pub use lines::lines_end_legs_in_time;
+pub use recordings::recordings_end_legs_in_time;
 pub use settling::settling_ends_legs_in_time;
