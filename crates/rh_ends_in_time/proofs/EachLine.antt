@@ -1,5 +1,5 @@
 -- each line ends a leg only where it is over
-use Rattle.std.proofs.Common.{◌≡◌, Bool, true, Some, None, refl}
+use Rattle.std.proofs.Common.{◌≡◌, true, Some, None, refl}
 use Rattle.std.specs.declared.option.Option.{Option}
 use Rattle.rh_record.specs.declared.answer.Answer.{Answer}
 use Rattle.rh_record.specs.declared.line.Line.{Line}

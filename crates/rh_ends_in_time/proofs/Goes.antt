@@ -1,5 +1,5 @@
 -- changes of lines that end a leg only where it is over, behind each other
-use Rattle.std.proofs.Common.{◌≡◌, Bool, ℕ, zero, suc, List, [], ◌∷◌, true, Some, None, refl, sym, subst, ◌⊎◌, inl, inr}
+use Rattle.std.proofs.Common.{◌≡◌, ℕ, zero, suc, List, [], ◌∷◌, true, None, refl, sym, subst}
 use Rattle.std.specs.Prelude.{IfSome}
 use Rattle.std.specs.List.{list_all}
 use Rattle.std.proofs.lemmas.Bool.{and_parts}
@@ -9,10 +9,10 @@ use Rattle.rh_nodes.specs.Giving.{Deeds}
 use Rattle.rh_nodes.specs.Opening.{Makers}
 use Rattle.rh_nodes.specs.Time.{for_each}
 use Rattle.rh_nodes.specs.World.{World}
-use Rattle.rh_history.specs.Changes.{ByLines, Change, GoesUp, OpensIn, OpensOut, OpensSame, Draws, MayChange, WorksBy, all_changed, changed, of_line}
+use Rattle.rh_history.specs.Changes.{ByLines, Change, GoesUp, OpensIn, OpensOut, OpensSame, Draws, MayChange, WorksBy, changed, of_line}
 use Rattle.rh_history.proofs.Connecting.{connects, quiet_connects}
 use Rattle.rh_history.proofs.Working.{all_wider, quiet_work, work_of_line, works_none, works_one, works_then}
-use Rattle.rh_ends_in_time.specs.InTime.{EndsInTime, IsOver, ended_by}
+use Rattle.rh_ends_in_time.specs.InTime.{EndsInTime, ended_by}
 use Rattle.rh_ends_in_time.proofs.Behind.{EndBehind, NoLeg, OrNow, all_in_time, ends_append, ends_over, in_time_behind}
 
 -- what connects a leg ends none

@@ -11,7 +11,7 @@ use Rattle.rh_order.proofs.ByNumber.{by_test}
 use Rattle.rh_record.specs.declared.answer.Answer.{Answer}
 use Rattle.rh_record.specs.declared.answer.TakeAnswer.{TakeAnswer}
 use Rattle.rh_record.specs.declared.answer.TakeAnswer.TheVariants as takes
-use Rattle.rh_nodes.specs.Breaking.{is_up, end_leg}
+use Rattle.rh_nodes.specs.Breaking.{is_up}
 use Rattle.rh_nodes.specs.Carrying.{send, feed}
 use Rattle.rh_nodes.specs.Company.{Rulebook}
 use Rattle.rh_nodes.specs.Giving.{Deeds, take, has_ended}

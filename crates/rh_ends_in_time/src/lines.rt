@@ -10,8 +10,8 @@ ghost use Rattle.rh_nodes.specs.World.{World};
 ghost use Rattle.rh_ends_in_time.specs.InTime.{EndsInTime};
 ghost use Rattle.rh_ends_in_time.specs.Losses.{LosesInTime, loses_no_leg};
 
-/// Each line ends a leg only where it is over, unless it is a `break` or `end` line that is answered
-/// ok of another leg; nothing is asked of any line but these two. So it is of the whole line, and
+/// Each line ends a leg only where it is over, unless it is a `break` or `end` line of another leg
+/// that is answered ok: nothing is asked of any line but these two. So it is of the whole line, and
 /// of what it does before it reports the nodes that it closed. Lines that end legs in time do so
 /// behind each other as well.
 pub fn lines_end_legs_in_time<K, C, S, I, O>()
