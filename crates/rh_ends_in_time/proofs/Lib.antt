@@ -1,0 +1,6 @@
+pub mod Behind
+pub mod Goes
+pub mod Losing
+pub mod Rounds
+pub mod EachLine
+pub mod Recorded

@@ -1,0 +1,11 @@
+use Rattle.rh_nodes.specs.Settling.{round, settle}
+use Rattle.rh_ends_in_time.proofs.Goes.{ends_in_time}
+use Rattle.rh_ends_in_time.proofs.Rounds.{round_in_time, settle_in_time}
+use Rattle.rh_ends_in_time.proofs.settling.settling_ends_legs_in_time.Goals as goal
+
+pub returns : goal.returns
+returns g c = record {
+  round = λ r m d w. ends_in_time r m d w (round r m d w).0 (round_in_time r m d w);
+  settle = λ r m d rounds w.
+      ends_in_time r m d w (settle r m d rounds w).0 (settle_in_time r m d rounds w);
+}
