@@ -23,10 +23,9 @@ ghost use Rattle.rh_fifo.specs.Flows.{numbers_of};
 ghost use Rattle.rh_fifo.specs.Premises.{AreDistinct, AreInRange};
 
 use crate::having::no_node_that_has_room_closes_for_a_full_leg;
+use rh_forwarding::{a_server_has_room, an_out_proxy_has_room};
 use rh_in_room::an_in_proxy_has_room;
-use rh_out_fits::an_out_proxy_has_room;
 use rh_pasts::a_world_of_roles_is_at_a_moment;
-use rh_server_fits::a_server_has_room;
 
 /// In each world of new roles whose numbers are in their ranges, at every moment that changes of
 /// lines and half steps reach: no further change closes the client with `ControlFull`, whichever

@@ -1,0 +1,3 @@
+pub mod Passing
+pub mod Late
+pub mod Fits

@@ -1,4 +1,0 @@
-mod Answered
-mod Search
-mod Fronts
-mod Channels

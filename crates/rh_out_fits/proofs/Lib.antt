@@ -1,8 +1,0 @@
-mod Between
-mod Cuts
-mod Ends
-mod Gates
-mod Messages
-mod Numbers
-mod Opened
-mod Stretches
