@@ -20,6 +20,7 @@ use Rattle.rh_inproxy.specs.Order.{KeepsOrder, came_log, came_on, is_on, item_ca
 use Rattle.rh_inproxy.specs.State.{InProxy}
 use Rattle.rh_inproxy_puts.specs.Puts.{ci, is_leg}
 use Rattle.rh_pdus_in_turn.specs.Passing.{HoldsBack, pdus_of, pdus_up_to}
+use Rattle.rh_pdus_in_turn.proofs.Legs.{same_bool}
 
 -- ---- what was put on is legs
 
@@ -80,20 +81,6 @@ few_on_leg n (one ∷ log) = by one.0.kind one.0.number one.1 (few_on_leg n log)
 
 -- ---- what came on ci legs
 
-same_bool : (kind : LegKind) (k n : ℕ)
-    → same_leg (record { kind = kind; number = k }) (ci n)
-    ≡ is_of ClientIn (record { kind = kind; number = k }) && nat_eq n k
-same_bool ClientOut k n = refl
-same_bool OutServer k n = refl
-same_bool InServer k n = refl
-same_bool ClientIn k n = flipped (k == n) (nat_eq n k) refl refl
-  where
-    flipped : (a b : Bool) → (k == n) ≡ a → nat_eq n k ≡ b → a ≡ b
-    flipped true true e f = refl
-    flipped false false e f = refl
-    flipped true false e f = absurd (grind (arith, nat_tests, e, f))
-    flipped false true e f = absurd (grind (arith, nat_tests, e, f))
-
 one_came : (m : Message) (items : List Item) (ms : List Message) → pdus items ≡ pdus_of ms
     → pdus (item_came m ++ items) ≡ pdus_of (m ∷ ms)
 one_came (Text bytes) items ms same = same
@@ -107,7 +94,7 @@ pdus_came n [] = refl
 pdus_came n ((leg, m) ∷ log) =
     subst (λ (b : Bool). pdus (came_log ((leg, m) ∷ log) n)
     ≡ pdus_of (if b then m ∷ of_leg (ci n) log else of_leg (ci n) log))
-    (sym (same_bool leg.kind leg.number n)) (by (is_on n (leg, m)) (pdus_came n log))
+    (sym (same_bool leg ClientIn n)) (by (is_on n (leg, m)) (pdus_came n log))
   where
     by : (b : Bool) → pdus (came_log log n) ≡ pdus_of (of_leg (ci n) log)
         → pdus ((if b then item_came m else []) ++ came_log log n)
@@ -131,7 +118,7 @@ mark_came n [] = λ has. absurd (true≢false (sym has))
 mark_came n ((leg, m) ∷ log) =
     subst (λ (b : Bool). has_handover (came_log ((leg, m) ∷ log) n) ≡ true
     → 1 ≤ count_of is_in_r1_a5 (if b then m ∷ of_leg (ci n) log else of_leg (ci n) log))
-    (sym (same_bool leg.kind leg.number n)) (by (is_on n (leg, m)) (mark_came n log))
+    (sym (same_bool leg ClientIn n)) (by (is_on n (leg, m)) (mark_came n log))
   where
     by : (b : Bool)
         → (has_handover (came_log log n) ≡ true → 1 ≤ count_of is_in_r1_a5 (of_leg (ci n) log))
