@@ -1,5 +1,5 @@
 -- where an RPC PDU stands on an is leg, IN_R1/A6 came on the leg of each IN channel before
-use Rattle.std.proofs.Common.{◌≡◌, ◌⊎◌, ℕ, zero, suc, ◌+◌, ◌<◌, ◌≤◌, Bool, true, false, if◌then◌else◌, List, [], ◌∷◌, inl, inr, refl, sym, ap, ◌∙◌, subst, arith}
+use Rattle.std.proofs.Common.{◌≡◌, ℕ, suc, ◌+◌, ◌≤◌, Bool, if◌then◌else◌, List, [], ◌∷◌, refl, ap, ◌∙◌, subst, arith}
 use Rattle.rh_sig.specs.declared.named.Named.{Named}
 use Rattle.rh_sig.specs.declared.named.Named.TheVariants as named
 use Rattle.rh_shell.specs.Moves.{Passage}
@@ -9,15 +9,13 @@ use Rattle.rh_passages.specs.Passing.{count_of}
 use Rattle.rh_server.specs.States.{Server}
 use Rattle.rh_server_counts.specs.Counting as at_server
 use Rattle.rh_server_in_rows.specs.Refusing as in_rows
-use Rattle.rh_inproxy.specs.State.{InProxy}
 use Rattle.rh_inproxy_puts.specs.Puts.{HasPdu, is_leg}
 use Rattle.rh_inproxy_puts.specs.Standing.{SendsWhereTold}
 use Rattle.rh_inproxy_puts.specs.Standing as at_proxy
-use Rattle.rh_in_channels.specs.Announcing.{AreAnnounced, IsAnnouncedOn}
-use Rattle.rh_moments.specs.Moments.{IsMoment, Moves, Numbers, in_behind, passages, server_behind}
+use Rattle.rh_moments.specs.Moments.{AreJoined, AreMade, Moves, Numbers, in_behind, passages, server_behind}
 use Rattle.rh_moments.proofs.Joining.{is_back}
 use Rattle.rh_moments.proofs.Read.{front_count}
-use Rattle.rh_pdus_in_turn.specs.Telling.{TellsBehind}
+use Rattle.rh_pdus_in_turn.specs.Telling.{IsTold, TellsBehind}
 use Rattle.rh_pdus_in_turn.specs.Turns.{ComeBehindHandovers}
 
 -- ---- tests that are the same
@@ -39,15 +37,10 @@ same_in_r1_b2 : (m : Named) → at_proxy.is_in_r1_b2 m ≡ in_rows.is_in_r1_b2 m
 same_in_r1_b2 (named.InR1B2 window) = refl
 same_in_r1_b2 m = refl
 
-none_or_some : (n : ℕ) → (n ≡ 0) ⊎ (1 ≤ n)
-none_or_some zero = inl refl
-none_or_some (suc n) = inr (omega arith)
-
-module _ (numbers : Numbers) (reader : ℕ → ℕ) (moves : Moves)
-    (moment : IsMoment numbers reader moves)
+module _ (numbers : Numbers) (reader : ℕ → ℕ) (moves : Moves) (made : AreMade numbers moves)
+    (joined : AreJoined reader (passages numbers moves))
     (sends : (m : ℕ) → SendsWhereTold (numbers.ins m) (in_behind numbers moves m))
-    (tells : TellsBehind moves.server (server_behind numbers moves).passage)
-    (order : AreAnnounced reader (server_behind numbers moves).passage) where
+    (tells : TellsBehind moves.server (server_behind numbers moves).passage) where
   abbrev server : Passage Server
   server = (server_behind numbers moves).passage
 
@@ -63,38 +56,25 @@ module _ (numbers : Numbers) (reader : ℕ → ℕ) (moves : Moves)
       subst (λ (n : ℕ). HasPdu pdu (of_leg (is_leg n) (in_behind numbers moves m).put)
       → 1 ≤ count_of at_proxy.is_conn_b3 (of_leg (is_leg n) (in_behind numbers moves m).came)
       + count_of at_proxy.is_in_r1_b2 (of_leg (is_leg n) (in_behind numbers moves m).came))
-      (moment.now.made.in_number m) (sends m pdu) has
+      (made.in_number m) (sends m pdu) has
 
   -- what came there the server put
   was_put : (test : Named → Bool) (m : ℕ) → count_of test (came m) ≤ count_of test (put m)
   was_put test m =
       front_count test (came m) (put m)
-      (is_back reader (passages numbers moves) moment.now.joined m)
+      (is_back reader (passages numbers moves) joined m)
 
-  tells_there : (m : ℕ) (pdu : List ℕ)
-      → HasPdu pdu (of_leg (is_leg m) (in_behind numbers moves m).put)
-      → (m ≡ 1) ⊎ (1 ≤ in_rows.put_at in_rows.is_in_r1_b2 server m)
-  tells_there m pdu has = by (none_or_some (in_rows.put_at in_rows.is_in_r1_b2 server m))
-    where
-      by : (in_rows.put_at in_rows.is_in_r1_b2 server m ≡ 0)
-          ⊎ (1 ≤ in_rows.put_at in_rows.is_in_r1_b2 server m)
-          → (m ≡ 1) ⊎ (1 ≤ in_rows.put_at in_rows.is_in_r1_b2 server m)
-      by (inr some) = inr some
-      by (inl none) =
-          let here = told m pdu has in
-          let conn_b3 = was_put at_proxy.is_conn_b3 m in
-          let in_r1_b2 = was_put at_proxy.is_in_r1_b2 m in
-          let first = as_many at_proxy.is_conn_b3 at_server.is_conn_b3 same_conn_b3 (put m) in
-          let later = as_many at_proxy.is_in_r1_b2 in_rows.is_in_r1_b2 same_in_r1_b2 (put m) in
-          inl (tells.conn_b3 m (omega (arith, none, here, conn_b3, in_r1_b2, first, later)))
+  is_told : (m : ℕ) (pdu : List ℕ)
+      → HasPdu pdu (of_leg (is_leg m) (in_behind numbers moves m).put) → IsTold server m
+  is_told m pdu has =
+      let here = told m pdu has in
+      let conn_b3 = was_put at_proxy.is_conn_b3 m in
+      let in_r1_b2 = was_put at_proxy.is_in_r1_b2 m in
+      let first = as_many at_proxy.is_conn_b3 at_server.is_conn_b3 same_conn_b3 (put m) in
+      let later = as_many at_proxy.is_in_r1_b2 in_rows.is_in_r1_b2 same_in_r1_b2 (put m) in
+      omega (arith, here, conn_b3, in_r1_b2, first, later)
 
   pub come_behind : ComeBehindHandovers numbers moves
-  come_behind m pdu has channel leg less on = by (tells_there m pdu has)
-    where
-      by : (m ≡ 1) ⊎ (1 ≤ in_rows.put_at in_rows.is_in_r1_b2 server m)
-          → 1 ≤ in_rows.came_at at_server.is_in_r1_a6 server leg
-      by (inl first) =
-          let least = (order.only leg channel on).0 in absurd (omega (arith, first, least, less))
-      by (inr some) =
-          let low = on.least in
-          tells.begun leg m some (omega (arith, low, less)) on.began
+  come_behind m pdu has channel leg less on =
+      let low = on.least in
+      tells.begun leg m (is_told m pdu has) (omega (arith, low, less)) on.began

@@ -16,8 +16,8 @@ use Rattle.rh_order.specs.Taking.{TakerLaw}
 use Rattle.rh_order.proofs.ByNumber.{by_test, other_number, same_number}
 use Rattle.rh_passages.specs.Passing.{count_of}
 use Rattle.rh_shell.specs.declared.end_role.GiveRefused.{GiveRefused}
-use Rattle.rh_shell.specs.Moves.{Move, Up, HeadCame, PduCame, PacketCame, Puts, IsDrawn, Marks, Pings, MayMove, Passage, EndMove, Moves, Gives, Takes, Closes, Recycles, EndPassage, MayEndMove, AreAllowedAtEnd, OnLeg, all_end_moved, end_moved, end_now_at, end_started, given_by, is_at_work, is_in_use, moved, put_by, taken_by, with_first}
-use Rattle.rh_shell.specs.Rules.{Message, Text, Pdu, Packet, Row}
+use Rattle.rh_shell.specs.Moves.{Up, HeadCame, PduCame, PacketCame, Puts, IsDrawn, Marks, Pings, Passage, EndMove, Moves, Gives, Takes, Closes, Recycles, EndPassage, MayEndMove, AreAllowedAtEnd, OnLeg, all_end_moved, end_moved, end_now_at, end_started, given_by, is_at_work, is_in_use, put_by, taken_by, with_first}
+use Rattle.rh_shell.specs.Rules.{Message, Pdu, Packet, Row}
 use Rattle.rh_shell.specs.Shells.{is_of}
 use Rattle.rh_shell.specs.Wires.{of_leg}
 use Rattle.rh_server.specs.declared.state.InLeg.{InLeg}
@@ -31,7 +31,7 @@ use Rattle.rh_server.specs.Opening.{has_room, may_up_by}
 use Rattle.rh_server.specs.Order.{came_up, following, got, has_leg, is_up, taker_of}
 use Rattle.rh_server.specs.Putting.{Pick, ack_due, or_else, put_ack, put_ack_by, put_b1, put_b1_by, put_in, put_in_by, put_tells, put_tells_by, was_current}
 use Rattle.rh_server.specs.Servers.{acts, first, rules}
-use Rattle.rh_server.specs.States.{Server, has_left, in_leg, in_place, is_due, is_lost, is_open, is_some, phase_of, stays, with_in}
+use Rattle.rh_server.specs.States.{Server, has_left, in_leg, in_place, is_due, is_lost, is_open, is_some, stays, with_in}
 use Rattle.rh_server_counts.specs.Counting.{is_conn_b2, is_in_r1_a2, is_in_r1_a6, leg_at, often_at}
 use Rattle.rh_server_in_rows.specs.Handovers.{passed}
 use Rattle.rh_server_in_rows.specs.Refusing.{came_at, first_at, is_in_r1_b2, put_at}
@@ -41,7 +41,7 @@ use Rattle.rh_server_in_rows.proofs.Takes.{IsKept}
 use Rattle.rh_server_in_rows.proofs.Tallies.{here, often_more, once_more, other_here}
 use Rattle.rh_server_turns.specs.Answers.{AnswersInOrder, is_in_r1_b1}
 use Rattle.rh_server_expects.proofs.Fronts.{all_fronts, behind_all}
-use Rattle.rh_pdus_in_turn.specs.Telling.{TellsBehind}
+use Rattle.rh_pdus_in_turn.specs.Telling.{IsTold, TellsBehind}
 use Rattle.rh_pdus_in_turn.proofs.Again.{behind, first_put, kept, same_stage, second_put}
 use Rattle.rh_pdus_in_turn.proofs.FirstTold.{on_first}
 use Rattle.rh_pdus_in_turn.proofs.Marks.{marks}
@@ -130,6 +130,7 @@ pub record Laws (window : ℕ) : Type 0 where
 
 -- rose m: is leg m came up
 record Keeps (rose : ℕ → Bool) (p : Passage Server) : Type 0 where
+  positive : (m : ℕ) → rose m ≡ true → 1 ≤ m
   begun : (m : ℕ) → 1 ≤ first_at p m → rose m ≡ true
   below : (m n : ℕ) → 1 ≤ put_at is_in_r1_b2 p n → m < n → rose m ≡ true
       → 1 ≤ came_at is_in_r1_a6 p m
@@ -140,6 +141,7 @@ later : (rose : ℕ → Bool) (p q : Passage Server) → q.put ≡ p.put
     → ((m : ℕ) → came_at is_in_r1_a6 p m ≤ came_at is_in_r1_a6 q m)
     → Keeps rose p → Keeps (λ m. rose m || false) q
 later rose p q same begins grows h = record {
+  positive = λ m up. h.positive m (or_none (rose m) up);
   begun = λ m some. or_left (rose m) false (begins m some);
   below = λ m n told less up.
       let was = h.below m n
@@ -412,6 +414,7 @@ module _ (window : ℕ) (law : Laws window) where
           → ((n : ℕ) → 1 ≤ here is_in_r1_b2 n (leg, m) → n ≤ s.current.leg)
           → Next (record p { role = t; put = p.put ++ (leg, m) ∷ [] })
       put_one t leg m low = record {
+        positive = λ k up. h.positive k (or_none (came_up front k) up);
         begun = λ k some. or_left (came_up front k) false (h.begun k some);
         below = λ k n told less up.
             by k n told less (or_none (came_up front k) up)
@@ -472,38 +475,44 @@ module _ (window : ℕ) (law : Laws window) where
                 absurd (omega (arith, none, told))
             by false e = grind (arith, nat_tests, e)
 
-        high : (m n : ℕ) → 1 ≤ put_at is_in_r1_b2 p n → m < n → (kind : LegKind)
-            → IsTrue (may_up_by s leg.number kind)
+        numbered : (m : ℕ) (kind : LegKind) → IsTrue (may_up_by s leg.number kind)
             → is_of InServer (record { kind = kind; number = leg.number })
             && nat_eq m leg.number ≡ true
-            → ⊥
-        high m n told less InServer may_then e =
-            let low = given n told in
-            let is = same_number leg.number (s.newest_in + 1)
-            (and_parts (leg.number == s.newest_in + 1) (has_room s.ins) may_then).0 in
-            let here_is = same_number m leg.number e in
-            omega (arith, low, is, here_is, less)
-        high m n told less OutServer may_then e = true≢false (sym e)
-        high m n told less ClientIn may_then e = true≢false (sym e)
-        high m n told less ClientOut may_then e = true≢false (sym e)
+            → m ≡ s.newest_in + 1
+        numbered m InServer may_then e =
+            same_number m leg.number e
+            ∙ same_number leg.number (s.newest_in + 1)
+            (and_parts (leg.number == s.newest_in + 1) (has_room s.ins) may_then).0
+        numbered m OutServer may_then e = absurd (true≢false (sym e))
+        numbered m ClientIn may_then e = absurd (true≢false (sym e))
+        numbered m ClientOut may_then e = absurd (true≢false (sym e))
 
         rises : Keeps (λ m. came_up front m || (is_up m (Moves (Up leg cookie)) || false))
             (record p { role = rules.up s leg cookie })
         rises = record {
+          positive = λ m up. above m (came_up front m) refl up;
           begun = λ m some.
               or_left (came_up front m) (is_up m (Moves (Up leg cookie)) || false)
               (h.begun m some);
           below = λ m n told less up. by m n told less (came_up front m) refl up;
         }
           where
+            above : (m : ℕ) (b : Bool) → came_up front m ≡ b
+                → b || (is_up m (Moves (Up leg cookie)) || false) ≡ true → 1 ≤ m
+            above m true e up = h.positive m e
+            above m false e up =
+                let is = numbered m leg.kind may_up.1
+                (or_none (is_up m (Moves (Up leg cookie))) up) in omega (arith, is)
+
             by : (m n : ℕ) → 1 ≤ put_at is_in_r1_b2 p n → m < n → (b : Bool)
                 → came_up front m ≡ b
                 → b || (is_up m (Moves (Up leg cookie)) || false) ≡ true
                 → 1 ≤ came_at is_in_r1_a6 p m
             by m n told less true e up = h.below m n told less e
             by m n told less false e up =
-                absurd (high m n told less leg.kind may_up.1
-                (or_none (is_up m (Moves (Up leg cookie))) up))
+                let is = numbered m leg.kind may_up.1
+                (or_none (is_up m (Moves (Up leg cookie))) up) in
+                let low = given n told in absurd (omega (arith, is, low, less))
 
       step : (move : EndMove) → MayEndMove rules s move
           → Keeps (λ m. came_up front m || came_up (move ∷ []) m)
@@ -537,6 +546,7 @@ module _ (window : ℕ) (law : Laws window) where
     all : Keeps (came_up moves) (passed window moves)
     all = all_fronts (λ (front : List EndMove). Keeps (came_up front) (passed window front)) moves
         next (record {
+          positive = λ m up. absurd (true≢false (sym up));
           begun = λ m some. absurd (omega (arith, some));
           below = λ m n told less up. absurd (omega (arith, told));
         })
@@ -550,17 +560,28 @@ module _ (window : ℕ) (law : Laws window) where
             let more = step front parts.0 h x parts.1.0 in
             subst (λ (q : EndPassage Server). Keeps (came_up (front ++ x ∷ [])) q.passage)
             (sym (behind_all rules acts start front x)) (record {
+              positive = λ m up. more.positive m (sym (came_append front (x ∷ []) m) ∙ up);
               begun = λ m some. came_append front (x ∷ []) m ∙ more.begun m some;
               below = λ m n told less up.
                   more.below m n told less (sym (came_append front (x ∷ []) m) ∙ up);
             })
 
+    below : (m n : ℕ) → IsTold (passed window moves) n → m < n → came_up moves m ≡ true
+        → 1 ≤ came_at is_in_r1_a6 (passed window moves) m
+    below m n told less up = by (none_or_some (put_at is_in_r1_b2 (passed window moves) n))
+      where
+        by : (put_at is_in_r1_b2 (passed window moves) n ≡ 0)
+            ⊎ (1 ≤ put_at is_in_r1_b2 (passed window moves) n)
+            → 1 ≤ came_at is_in_r1_a6 (passed window moves) m
+        by (inl none) =
+            let is = on_first n (passed window moves).came
+            (of_leg (leg_at InServer n) (passed window moves).put)
+            ((law.answers moves may).order n) (omega (arith, told, none)) in
+            let least = all.positive m up in absurd (omega (arith, is, least, less))
+        by (inr some) = all.below m n some less up
+
     pub tells_behind : TellsBehind moves (passed window moves)
     tells_behind = record {
-      conn_b3 = λ n some.
-          on_first n (passed window moves).came
-          (of_leg (leg_at InServer n) (passed window moves).put)
-          ((law.answers moves may).order n) some;
-      up = all.below;
-      begun = λ m n told less some. all.below m n told less (all.begun m some);
+      up = below;
+      begun = λ m n told less some. below m n told less (all.begun m some);
     }

@@ -1,22 +1,22 @@
 -- what order sees of an in proxy, in the messages of its legs
-use Rattle.std.proofs.Common.{◌≡◌, ◌⊎◌, ℕ, zero, suc, ◌+◌, ◌<◌, ◌≤◌, ◌==◌, ◌&&◌, Bool, true, false, true≢false, nat_eq, nat_le, if◌then◌else◌, List, [], ◌∷◌, ◌++◌, length, inl, inr, refl, sym, ap, ◌∙◌, subst, arith}
+use Rattle.std.proofs.Common.{◌≡◌, ℕ, zero, suc, ◌<◌, ◌≤◌, ◌==◌, Bool, true, false, true≢false, if◌then◌else◌, List, [], ◌∷◌, ◌++◌, length, refl, sym, ap, ◌∙◌, subst, arith}
 use Rattle.std.proofs.lemmas.Bool.Decides.{nat_tests}
 use mathlib.Core.List.{IsPrefix}
 use Rattle.rh_sig.specs.declared.named.Named.TheVariants as named
 use Rattle.rh_line.specs.declared.leg.LegKind.{LegKind}
 use Rattle.rh_line.specs.declared.leg.LegKind.TheVariants.{ClientOut, OutServer, ClientIn, InServer}
 use Rattle.rh_order.specs.Items.{Item, has_handover, pdus}
-use Rattle.rh_order.specs.Logs.{Log, below, through}
+use Rattle.rh_order.specs.Logs.{Log, below}
 use Rattle.rh_order.proofs.ByNumber.{below_prefix}
-use Rattle.rh_order.proofs.ItemLists.{has_handover-append, pdus-append}
+use Rattle.rh_order.proofs.ItemLists.{pdus-append}
 use Rattle.rh_order.proofs.Prefixes.{prefix_pdus, prefix_trans}
 use Rattle.rh_shell.specs.Moves.{OnLeg, Passage}
 use Rattle.rh_shell.specs.Rules.{Message, Text, Pdu, Packet}
-use Rattle.rh_shell.specs.Shells.{is_of, same_leg}
+use Rattle.rh_shell.specs.Shells.{is_of}
 use Rattle.rh_shell.specs.Wires.{of_leg}
 use Rattle.rh_passages.specs.Passing.{count_of, of_kind}
 use Rattle.rh_proxy_counts.specs.Kinds.{is_in_r1_a5}
-use Rattle.rh_inproxy.specs.Order.{KeepsOrder, came_log, came_on, is_on, item_came, item_put, put_items}
+use Rattle.rh_inproxy.specs.Order.{KeepsOrder, came_log, is_on, item_came, item_put, put_items}
 use Rattle.rh_inproxy.specs.State.{InProxy}
 use Rattle.rh_inproxy_puts.specs.Puts.{ci, is_leg}
 use Rattle.rh_pdus_in_turn.specs.Passing.{HoldsBack, pdus_of, pdus_up_to}

@@ -1,5 +1,5 @@
 -- handover marks among what a server took, by counts
-use Rattle.std.proofs.Common.{◌≡◌, ℕ, suc, ◌+◌, ◌<◌, ◌≤◌, ◌&&◌, Bool, true, false, true≢false, nat_eq, if◌then◌else◌, List, [], ◌∷◌, ◌++◌, refl, sym, ap, ◌∙◌, subst, arith}
+use Rattle.std.proofs.Common.{◌≡◌, ℕ, ◌≤◌, ◌&&◌, Bool, true, false, true≢false, nat_eq, if◌then◌else◌, List, [], ◌∷◌, ◌++◌, refl, sym, subst, arith}
 use Rattle.rh_sig.specs.declared.named.Named.TheVariants as named
 use Rattle.rh_line.specs.declared.leg.LegKind.TheVariants.{InServer}
 use Rattle.rh_order.specs.Items.{Item, has_handover}
@@ -9,7 +9,7 @@ use Rattle.rh_shell.specs.Shells.{is_of}
 use Rattle.rh_shell.specs.Wires.{of_leg}
 use Rattle.rh_passages.specs.Passing.{count_of}
 use Rattle.rh_server.specs.Order.{in_items, items_if, items_on}
-use Rattle.rh_server_counts.specs.Counting.{is_in_r1_a6, leg_at, often_at}
+use Rattle.rh_server_counts.specs.Counting.{is_in_r1_a6, leg_at}
 use Rattle.rh_pdus_in_turn.proofs.Legs.{same_bool}
 
 -- the mark is among the items where IN_R1/A6 is among the messages, and only there
