@@ -278,7 +278,8 @@ module _ (window : ℕ) (law : Laws window) where
               (moved_append start front twice)
               ∙ two_put)
               ((law.answers (front ++ twice)
-              (allowed_append start front twice may allowed)).in_r1_b1 n) in omega (arith, more, most)
+              (allowed_append start front twice may allowed)).in_r1_b1 n) in
+              omega (arith, more, most)
 
         told_low : n ≤ s.current.leg
         told_low = by (leg.number == s.current.leg) refl
@@ -452,7 +453,8 @@ module _ (window : ℕ) (law : Laws window) where
               → IsTrue (is_in_use rules s (record { kind = kind; number = leg.number }))
               → Next (put_by p (record { kind = kind; number = leg.number })
               (rules.put s (record { kind = kind; number = leg.number })))
-          by InServer used = in_puts leg.number used (put_in s leg.number) (goes_low leg.number used)
+          by InServer used =
+              in_puts leg.number used (put_in s leg.number) (goes_low leg.number used)
           by OutServer used = out (rules.put s (leg_at OutServer leg.number))
             where
               out : (pick : Pick) → Next (put_by p (leg_at OutServer leg.number) pick)

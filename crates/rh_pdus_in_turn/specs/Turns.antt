@@ -1,5 +1,5 @@
--- RPC PDUs on the is leg of an in proxy come behind the handovers of the IN channels before (MS-RPCH
--- 3.2.1, 3.2.3; successors are this profile's)
+-- RPC PDUs on the is leg of an in proxy come behind the handovers of the IN channels before
+-- (MS-RPCH 3.2.1, 3.2.3; successors are this profile's)
 use Rattle.std.specs.Prelude.{ℕ, ◌<◌, ◌≤◌, List}
 use Rattle.rh_shell.specs.Wires.{of_leg}
 use Rattle.rh_server_counts.specs.Counting.{is_in_r1_a6}

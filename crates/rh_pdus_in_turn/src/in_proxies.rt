@@ -11,9 +11,9 @@ ghost use Rattle.rh_pdus_in_turn.specs.Passing.{HoldsBack};
 use rh_inproxy::an_in_proxy_keeps_order;
 
 /// Whatever allowed moves an in proxy makes: as long as no IN_R1/A5 came on a ci leg, the RPC PDUs
-/// that it put on is legs are a front of those that came on its ci legs up to that one, in the order
-/// of the legs. So no RPC PDU of a successor passes before the IN_R1/A5 of its predecessor came
-/// (MS-RPCH 3.2.3; successors are this profile's).
+/// that it put on is legs are a front of those that came on its ci legs up to that one, in the
+/// order of the legs. So no RPC PDU of a successor passes before the IN_R1/A5 of its predecessor
+/// came (MS-RPCH 3.2.3; successors are this profile's).
 pub fn an_in_proxy_holds_back_pdus_of_a_successor()
     ensures { (config : InProxyConfig) (moves : List Move)
         → AreAllowed rules (started (first config)) moves

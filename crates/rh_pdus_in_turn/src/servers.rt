@@ -11,9 +11,9 @@ use rh_server::a_server_takes_in_order;
 use rh_server_in_rows::what_a_server_refuses_of_in_channels;
 use rh_server_turns::a_server_answers_in_proxies_in_order;
 
-/// Whatever moves a server makes that are allowed: where it told its window on an is leg, by CONN/B3
-/// or IN_R1/B2, IN_R1/A6 came on each leg below it that came up, so on each on which a channel began
-/// (MS-RPCH 3.2.1; successors are this profile's).
+/// Whatever moves a server makes that are allowed: where it told its window on an is leg, by
+/// CONN/B3 or IN_R1/B2, IN_R1/A6 came on each leg below it that came up, so on each on which a
+/// channel began (MS-RPCH 3.2.1; successors are this profile's).
 pub fn a_server_tells_a_window_behind_handovers()
     ensures { (window : ℕ) (moves : List EndMove)
         → AreAllowedAtEnd rules acts (end_started (first window)) moves
