@@ -1,0 +1,2 @@
+mod Pdus
+mod Ended
