@@ -1,2 +1,5 @@
 mod Pdus
 mod Ended
+mod KeptEnds
+mod NodeKeeps
+mod ClientOver

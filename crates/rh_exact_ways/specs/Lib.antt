@@ -1,1 +1,2 @@
 pub mod Pdus
+pub mod Keeping
