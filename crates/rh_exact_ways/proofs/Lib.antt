@@ -3,3 +3,5 @@ mod Ended
 mod KeptEnds
 mod NodeKeeps
 mod ClientOver
+mod HeadTexts
+mod WorldHeads
