@@ -82,13 +82,12 @@ none_first text heard none first =
 module _ {S : Type 0} (rules : Rules S) (first : S) (pipe : Leg → Option Pipe)
     (has : HasPipes rules first pipe) (leg : Leg)
     (other : first_stage (pipe leg) ≡ stage.Head → ⊥) where
-  IsNext : Stages → Type 0
+  abbrev IsNext : Stages → Type 0
   IsNext g = g leg ≡ Some stage.Head
 
   -- not behind a leg that comes up
   up_next : (g : Stages) (p : Passage S) (k : Leg) → Leads rules (started first) p
       → (IsNext g → ⊥) → IsNext (with_stage k (first_stage (rules.pipe p.role k)) g) → ⊥
-  unfolding IsNext
   up_next g p k leads not_yet = by (same_leg k leg) refl
     where
       piped : rules.pipe p.role leg ≡ pipe leg
@@ -107,7 +106,6 @@ module _ {S : Type 0} (rules : Rules S) (first : S) (pipe : Leg → Option Pipe)
   -- nor behind a head on another one
   head_next : (g : Stages) (k : Leg) (next : Stage) → same_leg k leg ≡ false
       → (IsNext g → ⊥) → IsNext (with_stage k next g) → ⊥
-  unfolding IsNext
   head_next g k next apart not_yet is =
       not_yet (ap (λ (t : Bool). if t then Some next else g leg) (sym apart) ∙ is)
 
@@ -123,7 +121,6 @@ module _ {S : Type 0} (rules : Rules S) (first : S) (pipe : Leg → Option Pipe)
       (next move turn.0)
     where
       one : (move : Move) → IsInTurn rules p.role g move → is_head_on leg move ≡ false
-      unfolding IsNext
       one (HeadCame k text) is = by (same_leg k leg) refl
         where
           by : (t : Bool) → same_leg k leg ≡ t → t ≡ false
@@ -157,7 +154,6 @@ module _ {S : Type 0} (rules : Rules S) (first : S) (pipe : Leg → Option Pipe)
       no_heads (started first) none_up moves (leads_none rules (started first)) allowed turn none
     where
       none : IsNext none_up → ⊥
-      unfolding IsNext
       none is = absurd cc
 
 -- ---- and each that comes is of its kind

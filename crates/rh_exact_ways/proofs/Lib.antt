@@ -1,5 +1,7 @@
+mod Rests
 mod Pdus
 mod Ended
+mod Stops
 mod KeptEnds
 mod NodeKeeps
 mod ClientOver

@@ -9,6 +9,7 @@ use Rattle.rh_order.specs.Routes.{IsRoute, Route}
 use Rattle.rh_order.proofs.ItemLists.{pdus-append}
 use Rattle.rh_order.proofs.OnTheWay.{exact, reader_at}
 use Rattle.rh_exact_ways.specs.Pdus.{HasAllPdus}
+use Rattle.rh_exact_ways.proofs.Rests.{rests, rests_whole}
 
 -- the PDUs of what did not come are those that stand there
 same_rest : (put came rest on : List Item) → put ≡ came ++ rest
@@ -18,48 +19,30 @@ same_rest put came rest on is all =
     (sym (pdus-append came rest) ∙ ap pdus (sym is) ∙ all)
 
 module _ (r : Route) (on : OnLegs) (l : IsRoute r) (all : HasAllPdus r on) where
-  near_rest : (n : ℕ) → 0 < n → IsPrefix (r.came (reader r.legs n) n) (r.sent n)
-  near_rest n some = l.near (reader r.legs n) n (reader_at r l n some).is_leg
-
-  rest_by : (n : ℕ) → List Item
-  rest_by zero = []
-  rest_by (suc n) = (near_rest (suc n) (omega arith)).0
-
-  rests : OnLegs
-  rests = record { near = rest_by; far = λ m. (l.far m).0 }
-
-  rests_whole : IsWhole r rests
-  unfolding rests rest_by
-  rests_whole = record { near = near; far = λ m. sym (l.far m).1 }
-    where
-      near : (n : ℕ) → 0 < n → r.sent n ≡ r.came (reader r.legs n) n ++ rest_by n
-      near zero some = absurd (omega (arith, some))
-      near (suc n) some = sym (near_rest (suc n) (omega arith)).1
-
-  same_part : (n : ℕ) → suc n ≤ r.giver.writing → part r rests (suc n) ≡ part r on (suc n)
+  same_part : (n : ℕ) → suc n ≤ r.giver.writing → part r (rests r l) (suc n) ≡ part r on (suc n)
   same_part n within =
       let some : 0 < suc n = omega arith in
       let k = suc n in
       let m = reader r.legs k in
       ap (λ (x : List (List ℕ)). held_of r.taker.shelves k
-      ++ (x ++ (held_of (r.proxies m).shelves k ++ pdus (rests.near k))))
-      (same_rest (r.put k) (r.got k) (rests.far k) (on.far k) (rests_whole.far k)
+      ++ (x ++ (held_of (r.proxies m).shelves k ++ pdus ((rests r l).near k))))
+      (same_rest (r.put k) (r.got k) ((rests r l).far k) (on.far k) ((rests_whole r l).far k)
       (all.far k some within))
       ∙ ap (λ (x : List (List ℕ)). held_of r.taker.shelves k
       ++ (pdus (on.far k) ++ (held_of (r.proxies m).shelves k ++ x)))
-      (same_rest (r.sent k) (r.came m k) (rests.near k) (on.near k) (rests_whole.near k some)
+      (same_rest (r.sent k) (r.came m k) ((rests r l).near k) (on.near k) ((rests_whole r l).near k some)
       (all.near k some within))
 
   same_parts : (n : ℕ) → n ≤ r.giver.writing
-      → below (λ k. part r rests (suc k)) n ≡ below (λ k. part r on (suc k)) n
+      → below (λ k. part r (rests r l) (suc k)) n ≡ below (λ k. part r on (suc k)) n
   same_parts zero within = refl
   same_parts (suc n) within =
-      ap (λ (x : List (List ℕ)). x ++ part r rests (suc n))
+      ap (λ (x : List (List ℕ)). x ++ part r (rests r l) (suc n))
       (same_parts n (omega (arith, within)))
       ∙ ap (λ (x : List (List ℕ)). below (λ k. part r on (suc k)) n ++ x) (same_part n within)
 
   pub all_on_path : r.giver.given ≡ r.taker.taken ++ path r on
   all_on_path =
-      exact r rests l rests_whole
+      exact r (rests r l) l (rests_whole r l)
       ∙ ap (λ (x : List (List ℕ)). r.taker.taken ++ (x ++ r.giver.queue))
       (same_parts r.giver.writing (omega arith))
