@@ -4,6 +4,7 @@ mod Ended
 mod Stops
 mod KeptEnds
 mod NodeKeeps
+mod CameUp
 mod ClientOver
 mod HeadTexts
 mod WorldHeads

@@ -1,5 +1,5 @@
 -- the legs that a node keeps while its role has use for them (MS-RPCH 3.2; profile)
-use Rattle.std.specs.Prelude.{◌≡◌, ◌⊎◌, List, Bool, true, false, Some}
+use Rattle.std.specs.Prelude.{◌≡◌, ◌⊎◌, List, Bool, true, false, Some, None}
 use Rattle.std.specs.List.{list_any}
 use Rattle.rh_line.specs.declared.leg.Leg.{Leg}
 use Rattle.rh_shell.specs.declared.course.Course.TheVariants.{Going}
@@ -28,3 +28,9 @@ pub record KeepsEnd {S : Type 0} (node : Shell S) (leg : Leg) : Type 0 where
 abbrev pub KeepsIfOfUse : {S : Type 0} → Rules S → Shell S → Leg → Type 0
 KeepsIfOfUse rules node leg =
     node.course ≡ Going → KeepsEnd node leg ⊎ (is_in_use rules node.role leg ≡ false)
+
+-- a leg that came up is one that the role knows so; of one that did not the node keeps nothing
+pub record KnowsLeg {S : Type 0} (rules : Rules S) (node : Shell S) (leg : Leg) (up : Bool)
+    : Type 0 where
+  pub known : up ≡ true → rules.was_up node.role leg ≡ true
+  pub absent : up ≡ false → end_at node leg ≡ None

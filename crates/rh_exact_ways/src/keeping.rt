@@ -1,4 +1,4 @@
-//! The legs that nodes keep. This function does nothing: its contract is the law.
+//! The legs that nodes keep. These functions do nothing: their contracts are the laws.
 
 ghost use Rattle.std.specs.Prelude.{◌≡◌, ℕ, List, false, true};
 ghost use Rattle.rh_http.specs.declared.config.ClientConfig.{ClientConfig};
@@ -14,7 +14,7 @@ ghost use Rattle.rh_outproxy.specs.Machine as out_proxy;
 ghost use Rattle.rh_outproxy.specs.OutProxy.{new_proxy};
 ghost use Rattle.rh_server.specs.Servers as server;
 ghost use Rattle.rh_history.specs.Carried.{AreAccepted, AreAcceptedAtEnd, came_up, happened};
-ghost use Rattle.rh_exact_ways.specs.Keeping.{KeepsIfOfUse, was_lost};
+ghost use Rattle.rh_exact_ways.specs.Keeping.{KeepsIfOfUse, KnowsLeg, was_lost};
 
 use rh_causes::{
     a_clients_leg_comes_up_once, a_servers_leg_comes_up_once, an_in_proxys_leg_comes_up_once,
@@ -69,4 +69,40 @@ pub fn a_leg_of_use_is_kept()
     a_leg_that_a_server_left_stays_unused();
     a_leg_that_an_in_proxy_left_stays_unused();
     a_leg_that_an_out_proxy_left_stays_unused();
+}
+
+/// Whatever happens at a node: its role knows each leg that came up there as one that did, and the
+/// node keeps nothing of a leg that did not.
+pub fn a_leg_that_came_up_is_known()
+    ensures client { (config : ClientConfig) (events : List EndEvent) (leg : Leg)
+        → AreAcceptedAtEnd client.rules client.acts (client.first_client config) events
+        → KnowsLeg client.rules
+        (after_end_events client.rules client.acts (client.first_client config) events) leg
+        (came_up leg (happened events)) }
+    ensures server { (window : ℕ) (events : List EndEvent) (leg : Leg)
+        → AreAcceptedAtEnd server.rules server.acts (server.new_server window) events
+        → KnowsLeg server.rules
+        (after_end_events server.rules server.acts (server.new_server window) events) leg
+        (came_up leg (happened events)) }
+    ensures in_proxy { (config : InProxyConfig) (events : List Event) (leg : Leg)
+        → AreAccepted in_proxy.rules (in_proxy.first_node config) events
+        → KnowsLeg in_proxy.rules
+        (after_events in_proxy.rules (in_proxy.first_node config) events) leg
+        (came_up leg events) }
+    ensures out_proxy { (config : OutProxyConfig) (events : List Event) (leg : Leg)
+        → AreAccepted out_proxy.rules (begun (new_proxy config) ROOMS) events
+        → KnowsLeg out_proxy.rules
+        (after_events out_proxy.rules (begun (new_proxy config) ROOMS) events) leg
+        (came_up leg events) }
+{
+    roles_move_by_their_rules::<ClientRole>();
+    roles_move_by_their_rules::<ServerRole>();
+    roles_move_by_their_rules::<InProxyRole>();
+    roles_move_by_their_rules::<OutProxyRole>();
+    ends_move_by_their_rules::<ClientRole>();
+    ends_move_by_their_rules::<ServerRole>();
+    a_clients_leg_comes_up_once();
+    a_servers_leg_comes_up_once();
+    an_in_proxys_leg_comes_up_once();
+    an_out_proxys_leg_comes_up_once();
 }
