@@ -372,7 +372,7 @@ over_all true false c d e f g h = absurd cc
 over_all true true false d e f g h = absurd cc
 over_all true true true false e f g h = absurd cc
 
-parts : (s : ClientRole) → is_over s ≡ true
+pub parts : (s : ClientRole) → is_over s ≡ true
     → (s.is_closing ≡ true) × (s.writing.is_end_put ≡ true) × (s.line.current.ended ≡ true)
     × (is_none s.replacement ≡ true)
 parts s e =

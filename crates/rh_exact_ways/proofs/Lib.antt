@@ -8,3 +8,7 @@ mod CameUp
 mod ClientOver
 mod HeadTexts
 mod WorldHeads
+mod ReadBy
+mod Passing
+mod LegGoes
+mod NoLoss
