@@ -1,8 +1,6 @@
 -- a leg that came up is known; of one that did not nothing is kept
-use Rattle.std.proofs.Common.{◌≡◌, ◌⊎◌, inl, inr, ℕ, zero, suc, List, [], ◌∷◌, ◌++◌, length, cond, Bool, true, false, ◌||◌, nat_lt, Some, None, refl, sym, ap, ◌∙◌, subst}
+use Rattle.std.proofs.Common.{◌≡◌, inl, inr, ℕ, zero, suc, List, [], ◌∷◌, ◌++◌, length, cond, Bool, true, false, ◌||◌, nat_lt, Some, None, refl, sym, ap, ◌∙◌, subst}
 use Rattle.std.specs.Prelude.{slice_set}
-use Rattle.std.specs.declared.option.Option.{Option}
-use Rattle.rh_rts.specs.declared.command.Cookie.{Cookie}
 use Rattle.rh_order.proofs.ItemLists.{neither}
 use Rattle.rh_line.specs.declared.leg.Leg.{Leg}
 use Rattle.rh_shell.specs.declared.rooms.Rooms.{Rooms}
@@ -10,12 +8,12 @@ use Rattle.rh_shell.specs.Ends.{cause_of}
 use Rattle.rh_shell.specs.Moving.{AreHeld, EndEvent, Event, ComesUp, Hears, Ends, Breaks, Draws, Ticks, Happens, IsClosed, IsGiven, IsRecycled, IsTaken, after_end_event, after_end_events, after_event, after_events}
 use Rattle.rh_shell.specs.NearEnds.{NearEnd, new_end}
 use Rattle.rh_shell.specs.Rules.{Acts, Rules}
-use Rattle.rh_shell.specs.Shells.{Shell, begun, end_at, free_place, may_up, place, same_leg, seated_at, state_of}
+use Rattle.rh_shell.specs.Shells.{Shell, begun, free_place, same_leg, seated_at, state_of}
 use Rattle.rh_history.specs.Carried.{AreAccepted, AreAcceptedAtEnd, IsAccepted, IsAcceptedAtEnd, came_up, happened, is_up_of}
 use Rattle.rh_streams.proofs.Ends.{end_is, end_of, leg_is, set_beside}
 use Rattle.rh_causes.specs.Once.{AreUpOnce, ComesUpOnce, KeepsUp}
 use Rattle.rh_causes.proofs.LegChanges.{Changes, Comes, Makes, closed_legs, given_legs, makes, recycled_legs, taken_legs}
-use Rattle.rh_causes.proofs.OnceUp.{AllFollow, AllFollowAtEnd, Goes, comes_up, first_held, first_once, run_once, run_once_at_end}
+use Rattle.rh_causes.proofs.OnceUp.{AllFollow, AllFollowAtEnd, comes_up, first_held, first_once, run_once, run_once_at_end}
 use Rattle.rh_exact_ways.specs.Keeping.{KnowsLeg}
 
 -- ---- an end of another leg is put

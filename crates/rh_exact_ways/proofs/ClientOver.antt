@@ -35,7 +35,6 @@ use Rattle.rh_client.specs.declared.channels.TheConstants.{LAST_NUMBER}
 use Rattle.rh_client.specs.declared.lengths.TheConstants.{IN_R1_A5_LEN}
 use Rattle.rh_client.specs.declared.replacement.Replacement.{Replacement}
 use Rattle.rh_client.specs.declared.replacement.Replacement.TheVariants.{NoneUnderWay, In, Out}
-use Rattle.rh_client.specs.declared.replacement.InStage.{InStage}
 use Rattle.rh_client.specs.declared.replacement.InStage.TheVariants as in_stage
 use Rattle.rh_client.specs.declared.replacement.OutStage.TheVariants as out_stage
 use Rattle.rh_client.specs.declared.replacement.Waits.{Waits}
@@ -47,11 +46,11 @@ use Rattle.rh_client.specs.Replacements.{is_none}
 use Rattle.rh_client.specs.Client.{acts, on_packet, packet_by, pdu, rules as client_rules}
 use Rattle.rh_client.specs.Ending.{close, drawn, end_channel, end_on, give, take}
 use Rattle.rh_client.specs.InReplacement.{answer_by, handed_over, recycle, recycle_by, wants_successor, wish_by, wished}
-use Rattle.rh_client.specs.Opening.{on_conn_a3, on_conn_c2, up}
+use Rattle.rh_client.specs.Opening.{on_conn_c2, up}
 use Rattle.rh_client.specs.Order.{AreAllowedMoves, GivesInOrder, TakesInOrder, came_log, client_moved, client_started, has_leg, put_log, taker_of}
 use Rattle.rh_client.specs.OutReplacement.{a10_by, a2_by, a6_by, ended_or, pass_by, passed, succeeded}
-use Rattle.rh_client.specs.Putting.{Pick, ack_by, due_by, or_else, out_due, put_ack, put_ack_of, put_by, put_conn_b1, put_current, put_due, put_end, put_in, put_in_r1_a1, put_in_successor, put_next, put_out, put_out_successor, put_pdu, put_ping, put_successor_ping, put_writing, settled_or_wished, settled_pick}
-use Rattle.rh_client.specs.State.{Done, after_in, after_out, begin_in, begin_out, is_current, is_in_successor, is_open, is_opening, is_out_successor, is_over, is_writing, settled, taken, unexpected}
+use Rattle.rh_client.specs.Putting.{Pick, ack_by, due_by, or_else, put_ack, put_ack_of, put_by, put_conn_b1, put_current, put_due, put_end, put_in, put_in_r1_a1, put_in_successor, put_next, put_out, put_out_successor, put_pdu, put_ping, put_successor_ping, put_writing, settled_or_wished, settled_pick}
+use Rattle.rh_client.specs.State.{Done, after_in, after_out, begin_out, is_current, is_in_successor, is_open, is_opening, is_out_successor, is_over, is_writing, settled, taken, unexpected}
 use Rattle.rh_client.specs.Time.{ping}
 use Rattle.rh_client.proofs.TakesInOrder.{takes_in_order}
 use Rattle.rh_streams.proofs.EndMoves.{leads_one}

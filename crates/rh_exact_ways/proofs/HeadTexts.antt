@@ -1,15 +1,13 @@
 -- no head that comes to a proxy asks for an echo
-use Rattle.std.proofs.Common.{◌≡◌, ◌≤◌, ℕ, ◌==◌, List, [], ◌∷◌, ◌++◌, Bool, true, false, true≢false, ◌||◌, nat_le, Ok, Some, None, arith, inl, inr, refl, sym, ap, ◌∙◌, subst}
+use Rattle.std.proofs.Common.{◌≡◌, ◌≤◌, ℕ, List, [], ◌∷◌, Bool, true, false, true≢false, ◌||◌, nat_le, Ok, Some, arith, inl, inr, refl, sym, ap, ◌∙◌, subst}
 use Rattle.std.specs.Prelude.{if◌then◌else◌}
 use Rattle.std.specs.List.{AllByRecursion, list_any}
 use Rattle.std.specs.declared.option.Option.{Option}
 use Rattle.std.specs.declared.result.Result.{Result}
 use Rattle.std.proofs.lemmas.Bool.Decides.{nat_tests}
-use mathlib.Core.List.{IsPrefix}
 use Rattle.rh_http.specs.declared.config.ClientConfig.{ClientConfig}
 use Rattle.rh_http.specs.declared.fault.HttpFault.{HttpFault}
 use Rattle.rh_http.specs.Lengths.{greatest_echo}
-use Rattle.rh_http.specs.Texts.{in_request, out_request}
 use Rattle.rh_heads.specs.Verdicts.{Asked, request_verdict}
 use Rattle.rh_order.proofs.ItemLists.{neither, nil_front}
 use Rattle.rh_line.specs.declared.leg.Leg.{Leg}
@@ -18,7 +16,7 @@ use Rattle.rh_sig.specs.declared.name.Pipe.{Pipe}
 use Rattle.rh_shell.specs.declared.stage.Stage.{Stage}
 use Rattle.rh_shell.specs.declared.stage.Stage.TheVariants as stage
 use Rattle.rh_shell.specs.Intakes.{ends_head, is_whole_head}
-use Rattle.rh_shell.specs.Moves.{AreAllowed, Move, MayMove, Up, HeadCame, PduCame, PacketCame, Puts, IsDrawn, Marks, Pings, Passage, moved, started}
+use Rattle.rh_shell.specs.Moves.{AreAllowed, Move, Up, HeadCame, PduCame, PacketCame, Puts, IsDrawn, Marks, Pings, Passage, moved, started}
 use Rattle.rh_shell.specs.Moving.{Leads}
 use Rattle.rh_shell.specs.NearEnds.{first_stage}
 use Rattle.rh_shell.specs.Rules.{Rules}

@@ -1,6 +1,6 @@
 -- a leg that a node keeps is kept behind an event that does not tell of its loss, or it was finished
 use Rattle.std.proofs.Common.{◌≡◌, ◌⊎◌, inl, inr, ℕ, zero, suc, ◌+◌, List, [], ◌∷◌, ◌++◌, length, take, drop, cond, Bool, true, false, nat_lt, Some, None, arith, refl, sym, ap, ◌∙◌, subst}
-use Rattle.std.specs.Prelude.{◌&&◌, ◌||◌, All, not, nat_le, slice_get, slice_set}
+use Rattle.std.specs.Prelude.{◌&&◌, ◌||◌, not, nat_le, slice_get, slice_set}
 use Rattle.std.specs.declared.option.Option.{Option}
 use Rattle.std.proofs.lemmas.Bool.{and_parts, true≢false}
 use Rattle.rh_rts.specs.declared.command.Cookie.{Cookie}
@@ -11,7 +11,6 @@ use Rattle.rh_line.specs.declared.cause.Cause.TheVariants as cause
 use Rattle.rh_line.specs.declared.leg.Leg.{Leg}
 use Rattle.rh_shell.specs.declared.course.Course.{Course}
 use Rattle.rh_shell.specs.declared.course.Course.TheVariants.{Going, Closed, Refusing}
-use Rattle.rh_shell.specs.declared.standing.Standing.{Standing}
 use Rattle.rh_shell.specs.declared.stop.Stop.{Stop}
 use Rattle.rh_shell.specs.Drawing.{Drawn, draw}
 use Rattle.rh_shell.specs.Hearing.{Turn, goes, hear}
@@ -23,7 +22,6 @@ use Rattle.rh_shell.specs.Shells.{Shell, bytes_at, bytes_by, broken_at, broken_b
 use Rattle.rh_streams.proofs.Draws.{draw_drew}
 use Rattle.rh_streams.proofs.Ends.{end_has, end_is, end_leg, end_of, leg_is, set_beside, set_here}
 use Rattle.rh_streams.proofs.Pieces.{piece_heard}
-use Rattle.rh_streams.proofs.Seats.{stop_keeps}
 use Rattle.rh_exact_ways.specs.Keeping.{KeepsEnd, is_loss_of}
 
 -- ---- an end among others

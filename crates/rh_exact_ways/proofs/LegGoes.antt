@@ -9,7 +9,7 @@ use Rattle.rh_order.specs.Items.{Item}
 use Rattle.rh_order.specs.Paths.{stops_at}
 use Rattle.rh_shell.specs.declared.course.Course.TheVariants.{Going}
 use Rattle.rh_shell.specs.Moves.{is_in_use}
-use Rattle.rh_shell.specs.NearEnds.{NearEnd, is_empty, is_ended, is_marked, is_over, is_useless}
+use Rattle.rh_shell.specs.NearEnds.{NearEnd, is_empty, is_ended, is_over, is_useless}
 use Rattle.rh_shell.specs.Rules.{Message, Rules}
 use Rattle.rh_shell.specs.Shells.{Shell, end_at}
 use Rattle.rh_reading.specs.Reading.{Reading, begin, messages_from, reading}

@@ -1,7 +1,6 @@
 -- a node keeps each leg while its role has use for it, or it was told that it was lost
 use Rattle.std.proofs.Common.{◌≡◌, ◌⊎◌, inl, inr, ℕ, zero, suc, ◌<◌, List, [], ◌∷◌, ◌++◌, length, cond, Bool, true, false, ◌||◌, nat_lt, Some, None, arith, refl, sym, ap, ◌∙◌, subst}
 use Rattle.std.specs.Prelude.{◌&&◌, slice_set}
-use Rattle.std.specs.List.{list_any}
 use Rattle.std.specs.declared.option.Option.{Option}
 use Rattle.std.proofs.lemmas.Bool.{and_parts, true≢false}
 use Rattle.std.proofs.lemmas.Bool.Decides.{nat_tests}
@@ -14,11 +13,11 @@ use Rattle.rh_line.specs.declared.state.State.TheVariants as state
 use Rattle.rh_shell.specs.declared.course.Course.TheVariants.{Going}
 use Rattle.rh_shell.specs.declared.rooms.Rooms.{Rooms}
 use Rattle.rh_shell.specs.Ends.{cause_of, close_where, give_where, recycle_where, take_where}
-use Rattle.rh_shell.specs.Moves.{Move, Up, HeadCame, PduCame, PacketCame, Puts, IsDrawn, Marks, Pings, Passage, EndMove, EndPassage, Moves, Gives, Takes, Closes, Recycles, AreAllowedAtEnd, MayEndMove, MayMove, all_end_moved, all_moved, end_moved, end_started, moved, started}
+use Rattle.rh_shell.specs.Moves.{Move, Up, HeadCame, PduCame, PacketCame, Puts, IsDrawn, Marks, Pings, Passage, EndMove, EndPassage, Moves, Gives, Takes, Closes, Recycles, AreAllowedAtEnd, MayEndMove, MayMove, all_end_moved, end_moved, end_started, moved, started}
 use Rattle.rh_shell.specs.Moving.{AreHeld, EndEvent, EndFollows, EndLeads, Event, ComesUp, Hears, Ends, Breaks, Draws, Ticks, Happens, IsClosed, IsGiven, IsRecycled, IsTaken, Follows, Leads, after_end_event, after_end_events, after_event, after_events}
 use Rattle.rh_shell.specs.NearEnds.{NearEnd, new_end}
 use Rattle.rh_shell.specs.Rules.{Acts, Rules}
-use Rattle.rh_shell.specs.Shells.{Shell, begun, end_at, free_place, has_room, is_working, may_up, place, same_leg, seated_at, state_of, with_leg}
+use Rattle.rh_shell.specs.Shells.{Shell, begun, free_place, has_room, is_working, may_up, place, same_leg, seated_at, state_of, with_leg}
 use Rattle.rh_shell.proofs.Leading.{leads_keep, leads_none, leads_one, leads_then}
 use Rattle.rh_history.specs.Carried.{AreAccepted, AreAcceptedAtEnd, IsAccepted, IsAcceptedAtEnd, came_up, happened, is_up_of}
 use Rattle.rh_history.proofs.Wired.{same_itself}
@@ -26,11 +25,10 @@ use Rattle.rh_streams.specs.Streams.{StaysUnused, StaysUnusedAtEnd, is_end_up_on
 use Rattle.rh_streams.proofs.EndMoves.{leads_one as end_leads_one}
 use Rattle.rh_streams.proofs.Ends.{end_is, end_leg, end_of, leg_is}
 use Rattle.rh_causes.specs.Once.{AreUpOnce, ComesUpOnce, KeepsUp}
-use Rattle.rh_causes.specs.Reasons.{StandsIn}
 use Rattle.rh_causes.proofs.LegChanges.{closed_legs, given_legs, recycled_legs, taken_legs}
 use Rattle.rh_causes.proofs.OnceUp.{AllFollow, AllFollowAtEnd, Goes, comes_up, first_held, first_once, run_once, run_once_at_end}
 use Rattle.rh_exact_ways.specs.Keeping.{KeepsEnd, KeepsIfOfUse, is_loss_of, was_lost}
-use Rattle.rh_exact_ways.proofs.KeptEnds.{Behind, IsAnother, Stands, Unused, behind, keeps_end}
+use Rattle.rh_exact_ways.proofs.KeptEnds.{IsAnother, Stands, Unused, behind, keeps_end}
 
 -- ---- an end is put for a leg that has none
 

@@ -1,5 +1,5 @@
 -- behind the last use of a leg, the node that takes took its handover mark or END
-use Rattle.std.proofs.Common.{◌≡◌, ◌≤◌, ◌<◌, ◌⊎◌, inl, inr, ℕ, ◌==◌, Bool, true, false, true≢false, not, nat_lt, ◌&&◌, ◌||◌, List, [], ◌∷◌, arith, refl, sym, ap, ◌∙◌, subst}
+use Rattle.std.proofs.Common.{◌≡◌, ◌≤◌, ◌⊎◌, inl, inr, ℕ, ◌==◌, Bool, true, false, true≢false, not, nat_lt, ◌&&◌, ◌||◌, List, [], ◌∷◌, arith, refl, sym, ap, ◌∙◌, subst}
 use Rattle.std.specs.Prelude.{if◌then◌else◌}
 use Rattle.std.specs.List.{AllByRecursion, list_any}
 use Rattle.std.specs.declared.option.Option.{Option}
@@ -24,12 +24,10 @@ use Rattle.rh_client.specs.declared.replacement.Replacement.TheVariants.{NoneUnd
 use Rattle.rh_client.specs.declared.state.ClientRole.{ClientRole}
 use Rattle.rh_client.specs.Channels.{is_up}
 use Rattle.rh_client.specs.Client as client
-use Rattle.rh_client.specs.Opening.{was_out_up}
 use Rattle.rh_client.specs.Order as client_order
 use Rattle.rh_client.specs.Order.{AreAllowedMoves, TakesInOrder, client_moved}
 use Rattle.rh_client.specs.Replacements.{is_finished, is_none, is_out}
-use Rattle.rh_client.specs.State as client_state
-use Rattle.rh_client.specs.State.{is_current, is_out_successor}
+use Rattle.rh_client.specs.State.{is_current}
 use Rattle.rh_inproxy.specs.declared.state.InProxyConfig.{InProxyConfig}
 use Rattle.rh_inproxy.specs.Machine as in_proxy
 use Rattle.rh_inproxy.specs.Order as in_order

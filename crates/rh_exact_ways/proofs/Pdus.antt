@@ -1,13 +1,12 @@
 -- what is on its way in a direction, by its PDUs alone
-use Rattle.std.proofs.Common.{◌≡◌, ◌<◌, ◌≤◌, ℕ, zero, suc, List, [], ◌++◌, arith, refl, sym, ap, ◌∙◌}
+use Rattle.std.proofs.Common.{◌≡◌, ◌<◌, ◌≤◌, ℕ, zero, suc, List, ◌++◌, arith, refl, sym, ap, ◌∙◌}
 use Rattle.std.proofs.lemmas.List.{append_cancel_left}
-use mathlib.Core.List.{IsPrefix}
 use Rattle.rh_order.specs.Items.{Item, pdus}
 use Rattle.rh_order.specs.Logs.{below}
-use Rattle.rh_order.specs.Paths.{IsWhole, OnLegs, held_of, part, path, reader}
+use Rattle.rh_order.specs.Paths.{OnLegs, held_of, part, path, reader}
 use Rattle.rh_order.specs.Routes.{IsRoute, Route}
 use Rattle.rh_order.proofs.ItemLists.{pdus-append}
-use Rattle.rh_order.proofs.OnTheWay.{exact, reader_at}
+use Rattle.rh_order.proofs.OnTheWay.{exact}
 use Rattle.rh_exact_ways.specs.Pdus.{HasAllPdus}
 use Rattle.rh_exact_ways.proofs.Rests.{rests, rests_whole}
 

@@ -1,5 +1,5 @@
 -- what is on its way in a direction on whose legs nothing was lost, but behind END
-use Rattle.std.proofs.Common.{◌≡◌, ◌⊎◌, inl, inr, ◌<◌, ◌≤◌, ℕ, zero, suc, Bool, true, false, nat_lt, not, ◌||◌, List, [], ◌++◌, arith, refl, sym, ap, ◌∙◌, subst}
+use Rattle.std.proofs.Common.{◌≡◌, ◌⊎◌, inl, inr, ◌<◌, ◌≤◌, ℕ, Bool, true, false, nat_lt, not, ◌||◌, List, [], ◌++◌, arith, refl, sym, ap, ◌∙◌, subst}
 use Rattle.std.proofs.lemmas.Bool.Decides.{nat_tests}
 use Rattle.std.proofs.lemmas.List.{append_cancel_left}
 use Rattle.rh_order.specs.Items.{IsChannel, Item, has_end, has_handover, pdus}
@@ -7,7 +7,7 @@ use Rattle.rh_order.specs.Paths.{Arrives, Losses, OnLegs, held_of, path, reader,
 use Rattle.rh_order.specs.Routes.{IsRoute, Route}
 use Rattle.rh_order.proofs.ItemLists.{ended_whole, handed_whole, nil_back, nil_front, pdus-append}
 use Rattle.rh_order.proofs.OnTheWay.{part_past}
-use Rattle.rh_exact_ways.specs.Pdus.{HasAllPdus, IsBehindEnd, NoneStopsButBehindEnd}
+use Rattle.rh_exact_ways.specs.Pdus.{IsBehindEnd, NoneStopsButBehindEnd}
 use Rattle.rh_exact_ways.proofs.Ended.{none_behind}
 use Rattle.rh_exact_ways.proofs.Pdus.{all_on_path}
 use Rattle.rh_exact_ways.proofs.Rests.{rests, rests_whole}

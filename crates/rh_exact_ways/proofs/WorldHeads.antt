@@ -1,29 +1,25 @@
 -- the heads that come to the proxies of a world of roles
-use Rattle.std.proofs.Common.{◌≡◌, ◌⊎◌, inl, inr, ℕ, List, [], Bool, true, false, Some, None, refl, sym, ap, ◌∙◌, subst}
+use Rattle.std.proofs.Common.{◌≡◌, ℕ, List, [], Bool, true, false, Some, None, refl, sym, ap, ◌∙◌, subst}
 use Rattle.std.specs.Prelude.{if◌then◌else◌}
 use Rattle.std.specs.List.{AllByRecursion}
 use Rattle.std.specs.declared.option.Option.{Option}
 use mathlib.Core.List.{IsPrefix}
 use Rattle.rh_http.specs.declared.config.ClientConfig.{ClientConfig}
 use Rattle.rh_http.specs.Texts.{in_request, out_request}
-use Rattle.rh_text.specs.declared.ends.Dir.{Dir}
-use Rattle.rh_text.specs.declared.ends.Dir.TheVariants.{U}
 use Rattle.rh_text.specs.declared.ends.Side.{Side}
 use Rattle.rh_text.specs.declared.ends.Side.TheVariants as side
 use Rattle.rh_sig.specs.declared.name.Pipe.{Pipe}
-use Rattle.rh_sig.specs.declared.name.Pipe.TheVariants.{CiU, CoU, IsD, OsD}
+use Rattle.rh_sig.specs.declared.name.Pipe.TheVariants.{CoU, IsD, OsD}
 use Rattle.rh_line.specs.declared.leg.Leg.{Leg}
 use Rattle.rh_line.specs.declared.leg.LegKind.{LegKind}
 use Rattle.rh_line.specs.declared.leg.LegKind.TheVariants.{ClientOut, OutServer, ClientIn, InServer}
-use Rattle.rh_record.specs.declared.answer.Who.{Who}
 use Rattle.rh_record.specs.declared.answer.Who.TheVariants as who
 use Rattle.rh_shell.specs.declared.stage.Stage.TheVariants as stage
 use Rattle.rh_shell.specs.Intakes.{is_whole_head}
 use Rattle.rh_shell.specs.Moves.{EndMove}
 use Rattle.rh_shell.specs.NearEnds.{first_stage}
-use Rattle.rh_shell.specs.Shells.{Shell, same_leg}
+use Rattle.rh_shell.specs.Shells.{same_leg}
 use Rattle.rh_shell.specs.Wires.{of_leg}
-use Rattle.rh_client.specs.declared.state.ClientRole.{ClientRole}
 use Rattle.rh_client.specs.Client as client
 use Rattle.rh_client.specs.Legible.{IsConfig, pipe_put}
 use Rattle.rh_client.specs.Order.{AreAllowedMoves, client_moved}
@@ -41,7 +37,7 @@ use Rattle.rh_reading.specs.Reading.{IsWholeText}
 use Rattle.rh_shell.specs.Moving.{EndEvent, Event}
 use Rattle.rh_streams.specs.Streams.{EndStream, HasPipes, IsFirstHead, Stream}
 use Rattle.rh_streams.proofs.Ends.{leg_is}
-use Rattle.rh_ends_begin.specs.Begins.{Asks, BeginsLegs, IsRequestOf, client_reads}
+use Rattle.rh_ends_begin.specs.Begins.{Asks, BeginsLegs, IsRequestOf}
 use Rattle.rh_down.specs.Down as down
 use Rattle.rh_proxies_begin.specs.Pipes.{ci, co, in_pipe, is, out_pipe}
 use Rattle.rh_passed.specs.Passed.{AsksNoEcho, HeadsAre}

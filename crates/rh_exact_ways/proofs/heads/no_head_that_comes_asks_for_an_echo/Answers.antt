@@ -1,9 +1,8 @@
-use Rattle.std.proofs.Common.{◌≡◌, ℕ, List, [], Bool, true, false, true≢false, sym, ap, ◌∙◌, subst}
+use Rattle.std.proofs.Common.{◌≡◌, ℕ, false, true≢false, sym, ap, ◌∙◌, subst}
 use mathlib.Core.List.{IsPrefix}
 use Rattle.rh_text.specs.declared.ends.Dir.TheVariants.{U}
-use Rattle.rh_text.specs.declared.ends.Side.{Side}
 use Rattle.rh_line.specs.declared.leg.Leg.{Leg}
-use Rattle.rh_line.specs.declared.leg.LegKind.TheVariants.{ClientIn, InServer}
+use Rattle.rh_line.specs.declared.leg.LegKind.TheVariants.{InServer}
 use Rattle.rh_record.specs.declared.answer.Who.TheVariants as who
 use Rattle.rh_shell.specs.Shells.{Shell, same_leg}
 use Rattle.rh_nodes.specs.Opening.{Makers}

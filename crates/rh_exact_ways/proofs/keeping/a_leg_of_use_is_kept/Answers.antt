@@ -1,4 +1,3 @@
-use Rattle.std.proofs.Common.{ℕ}
 use Rattle.rh_client.specs.Client as client
 use Rattle.rh_client.specs.State as client_state
 use Rattle.rh_inproxy.specs.Machine as in_proxy
