@@ -401,7 +401,8 @@ take_over s same over = by s.phase refl
 
     work : (f : Phase) → s.phase ≡ f → (f ≡ phase.Ended → ⊥) → Over (take s)
     work f e not_ended =
-        fine_then s t (passed t) refl (pass_fine t t.replacement) (λ ended. not_ended (sym e ∙ ended))
+        fine_then s t (passed t) refl (pass_fine t t.replacement)
+        (λ ended. not_ended (sym e ∙ ended))
 
     by : (f : Phase) → s.phase ≡ f → Over (take s)
     by phase.Opening e = work phase.Opening e (λ bad. absurd cc)
@@ -514,7 +515,9 @@ module _ (config : ClientConfig) where
 
       by : (t : Bool) → nat_lt n s.writing.number ≡ t
           → Passed (put_log (client_moved config moves).passage.put n)
-      by true e = handed (put_log (client_moved config moves).passage.put n) (law.handed n some (grind (arith, nat_tests)))
+      by true e =
+          handed (put_log (client_moved config moves).passage.put n)
+          (law.handed n some (grind (arith, nat_tests)))
       by false e =
           let here : n ≡ s.writing.number = grind (arith, nat_tests) in
           ended_there (put_log (client_moved config moves).passage.put n)
@@ -536,7 +539,9 @@ module _ (config : ClientConfig) where
 
       by : (t : Bool) → nat_lt n s.current.number ≡ t
           → Passed (came_log (client_moved config moves).passage.came n)
-      by true e = handed (came_log (client_moved config moves).passage.came n) (law.past n (grind (arith, nat_tests)) (grind (arith, nat_tests)))
+      by true e =
+          handed (came_log (client_moved config moves).passage.came n)
+          (law.past n (grind (arith, nat_tests)) (grind (arith, nat_tests)))
       by false e =
           let here : n ≡ s.current.number = grind (arith, nat_tests) in
           ended_there (came_log (client_moved config moves).passage.came n)

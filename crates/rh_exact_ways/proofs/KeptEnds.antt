@@ -1,4 +1,5 @@
--- a leg that a node keeps is kept behind an event that does not tell of its loss, or it was finished
+-- a leg that a node keeps is kept behind an event that does not tell of its loss, or it was
+-- finished
 use Rattle.std.proofs.Common.{◌≡◌, ◌⊎◌, inl, inr, ℕ, zero, suc, ◌+◌, List, [], ◌∷◌, ◌++◌, length, take, drop, cond, Bool, true, false, nat_lt, Some, None, arith, refl, sym, ap, ◌∙◌, subst}
 use Rattle.std.specs.Prelude.{◌&&◌, ◌||◌, not, nat_le, slice_get, slice_set}
 use Rattle.std.specs.declared.option.Option.{Option}

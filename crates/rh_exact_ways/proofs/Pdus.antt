@@ -29,7 +29,8 @@ module _ (r : Route) (on : OnLegs) (l : IsRoute r) (all : HasAllPdus r on) where
       (all.far k some within))
       ∙ ap (λ (x : List (List ℕ)). held_of r.taker.shelves k
       ++ (pdus (on.far k) ++ (held_of (r.proxies m).shelves k ++ x)))
-      (same_rest (r.sent k) (r.came m k) ((rests r l).near k) (on.near k) ((rests_whole r l).near k some)
+      (same_rest (r.sent k) (r.came m k) ((rests r l).near k) (on.near k)
+      ((rests_whole r l).near k some)
       (all.near k some within))
 
   same_parts : (n : ℕ) → n ≤ r.giver.writing

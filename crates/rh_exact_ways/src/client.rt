@@ -9,9 +9,10 @@ ghost use Rattle.rh_client.specs.Order.{AreAllowedMoves, came_log, client_moved,
 
 use rh_client::a_client_gives_in_order;
 
-/// Whatever happens to a client: where its work is done it put IN_R1/A5 or END/A1 on each IN channel
-/// up to the one on which it writes, and OUT_R1/A10 or END/B2 came on each OUT channel up to the
-/// current one (MS-RPCH 3.2.2; the packets of replacement and of the end are this profile's).
+/// Whatever happens to a client: where its work is done it put IN_R1/A5 or END/A1 on each IN
+/// channel up to the one on which it writes, and OUT_R1/A10 or END/B2 came on each OUT channel up
+/// to the current one (MS-RPCH 3.2.2; the packets of replacement and of the end are this
+/// profile's).
 pub fn a_client_whose_work_is_done_gave_and_took_all()
     ensures gave { (config : ClientConfig) (moves : List EndMove) → AreAllowedMoves config moves
         → (let p = client_moved config moves in

@@ -14,8 +14,8 @@ pub fn pdus_on_all_legs_are_on_their_way()
         → r.giver.given ≡ r.taker.taken ++ path r on }
 {}
 
-/// Where END came to a proxy on a channel, no PDU was put on those that it reads behind that one, no
-/// more is accepted, and none waits to be put.
+/// Where END came to a proxy on a channel, no PDU was put on those that it reads behind that one,
+/// no more is accepted, and none waits to be put.
 pub fn nothing_is_put_behind_an_end()
     ensures { (r : Route) → IsRoute r → (n : ℕ) → 0 < n → IsBehindEnd r n
         → (pdus (r.sent n) ≡ []) × (r.giver.closing ≡ true) × (r.giver.queue ≡ []) }

@@ -34,11 +34,11 @@ use rh_passed::{
 use rh_traced::a_recording_of_roles_is_known;
 
 /// In each world of new roles whose numbers are in their ranges, where the port of the client's
-/// server is one, at every moment that changes of lines and half steps reach: while all nodes go on,
-/// no node was told that a leg ended or broke, and each leg that came up for a node is up for it,
-/// what was given is exactly what was taken and what is on its way. Of the legs of the channels from
-/// the taker's current one up to that on which the giver writes, what comes is to be read, and one
-/// for which the node that puts has no use any more is to be kept there still.
+/// server is one, at every moment that changes of lines and half steps reach: while all nodes go
+/// on, no node was told that a leg ended or broke, and each leg that came up for a node is up for
+/// it, what was given is exactly what was taken and what is on its way. Of the legs of the channels
+/// from the taker's current one up to that on which the giver writes, what comes is to be read, and
+/// one for which the node that puts has no use any more is to be kept there still.
 pub fn what_no_leg_lost_is_on_its_way<K>()
     ensures down { (m : Makers K InProxy OutProxy) (w : World K ClientRole Server InProxy OutProxy)
         → IsNew w → (ours : AreOurs m w.company w.cast) → AreInRange (numbers_of ours)
