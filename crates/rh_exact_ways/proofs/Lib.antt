@@ -1,0 +1,14 @@
+mod Rests
+mod Pdus
+mod Ended
+mod Stops
+mod KeptEnds
+mod NodeKeeps
+mod CameUp
+mod ClientOver
+mod HeadTexts
+mod WorldHeads
+mod ReadBy
+mod Passing
+mod LegGoes
+mod NoLoss

@@ -1,0 +1,3 @@
+pub mod Pdus
+pub mod Keeping
+pub mod Unlost

@@ -1,0 +1,66 @@
+//! The heads that come to proxies. This function does nothing: its contract is the law.
+
+ghost use Rattle.std.specs.Prelude.{ℕ, false, true};
+ghost use Rattle.std.specs.List.{AllByRecursion};
+ghost use Rattle.rh_nodes.specs.Opening.{Makers};
+ghost use Rattle.rh_nodes.specs.World.{World};
+ghost use Rattle.rh_client.specs.declared.state.ClientRole.{ClientRole};
+ghost use Rattle.rh_inproxy.specs.Machine as in_proxy;
+ghost use Rattle.rh_inproxy.specs.State as in_state;
+ghost use Rattle.rh_inproxy.specs.State.{InProxy};
+ghost use Rattle.rh_outproxy.specs.declared.out_proxy.TheConstants.{ROOMS};
+ghost use Rattle.rh_outproxy.specs.Machine as out_proxy;
+ghost use Rattle.rh_outproxy.specs.OutProxy.{OutProxy, new_proxy};
+ghost use Rattle.rh_server.specs.States.{Server};
+ghost use Rattle.rh_history.specs.Histories.{IsNew};
+ghost use Rattle.rh_streams.specs.Streams.{Stream};
+ghost use Rattle.rh_proxies_begin.specs.Pipes.{in_pipe};
+ghost use Rattle.rh_down.specs.Down.{proxy_reads};
+ghost use Rattle.rh_traced.specs.Cookies.{ByChanges};
+ghost use Rattle.rh_traced.specs.Ours.{AreOurs, deeds, rules};
+ghost use Rattle.rh_traced.specs.Recordings.{history_at};
+ghost use Rattle.rh_fifo.specs.Flows.{numbers_of};
+ghost use Rattle.rh_fifo.specs.Premises.{AreInRange};
+ghost use Rattle.rh_first_texts.specs.Ports.{IsPort};
+ghost use Rattle.rh_passed.specs.Passed.{AsksNoEcho, HeadsAre};
+
+use rh_client::ClientRole;
+use rh_ends_begin::{a_client_asks_by_its_requests, a_client_begins_with_a_request};
+use rh_fifo::directions_are_joined;
+use rh_history::{a_leg_is_read_at_its_ends, what_is_heard_was_drawn};
+use rh_inproxy::InProxyRole;
+use rh_outproxy::OutProxyRole;
+use rh_proxies_begin::proxies_keep_their_pipes;
+use rh_reading::texts_are_whole;
+use rh_server::ServerRole;
+use rh_traced::a_recording_of_roles_is_known;
+
+/// In each world of new roles whose numbers are in their ranges, where the port of the client's
+/// server is one, at every moment that changes of lines and half steps reach, and whichever moves
+/// lead to the roles: no head that comes to an in proxy, as a request for an IN channel, or to an
+/// out proxy, as one for an OUT channel, asks for an echo (MS-RPCH 2.1.2).
+pub fn no_head_that_comes_asks_for_an_echo<K>()
+    ensures ins { (m : Makers K InProxy OutProxy) (w : World K ClientRole Server InProxy OutProxy)
+        → IsNew w → (ours : AreOurs m w.company w.cast) → AreInRange (numbers_of ours)
+        → IsPort ours.config.port
+        → (v : World K ClientRole Server InProxy OutProxy) (by : ByChanges rules m deeds w v)
+        (n : ℕ) (stream : Stream in_proxy.rules (in_state.first (ours.in_config n))
+        in_proxy.rooms (in_pipe (ours.in_config n)) ((history_at m w v by.leads).ins n))
+        → AllByRecursion (HeadsAre (AsksNoEcho true)) stream.leads.moves }
+    ensures outs { (m : Makers K InProxy OutProxy) (w : World K ClientRole Server InProxy OutProxy)
+        → IsNew w → (ours : AreOurs m w.company w.cast) → AreInRange (numbers_of ours)
+        → IsPort ours.config.port
+        → (v : World K ClientRole Server InProxy OutProxy) (by : ByChanges rules m deeds w v)
+        (n : ℕ) (stream : Stream out_proxy.rules (new_proxy (ours.out_config n)) ROOMS
+        (proxy_reads (ours.out_config n)) ((history_at m w v by.leads).outs n))
+        → AllByRecursion (HeadsAre (AsksNoEcho false)) stream.leads.moves }
+{
+    directions_are_joined::<K>();
+    what_is_heard_was_drawn::<K, ClientRole, ServerRole, InProxyRole, OutProxyRole>();
+    a_leg_is_read_at_its_ends::<K, ClientRole, ServerRole, InProxyRole, OutProxyRole>();
+    a_recording_of_roles_is_known::<K>();
+    a_client_begins_with_a_request();
+    a_client_asks_by_its_requests();
+    texts_are_whole();
+    proxies_keep_their_pipes();
+}

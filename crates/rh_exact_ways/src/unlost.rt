@@ -1,0 +1,75 @@
+//! What is on its way in a world in which no leg was lost. This function does nothing: its contract
+//! is the law.
+
+ghost use Rattle.std.specs.Prelude.{◌≡◌, ◌++◌};
+ghost use Rattle.rh_order.specs.Paths.{path};
+ghost use Rattle.rh_nodes.specs.Opening.{Makers};
+ghost use Rattle.rh_nodes.specs.World.{World};
+ghost use Rattle.rh_client.specs.declared.state.ClientRole.{ClientRole};
+ghost use Rattle.rh_client.specs.Client as client;
+ghost use Rattle.rh_inproxy.specs.State.{InProxy};
+ghost use Rattle.rh_outproxy.specs.OutProxy.{OutProxy};
+ghost use Rattle.rh_server.specs.States.{Server};
+ghost use Rattle.rh_server.specs.Servers as server;
+ghost use Rattle.rh_history.specs.Histories.{IsNew};
+ghost use Rattle.rh_streams.specs.Streams.{all_given, all_taken};
+ghost use Rattle.rh_traced.specs.Cookies.{ByChanges};
+ghost use Rattle.rh_traced.specs.Ours.{AreOurs, deeds, rules};
+ghost use Rattle.rh_traced.specs.Recordings.{history_at};
+ghost use Rattle.rh_fifo.specs.Directions.{down_route_of, up_route_of};
+ghost use Rattle.rh_fifo.specs.Flows.{numbers_of};
+ghost use Rattle.rh_fifo.specs.Premises.{AreInRange};
+ghost use Rattle.rh_first_texts.specs.Ports.{IsPort};
+ghost use Rattle.rh_paths.specs.Ways.{AreOnTheirWay, down_on, up_on};
+ghost use Rattle.rh_exact_ways.specs.Unlost.{AreServedDown, AreServedUp, NoneIsLost};
+
+use crate::going::legs_that_go_on_lose_nothing;
+use crate::heads::no_head_that_comes_asks_for_an_echo;
+use crate::keeping::{a_leg_of_use_is_kept, a_leg_that_came_up_is_known};
+use rh_client::a_client_takes_in_order;
+use rh_passed::{
+    a_server_is_done_behind_a_mark, an_in_proxy_is_done_behind_a_mark_or_end,
+    an_out_proxy_is_done_behind_a_mark,
+};
+use rh_traced::a_recording_of_roles_is_known;
+
+/// In each world of new roles whose numbers are in their ranges, where the port of the client's
+/// server is one, at every moment that changes of lines and half steps reach: while all nodes go
+/// on, no node was told that a leg ended or broke, and each leg that came up for a node is up for
+/// it, what was given is exactly what was taken and what is on its way. Of the legs of the channels
+/// from the taker's current one up to that on which the giver writes, what comes is to be read, and
+/// one for which the node that puts has no use any more is to be kept there still.
+pub fn what_no_leg_lost_is_on_its_way<K>()
+    ensures down { (m : Makers K InProxy OutProxy) (w : World K ClientRole Server InProxy OutProxy)
+        → IsNew w → (ours : AreOurs m w.company w.cast) → AreInRange (numbers_of ours)
+        → IsPort ours.config.port
+        → (v : World K ClientRole Server InProxy OutProxy) (by : ByChanges rules m deeds w v)
+        → (let h = history_at m w v by.leads in
+        let numbers = numbers_of ours in
+        (ways : AreOnTheirWay numbers v h) → NoneIsLost numbers v h
+        → AreServedDown numbers v h (down_route_of ways.directions)
+        → all_given server.rules server.acts (server.new_server numbers.window) h.server
+        ≡ all_taken client.rules client.acts (client.first_client numbers.client) h.client
+        ++ path (down_route_of ways.directions) (down_on numbers v h)) }
+    ensures up { (m : Makers K InProxy OutProxy) (w : World K ClientRole Server InProxy OutProxy)
+        → IsNew w → (ours : AreOurs m w.company w.cast) → AreInRange (numbers_of ours)
+        → IsPort ours.config.port
+        → (v : World K ClientRole Server InProxy OutProxy) (by : ByChanges rules m deeds w v)
+        → (let h = history_at m w v by.leads in
+        let numbers = numbers_of ours in
+        (ways : AreOnTheirWay numbers v h) → NoneIsLost numbers v h
+        → AreServedUp numbers v h (up_route_of ways.directions)
+        → all_given client.rules client.acts (client.first_client numbers.client) h.client
+        ≡ all_taken server.rules server.acts (server.new_server numbers.window) h.server
+        ++ path (up_route_of ways.directions) (up_on numbers v h)) }
+{
+    legs_that_go_on_lose_nothing::<K>();
+    no_head_that_comes_asks_for_an_echo::<K>();
+    a_leg_of_use_is_kept();
+    a_leg_that_came_up_is_known();
+    a_client_takes_in_order();
+    a_server_is_done_behind_a_mark();
+    an_in_proxy_is_done_behind_a_mark_or_end();
+    an_out_proxy_is_done_behind_a_mark();
+    a_recording_of_roles_is_known::<K>();
+}
