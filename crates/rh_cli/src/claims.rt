@@ -26,9 +26,9 @@ use rh_windows::no_window_closes_a_node_of_a_recording;
 /// whatever its lines cut, delay, break and replace; what was given and not taken is on its way,
 /// unless a leg is lost. No more is held for a channel than its window, and each node is reported
 /// as closed once at most, by a line whose answers show why; each later answer of that end names
-/// the same cause (MS-RPCH 3.2). No node closes for bytes that read badly, for what comes out of its
-/// turn or names another cookie, for a PDU behind its window, for a value out of its range, or for a
-/// body that is too long; nor the client or an in proxy since too many packets wait.
+/// the same cause (MS-RPCH 3.2). No node closes for bytes that read badly, for what comes out of
+/// its turn or names another cookie, for a PDU behind its window, for a value out of its range, or
+/// for a body that is too long; nor the client or an in proxy since too many packets wait.
 pub fn recordings_keep_to_their_claims()
     ensures { (lines : List Line) → Claims lines }
 {

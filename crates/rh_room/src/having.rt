@@ -52,11 +52,11 @@ use rh_unused::{
 
 /// In each world of new roles whose numbers are in their ranges, at every moment that changes of
 /// lines and half steps reach: no further change closes the client with `ControlFull`, whichever
-/// leg is named. Nor does one close an in proxy so, where no two legs of the client of one kind came
-/// up under one cookie, if in proxies have room, at each such moment of each such world, for what
-/// the client put next on the legs that they read. Nor does one close an out proxy or the server
-/// so, where changes of lines alone led there, and no OUT leg of the client came up under the
-/// cookie of zeros either, if out proxies have room at each such moment for what the server put
+/// leg is named. Nor does one close an in proxy so, where no two legs of the client of one kind
+/// came up under one cookie, if in proxies have room, at each such moment of each such world, for
+/// what the client put next on the legs that they read. Nor does one close an out proxy or the
+/// server so, where changes of lines alone led there, and no OUT leg of the client came up under
+/// the cookie of zeros either, if out proxies have room at each such moment for what the server put
 /// next, and the server for what in proxies did (MS-RPCH 3.2; profile).
 pub fn no_node_that_has_room_closes_for_a_full_leg<K>()
     ensures client { (m : Makers K InProxy OutProxy)
