@@ -5,29 +5,30 @@ use Rattle.std.specs.declared.option.Option.{Option}
 use Rattle.rh_pdu.specs.declared.fault.HeadFault.{HeadFault}
 use Rattle.rh_pdu.specs.declared.fault.HeadFault.TheVariants.{Version, Minor, ByteOrder, TooShort, TooLong}
 use Rattle.rh_pdu.specs.declared.header.Header.{Header}
+use Rattle.rh_pdu.specs.declared.header.TheConstants.{HEADER_LEN, GREATEST_FRAG, VERSION, GREATEST_MINOR, LITTLE_ENDIAN, RTS}
 
 -- the version of the protocol, and its greatest minor version
 abbrev pub version : ℕ
-version = 5
+version = VERSION
 
 abbrev pub greatest_minor : ℕ
-greatest_minor = 1
+greatest_minor = GREATEST_MINOR
 
 -- the first four bits of the data representation where integers have their least byte first; else
 -- they are 0
 abbrev pub little_endian : ℕ
-little_endian = 1
+little_endian = LITTLE_ENDIAN
 
 -- the PTYPE of RTS PDUs (MS-RPCH 2.2.3.6)
 abbrev pub rts : ℕ
-rts = 20
+rts = RTS
 
 -- the length of the header, in bytes, and the greatest length of a PDU (profile)
 abbrev pub header_length : ℕ
-header_length = 16
+header_length = HEADER_LEN
 
 abbrev pub greatest_length : ℕ
-greatest_length = 8192
+greatest_length = GREATEST_FRAG
 
 -- ---- the fields
 
