@@ -7,6 +7,7 @@ use Rattle.httparse.specs.Grammar.{RequestHead, ReadsRequest}
 use Rattle.httparse.specs.Spans.{name_and_value}
 use Rattle.rh_http.specs.declared.fault.HttpFault.{HttpFault}
 use Rattle.rh_http.specs.declared.fault.HttpFault.TheVariants.{TooLong, Syntax, Method, Path, Target, Length}
+use Rattle.rh_http.specs.declared.got.TheConstants.{GREATEST_FIELDS}
 use Rattle.rh_http.specs.declared.host.Host.{Host}
 use Rattle.rh_http.specs.declared.request.Request.{Request}
 use Rattle.rh_http.specs.Hosts.{IsHost}
@@ -15,7 +16,7 @@ use Rattle.rh_http.specs.Lengths.{Fields, AsksLength}
 
 -- the most fields of a head
 abbrev pub greatest_fields : ℕ
-greatest_fields = 64
+greatest_fields = GREATEST_FIELDS
 
 -- the text is this request head, which has no more fields
 pub record IsRequestText (text : List ℕ) (head : RequestHead) : Type 0 where

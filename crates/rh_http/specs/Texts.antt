@@ -8,6 +8,7 @@ use Rattle.rh_http.specs.declared.config.ClientConfig.{ClientConfig}
 use Rattle.rh_http.specs.declared.refusal.Refusal.{Refusal}
 use Rattle.rh_http.specs.declared.refusal.Refusal.TheVariants.{Bad, Missing, Unavailable}
 use Rattle.rh_http.specs.declared.got.Got.TheVariants.{Head}
+use Rattle.rh_http.specs.declared.writing.TheConstants.{ECHO_LEN}
 use Rattle.rh_http.specs.Lengths.{Fields, may_ask}
 use Rattle.rh_http.specs.Reading.{IsAnswer}
 use Rattle.rh_http.specs.Responses.{JudgesResponse}
@@ -95,7 +96,7 @@ response_text n = head_of (
 
 -- the bytes of an Echo packet
 abbrev pub echo_length : ℕ
-echo_length = 20
+echo_length = ECHO_LEN
 
 -- the status of a refusal, and its line
 abbrev pub status_of : Refusal → ℕ
