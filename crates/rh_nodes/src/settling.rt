@@ -15,8 +15,8 @@ use rh_record::{Answer, Dir, Report, Side, TakeAnswer};
 use rh_text::Bytes;
 use std::alloc::{AllocError, Global};
 
-// What is done to a leg, here and where bytes are carried, is inlined into the loops over the legs of
-// a kind: in each of them the nodes at a leg's ends are known.
+// What is done to a leg, here and where bytes are carried, is inlined into the loops over the legs
+// of a kind: in each of them the nodes at a leg's ends are known.
 
 /// How many bytes a round carries at most on a leg in a direction.
 pub const MOST_BYTES: u32 = 65_536;
