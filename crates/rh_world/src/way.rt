@@ -10,7 +10,7 @@ ghost use Rattle.rh_world.specs.Direct as seen;
 
 use crate::received::Received;
 use circular_buffer::HeapCircularBuffer;
-use rh_line::{Begun, GiveFault, SendLine, draw};
+use rh_line::{BegunPdu, GiveFault, SendLine, draw};
 use rh_nodes::ring::{make_room, take_front};
 use rh_pdu::{Feed, Framer, check};
 use rh_record::TakeAnswer;
@@ -28,7 +28,7 @@ const LEAST_PDU: usize = 16;
 #[derive(Drop)]
 pub(crate) struct Way {
     queue: SendLine,
-    begun: Begun,
+    begun: BegunPdu,
     drawn: Vec<u8>,
     flight: HeapCircularBuffer<u8>,
     framer: Framer,
@@ -59,7 +59,7 @@ impl Way {
     {
         Ok(Way {
             queue: SendLine::new(alloc)?,
-            begun: Begun::new(),
+            begun: BegunPdu::new(),
             drawn: Vec::new(alloc),
             flight: HeapCircularBuffer::with_capacity(alloc, FIRST_FLIGHT)?,
             framer: Framer::new(),
@@ -143,7 +143,7 @@ impl Way {
 /// Draws as many bytes as the room has into flight, by way of that room.
 fn carry(
     queue: &mut SendLine,
-    begun: &mut Begun,
+    begun: &mut BegunPdu,
     room: &mut [u8],
     flight: &mut HeapCircularBuffer<u8>,
 )
