@@ -20,6 +20,9 @@ pub const GREATEST_DESTINATION: u32 = 3;
 #[derive(Clone, Copy, Debug, PartialEq, Eq)]
 pub struct Cookie(pub [u8; COOKIE_LEN]);
 
+/// What stands where there is no cookie.
+pub const NO_COOKIE: Cookie = Cookie([0; COOKIE_LEN]);
+
 /// A client's address, as its bytes stand in the packet (MS-RPCH 2.2.3.2).
 #[derive(Clone, Copy, Debug, PartialEq, Eq)]
 pub enum Address4or16 {
