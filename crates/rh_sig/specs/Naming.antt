@@ -10,7 +10,7 @@ use Rattle.rh_rts.specs.Commands.{kind_of}
 use Rattle.rh_rts.specs.Packets.{Parts, packet_bytes}
 use Rattle.rh_window.specs.declared.range.TheConstants.{LEAST_WINDOW, GREATEST_WINDOW}
 use Rattle.rh_sig.specs.declared.ranges.TheConstants.{LEAST_TIMEOUT, GREATEST_TIMEOUT}
-use Rattle.rh_sig.specs.declared.ranges.TheConstants.{LEAST_LIFETIME, GREATEST_LIFETIME}
+use Rattle.rh_keep.specs.declared.range.TheConstants.{LEAST_LIFETIME, GREATEST_LIFETIME}
 use Rattle.rh_sig.specs.declared.ranges.TheConstants.{DEFAULT_KEEPALIVE, LEAST_KEEPALIVE}
 use Rattle.rh_sig.specs.declared.ranges.TheConstants.{GREATEST_KEEPALIVE, PROTOCOL_VERSION}
 use Rattle.rh_sig.specs.declared.fault.SigFault.{SigFault}

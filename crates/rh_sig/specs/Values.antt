@@ -23,7 +23,7 @@ use Rattle.rh_sig.specs.Names.{row_of, IsNamed, IsNameless, unpadded}
 use Rattle.rh_rts.specs.Commands.{kind_of}
 use Rattle.rh_window.specs.Sides.{IsWindow}
 use Rattle.rh_sig.specs.declared.ranges.TheConstants.{LEAST_TIMEOUT, GREATEST_TIMEOUT}
-use Rattle.rh_sig.specs.declared.ranges.TheConstants.{LEAST_LIFETIME, GREATEST_LIFETIME}
+use Rattle.rh_keep.specs.declared.range.TheConstants.{LEAST_LIFETIME, GREATEST_LIFETIME}
 use Rattle.rh_sig.specs.declared.ranges.TheConstants.{DEFAULT_KEEPALIVE, LEAST_KEEPALIVE}
 use Rattle.rh_sig.specs.declared.ranges.TheConstants.{GREATEST_KEEPALIVE}
 use Rattle.rh_sig.specs.declared.ranges.TheConstants.{PROTOCOL_VERSION}
