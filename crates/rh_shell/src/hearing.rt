@@ -16,6 +16,7 @@ use crate::reading::{PacketFault, read_packet};
 use crate::role::Role;
 use crate::stage::{Body, Stage};
 use crate::stop::Stop;
+use crate::text::GREETING_LEN;
 use rh_http::Refusal;
 use rh_line::{Cause, Leg};
 use rh_pdu::header::{HEADER_LEN, RTS};
@@ -23,7 +24,7 @@ use rh_pdu::{Feed, Framer, Header};
 use rh_sig::{Named, Pipe, SigFault};
 
 /// What a server says first on a leg (profile).
-pub const GREETING: [u8; 14] = *b"ncacn_http/1.0";
+pub const GREETING: [u8; GREETING_LEN] = *b"ncacn_http/1.0";
 
 /// A cause with no refusal.
 fn stop(cause: Cause) -> Stop
