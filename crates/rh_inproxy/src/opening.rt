@@ -10,6 +10,7 @@ use crate::state::{
     is_client_leg,
 };
 use rh_heads::judge_request;
+use rh_http::lengths::GREATEST_ECHO;
 use rh_http::{Host, Request};
 use rh_line::{Leg, LegKind};
 use rh_rts::{Address4or16, Cookie};
@@ -18,7 +19,7 @@ use rh_sig::{Named, Pipe};
 use rh_window::SendWindow;
 
 /// The greatest Content-Length of an echo request, in bytes (profile).
-pub const ECHO_LENGTH: u32 = 16;
+pub const ECHO_LENGTH: u32 = GREATEST_ECHO;
 /// The most that the Content-Lengths of the requests add up to before a later ci leg comes up, in
 /// bytes: so no edge that the server tells passes 32 bits (profile).
 pub const GREATEST_LENGTHS: u64 = 2_147_221_503;
