@@ -4,19 +4,13 @@ use crate::rows::{Row, is_first, is_second};
 use crate::state::{Answer, Channel, ClientLeg, OutProxyRole, ServerLeg};
 use rh_heads::judge_request;
 use rh_http::Request;
+use rh_http::lengths::{GREATEST_ECHO, OPENS_OUT, REPLACES_OUT};
 use rh_line::Leg;
 use rh_rts::Cookie;
 use rh_shell::{Behind, Count, HeadRefused, HeadTaken, Refused};
 use rh_sig::Named;
 use rh_sig::ranges::PROTOCOL_VERSION;
 use rh_window::SendWindow;
-
-/// The most bytes of an echo request.
-const GREATEST_ECHO: u32 = 16;
-/// The Content-Length of a request for a new channel: the bytes of CONN/A1.
-const NEW_LENGTH: u32 = 76;
-/// The Content-Length of a request for a successor: the bytes of OUT_R1/A3 and OUT_R2/C1.
-const SUCCESSOR_LENGTH: u32 = 120;
 
 impl OutProxyRole {
     ghost use Rattle.std.specs.Prelude.{◌≡◌, ◌≤◌, length, IfSome, Ok};
@@ -110,7 +104,7 @@ impl OutProxyRole {
     ) -> Row
         ensures { (self.new, result) ≡ seen.on_conn_a1 self.old count connection cookie size }
     {
-        if !is_first(count) || !self.told_length(NEW_LENGTH) {
+        if !is_first(count) || !self.told_length(OPENS_OUT) {
             return Err(Refused::Unexpected);
         }
         self.channel = Channel::New { connection, cookie };
@@ -130,7 +124,7 @@ impl OutProxyRole {
         ensures { (self.new, result)
             ≡ seen.on_out_r1_a3 self.old count connection predecessor cookie size }
     {
-        if !is_first(count) || !self.told_length(SUCCESSOR_LENGTH) {
+        if !is_first(count) || !self.told_length(REPLACES_OUT) {
             return Err(Refused::Unexpected);
         }
         self.channel = Channel::Successor {

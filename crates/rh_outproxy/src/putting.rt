@@ -6,15 +6,14 @@ ghost use Rattle.rh_rts.specs.Writing.{over};
 ghost use Rattle.rh_outproxy.specs.Putting.{echo_packet, echo_text};
 
 use crate::state::{Answer, Channel, Mark, OutProxyRole, Ping, ServerLeg};
+use rh_http::lengths::PING_ROOM;
 use rh_http::{write_echo, write_out_response};
 use rh_line::{Leg, Which};
 use rh_shell::{Begun, Due, Gate};
 use rh_sig::Named;
 
-/// The bytes of Pings, which are above the lifetime of a channel (profile).
-const PING_ROOM: u32 = 65_536;
 /// The bytes of a Ping.
-const PING_LEN: u32 = 20;
+pub const PING_LEN: u32 = 20;
 /// The most bytes of a response, with the Echo packet behind it.
 const RESPONSE_ROOM: usize = 128;
 
