@@ -17,6 +17,7 @@ use Rattle.rh_shell.specs.declared.answers.Refused.TheVariants as refused
 use Rattle.rh_shell.specs.Rules.{Row}
 use Rattle.rh_shell.specs.declared.due.Origin.TheVariants.{Forwarded}
 use Rattle.rh_shell.specs.Waiting.{Waiting, count, takes, forwarded}
+use Rattle.rh_shell.specs.declared.waiting.TheConstants.{FORWARDED_ROOM}
 use Rattle.rh_server.specs.declared.state.OutLeg.{OutLeg}
 use Rattle.rh_server.specs.States.{Server, is_open, same_cookie, out_at, out_place, out_cookie}
 use Rattle.rh_server.specs.OutLines.{has, is_ack_of}
@@ -60,9 +61,9 @@ has_ack_elsewhere s leg = not (leg.number == s.writing) && has_ack_by s.waiting 
 abbrev pub elsewhere : Server → ℕ
 elsewhere s = count_by (has_ack_elsewhere s) s.outs
 
--- sixteen packets that are to be forwarded wait for the writing leg
+-- as many packets that are to be forwarded as may wait for a leg wait for the writing one
 abbrev pub is_full : Server → Bool
-is_full s = nat_le (16 + elsewhere s) (count Forwarded s.waiting.due)
+is_full s = nat_le (FORWARDED_ROOM + elsewhere s) (count Forwarded s.waiting.due)
 
 abbrev pub out_server : ℕ → Leg
 out_server number = record { kind = OutServer; number = number }

@@ -10,6 +10,7 @@ use Rattle.rh_line.specs.declared.which.Which.TheVariants.{Current, Next}
 use Rattle.rh_shell.specs.declared.answers.Count.{Count}
 use Rattle.rh_shell.specs.declared.answers.Refused.TheVariants as refused
 use Rattle.rh_shell.specs.Waiting.{added}
+use Rattle.rh_line.specs.declared.leg.TheConstants.{LAST_NUMBER}
 use Rattle.rh_server.specs.declared.state.Stage.{Stage}
 use Rattle.rh_server.specs.declared.state.Stage.TheVariants as stage
 use Rattle.rh_server.specs.declared.state.Edge.TheVariants.{Shut}
@@ -171,6 +172,6 @@ in_r2_a2_on s number successor (Some which) = took (carries_next s number succes
 abbrev pub on_in_r2_a2 : Server → ℕ → Count → Cookie → Done
 on_in_r2_a2 s number count successor =
     if not (is_first count) && (is_open s.stage
-    && (not (waits kind.InR2A3 s.waiting) && nat_lt s.newest_in 4294967295))
+    && (not (waits kind.InR2A3 s.waiting) && nat_lt s.newest_in LAST_NUMBER))
     then in_r2_a2_on s number successor (channel_at s number)
     else unexpected s

@@ -14,6 +14,7 @@ use Rattle.rh_shell.specs.declared.answers.Refused.{Refused}
 use Rattle.rh_shell.specs.declared.answers.Refused.TheVariants as refused
 use Rattle.rh_shell.specs.Rules.{Row}
 use Rattle.rh_shell.specs.Waiting.{added}
+use Rattle.rh_server.specs.declared.opening.TheConstants.{BEFORE_FIRST}
 use Rattle.rh_server.specs.declared.state.Stage.{Stage}
 use Rattle.rh_server.specs.declared.state.Stage.TheVariants.{Waits, OutCame, InCame, Open, Ended}
 use Rattle.rh_server.specs.declared.state.Greeting.TheVariants as greeting
@@ -124,7 +125,7 @@ with_out_channel s place leg cookie window meter = record s {
 -- the first OUT channel begins behind CONN/A3, whose 28 bytes its meter counts
 abbrev pub first_out_at : Server → Cookie → ℕ → ℕ → Option ℕ → Option OutLeg → Server
 first_out_at s cookie lifetime window (Some place) (Some leg) =
-    with_out_channel s place leg cookie window (started lifetime 28)
+    with_out_channel s place leg cookie window (started lifetime BEFORE_FIRST)
 first_out_at s cookie lifetime window place leg = s
 
 abbrev pub with_first_out : Server → Cookie → ℕ → ℕ → Server

@@ -17,6 +17,7 @@ use Rattle.rh_server.specs.declared.state.OutLeg.{OutLeg}
 use Rattle.rh_server.specs.declared.state.Replacement.{Replacement}
 use Rattle.rh_server.specs.declared.state.Replacement.TheVariants.{Steady, Asked, Answered, Confirmed}
 use Rattle.rh_server.specs.declared.out_line.Kind.TheVariants as kind
+use Rattle.rh_line.specs.declared.leg.TheConstants.{LAST_NUMBER}
 use Rattle.rh_server.specs.OutLines.{waits}
 use Rattle.rh_server.specs.States.{Server, is_open, is_steady, same_cookie, out_at, out_place, out_leg, out_cookie}
 use Rattle.rh_server.specs.Opening.{Done, took, refuse, unexpected, is_first, with_out_channel}
@@ -26,7 +27,7 @@ use Rattle.rh_server.specs.Acknowledging.{out_server}
 
 -- the greatest number of a channel
 abbrev pub last_number : ℕ
-last_number = 4294967295
+last_number = LAST_NUMBER
 
 -- a replacement is under way, or a packet of it still waits
 abbrev pub is_under_way : Server → Bool

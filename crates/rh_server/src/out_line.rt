@@ -3,13 +3,17 @@
 ghost use Rattle.std.specs.Prelude.{◌≡◌};
 ghost use Rattle.rh_server.specs.OutLines.{kind_of, are_kind, length_of, lets_by_meter, lets_packet};
 
-use crate::state::same_cookie;
+use crate::state::{LEGS, same_cookie};
 use rh_keep::Meter;
 use rh_rts::Cookie;
 use rh_shell::{Due, FORWARDED_ROOM, Gate, Origin, Waiting};
 use rh_sig::Named;
 use std::alloc::{AllocError, Global};
 use std::marker::Model;
+
+/// How many packets may wait that are to be forwarded: those of a leg, and one more for each OUT
+/// leg.
+pub const LINE_ROOM: u8 = FORWARDED_ROOM + LEGS;
 
 /// The kinds of the server's own packets on the OUT line. Of each one waits at most.
 #[derive(Clone, Copy, Debug, PartialEq, Eq)]
@@ -174,7 +178,7 @@ impl OutLine {
         ensures { IfOk result (λ line. line ≡ empty 20) }
     {
         Ok(OutLine {
-            waiting: Waiting::new(alloc, FORWARDED_ROOM + 4)?,
+            waiting: Waiting::new(alloc, LINE_ROOM)?,
         })
     }
 

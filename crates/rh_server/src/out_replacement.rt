@@ -7,6 +7,7 @@ use crate::opening::{Row, is_first};
 use crate::out_line::Kind;
 use crate::state::{Replacement, ServerRole, Stage, same_cookie};
 use rh_keep::Meter;
+use rh_line::LAST_NUMBER;
 use rh_rts::Cookie;
 use rh_shell::{Count, RecycleRefused, Refused};
 use rh_sig::Named;
@@ -39,7 +40,7 @@ impl ServerRole {
     pub(crate) fn recycle_out(&mut self) -> Result<(), RecycleRefused>
         ensures { (self.new, result) ≡ seen.recycle self.old }
     {
-        if self.writing == u32::MAX {
+        if self.writing == LAST_NUMBER {
             return Err(RecycleRefused::Last);
         }
         if self.is_under_way() {
@@ -55,7 +56,7 @@ impl ServerRole {
     fn wishes(&self) -> bool
         ensures { result ≡ seen.wishes self.now }
     {
-        if !self.is_open() || self.writing == u32::MAX || self.is_under_way() {
+        if !self.is_open() || self.writing == LAST_NUMBER || self.is_under_way() {
             return false;
         }
         match self.out_place(self.writing) {

@@ -1,11 +1,11 @@
 //! What a server puts.
 
-use crate::opening::NO_COOKIE;
 use crate::out_line::{LegGate, length_of};
 use crate::state::{
     Edge, EndMark, Giving, Greeting, InLeg, Leaving, OutLeg, Replacement, ServerRole, Tells,
 };
-use rh_line::{Leg, LegKind, Which};
+use rh_line::{LAST_NUMBER, Leg, LegKind, Which};
+use rh_rts::NO_COOKIE;
 use rh_shell::Begun;
 use rh_sig::Named;
 use rh_sig::ranges::PROTOCOL_VERSION;
@@ -220,7 +220,7 @@ impl ServerRole {
             },
             meter: leg.meter,
             is_writing: leg.number == self.writing,
-            hands_over: self.replacement == Replacement::Confirmed && self.writing < u32::MAX,
+            hands_over: self.replacement == Replacement::Confirmed && self.writing < LAST_NUMBER,
         }
     }
 
