@@ -69,6 +69,7 @@ impl PduRing {
 
     /// Takes the first PDU out, puts it at the front of the room and answers its length, 16 to
     /// 8,192 bytes. The room behind it stays. `None` exactly where there is no PDU.
+    #[inline(always)]
     pub(crate) fn pop(&mut self, room: &mut [u8; GREATEST_FRAG]) -> Option<u16>
         ensures some { IfSome result (λ len. slice_get self.old.pdus 0 ≡ Some (take len room.new)) }
         ensures long { IfSome result (λ len. len ≤ greatest_length) }

@@ -85,6 +85,7 @@ impl Way {
 
     /// Queues a PDU, and answers its length or why it is refused. Bytes that are no PDU are told
     /// first.
+    #[inline(always)]
     pub(crate) fn give(&mut self, pdu: &[u8]) -> Result<u16, GiveFault>
         requires { self.old.given + 1 < 2 ^ 32 }
         ensures { (self.new, result) ≡ seen.give self.old pdu.now }
@@ -103,6 +104,7 @@ impl Way {
     }
 
     /// Draws up to `count` bytes into flight, and answers how many.
+    #[inline(always)]
     pub(crate) fn send(&mut self, alloc: Global, count: u32) -> Result<u32, AllocError>
         ensures done { IfOk result (λ drawn. (self.new, drawn) ≡ seen.send self.old count) }
         ensures err { OnErr result (self.new ≡ self.old) }
@@ -116,6 +118,7 @@ impl Way {
     }
 
     /// Feeds the first `count` bytes in flight, or all where there are fewer, and answers them.
+    #[inline(always)]
     pub(crate) fn feed(&mut self, alloc: Global, count: u32) -> Result<Bytes, AllocError>
         ensures done { IfOk result (λ piece. (self.new, piece) ≡ seen.move self.old count) }
         ensures err { OnErr result (self.new ≡ self.old) }
@@ -128,6 +131,7 @@ impl Way {
     }
 
     /// Takes the first PDU that came whole, if there is one.
+    #[inline(always)]
     pub(crate) fn take(&mut self, alloc: Global) -> Result<TakeAnswer, AllocError>
         ensures done { IfOk result (λ answer. (self.new, answer) ≡ seen.take_pdu self.old) }
         ensures err { OnErr result (self.new ≡ self.old) }
@@ -171,6 +175,7 @@ fn widen(room: &mut Vec<u8>, count: usize) -> Result<(), AllocError>
 
 /// Feeds a piece up to the end of the first frame, which the framer then lends, and answers how
 /// many bytes of the piece that used; `None` where all of it was used and no frame is whole.
+#[inline(always)]
 fn next_frame(framer: &mut Framer, piece: &[u8]) -> Option<usize>
     requires going { framer.old.fault ≡ None }
     requires sound { IsBad (rest_of (framer.old.rest ++ piece.now)) → ⊥ }
@@ -190,6 +195,7 @@ fn next_frame(framer: &mut Framer, piece: &[u8]) -> Option<usize>
 }
 
 /// Feeds a piece to its end, and keeps the frames that it makes whole.
+#[inline(always)]
 fn deliver(framer: &mut Framer, piece: &[u8], untaken: &mut Received)
     requires going { framer.old.fault ≡ None }
     requires sound { IsBad (rest_of (framer.old.rest ++ piece.now)) → ⊥ }
