@@ -1,8 +1,10 @@
 -- what makes no line: words behind a verb that are none of its own
-use Rattle.std.proofs.Common.{◌≡◌, ◌≢◌, ℕ, Bool, List, codes, None, refl, ap, arith}
+use Rattle.std.proofs.Common.{◌≡◌, ◌≢◌, ◌+◌, ◌<◌, ℕ, suc, Bool, List, [], ◌∷◌, ◌++◌, codes, None, refl, ap, arith}
+use Rattle.std.specs.List.{Contains}
 use Rattle.std.specs.declared.option.Option.{Option}
 use Rattle.rh_text.specs.declared.ends.Side.{Side}
 use Rattle.rh_text.specs.declared.ends.Dir.{Dir}
+use Rattle.rh_text.specs.declared.ends.Dir.TheVariants.{U, D}
 use Rattle.rh_text.specs.Ends.{side_word, dir_word}
 use Rattle.rh_line.specs.declared.leg.Leg.{Leg}
 use Rattle.rh_record.specs.declared.line.Key.{Key}
@@ -15,6 +17,7 @@ use Rattle.rh_record.specs.ParsedLines.{IsBehind}
 use Rattle.rh_record.specs.WordLaws.{behind, one_cut}
 use Rattle.rh_record.specs.Readings.{begins, letters, verb, verb_of}
 use Rattle.rh_record.specs.declared.verb.Verb.{Verb}
+use Rattle.rh_record.specs.declared.verb.Verb.TheVariants as verbs
 use Rattle.rh_record.specs.Verbs.{verb_word}
 use Rattle.rh_record.specs.ParsedLines.{IsParsed}
 
@@ -102,9 +105,100 @@ pub no_settle : (rest : List ℕ) → ((rounds : ℕ) → IsRounds rounds rest �
 no_settle rest none text cut (Settle rounds) h = none rounds (behind text _ _ cut h).1
 no_settle rest none text cut line h = absurd (omega (arith, same_as line text _ _ cut h))
 
--- a text of which the first word is no verb is no line
-pub no_verb : (text word rest : List ℕ) → Cut text word rest
-    → ((verb : Verb) → word ≢ verb_word verb) → IsParsed None text
-no_verb text word rest cut none line h =
-    let here = begins line text h in none (verb line) (one_cut text word rest
-    (verb_of line) here.0 cut here.1).0
+-- a text that begins with no verb is no line
+pub no_verb : (text : List ℕ)
+    → ((verb : Verb) (rest : List ℕ) → Cut text (verb_word verb) rest → ⊥) → IsParsed None text
+no_verb text none line h =
+    let here = begins line text h in none (verb line) here.0 here.1
+
+-- ---- a word that is known, and what stands behind its blank
+
+none_in : ¬ Contains [] 32
+none_in (k, below, is) = absurd (omega (arith, below))
+
+-- no letter is a blank
+none_more : (x : ℕ) (xs : List ℕ) → 32 < x → ¬ Contains xs 32 → ¬ Contains (x ∷ xs) 32
+none_more x xs above none (0, below, is) = absurd (omega (arith, above, is))
+none_more x xs above none (suc k, below, is) = none (k, omega (arith, below), is)
+
+no_blank : (verb : Verb) → ¬ Contains (verb_word verb) 32
+no_blank verbs.Rh =
+    none_more _ _ (omega arith) (none_more _ _ (omega arith) none_in)
+no_blank verbs.Set =
+    none_more _ _ (omega arith) (none_more _ _ (omega arith)
+    (none_more _ _ (omega arith) none_in))
+no_blank verbs.Give =
+    none_more _ _ (omega arith) (none_more _ _ (omega arith) (none_more _ _ (omega arith)
+    (none_more _ _ (omega arith) none_in)))
+no_blank verbs.Take =
+    none_more _ _ (omega arith) (none_more _ _ (omega arith) (none_more _ _ (omega arith)
+    (none_more _ _ (omega arith) none_in)))
+no_blank verbs.Close =
+    none_more _ _ (omega arith) (none_more _ _ (omega arith) (none_more _ _ (omega arith)
+    (none_more _ _ (omega arith) (none_more _ _ (omega arith) none_in))))
+no_blank verbs.Send =
+    none_more _ _ (omega arith) (none_more _ _ (omega arith) (none_more _ _ (omega arith)
+    (none_more _ _ (omega arith) none_in)))
+no_blank verbs.Move =
+    none_more _ _ (omega arith) (none_more _ _ (omega arith) (none_more _ _ (omega arith)
+    (none_more _ _ (omega arith) none_in)))
+no_blank verbs.Open =
+    none_more _ _ (omega arith) (none_more _ _ (omega arith) (none_more _ _ (omega arith)
+    (none_more _ _ (omega arith) none_in)))
+no_blank verbs.Break =
+    none_more _ _ (omega arith) (none_more _ _ (omega arith) (none_more _ _ (omega arith)
+    (none_more _ _ (omega arith) (none_more _ _ (omega arith) none_in))))
+no_blank verbs.End =
+    none_more _ _ (omega arith) (none_more _ _ (omega arith)
+    (none_more _ _ (omega arith) none_in))
+no_blank verbs.Tick =
+    none_more _ _ (omega arith) (none_more _ _ (omega arith) (none_more _ _ (omega arith)
+    (none_more _ _ (omega arith) none_in)))
+no_blank verbs.Recycle =
+    none_more _ _ (omega arith) (none_more _ _ (omega arith) (none_more _ _ (omega arith)
+    (none_more _ _ (omega arith) (none_more _ _ (omega arith) (none_more _ _ (omega arith)
+    (none_more _ _ (omega arith) none_in))))))
+no_blank verbs.Settle =
+    none_more _ _ (omega arith) (none_more _ _ (omega arith) (none_more _ _ (omega arith)
+    (none_more _ _ (omega arith) (none_more _ _ (omega arith)
+    (none_more _ _ (omega arith) none_in)))))
+
+-- a text that begins with a verb, cut behind it
+pub cut_verb : (verb : Verb) (text words : List ℕ) → text ≡ verb_word verb ++ 32 ∷ words
+    → Cut text (verb_word verb) words
+cut_verb verb text words is = record { one = no_blank verb; joined = is }
+
+no_blank_in_dir : (dir : Dir) → ¬ Contains (dir_word dir) 32
+no_blank_in_dir U = none_more _ _ (omega arith) none_in
+no_blank_in_dir D = none_more _ _ (omega arith) none_in
+
+-- a piece of the leg of a direct recording, up to its count
+abbrev direct_text : Dir → List ℕ → List ℕ
+direct_text dir count = codes "cs" ++ 32 ∷ (dir_word dir ++ 32 ∷ count)
+
+cut_direct : (text : List ℕ) (dir : Dir) (count : List ℕ) → text ≡ direct_text dir count
+    → Cut text (codes "cs") (dir_word dir ++ 32 ∷ count)
+cut_direct text dir count is = record {
+  one = none_more _ _ (omega arith) (none_more _ _ (omega arith) none_in);
+  joined = is;
+}
+
+cut_dir : (dir : Dir) (count : List ℕ) → Cut (dir_word dir ++ 32 ∷ count) (dir_word dir) count
+cut_dir dir count = record { one = no_blank_in_dir dir; joined = refl }
+
+pub direct_piece : (text : List ℕ) (dir : Dir) (word : List ℕ) (count : ℕ)
+    → text ≡ direct_text dir word → IsCount count word
+    → Then (IsRoute None) (Word (dir_word dir) (IsCount count)) text
+direct_piece text dir word count is h = (
+  codes "cs",
+  dir_word dir ++ 32 ∷ word,
+  cut_direct text dir word is,
+  refl,
+  (dir_word dir, word, cut_dir dir word, refl, h),
+)
+
+pub no_direct : (text : List ℕ) (dir : Dir) (word : List ℕ) → text ≡ direct_text dir word
+    → ((count : ℕ) → IsCount count word → ⊥) → NoPiece text
+no_direct text dir word is none leg other count h =
+    let later = (behind text _ _ (cut_direct text dir word is) h).1 in
+    none count (behind _ _ _ (cut_dir dir word) later).1

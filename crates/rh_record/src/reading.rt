@@ -1,7 +1,7 @@
 //! Reads the lines of a recording: words with one blank between two of them, the first of which is
 //! the verb.
 
-ghost use Rattle.std.specs.Prelude.{◌≡◌, ◌↔◌, ℕ, List, Bool, IsTrue, codes, Err, IfOk, MatchOption};
+ghost use Rattle.std.specs.Prelude.{◌≡◌, ◌↔◌, ◌++◌, ◌∷◌, ℕ, List, Bool, IsTrue, codes, Err, IfOk, IfSome, MatchOption};
 ghost use Rattle.std.specs.declared.option.Option.{Option};
 ghost use Rattle.rh_text.specs.declared.ends.Dir.{Dir};
 ghost use Rattle.rh_text.specs.declared.ends.Side.{Side};
@@ -60,8 +60,7 @@ pub(crate) enum Parsed<'a> {
 // ---- words that several lines have
 
 /// The leg, the direction and the count of bytes.
-#[inline(always)]
-fn read_piece(text: &[u8]) -> Option<(Option<Leg>, Dir, u32)>
+fn read_any_piece(text: &[u8]) -> Option<(Option<Leg>, Dir, u32)>
     ensures { MatchOption result ((leg : Option Leg) (dir : Dir) (count : ℕ)
         → ¬ Then (IsRoute leg) (Word (dir_word dir) (IsCount count)) text.now)
         (λ found. Then (IsRoute found.0) (Word (dir_word found.1) (IsCount found.2)) text.now) }
@@ -72,6 +71,35 @@ fn read_piece(text: &[u8]) -> Option<(Option<Leg>, Dir, u32)>
     let dir = Dir::of_word(dir)?;
     let count = read_number(count, 1, MOST_BYTES as u64)? as u32;
     Some((leg, dir, count))
+}
+
+/// The direction behind the leg of a direct recording, and the word behind that, which takes no
+/// search for a blank; `None` may mean another leg.
+#[inline(always)]
+fn split_direct(text: &[u8]) -> Option<(Dir, &[u8])>
+    ensures { IfSome result (λ found.
+        text.now ≡ codes "cs" ++ 32 ∷ (dir_word found.0 ++ 32 ∷ found.1.now)) }
+{
+    match text {
+        [b'c', b's', b' ', b'u', b' ', count @ ..] => Some((Dir::U, count)),
+        [b'c', b's', b' ', b'd', b' ', count @ ..] => Some((Dir::D, count)),
+        _ => None,
+    }
+}
+
+/// The leg, the direction and the count of bytes. The leg of a direct recording is tried first.
+#[inline(always)]
+#[tactic(auto, using(crate::proofs::LineLaws::direct_piece, crate::proofs::LineLaws::no_direct))]
+fn read_piece(text: &[u8]) -> Option<(Option<Leg>, Dir, u32)>
+    ensures { MatchOption result ((leg : Option Leg) (dir : Dir) (count : ℕ)
+        → ¬ Then (IsRoute leg) (Word (dir_word dir) (IsCount count)) text.now)
+        (λ found. Then (IsRoute found.0) (Word (dir_word found.1) (IsCount found.2)) text.now) }
+{
+    let Some((dir, count)) = split_direct(text) else {
+        return read_any_piece(text);
+    };
+    let count = read_number(count, 1, MOST_BYTES as u64)? as u32;
+    Some((None, dir, count))
 }
 
 /// The leg and the direction.
@@ -289,8 +317,7 @@ fn parse_behind(verb: Verb, words: &[u8]) -> Option<Parsed<'_>>
 pub(crate) fn parse(text: &[u8]) -> Option<Parsed<'_>>
     ensures { IsParsed result text.now }
 {
-    let (word, words) = split_word(text)?;
-    let verb = Verb::of_word(word)?;
+    let (verb, words) = Verb::split(text)?;
     parse_behind(verb, words)
 }
 

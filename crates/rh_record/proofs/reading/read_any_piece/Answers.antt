@@ -1,5 +1,5 @@
 use Rattle.rh_record.specs.WordLaws.{behind}
-use Rattle.rh_record.proofs.reading.read_piece.Goals as goal
+use Rattle.rh_record.proofs.reading.read_any_piece.Goals as goal
 
 pub returns-in_err-leg-2 : goal.returns-in_err-leg-2
 returns-in_err-leg-2 c =
