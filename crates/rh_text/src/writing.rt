@@ -1,6 +1,7 @@
 //! Appends texts, so that what stands after want of memory is known.
 
-ghost use Rattle.std.specs.Prelude.{◌≡◌, ◌≤◌, ◌++◌, IsAscii, MatchOption, IfSome, length, string_bytes, take};
+ghost use Rattle.std.specs.Prelude.{◌≡◌, ◌≤◌, ◌++◌, IsAscii, IfSome, MatchOption};
+ghost use Rattle.std.specs.Prelude.{length, string_bytes, take};
 ghost use Rattle.std.specs.Str.{IsUtf8};
 ghost use Rattle.hex.specs.Hex.{encode_lower};
 ghost use Rattle.rh_text.specs.Writing.{Writes, part_text, parts_text};
