@@ -1,5 +1,6 @@
 -- what makes no line: words behind a verb that are none of its own
-use Rattle.std.proofs.Common.{◌≡◌, ◌≢◌, ◌+◌, ◌<◌, ℕ, suc, Bool, List, [], ◌∷◌, ◌++◌, codes, None, refl, ap, arith}
+use Rattle.std.proofs.Common.{◌≡◌, ◌≢◌, ◌<◌, ℕ, zero, suc, Bool, List, [], ◌∷◌, ◌++◌, codes, None}
+use Rattle.std.proofs.Common.{refl, ap, arith}
 use Rattle.std.specs.List.{Contains}
 use Rattle.std.specs.declared.option.Option.{Option}
 use Rattle.rh_text.specs.declared.ends.Side.{Side}
@@ -118,50 +119,54 @@ none_in (k, below, is) = absurd (omega (arith, below))
 
 -- no letter is a blank
 none_more : (x : ℕ) (xs : List ℕ) → 32 < x → ¬ Contains xs 32 → ¬ Contains (x ∷ xs) 32
-none_more x xs above none (0, below, is) = absurd (omega (arith, above, is))
+none_more x xs above none (zero, below, is) =
+    let here : x ≡ 32 = is in absurd (omega (arith, above, here))
 none_more x xs above none (suc k, below, is) = none (k, omega (arith, below), is)
 
 no_blank : (verb : Verb) → ¬ Contains (verb_word verb) 32
 no_blank verbs.Rh =
-    none_more _ _ (omega arith) (none_more _ _ (omega arith) none_in)
+    none_more 114 (codes "h") (omega arith) (none_more 104 [] (omega arith) none_in)
 no_blank verbs.Set =
-    none_more _ _ (omega arith) (none_more _ _ (omega arith)
-    (none_more _ _ (omega arith) none_in))
+    none_more 115 (codes "et") (omega arith) (none_more 101 (codes "t") (omega arith)
+    (none_more 116 [] (omega arith) none_in))
 no_blank verbs.Give =
-    none_more _ _ (omega arith) (none_more _ _ (omega arith) (none_more _ _ (omega arith)
-    (none_more _ _ (omega arith) none_in)))
+    none_more 103 (codes "ive") (omega arith) (none_more 105 (codes "ve") (omega arith)
+    (none_more 118 (codes "e") (omega arith) (none_more 101 [] (omega arith) none_in)))
 no_blank verbs.Take =
-    none_more _ _ (omega arith) (none_more _ _ (omega arith) (none_more _ _ (omega arith)
-    (none_more _ _ (omega arith) none_in)))
+    none_more 116 (codes "ake") (omega arith) (none_more 97 (codes "ke") (omega arith)
+    (none_more 107 (codes "e") (omega arith) (none_more 101 [] (omega arith) none_in)))
 no_blank verbs.Close =
-    none_more _ _ (omega arith) (none_more _ _ (omega arith) (none_more _ _ (omega arith)
-    (none_more _ _ (omega arith) (none_more _ _ (omega arith) none_in))))
+    none_more 99 (codes "lose") (omega arith) (none_more 108 (codes "ose") (omega arith)
+    (none_more 111 (codes "se") (omega arith) (none_more 115 (codes "e") (omega arith)
+    (none_more 101 [] (omega arith) none_in))))
 no_blank verbs.Send =
-    none_more _ _ (omega arith) (none_more _ _ (omega arith) (none_more _ _ (omega arith)
-    (none_more _ _ (omega arith) none_in)))
+    none_more 115 (codes "end") (omega arith) (none_more 101 (codes "nd") (omega arith)
+    (none_more 110 (codes "d") (omega arith) (none_more 100 [] (omega arith) none_in)))
 no_blank verbs.Move =
-    none_more _ _ (omega arith) (none_more _ _ (omega arith) (none_more _ _ (omega arith)
-    (none_more _ _ (omega arith) none_in)))
+    none_more 109 (codes "ove") (omega arith) (none_more 111 (codes "ve") (omega arith)
+    (none_more 118 (codes "e") (omega arith) (none_more 101 [] (omega arith) none_in)))
 no_blank verbs.Open =
-    none_more _ _ (omega arith) (none_more _ _ (omega arith) (none_more _ _ (omega arith)
-    (none_more _ _ (omega arith) none_in)))
+    none_more 111 (codes "pen") (omega arith) (none_more 112 (codes "en") (omega arith)
+    (none_more 101 (codes "n") (omega arith) (none_more 110 [] (omega arith) none_in)))
 no_blank verbs.Break =
-    none_more _ _ (omega arith) (none_more _ _ (omega arith) (none_more _ _ (omega arith)
-    (none_more _ _ (omega arith) (none_more _ _ (omega arith) none_in))))
+    none_more 98 (codes "reak") (omega arith) (none_more 114 (codes "eak") (omega arith)
+    (none_more 101 (codes "ak") (omega arith) (none_more 97 (codes "k") (omega arith)
+    (none_more 107 [] (omega arith) none_in))))
 no_blank verbs.End =
-    none_more _ _ (omega arith) (none_more _ _ (omega arith)
-    (none_more _ _ (omega arith) none_in))
+    none_more 101 (codes "nd") (omega arith) (none_more 110 (codes "d") (omega arith)
+    (none_more 100 [] (omega arith) none_in))
 no_blank verbs.Tick =
-    none_more _ _ (omega arith) (none_more _ _ (omega arith) (none_more _ _ (omega arith)
-    (none_more _ _ (omega arith) none_in)))
+    none_more 116 (codes "ick") (omega arith) (none_more 105 (codes "ck") (omega arith)
+    (none_more 99 (codes "k") (omega arith) (none_more 107 [] (omega arith) none_in)))
 no_blank verbs.Recycle =
-    none_more _ _ (omega arith) (none_more _ _ (omega arith) (none_more _ _ (omega arith)
-    (none_more _ _ (omega arith) (none_more _ _ (omega arith) (none_more _ _ (omega arith)
-    (none_more _ _ (omega arith) none_in))))))
+    none_more 114 (codes "ecycle") (omega arith) (none_more 101 (codes "cycle") (omega arith)
+    (none_more 99 (codes "ycle") (omega arith) (none_more 121 (codes "cle") (omega arith)
+    (none_more 99 (codes "le") (omega arith) (none_more 108 (codes "e") (omega arith)
+    (none_more 101 [] (omega arith) none_in))))))
 no_blank verbs.Settle =
-    none_more _ _ (omega arith) (none_more _ _ (omega arith) (none_more _ _ (omega arith)
-    (none_more _ _ (omega arith) (none_more _ _ (omega arith)
-    (none_more _ _ (omega arith) none_in)))))
+    none_more 115 (codes "ettle") (omega arith) (none_more 101 (codes "ttle") (omega arith)
+    (none_more 116 (codes "tle") (omega arith) (none_more 116 (codes "le") (omega arith)
+    (none_more 108 (codes "e") (omega arith) (none_more 101 [] (omega arith) none_in)))))
 
 -- a text that begins with a verb, cut behind it
 pub cut_verb : (verb : Verb) (text words : List ℕ) → text ≡ verb_word verb ++ 32 ∷ words
@@ -169,8 +174,8 @@ pub cut_verb : (verb : Verb) (text words : List ℕ) → text ≡ verb_word verb
 cut_verb verb text words is = record { one = no_blank verb; joined = is }
 
 no_blank_in_dir : (dir : Dir) → ¬ Contains (dir_word dir) 32
-no_blank_in_dir U = none_more _ _ (omega arith) none_in
-no_blank_in_dir D = none_more _ _ (omega arith) none_in
+no_blank_in_dir U = none_more 117 [] (omega arith) none_in
+no_blank_in_dir D = none_more 100 [] (omega arith) none_in
 
 -- a piece of the leg of a direct recording, up to its count
 abbrev direct_text : Dir → List ℕ → List ℕ
@@ -179,7 +184,7 @@ direct_text dir count = codes "cs" ++ 32 ∷ (dir_word dir ++ 32 ∷ count)
 cut_direct : (text : List ℕ) (dir : Dir) (count : List ℕ) → text ≡ direct_text dir count
     → Cut text (codes "cs") (dir_word dir ++ 32 ∷ count)
 cut_direct text dir count is = record {
-  one = none_more _ _ (omega arith) (none_more _ _ (omega arith) none_in);
+  one = none_more 99 (codes "s") (omega arith) (none_more 115 [] (omega arith) none_in);
   joined = is;
 }
 
@@ -201,4 +206,4 @@ pub no_direct : (text : List ℕ) (dir : Dir) (word : List ℕ) → text ≡ dir
     → ((count : ℕ) → IsCount count word → ⊥) → NoPiece text
 no_direct text dir word is none leg other count h =
     let later = (behind text _ _ (cut_direct text dir word is) h).1 in
-    none count (behind _ _ _ (cut_dir dir word) later).1
+    none count (behind (dir_word dir ++ 32 ∷ word) _ _ (cut_dir dir word) later).1

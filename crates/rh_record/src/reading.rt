@@ -59,6 +59,16 @@ pub(crate) enum Parsed<'a> {
 
 // ---- words that several lines have
 
+/// The count of bytes.
+#[inline(always)]
+fn read_count(word: &[u8]) -> Option<u32>
+    ensures { MatchOption result ((count : ℕ) → ¬ IsCount count word.now)
+        (λ count. IsCount count word.now) }
+{
+    let count = read_number(word, 1, MOST_BYTES as u64)? as u32;
+    Some(count)
+}
+
 /// The leg, the direction and the count of bytes.
 fn read_any_piece(text: &[u8]) -> Option<(Option<Leg>, Dir, u32)>
     ensures { MatchOption result ((leg : Option Leg) (dir : Dir) (count : ℕ)
@@ -69,7 +79,7 @@ fn read_any_piece(text: &[u8]) -> Option<(Option<Leg>, Dir, u32)>
     let leg = read_route(leg)?;
     let (dir, count) = split_word(rest)?;
     let dir = Dir::of_word(dir)?;
-    let count = read_number(count, 1, MOST_BYTES as u64)? as u32;
+    let count = read_count(count)?;
     Some((leg, dir, count))
 }
 
@@ -89,17 +99,18 @@ fn split_direct(text: &[u8]) -> Option<(Dir, &[u8])>
 
 /// The leg, the direction and the count of bytes. The leg of a direct recording is tried first.
 #[inline(always)]
-#[tactic(auto, using(crate::proofs::LineLaws::direct_piece, crate::proofs::LineLaws::no_direct))]
 fn read_piece(text: &[u8]) -> Option<(Option<Leg>, Dir, u32)>
     ensures { MatchOption result ((leg : Option Leg) (dir : Dir) (count : ℕ)
         → ¬ Then (IsRoute leg) (Word (dir_word dir) (IsCount count)) text.now)
         (λ found. Then (IsRoute found.0) (Word (dir_word found.1) (IsCount found.2)) text.now) }
 {
-    let Some((dir, count)) = split_direct(text) else {
-        return read_any_piece(text);
-    };
-    let count = read_number(count, 1, MOST_BYTES as u64)? as u32;
-    Some((None, dir, count))
+    match split_direct(text) {
+        Some((dir, word)) => {
+            let count = read_count(word)?;
+            Some((None, dir, count))
+        }
+        None => read_any_piece(text),
+    }
 }
 
 /// The leg and the direction.

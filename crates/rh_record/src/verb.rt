@@ -78,7 +78,6 @@ impl Verb {
     /// The verb that begins a text, and the words behind it; `None` where none does. Those of most
     /// lines are tried first.
     #[inline(always)]
-    #[tactic(auto, using(crate::proofs::LineLaws::cut_verb))]
     pub(crate) fn split(text: &[u8]) -> Option<(Verb, &[u8])>
         ensures { MatchOption result ((verb : Verb) (words : List ℕ)
             → ¬ Cut text.now (verb_word verb) words)
