@@ -8,6 +8,10 @@ use rh_keep::Meter;
 use rh_rts::Cookie;
 use rh_shell::{Due, FORWARDED_ROOM, Gate, Origin, Waiting};
 use rh_sig::Named;
+use rh_sig::lengths::{
+    ACK_TO_LEN, CONN_C1_LEN, IN_R1_A3_LEN, IN_R2_A3_LEN, OUT_R1_A1_LEN, OUT_R1_A5_LEN,
+    OUT_R1_A9_LEN,
+};
 use std::alloc::{AllocError, Global};
 use std::marker::Model;
 
@@ -95,11 +99,13 @@ pub(crate) fn length_of(packet: &Named) -> u16
     ensures { result ≡ length_of packet.now }
 {
     match packet {
-        Named::ConnC1(..) | Named::OutR1A5(..) => 44,
-        Named::InR1A3(..) => 52,
-        Named::InR2A3(..) | Named::OutR1A1(..) => 28,
-        Named::OutR1A9 => 24,
-        Named::AckTo(..) => 56,
+        Named::ConnC1(..) => CONN_C1_LEN,
+        Named::InR1A3(..) => IN_R1_A3_LEN,
+        Named::InR2A3(..) => IN_R2_A3_LEN,
+        Named::OutR1A1(..) => OUT_R1_A1_LEN,
+        Named::OutR1A5(..) => OUT_R1_A5_LEN,
+        Named::OutR1A9 => OUT_R1_A9_LEN,
+        Named::AckTo(..) => ACK_TO_LEN,
         _ => 0,
     }
 }
@@ -141,7 +147,7 @@ impl Gate for LegGate {
     fn may_go(&self, due: &Due) -> bool {
         match due.packet {
             Named::AckTo(3, _, _, cookie) => same_cookie(cookie, self.cookie),
-            Named::OutR1A9 => self.is_writing && self.hands_over && self.meter.fits(24),
+            Named::OutR1A9 => self.is_writing && self.hands_over && self.meter.fits(OUT_R1_A9_LEN),
             packet => self.is_writing && lets_by_meter(&self.meter, &packet),
         }
     }

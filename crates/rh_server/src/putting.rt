@@ -8,6 +8,7 @@ use rh_line::{LAST_NUMBER, Leg, LegKind, Which};
 use rh_rts::NO_COOKIE;
 use rh_shell::Begun;
 use rh_sig::Named;
+use rh_sig::lengths::{END_B1_LEN, OUT_R1_A9_LEN};
 use rh_sig::ranges::PROTOCOL_VERSION;
 use rh_window::Ack;
 
@@ -56,7 +57,7 @@ impl OutLeg {
     fn may_end(&self, writing: u32) -> bool
         ensures { result ≡ seen.may_end self.now writing }
     {
-        self.number == writing && self.meter.fits(24)
+        self.number == writing && self.meter.fits(END_B1_LEN)
     }
 }
 
@@ -243,7 +244,7 @@ impl ServerRole {
         match packet {
             Named::AckTo(3, ..) => {}
             Named::OutR1A9 => {
-                self.counts(place, 24);
+                self.counts(place, OUT_R1_A9_LEN);
                 self.writing += 1;
                 self.end_mark = EndMark::Unput;
                 self.replacement = Replacement::Steady;
@@ -325,9 +326,9 @@ impl ServerRole {
     fn ended(&mut self, place: usize)
         requires there { place < length self.old.outs }
         requires may_end { seen.may_end_at self.old (slice_get self.old.outs place) ≡ true }
-        ensures { self.new ≡ seen.counts self.old place 24 }
+        ensures { self.new ≡ seen.counts self.old place END_B1_LEN }
     {
-        self.outs[place].counts(24);
+        self.outs[place].counts(END_B1_LEN);
     }
 
     /// END/B1, once on the writing channel, where no PDU is left.
