@@ -50,6 +50,7 @@ impl InProxyRole {
     ghost use Rattle.std.specs.Prelude.{◌≡◌, ◌≤◌, [], Some, length};
     ghost use Rattle.rh_sig.specs.Values.{MayBeWritten};
     ghost use Rattle.rh_heads.specs.Verdicts.{asked};
+    ghost use Rattle.rh_http.specs.Reading.{greatest_head};
     ghost use Rattle.rh_shell.specs.Rules.{put_into};
     ghost use Rattle.rh_inproxy.specs.Answers.{is_some};
     ghost use Rattle.rh_inproxy.specs.Opening as seen;
@@ -194,7 +195,7 @@ impl InProxyRole {
 
     /// A head came on a ci leg.
     pub(crate) fn on_head(&mut self, leg: Leg, text: &[u8]) -> Result<HeadTaken, HeadRefused>
-        requires { length text.now ≤ 16384 }
+        requires { length text.now ≤ greatest_head }
         ensures { (self.new, result) ≡ seen.head self.old leg text.now }
     {
         match judge_request(text, true) {

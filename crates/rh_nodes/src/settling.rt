@@ -10,7 +10,7 @@ ghost use Rattle.rh_nodes.specs.Settling as seen;
 use crate::cast::Cast;
 use crate::nodes::Nodes;
 use crate::wire::sender;
-use rh_line::{Leg, LegKind};
+use rh_line::{LAST_NUMBER, Leg, LegKind};
 use rh_record::{Answer, Dir, Report, Side, TakeAnswer};
 use rh_text::Bytes;
 use std::alloc::{AllocError, Global};
@@ -67,7 +67,7 @@ impl<K: Cast> Nodes<K> {
             result self.new report.old report.new }
     {
         let number = self.legs.len(LegKind::ClientOut).max(1);
-        if number > u64::from(u32::MAX) {
+        if number > u64::from(LAST_NUMBER) {
             return Ok(());
         }
         let leg = Leg {
@@ -85,7 +85,7 @@ impl<K: Cast> Nodes<K> {
             result self.new report.old report.new }
     {
         let number = self.legs.len(LegKind::ClientIn).max(1);
-        if number > u64::from(u32::MAX) {
+        if number > u64::from(LAST_NUMBER) {
             return Ok(());
         }
         let leg = Leg {

@@ -15,6 +15,7 @@ use rh_window::SendWindow;
 impl OutProxyRole {
     ghost use Rattle.std.specs.Prelude.{◌≡◌, ◌≤◌, length, IfSome, Ok};
     ghost use Rattle.rh_heads.specs.Verdicts.{asked};
+    ghost use Rattle.rh_http.specs.Reading.{greatest_head};
     ghost use Rattle.rh_sig.specs.Values.{MayBeWritten};
     ghost use Rattle.rh_outproxy.specs.Opening as seen;
 
@@ -56,7 +57,7 @@ impl OutProxyRole {
 
     /// The request for an OUT channel, or an echo request.
     pub(crate) fn on_head(&mut self, _leg: Leg, text: &[u8]) -> Result<HeadTaken, HeadRefused>
-        requires { length text.now ≤ 16384 }
+        requires { length text.now ≤ greatest_head }
         ensures { (self.new, result) ≡ seen.head self.old _leg text.now }
     {
         match judge_request(text, false) {

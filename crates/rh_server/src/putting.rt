@@ -64,6 +64,7 @@ impl OutLeg {
 impl ServerRole {
     ghost use Rattle.std.specs.Prelude.{◌≡◌, ◌<◌, [], IfSome, Some, true, slice_get, length};
     ghost use Rattle.rh_keep.specs.Meters.{fits};
+    ghost use Rattle.rh_sig.specs.declared.lengths.TheConstants.{END_B1_LEN};
     ghost use Rattle.rh_shell.specs.Rules.{put_into};
     ghost use Rattle.rh_server.specs.States.{is_some};
     ghost use Rattle.rh_server.specs.Putting as seen;

@@ -1,6 +1,7 @@
 //! Bytes come on a leg.
 
 ghost use Rattle.std.specs.Prelude.{◌≡◌, ◌≤◌, ◌<◌, ℕ, [], length, take, drop, IfSome};
+ghost use Rattle.rh_http.specs.Reading.{greatest_head};
 ghost use Rattle.rh_pdu.specs.Frames.{IsFrame};
 ghost use Rattle.rh_shell.specs.Intakes.{counted, length_told};
 ghost use Rattle.rh_shell.specs.Texts.{IsWithin};
@@ -59,7 +60,7 @@ fn is_greeting(text: &[u8]) -> bool
 
 /// The role takes a head, or refuses it.
 fn take_head<R: Role>(leg: Leg, role: &mut R, text: &[u8]) -> Result<HeadTaken, Stop>
-    requires { length text.now ≤ 16384 }
+    requires { length text.now ≤ greatest_head }
     ensures { (role.new, result) ≡ seen.take_head R.rules leg role.old text.now }
 {
     let place = text.len() as u32;
