@@ -1,6 +1,8 @@
 -- what makes no line: words behind a verb that are none of its own
-use Rattle.std.proofs.Common.{◌≡◌, ◌≢◌, ◌<◌, ℕ, zero, suc, Bool, List, [], ◌∷◌, ◌++◌, codes, None}
+use Rattle.std.proofs.Common.{◌≡◌, ◌≢◌, ℕ, zero, suc, nat_lt, Bool, true, ◌&&◌, List, [], ◌∷◌, ◌++◌, codes, None}
 use Rattle.std.proofs.Common.{refl, ap, arith}
+use Rattle.std.proofs.lemmas.Bool.{and_parts}
+use Rattle.std.proofs.lemmas.Bool.Decides.{nat_tests}
 use Rattle.std.specs.List.{Contains}
 use Rattle.std.specs.declared.option.Option.{Option}
 use Rattle.rh_text.specs.declared.ends.Side.{Side}
@@ -17,6 +19,7 @@ use Rattle.rh_record.specs.Recording.{LineText, form_word}
 use Rattle.rh_record.specs.ParsedLines.{IsBehind}
 use Rattle.rh_record.specs.WordLaws.{behind, one_cut}
 use Rattle.rh_record.specs.Readings.{begins, letters, verb, verb_of}
+use Rattle.rh_record.specs.declared.words.TheConstants.{BLANK}
 use Rattle.rh_record.specs.declared.verb.Verb.{Verb}
 use Rattle.rh_record.specs.declared.verb.Verb.TheVariants as verbs
 use Rattle.rh_record.specs.Verbs.{verb_word}
@@ -114,89 +117,71 @@ no_verb text none line h =
 
 -- ---- a word that is known, and what stands behind its blank
 
-none_in : ¬ Contains [] 32
-none_in (k, below, is) = absurd (omega (arith, below))
+-- each byte is above a blank
+abbrev all_above : List ℕ → Bool
+all_above [] = true
+all_above (x ∷ xs) = nat_lt BLANK x && all_above xs
 
--- no letter is a blank
-none_more : (x : ℕ) (xs : List ℕ) → 32 < x → ¬ Contains xs 32 → ¬ Contains (x ∷ xs) 32
-none_more x xs above none (zero, below, is) =
-    let here : x ≡ 32 = is in absurd (omega (arith, above, here))
-none_more x xs above none (suc k, below, is) = none (k, omega (arith, below), is)
+-- such a word has no blank
+none_among : (word : List ℕ) → all_above word ≡ true → ¬ Contains word BLANK
+none_among [] all (k, below, is) = absurd (omega (arith, below))
+none_among (x ∷ xs) all (zero, below, is) =
+    let here : x ≡ BLANK = is in
+    let above = (and_parts (nat_lt BLANK x) (all_above xs) all).0 in
+    absurd (grind (arith, nat_tests, above, here))
+none_among (x ∷ xs) all (suc k, below, is) =
+    none_among xs (and_parts (nat_lt BLANK x) (all_above xs) all).1 (k, omega (arith, below), is)
 
-no_blank : (verb : Verb) → ¬ Contains (verb_word verb) 32
-no_blank verbs.Rh =
-    none_more 114 (codes "h") (omega arith) (none_more 104 [] (omega arith) none_in)
-no_blank verbs.Set =
-    none_more 115 (codes "et") (omega arith) (none_more 101 (codes "t") (omega arith)
-    (none_more 116 [] (omega arith) none_in))
-no_blank verbs.Give =
-    none_more 103 (codes "ive") (omega arith) (none_more 105 (codes "ve") (omega arith)
-    (none_more 118 (codes "e") (omega arith) (none_more 101 [] (omega arith) none_in)))
-no_blank verbs.Take =
-    none_more 116 (codes "ake") (omega arith) (none_more 97 (codes "ke") (omega arith)
-    (none_more 107 (codes "e") (omega arith) (none_more 101 [] (omega arith) none_in)))
-no_blank verbs.Close =
-    none_more 99 (codes "lose") (omega arith) (none_more 108 (codes "ose") (omega arith)
-    (none_more 111 (codes "se") (omega arith) (none_more 115 (codes "e") (omega arith)
-    (none_more 101 [] (omega arith) none_in))))
-no_blank verbs.Send =
-    none_more 115 (codes "end") (omega arith) (none_more 101 (codes "nd") (omega arith)
-    (none_more 110 (codes "d") (omega arith) (none_more 100 [] (omega arith) none_in)))
-no_blank verbs.Move =
-    none_more 109 (codes "ove") (omega arith) (none_more 111 (codes "ve") (omega arith)
-    (none_more 118 (codes "e") (omega arith) (none_more 101 [] (omega arith) none_in)))
-no_blank verbs.Open =
-    none_more 111 (codes "pen") (omega arith) (none_more 112 (codes "en") (omega arith)
-    (none_more 101 (codes "n") (omega arith) (none_more 110 [] (omega arith) none_in)))
-no_blank verbs.Break =
-    none_more 98 (codes "reak") (omega arith) (none_more 114 (codes "eak") (omega arith)
-    (none_more 101 (codes "ak") (omega arith) (none_more 97 (codes "k") (omega arith)
-    (none_more 107 [] (omega arith) none_in))))
-no_blank verbs.End =
-    none_more 101 (codes "nd") (omega arith) (none_more 110 (codes "d") (omega arith)
-    (none_more 100 [] (omega arith) none_in))
-no_blank verbs.Tick =
-    none_more 116 (codes "ick") (omega arith) (none_more 105 (codes "ck") (omega arith)
-    (none_more 99 (codes "k") (omega arith) (none_more 107 [] (omega arith) none_in)))
-no_blank verbs.Recycle =
-    none_more 114 (codes "ecycle") (omega arith) (none_more 101 (codes "cycle") (omega arith)
-    (none_more 99 (codes "ycle") (omega arith) (none_more 121 (codes "cle") (omega arith)
-    (none_more 99 (codes "le") (omega arith) (none_more 108 (codes "e") (omega arith)
-    (none_more 101 [] (omega arith) none_in))))))
-no_blank verbs.Settle =
-    none_more 115 (codes "ettle") (omega arith) (none_more 101 (codes "ttle") (omega arith)
-    (none_more 116 (codes "tle") (omega arith) (none_more 116 (codes "le") (omega arith)
-    (none_more 108 (codes "e") (omega arith) (none_more 101 [] (omega arith) none_in)))))
+all_letters : (verb : Verb) → all_above (verb_word verb) ≡ true
+all_letters verbs.Rh = refl
+all_letters verbs.Set = refl
+all_letters verbs.Give = refl
+all_letters verbs.Take = refl
+all_letters verbs.Close = refl
+all_letters verbs.Send = refl
+all_letters verbs.Move = refl
+all_letters verbs.Open = refl
+all_letters verbs.Break = refl
+all_letters verbs.End = refl
+all_letters verbs.Tick = refl
+all_letters verbs.Recycle = refl
+all_letters verbs.Settle = refl
 
 -- a text that begins with a verb, cut behind it
-pub cut_verb : (verb : Verb) (text words : List ℕ) → text ≡ verb_word verb ++ 32 ∷ words
+pub cut_verb : (verb : Verb) (text words : List ℕ) → text ≡ verb_word verb ++ BLANK ∷ words
     → Cut text (verb_word verb) words
-cut_verb verb text words is = record { one = no_blank verb; joined = is }
-
-no_blank_in_dir : (dir : Dir) → ¬ Contains (dir_word dir) 32
-no_blank_in_dir U = none_more 117 [] (omega arith) none_in
-no_blank_in_dir D = none_more 100 [] (omega arith) none_in
-
--- a piece of the leg of a direct recording, up to its count
-abbrev direct_text : Dir → List ℕ → List ℕ
-direct_text dir count = codes "cs" ++ 32 ∷ (dir_word dir ++ 32 ∷ count)
-
-cut_direct : (text : List ℕ) (dir : Dir) (count : List ℕ) → text ≡ direct_text dir count
-    → Cut text (codes "cs") (dir_word dir ++ 32 ∷ count)
-cut_direct text dir count is = record {
-  one = none_more 99 (codes "s") (omega arith) (none_more 115 [] (omega arith) none_in);
+cut_verb verb text words is = record {
+  one = none_among (verb_word verb) (all_letters verb);
   joined = is;
 }
 
-cut_dir : (dir : Dir) (count : List ℕ) → Cut (dir_word dir ++ 32 ∷ count) (dir_word dir) count
-cut_dir dir count = record { one = no_blank_in_dir dir; joined = refl }
+all_letters_in : (dir : Dir) → all_above (dir_word dir) ≡ true
+all_letters_in U = refl
+all_letters_in D = refl
+
+-- a piece of the leg of a direct recording, up to its count
+abbrev direct_text : Dir → List ℕ → List ℕ
+direct_text dir count = codes "cs" ++ BLANK ∷ (dir_word dir ++ BLANK ∷ count)
+
+cut_direct : (text : List ℕ) (dir : Dir) (count : List ℕ) → text ≡ direct_text dir count
+    → Cut text (codes "cs") (dir_word dir ++ BLANK ∷ count)
+cut_direct text dir count is = record {
+  one = none_among (codes "cs") refl;
+  joined = is;
+}
+
+cut_dir : (dir : Dir) (count : List ℕ) → Cut (dir_word dir ++ BLANK ∷ count) (dir_word dir) count
+cut_dir dir count = record {
+  one = none_among (dir_word dir) (all_letters_in dir);
+  joined = refl;
+}
 
 pub direct_piece : (text : List ℕ) (dir : Dir) (word : List ℕ) (count : ℕ)
     → text ≡ direct_text dir word → IsCount count word
     → Then (IsRoute None) (Word (dir_word dir) (IsCount count)) text
 direct_piece text dir word count is h = (
   codes "cs",
-  dir_word dir ++ 32 ∷ word,
+  dir_word dir ++ BLANK ∷ word,
   cut_direct text dir word is,
   refl,
   (dir_word dir, word, cut_dir dir word, refl, h),
@@ -206,4 +191,4 @@ pub no_direct : (text : List ℕ) (dir : Dir) (word : List ℕ) → text ≡ dir
     → ((count : ℕ) → IsCount count word → ⊥) → NoPiece text
 no_direct text dir word is none leg other count h =
     let later = (behind text _ _ (cut_direct text dir word is) h).1 in
-    none count (behind (dir_word dir ++ 32 ∷ word) _ _ (cut_dir dir word) later).1
+    none count (behind (dir_word dir ++ BLANK ∷ word) _ _ (cut_dir dir word) later).1

@@ -9,6 +9,7 @@ ghost use Rattle.rh_text.specs.Ends.{dir_word, side_word};
 ghost use Rattle.rh_line.specs.declared.leg.Leg.{Leg};
 ghost use Rattle.rh_record.specs.declared.line.Line.{Line};
 ghost use Rattle.rh_record.specs.declared.reading.LineRefused.TheVariants.{Grammar};
+ghost use Rattle.rh_record.specs.declared.words.TheConstants.{BLANK};
 ghost use Rattle.rh_record.specs.Verbs.{verb_word};
 ghost use Rattle.rh_record.specs.Words.{Is, IsCount, IsInLeg, IsLeg, IsRoute, IsValue, Then, Word, key_word};
 ghost use Rattle.rh_record.specs.Recording.{IsLine, form_word};
@@ -88,7 +89,7 @@ fn read_any_piece(text: &[u8]) -> Option<(Option<Leg>, Dir, u32)>
 #[inline(always)]
 fn split_direct(text: &[u8]) -> Option<(Dir, &[u8])>
     ensures { IfSome result (λ found.
-        text.now ≡ codes "cs" ++ 32 ∷ (dir_word found.0 ++ 32 ∷ found.1.now)) }
+        text.now ≡ codes "cs" ++ BLANK ∷ (dir_word found.0 ++ BLANK ∷ found.1.now)) }
 {
     match text {
         [b'c', b's', b' ', b'u', b' ', count @ ..] => Some((Dir::U, count)),

@@ -23,6 +23,7 @@ pub(crate) enum Verb {
 impl Verb {
     ghost use Rattle.std.specs.Prelude.{◌≡◌, ◌++◌, ◌∷◌, ℕ, List, MatchOption, IfSome};
     ghost use Rattle.rh_record.specs.declared.verb.Verb.{Verb};
+    ghost use Rattle.rh_record.specs.declared.words.TheConstants.{BLANK};
     ghost use Rattle.rh_record.specs.Verbs.{verb_word};
     ghost use Rattle.rh_record.specs.Words.{Cut};
 
@@ -64,7 +65,7 @@ impl Verb {
     /// for the blank; `None` may mean another verb.
     #[inline(always)]
     fn split_frequent(text: &[u8]) -> Option<(Verb, &[u8])>
-        ensures { IfSome result (λ found. text.now ≡ verb_word found.0 ++ 32 ∷ found.1.now) }
+        ensures { IfSome result (λ found. text.now ≡ verb_word found.0 ++ BLANK ∷ found.1.now) }
     {
         match text {
             [b'm', b'o', b'v', b'e', b' ', words @ ..] => Some((Verb::Move, words)),
