@@ -41,7 +41,7 @@ use Rattle.rh_server.specs.Ending.{end_a2_on_leg, end_a2_waiting, is_over_on, en
 use Rattle.rh_server.specs.Servers.{on_is, on_os, packet_by, pdu_by}
 use Rattle.rh_server_counts.specs.Counting.{is_conn_b2, is_end_a2, is_in_r1_a2, is_in_r1_a6, leg_at, often_at}
 use Rattle.rh_server_in_rows.specs.Refusing.{named_by, successor_by}
-use Rattle.rh_server_in_rows.proofs.Numbered.{absent_at}
+use Rattle.rh_server.proofs.Numbered.{absent_at}
 use Rattle.rh_server_in_rows.proofs.Places.{Found, found_at, number_found}
 use Rattle.rh_server_in_rows.proofs.Tallies.{Grows, Still, Tally, began, carried_came, carried_names, carried_other, named_at, named_own, now_often, other_came, quiet_came, tally}
 use Rattle.rh_server_in_rows.proofs.Kept.{Kept, Look, Top, is_begun, is_opened, kept_more, leg_at_place, look, newer_kept, number_of, renamed_kept, set_kept, so_top, top_kept, top_of}
