@@ -71,14 +71,14 @@ HeadFault b place _ = ⊥
 
 -- the number of four bytes in front
 abbrev pub number_of : List ℕ → ℕ
-number_of b = from_le_bytes w32 (take 4 b)
+number_of b = from_le_bytes w32 (take NUMBER_LEN b)
 
 -- the type of a command, and the number behind it
 abbrev pub type_of : List ℕ → ℕ
 type_of b = number_of b
 
 abbrev pub field_of : List ℕ → ℕ
-field_of b = number_of (drop 4 b)
+field_of b = number_of (drop NUMBER_LEN b)
 
 -- the bytes of a command of this layout, with this number behind its type
 abbrev pub length_by : Layout → ℕ → ℕ
