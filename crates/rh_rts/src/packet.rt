@@ -219,7 +219,9 @@ fn command_length(command: &Command) -> u64
         (Ack $a:ident $b:ident $c:ident) => {
             number_length(*$a) + number_length(*$b) + cookie_length(*$c)
         };
-        (Counted $a:ident $b:ident $c:ident) => { ($a.len() as u64).saturating_add(NUMBER_LEN as u64) };
+        (Counted $a:ident $b:ident $c:ident) => {
+            ($a.len() as u64).saturating_add(NUMBER_LEN as u64)
+        };
         (Address $a:ident $b:ident $c:ident) => { address_length(*$a, *$b) };
     }
     macro_rules! rows {
