@@ -78,7 +78,7 @@ out_request config n = request_text (method_of false) config n
 -- that length, whatever follows it
 abbrev pub IsReadAs : Bool → ClientConfig → ℕ → List ℕ → Type 0
 IsReadAs inbound config n text =
-    1 ≤ config.port → config.port < 65536 → IsTrue (may_ask inbound n)
+    LEAST_PORT ≤ config.port → config.port ≤ GREATEST_PORT → IsTrue (may_ask inbound n)
     → (rest : List ℕ)
     → IsAnswer (JudgesRequest inbound) (text ++ rest)
     (Head (record { host = config.host; port = config.port; length = n }) (length text))
