@@ -1,7 +1,7 @@
 -- the Content-Length of a head (RFC 9112 sections 5 and 6.2; the ranges are this profile's)
 use Rattle.std.specs.Prelude.{◌≡◌, ◌≢◌, ◌≤◌, ◌⊎◌, ◌||◌, ◌&&◌, ◌==◌, nat_le, ℕ, Bool, true, false, List, [], ◌∷◌, IsTrue, codes, if◌then◌else◌}
 use Rattle.std.specs.Str.{bytes_eq, str_to_ascii_lowercase}
-use Rattle.rh_keep.specs.declared.range.TheConstants.{LEAST_LIFETIME, GREATEST_LIFETIME}
+use Rattle.rh_keep.specs.Lifetimes.{is_lifetime}
 use Rattle.rh_http.specs.declared.lengths.TheConstants.{GREATEST_ECHO, OPENS_OUT, REPLACES_OUT, GREATEST_RESPONSE, SUCCESS}
 use Rattle.rh_http.specs.Numbers.{IsLengthText}
 
@@ -32,7 +32,7 @@ greatest_echo = GREATEST_ECHO
 -- the lengths of a request that opens a channel: the lifetime of an IN channel, or the bytes of the
 -- packets that open an OUT channel or replace one
 abbrev pub opens : Bool → ℕ → Bool
-opens true n = nat_le LEAST_LIFETIME n && nat_le n GREATEST_LIFETIME
+opens true n = is_lifetime n
 opens false n = n == OPENS_OUT || n == REPLACES_OUT
 
 -- it is an echo request, or opens a channel

@@ -22,6 +22,12 @@ pub const PING_ROOM: u32 = 65_536;
 pub const GREATEST_RESPONSE: u32 = GREATEST_LIFETIME + PING_ROOM;
 /// The status of success (RFC 9110 section 15.3.1).
 pub const SUCCESS: u16 = 200;
+/// The status where the head is at fault elsewhere than in its path (RFC 9110 section 15.5.1).
+pub const BAD_REQUEST: u16 = 400;
+/// The status where the path is not that of a proxy (RFC 9110 section 15.5.5).
+pub const NOT_FOUND: u16 = 404;
+/// The status where the server could not be connected (RFC 9110 section 15.6.4).
+pub const SERVICE_UNAVAILABLE: u16 = 503;
 
 /// The values of the fields with that name.
 #[derive(Clone, Copy, Debug, PartialEq, Eq)]
