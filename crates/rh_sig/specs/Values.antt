@@ -1,5 +1,6 @@
 -- what named packets say, and which values are in range
 use Rattle.std.specs.Prelude.{◌≡◌, ◌≤◌, ◌⊎◌, ◌++◌, ℕ, List, [], ◌∷◌, Some, None, IfSome}
+use Rattle.std.specs.Prelude.{◌==◌, ◌&&◌, ◌||◌, Bool, nat_le}
 use Rattle.std.specs.declared.option.Option.{Option}
 use Rattle.rh_sig.specs.declared.name.Name.{Name}
 use Rattle.rh_sig.specs.declared.name.Name.TheVariants.{ConnA1, ConnA2, ConnA3, ConnB1, ConnB2}
@@ -193,9 +194,16 @@ ArePlain (c ∷ cs) = IsPlain c × ArePlain cs
 abbrev pub IsWithin : ℕ → ℕ → ℕ → Type 0
 IsWithin least greatest n = (least ≤ n) × (n ≤ greatest)
 
+-- whether it is one of those from the least to the greatest
+abbrev pub is_within : ℕ → ℕ → ℕ → Bool
+is_within least greatest n = nat_le least n && nat_le n greatest
+
 -- a connection timeout, in milliseconds
 abbrev pub IsTimeout : ℕ → Type 0
 IsTimeout n = IsWithin LEAST_TIMEOUT GREATEST_TIMEOUT n
+
+abbrev pub is_timeout : ℕ → Bool
+is_timeout n = is_within LEAST_TIMEOUT GREATEST_TIMEOUT n
 
 -- a channel lifetime, in bytes
 abbrev pub IsLifetime : ℕ → Type 0
@@ -204,6 +212,9 @@ IsLifetime n = IsWithin LEAST_LIFETIME GREATEST_LIFETIME n
 -- a keepalive interval, in milliseconds, or what stands for the one by default
 abbrev pub IsKeepalive : ℕ → Type 0
 IsKeepalive n = (n ≡ DEFAULT_KEEPALIVE) ⊎ IsWithin LEAST_KEEPALIVE GREATEST_KEEPALIVE n
+
+abbrev pub is_keepalive : ℕ → Bool
+is_keepalive n = (n == DEFAULT_KEEPALIVE) || is_within LEAST_KEEPALIVE GREATEST_KEEPALIVE n
 
 -- the value of the command is in range; the window of an acknowledgement has none
 abbrev pub IsInRange : Command → Type 0
