@@ -9,7 +9,7 @@ use Rattle.rh_rts.specs.declared.command.Command.TheVariants as commands
 use Rattle.rh_rts.specs.Commands.{kind_of}
 use Rattle.rh_rts.specs.Packets.{Parts, packet_bytes}
 use Rattle.rh_window.specs.declared.range.TheConstants.{LEAST_WINDOW, GREATEST_WINDOW}
-use Rattle.rh_keep.specs.declared.range.TheConstants.{LEAST_LIFETIME, GREATEST_LIFETIME}
+use Rattle.rh_keep.specs.Lifetimes.{is_lifetime}
 use Rattle.rh_sig.specs.declared.ranges.TheConstants.{PROTOCOL_VERSION}
 use Rattle.rh_sig.specs.declared.fault.SigFault.{SigFault}
 use Rattle.rh_sig.specs.declared.fault.SigFault.TheVariants.{Unknown, OutOfRange}
@@ -27,7 +27,7 @@ use Rattle.rh_sig.specs.Reading.{value}
 abbrev pub is_in_range : Command → Bool
 is_in_range (commands.ReceiveWindowSize n) = is_within LEAST_WINDOW GREATEST_WINDOW n
 is_in_range (commands.ConnectionTimeout n) = is_timeout n
-is_in_range (commands.ChannelLifetime n) = is_within LEAST_LIFETIME GREATEST_LIFETIME n
+is_in_range (commands.ChannelLifetime n) = is_lifetime n
 is_in_range (commands.ClientKeepalive n) = is_keepalive n
 is_in_range (commands.Version n) = n == PROTOCOL_VERSION
 is_in_range _ = true

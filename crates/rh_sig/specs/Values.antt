@@ -24,7 +24,7 @@ use Rattle.rh_sig.specs.Names.{row_of, IsNamed, IsNameless, unpadded}
 use Rattle.rh_rts.specs.Commands.{kind_of}
 use Rattle.rh_window.specs.Sides.{IsWindow}
 use Rattle.rh_sig.specs.declared.ranges.TheConstants.{LEAST_TIMEOUT, GREATEST_TIMEOUT}
-use Rattle.rh_keep.specs.declared.range.TheConstants.{LEAST_LIFETIME, GREATEST_LIFETIME}
+pub use Rattle.rh_keep.specs.Lifetimes.{IsLifetime}
 use Rattle.rh_sig.specs.declared.ranges.TheConstants.{DEFAULT_KEEPALIVE, LEAST_KEEPALIVE}
 use Rattle.rh_sig.specs.declared.ranges.TheConstants.{GREATEST_KEEPALIVE}
 use Rattle.rh_sig.specs.declared.ranges.TheConstants.{PROTOCOL_VERSION}
@@ -204,10 +204,6 @@ IsTimeout n = IsWithin LEAST_TIMEOUT GREATEST_TIMEOUT n
 
 abbrev pub is_timeout : ℕ → Bool
 is_timeout n = is_within LEAST_TIMEOUT GREATEST_TIMEOUT n
-
--- a channel lifetime, in bytes
-abbrev pub IsLifetime : ℕ → Type 0
-IsLifetime n = IsWithin LEAST_LIFETIME GREATEST_LIFETIME n
 
 -- a keepalive interval, in milliseconds, or what stands for the one by default
 abbrev pub IsKeepalive : ℕ → Type 0
