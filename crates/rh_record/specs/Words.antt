@@ -3,7 +3,7 @@ use Rattle.std.specs.Prelude.{◌≡◌, ℕ, ◌≤◌, List, ◌∷◌, ◌++�
 use Rattle.std.specs.declared.option.Option.{Option}
 use Rattle.rh_text.specs.Numbers.{IsNumber}
 use Rattle.rh_window.specs.declared.range.TheConstants.{LEAST_WINDOW, GREATEST_WINDOW}
-use Rattle.rh_keep.specs.declared.range.TheConstants.{LEAST_LIFETIME, GREATEST_LIFETIME}
+use Rattle.rh_keep.specs.Lifetimes.{is_lifetime}
 use Rattle.rh_sig.specs.Values.{is_timeout, is_keepalive}
 use Rattle.rh_line.specs.declared.leg.Leg.{Leg}
 use Rattle.rh_line.specs.declared.leg.LegKind.TheVariants.{ClientIn}
@@ -103,8 +103,8 @@ takes Cwin value = within LEAST_WINDOW GREATEST_WINDOW value
 takes Iwin value = within LEAST_WINDOW GREATEST_WINDOW value
 takes Owin value = within LEAST_WINDOW GREATEST_WINDOW value
 takes Swin value = within LEAST_WINDOW GREATEST_WINDOW value
-takes Ilife value = within LEAST_LIFETIME GREATEST_LIFETIME value
-takes Olife value = within LEAST_LIFETIME GREATEST_LIFETIME value
+takes Ilife value = is_lifetime value
+takes Olife value = is_lifetime value
 takes Itime value = is_timeout value
 takes Otime value = is_timeout value
 takes Keep value = is_keepalive value
