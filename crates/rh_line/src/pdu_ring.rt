@@ -9,7 +9,7 @@ ghost use Rattle.rh_line.specs.Queue.{behind, front_length, total};
 ghost use Rattle.rh_line.specs.Rings.{IsEndToEnd};
 
 use circular_buffer::HeapCircularBuffer;
-use rh_pdu::header::{GREATEST_FRAG, LITTLE_ENDIAN};
+use rh_pdu::header::{FRAG_AT, GREATEST_FRAG, LITTLE_ENDIAN, ORDER_AT};
 use std::alloc::{AllocError, Global};
 use std::marker::Model;
 
@@ -90,9 +90,9 @@ fn front_frag(bytes: &HeapCircularBuffer<u8>) -> u16
     ensures { result ≡ frag_of bytes.now.items }
 {
     let (Some(order), Some(first), Some(last)) = (
-        bytes.nth_front(4),
-        bytes.nth_front(8),
-        bytes.nth_front(9),
+        bytes.nth_front(ORDER_AT),
+        bytes.nth_front(FRAG_AT),
+        bytes.nth_front(FRAG_AT + 1),
     ) else {
         unreachable!()
     };

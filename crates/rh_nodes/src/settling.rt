@@ -18,7 +18,8 @@ use std::alloc::{AllocError, Global};
 // What is done to a leg, here and where bytes are carried, is inlined into the loops over the legs
 // of a kind: in each of them the nodes at a leg's ends are known.
 
-/// How many bytes a round carries at most on a leg in a direction.
+/// How many bytes a round carries at most on a leg in a direction. What a line may tell of bytes is
+/// bounded by a number of its own.
 pub const MOST_BYTES: u32 = 65_536;
 
 impl<K: Cast> Nodes<K> {

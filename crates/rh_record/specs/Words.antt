@@ -1,12 +1,10 @@
 -- the words of a recording's line, one blank between two of them (profile)
-use Rattle.std.specs.Prelude.{◌≡◌, ℕ, ◌≤◌, List, ◌∷◌, ◌++◌, Contains, codes, Some, None, Bool, ◌==◌, ◌&&◌, ◌||◌, nat_le, IsTrue}
+use Rattle.std.specs.Prelude.{◌≡◌, ℕ, ◌≤◌, List, ◌∷◌, ◌++◌, Contains, codes, Some, None, Bool, ◌&&◌, nat_le, IsTrue}
 use Rattle.std.specs.declared.option.Option.{Option}
 use Rattle.rh_text.specs.Numbers.{IsNumber}
 use Rattle.rh_window.specs.declared.range.TheConstants.{LEAST_WINDOW, GREATEST_WINDOW}
-use Rattle.rh_keep.specs.declared.range.TheConstants.{LEAST_LIFETIME, GREATEST_LIFETIME}
-use Rattle.rh_sig.specs.declared.ranges.TheConstants.{LEAST_TIMEOUT, GREATEST_TIMEOUT}
-use Rattle.rh_sig.specs.declared.ranges.TheConstants.{DEFAULT_KEEPALIVE, LEAST_KEEPALIVE}
-use Rattle.rh_sig.specs.declared.ranges.TheConstants.{GREATEST_KEEPALIVE}
+use Rattle.rh_keep.specs.Lifetimes.{is_lifetime}
+use Rattle.rh_sig.specs.Values.{is_timeout, is_keepalive}
 use Rattle.rh_line.specs.declared.leg.Leg.{Leg}
 use Rattle.rh_line.specs.declared.leg.LegKind.TheVariants.{ClientIn}
 use Rattle.rh_line.specs.Texts.{leg_text}
@@ -105,11 +103,11 @@ takes Cwin value = within LEAST_WINDOW GREATEST_WINDOW value
 takes Iwin value = within LEAST_WINDOW GREATEST_WINDOW value
 takes Owin value = within LEAST_WINDOW GREATEST_WINDOW value
 takes Swin value = within LEAST_WINDOW GREATEST_WINDOW value
-takes Ilife value = within LEAST_LIFETIME GREATEST_LIFETIME value
-takes Olife value = within LEAST_LIFETIME GREATEST_LIFETIME value
-takes Itime value = within LEAST_TIMEOUT GREATEST_TIMEOUT value
-takes Otime value = within LEAST_TIMEOUT GREATEST_TIMEOUT value
-takes Keep value = value == DEFAULT_KEEPALIVE || within LEAST_KEEPALIVE GREATEST_KEEPALIVE value
+takes Ilife value = is_lifetime value
+takes Olife value = is_lifetime value
+takes Itime value = is_timeout value
+takes Otime value = is_timeout value
+takes Keep value = is_keepalive value
 takes Same value = within 0 1 value
 
 -- a value of the key

@@ -5,6 +5,7 @@ use Rattle.std.specs.declared.option.Option.{Option}
 use Rattle.std.specs.declared.result.Result.{Result}
 use Rattle.std.specs.Fmt.{decimal}
 use Rattle.hex.specs.Hex.{encode_lower}
+use Rattle.rh_text.specs.declared.lines.TheConstants.{LINE_FEED}
 use Rattle.rh_pdu.specs.declared.fault.PduFault.{PduFault}
 use Rattle.rh_pdu.specs.Header.{header_length, rts, header_of}
 use Rattle.rh_pdu.specs.Checking.{pdu_fault}
@@ -116,4 +117,4 @@ abbrev pub ShowText : List (List ℕ) → List ℕ → Type 0
 ShowText [] text = text ≡ []
 ShowText (b ∷ packets) text =
     (line : List ℕ) × (more : List ℕ)
-    × ShownAs b line × (text ≡ line ++ 10 ∷ more) × ShowText packets more
+    × ShownAs b line × (text ≡ line ++ LINE_FEED ∷ more) × ShowText packets more

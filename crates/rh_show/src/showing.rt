@@ -4,6 +4,7 @@ ghost use Rattle.std.specs.Prelude.{◌≡◌, ◌++◌, ◌∷◌, [], List, �
 ghost use Rattle.rh_pdu.specs.Header.{header_of};
 ghost use Rattle.rh_pdu.specs.Frames.{IsPdu};
 ghost use Rattle.rh_text.specs.Writing.{Writes};
+ghost use Rattle.rh_text.specs.declared.lines.TheConstants.{LINE_FEED};
 ghost use Rattle.rh_show.specs.Shown.{RtsText, ShownAs, pdu_text};
 
 use crate::commands::write_packet;
@@ -75,7 +76,7 @@ fn write_shown(bytes: &[u8], out: &mut String) -> Result<(), AllocError>
 /// Fails where there is no memory; a front of the line may stand in `out` then, and nothing else.
 pub fn show_packet(bytes: &[u8], out: &mut String) -> Result<(), AllocError>
     ensures { (line : List ℕ) × ShownAs bytes.now line
-        × Writes (line ++ 10 ∷ []) result (string_bytes out.old) (string_bytes out.new) }
+        × Writes (line ++ LINE_FEED ∷ []) result (string_bytes out.old) (string_bytes out.new) }
 {
     write_shown(bytes, out)?;
     out.push_str("\n")

@@ -1,5 +1,5 @@
-//! The lengths of named packets that count in the lifetime of a channel, in bytes (MS-RPCH 2.2.3.5,
-//! 2.2.4; those of replacement and of a clean end are (profile)).
+//! The lengths of named packets that count in the lifetime of a channel, and the greatest of all, in
+//! bytes (MS-RPCH 2.2.3.5, 2.2.4; those of replacement and of a clean end are (profile)).
 
 pub const CONN_B1_LEN: u16 = 104;
 
@@ -28,3 +28,7 @@ pub const END_B1_LEN: u16 = 24;
 pub const ACK_TO_LEN: u16 = 56;
 
 pub const PING_LEN: u16 = 20;
+
+/// The most bytes that a named packet has: those of CONN/B2 with an address of IPv6 (MS-RPCH
+/// 2.2.4.6).
+pub const GREATEST_NAMED_LEN: u16 = 140;

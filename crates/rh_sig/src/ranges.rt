@@ -4,7 +4,8 @@
 ghost use Rattle.std.specs.Prelude.{◌≡◌};
 ghost use Rattle.rh_rts.specs.Showing.{shown};
 ghost use Rattle.rh_sig.specs.Reading.{all_shown};
-ghost use Rattle.rh_sig.specs.Naming.{is_within, is_in_range, first_out};
+ghost use Rattle.rh_sig.specs.Values.{is_within};
+ghost use Rattle.rh_sig.specs.Naming.{is_in_range, first_out};
 
 use crate::fault::SigFault;
 use crate::fields::number_of;

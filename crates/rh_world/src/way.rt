@@ -3,6 +3,7 @@
 ghost use Rattle.std.specs.Prelude.{◌≡◌, ◌+◌, ◌-◌, ◌/◌, ◌<◌, ◌≤◌, ◌^◌, ◌++◌, [], ◌∷◌, IfOk, OnOk, OnErr};
 ghost use Rattle.std.specs.Prelude.{length, vec_len, take, drop, None, MatchOption};
 ghost use Rattle.std.specs.List.{concat};
+ghost use Rattle.rh_pdu.specs.declared.header.TheConstants.{HEADER_LEN};
 ghost use Rattle.rh_pdu.specs.Frames.{IsBad, IsFrame};
 ghost use Rattle.rh_line.specs.Queue.{untouched};
 ghost use Rattle.rh_pdu.specs.Cut.{frames_of, rest_of};
@@ -12,6 +13,7 @@ use crate::received::Received;
 use circular_buffer::HeapCircularBuffer;
 use rh_line::{BegunPdu, GiveFault, SendLine, draw};
 use rh_nodes::ring::{make_room, take_front};
+use rh_pdu::header::HEADER_LEN;
 use rh_pdu::{Feed, Framer, check};
 use rh_record::TakeAnswer;
 use rh_text::Bytes;
@@ -20,9 +22,6 @@ use std::marker::Model;
 
 /// How many bytes in flight there is room for at first.
 const FIRST_FLIGHT: usize = 4096;
-
-/// The length of the shortest PDU, in bytes: that of its header.
-const LEAST_PDU: usize = 16;
 
 /// What one direction carries: PDUs queued, bytes begun, in flight and fed, PDUs not yet taken.
 #[derive(Drop)]
@@ -124,7 +123,7 @@ impl Way {
         ensures err { OnErr result (self.new ≡ self.old) }
     {
         let most = self.framer.held() + self.flight.len().min(count as usize);
-        self.untaken.reserve(alloc, most, most / LEAST_PDU)?;
+        self.untaken.reserve(alloc, most, most / HEADER_LEN)?;
         let piece = take_front(alloc, &mut self.flight, count as usize)?;
         deliver(&mut self.framer, piece.as_slice(), &mut self.untaken);
         Ok(piece)
@@ -200,7 +199,7 @@ fn deliver(framer: &mut Framer, piece: &[u8], untaken: &mut Received)
     requires going { framer.old.fault ≡ None }
     requires sound { IsBad (rest_of (framer.old.rest ++ piece.now)) → ⊥ }
     requires room { length (framer.old.rest ++ piece.now) ≤ untaken.old.room }
-    requires places { length (framer.old.rest ++ piece.now) / LEAST_PDU ≤ untaken.old.places }
+    requires places { length (framer.old.rest ++ piece.now) / HEADER_LEN ≤ untaken.old.places }
     ensures going { framer.new.fault ≡ None }
     ensures rest { framer.new.rest ≡ rest_of (framer.old.rest ++ piece.now) }
     ensures frames { untaken.new.pdus
