@@ -20,7 +20,7 @@ use crate::stop::Stop;
 use crate::text::GREETING_LEN;
 use rh_http::Refusal;
 use rh_line::{Cause, Leg};
-use rh_pdu::header::{HEADER_LEN, RTS};
+use rh_pdu::header::{HEADER_LEN, PTYPE_AT, RTS};
 use rh_pdu::{Feed, Framer, Header};
 use rh_sig::{Named, Pipe, SigFault};
 
@@ -166,7 +166,7 @@ fn take_frame<R: Role>(at: Heading, role: &mut R, frame: &[u8]) -> Result<Count,
     requires { IsFrame frame.now }
     ensures { (role.new, result) ≡ seen.take_frame R.rules at role.old frame.now }
 {
-    if frame[2] == RTS {
+    if frame[PTYPE_AT] == RTS {
         return take_packet(at, role, frame);
     }
     let row = role.pdu(at.leg, at.count, frame);
