@@ -2,9 +2,8 @@
 use Rattle.std.specs.Prelude.{◌≡◌, ℕ, ◌≤◌, List, ◌∷◌, ◌++◌, Contains, codes, Some, None, Bool, ◌&&◌, nat_le, IsTrue}
 use Rattle.std.specs.declared.option.Option.{Option}
 use Rattle.rh_text.specs.Numbers.{IsNumber}
-use Rattle.rh_window.specs.declared.range.TheConstants.{LEAST_WINDOW, GREATEST_WINDOW}
 use Rattle.rh_keep.specs.Lifetimes.{is_lifetime}
-use Rattle.rh_sig.specs.Values.{is_timeout, is_keepalive}
+use Rattle.rh_sig.specs.Values.{is_window, is_timeout, is_keepalive}
 use Rattle.rh_line.specs.declared.leg.Leg.{Leg}
 use Rattle.rh_line.specs.declared.leg.LegKind.TheVariants.{ClientIn}
 use Rattle.rh_line.specs.Texts.{leg_text}
@@ -99,10 +98,10 @@ within lowest greatest value = nat_le lowest value && nat_le value greatest
 -- whether a key takes a value: bytes of a window or a lifetime, milliseconds of a timeout or a
 -- keepalive
 abbrev pub takes : Key → ℕ → Bool
-takes Cwin value = within LEAST_WINDOW GREATEST_WINDOW value
-takes Iwin value = within LEAST_WINDOW GREATEST_WINDOW value
-takes Owin value = within LEAST_WINDOW GREATEST_WINDOW value
-takes Swin value = within LEAST_WINDOW GREATEST_WINDOW value
+takes Cwin value = is_window value
+takes Iwin value = is_window value
+takes Owin value = is_window value
+takes Swin value = is_window value
 takes Ilife value = is_lifetime value
 takes Olife value = is_lifetime value
 takes Itime value = is_timeout value

@@ -1,6 +1,5 @@
 -- the names of packets: those of opening, flow control and pings (MS-RPCH 2.2.4), and the profile's
--- own of
--- replacement and of a clean end, after the same pattern
+-- own of replacement and of a clean end, after the same pattern
 use Rattle.std.specs.Prelude.{◌≡◌, ◌+◌, ℕ, List, [], ◌∷◌}
 use Rattle.std.specs.Prelude.{map}
 use Rattle.std.specs.List.{Contains}

@@ -8,7 +8,6 @@ use Rattle.rh_rts.specs.declared.command.Command.{Command}
 use Rattle.rh_rts.specs.declared.command.Command.TheVariants as commands
 use Rattle.rh_rts.specs.Commands.{kind_of}
 use Rattle.rh_rts.specs.Packets.{Parts, packet_bytes}
-use Rattle.rh_window.specs.declared.range.TheConstants.{LEAST_WINDOW, GREATEST_WINDOW}
 use Rattle.rh_keep.specs.Lifetimes.{is_lifetime}
 use Rattle.rh_sig.specs.declared.ranges.TheConstants.{PROTOCOL_VERSION}
 use Rattle.rh_sig.specs.declared.fault.SigFault.{SigFault}
@@ -18,14 +17,14 @@ use Rattle.rh_sig.specs.declared.name.Pipe.{Pipe}
 use Rattle.rh_sig.specs.declared.named.Named.{Named}
 use Rattle.rh_sig.specs.Names.{types_of, unpadded}
 use Rattle.rh_sig.specs.Looking.{names, found}
-use Rattle.rh_sig.specs.Values.{is_within, is_timeout, is_keepalive, value_of, parts_of}
+use Rattle.rh_sig.specs.Values.{is_window, is_timeout, is_keepalive, value_of, parts_of}
 use Rattle.rh_sig.specs.Reading.{value}
 
 -- ---- ranges
 
 -- whether the value of the command is in range
 abbrev pub is_in_range : Command → Bool
-is_in_range (commands.ReceiveWindowSize n) = is_within LEAST_WINDOW GREATEST_WINDOW n
+is_in_range (commands.ReceiveWindowSize n) = is_window n
 is_in_range (commands.ConnectionTimeout n) = is_timeout n
 is_in_range (commands.ChannelLifetime n) = is_lifetime n
 is_in_range (commands.ClientKeepalive n) = is_keepalive n

@@ -22,6 +22,7 @@ use Rattle.rh_rts.specs.Packets.{Parts}
 use Rattle.rh_sig.specs.declared.name.Pipe.{Pipe}
 use Rattle.rh_sig.specs.Names.{row_of, IsNamed, IsNameless, unpadded}
 use Rattle.rh_rts.specs.Commands.{kind_of}
+use Rattle.rh_window.specs.declared.range.TheConstants.{LEAST_WINDOW, GREATEST_WINDOW}
 use Rattle.rh_window.specs.Sides.{IsWindow}
 use Rattle.rh_sig.specs.declared.ranges.TheConstants.{LEAST_TIMEOUT, GREATEST_TIMEOUT}
 pub use Rattle.rh_keep.specs.Lifetimes.{IsLifetime}
@@ -197,6 +198,10 @@ IsWithin least greatest n = (least ≤ n) × (n ≤ greatest)
 -- whether it is one of those from the least to the greatest
 abbrev pub is_within : ℕ → ℕ → ℕ → Bool
 is_within least greatest n = nat_le least n && nat_le n greatest
+
+-- whether it is the size of a receive window, in bytes
+abbrev pub is_window : ℕ → Bool
+is_window n = is_within LEAST_WINDOW GREATEST_WINDOW n
 
 -- a connection timeout, in milliseconds
 abbrev pub IsTimeout : ℕ → Type 0

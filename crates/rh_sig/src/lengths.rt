@@ -1,4 +1,4 @@
-//! The lengths of named packets that count in the lifetime of a channel, and the greatest of all, in
+//! The lengths of named packets that count in the lifetime of a channel, and the greatest one, in
 //! bytes (MS-RPCH 2.2.3.5, 2.2.4; those of replacement and of a clean end are (profile)).
 
 pub const CONN_B1_LEN: u16 = 104;
