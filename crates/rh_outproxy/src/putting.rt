@@ -1,8 +1,10 @@
 //! What an out proxy puts: the next message of a leg.
 
 ghost use Rattle.std.specs.Prelude.{◌≡◌, ◌+◌, ◌≤◌};
+ghost use Rattle.rh_http.specs.declared.writing.TheConstants.{ECHO_LEN};
 ghost use Rattle.rh_http.specs.Texts.{response_text};
 ghost use Rattle.rh_rts.specs.Writing.{over};
+ghost use Rattle.rh_outproxy.specs.declared.putting.TheConstants.{RESPONSE_ROOM};
 ghost use Rattle.rh_outproxy.specs.Putting.{echo_packet, echo_text};
 
 use crate::state::{Answer, Channel, Mark, OutProxyRole, Ping, ServerLeg};
@@ -50,7 +52,7 @@ fn begin_response(begun: &mut Begun, length: u32)
 /// Writes the Echo packet from this place on.
 #[tactic(auto, unfolding(rh_rts::specs::Writing::over))]
 fn write_echo_packet(room: &mut [u8; RESPONSE_ROOM], at: usize)
-    requires { at + 20 ≤ 128 }
+    requires { at + ECHO_LEN ≤ RESPONSE_ROOM }
     ensures { room.new ≡ over room.old at echo_packet }
 {
     room[at..at + ECHO_PACKET.len()].copy_from_slice(&ECHO_PACKET);
