@@ -109,7 +109,8 @@ forwards_to s packet (Some number) =
 abbrev pub on_ack_to : Server → Count → ℕ → ℕ → ℕ → Cookie → Done
 on_ack_to s count destination received window cookie =
     if is_first count then unexpected s
-    else (if destination == TO_CLIENT then forwards_writing s (AckTo TO_CLIENT received window cookie)
+    else (if destination == TO_CLIENT
+    then forwards_writing s (AckTo TO_CLIENT received window cookie)
     else (if destination == TO_OUT_PROXY
     then forwards_to s (AckTo TO_OUT_PROXY received window cookie) (channel_leg cookie s.outs)
     else unexpected s))
