@@ -17,7 +17,7 @@ use rh_sig::Named;
 /// The bytes of a Ping.
 pub const PING_LEN: u32 = 20;
 /// The most bytes of a response, with the Echo packet behind it.
-const RESPONSE_ROOM: usize = 128;
+pub const RESPONSE_ROOM: usize = 128;
 
 /// The Echo packet: the flag ECHO, and no command (MS-RPCH 2.2.3).
 const ECHO_PACKET: [u8; 20] = [
