@@ -6,12 +6,14 @@ ghost use Rattle.rh_client.specs.Channels.{no_cookie};
 
 use rh_keep::Meter;
 use rh_rts::{Cookie, NO_COOKIE};
+use rh_sig::ranges::LEAST_TIMEOUT;
 use rh_window::SendWindow;
 
 /// The greatest number of a channel: it has no successor.
 pub const LAST_NUMBER: u32 = rh_line::LAST_NUMBER;
-/// The timeout that stands for an in proxy's until it is told, in milliseconds (profile).
-pub const UNTOLD_TIMEOUT: u32 = 120_000;
+/// The timeout that stands for an in proxy's until it is told: the least one, in milliseconds
+/// (profile).
+pub const UNTOLD_TIMEOUT: u32 = LEAST_TIMEOUT;
 
 /// How much was put of what a leg begins with.
 #[derive(Clone, Copy, Debug, PartialEq, Eq)]

@@ -7,6 +7,7 @@ use crate::replacement::{InStage, OutStage, Replacement, Waits};
 use crate::requests::{begin_in_request, begin_out_request};
 use crate::state::ClientRole;
 use rh_line::{LegKind, Which};
+use rh_rts::{TO_OUT_PROXY, TO_SERVER};
 use rh_shell::{Begun, Phase};
 use rh_sig::Named;
 use rh_sig::lengths::{
@@ -201,7 +202,7 @@ impl ClientRole {
             stage: OutStage::Switched,
             waits,
         };
-        begun.begin_packet(&Named::OutR1A7(2, self.out_successor.cookie));
+        begun.begin_packet(&Named::OutR1A7(TO_SERVER, self.out_successor.cookie));
         true
     }
 
@@ -240,7 +241,7 @@ impl ClientRole {
         }
         let of = self.cookie_of(which);
         self.line.told(which, &ack);
-        begun.begin_packet(&Named::AckTo(3, ack.received, ack.available, of));
+        begun.begin_packet(&Named::AckTo(TO_OUT_PROXY, ack.received, ack.available, of));
         true
     }
 

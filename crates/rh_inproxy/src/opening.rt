@@ -15,6 +15,7 @@ use rh_http::{Host, Request};
 use rh_line::{Leg, LegKind};
 use rh_rts::{Address4or16, Cookie};
 use rh_shell::{Begun, Behind, HeadRefused, HeadTaken, Phase, Refused};
+use rh_sig::ranges::DEFAULT_KEEPALIVE;
 use rh_sig::{Named, Pipe};
 use rh_window::SendWindow;
 
@@ -43,7 +44,11 @@ fn begin_echo_answer(begun: &mut Begun)
 pub(crate) fn kept_for(keepalive: u32) -> u32
     ensures { result ≡ kept_for keepalive }
 {
-    if keepalive == 0 { KEEPALIVE } else { keepalive }
+    if keepalive == DEFAULT_KEEPALIVE {
+        KEEPALIVE
+    } else {
+        keepalive
+    }
 }
 
 impl InProxyRole {

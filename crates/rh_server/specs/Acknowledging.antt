@@ -3,6 +3,7 @@ use Rattle.std.specs.Prelude.{ℕ, ◌+◌, ◌==◌, ◌&&◌, List, Bool, true
 use Rattle.std.specs.declared.option.Option.{Option}
 use Rattle.std.specs.declared.result.Result.{Result}
 use Rattle.rh_rts.specs.declared.command.Cookie.{Cookie}
+use Rattle.rh_rts.specs.declared.command.TheConstants.{TO_CLIENT, TO_OUT_PROXY}
 use Rattle.rh_sig.specs.declared.named.Named.{Named}
 use Rattle.rh_sig.specs.declared.named.Named.TheVariants.{AckTo}
 use Rattle.rh_line.specs.Lines.{after_admit, admit_verdict}
@@ -108,9 +109,10 @@ forwards_to s packet (Some number) =
 abbrev pub on_ack_to : Server → Count → ℕ → ℕ → ℕ → Cookie → Done
 on_ack_to s count destination received window cookie =
     if is_first count then unexpected s
-    else (if destination == 0 then forwards_writing s (AckTo 0 received window cookie)
-    else (if destination == 3
-    then forwards_to s (AckTo 3 received window cookie) (channel_leg cookie s.outs)
+    else (if destination == TO_CLIENT
+    then forwards_writing s (AckTo TO_CLIENT received window cookie)
+    else (if destination == TO_OUT_PROXY
+    then forwards_to s (AckTo TO_OUT_PROXY received window cookie) (channel_leg cookie s.outs)
     else unexpected s))
 
 -- ---- acknowledgements from an out proxy

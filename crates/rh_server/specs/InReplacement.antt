@@ -3,6 +3,8 @@ use Rattle.std.specs.Prelude.{ℕ, ◌+◌, ◌==◌, ◌&&◌, ◌||◌, List, 
 use Rattle.std.specs.List.{list_any}
 use Rattle.std.specs.declared.option.Option.{Option}
 use Rattle.rh_rts.specs.declared.command.Cookie.{Cookie}
+use Rattle.rh_rts.specs.declared.command.TheConstants.{TO_CLIENT}
+use Rattle.rh_sig.specs.declared.ranges.TheConstants.{PROTOCOL_VERSION}
 use Rattle.rh_sig.specs.declared.named.Named.TheVariants as named
 use Rattle.rh_line.specs.Lines.{Line, after_open_next, after_end, after_finish, after_take}
 use Rattle.rh_line.specs.declared.which.Which.{Which}
@@ -42,7 +44,7 @@ opens_next s leg (Waits window timeout ended) = with_in
     (record s {
       line = ended_if ended (after_open_next s.line true);
       next = record { leg = leg.number; number = leg.number; cookie = leg.cookie };
-      waiting = added s.waiting (named.InR1A3 0 1 window timeout);
+      waiting = added s.waiting (named.InR1A3 TO_CLIENT PROTOCOL_VERSION window timeout);
     })
     (record leg { stage = Opened; tells = tells.InR1B2 })
 
@@ -160,7 +162,7 @@ abbrev pub carries_next : Server → ℕ → Cookie → Which → Server
 carries_next s number successor which = record (carried_on s which (s.newest_in + 1)) {
   newest_in = s.newest_in + 1;
   newest = newest_by s.newest number successor;
-  waiting = added s.waiting (named.InR2A3 0);
+  waiting = added s.waiting (named.InR2A3 TO_CLIENT);
 }
 
 abbrev pub in_r2_a2_on : Server → ℕ → Cookie → Option Which → Done

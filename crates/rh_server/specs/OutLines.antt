@@ -4,6 +4,7 @@
 use Rattle.std.specs.Prelude.{ℕ, ◌+◌, ◌==◌, ◌≤◌, ◌&&◌, List, Bool, true, false, if◌then◌else◌, find, count_by, Some, None}
 use Rattle.std.specs.declared.option.Option.{Option}
 use Rattle.rh_rts.specs.declared.command.Cookie.{Cookie}
+use Rattle.rh_rts.specs.declared.command.TheConstants.{TO_OUT_PROXY}
 use Rattle.rh_sig.specs.declared.lengths.TheConstants.{ACK_TO_LEN, CONN_C1_LEN, IN_R1_A3_LEN}
 use Rattle.rh_sig.specs.declared.lengths.TheConstants.{IN_R2_A3_LEN, OUT_R1_A1_LEN, OUT_R1_A5_LEN, OUT_R1_A9_LEN}
 use Rattle.rh_sig.specs.declared.named.Named.{Named}
@@ -97,7 +98,7 @@ lets_by_meter m packet = false
 -- take the channel's place; and no packet waits but these
 abbrev pub lets_packet : Gate → Named → Bool
 lets_packet g (named.AckTo destination received window cookie) =
-    if destination == 3 then same_cookie cookie g.cookie
+    if destination == TO_OUT_PROXY then same_cookie cookie g.cookie
     else g.is_writing && may_put g.meter ACK_TO_LEN
 lets_packet g named.OutR1A9 = g.is_writing && (g.hands_over && fits g.meter OUT_R1_A9_LEN)
 lets_packet g packet = g.is_writing && lets_by_meter g.meter packet
@@ -109,7 +110,7 @@ lets g due = lets_packet g due.packet
 
 -- it is for the channel of that cookie
 abbrev pub is_ack_of : Cookie → Due → Bool
-is_ack_of cookie due = takes (named.AckTo 3 0 0 cookie) due
+is_ack_of cookie due = takes (named.AckTo TO_OUT_PROXY 0 0 cookie) due
 
 -- an acknowledgement with a destination
 abbrev pub is_ack : Named → Bool

@@ -11,7 +11,7 @@ use crate::state::{
 };
 use rh_line::{LAST_NUMBER, LineTake, Which};
 use rh_pdu::header::GREATEST_FRAG;
-use rh_rts::Cookie;
+use rh_rts::{Cookie, TO_CLIENT};
 use rh_shell::{Count, Refused};
 use rh_sig::Named;
 use rh_sig::ranges::PROTOCOL_VERSION;
@@ -56,7 +56,7 @@ impl ServerRole {
         };
         self.out_line.add(
             Kind::InR1A3,
-            Named::InR1A3(0, PROTOCOL_VERSION, window, timeout),
+            Named::InR1A3(TO_CLIENT, PROTOCOL_VERSION, window, timeout),
         );
         self.set_in(InLeg {
             stage: InStage::Opened,
@@ -267,7 +267,7 @@ impl ServerRole {
         if number == self.newest.leg {
             self.newest.cookie = successor;
         }
-        self.out_line.add(Kind::InR2A3, Named::InR2A3(0));
+        self.out_line.add(Kind::InR2A3, Named::InR2A3(TO_CLIENT));
         Ok(())
     }
 }

@@ -5,7 +5,7 @@ ghost use Rattle.rh_server.specs.OutLines.{kind_of, are_kind, length_of, lets_by
 
 use crate::state::{LEGS, same_cookie};
 use rh_keep::Meter;
-use rh_rts::Cookie;
+use rh_rts::{Cookie, TO_OUT_PROXY};
 use rh_shell::{Due, FORWARDED_ROOM, Gate, Origin, Waiting};
 use rh_sig::Named;
 use rh_sig::lengths::{
@@ -176,12 +176,13 @@ impl OutLine {
     ghost use Rattle.rh_sig.specs.Values.{MayBeWritten};
     ghost use Rattle.rh_shell.specs.declared.due.Origin.TheVariants.{Forwarded as to_forward};
     ghost use Rattle.rh_shell.specs.Waiting.{empty, added, forwarded, taken, count};
+    ghost use Rattle.rh_server.specs.declared.out_line.TheConstants.{LINE_ROOM};
     ghost use Rattle.rh_server.specs.OutLines as seen;
 
     /// No packet, with room for those that are to be forwarded: 16 on the writing channel, and one
     /// for each leg.
     pub(crate) fn new(alloc: Global) -> Result<OutLine, AllocError>
-        ensures { IfOk result (λ line. line ≡ empty 20) }
+        ensures { IfOk result (λ line. line ≡ empty LINE_ROOM) }
     {
         Ok(OutLine {
             waiting: Waiting::new(alloc, LINE_ROOM)?,
@@ -206,14 +207,14 @@ impl OutLine {
     pub(crate) fn has_ack_of(&self, cookie: Cookie) -> bool
         ensures { result ≡ seen.has (seen.is_ack_of cookie) self.now }
     {
-        self.has(&Taking(Named::AckTo(3, 0, 0, cookie)))
+        self.has(&Taking(Named::AckTo(TO_OUT_PROXY, 0, 0, cookie)))
     }
 
     /// An AckTo 3 for this channel is dropped, where one waits.
     pub(crate) fn drop_ack_of(&mut self, cookie: Cookie)
         ensures { self.new ≡ (taken (seen.is_ack_of cookie) self.old).0 }
     {
-        let _ = self.take(&Taking(Named::AckTo(3, 0, 0, cookie)));
+        let _ = self.take(&Taking(Named::AckTo(TO_OUT_PROXY, 0, 0, cookie)));
     }
 
     /// How many wait that are to be forwarded.

@@ -6,14 +6,11 @@ use crate::state::{
 };
 use rh_line::{LAST_NUMBER, Leg, LegKind, Which};
 use rh_rts::NO_COOKIE;
-use rh_shell::Begun;
+use rh_shell::{Begun, GREETING};
 use rh_sig::Named;
 use rh_sig::lengths::{END_B1_LEN, OUT_R1_A9_LEN};
 use rh_sig::ranges::PROTOCOL_VERSION;
 use rh_window::Ack;
-
-/// What a server says first on a leg (profile).
-const GREETING: [u8; 14] = *b"ncacn_http/1.0";
 
 impl OutLeg {
     ghost use Rattle.std.specs.Prelude.{◌≡◌, ◌&&◌, true};
