@@ -246,6 +246,7 @@ module _ {K : Type 0} (law : DrawLaws K) (m : Makers K InProxy OutProxy) (w : Ou
       (law.alone m w v h known.traced) flowing.flows flowing.begun flowing.legible f
 
   ins_legible : (n : ℕ) → AreLegible in_legible.pipe_put (f.ins n).passage.put
+  unfolding at_in
   ins_legible zero = d.up.proxies_legible 0
   ins_legible (suc n) =
       subst (λ (p : Passage InProxy). IsLegible in_legible.pipe_put p)
