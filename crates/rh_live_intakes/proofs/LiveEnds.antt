@@ -35,7 +35,7 @@ use Rattle.rh_reading.specs.Reading.{begin}
 use Rattle.rh_streams.specs.Streams.{is_live}
 use Rattle.rh_streams.proofs.Ends.{end_is, end_leg, end_of, leg_is}
 use Rattle.rh_streams.proofs.Heads.{Waited}
-use Rattle.rh_live_intakes.specs.Live.{IsRead}
+use Rattle.rh_live_intakes.specs.Live.{ReadsLeg}
 use Rattle.rh_live_intakes.proofs.LiveBytes.{BringsFrames, ReadsOn, brings_less, bytes_heard}
 
 -- ---- lists of ends
@@ -366,7 +366,7 @@ module _ {S : Type 0} (rules : Rules S) (pipe : Leg → Option Pipe) where
 
   -- so it is of one end behind all
   read_by : (heard : Heards) (s : Shell S) (leg : Leg) → Lives heard s
-      → BringsFrames rules (pipe leg) leg (heard leg) → IsRead s leg
+      → BringsFrames rules (pipe leg) leg (heard leg) → ReadsLeg s leg
   read_by heard s leg lives brings going end at =
       end_read heard leg s.legs end at (lives going) brings
 
@@ -393,7 +393,7 @@ module _ {S : Type 0} (rules : Rules S) (pipe : Leg → Option Pipe) where
 
   pub events_read : (s : Shell S) (events : List Event) (leg : Leg) → s.legs ≡ []
       → Waits (λ l. []) s events → BringsFrames rules (pipe leg) leg (heard_on leg events)
-      → IsRead (after_events rules s events) leg
+      → ReadsLeg (after_events rules s events) leg
   events_read s events leg none waits =
       read_by (λ l. heard_on l events) (after_events rules s events) leg
       (events_live (λ l. []) s events waits
@@ -473,7 +473,7 @@ module _ {S : Type 0} (rules : Rules S) (pipe : Leg → Option Pipe) where
     pub end_events_read : (s : Shell S) (events : List EndEvent) (leg : Leg) → s.legs ≡ []
         → EndWaits (λ l. []) s events
         → BringsFrames rules (pipe leg) leg (heard_on leg (happened events))
-        → IsRead (after_end_events rules acts s events) leg
+        → ReadsLeg (after_end_events rules acts s events) leg
     end_events_read s events leg none waits =
         read_by (λ l. heard_on l (happened events)) (after_end_events rules acts s events) leg
         (end_events_live (λ l. []) s events waits

@@ -18,7 +18,7 @@ use Rattle.rh_reading.specs.Reading.{begin, reading, reading_after}
 use Rattle.rh_streams.specs.Streams.{EndStream, HasPipes, HearsInTurn, NeverRefuses, StaysUnused, StaysUnusedAtEnd, Stream, is_live}
 use Rattle.rh_streams.proofs.Heads.{waited}
 use Rattle.rh_fifo.proofs.Flowing.{EndStreams, NodeStreams}
-use Rattle.rh_live_intakes.specs.Live.{IsRead}
+use Rattle.rh_live_intakes.specs.Live.{ReadsLeg}
 use Rattle.rh_live_intakes.proofs.LiveBytes.{BringsFrames}
 use Rattle.rh_live_intakes.proofs.LiveEnds.{EndWaits, Heards, Waits, WaitsAt, end_events_read, events_read}
 
@@ -63,7 +63,7 @@ pub node_read : {S : Type 0} (rules : Rules S) → NodeStreams rules → (first 
     → StaysUnused rules first → ComesUpOnce rules (begun first rooms)
     → AreAccepted rules (begun first rooms) events → HearsInTurn events → (leg : Leg)
     → BringsFrames rules (pipe leg) leg (heard_on leg events)
-    → IsRead (after_events rules (begun first rooms) events) leg
+    → ReadsLeg (after_events rules (begun first rooms) events) leg
 node_read rules law first rooms pipe events pipes stays once accepted turns leg =
     events_read rules pipe (begun first rooms) events leg refl waits
   where
@@ -88,7 +88,7 @@ pub end_read : {S : Type 0} (rules : Rules S) (acts : Acts S) → EndStreams rul
     → StaysUnusedAtEnd rules acts first → ComesUpOnceAtEnd rules acts (begun first rooms)
     → AreAcceptedAtEnd rules acts (begun first rooms) events → HearsInTurn (happened events)
     → (leg : Leg) → BringsFrames rules (pipe leg) leg (heard_on leg (happened events))
-    → IsRead (after_end_events rules acts (begun first rooms) events) leg
+    → ReadsLeg (after_end_events rules acts (begun first rooms) events) leg
 end_read rules acts law first rooms pipe events pipes never stays once accepted turns leg =
     end_events_read rules pipe acts (begun first rooms) events leg refl waits
   where

@@ -10,9 +10,9 @@ use Rattle.rh_shell.specs.Shells.{Shell, end_at}
 use Rattle.rh_streams.specs.Streams.{IsFirstHead, is_live}
 use Rattle.rh_passed.specs.Passed.{AsksNoEcho}
 
--- while the node goes on, bytes that come on the leg are read if it keeps an end of it
-abbrev pub IsRead : {S : Type 0} → Shell S → Leg → Type 0
-IsRead node leg =
+-- while it goes on, the node reads what comes on the leg if it keeps an end of it
+abbrev pub ReadsLeg : {S : Type 0} → Shell S → Leg → Type 0
+ReadsLeg node leg =
     node.course ≡ Going → (end : NearEnd) → end_at node leg ≡ Some end
     → is_live end.intake.stage ≡ true
 

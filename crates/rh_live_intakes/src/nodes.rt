@@ -16,7 +16,7 @@ ghost use Rattle.rh_server.specs.Servers as server;
 ghost use Rattle.rh_history.specs.Carried.{AreAccepted, AreAcceptedAtEnd, happened, heard_on};
 ghost use Rattle.rh_streams.specs.Streams.{HearsInTurn};
 ghost use Rattle.rh_proxies_begin.specs.Pipes.{in_pipe, out_pipe};
-ghost use Rattle.rh_live_intakes.specs.Live.{BeginsNoEcho, IsRead};
+ghost use Rattle.rh_live_intakes.specs.Live.{BeginsNoEcho, ReadsLeg};
 
 use rh_causes::{
     a_clients_leg_comes_up_once, a_servers_leg_comes_up_once, an_in_proxys_leg_comes_up_once,
@@ -41,21 +41,21 @@ pub fn what_a_node_keeps_is_read()
     ensures client { (config : ClientConfig) (events : List EndEvent) (leg : Leg)
         → AreAcceptedAtEnd client.rules client.acts (client.first_client config) events
         → HearsInTurn (happened events)
-        → IsRead (after_end_events client.rules client.acts (client.first_client config) events)
+        → ReadsLeg (after_end_events client.rules client.acts (client.first_client config) events)
         leg }
     ensures server { (window : ℕ) (events : List EndEvent) (leg : Leg)
         → AreAcceptedAtEnd server.rules server.acts (server.new_server window) events
         → HearsInTurn (happened events)
-        → IsRead (after_end_events server.rules server.acts (server.new_server window) events)
+        → ReadsLeg (after_end_events server.rules server.acts (server.new_server window) events)
         leg }
     ensures in_proxy { (config : InProxyConfig) (events : List Event) (leg : Leg)
         → AreAccepted in_proxy.rules (in_proxy.first_node config) events → HearsInTurn events
         → BeginsNoEcho true (in_pipe config leg) (heard_on leg events)
-        → IsRead (after_events in_proxy.rules (in_proxy.first_node config) events) leg }
+        → ReadsLeg (after_events in_proxy.rules (in_proxy.first_node config) events) leg }
     ensures out_proxy { (config : OutProxyConfig) (events : List Event) (leg : Leg)
         → AreAccepted out_proxy.rules (begun (new_proxy config) ROOMS) events
         → HearsInTurn events → BeginsNoEcho false (out_pipe config leg) (heard_on leg events)
-        → IsRead (after_events out_proxy.rules (begun (new_proxy config) ROOMS) events) leg }
+        → ReadsLeg (after_events out_proxy.rules (begun (new_proxy config) ROOMS) events) leg }
 {
     an_ends_stream::<ClientRole>();
     an_ends_stream::<ServerRole>();

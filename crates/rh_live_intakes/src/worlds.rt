@@ -22,7 +22,7 @@ ghost use Rattle.rh_traced.specs.Recordings.{history_at};
 ghost use Rattle.rh_fifo.specs.Flows.{numbers_of};
 ghost use Rattle.rh_fifo.specs.Premises.{AreInRange};
 ghost use Rattle.rh_first_texts.specs.Ports.{IsPort};
-ghost use Rattle.rh_live_intakes.specs.Live.{IsRead};
+ghost use Rattle.rh_live_intakes.specs.Live.{ReadsLeg};
 
 use crate::heads::no_bytes_that_come_ask_for_an_echo;
 use crate::nodes::what_a_node_keeps_is_read;
@@ -39,28 +39,28 @@ pub fn what_comes_is_read<K>()
         → (ours : AreOurs m w.company w.cast)
         → (v : World K ClientRole Server InProxy OutProxy) (by : ByChanges rules m deeds w v)
         (leg : Leg)
-        → IsRead (after_end_events client.rules client.acts (client.first_client ours.config)
+        → ReadsLeg (after_end_events client.rules client.acts (client.first_client ours.config)
         (history_at m w v by.leads).client) leg }
     ensures server { (m : Makers K InProxy OutProxy)
         (w : World K ClientRole Server InProxy OutProxy) → IsNew w
         → (ours : AreOurs m w.company w.cast)
         → (v : World K ClientRole Server InProxy OutProxy) (by : ByChanges rules m deeds w v)
         (leg : Leg)
-        → IsRead (after_end_events server.rules server.acts (server.new_server ours.window)
+        → ReadsLeg (after_end_events server.rules server.acts (server.new_server ours.window)
         (history_at m w v by.leads).server) leg }
     ensures ins { (m : Makers K InProxy OutProxy) (w : World K ClientRole Server InProxy OutProxy)
         → IsNew w → (ours : AreOurs m w.company w.cast) → AreInRange (numbers_of ours)
         → IsPort ours.config.port
         → (v : World K ClientRole Server InProxy OutProxy) (by : ByChanges rules m deeds w v)
         (n : ℕ) (leg : Leg)
-        → IsRead (after_events in_proxy.rules (in_proxy.first_node (ours.in_config n))
+        → ReadsLeg (after_events in_proxy.rules (in_proxy.first_node (ours.in_config n))
         ((history_at m w v by.leads).ins n)) leg }
     ensures outs { (m : Makers K InProxy OutProxy) (w : World K ClientRole Server InProxy OutProxy)
         → IsNew w → (ours : AreOurs m w.company w.cast) → AreInRange (numbers_of ours)
         → IsPort ours.config.port
         → (v : World K ClientRole Server InProxy OutProxy) (by : ByChanges rules m deeds w v)
         (n : ℕ) (leg : Leg)
-        → IsRead (after_events out_proxy.rules (begun (new_proxy (ours.out_config n)) ROOMS)
+        → ReadsLeg (after_events out_proxy.rules (begun (new_proxy (ours.out_config n)) ROOMS)
         ((history_at m w v by.leads).outs n)) leg }
 {
     no_bytes_that_come_ask_for_an_echo::<K>();
