@@ -19,6 +19,7 @@ use Rattle.rh_history.specs.Carried.{wire_at}
 use Rattle.rh_history.specs.Histories.{History}
 use Rattle.rh_streams.specs.Streams.{is_live}
 use Rattle.rh_streams.proofs.Ends.{end_is, end_leg, leg_is}
+use Rattle.rh_live_intakes.specs.Live.{ReadsLeg}
 use Rattle.rh_paths.specs.Legs.{is_cut, on_leg, was_told, was_up}
 use Rattle.rh_paths.specs.OnWay.{is_lost, left_at, left_on, on_way, read_on}
 use Rattle.rh_exact_ways.specs.Keeping.{KeepsEnd}
@@ -76,11 +77,11 @@ module _ {K C S I O P T : Type 0} (v : World K C S I O) (h : History) (leg : Leg
     → is_up (sender dir) (wire_at v.legs leg) ≡ true)
     (up_there : was_up v h leg (receiver dir) ≡ true
     → is_up (receiver dir) (wire_at v.legs leg) ≡ true)
-    (held : was_up v h leg (sender dir) ≡ true → (end : NearEnd) × (end_at puts leg ≡ Some end))
+    (untold : was_told v h leg (sender dir) ≡ false)
     (kept : was_up v h leg (receiver dir) ≡ true
     → KeepsEnd takes leg ⊎ (is_in_use rules takes.role leg ≡ false))
     (absent : was_up v h leg (receiver dir) ≡ false → end_at takes leg ≡ None)
-    (live : (end : NearEnd) → end_at takes leg ≡ Some end → is_live end.intake.stage ≡ true)
+    (reads : ReadsLeg takes leg)
     (passes : was_up v h leg (receiver dir) ≡ true → is_in_use rules takes.role leg ≡ false
     → (stops_at (is_lost (on_leg v h leg dir pipe puts rules takes)) came ≡ false) ⊎ Else) where
   abbrev Goes : Type 0
@@ -113,9 +114,12 @@ module _ {K C S I O P T : Type 0} (v : World K C S I O) (h : History) (leg : Leg
         left_told puts leg up lost (Some []) puts_on
             (ap (left_at up lost) at ∙ ap (λ (t : Bool). left_at t lost None) e),
       )
-      by true e None at =
-          let there = held e in
-          absurd (let bad : None ≡ Some there.0 = sym at ∙ there.1 in cc)
+      by true e None at = (
+        [],
+        left_told puts leg up lost (Some []) puts_on
+            (ap (left_at up lost) at ∙ ap (λ (t : Bool). left_at t lost None) e
+            ∙ ap (λ (t : Bool). left_at true t None) untold),
+      )
 
   goes_by : (r : Reading)
       → read_on rules takes pipe leg (was_up v h leg (receiver dir)) ≡ Some r → Goes
@@ -136,7 +140,7 @@ module _ {K C S I O P T : Type 0} (v : World K C S I O) (h : History) (leg : Leg
           goes_by (reading k.end.intake.stage k.end.intake.held)
           (read_told rules takes pipe leg (was_up v h leg (receiver dir)) k.end takes_on k.at
           (ap (λ (b : Bool). b || is_useless rules k.end takes.role) k.unmarked ∙ over)
-          (live k.end k.at))
+          (reads takes_on k.end k.at))
 
       of_kept : was_up v h leg (receiver dir) ≡ true
           → KeepsEnd takes leg ⊎ (is_in_use rules takes.role leg ≡ false) → Goes

@@ -6,7 +6,6 @@ mod NodeKeeps
 mod CameUp
 mod ClientOver
 mod HeadTexts
-mod WorldHeads
 mod ReadBy
 mod Passing
 mod LegGoes
