@@ -2,7 +2,6 @@ mod Rests
 mod Pdus
 mod Ended
 mod Stops
-mod KeptEnds
 mod NodeKeeps
 mod CameUp
 mod ClientOver

@@ -44,9 +44,10 @@ use Rattle.rh_passed.specs.Passed.{AsksNoEcho, HeadsAre}
 use Rattle.rh_fifo.specs.Directions.{down_route_of, up_route_of}
 use Rattle.rh_fifo.specs.Flows.{Numbers}
 use Rattle.rh_paths.specs.Legs.{has_passed}
+use Rattle.rh_paths.specs.Lost.{was_lost}
 use Rattle.rh_paths.specs.OnWay.{is_lost}
 use Rattle.rh_paths.specs.Ways.{AreOnTheirWay, client_node, down_far, down_lost, down_near, in_node, out_node, server_node, up_far, up_lost, up_near}
-use Rattle.rh_exact_ways.specs.Keeping.{KeepsEnd, KeepsIfOfUse, KnowsLeg, was_lost}
+use Rattle.rh_exact_ways.specs.Keeping.{KeepsEnd, KeepsIfOfUse, KnowsLeg}
 use Rattle.rh_exact_ways.specs.Pdus.{IsBehindEnd, NoneStopsButBehindEnd}
 use Rattle.rh_exact_ways.specs.Unlost.{AreServedDown, AreServedUp, IsServed, NoneIsLost}
 use Rattle.rh_exact_ways.proofs.LegGoes.{leg_goes}

@@ -28,8 +28,8 @@ use Rattle.rh_streams.specs.Streams.{is_live}
 use Rattle.rh_proxies_begin.specs.Pipes.{ci, co, is, os}
 use Rattle.rh_fifo.specs.Flows.{Numbers}
 use Rattle.rh_paths.specs.Legs.{was_up}
+use Rattle.rh_paths.specs.Lost.{was_lost}
 use Rattle.rh_paths.specs.Ways.{client_node, in_node, out_node, server_node}
-use Rattle.rh_exact_ways.specs.Keeping.{was_lost}
 
 -- all nodes go on, none was told that a leg ended or broke, and each leg that came up for a node is
 -- up for it
