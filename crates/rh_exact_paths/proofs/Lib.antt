@@ -1,0 +1,13 @@
+mod Fronts
+mod Told
+mod Left
+mod Grown
+mod Fates
+mod Later
+mod Shelves
+mod Receivers
+mod Worlds
+mod Clients
+mod DownLegs
+mod UpLegs
+mod Recorded

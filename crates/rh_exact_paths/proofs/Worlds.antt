@@ -1,0 +1,362 @@
+-- fronts of the changes that lead to a world of roles: what is known behind each
+use Rattle.std.proofs.Common.{◌≡◌, ◌≢◌, ◌⊎◌, inl, inr, ◌<◌, ◌≤◌, ℕ, zero, suc, List, [], ◌∷◌, ◌++◌, Bool, true, false, true≢false, not, ◌&&◌, Some, arith, refl, sym, ap, ◌∙◌, subst}
+use Rattle.std.specs.List.{AllByRecursion, list_all}
+use Rattle.std.specs.declared.option.Option.{Option}
+use Rattle.std.proofs.lemmas.Bool.{and_parts, cases_eq}
+use mathlib.Core.List.{IsPrefix}
+use Rattle.rh_http.specs.declared.config.ClientConfig.{ClientConfig}
+use Rattle.rh_text.specs.declared.ends.Side.{Side}
+use Rattle.rh_text.specs.declared.ends.Side.TheVariants as side
+use Rattle.rh_sig.specs.declared.name.Pipe.{Pipe}
+use Rattle.rh_line.specs.declared.leg.Leg.{Leg}
+use Rattle.rh_order.proofs.Prefixes.{prefix_self}
+use Rattle.rh_shell.specs.declared.course.Course.TheVariants.{Going}
+use Rattle.rh_shell.specs.declared.rooms.Rooms.{Rooms}
+use Rattle.rh_shell.specs.Moving.{EndEvent, Event, after_end_events, after_events}
+use Rattle.rh_shell.specs.NearEnds.{NearEnd}
+use Rattle.rh_shell.specs.Rules.{Acts, Rules}
+use Rattle.rh_shell.specs.Shells.{Shell, begun, end_at}
+use Rattle.rh_client.specs.declared.state.ClientRole.{ClientRole}
+use Rattle.rh_client.specs.Client as client
+use Rattle.rh_client.specs.State as client_state
+use Rattle.rh_inproxy.specs.declared.state.InProxyConfig.{InProxyConfig}
+use Rattle.rh_inproxy.specs.Machine as in_proxy
+use Rattle.rh_inproxy.specs.State.{InProxy}
+use Rattle.rh_inproxy.specs.State as in_state
+use Rattle.rh_outproxy.specs.declared.out_proxy.TheConstants.{ROOMS}
+use Rattle.rh_outproxy.specs.declared.state.OutProxyConfig.{OutProxyConfig}
+use Rattle.rh_outproxy.specs.Machine as out_proxy
+use Rattle.rh_outproxy.specs.OutProxy.{OutProxy, new_proxy}
+use Rattle.rh_server.specs.Servers as server
+use Rattle.rh_server.specs.States.{Server}
+use Rattle.rh_nodes.specs.Opening.{Makers}
+use Rattle.rh_nodes.specs.Readers.{reader_of}
+use Rattle.rh_nodes.specs.Wires.{is_up}
+use Rattle.rh_nodes.specs.World.{World, at}
+use Rattle.rh_history.specs.Carried.{AreAccepted, AreAcceptedAtEnd, ComesUpOnce, ComesUpOnceAtEnd, LegsComeUpOnce, came_up, events_of, happened, wire_at}
+use Rattle.rh_history.specs.Changes.{AreAllowed, ByLines, Change, all_changed, of_line}
+use Rattle.rh_history.specs.Histories.{History, IsNew, all_noted, nothing}
+use Rattle.rh_history.proofs.Leading.{cast_kept}
+use Rattle.rh_history.proofs.Recordings.{traced_first}
+use Rattle.rh_streams.specs.Streams.{HasPipes, HearsInTurn, NeverRefuses, StaysUnused, StaysUnusedAtEnd, Stream}
+use Rattle.rh_growing.specs.Growing.{EndGrowing, Growing}
+use Rattle.rh_traced.specs.Cookies.{ByChanges}
+use Rattle.rh_traced.specs.Numbers.{ComeUpByLines, ComeUpInOrder, is_made}
+use Rattle.rh_traced.specs.Ours.{AreOurs, deeds, rules}
+use Rattle.rh_traced.specs.Recordings.{IsKnown, history_at}
+use Rattle.rh_traced.proofs.ByChanges.{lines_by_changes}
+use Rattle.rh_proxies_begin.specs.Pipes.{in_pipe, out_pipe}
+use Rattle.rh_down.specs.Down.{client_reads, proxy_reads, server_reads}
+use Rattle.rh_first_texts.specs.Ports.{IsPort}
+use Rattle.rh_fifo.proofs.Marked.{RouteLaws}
+use Rattle.rh_fifo.specs.Flows.{Numbers, numbers_of}
+use Rattle.rh_fifo.specs.Premises.{AreInRange}
+use Rattle.rh_passed.specs.Passed.{AsksNoEcho, HeadsAre}
+use Rattle.rh_live_intakes.specs.Live.{IsRead}
+use Rattle.rh_paths.specs.Legs.{was_left, was_told}
+use Rattle.rh_paths.specs.Lost.{was_lost}
+use Rattle.rh_paths.specs.Ways.{AreOnTheirWay, client_node, in_node, out_node, server_node}
+use Rattle.rh_exact_ways.specs.Keeping.{KeepsIfOfUse, KnowsLeg}
+use Rattle.rh_exact_ways.proofs.Passing.{InLaw, OutLaw, ServerLaw}
+use Rattle.rh_exact_paths.specs.Leaving.{AllGoOn}
+use Rattle.rh_exact_paths.proofs.Fronts.{IsEnded, all_front, allowed_front}
+use Rattle.rh_exact_paths.proofs.Grown.{client_grown, end_going_before, going_before, in_grown, out_grown, server_grown}
+use Rattle.rh_exact_paths.proofs.Left.{left_by_change, reader_stays}
+use Rattle.rh_exact_paths.proofs.Receivers.{ClientOrder, InOrder, OutOrder, ServerOrder}
+use Rattle.rh_exact_paths.proofs.Told.{told_by_change}
+
+abbrev pub OurWorld : Type 0 → Type 0
+OurWorld K = World K ClientRole Server InProxy OutProxy
+
+-- ---- the laws that this stands on
+
+abbrev pub NodeGrows : {S : Type 0} → Rules S → Type 0
+NodeGrows {S} rules =
+    (first : S) (rooms : Rooms) (pipe : Leg → Option Pipe) (events : List Event)
+    → HasPipes rules first pipe → StaysUnused rules first
+    → ComesUpOnce rules (begun first rooms) → AreAccepted rules (begun first rooms) events
+    → HearsInTurn events → Growing rules first rooms pipe events
+
+abbrev pub EndNodeGrows : {S : Type 0} → Rules S → Acts S → Type 0
+EndNodeGrows {S} rules acts =
+    (first : S) (rooms : Rooms) (pipe : Leg → Option Pipe) (events : List EndEvent)
+    → ((s : S) (leg : Leg) → rules.pipe s leg ≡ pipe leg) → NeverRefuses rules
+    → StaysUnusedAtEnd rules acts first → ComesUpOnceAtEnd rules acts (begun first rooms)
+    → AreAcceptedAtEnd rules acts (begun first rooms) events
+    → HearsInTurn (happened events) → EndGrowing rules acts first rooms pipe events
+
+-- of nodes
+pub record NodeLaws : Type 0 where
+  pub keeps_client : (config : ClientConfig) (events : List EndEvent) (leg : Leg)
+      → AreAcceptedAtEnd client.rules client.acts (client.first_client config) events
+      → came_up leg (happened events) ≡ true → was_lost leg (happened events) ≡ false
+      → KeepsIfOfUse client.rules
+      (after_end_events client.rules client.acts (client.first_client config) events) leg
+  pub keeps_server : (window : ℕ) (events : List EndEvent) (leg : Leg)
+      → AreAcceptedAtEnd server.rules server.acts (server.new_server window) events
+      → came_up leg (happened events) ≡ true → was_lost leg (happened events) ≡ false
+      → KeepsIfOfUse server.rules
+      (after_end_events server.rules server.acts (server.new_server window) events) leg
+  pub keeps_in : (config : InProxyConfig) (events : List Event) (leg : Leg)
+      → AreAccepted in_proxy.rules (in_proxy.first_node config) events
+      → came_up leg events ≡ true → was_lost leg events ≡ false
+      → KeepsIfOfUse in_proxy.rules
+      (after_events in_proxy.rules (in_proxy.first_node config) events) leg
+  pub keeps_out : (config : OutProxyConfig) (events : List Event) (leg : Leg)
+      → AreAccepted out_proxy.rules (begun (new_proxy config) ROOMS) events
+      → came_up leg events ≡ true → was_lost leg events ≡ false
+      → KeepsIfOfUse out_proxy.rules
+      (after_events out_proxy.rules (begun (new_proxy config) ROOMS) events) leg
+  pub knows_client : (config : ClientConfig) (events : List EndEvent) (leg : Leg)
+      → AreAcceptedAtEnd client.rules client.acts (client.first_client config) events
+      → KnowsLeg client.rules
+      (after_end_events client.rules client.acts (client.first_client config) events) leg
+      (came_up leg (happened events))
+  pub knows_server : (window : ℕ) (events : List EndEvent) (leg : Leg)
+      → AreAcceptedAtEnd server.rules server.acts (server.new_server window) events
+      → KnowsLeg server.rules
+      (after_end_events server.rules server.acts (server.new_server window) events) leg
+      (came_up leg (happened events))
+  pub knows_in : (config : InProxyConfig) (events : List Event) (leg : Leg)
+      → AreAccepted in_proxy.rules (in_proxy.first_node config) events
+      → KnowsLeg in_proxy.rules
+      (after_events in_proxy.rules (in_proxy.first_node config) events) leg (came_up leg events)
+  pub knows_out : (config : OutProxyConfig) (events : List Event) (leg : Leg)
+      → AreAccepted out_proxy.rules (begun (new_proxy config) ROOMS) events
+      → KnowsLeg out_proxy.rules
+      (after_events out_proxy.rules (begun (new_proxy config) ROOMS) events) leg
+      (came_up leg events)
+  pub routes : RouteLaws
+  pub out_law : OutLaw
+  pub in_law : InLaw
+  pub server_law : ServerLaw
+  pub client_order : ClientOrder
+  pub server_order : ServerOrder
+  pub in_order : InOrder
+  pub out_order : OutOrder
+  pub client_grows : EndNodeGrows client.rules client.acts
+  pub server_grows : EndNodeGrows server.rules server.acts
+  pub in_grows : NodeGrows in_proxy.rules
+  pub out_grows : NodeGrows out_proxy.rules
+  pub in_pipes : (config : InProxyConfig)
+      → HasPipes in_proxy.rules (in_state.first config) (in_pipe config)
+  pub out_pipes : (config : OutProxyConfig)
+      → HasPipes out_proxy.rules (new_proxy config) (out_pipe config)
+  pub in_unused : (config : InProxyConfig)
+      → StaysUnused in_proxy.rules (in_state.first config)
+  pub out_unused : (config : OutProxyConfig) → StaysUnused out_proxy.rules (new_proxy config)
+  pub client_unused : (config : ClientConfig)
+      → StaysUnusedAtEnd client.rules client.acts (client_state.first config)
+  pub server_unused : (window : ℕ)
+      → StaysUnusedAtEnd server.rules server.acts (server.first window)
+  pub client_refuses : NeverRefuses client.rules
+  pub server_refuses : NeverRefuses server.rules
+
+-- and of a world of new roles whose numbers are in their ranges
+pub record WorldLaws {K : Type 0} (m : Makers K InProxy OutProxy) (w : OurWorld K)
+    (ours : AreOurs m w.company w.cast) : Type 0 where
+  pub once : LegsComeUpOnce rules m deeds w.company w.cast
+  pub known : (v : OurWorld K) (by : ByChanges rules m deeds w v) → IsKnown m w v by.leads
+  pub order : (v : OurWorld K) (by : ByChanges rules m deeds w v)
+      → ComeUpInOrder v (history_at m w v by.leads)
+  pub led : (v : OurWorld K) (lines : ByLines rules m deeds w v)
+      → ComeUpByLines v (all_noted rules m deeds w nothing lines.leads.changes)
+  pub ways : (v : OurWorld K) (by : ByChanges rules m deeds w v)
+      → AreOnTheirWay (numbers_of ours) v (history_at m w v by.leads)
+  pub live_client : (v : OurWorld K) (by : ByChanges rules m deeds w v) (leg : Leg)
+      → IsRead (client_node (numbers_of ours) (history_at m w v by.leads)) leg
+  pub live_server : (v : OurWorld K) (by : ByChanges rules m deeds w v) (leg : Leg)
+      → IsRead (server_node (numbers_of ours) (history_at m w v by.leads)) leg
+  pub live_in : (v : OurWorld K) (by : ByChanges rules m deeds w v) (n : ℕ) (leg : Leg)
+      → IsRead (in_node (numbers_of ours) (history_at m w v by.leads) n) leg
+  pub live_out : (v : OurWorld K) (by : ByChanges rules m deeds w v) (n : ℕ) (leg : Leg)
+      → IsRead (out_node (numbers_of ours) (history_at m w v by.leads) n) leg
+  pub in_echoes : (v : OurWorld K) (by : ByChanges rules m deeds w v) (n : ℕ)
+      (stream : Stream in_proxy.rules (in_state.first (ours.in_config n)) in_proxy.rooms
+      (in_pipe (ours.in_config n)) ((history_at m w v by.leads).ins n))
+      → AllByRecursion (HeadsAre (AsksNoEcho true)) stream.leads.moves
+  pub out_echoes : (v : OurWorld K) (by : ByChanges rules m deeds w v) (n : ℕ)
+      (stream : Stream out_proxy.rules (new_proxy (ours.out_config n)) ROOMS
+      (proxy_reads (ours.out_config n)) ((history_at m w v by.leads).outs n))
+      → AllByRecursion (HeadsAre (AsksNoEcho false)) stream.leads.moves
+
+-- ---- behind each front
+
+module _ {K : Type 0} (m : Makers K InProxy OutProxy) (w : OurWorld K) (new : IsNew w)
+    (ours : AreOurs m w.company w.cast) (node : NodeLaws) (law : WorldLaws m w ours)
+    (changes : List Change) (allowed : AreAllowed rules m deeds w changes)
+    (works : list_all of_line changes ≡ true)
+    (going : AllGoOn (numbers_of ours) (all_noted rules m deeds w nothing changes)) where
+  abbrev pub W : List Change → OurWorld K
+  W e = all_changed rules m deeds w e
+
+  abbrev pub H : List Change → History
+  H e = all_noted rules m deeds w nothing e
+
+  abbrev pub At : List Change → Type 0
+  At e = IsPrefix e changes
+
+  abbrev pub numbers : Numbers
+  numbers = numbers_of ours
+
+  allowed_here : (e : List Change) → At e → AreAllowed rules m deeds w e
+  allowed_here e here =
+      allowed_front rules m deeds w e here.0
+      (subst (AreAllowed rules m deeds w) (sym here.1) allowed)
+
+  abbrev pub lines_front : (e : List Change) → At e → ByLines rules m deeds w (W e)
+  lines_front e here = record {
+    leads = record { changes = e; allowed = allowed_here e here; reached = refl };
+    work =
+        all_front of_line e here.0
+        (subst (λ (cs : List Change). list_all of_line cs ≡ true) (sym here.1) works);
+  }
+
+  abbrev pub by_front : (e : List Change) → At e → ByChanges rules m deeds w (W e)
+  by_front e here = lines_by_changes rules m deeds w (W e) (lines_front e here)
+
+  pub known : (e : List Change) (here : At e) → IsKnown m w (W e) (by_front e here).leads
+  known e here = law.known (W e) (by_front e here)
+
+  pub ways : (e : List Change) (here : At e) → AreOnTheirWay numbers (W e) (H e)
+  ways e here = law.ways (W e) (by_front e here)
+
+  pub order : (e : List Change) (here : At e) → ComeUpInOrder (W e) (H e)
+  order e here = law.order (W e) (by_front e here)
+
+  pub led : (e : List Change) (here : At e) → ComeUpByLines (W e) (H e)
+  led e here = law.led (W e) (lines_front e here)
+
+  same_cast : (e : List Change) (here : At e) → (W e).cast ≡ w.cast
+  same_cast e here = cast_kept rules m deeds w (W e) (by_front e here).leads
+
+  -- ---- legs came up where they might
+
+  pub client_accepted : (e : List Change) (here : At e)
+      → AreAcceptedAtEnd client.rules client.acts (client.first_client ours.config) (H e).client
+  client_accepted e here =
+      subst (λ (s : Shell ClientRole). AreAcceptedAtEnd client.rules client.acts s (H e).client)
+      ours.client (known e here).traced.accepted.client
+
+  pub server_accepted : (e : List Change) (here : At e)
+      → AreAcceptedAtEnd server.rules server.acts (server.new_server ours.window) (H e).server
+  server_accepted e here =
+      subst (λ (s : Shell Server). AreAcceptedAtEnd server.rules server.acts s (H e).server)
+      ours.server (known e here).traced.accepted.server
+
+  pub in_accepted : (e : List Change) (here : At e) (n : ℕ)
+      → AreAccepted in_proxy.rules (in_proxy.first_node (ours.in_config n)) ((H e).ins n)
+  in_accepted e here n =
+      subst (λ (s : Shell InProxy). AreAccepted in_proxy.rules s ((H e).ins n))
+      (ap (λ (k : K). m.in_proxy k n) (same_cast e here) ∙ ours.ins n)
+      ((known e here).traced.accepted.ins n)
+
+  pub out_accepted : (e : List Change) (here : At e) (n : ℕ)
+      → AreAccepted out_proxy.rules (begun (new_proxy (ours.out_config n)) ROOMS) ((H e).outs n)
+  out_accepted e here n =
+      subst (λ (s : Shell OutProxy). AreAccepted out_proxy.rules s ((H e).outs n))
+      (ap (λ (k : K). m.out_proxy k n) (same_cast e here) ∙ ours.outs n)
+      ((known e here).traced.accepted.outs n)
+
+  -- ---- streams grow
+
+  pub client_growing : (e : List Change) (here : At e)
+      → EndGrowing client.rules client.acts (client_state.first ours.config) client.rooms
+      client_reads (H e).client
+  client_growing e here =
+      node.client_grows (client_state.first ours.config) client.rooms client_reads (H e).client
+      (λ s leg. refl) node.client_refuses (node.client_unused ours.config)
+      (subst (λ (s : Shell ClientRole). ComesUpOnceAtEnd client.rules client.acts s) ours.client
+      law.once.client) (client_accepted e here) (known e here).in_turn.client
+
+  pub server_growing : (e : List Change) (here : At e)
+      → EndGrowing server.rules server.acts (server.first ours.window) server.rooms server_reads
+      (H e).server
+  server_growing e here =
+      node.server_grows (server.first ours.window) server.rooms server_reads (H e).server
+      (λ s leg. refl) node.server_refuses (node.server_unused ours.window)
+      (subst (λ (s : Shell Server). ComesUpOnceAtEnd server.rules server.acts s) ours.server
+      law.once.server) (server_accepted e here) (known e here).in_turn.server
+
+  pub in_growing : (e : List Change) (here : At e) (n : ℕ)
+      → Growing in_proxy.rules (in_state.first (ours.in_config n)) in_proxy.rooms
+      (in_pipe (ours.in_config n)) ((H e).ins n)
+  in_growing e here n =
+      node.in_grows (in_state.first (ours.in_config n)) in_proxy.rooms
+      (in_pipe (ours.in_config n)) ((H e).ins n) (node.in_pipes (ours.in_config n))
+      (node.in_unused (ours.in_config n))
+      (subst (λ (s : Shell InProxy). ComesUpOnce in_proxy.rules s) (ours.ins n) (law.once.ins n))
+      (in_accepted e here n) ((known e here).in_turn.ins n)
+
+  pub out_growing : (e : List Change) (here : At e) (n : ℕ)
+      → Growing out_proxy.rules (new_proxy (ours.out_config n)) ROOMS
+      (proxy_reads (ours.out_config n)) ((H e).outs n)
+  out_growing e here n =
+      let config = ours.out_config n in
+      node.out_grows (new_proxy config) ROOMS (proxy_reads config) ((H e).outs n)
+      (λ moves leg allowed.
+      node.out_pipes config moves leg allowed ∙ sym (node.out_pipes config [] leg tt))
+      (node.out_unused config)
+      (subst (λ (s : Shell OutProxy). ComesUpOnce out_proxy.rules s) (ours.outs n)
+      (law.once.outs n))
+      (out_accepted e here n) ((known e here).in_turn.outs n)
+
+  -- ---- nodes go on
+
+  to_last : (e : List Change) (here : At e) {X : Type 0} (part : History → List X)
+      → IsPrefix (part (H e)) (part (H (e ++ here.0)))
+      → IsPrefix (part (H e)) (part (H changes))
+  to_last e here part p =
+      subst (λ (cs : List Change). IsPrefix (part (H e)) (part (H cs))) here.1 p
+
+  pub client_goes : (e : List Change) → At e → (client_node numbers (H e)).course ≡ Going
+  client_goes e here =
+      end_going_before client.rules client.acts (client.first_client ours.config) (H e).client
+      (H changes).client
+      (to_last e here (λ h. h.client) (client_grown rules m deeds w e here.0)) going.client
+
+  pub server_goes : (e : List Change) → At e → (server_node numbers (H e)).course ≡ Going
+  server_goes e here =
+      end_going_before server.rules server.acts (server.new_server ours.window) (H e).server
+      (H changes).server
+      (to_last e here (λ h. h.server) (server_grown rules m deeds w e here.0)) going.server
+
+  pub in_goes : (e : List Change) → At e → (n : ℕ) → (in_node numbers (H e) n).course ≡ Going
+  in_goes e here n =
+      going_before in_proxy.rules (in_proxy.first_node (ours.in_config n)) ((H e).ins n)
+      ((H changes).ins n)
+      (to_last e here (λ h. h.ins n) (in_grown rules m deeds w e here.0 n)) (going.ins n)
+
+  pub out_goes : (e : List Change) → At e → (n : ℕ) → (out_node numbers (H e) n).course ≡ Going
+  out_goes e here n =
+      going_before out_proxy.rules (begun (new_proxy (ours.out_config n)) ROOMS) ((H e).outs n)
+      ((H changes).outs n)
+      (to_last e here (λ h. h.outs n) (out_grown rules m deeds w e here.0 n)) (going.outs n)
+
+  -- ---- legs are lost by changes that end them
+
+  pub told_ends : (leg : Leg) (e : List Change) → At e → (end : Side)
+      → was_told (W e) (H e) leg end ≡ true → IsEnded e leg
+  told_ends leg e here end told = told_by_change leg rules m deeds w e (at (W e) leg end) told
+
+  not_up : (b : Bool) → not b ≡ true → b ≡ false
+  not_up true e = absurd (true≢false (sym e))
+  not_up false e = refl
+
+  pub left_ends : (leg : Leg) (e : List Change) → At e → (end : Side)
+      → was_left (W e) (H e) leg end ≡ true → IsEnded e leg
+  left_ends leg e here end left =
+      let parts = and_parts (came_up leg
+      (events_of (H e) (at (W e) leg end)))
+      (not (is_up end (wire_at (W e).legs leg))) left in
+      left_by_change rules m deeds w new law.once e (allowed_here e here) leg end parts.0
+      (not_up (is_up end (wire_at (W e).legs leg)) parts.1)
+
+  -- ---- the reader of an IN channel stays
+
+  pub same_reader : (e more : List Change) → At (e ++ more) → (n : ℕ)
+      → reader_of (W e).readers n ≢ 0
+      → reader_of (W (e ++ more)).readers n ≡ reader_of (W e).readers n
+  same_reader e more here n some =
+      reader_stays rules m deeds w.company w nothing (traced_first rules m deeds w new) law.once e
+      more (allowed_here (e ++ more) here) n some
