@@ -38,7 +38,7 @@ use Rattle.rh_paths.specs.OnWay.{items_on_way}
 use Rattle.rh_paths.specs.Ways.{AreOnTheirWay, client_node, down_far, down_lost, down_near, out_node, server_node}
 use Rattle.rh_exact_ways.specs.Pdus.{NoneStopsButBehindEnd}
 use Rattle.rh_exact_ways.proofs.Passing.{out_passes, passed_goes}
-use Rattle.rh_exact_paths.specs.Leaving.{AllGoOn, ClientStream, IsFinished, LegsAreLeft, OutStream, co_passed, os_passed}
+use Rattle.rh_exact_paths.specs.Leaving.{AllGoOn, AllLeave, ClientStream, LegsAreLeft, OutStream, co_passed, os_passed}
 use Rattle.rh_exact_paths.proofs.Clients.{passed}
 use Rattle.rh_exact_paths.proofs.Fates.{Facts, goes_or_passed}
 use Rattle.rh_exact_paths.proofs.Fronts.{front_more}
@@ -64,9 +64,7 @@ module _ {K : Type 0} (m : Makers K InProxy OutProxy) (w : OurWorld K) (new : Is
     (works : list_all of_line changes ≡ true)
     (in_time : AllEndInTime rules m deeds w changes)
     (going : AllGoOn (numbers_of ours) (all_noted rules m deeds w nothing changes))
-    (leaves : (e : List Change) → IsPrefix e changes
-    → LegsAreLeft (numbers_of ours) (worlds.W m w new ours node law changes allowed works going e)
-    (worlds.H m w new ours node law changes allowed works going e)) where
+    (leave : AllLeave m w (numbers_of ours) changes) where
   abbrev W : List Change → OurWorld K
   W e = worlds.W m w new ours node law changes allowed works going e
 
@@ -76,6 +74,11 @@ module _ {K : Type 0} (m : Makers K InProxy OutProxy) (w : OurWorld K) (new : Is
   abbrev At : List Change → Type 0
   At e = IsPrefix e changes
 
+  leaves : (e : List Change) → At e → LegsAreLeft (numbers_of ours) (W e) (H e)
+      (server_node (numbers_of ours) (H changes)).role.writing
+  leaves e here =
+      leave.left e here (worlds.all_go m w new ours node law changes allowed works going e here)
+
   ways : (e : List Change) (here : At e) → AreOnTheirWay (numbers_of ours) (W e) (H e)
   ways e here = worlds.ways m w new ours node law changes allowed works going e here
 
@@ -84,7 +87,8 @@ module _ {K : Type 0} (m : Makers K InProxy OutProxy) (w : OurWorld K) (new : Is
 
   -- ---- from the server to an out proxy
 
-  module _ (n : ℕ) (some : 0 < n) where
+  module _ (n : ℕ) (some : 0 < n)
+      (within : n ≤ (server_node (numbers_of ours) (H changes)).role.writing) where
     abbrev NearPassed : List Change → Type 0
     NearPassed e = (s : OutStream (numbers_of ours) (H e) n) → os_passed s n
 
@@ -102,6 +106,14 @@ module _ {K : Type 0} (m : Makers K InProxy OutProxy) (w : OurWorld K) (new : Is
         (out_grown rules m deeds w e more n)
         (worlds.out_growing m w new ours node law changes allowed works going (e ++ more) here n)
         ((ways e front).directions.down.proxies n) passed s
+
+    near_passes : (e : List Change) (here : At e)
+        → is_in_use out_proxy.rules (out_node (numbers_of ours) (H e) n).role (os n) ≡ false
+        → NearPassed e
+    near_passes e here unused s =
+        out_passes node.out_law (ours.out_config n) n (ours.out_number n) ((H e).outs n) s
+        (law.out_echoes (W e)
+        (worlds.by_front m w new ours node law changes allowed works going e here) n s) unused
 
     near_facts : Facts rules m deeds w changes in_time (os n) D (Some OsD) out_proxy.rules
         (λ e. server_node (numbers_of ours) (H e)) (λ e. out_node (numbers_of ours) (H e) n)
@@ -123,14 +135,13 @@ module _ {K : Type 0} (m : Makers K InProxy OutProxy) (w : OurWorld K) (new : Is
           law.live_out (W e)
           (worlds.by_front m w new ours node law changes allowed works going e here) n (os n)
           (worlds.out_goes m w new ours node law changes allowed works going e here n);
-      passes = λ e here up unused s.
-          out_passes node.out_law (ours.out_config n) n (ours.out_number n) ((H e).outs n) s
-          (law.out_echoes (W e)
-          (worlds.by_front m w new ours node law changes allowed works going e here) n s) unused;
+      passes = λ e here up unused. near_passes e here unused;
       finished = λ e here done untold.
-          (leaves e here).os_takes n (record { done = done; untold = untold });
+          near_passes e here
+          (worlds.out_unused m w new ours node law changes allowed works going e here n (os n) done
+          ((leaves e here).os_rises n done) untold);
       put = λ e here done untold unleft.
-          let p = (leaves e here).os_puts n (ways e here).directions.down.giver
+          let p = (leaves e here).os_puts n within (ways e here).directions.down.giver
           (record { done = done; untold = untold }) unleft in
           (p.drawn, p.passed);
       arrives = λ e here kept.
@@ -167,6 +178,16 @@ module _ {K : Type 0} (m : Makers K InProxy OutProxy) (w : OurWorld K) (new : Is
     if_there true items e = refl
     if_there false items e = absurd (true≢false (sym e))
 
+    far_passes : (e : List Change) (here : At e)
+        → came_up (co n) (happened (H e).client) ≡ true
+        → is_in_use client.rules (client_node (numbers_of ours) (H e)).role (co n) ≡ false
+        → FarPassed e
+    far_passes e here rose unused s =
+        passed node.client_order ours.config n has (H e).client s
+        ((node.knows_client ours.config (H e).client (co n)
+        (worlds.client_accepted m w new ours node law changes allowed works going e here)).known
+        rose) unused
+
     far_facts : Facts rules m deeds w changes in_time (co n) D (Some CoD) client.rules
         (λ e. out_node (numbers_of ours) (H e) n) (λ e. client_node (numbers_of ours) (H e))
         down_items (λ e here. (down e here).put n) (λ e here. (down e here).got n) FarPassed
@@ -187,13 +208,12 @@ module _ {K : Type 0} (m : Makers K InProxy OutProxy) (w : OurWorld K) (new : Is
           law.live_client (W e)
           (worlds.by_front m w new ours node law changes allowed works going e here) (co n)
           (worlds.client_goes m w new ours node law changes allowed works going e here);
-      passes = λ e here up unused s.
-          passed node.client_order ours.config n has (H e).client s
-          ((node.knows_client ours.config (H e).client (co n)
-          (worlds.client_accepted m w new ours node law changes allowed works going e here)).known
-          up) unused;
+      passes = λ e here up unused. far_passes e here up unused;
       finished = λ e here done untold.
-          (leaves e here).co_takes n (record { done = done; untold = untold });
+          let rose = (leaves e here).co_rises n done in
+          far_passes e here rose
+          (worlds.client_unused m w new ours node law changes allowed works going e here (co n) done
+          rose untold);
       put = λ e here done untold unleft.
           let proxy = (ways e here).directions.down.proxies n in
           let p = (leaves e here).co_puts n proxy (record { done = done; untold = untold })
@@ -233,16 +253,17 @@ module _ {K : Type 0} (m : Makers K InProxy OutProxy) (w : OurWorld K) (new : Is
         omega (arith, first, from)
 
     near_goes : (n : ℕ) → 0 < n
+        → n ≤ (server_node (numbers_of ours) (H changes)).role.writing
         → stops_at ((down_lost (numbers_of ours) (W changes) (H changes)).near n)
         (r.came (reader r.legs n) n) ≡ false
-    near_goes n some =
+    near_goes n some within =
         by (goes_or_passed rules m deeds w changes in_time (os n) D (Some OsD) out_proxy.rules
         (λ e. server_node (numbers_of ours) (H e)) (λ e. out_node (numbers_of ours) (H e) n)
         from_server (λ e here. (down e here).sent n) (λ e here. (down e here).came n n)
-        (NearPassed n some) (near_facts n some) changes all)
+        (NearPassed n some within) (near_facts n some within) changes all)
       where
         by : ((down_lost (numbers_of ours) (W changes) (H changes)).near n ≡ false)
-            ⊎ NearPassed n some changes
+            ⊎ NearPassed n some within changes
             → stops_at ((down_lost (numbers_of ours) (W changes) (H changes)).near n)
             (r.came (reader r.legs n) n) ≡ false
         by (inl kept) = ap (λ (t : Bool). stops_at t (r.came (reader r.legs n) n)) kept
@@ -273,6 +294,8 @@ module _ {K : Type 0} (m : Makers K InProxy OutProxy) (w : OurWorld K) (new : Is
     pub none_stops_down : NoneStopsButBehindEnd r
         (down_lost (numbers_of ours) (W changes) (H changes))
     none_stops_down = record {
-      near = λ n from within. inl (near_goes n (above n from));
+      near = λ n from within.
+          inl (near_goes n (above n from)
+          (subst (λ (s : Server). n ≤ s.writing) last.directions.down.giver.role within));
       far = λ n from within leg. far_goes n leg;
     }

@@ -94,6 +94,12 @@ same_end readers leg end other e = by leg.kind leg.number end other e
     by InServer n side.Client side.Server e = absurd cc
     by InServer n side.Server side.Client e = absurd cc
 
+abbrev number_of : Who → ℕ
+number_of who.Client = 0
+number_of who.Server = 0
+number_of (who.In k) = k
+number_of (who.Out k) = k
+
 not_both : {A : Type 0} (b : Bool) → b ≡ true → b ≡ false → A
 not_both b e f = absurd (true≢false (sym e ∙ f))
 
@@ -133,29 +139,26 @@ module _ (Left : Leg → Type 0) where
       (is_here (end_node readers leg end) leg (end_node readers other at) other)
       (sym (more (end_node readers other at) other) ∙ up))
     where
-      later : Legs
-      later = legs.raise leg end all
-
       stays : wires.is_up at (wire_at all other) ≡ true
-          → wires.is_up at (wire_at later other) ≡ true
+          → wires.is_up at (wire_at (legs.raise leg end all) other) ≡ true
       stays is = on (cases_leg leg other)
         where
           on : (leg ≡ other) ⊎ (same_leg leg other ≡ false)
-              → wires.is_up at (wire_at later other) ≡ true
+              → wires.is_up at (wire_at (legs.raise leg end all) other) ≡ true
           on (inl same) =
               subst (λ (l : Leg). wires.is_up at (wire_at all l) ≡ true
-              → wires.is_up at (wire_at later l) ≡ true) same
+              → wires.is_up at (wire_at (legs.raise leg end all) l) ≡ true) same
               (λ here. ap (wires.is_up at) (wired.raise_here all leg end)
               ∙ raise_keeps end at (wire_at all leg) here) is
           on (inr apart) = ap (wires.is_up at) (wired.raise_beside all leg end other apart) ∙ is
 
       by : (ups (end_node readers other at) other ≡ true)
           ⊎ (is_here (end_node readers leg end) leg (end_node readers other at) other ≡ true)
-          → (wires.is_up at (wire_at later other) ≡ true) ⊎ Left other
+          → (wires.is_up at (wire_at (legs.raise leg end all) other) ≡ true) ⊎ Left other
       by (inl was) = old (are other at was)
         where
           old : (wires.is_up at (wire_at all other) ≡ true) ⊎ Left other
-              → (wires.is_up at (wire_at later other) ≡ true) ⊎ Left other
+              → (wires.is_up at (wire_at (legs.raise leg end all) other) ≡ true) ⊎ Left other
           old (inl is) = inl (stays is)
           old (inr left) = inr left
       by (inr now) =
@@ -164,8 +167,8 @@ module _ (Left : Leg → Type 0) where
           let same = leg_is leg other parts.0 in
           inl (subst (λ (l : Leg).
           is_same (end_node readers leg end) (end_node readers l at) ≡ true
-          → wires.is_up at (wire_at later l) ≡ true) same
-          (λ here. subst (λ (x : Side). wires.is_up x (wire_at later leg) ≡ true)
+          → wires.is_up at (wire_at (legs.raise leg end all) l) ≡ true) same
+          (λ here. subst (λ (x : Side). wires.is_up x (wire_at (legs.raise leg end all) leg) ≡ true)
           (same_end readers leg end at here)
           (ap (wires.is_up end) (wired.raise_here all leg end)
           ∙ up_raised end (wire_at all leg))) parts.1)
@@ -282,7 +285,7 @@ module _ {K C S I O : Type 0} (r : Rulebook C S I O) (m : Makers K I O) (d : Dee
     quietly : (c : Change) (later : Legs)
         → ((node : Who) (leg : Leg) → up_of r w.company (told_to w c) node leg ≡ false)
         → ((leg : Leg) (end : Side)
-        → wires.is_up end (wire_at later leg) ≡ wires.is_up end (wire_at w.legs leg))
+        → wires.is_up end (wire_at (legs.raise leg end all) leg) ≡ wires.is_up end (wire_at w.legs leg))
         → AreUp Left (ups_of (noted w h c)) later w.readers
     quietly c later none =
         quiet Left (ups_of h) (ups_of (noted w h c)) w.legs later w.readers are (same_ups c none)
@@ -386,12 +389,6 @@ module _ {K C S I O : Type 0} (r : Rulebook C S I O) (m : Makers K I O) (d : Dee
             → reader_of w.readers n ≡ i
         at_end side.Client e = absurd cc
         at_end side.Server e = ap number_of e
-          where
-            number_of : Who → ℕ
-            number_of who.Client = 0
-            number_of who.Server = 0
-            number_of (who.In k) = k
-            number_of (who.Out k) = k
 
         none : ups_of h (who.In i) leg ≡ true → (reader_of w.readers n ≡ 0)
             ⊎ (reader_of w.readers n ≢ 0) → ⊥

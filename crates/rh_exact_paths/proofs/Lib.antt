@@ -3,6 +3,7 @@ mod Told
 mod Left
 mod Grown
 mod Fates
+mod Finished
 mod Later
 mod Shelves
 mod Receivers

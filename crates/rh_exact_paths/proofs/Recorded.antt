@@ -1,5 +1,5 @@
 -- each world of roles that a recording comes to by changes that end legs in time keeps all
-use Rattle.std.proofs.Common.{◌≡◌, arith}
+use Rattle.std.proofs.Common.{◌≡◌}
 use Rattle.rh_history.specs.Histories.{all_noted, nothing}
 use Rattle.rh_world.specs.declared.any_world.AnyWorld.{AnyWorld}
 use Rattle.rh_world.specs.declared.any_world.AnyWorld.TheVariants.{Before, Direct, Settings, Roles}

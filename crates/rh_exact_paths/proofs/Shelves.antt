@@ -40,6 +40,13 @@ passed_more a b e = by (either (has_handover a) (has_end a) e)
     by (inr ended) =
         or_second (has_handover (a ++ b)) (has_end (a ++ b)) (end_more a b ended)
 
+strictly : (a b : ℕ) → a ≤ b → b ≢ a → a < b
+strictly a b within apart = by (cases_lt a b)
+  where
+    by : (a < b) ⊎ (b ≤ a) → a < b
+    by (inl less) = less
+    by (inr back) = absurd (apart (omega (arith, within, back)))
+
 -- ---- two logs of what came to the same shelves
 
 module _ (s : Shelves) (legs other_legs : ℕ → Bool) (out other_out : List (List ℕ))
@@ -58,13 +65,13 @@ module _ (s : Shelves) (legs other_legs : ℕ → Bool) (out other_out : List (L
             ap (λ (k : ℕ). has_end (came k)) now ∙ sym a.holds.ended ∙ b.holds.ended
             ∙ ap (λ (k : ℕ). has_end (other k)) (sym now)
         by (inr apart) (inl inside) d =
-            let within : s.current < n = omega (arith, from, apart) in
+            let within : s.current < n = strictly s.current n from apart in
             ap has_end ((a.between n within inside).1 ∙ sym (b.between n within inside).1)
         by (inr apart) (inr past) (inl next) =
             ap (λ (k : ℕ). has_end (came k)) next ∙ sym a.holds.next_ended ∙ b.holds.next_ended
             ∙ ap (λ (k : ℕ). has_end (other k)) (sym next)
         by (inr apart) (inr past) (inr beyond) =
-            let behind : s.following < n = omega (arith, past, beyond) in
+            let behind : s.following < n = strictly s.following n past beyond in
             sym (a.later n behind).1 ∙ (b.later n behind).1
 
     pub passed_as : (n : ℕ) → legs n ≡ true → other_legs n ≡ true
@@ -89,12 +96,12 @@ module _ (s : Shelves) (legs other_legs : ℕ → Bool) (out other_out : List (L
             ∙ b.holds.finished ∙ ap (λ (k : ℕ). has_handover (other k)) (sym now)) from
         by (inr from) (inr apart) (inl inside) e =
             absurd (true≢false (sym leg
-            ∙ (a.between n (omega (arith, from, apart)) inside).0))
+            ∙ (a.between n (strictly s.current n from apart) inside).0))
         by (inr from) (inr apart) (inr past) (inl next) =
             both (ap (λ (k : ℕ). has_handover (came k)) next ∙ sym a.holds.next_finished
             ∙ b.holds.next_finished ∙ ap (λ (k : ℕ). has_handover (other k)) (sym next)) from
         by (inr from) (inr apart) (inr past) (inr beyond) =
-            let behind : s.following < n = omega (arith, past, beyond) in
+            let behind : s.following < n = strictly s.following n past beyond in
             both (a.unfinished n behind ∙ sym (b.unfinished n behind)) from
 
     -- and END on a channel below one that is not behind

@@ -55,7 +55,7 @@ use Rattle.rh_paths.specs.Ways.{AreOnTheirWay, client_node, in_node, server_node
 use Rattle.rh_exact_ways.specs.Pdus.{IsBehindEnd, NoneStopsButBehindEnd}
 use Rattle.rh_exact_ways.proofs.Passing.{in_passes, passed_goes, server_passes}
 use Rattle.rh_exact_ways.proofs.ReadBy.{read_by}
-use Rattle.rh_exact_paths.specs.Leaving.{AllGoOn, InStream, LegsAreLeft, ServerStream, ci_passed, is_passed}
+use Rattle.rh_exact_paths.specs.Leaving.{AllGoOn, AllLeave, InStream, LegsAreLeft, ServerStream, ci_passed, is_passed}
 use Rattle.rh_exact_paths.proofs.Fates.{Facts, goes_or_passed, never_lost}
 use Rattle.rh_exact_paths.proofs.Fronts.{front_more}
 use Rattle.rh_exact_paths.proofs.Grown.{in_grown, server_grown}
@@ -81,9 +81,7 @@ module _ {K : Type 0} (m : Makers K InProxy OutProxy) (w : OurWorld K) (new : Is
     (works : list_all of_line changes ≡ true)
     (in_time : AllEndInTime rules m deeds w changes)
     (going : AllGoOn (numbers_of ours) (all_noted rules m deeds w nothing changes))
-    (leaves : (e : List Change) → IsPrefix e changes
-    → LegsAreLeft (numbers_of ours) (worlds.W m w new ours node law changes allowed works going e)
-    (worlds.H m w new ours node law changes allowed works going e)) where
+    (leave : AllLeave m w (numbers_of ours) changes) where
   abbrev W : List Change → OurWorld K
   W e = worlds.W m w new ours node law changes allowed works going e
 
@@ -92,6 +90,11 @@ module _ {K : Type 0} (m : Makers K InProxy OutProxy) (w : OurWorld K) (new : Is
 
   abbrev At : List Change → Type 0
   At e = IsPrefix e changes
+
+  leaves : (e : List Change) → At e → LegsAreLeft (numbers_of ours) (W e) (H e)
+      (server_node (numbers_of ours) (H changes)).role.writing
+  leaves e here =
+      leave.left e here (worlds.all_go m w new ours node law changes allowed works going e here)
 
   ways : (e : List Change) (here : At e) → AreOnTheirWay (numbers_of ours) (W e) (H e)
   ways e here = worlds.ways m w new ours node law changes allowed works going e here
@@ -111,10 +114,10 @@ module _ {K : Type 0} (m : Makers K InProxy OutProxy) (w : OurWorld K) (new : Is
     is_from : (e : List Change) (here : At e) → reads e ≢ 0
         → from_first (ours.in_config (reads e)).number n ≡ true
     is_from e here read =
-        let below =
+        let at_most =
         ((worlds.known m w new ours node law changes allowed works going e here).read.each n
         read).below in
-        ap (λ (k : ℕ). from_first k n) (ours.in_number (reads e)) ∙ tested (reads e) below
+        ap (λ (k : ℕ). from_first k n) (ours.in_number (reads e)) ∙ tested (reads e) at_most
       where
         tested : (k : ℕ) → k ≤ n → from_first k n ≡ true
         tested k within = grind (arith, nat_tests)
@@ -186,6 +189,28 @@ module _ {K : Type 0} (m : Makers K InProxy OutProxy) (w : OurWorld K) (new : Is
             (none_came (H e) (reads e) s
             (ap (H e).ins zero_is ∙ readers.unmade 0 readers.none))
 
+    near_passes : (e : List Change) (here : At e)
+        → came_up (ci n) ((H e).ins (reads e)) ≡ true
+        → is_in_use in_proxy.rules (in_node (numbers_of ours) (H e) (reads e)).role (ci n)
+        ≡ false
+        → NearPassed e
+    near_passes e here rose unused s =
+        both (in_passes node.in_law (ours.in_config (reads e)) n ((H e).ins (reads e)) s
+        (law.in_echoes (W e)
+        (worlds.by_front m w new ours node law changes allowed works going e here) (reads e) s)
+        ((node.knows_in (ours.in_config (reads e)) ((H e).ins (reads e)) (ci n)
+        (worlds.in_accepted m w new ours node law changes allowed works going e here
+        (reads e))).known rose) unused)
+      where
+        both : (has_passed (in_order.came_log s.passage.came n) ≡ true)
+            ⊎ (has_end (below (in_order.came_log s.passage.came) n) ≡ true) → ci_passed s n
+        both (inl e) =
+            or_first (has_passed (in_order.came_log s.passage.came n))
+            (has_end (below (in_order.came_log s.passage.came) n)) e
+        both (inr e) =
+            or_second (has_passed (in_order.came_log s.passage.came n))
+            (has_end (below (in_order.came_log s.passage.came) n)) e
+
     near_facts : Facts rules m deeds w changes in_time (ci n) U (Some CiU) in_proxy.rules
         (λ e. client_node (numbers_of ours) (H e))
         (λ e. in_node (numbers_of ours) (H e) (reads e)) item_came
@@ -211,17 +236,12 @@ module _ {K : Type 0} (m : Makers K InProxy OutProxy) (w : OurWorld K) (new : Is
           (worlds.by_front m w new ours node law changes allowed works going e here) (reads e)
           (ci n)
           (worlds.in_goes m w new ours node law changes allowed works going e here (reads e));
-      passes = λ e here rose unused s.
-          both (has_passed (in_order.came_log s.passage.came n))
-          (has_end (below (in_order.came_log s.passage.came) n))
-          (in_passes node.in_law (ours.in_config (reads e)) n ((H e).ins (reads e)) s
-          (law.in_echoes (W e)
-          (worlds.by_front m w new ours node law changes allowed works going e here) (reads e) s)
-          ((node.knows_in (ours.in_config (reads e)) ((H e).ins (reads e)) (ci n)
-          (worlds.in_accepted m w new ours node law changes allowed works going e here
-          (reads e))).known rose) unused);
+      passes = λ e here rose unused. near_passes e here rose unused;
       finished = λ e here done untold.
-          (leaves e here).ci_takes n (record { done = done; untold = untold });
+          let rose = (leaves e here).ci_rises n done in
+          near_passes e here rose
+          (worlds.in_unused m w new ours node law changes allowed works going e here (reads e)
+          (ci n) done rose untold);
       put = λ e here done untold unleft.
           let p = (leaves e here).ci_puts n (ways e here).directions.up.giver
           (record { done = done; untold = untold }) unleft in
@@ -246,273 +266,269 @@ module _ {K : Type 0} (m : Makers K InProxy OutProxy) (w : OurWorld K) (new : Is
           (subst (λ (k : ℕ). has_passed ((up e here).came k n) ≡ true) same passed)) t;
       stays = near_stays;
     }
-      where
-        both : (a b : Bool) → (a ≡ true) ⊎ (b ≡ true) → (a || b) ≡ true
-        both a b (inl e) = or_first a b e
-        both a b (inr e) = or_second a b e
 
   -- ---- and from an in proxy that was made to the server
 
-  module _ (joined : (e : List Change) → At e → (n : ℕ) → is_made (W changes).company n ≡ true
-      → company.finished rules (W e).company who.Server (is n) ≡ true
-      → came_up (is n) (happened (H e).server) ≡ true) where
-    module _ (n : ℕ) (some : 0 < n) (made : is_made (W changes).company n ≡ true) where
-      record FarPassed (e : List Change) : Type 0 where
-        rose : came_up (is n) (happened (H e).server) ≡ true
-        passed : (s : ServerStream (numbers_of ours) (H e)) → is_passed s n
+  module _ (n : ℕ) (some : 0 < n) (made : is_made (W changes).company n ≡ true) where
+    record FarPassed (e : List Change) : Type 0 where
+      rose : came_up (is n) (happened (H e).server) ≡ true
+      passed : (s : ServerStream (numbers_of ours) (H e)) → is_passed s n
 
-      -- it has a leg of its own at each front
-      has_one : (e : List Change) → At e → has_leg (reader_of (W e).readers) n ≡ true
-      has_one e here = by (cases_eq (reader_of (W e).readers n) 0)
-        where
-          last : reader_of (W changes).readers n ≡ n
-          last =
-              (worlds.order m w new ours node law changes allowed works going changes
-              (prefix_self changes)).own n made
+    -- it has a leg of its own at each front
+    has_one : (e : List Change) → At e → has_leg (reader_of (W e).readers) n ≡ true
+    has_one e here = by (cases_eq (reader_of (W e).readers n) 0)
+      where
+        last : reader_of (W changes).readers n ≡ n
+        last =
+            (worlds.order m w new ours node law changes allowed works going changes
+            (prefix_self changes)).own n made
 
-          tested : (k : ℕ) → (k ≡ n) ⊎ (k ≡ 0) → (nat_lt 0 n && (k == n || k == 0)) ≡ true
-          tested k (inl is) =
-              ap (λ (t : Bool). t && (k == n || k == 0)) (lt-ltb 0 n some)
-              ∙ or_first (k == n) (k == 0) (eq-eqb k n is)
-          tested k (inr is) =
-              ap (λ (t : Bool). t && (k == n || k == 0)) (lt-ltb 0 n some)
-              ∙ or_second (k == n) (k == 0) (eq-eqb k 0 is)
+        tested : (k : ℕ) → (k ≡ n) ⊎ (k ≡ 0) → (nat_lt 0 n && (k == n || k == 0)) ≡ true
+        tested k (inl same) =
+            ap (λ (t : Bool). t && (k == n || k == 0)) (lt-ltb 0 n some)
+            ∙ or_first (k == n) (k == 0) (eq-eqb k n same)
+        tested k (inr none) =
+            ap (λ (t : Bool). t && (k == n || k == 0)) (lt-ltb 0 n some)
+            ∙ or_second (k == n) (k == 0) (eq-eqb k 0 none)
 
-          by : (reader_of (W e).readers n ≡ 0) ⊎ (reader_of (W e).readers n ≢ 0)
-              → has_leg (reader_of (W e).readers) n ≡ true
-          by (inl none) = tested (reader_of (W e).readers n) (inr none)
-          by (inr read) =
-              tested (reader_of (W e).readers n)
-              (inl (sym (worlds.same_reader m w new ours node law changes allowed works going e
-              here.0 (subst At (sym here.1) (prefix_self changes)) n read)
-              ∙ ap (λ (cs : List Change). reader_of (W cs).readers n) here.1 ∙ last))
+        by : (reader_of (W e).readers n ≡ 0) ⊎ (reader_of (W e).readers n ≢ 0)
+            → has_leg (reader_of (W e).readers) n ≡ true
+        by (inl none) = tested (reader_of (W e).readers n) (inr none)
+        by (inr read) =
+            tested (reader_of (W e).readers n)
+            (inl (sym (worlds.same_reader m w new ours node law changes allowed works going e
+            here.0 (subst At (sym here.1) (prefix_self changes)) n read)
+            ∙ ap (λ (cs : List Change). reader_of (W cs).readers n) here.1 ∙ last))
 
-      rose_later : (e more : List Change) → came_up (is n) (happened (H e).server) ≡ true
-          → came_up (is n) (happened (H (e ++ more)).server) ≡ true
-      rose_later e more rose =
-          let p = server_grown rules m deeds w e more in
-          subst (λ (events : List EndEvent). came_up (is n) (happened events) ≡ true) p.1
-          (ap (came_up (is n)) (happened_append (H e).server p.0)
-          ∙ came_append (is n) (happened (H e).server) (happened p.0)
-          ∙ or_first (came_up (is n) (happened (H e).server)) (came_up (is n) (happened p.0)) rose)
+    rose_later : (e more : List Change) → came_up (is n) (happened (H e).server) ≡ true
+        → came_up (is n) (happened (H (e ++ more)).server) ≡ true
+    rose_later e more rose =
+        let p = server_grown rules m deeds w e more in
+        subst (λ (events : List EndEvent). came_up (is n) (happened events) ≡ true) p.1
+        (ap (came_up (is n)) (happened_append (H e).server p.0)
+        ∙ came_append (is n) (happened (H e).server) (happened p.0)
+        ∙ or_first (came_up (is n) (happened (H e).server)) (came_up (is n) (happened p.0)) rose)
 
-      far_later : (e more : List Change) (here : At (e ++ more))
-          → came_up (is n) (happened (H e).server) ≡ true
-          → (s : ServerStream (numbers_of ours) (H e)) → is_passed s n → FarPassed (e ++ more)
-      far_later e more here rose s passed = record {
-        rose = rose_later e more rose;
-        passed = server_later node.server_order ours.window n (H e).server (H (e ++ more)).server
-            rose (rose_later e more rose) (server_grown rules m deeds w e more)
-            (worlds.server_growing m w new ours node law changes allowed works going (e ++ more)
-            here) s passed;
-      }
+    far_later : (e more : List Change) (here : At (e ++ more))
+        → came_up (is n) (happened (H e).server) ≡ true
+        → (s : ServerStream (numbers_of ours) (H e)) → is_passed s n → FarPassed (e ++ more)
+    far_later e more here rose s passed = record {
+      rose = rose_later e more rose;
+      passed = server_later node.server_order ours.window n (H e).server (H (e ++ more)).server
+          rose (rose_later e more rose) (server_grown rules m deeds w e more)
+          (worlds.server_growing m w new ours node law changes allowed works going (e ++ more)
+          here) s passed;
+    }
 
-      -- what came came behind the leg's coming up
-      got_rose : (e : List Change) (here : At e) → has_passed ((up e here).got n) ≡ true
-          → came_up (is n) (happened (H e).server) ≡ true
-      got_rose e here passed = by (cases_Bool (came_up (is n) (happened (H e).server)))
-        where
-          none : came_up (is n) (happened (H e).server) ≡ false → (up e here).got n ≡ []
-          none down =
-              let s = (ways e here).directions.up.taker in
-              let traced = (worlds.known m w new ours node law changes allowed works going e
-              here).traced in
-              let unheard : heard_on (is n) (happened (H e).server) ≡ [] =
-              traced.heard.server (is n) ∙ (traced.carried.idle who.Server (is n) down).1 in
-              let read = s.read (is n) in
-              server_came s.passage.passage.came n
-              ∙ ap (seen in_items) (nil_front (of_leg (is n) s.passage.passage.came) read.0
-              (read.1 ∙ ap (messages_read (server_reads (is n))) unheard))
+    -- what came came behind the leg's coming up
+    got_rose : (e : List Change) (here : At e) → has_passed ((up e here).got n) ≡ true
+        → came_up (is n) (happened (H e).server) ≡ true
+    got_rose e here passed = by (cases_Bool (came_up (is n) (happened (H e).server)))
+      where
+        none : came_up (is n) (happened (H e).server) ≡ false → (up e here).got n ≡ []
+        none down =
+            let s = (ways e here).directions.up.taker in
+            let traced = (worlds.known m w new ours node law changes allowed works going e
+            here).traced in
+            let unheard : heard_on (is n) (happened (H e).server) ≡ [] =
+            traced.heard.server (is n) ∙ (traced.carried.idle who.Server (is n) down).1 in
+            let read = s.read (is n) in
+            server_came s.passage.passage.came n
+            ∙ ap (seen in_items) (nil_front (of_leg (is n) s.passage.passage.came) read.0
+            (read.1 ∙ ap (messages_read (server_reads (is n))) unheard))
 
-          by : (came_up (is n) (happened (H e).server) ≡ true)
-              ⊎ (came_up (is n) (happened (H e).server) ≡ false)
-              → came_up (is n) (happened (H e).server) ≡ true
-          by (inl rose) = rose
-          by (inr down) = absurd (true≢false (sym passed ∙ ap has_passed (none down)))
+        by : (came_up (is n) (happened (H e).server) ≡ true)
+            ⊎ (came_up (is n) (happened (H e).server) ≡ false)
+            → came_up (is n) (happened (H e).server) ≡ true
+        by (inl rose) = rose
+        by (inr down) = absurd (true≢false (sym passed ∙ ap has_passed (none down)))
 
-      far_facts : Facts rules m deeds w changes in_time (is n) U (Some IsU) server.rules
-          (λ e. in_node (numbers_of ours) (H e) n) (λ e. server_node (numbers_of ours) (H e))
-          in_items (λ e here. (up e here).put n) (λ e here. (up e here).got n) FarPassed
-      far_facts = record {
-        puts_on = λ e here.
-            worlds.in_goes m w new ours node law changes allowed works going e here n;
-        takes_on = worlds.server_goes m w new ours node law changes allowed works going;
-        told = worlds.told_ends m w new ours node law changes allowed works going (is n);
-        left = worlds.left_ends m w new ours node law changes allowed works going (is n);
-        kept = λ e here rose untold.
-            node.keeps_server ours.window (H e).server (is n)
-            (worlds.server_accepted m w new ours node law changes allowed works going e here) rose
-            untold (worlds.server_goes m w new ours node law changes allowed works going e here);
-        absent = λ e here.
-            (node.knows_server ours.window (H e).server (is n)
-            (worlds.server_accepted m w new ours node law changes allowed works going e
-            here)).absent;
-        live = λ e here.
-            law.live_server (W e)
-            (worlds.by_front m w new ours node law changes allowed works going e here) (is n)
-            (worlds.server_goes m w new ours node law changes allowed works going e here);
-        passes = λ e here rose unused. record {
-          rose = rose;
-          passed = λ s.
-              server_passes node.server_law ours.window n server_reads (H e).server s rose unused;
-        };
-        finished = λ e here done untold.
-            let rose = joined e here n made done in
-            record {
-              rose = rose;
-              passed =
-                  (leaves e here).is_takes n (record { done = done; untold = untold }) rose;
-            };
-        put = λ e here done untold unleft.
-            let proxy = (ways e here).directions.up.proxies n in
-            let p = (leaves e here).is_puts n proxy (record { done = done; untold = untold })
-            unleft in (
-              p.drawn,
-              ap has_passed (if_there (has_leg (reader_of (W e).readers) n)
-                  (put_items proxy.passage.put) (has_one e here)) ∙ p.passed,
-            );
-        arrives = λ e here kept.
-            (ways e here).up.arrives.far n kept
-            ∙ ap (λ (items : List Item). (up e here).got n ++ items)
-            (if_there (has_leg (reader_of (W e).readers) n)
-            (items_on_way in_items (up_far (numbers_of ours) (W e) (H e) n)) (has_one e here));
-        came_is = λ e here passed.
-            let rose = got_rose e here passed in
-            record {
-              rose = rose;
-              passed = server_later node.server_order ours.window n (H e).server (H e).server rose
-                  rose (prefix_self (H e).server)
-                  (worlds.server_growing m w new ours node law changes allowed works going e here)
-                  (ways e here).directions.up.taker passed;
-            };
-        stays = λ e more here done.
-            far_later e more here done.rose
-            (ways e (front_more e more changes here)).directions.up.taker
-            (done.passed (ways e (front_more e more changes here)).directions.up.taker);
-      }
+    far_facts : Facts rules m deeds w changes in_time (is n) U (Some IsU) server.rules
+        (λ e. in_node (numbers_of ours) (H e) n) (λ e. server_node (numbers_of ours) (H e))
+        in_items (λ e here. (up e here).put n) (λ e here. (up e here).got n) FarPassed
+    far_facts = record {
+      puts_on = λ e here.
+          worlds.in_goes m w new ours node law changes allowed works going e here n;
+      takes_on = worlds.server_goes m w new ours node law changes allowed works going;
+      told = worlds.told_ends m w new ours node law changes allowed works going (is n);
+      left = worlds.left_ends m w new ours node law changes allowed works going (is n);
+      kept = λ e here rose untold.
+          node.keeps_server ours.window (H e).server (is n)
+          (worlds.server_accepted m w new ours node law changes allowed works going e here) rose
+          untold (worlds.server_goes m w new ours node law changes allowed works going e here);
+      absent = λ e here.
+          (node.knows_server ours.window (H e).server (is n)
+          (worlds.server_accepted m w new ours node law changes allowed works going e
+          here)).absent;
+      live = λ e here.
+          law.live_server (W e)
+          (worlds.by_front m w new ours node law changes allowed works going e here) (is n)
+          (worlds.server_goes m w new ours node law changes allowed works going e here);
+      passes = λ e here rose unused. record {
+        rose = rose;
+        passed = λ s.
+            server_passes node.server_law ours.window n server_reads (H e).server s rose unused;
+      };
+      finished = λ e here done untold.
+          let rose = leave.joined e here
+          (worlds.all_go m w new ours node law changes allowed works going e here) n made done in
+          record {
+            rose = rose;
+            passed = λ s.
+                server_passes node.server_law ours.window n server_reads (H e).server s rose
+                (worlds.server_unused m w new ours node law changes allowed works going e here
+                (is n) done rose untold);
+          };
+      put = λ e here done untold unleft.
+          let proxy = (ways e here).directions.up.proxies n in
+          let p = (leaves e here).is_puts n proxy (record { done = done; untold = untold })
+          unleft in (
+            p.drawn,
+            ap has_passed (if_there (has_leg (reader_of (W e).readers) n)
+                (put_items proxy.passage.put) (has_one e here)) ∙ p.passed,
+          );
+      arrives = λ e here kept.
+          (ways e here).up.arrives.far n kept
+          ∙ ap (λ (items : List Item). (up e here).got n ++ items)
+          (if_there (has_leg (reader_of (W e).readers) n)
+          (items_on_way in_items (up_far (numbers_of ours) (W e) (H e) n)) (has_one e here));
+      came_is = λ e here passed.
+          let rose = got_rose e here passed in
+          record {
+            rose = rose;
+            passed = server_later node.server_order ours.window n (H e).server (H e).server rose
+                rose (prefix_self (H e).server)
+                (worlds.server_growing m w new ours node law changes allowed works going e here)
+                (ways e here).directions.up.taker passed;
+          };
+      stays = λ e more here done.
+          far_later e more here done.rose
+          (ways e (front_more e more changes here)).directions.up.taker
+          (done.passed (ways e (front_more e more changes here)).directions.up.taker);
+    }
 
-    -- ---- so no leg stops the way
+  -- ---- so no leg stops the way
 
-    module _ (last : AreOnTheirWay (numbers_of ours) (W changes) (H changes)) where
-      abbrev r : Route
-      r = up_route_of last.directions
+  module _ (last : AreOnTheirWay (numbers_of ours) (W changes) (H changes)) where
+    abbrev r : Route
+    r = up_route_of last.directions
 
-      all : At changes
-      all = prefix_self changes
+    all : At changes
+    all = prefix_self changes
 
-      above : (n : ℕ) → r.taker.shelves.current ≤ n → 0 < n
-      above n from =
-          let first = above_zero (reader_of (W changes).readers) r.taker.shelves.current
-          (up_is_route node.routes last.directions).numbered.here in
-          omega (arith, first, from)
+    above : (n : ℕ) → r.taker.shelves.current ≤ n → 0 < n
+    above n from =
+        let first = above_zero (reader_of (W changes).readers) r.taker.shelves.current
+        (up_is_route node.routes last.directions).numbered.here in
+        omega (arith, first, from)
 
-      near_goes : (n : ℕ) → 0 < n
-          → (stops_at ((up_lost (numbers_of ours) (W changes) (H changes)).near n)
-          (r.came (reader r.legs n) n) ≡ false) ⊎ IsBehindEnd r n
-      near_goes n some =
-          by (goes_or_passed rules m deeds w changes in_time (ci n) U (Some CiU) in_proxy.rules
-          (λ e. client_node (numbers_of ours) (H e))
-          (λ e. in_node (numbers_of ours) (H e) (reader_of (W e).readers n)) item_came
-          (λ e here. (up e here).sent n)
-          (λ e here. (up e here).came (reader (up e here).legs n) n) (NearPassed n some)
-          (near_facts n some) changes all)
-        where
-          read : NearPassed n some changes → reader_of (W changes).readers n ≢ 0
-          read done zero_is =
-              let readers = last.directions.up.readers in
-              let s = last.directions.up.proxies (reader_of (W changes).readers n) in
-              not_both (in_passed s.passage.came n) (done s)
-              (none_came n some (H changes) (reader_of (W changes).readers n) s
-              (ap (H changes).ins zero_is ∙ readers.unmade 0 readers.none))
+    near_goes : (n : ℕ) → 0 < n
+        → (stops_at ((up_lost (numbers_of ours) (W changes) (H changes)).near n)
+        (r.came (reader r.legs n) n) ≡ false) ⊎ IsBehindEnd r n
+    near_goes n some =
+        by (goes_or_passed rules m deeds w changes in_time (ci n) U (Some CiU) in_proxy.rules
+        (λ e. client_node (numbers_of ours) (H e))
+        (λ e. in_node (numbers_of ours) (H e) (reader_of (W e).readers n)) item_came
+        (λ e here. (up e here).sent n)
+        (λ e here. (up e here).came (reader (up e here).legs n) n) (NearPassed n some)
+        (near_facts n some) changes all)
+      where
+        read : NearPassed n some changes → reader_of (W changes).readers n ≢ 0
+        read done zero_is =
+            let readers = last.directions.up.readers in
+            let s = last.directions.up.proxies (reader_of (W changes).readers n) in
+            not_both (in_passed s.passage.came n) (done s)
+            (none_came n some (H changes) (reader_of (W changes).readers n) s
+            (ap (H changes).ins zero_is ∙ readers.unmade 0 readers.none))
 
-          same : NearPassed n some changes
-              → reader r.legs n ≡ reader_of (W changes).readers n
-          same done =
-              read_by (W changes).readers (is_made (W changes).company)
-              (worlds.known m w new ours node law changes allowed works going changes all).read n
-              (read done)
+        same : NearPassed n some changes
+            → reader r.legs n ≡ reader_of (W changes).readers n
+        same done =
+            read_by (W changes).readers (is_made (W changes).company)
+            (worlds.known m w new ours node law changes allowed works going changes all).read n
+            (read done)
 
-          passed : NearPassed n some changes
-              → (has_passed (r.came (reader_of (W changes).readers n) n) ≡ true)
-              ⊎ (has_end (below (r.came (reader_of (W changes).readers n)) n) ≡ true)
-              → (stops_at ((up_lost (numbers_of ours) (W changes) (H changes)).near n)
-              (r.came (reader r.legs n) n) ≡ false) ⊎ IsBehindEnd r n
-          passed done (inl here) =
-              inl (passed_goes ((up_lost (numbers_of ours) (W changes) (H changes)).near n)
-              (r.came (reader r.legs n) n)
-              (subst (λ (k : ℕ). has_passed (r.came k n) ≡ true) (sym (same done)) here))
-          passed done (inr ended) =
-              inr (subst (λ (k : ℕ). has_end (below (r.came k) n) ≡ true) (sym (same done)) ended)
+        passed : NearPassed n some changes
+            → (has_passed (r.came (reader_of (W changes).readers n) n) ≡ true)
+            ⊎ (has_end (below (r.came (reader_of (W changes).readers n)) n) ≡ true)
+            → (stops_at ((up_lost (numbers_of ours) (W changes) (H changes)).near n)
+            (r.came (reader r.legs n) n) ≡ false) ⊎ IsBehindEnd r n
+        passed done (inl here) =
+            inl (passed_goes ((up_lost (numbers_of ours) (W changes) (H changes)).near n)
+            (r.came (reader r.legs n) n)
+            (subst (λ (k : ℕ). has_passed (r.came k n) ≡ true) (sym (same done)) here))
+        passed done (inr ended) =
+            inr (subst (λ (k : ℕ). has_end (below (r.came k) n) ≡ true) (sym (same done)) ended)
 
-          by : ((up_lost (numbers_of ours) (W changes) (H changes)).near n ≡ false)
-              ⊎ NearPassed n some changes
-              → (stops_at ((up_lost (numbers_of ours) (W changes) (H changes)).near n)
-              (r.came (reader r.legs n) n) ≡ false) ⊎ IsBehindEnd r n
-          by (inl kept) =
-              inl (ap (λ (t : Bool). stops_at t (r.came (reader r.legs n) n)) kept)
-          by (inr done) =
-              let s = last.directions.up.proxies (reader_of (W changes).readers n) in
-              passed done (either (has_passed (in_order.came_log s.passage.came n))
-              (has_end (below (in_order.came_log s.passage.came) n)) (done s))
+        by : ((up_lost (numbers_of ours) (W changes) (H changes)).near n ≡ false)
+            ⊎ NearPassed n some changes
+            → (stops_at ((up_lost (numbers_of ours) (W changes) (H changes)).near n)
+            (r.came (reader r.legs n) n) ≡ false) ⊎ IsBehindEnd r n
+        by (inl kept) =
+            inl (ap (λ (t : Bool). stops_at t (r.came (reader r.legs n) n)) kept)
+        by (inr done) =
+            let s = last.directions.up.proxies (reader_of (W changes).readers n) in
+            passed done (either (has_passed (in_order.came_log s.passage.came n))
+            (has_end (below (in_order.came_log s.passage.came) n)) (done s))
 
-      -- where the in proxy was never made the leg never came up
-      unmade_goes : (n : ℕ) → is_made (W changes).company n ≡ false
-          → is_lost (up_far (numbers_of ours) (W changes) (H changes) n) ≡ false
-      unmade_goes n unmade =
-          never_lost (W changes) (H changes) (is n) U (Some IsU)
-          (in_node (numbers_of ours) (H changes) n) server.rules
-          (server_node (numbers_of ours) (H changes)) (going.ins n) going.server here there
-          ((node.knows_server ours.window (H changes).server (is n)
-          (worlds.server_accepted m w new ours node law changes allowed works going changes
-          all)).absent there)
-        where
-          here : was_up (W changes) (H changes) (is n) side.Client ≡ false
-          here =
-              ap (came_up (is n)) ((worlds.order m w new ours node law changes allowed works going
-              changes all).unmade n unmade)
+    -- where the in proxy was never made the leg never came up
+    unmade_goes : (n : ℕ) → is_made (W changes).company n ≡ false
+        → is_lost (up_far (numbers_of ours) (W changes) (H changes) n) ≡ false
+    unmade_goes n unmade =
+        never_lost (W changes) (H changes) (is n) U (Some IsU)
+        (in_node (numbers_of ours) (H changes) n) server.rules
+        (server_node (numbers_of ours) (H changes)) (going.ins n) going.server here there
+        ((node.knows_server ours.window (H changes).server (is n)
+        (worlds.server_accepted m w new ours node law changes allowed works going changes
+        all)).absent there)
+      where
+        here : was_up (W changes) (H changes) (is n) side.Client ≡ false
+        here =
+            ap (came_up (is n)) ((worlds.order m w new ours node law changes allowed works going
+            changes all).unmade n unmade)
 
-          there : was_up (W changes) (H changes) (is n) side.Server ≡ false
-          there = by (cases_Bool (came_up (is n) (happened (H changes).server)))
-            where
-              by : (came_up (is n) (happened (H changes).server) ≡ true)
-                  ⊎ (came_up (is n) (happened (H changes).server) ≡ false)
-                  → came_up (is n) (happened (H changes).server) ≡ false
-              by (inl rose) =
-                  not_both (is_made (W changes).company n)
-                  ((worlds.led m w new ours node law changes allowed works going changes
-                  all).joined n rose) unmade
-              by (inr down) = down
+        there : was_up (W changes) (H changes) (is n) side.Server ≡ false
+        there = by (cases_Bool (came_up (is n) (happened (H changes).server)))
+          where
+            by : (came_up (is n) (happened (H changes).server) ≡ true)
+                ⊎ (came_up (is n) (happened (H changes).server) ≡ false)
+                → came_up (is n) (happened (H changes).server) ≡ false
+            by (inl rose) =
+                not_both (is_made (W changes).company n)
+                ((worlds.led m w new ours node law changes allowed works going changes
+                all).joined n rose) unmade
+            by (inr down) = down
 
-      far_goes : (n : ℕ) → 0 < n
-          → stops_at ((up_lost (numbers_of ours) (W changes) (H changes)).far n) (r.got n)
-          ≡ false
-      far_goes n some = by (is_made (W changes).company n) refl
-        where
-          of_made : (made : is_made (W changes).company n ≡ true)
-              → ((up_lost (numbers_of ours) (W changes) (H changes)).far n ≡ false)
-              ⊎ FarPassed n some made changes
-              → stops_at ((up_lost (numbers_of ours) (W changes) (H changes)).far n) (r.got n)
-              ≡ false
-          of_made made (inl kept) = ap (λ (t : Bool). stops_at t (r.got n)) kept
-          of_made made (inr done) =
-              passed_goes ((up_lost (numbers_of ours) (W changes) (H changes)).far n) (r.got n)
-              (done.passed last.directions.up.taker)
+    far_goes : (n : ℕ) → 0 < n
+        → stops_at ((up_lost (numbers_of ours) (W changes) (H changes)).far n) (r.got n)
+        ≡ false
+    far_goes n some = by (is_made (W changes).company n) refl
+      where
+        of_made : (made : is_made (W changes).company n ≡ true)
+            → ((up_lost (numbers_of ours) (W changes) (H changes)).far n ≡ false)
+            ⊎ FarPassed n some made changes
+            → stops_at ((up_lost (numbers_of ours) (W changes) (H changes)).far n) (r.got n)
+            ≡ false
+        of_made made (inl kept) = ap (λ (t : Bool). stops_at t (r.got n)) kept
+        of_made made (inr done) =
+            passed_goes ((up_lost (numbers_of ours) (W changes) (H changes)).far n) (r.got n)
+            (done.passed last.directions.up.taker)
 
-          by : (b : Bool) → is_made (W changes).company n ≡ b
-              → stops_at ((up_lost (numbers_of ours) (W changes) (H changes)).far n) (r.got n)
-              ≡ false
-          by true made =
-              of_made made (goes_or_passed rules m deeds w changes in_time (is n) U (Some IsU)
-              server.rules (λ e. in_node (numbers_of ours) (H e) n)
-              (λ e. server_node (numbers_of ours) (H e)) in_items
-              (λ e here. (up e here).put n) (λ e here. (up e here).got n)
-              (FarPassed n some made) (far_facts n some made) changes all)
-          by false unmade =
-              ap (λ (t : Bool). stops_at t (r.got n)) (unmade_goes n unmade)
+        by : (b : Bool) → is_made (W changes).company n ≡ b
+            → stops_at ((up_lost (numbers_of ours) (W changes) (H changes)).far n) (r.got n)
+            ≡ false
+        by true made =
+            of_made made (goes_or_passed rules m deeds w changes in_time (is n) U (Some IsU)
+            server.rules (λ e. in_node (numbers_of ours) (H e) n)
+            (λ e. server_node (numbers_of ours) (H e)) in_items
+            (λ e here. (up e here).put n) (λ e here. (up e here).got n)
+            (FarPassed n some made) (far_facts n some made) changes all)
+        by false unmade =
+            ap (λ (t : Bool). stops_at t (r.got n)) (unmade_goes n unmade)
 
-      pub none_stops_up : NoneStopsButBehindEnd r
-          (up_lost (numbers_of ours) (W changes) (H changes))
-      none_stops_up = record {
-        near = λ n from within. near_goes n (above n from);
-        far = λ n from within leg. far_goes n (above n from);
-      }
+    pub none_stops_up : NoneStopsButBehindEnd r
+        (up_lost (numbers_of ours) (W changes) (H changes))
+    none_stops_up = record {
+      near = λ n from within. near_goes n (above n from);
+      far = λ n from within leg. far_goes n (above n from);
+    }

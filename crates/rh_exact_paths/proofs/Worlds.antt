@@ -13,9 +13,9 @@ use Rattle.rh_order.proofs.Prefixes.{prefix_self}
 use Rattle.rh_shell.specs.declared.course.Course.TheVariants.{Going}
 use Rattle.rh_shell.specs.declared.rooms.Rooms.{Rooms}
 use Rattle.rh_shell.specs.Moving.{EndEvent, Event, after_end_events, after_events}
-use Rattle.rh_shell.specs.NearEnds.{NearEnd}
 use Rattle.rh_shell.specs.Rules.{Acts, Rules}
-use Rattle.rh_shell.specs.Shells.{Shell, begun, end_at}
+use Rattle.rh_shell.specs.Moves.{is_in_use}
+use Rattle.rh_shell.specs.Shells.{Shell, begun, finished}
 use Rattle.rh_client.specs.declared.state.ClientRole.{ClientRole}
 use Rattle.rh_client.specs.Client as client
 use Rattle.rh_client.specs.State as client_state
@@ -29,14 +29,19 @@ use Rattle.rh_outproxy.specs.Machine as out_proxy
 use Rattle.rh_outproxy.specs.OutProxy.{OutProxy, new_proxy}
 use Rattle.rh_server.specs.Servers as server
 use Rattle.rh_server.specs.States.{Server}
+use Rattle.rh_record.specs.declared.answer.Who.TheVariants as who
+use Rattle.rh_nodes.specs.declared.place.Place.TheVariants.{Absent}
+use Rattle.rh_nodes.specs.Company as company
 use Rattle.rh_nodes.specs.Opening.{Makers}
+use Rattle.rh_nodes.specs.Places as places
 use Rattle.rh_nodes.specs.Readers.{reader_of}
 use Rattle.rh_nodes.specs.Wires.{is_up}
 use Rattle.rh_nodes.specs.World.{World, at}
 use Rattle.rh_history.specs.Carried.{AreAccepted, AreAcceptedAtEnd, ComesUpOnce, ComesUpOnceAtEnd, LegsComeUpOnce, came_up, events_of, happened, wire_at}
 use Rattle.rh_history.specs.Changes.{AreAllowed, ByLines, Change, all_changed, of_line}
-use Rattle.rh_history.specs.Histories.{History, IsNew, all_noted, nothing}
+use Rattle.rh_history.specs.Histories.{History, IsNew, all_noted, in_place, nothing, out_place}
 use Rattle.rh_history.proofs.Leading.{cast_kept}
+use Rattle.rh_history.proofs.Numbers.{asked}
 use Rattle.rh_history.proofs.Recordings.{traced_first}
 use Rattle.rh_streams.specs.Streams.{HasPipes, HearsInTurn, NeverRefuses, StaysUnused, StaysUnusedAtEnd, Stream}
 use Rattle.rh_growing.specs.Growing.{EndGrowing, Growing}
@@ -59,6 +64,7 @@ use Rattle.rh_paths.specs.Ways.{AreOnTheirWay, client_node, in_node, out_node, s
 use Rattle.rh_exact_ways.specs.Keeping.{KeepsIfOfUse, KnowsLeg}
 use Rattle.rh_exact_ways.proofs.Passing.{InLaw, OutLaw, ServerLaw}
 use Rattle.rh_exact_paths.specs.Leaving.{AllGoOn}
+use Rattle.rh_exact_paths.proofs.Finished.{finished_unused, place_unused}
 use Rattle.rh_exact_paths.proofs.Fronts.{IsEnded, all_front, allowed_front}
 use Rattle.rh_exact_paths.proofs.Grown.{client_grown, end_going_before, going_before, in_grown, out_grown, server_grown}
 use Rattle.rh_exact_paths.proofs.Left.{left_by_change, reader_stays}
@@ -332,6 +338,62 @@ module _ {K : Type 0} (m : Makers K InProxy OutProxy) (w : OurWorld K) (new : Is
       going_before out_proxy.rules (begun (new_proxy (ours.out_config n)) ROOMS) ((H e).outs n)
       ((H changes).outs n)
       (to_last e here (λ h. h.outs n) (out_grown rules m deeds w e here.0 n)) (going.outs n)
+
+  abbrev pub all_go : (e : List Change) → At e → AllGoOn numbers (H e)
+  all_go e here = record {
+    client = client_goes e here;
+    server = server_goes e here;
+    ins = in_goes e here;
+    outs = out_goes e here;
+  }
+
+  -- ---- what they have finished is of no more use
+
+  pub client_unused : (e : List Change) (here : At e) (leg : Leg)
+      → company.finished rules (W e).company who.Client leg ≡ true
+      → came_up leg (happened (H e).client) ≡ true
+      → was_lost leg (happened (H e).client) ≡ false
+      → is_in_use client.rules (client_node numbers (H e)).role leg ≡ false
+  client_unused e here leg done up untold =
+      finished_unused client.rules (client_node numbers (H e)) leg (client_goes e here)
+      (subst (λ (s : Shell ClientRole). finished client.rules s leg ≡ true)
+      (ways e here).nodes.client done)
+      (node.keeps_client ours.config (H e).client leg (client_accepted e here) up untold
+      (client_goes e here))
+
+  pub server_unused : (e : List Change) (here : At e) (leg : Leg)
+      → company.finished rules (W e).company who.Server leg ≡ true
+      → came_up leg (happened (H e).server) ≡ true
+      → was_lost leg (happened (H e).server) ≡ false
+      → is_in_use server.rules (server_node numbers (H e)).role leg ≡ false
+  server_unused e here leg done up untold =
+      finished_unused server.rules (server_node numbers (H e)) leg (server_goes e here)
+      (subst (λ (s : Shell Server). finished server.rules s leg ≡ true)
+      (ways e here).nodes.server done)
+      (node.keeps_server ours.window (H e).server leg (server_accepted e here) up untold
+      (server_goes e here))
+
+  pub in_unused : (e : List Change) (here : At e) (n : ℕ) (leg : Leg)
+      → company.finished rules (W e).company (who.In n) leg ≡ true
+      → came_up leg ((H e).ins n) ≡ true → was_lost leg ((H e).ins n) ≡ false
+      → is_in_use in_proxy.rules (in_node numbers (H e) n).role leg ≡ false
+  in_unused e here n leg done up untold =
+      place_unused in_proxy.rules (in_proxy.first_node (ours.in_config n)) ((H e).ins n) leg
+      (in_goes e here n)
+      (node.keeps_in (ours.in_config n) ((H e).ins n) leg (in_accepted e here n) up untold
+      (in_goes e here n)) (in_place (W e).company n) ((ways e here).nodes.ins n)
+      (sym (asked Absent (places.finished in_proxy.rules leg) (W e).company.ins n) ∙ done)
+
+  pub out_unused : (e : List Change) (here : At e) (n : ℕ) (leg : Leg)
+      → company.finished rules (W e).company (who.Out n) leg ≡ true
+      → came_up leg ((H e).outs n) ≡ true → was_lost leg ((H e).outs n) ≡ false
+      → is_in_use out_proxy.rules (out_node numbers (H e) n).role leg ≡ false
+  out_unused e here n leg done up untold =
+      place_unused out_proxy.rules (begun (new_proxy (ours.out_config n)) ROOMS) ((H e).outs n) leg
+      (out_goes e here n)
+      (node.keeps_out (ours.out_config n) ((H e).outs n) leg (out_accepted e here n) up untold
+      (out_goes e here n)) (out_place (W e).company n) ((ways e here).nodes.outs n)
+      (sym (asked Absent (places.finished out_proxy.rules leg) (W e).company.outs n) ∙ done)
 
   -- ---- legs are lost by changes that end them
 

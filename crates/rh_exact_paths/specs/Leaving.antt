@@ -1,10 +1,9 @@
 -- nodes that go on, and the legs that they leave (MS-RPCH 3.2; profile)
-use Rattle.std.specs.Prelude.{◌≡◌, ◌||◌, ℕ, List, [], true, false, Some}
+use Rattle.std.specs.Prelude.{◌≡◌, ◌≤◌, ◌||◌, ℕ, List, [], true, false, Some}
 use Rattle.rh_text.specs.declared.ends.Side.{Side}
 use Rattle.rh_text.specs.declared.ends.Side.TheVariants as side
 use mathlib.Core.List.{IsPrefix}
 use Rattle.rh_line.specs.declared.leg.Leg.{Leg}
-use Rattle.rh_record.specs.declared.answer.Who.TheVariants as who
 use Rattle.rh_order.specs.Items.{Item, has_end}
 use Rattle.rh_order.specs.Logs.{below}
 use Rattle.rh_shell.specs.declared.course.Course.TheVariants.{Going}
@@ -26,9 +25,7 @@ use Rattle.rh_server.specs.Servers as server
 use Rattle.rh_server.specs.States.{Server}
 use Rattle.rh_nodes.specs.Company as company
 use Rattle.rh_nodes.specs.Opening.{Makers}
-use Rattle.rh_nodes.specs.Readers.{reader_of}
 use Rattle.rh_nodes.specs.World.{World, at}
-use Rattle.rh_history.specs.Carried.{came_up, happened}
 use Rattle.rh_history.specs.Changes.{Change, all_changed}
 use Rattle.rh_history.specs.Histories.{History, all_noted, nothing}
 use Rattle.rh_streams.specs.Streams.{EndStream, Stream}
@@ -104,20 +101,20 @@ ci_passed s n =
 abbrev pub is_passed : {numbers : Numbers} {h : History} → ServerStream numbers h → ℕ → Type 0
 is_passed s n = has_passed (server_order.got s.passage n) ≡ true
 
--- each leg that a node has finished it left behind its handover mark or END, of both directions
+-- a leg that a node has finished came up there
+abbrev pub Rises : {K : Type 0} → World K ClientRole Server InProxy OutProxy → History → Leg → Side
+    → Type 0
+Rises v h leg end =
+    company.finished rules v.company (at v leg end) leg ≡ true → was_up v h leg end ≡ true
+
+-- so it is of the nodes that take, but for a server, which knows numbers that have no leg of their
+-- own; and the nodes that put left it behind its handover mark or END, as far as the server wrote
 pub record LegsAreLeft {K : Type 0} (numbers : Numbers)
-    (v : World K ClientRole Server InProxy OutProxy) (h : History) : Type 0 where
-  -- the nodes that take
-  pub os_takes : (n : ℕ) → IsFinished v h (os n) side.Client → (s : OutStream numbers h n)
-      → os_passed s n
-  pub co_takes : (n : ℕ) → IsFinished v h (co n) side.Client → (s : ClientStream numbers h)
-      → co_passed s n
-  pub ci_takes : (n : ℕ) → IsFinished v h (ci n) side.Server
-      → (s : InStream numbers h (reader_of v.readers n)) → ci_passed s n
-  pub is_takes : (n : ℕ) → IsFinished v h (is n) side.Server
-      → came_up (is n) (happened h.server) ≡ true → (s : ServerStream numbers h) → is_passed s n
-  -- and those that put
-  pub os_puts : (n : ℕ) (s : ServerStream numbers h)
+    (v : World K ClientRole Server InProxy OutProxy) (h : History) (writing : ℕ) : Type 0 where
+  pub os_rises : (n : ℕ) → Rises v h (os n) side.Client
+  pub co_rises : (n : ℕ) → Rises v h (co n) side.Client
+  pub ci_rises : (n : ℕ) → Rises v h (ci n) side.Server
+  pub os_puts : (n : ℕ) → n ≤ writing → (s : ServerStream numbers h)
       → Leaves v h (os n) side.Server (server_node numbers h) (server_order.sent s.passage n)
   pub co_puts : (n : ℕ) (s : OutStream numbers h n)
       → Leaves v h (co n) side.Server (out_node numbers h n)
@@ -128,15 +125,18 @@ pub record LegsAreLeft {K : Type 0} (numbers : Numbers)
   pub is_puts : (n : ℕ) (s : InStream numbers h n)
       → Leaves v h (is n) side.Client (in_node numbers h n) (in_order.put_items s.passage.put)
 
--- so it is behind each front of the changes that lead to a world; and a leg of an in proxy that is
--- made by then came up at the server before this has it finished
+-- so it is behind each front of the changes that lead to a world, while no node closed; and a leg
+-- of an in proxy that is made at last came up at the server before this has it finished
 pub record AllLeave {K : Type 0} (m : Makers K InProxy OutProxy)
     (w : World K ClientRole Server InProxy OutProxy) (numbers : Numbers) (changes : List Change)
     : Type 0 where
   pub left : (e : List Change) → IsPrefix e changes
+      → AllGoOn numbers (all_noted rules m deeds w nothing e)
       → LegsAreLeft numbers (all_changed rules m deeds w e)
       (all_noted rules m deeds w nothing e)
-  pub joined : (e : List Change) → IsPrefix e changes → (n : ℕ)
+      (server_node numbers (all_noted rules m deeds w nothing changes)).role.writing
+  pub joined : (e : List Change) → IsPrefix e changes
+      → AllGoOn numbers (all_noted rules m deeds w nothing e) → (n : ℕ)
       → is_made (all_changed rules m deeds w changes).company n ≡ true
-      → company.finished rules (all_changed rules m deeds w e).company who.Server (is n) ≡ true
-      → came_up (is n) (happened (all_noted rules m deeds w nothing e).server) ≡ true
+      → Rises (all_changed rules m deeds w e) (all_noted rules m deeds w nothing e) (is n)
+      side.Server

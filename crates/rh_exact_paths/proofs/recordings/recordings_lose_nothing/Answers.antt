@@ -1,7 +1,7 @@
-use Rattle.std.proofs.Common.{arith}
 use Rattle.rh_world.specs.declared.any_world.AnyWorld.TheVariants.{Before}
 use Rattle.rh_world.specs.Any.{after}
 use Rattle.rh_world.specs.Roles as roles
+use Rattle.rh_first_texts.proofs.Taken.{recorded_port}
 use Rattle.rh_fifo.proofs.Recorded.{in_range, new, ours}
 use Rattle.rh_exact_paths.proofs.Recorded.{ExactLaw, each_keeps}
 use Rattle.rh_exact_paths.proofs.recordings.recordings_lose_nothing.Goals as goal
@@ -19,4 +19,4 @@ returns c = record {
     law config ranges world =
         c.what_was_given_is_taken_or_on_its_way.ensures roles.makers (roles.begun config)
         (new config) (ours config) (in_range config ranges)
-        (record { least = omega arith; most = omega arith }) world
+        (recorded_port config) world

@@ -29,7 +29,7 @@ returns g c = record {
       → NoneStopsButBehindEnd (down_route_of ways.directions) (down_lost numbers x h))
       ends.lines.leads.reached
       (none_stops_down m w new ours nodes (world m w new ours ranges port) changes
-      ends.lines.leads.allowed ends.lines.work ends.in_time going leave.left);
+      ends.lines.leads.allowed ends.lines.work ends.in_time going leave);
   up = λ m w new ours ranges port v ends leave going.
       let changes = ends.lines.leads.changes in
       let h = all_noted rules m deeds w nothing changes in
@@ -39,7 +39,7 @@ returns g c = record {
       → NoneStopsButBehindEnd (up_route_of ways.directions) (up_lost numbers x h))
       ends.lines.leads.reached
       (none_stops_up m w new ours nodes (world m w new ours ranges port) changes
-      ends.lines.leads.allowed ends.lines.work ends.in_time going leave.left leave.joined);
+      ends.lines.leads.allowed ends.lines.work ends.in_time going leave);
 }
   where
     nodes : NodeLaws
