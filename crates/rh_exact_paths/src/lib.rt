@@ -3,6 +3,7 @@
 #![tactic(auto)]
 
 pub mod recordings;
+pub mod stub;
 pub mod worlds;
 
 pub use recordings::recordings_lose_nothing;

@@ -7,7 +7,7 @@ mod CameUp
 mod ClientOver
 mod HeadTexts
 mod WorldHeads
-mod ReadBy
-mod Passing
+pub mod ReadBy
+pub mod Passing
 mod LegGoes
 mod NoLoss
