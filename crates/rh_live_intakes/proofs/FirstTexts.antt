@@ -54,8 +54,8 @@ no_echo n least = grind (arith, nat_tests)
 
 told_no_echo : (inbound : Bool) (config : ClientConfig) (n : ℕ) (text : List ℕ) → 17 ≤ n
     → request_verdict inbound text ≡ Ok (asked_for config n) → AsksNoEcho inbound text
-told_no_echo inbound config n text least read = λ asked is.
-    by asked (sym is ∙ read)
+told_no_echo inbound config n text least read = λ asked verdict.
+    by asked (sym verdict ∙ read)
   where
     by : (asked : Asked) → ◌≡◌ {A = Result Asked HttpFault} (Ok asked) (Ok (asked_for config n))
         → nat_le asked.length greatest_echo ≡ false
@@ -68,18 +68,18 @@ long_enough n least = omega (arith, least)
 
 in_no_echo : (config : ClientConfig) (text : List ℕ) → IsConfig config
     → IsPort config.port → IsRequestOf config ClientIn text → AsksNoEcho true text
-in_no_echo config text range port is =
+in_no_echo config text range port same =
     told_no_echo true config config.lifetime text (long_enough config.lifetime range.lifetime.0)
-    (in_asks config text range port is)
+    (in_asks config text range port same)
 
 out_no_echo : (config : ClientConfig) (text : List ℕ) → IsPort config.port
     → IsRequestOf config ClientOut text → AsksNoEcho false text
-out_no_echo config text port (inl is) =
+out_no_echo config text port (inl same) =
     told_no_echo false config 76 text (omega arith)
-    (ap (request_verdict false) is ∙ request_asks false config 76 port refl)
-out_no_echo config text port (inr is) =
+    (ap (request_verdict false) same ∙ request_asks false config 76 port refl)
+out_no_echo config text port (inr same) =
     told_no_echo false config 120 text (omega arith)
-    (ap (request_verdict false) is ∙ request_asks false config 120 port refl)
+    (ap (request_verdict false) same ∙ request_asks false config 120 port refl)
 
 -- ---- no bytes begin with no head
 

@@ -127,19 +127,19 @@ first_live (Some OsU) = refl
 abbrev pub Heards : Type 0
 Heards = Leg → List ℕ
 
-abbrev heard_then : Heards → Event → Heards
+abbrev pub heard_then : Heards → Event → Heards
 heard_then heard event = λ leg. heard leg ++ heard_in leg event
 
 module _ {S : Type 0} (rules : Rules S) (pipe : Leg → Option Pipe) where
-  abbrev EndIs : Heards → NearEnd → Type 0
+  abbrev pub EndIs : Heards → NearEnd → Type 0
   EndIs heard end =
       BringsFrames rules (pipe end.leg) end.leg (heard end.leg) → is_live end.intake.stage ≡ true
 
-  abbrev AreRead : Heards → List NearEnd → Type 0
+  abbrev pub AreRead : Heards → List NearEnd → Type 0
   AreRead heard ends = AllByRecursion (EndIs heard) ends
 
   -- while the node goes on, each end reads on if no head brings anything but frames
-  abbrev Lives : Heards → Shell S → Type 0
+  abbrev pub Lives : Heards → Shell S → Type 0
   Lives heard s = s.course ≡ Going → AreRead heard s.legs
 
   -- where a head is waited for, all bytes are held
@@ -353,7 +353,7 @@ module _ {S : Type 0} (rules : Rules S) (pipe : Leg → Option Pipe) where
 
   -- ---- all events
 
-  abbrev heard_all : Heards → List Event → Heards
+  abbrev pub heard_all : Heards → List Event → Heards
   heard_all heard events = λ leg. heard leg ++ heard_on leg events
 
   regrouped : (heard : Heards) (event : Event) (events : List Event)
