@@ -285,7 +285,7 @@ module _ {K C S I O : Type 0} (r : Rulebook C S I O) (m : Makers K I O) (d : Dee
     quietly : (c : Change) (later : Legs)
         → ((node : Who) (leg : Leg) → up_of r w.company (told_to w c) node leg ≡ false)
         → ((leg : Leg) (end : Side)
-        → wires.is_up end (wire_at (legs.raise leg end all) leg) ≡ wires.is_up end (wire_at w.legs leg))
+        → wires.is_up end (wire_at later leg) ≡ wires.is_up end (wire_at w.legs leg))
         → AreUp Left (ups_of (noted w h c)) later w.readers
     quietly c later none =
         quiet Left (ups_of h) (ups_of (noted w h c)) w.legs later w.readers are (same_ups c none)
