@@ -107,19 +107,19 @@ module _ (s : Shelves) (legs other_legs : ℕ → Bool) (out other_out : List (L
     -- and END on a channel below one that is not behind
     pub ended_below : (n : ℕ) → s.current ≤ n
         → has_end (below came n) ≡ has_end (below other n)
-    ended_below zero from =
-        refl
-    ended_below (suc n) from = by (cases_lt n s.current)
+    ended_below zero from = refl
+    ended_below (suc n) from = by (cases_lt n s.current) (λ above. ended_below n above)
       where
         by : (n < s.current) ⊎ (s.current ≤ n)
+            → (s.current ≤ n → has_end (below came n) ≡ has_end (below other n))
             → has_end (below came (suc n)) ≡ has_end (below other (suc n))
-        by (inl before) =
+        by (inl before) rest =
             let now : s.current ≡ suc n = omega (arith, from, before) in
             subst (λ (k : ℕ). has_end (below came k) ≡ has_end (below other k)) now
             (sym a.holds.was_ended ∙ b.holds.was_ended)
-        by (inr above) =
+        by (inr above) rest =
             has_end-append (below came n) (came n)
-            ∙ ap₂ (λ x y. x || y) (ended_below n above) (ended_as n above)
+            ∙ ap₂ (λ x y. x || y) (rest above) (ended_as n above)
             ∙ sym (has_end-append (below other n) (other n))
 
 -- ---- END below, behind more
@@ -129,15 +129,16 @@ pub ended_below_more : (came other : Log)
     → has_end (below came n) ≡ true → has_end (below other n) ≡ true
 ended_below_more came other more zero e = e
 ended_below_more came other more (suc n) e =
-    by (either (has_end (below came n)) (has_end (came n))
+    by (ended_below_more came other more n)
+    (either (has_end (below came n)) (has_end (came n))
     (sym (has_end-append (below came n) (came n)) ∙ e))
   where
-    by : (has_end (below came n) ≡ true) ⊎ (has_end (came n) ≡ true)
+    by : (has_end (below came n) ≡ true → has_end (below other n) ≡ true)
+        → (has_end (below came n) ≡ true) ⊎ (has_end (came n) ≡ true)
         → has_end (below other (suc n)) ≡ true
-    by (inl below_it) =
+    by rest (inl below_it) =
         has_end-append (below other n) (other n)
-        ∙ or_first (has_end (below other n)) (has_end (other n))
-        (ended_below_more came other more n below_it)
-    by (inr here) =
+        ∙ or_first (has_end (below other n)) (has_end (other n)) (rest below_it)
+    by rest (inr here) =
         has_end-append (below other n) (other n)
         ∙ or_second (has_end (below other n)) (has_end (other n)) (more n here)
