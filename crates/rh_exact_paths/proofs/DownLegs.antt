@@ -90,7 +90,7 @@ module _ {K : Type 0} (m : Makers K InProxy OutProxy) (w : OurWorld K) (new : Is
   module _ (n : ℕ) (some : 0 < n)
       (within : n ≤ (server_node (numbers_of ours) (H changes)).role.writing) where
     abbrev NearPassed : List Change → Type 0
-    NearPassed e = (s : OutStream (numbers_of ours) (H e) n) → os_passed s n
+    NearPassed e = (s : OutStream (numbers_of ours) (H e) n) → os_passed s.passage n
 
     own : from_first (ours.out_config n).number n ≡ true
     own =
@@ -163,7 +163,7 @@ module _ {K : Type 0} (m : Makers K InProxy OutProxy) (w : OurWorld K) (new : Is
 
   module _ (n : ℕ) (has : has_leg n ≡ true) where
     abbrev FarPassed : List Change → Type 0
-    FarPassed e = (s : ClientStream (numbers_of ours) (H e)) → co_passed s n
+    FarPassed e = (s : ClientStream (numbers_of ours) (H e)) → co_passed s.passage n
 
     far_later : (e more : List Change) (here : At (e ++ more)) (front : At e)
         → has_passed ((down e front).got n) ≡ true → FarPassed (e ++ more)

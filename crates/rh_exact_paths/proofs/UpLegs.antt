@@ -109,7 +109,7 @@ module _ {K : Type 0} (m : Makers K InProxy OutProxy) (w : OurWorld K) (new : Is
     reads e = reader_of (W e).readers n
 
     abbrev NearPassed : List Change → Type 0
-    NearPassed e = (s : InStream (numbers_of ours) (H e) (reads e)) → ci_passed s n
+    NearPassed e = (s : InStream (numbers_of ours) (H e) (reads e)) → ci_passed s.passage n
 
     is_from : (e : List Change) (here : At e) → reads e ≢ 0
         → from_first (ours.in_config (reads e)).number n ≡ true
@@ -142,10 +142,11 @@ module _ {K : Type 0} (m : Makers K InProxy OutProxy) (w : OurWorld K) (new : Is
             absurd (true≢false (sym passed ∙ ap has_passed (none down)))
 
     near_later : (e more : List Change) (here : At (e ++ more)) (read : reads e ≢ 0)
-        (s : InStream (numbers_of ours) (H e) (reads e)) → ci_passed s n
+        (s : InStream (numbers_of ours) (H e) (reads e)) → ci_passed s.passage n
         → NearPassed (e ++ more)
     near_later e more here read s passed =
-        subst (λ (k : ℕ). (t : InStream (numbers_of ours) (H (e ++ more)) k) → ci_passed t n)
+        subst (λ (k : ℕ). (t : InStream (numbers_of ours) (H (e ++ more)) k)
+        → ci_passed t.passage n)
         (sym (worlds.same_reader m w new ours node law changes allowed works going e more here n
         read))
         (λ t. in_later node.in_order (ours.in_config (reads e)) n
@@ -203,7 +204,8 @@ module _ {K : Type 0} (m : Makers K InProxy OutProxy) (w : OurWorld K) (new : Is
         (reads e))).known rose) unused)
       where
         both : (has_passed (in_order.came_log s.passage.came n) ≡ true)
-            ⊎ (has_end (below (in_order.came_log s.passage.came) n) ≡ true) → ci_passed s n
+            ⊎ (has_end (below (in_order.came_log s.passage.came) n) ≡ true)
+            → ci_passed s.passage n
         both (inl e) =
             or_first (has_passed (in_order.came_log s.passage.came n))
             (has_end (below (in_order.came_log s.passage.came) n)) e
@@ -272,7 +274,7 @@ module _ {K : Type 0} (m : Makers K InProxy OutProxy) (w : OurWorld K) (new : Is
   module _ (n : ℕ) (some : 0 < n) (made : is_made (W changes).company n ≡ true) where
     record FarPassed (e : List Change) : Type 0 where
       rose : came_up (is n) (happened (H e).server) ≡ true
-      passed : (s : ServerStream (numbers_of ours) (H e)) → is_passed s n
+      passed : (s : ServerStream (numbers_of ours) (H e)) → is_passed s.passage n
 
     -- it has a leg of its own at each front
     has_one : (e : List Change) → At e → has_leg (reader_of (W e).readers) n ≡ true
@@ -311,7 +313,8 @@ module _ {K : Type 0} (m : Makers K InProxy OutProxy) (w : OurWorld K) (new : Is
 
     far_later : (e more : List Change) (here : At (e ++ more))
         → came_up (is n) (happened (H e).server) ≡ true
-        → (s : ServerStream (numbers_of ours) (H e)) → is_passed s n → FarPassed (e ++ more)
+        → (s : ServerStream (numbers_of ours) (H e)) → is_passed s.passage n
+        → FarPassed (e ++ more)
     far_later e more here rose s passed = record {
       rose = rose_later e more rose;
       passed = server_later node.server_order ours.window n (H e).server (H (e ++ more)).server

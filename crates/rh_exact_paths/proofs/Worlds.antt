@@ -205,9 +205,9 @@ module _ {K : Type 0} (m : Makers K InProxy OutProxy) (w : OurWorld K) (new : Is
   abbrev pub numbers : Numbers
   numbers = numbers_of ours
 
-  allowed_here : (e : List Change) → At e → AreAllowed rules m deeds w e
+  pub allowed_here : (e : List Change) → At e → AreAllowed rules m deeds w e
   allowed_here e here =
-      allowed_front rules m deeds w e here.0
+      allowed_front rules m deeds w w e here.0
       (subst (AreAllowed rules m deeds w) (sym here.1) allowed)
 
   abbrev pub lines_front : (e : List Change) → At e → ByLines rules m deeds w (W e)

@@ -7,6 +7,7 @@ use Rattle.rh_line.specs.declared.leg.Leg.{Leg}
 use Rattle.rh_order.specs.Items.{Item, has_end}
 use Rattle.rh_order.specs.Logs.{below}
 use Rattle.rh_shell.specs.declared.course.Course.TheVariants.{Going}
+use Rattle.rh_shell.specs.Moves.{EndPassage, Passage}
 use Rattle.rh_shell.specs.Shells.{Shell}
 use Rattle.rh_client.specs.declared.state.ClientRole.{ClientRole}
 use Rattle.rh_client.specs.Client as client
@@ -85,21 +86,19 @@ OutStream numbers h n =
     (h.outs n)
 
 -- where the handover mark or END came on a leg, or for an in proxy END on a channel below
-abbrev pub os_passed : {numbers : Numbers} {h : History} {k : ℕ} → OutStream numbers h k → ℕ
-    → Type 0
-os_passed s n = has_passed (out_order.came_log s.passage.came n) ≡ true
+abbrev pub os_passed : Passage OutProxy → ℕ → Type 0
+os_passed p n = has_passed (out_order.came_log p.came n) ≡ true
 
-abbrev pub co_passed : {numbers : Numbers} {h : History} → ClientStream numbers h → ℕ → Type 0
-co_passed s n = has_passed (client_order.came_log s.passage.passage.came n) ≡ true
+abbrev pub co_passed : EndPassage ClientRole → ℕ → Type 0
+co_passed p n = has_passed (client_order.came_log p.passage.came n) ≡ true
 
-abbrev pub ci_passed : {numbers : Numbers} {h : History} {k : ℕ} → InStream numbers h k → ℕ
-    → Type 0
-ci_passed s n =
-    (has_passed (in_order.came_log s.passage.came n)
-    || has_end (below (in_order.came_log s.passage.came) n)) ≡ true
+abbrev pub ci_passed : Passage InProxy → ℕ → Type 0
+ci_passed p n =
+    (has_passed (in_order.came_log p.came n) || has_end (below (in_order.came_log p.came) n))
+    ≡ true
 
-abbrev pub is_passed : {numbers : Numbers} {h : History} → ServerStream numbers h → ℕ → Type 0
-is_passed s n = has_passed (server_order.got s.passage n) ≡ true
+abbrev pub is_passed : EndPassage Server → ℕ → Type 0
+is_passed p n = has_passed (server_order.got p n) ≡ true
 
 -- a leg that a node has finished came up there
 abbrev pub Rises : {K : Type 0} → World K ClientRole Server InProxy OutProxy → History → Leg → Side
