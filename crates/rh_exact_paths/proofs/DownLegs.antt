@@ -33,7 +33,7 @@ use Rattle.rh_ends_in_time.specs.InTime.{AllEndInTime}
 use Rattle.rh_fifo.proofs.Marked.{down_is_route}
 use Rattle.rh_fifo.specs.Directions.{down_route_of}
 use Rattle.rh_fifo.specs.Flows.{numbers_of}
-use Rattle.rh_paths.specs.Legs.{has_passed, was_left, was_told}
+use Rattle.rh_paths.specs.Legs.{has_passed, was_left, was_told, was_up}
 use Rattle.rh_paths.specs.OnWay.{items_on_way}
 use Rattle.rh_paths.specs.Ways.{AreOnTheirWay, client_node, down_far, down_lost, down_near, out_node, server_node}
 use Rattle.rh_exact_ways.specs.Pdus.{NoneStopsButBehindEnd}
@@ -140,10 +140,12 @@ module _ {K : Type 0} (m : Makers K InProxy OutProxy) (w : OurWorld K) (new : Is
           near_passes e here
           (worlds.out_unused m w new ours node law changes allowed works going e here n (os n) done
           ((leaves e here).os_rises n done) untold);
-      put = λ e here done untold unleft.
-          let p = (leaves e here).os_puts n within (ways e here).directions.down.giver
-          (record { done = done; untold = untold }) unleft in
-          (p.drawn, p.passed);
+      put = λ e here done untold unleft. (
+        worlds.server_drawn m w new ours node law changes allowed works going e here (os n)
+            (was_up (W e) (H e) (os n) side.Server) done untold,
+        (leaves e here).os_puts n within (ways e here).directions.down.giver
+            (record { done = done; untold = untold }) unleft,
+      );
       arrives = λ e here kept.
           subst (λ (k : ℕ). (down e here).sent n
           ≡ (down e here).came k n
@@ -215,12 +217,13 @@ module _ {K : Type 0} (m : Makers K InProxy OutProxy) (w : OurWorld K) (new : Is
           (worlds.client_unused m w new ours node law changes allowed works going e here (co n) done
           rose untold);
       put = λ e here done untold unleft.
-          let proxy = (ways e here).directions.down.proxies n in
-          let p = (leaves e here).co_puts n proxy (record { done = done; untold = untold })
-          unleft in (
-            p.drawn,
-            ap has_passed (if_there (has_leg n)
-                (put_items n proxy.passage.put) has) ∙ p.passed,
+          let proxy = (ways e here).directions.down.proxies n in (
+            worlds.out_drawn m w new ours node law changes allowed works going e here n (co n)
+                (was_left (W e) (H e) (co n) side.Server) done untold unleft
+                ((leaves e here).co_low n),
+            ap has_passed (if_there (has_leg n) (put_items n proxy.passage.put) has)
+                ∙ (leaves e here).co_puts n proxy (record { done = done; untold = untold })
+                unleft,
           );
       arrives = λ e here kept.
           (ways e here).down.arrives.far n kept

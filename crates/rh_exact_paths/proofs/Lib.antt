@@ -4,6 +4,8 @@ mod Left
 mod Grown
 mod Fates
 mod Finished
+mod Marks
+mod Drawn
 mod Later
 mod Shelves
 mod Receivers

@@ -49,7 +49,7 @@ use Rattle.rh_up.proofs.JoinedLegs.{client_put, proxy_came, server_came}
 use Rattle.rh_fifo.specs.Directions.{up_route_of}
 use Rattle.rh_fifo.specs.Flows.{numbers_of}
 use Rattle.rh_fifo.proofs.Marked.{up_is_route}
-use Rattle.rh_paths.specs.Legs.{has_passed, was_up}
+use Rattle.rh_paths.specs.Legs.{has_passed, was_left, was_up}
 use Rattle.rh_paths.specs.OnWay.{is_lost, items_on_way}
 use Rattle.rh_paths.specs.Ways.{AreOnTheirWay, client_node, in_node, server_node, up_far, up_lost, up_near}
 use Rattle.rh_exact_ways.specs.Pdus.{IsBehindEnd, NoneStopsButBehindEnd}
@@ -244,10 +244,12 @@ module _ {K : Type 0} (m : Makers K InProxy OutProxy) (w : OurWorld K) (new : Is
           near_passes e here rose
           (worlds.in_unused m w new ours node law changes allowed works going e here (reads e)
           (ci n) done rose untold);
-      put = λ e here done untold unleft.
-          let p = (leaves e here).ci_puts n (ways e here).directions.up.giver
-          (record { done = done; untold = untold }) unleft in
-          (p.drawn, p.passed);
+      put = λ e here done untold unleft. (
+        worlds.client_drawn m w new ours node law changes allowed works going e here (ci n)
+            (was_up (W e) (H e) (ci n) side.Client) done untold,
+        (leaves e here).ci_puts n (ways e here).directions.up.giver
+            (record { done = done; untold = untold }) unleft,
+      );
       arrives = λ e here kept. (ways e here).up.arrives.near n some kept;
       came_is = λ e here passed.
           let route = up_is_route node.routes (ways e here).directions in
@@ -383,12 +385,14 @@ module _ {K : Type 0} (m : Makers K InProxy OutProxy) (w : OurWorld K) (new : Is
                 (is n) done rose untold);
           };
       put = λ e here done untold unleft.
-          let proxy = (ways e here).directions.up.proxies n in
-          let p = (leaves e here).is_puts n proxy (record { done = done; untold = untold })
-          unleft in (
-            p.drawn,
+          let proxy = (ways e here).directions.up.proxies n in (
+            worlds.in_drawn m w new ours node law changes allowed works going e here n (is n)
+                (was_left (W e) (H e) (is n) side.Client) done untold unleft
+                ((leaves e here).is_low n),
             ap has_passed (if_there (has_leg (reader_of (W e).readers) n)
-                (put_items proxy.passage.put) (has_one e here)) ∙ p.passed,
+                (put_items proxy.passage.put) (has_one e here))
+                ∙ (leaves e here).is_puts n proxy (record { done = done; untold = untold })
+                unleft,
           );
       arrives = λ e here kept.
           (ways e here).up.arrives.far n kept

@@ -1,5 +1,5 @@
 -- fronts of the changes that lead to a world of roles: what is known behind each
-use Rattle.std.proofs.Common.{◌≡◌, ◌≢◌, ◌⊎◌, inl, inr, ◌<◌, ◌≤◌, ℕ, zero, suc, List, [], ◌∷◌, ◌++◌, Bool, true, false, true≢false, not, ◌&&◌, Some, arith, refl, sym, ap, ◌∙◌, subst}
+use Rattle.std.proofs.Common.{◌≡◌, ◌≢◌, ◌⊎◌, inl, inr, ◌<◌, ◌≤◌, ℕ, zero, suc, List, [], ◌∷◌, ◌++◌, Bool, true, false, true≢false, not, ◌&&◌, Some, None, arith, refl, sym, ap, ◌∙◌, subst}
 use Rattle.std.specs.List.{AllByRecursion, list_all}
 use Rattle.std.specs.declared.option.Option.{Option}
 use Rattle.std.proofs.lemmas.Bool.{and_parts, cases_eq}
@@ -15,7 +15,7 @@ use Rattle.rh_shell.specs.declared.rooms.Rooms.{Rooms}
 use Rattle.rh_shell.specs.Moving.{EndEvent, Event, after_end_events, after_events}
 use Rattle.rh_shell.specs.Rules.{Acts, Rules}
 use Rattle.rh_shell.specs.Moves.{is_in_use}
-use Rattle.rh_shell.specs.Shells.{Shell, begun, finished}
+use Rattle.rh_shell.specs.Shells.{Shell, begun, end_at, finished}
 use Rattle.rh_client.specs.declared.state.ClientRole.{ClientRole}
 use Rattle.rh_client.specs.Client as client
 use Rattle.rh_client.specs.State as client_state
@@ -30,7 +30,8 @@ use Rattle.rh_outproxy.specs.OutProxy.{OutProxy, new_proxy}
 use Rattle.rh_server.specs.Servers as server
 use Rattle.rh_server.specs.States.{Server}
 use Rattle.rh_record.specs.declared.answer.Who.TheVariants as who
-use Rattle.rh_nodes.specs.declared.place.Place.TheVariants.{Absent}
+use Rattle.rh_nodes.specs.declared.place.Place.{Place}
+use Rattle.rh_nodes.specs.declared.place.Place.TheVariants.{Absent, Gone}
 use Rattle.rh_nodes.specs.Company as company
 use Rattle.rh_nodes.specs.Opening.{Makers}
 use Rattle.rh_nodes.specs.Places as places
@@ -40,6 +41,7 @@ use Rattle.rh_nodes.specs.World.{World, at}
 use Rattle.rh_history.specs.Carried.{AreAccepted, AreAcceptedAtEnd, ComesUpOnce, ComesUpOnceAtEnd, LegsComeUpOnce, came_up, events_of, happened, wire_at}
 use Rattle.rh_history.specs.Changes.{AreAllowed, ByLines, Change, all_changed, of_line}
 use Rattle.rh_history.specs.Histories.{History, IsNew, all_noted, in_place, nothing, out_place}
+use Rattle.rh_causes.proofs.OnceUp.{AllFollow, AllFollowAtEnd}
 use Rattle.rh_history.proofs.Leading.{cast_kept}
 use Rattle.rh_history.proofs.Numbers.{asked}
 use Rattle.rh_history.proofs.Recordings.{traced_first}
@@ -60,14 +62,17 @@ use Rattle.rh_passed.specs.Passed.{AsksNoEcho, HeadsAre}
 use Rattle.rh_exact_paths.specs.Stub.{IsRead}
 use Rattle.rh_paths.specs.Legs.{was_left, was_told}
 use Rattle.rh_paths.specs.Lost.{was_lost}
+use Rattle.rh_paths.specs.OnWay.{left_on}
 use Rattle.rh_paths.specs.Ways.{AreOnTheirWay, client_node, in_node, out_node, server_node}
 use Rattle.rh_exact_ways.specs.Keeping.{KeepsIfOfUse, KnowsLeg}
 use Rattle.rh_exact_ways.proofs.Passing.{InLaw, OutLaw, ServerLaw}
 use Rattle.rh_exact_paths.specs.Leaving.{AllGoOn}
+use Rattle.rh_exact_paths.proofs.Drawn.{finished_empty, nothing_left, place_empty}
 use Rattle.rh_exact_paths.proofs.Finished.{finished_unused, place_unused}
 use Rattle.rh_exact_paths.proofs.Fronts.{IsEnded, all_front, allowed_front}
 use Rattle.rh_exact_paths.proofs.Grown.{client_grown, end_going_before, going_before, in_grown, out_grown, server_grown}
 use Rattle.rh_exact_paths.proofs.Left.{left_by_change, reader_stays}
+use Rattle.rh_exact_paths.proofs.Marks.{run_clean, run_clean_at_end, unmarked}
 use Rattle.rh_exact_paths.proofs.Receivers.{ClientOrder, InOrder, OutOrder, ServerOrder}
 use Rattle.rh_exact_paths.proofs.Told.{told_by_change}
 
@@ -155,6 +160,10 @@ pub record NodeLaws : Type 0 where
       → StaysUnusedAtEnd client.rules client.acts (client_state.first config)
   pub server_unused : (window : ℕ)
       → StaysUnusedAtEnd server.rules server.acts (server.first window)
+  pub client_follows : AllFollowAtEnd client.rules client.acts
+  pub server_follows : AllFollowAtEnd server.rules server.acts
+  pub in_follows : AllFollow in_proxy.rules
+  pub out_follows : AllFollow out_proxy.rules
   pub client_refuses : NeverRefuses client.rules
   pub server_refuses : NeverRefuses server.rules
 
@@ -394,6 +403,90 @@ module _ {K : Type 0} (m : Makers K InProxy OutProxy) (w : OurWorld K) (new : Is
       (node.keeps_out (ours.out_config n) ((H e).outs n) leg (out_accepted e here n) up untold
       (out_goes e here n)) (out_place (W e).company n) ((ways e here).nodes.outs n)
       (sym (asked Absent (places.finished out_proxy.rules leg) (W e).company.outs n) ∙ done)
+
+  -- ---- nothing is begun there
+
+  pub client_drawn : (e : List Change) (here : At e) (leg : Leg) (up : Bool)
+      → company.finished rules (W e).company who.Client leg ≡ true
+      → was_lost leg (happened (H e).client) ≡ false
+      → left_on (client_node numbers (H e)) leg up (was_lost leg (happened (H e).client))
+      ≡ Some []
+  client_drawn e here leg up done untold =
+      let s = client_node numbers (H e) in
+      nothing_left s leg up (was_lost leg (happened (H e).client)) (client_goes e here) untold
+      (finished_empty client.rules s leg (client_goes e here)
+      (unmarked client.rules leg s
+      (run_clean_at_end client.rules leg client.acts node.client_follows
+      (client_state.first ours.config) client.rooms (H e).client untold))
+      (subst (λ (x : Shell ClientRole). finished client.rules x leg ≡ true)
+      (ways e here).nodes.client done))
+
+  pub server_drawn : (e : List Change) (here : At e) (leg : Leg) (up : Bool)
+      → company.finished rules (W e).company who.Server leg ≡ true
+      → was_lost leg (happened (H e).server) ≡ false
+      → left_on (server_node numbers (H e)) leg up (was_lost leg (happened (H e).server))
+      ≡ Some []
+  server_drawn e here leg up done untold =
+      let s = server_node numbers (H e) in
+      nothing_left s leg up (was_lost leg (happened (H e).server)) (server_goes e here) untold
+      (finished_empty server.rules s leg (server_goes e here)
+      (unmarked server.rules leg s
+      (run_clean_at_end server.rules leg server.acts node.server_follows
+      (server.first ours.window) server.rooms (H e).server untold))
+      (subst (λ (x : Shell Server). finished server.rules x leg ≡ true)
+      (ways e here).nodes.server done))
+
+  -- where the proxy was let go, it keeps no end of a leg that is up or never was
+  none_kept : {S : Type 0} (s : Shell S) (leg : Leg) (place : Place S) (up left : Bool)
+      → (up ≡ false → end_at s leg ≡ None) → left ≡ false
+      → ((now : ℕ) → place ≡ Gone now → up ≡ true → left ≡ true) → (now : ℕ)
+      → place ≡ Gone now → end_at s leg ≡ None
+  none_kept s leg place true left absent unleft low now gone =
+      absurd (true≢false (sym (low now gone refl) ∙ unleft))
+  none_kept s leg place false left absent unleft low now gone = absent refl
+
+  pub in_drawn : (e : List Change) (here : At e) (n : ℕ) (leg : Leg) (left : Bool)
+      → company.finished rules (W e).company (who.In n) leg ≡ true
+      → was_lost leg ((H e).ins n) ≡ false → left ≡ false
+      → ((now : ℕ) → in_place (W e).company n ≡ Gone now → came_up leg ((H e).ins n) ≡ true
+      → left ≡ true)
+      → left_on (in_node numbers (H e) n) leg (came_up leg ((H e).ins n))
+      (was_lost leg ((H e).ins n)) ≡ Some []
+  in_drawn e here n leg left done untold unleft low =
+      let s = in_node numbers (H e) n in
+      nothing_left s leg (came_up leg ((H e).ins n)) (was_lost leg ((H e).ins n))
+      (in_goes e here n) untold
+      (place_empty in_proxy.rules (in_proxy.first_node (ours.in_config n)) ((H e).ins n) leg
+      (in_goes e here n)
+      (unmarked in_proxy.rules leg s
+      (run_clean in_proxy.rules leg node.in_follows (in_state.first (ours.in_config n))
+      in_proxy.rooms ((H e).ins n) untold)) (in_place (W e).company n)
+      ((ways e here).nodes.ins n)
+      (none_kept s leg (in_place (W e).company n) (came_up leg ((H e).ins n)) left
+      (node.knows_in (ours.in_config n) ((H e).ins n) leg (in_accepted e here n)).absent unleft
+      low) (sym (asked Absent (places.finished in_proxy.rules leg) (W e).company.ins n) ∙ done))
+
+  pub out_drawn : (e : List Change) (here : At e) (n : ℕ) (leg : Leg) (left : Bool)
+      → company.finished rules (W e).company (who.Out n) leg ≡ true
+      → was_lost leg ((H e).outs n) ≡ false → left ≡ false
+      → ((now : ℕ) → out_place (W e).company n ≡ Gone now → came_up leg ((H e).outs n) ≡ true
+      → left ≡ true)
+      → left_on (out_node numbers (H e) n) leg (came_up leg ((H e).outs n))
+      (was_lost leg ((H e).outs n)) ≡ Some []
+  out_drawn e here n leg left done untold unleft low =
+      let s = out_node numbers (H e) n in
+      nothing_left s leg (came_up leg ((H e).outs n)) (was_lost leg ((H e).outs n))
+      (out_goes e here n) untold
+      (place_empty out_proxy.rules (begun (new_proxy (ours.out_config n)) ROOMS) ((H e).outs n) leg
+      (out_goes e here n)
+      (unmarked out_proxy.rules leg s
+      (run_clean out_proxy.rules leg node.out_follows (new_proxy (ours.out_config n)) ROOMS
+      ((H e).outs n) untold)) (out_place (W e).company n)
+      ((ways e here).nodes.outs n)
+      (none_kept s leg (out_place (W e).company n) (came_up leg ((H e).outs n)) left
+      (node.knows_out (ours.out_config n) ((H e).outs n) leg (out_accepted e here n)).absent
+      unleft low)
+      (sym (asked Absent (places.finished out_proxy.rules leg) (W e).company.outs n) ∙ done))
 
   -- ---- legs are lost by changes that end them
 

@@ -1,5 +1,5 @@
 -- nodes that go on, and the legs that they leave (MS-RPCH 3.2; profile)
-use Rattle.std.specs.Prelude.{◌≡◌, ◌≤◌, ◌||◌, ℕ, List, [], true, false, Some}
+use Rattle.std.specs.Prelude.{◌≡◌, ◌≤◌, ◌||◌, ℕ, List, true, false}
 use Rattle.rh_text.specs.declared.ends.Side.{Side}
 use Rattle.rh_text.specs.declared.ends.Side.TheVariants as side
 use mathlib.Core.List.{IsPrefix}
@@ -8,7 +8,6 @@ use Rattle.rh_order.specs.Items.{Item, has_end}
 use Rattle.rh_order.specs.Logs.{below}
 use Rattle.rh_shell.specs.declared.course.Course.TheVariants.{Going}
 use Rattle.rh_shell.specs.Moves.{EndPassage, Passage}
-use Rattle.rh_shell.specs.Shells.{Shell}
 use Rattle.rh_client.specs.declared.state.ClientRole.{ClientRole}
 use Rattle.rh_client.specs.Client as client
 use Rattle.rh_client.specs.Order as client_order
@@ -24,11 +23,13 @@ use Rattle.rh_outproxy.specs.OutProxy.{OutProxy, new_proxy}
 use Rattle.rh_server.specs.Order as server_order
 use Rattle.rh_server.specs.Servers as server
 use Rattle.rh_server.specs.States.{Server}
+use Rattle.rh_nodes.specs.declared.place.Place.{Place}
+use Rattle.rh_nodes.specs.declared.place.Place.TheVariants.{Gone}
 use Rattle.rh_nodes.specs.Company as company
 use Rattle.rh_nodes.specs.Opening.{Makers}
 use Rattle.rh_nodes.specs.World.{World, at}
 use Rattle.rh_history.specs.Changes.{Change, all_changed}
-use Rattle.rh_history.specs.Histories.{History, all_noted, nothing}
+use Rattle.rh_history.specs.Histories.{History, all_noted, in_place, nothing, out_place}
 use Rattle.rh_streams.specs.Streams.{EndStream, Stream}
 use Rattle.rh_traced.specs.Numbers.{is_made}
 use Rattle.rh_traced.specs.Ours.{deeds, rules}
@@ -36,7 +37,6 @@ use Rattle.rh_down.specs.Down.{client_reads, proxy_reads, server_reads}
 use Rattle.rh_proxies_begin.specs.Pipes.{ci, co, in_pipe, is, os}
 use Rattle.rh_fifo.specs.Flows.{Numbers}
 use Rattle.rh_paths.specs.Legs.{has_passed, was_left, was_told, was_up}
-use Rattle.rh_paths.specs.OnWay.{left_on}
 use Rattle.rh_paths.specs.Ways.{client_node, in_node, out_node, server_node}
 
 -- no node closed
@@ -52,17 +52,17 @@ pub record IsFinished {K : Type 0} (v : World K ClientRole Server InProxy OutPro
   pub done : company.finished rules v.company (at v leg end) leg ≡ true
   pub untold : was_told v h leg end ≡ false
 
--- and the leg is up there, or never was; so all that the node put there was drawn, and the handover
--- mark or END was among it
-pub record IsPutOut {K S : Type 0} (v : World K ClientRole Server InProxy OutProxy) (h : History)
-    (leg : Leg) (end : Side) (node : Shell S) (put : List Item) : Type 0 where
-  pub drawn : left_on node leg (was_up v h leg end) (was_told v h leg end) ≡ Some []
-  pub passed : has_passed put ≡ true
+-- and the leg is up there, or never was: it put the handover mark or END there
+abbrev pub Leaves : {K : Type 0} (v : World K ClientRole Server InProxy OutProxy) (h : History)
+    (leg : Leg) (end : Side) → List Item → Type 0
+Leaves v h leg end put =
+    IsFinished v h leg end → was_left v h leg end ≡ false → has_passed put ≡ true
 
-abbrev pub Leaves : {K S : Type 0} (v : World K ClientRole Server InProxy OutProxy)
-    (h : History) (leg : Leg) (end : Side) (node : Shell S) (put : List Item) → Type 0
-Leaves v h leg end node put =
-    IsFinished v h leg end → was_left v h leg end ≡ false → IsPutOut v h leg end node put
+-- no leg that came up at a proxy which was let go is up there
+abbrev pub IsLow : {K S : Type 0} → Place S → World K ClientRole Server InProxy OutProxy → History
+    → Leg → Side → Type 0
+IsLow place v h leg end =
+    (now : ℕ) → place ≡ Gone now → was_up v h leg end ≡ true → was_left v h leg end ≡ true
 
 -- the streams of the nodes
 abbrev pub ClientStream : Numbers → History → Type 0
@@ -114,15 +114,15 @@ pub record LegsAreLeft {K : Type 0} (numbers : Numbers)
   pub co_rises : (n : ℕ) → Rises v h (co n) side.Client
   pub ci_rises : (n : ℕ) → Rises v h (ci n) side.Server
   pub os_puts : (n : ℕ) → n ≤ writing → (s : ServerStream numbers h)
-      → Leaves v h (os n) side.Server (server_node numbers h) (server_order.sent s.passage n)
+      → Leaves v h (os n) side.Server (server_order.sent s.passage n)
   pub co_puts : (n : ℕ) (s : OutStream numbers h n)
-      → Leaves v h (co n) side.Server (out_node numbers h n)
-      (out_order.put_items n s.passage.put)
+      → Leaves v h (co n) side.Server (out_order.put_items n s.passage.put)
   pub ci_puts : (n : ℕ) (s : ClientStream numbers h)
-      → Leaves v h (ci n) side.Client (client_node numbers h)
-      (client_order.put_log s.passage.passage.put n)
+      → Leaves v h (ci n) side.Client (client_order.put_log s.passage.passage.put n)
   pub is_puts : (n : ℕ) (s : InStream numbers h n)
-      → Leaves v h (is n) side.Client (in_node numbers h n) (in_order.put_items s.passage.put)
+      → Leaves v h (is n) side.Client (in_order.put_items s.passage.put)
+  pub co_low : (n : ℕ) → IsLow (out_place v.company n) v h (co n) side.Server
+  pub is_low : (n : ℕ) → IsLow (in_place v.company n) v h (is n) side.Client
 
 -- so it is behind each front of the changes that lead to a world, while no node closed; and a leg
 -- of an in proxy that is made at last came up at the server before this has it finished

@@ -37,6 +37,7 @@ use rh_passed::{
 use rh_paths::nothing_on_its_way_is_lost;
 use rh_proxies_begin::proxies_keep_their_pipes;
 use rh_server::{ServerRole, a_server_takes_in_order};
+use rh_shell::{ends_move_by_their_rules, roles_move_by_their_rules};
 use rh_traced::{
     a_recording_of_roles_is_known, channels_come_up_in_order, legs_of_roles_come_up_once,
 };
@@ -77,6 +78,10 @@ pub fn what_is_lost_in_time_had_passed<K>()
     channels_come_up_in_order::<K, ClientRole, ServerRole, InProxyRole, OutProxyRole>();
     no_head_that_comes_asks_for_an_echo::<K>();
     what_comes_is_read::<K>();
+    ends_move_by_their_rules::<ClientRole>();
+    ends_move_by_their_rules::<ServerRole>();
+    roles_move_by_their_rules::<InProxyRole>();
+    roles_move_by_their_rules::<OutProxyRole>();
     a_leg_of_use_is_kept();
     a_leg_that_came_up_is_known();
     a_client_takes_in_order();

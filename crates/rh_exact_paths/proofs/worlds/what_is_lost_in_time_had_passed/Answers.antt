@@ -73,6 +73,10 @@ returns g c = record {
       out_unused = c.a_leg_that_an_out_proxy_left_stays_unused.ensures;
       client_unused = c.a_leg_that_a_client_left_stays_unused.ensures.calls;
       server_unused = c.a_leg_that_a_server_left_stays_unused.ensures.calls;
+      client_follows = c.ends_move_by_their_rules.ensures.event;
+      server_follows = c.ends_move_by_their_rules-2.ensures.event;
+      in_follows = c.roles_move_by_their_rules.ensures.event;
+      out_follows = c.roles_move_by_their_rules-2.ensures.event;
       client_refuses = c.an_end_never_refuses.ensures.client;
       server_refuses = c.an_end_never_refuses.ensures.server;
     }
