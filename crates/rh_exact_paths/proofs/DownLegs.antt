@@ -44,8 +44,8 @@ use Rattle.rh_exact_paths.proofs.Fates.{Facts, goes_or_passed}
 use Rattle.rh_exact_paths.proofs.Fronts.{front_more}
 use Rattle.rh_exact_paths.proofs.Grown.{client_grown, out_grown}
 use Rattle.rh_exact_paths.proofs.Receivers.{client_later, out_later}
-use Rattle.rh_exact_paths.proofs.Worlds as worlds
-use Rattle.rh_exact_paths.proofs.Worlds.{NodeLaws, OurWorld, WorldLaws}
+use Rattle.rh_exact_paths.proofs.AtFronts as worlds
+use Rattle.rh_exact_paths.proofs.AtFronts.{NodeLaws, OurWorld, WorldLaws}
 
 -- each channel down is read by the out proxy of its number
 own_reader : (n : ℕ) → reader has_leg n ≡ n

@@ -9,7 +9,7 @@ mod Drawn
 mod Later
 mod Shelves
 mod Receivers
-mod Worlds
+mod AtFronts
 mod Clients
 mod DownLegs
 mod UpLegs

@@ -61,8 +61,8 @@ use Rattle.rh_exact_paths.proofs.Fronts.{front_more}
 use Rattle.rh_exact_paths.proofs.Grown.{in_grown, server_grown}
 use Rattle.rh_exact_paths.proofs.Receivers.{in_later, in_passed, server_later}
 use Rattle.rh_exact_paths.proofs.Shelves.{either, or_first, or_second, passed_more}
-use Rattle.rh_exact_paths.proofs.Worlds as worlds
-use Rattle.rh_exact_paths.proofs.Worlds.{NodeLaws, OurWorld, WorldLaws}
+use Rattle.rh_exact_paths.proofs.AtFronts as worlds
+use Rattle.rh_exact_paths.proofs.AtFronts.{NodeLaws, OurWorld, WorldLaws}
 
 if_there : (b : Bool) (items : List Item) → b ≡ true → (if b then items else []) ≡ items
 if_there true items e = refl

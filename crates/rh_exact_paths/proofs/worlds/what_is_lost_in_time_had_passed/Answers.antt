@@ -15,7 +15,7 @@ use Rattle.rh_paths.specs.Ways.{AreOnTheirWay, down_lost, up_lost}
 use Rattle.rh_exact_ways.specs.Pdus.{NoneStopsButBehindEnd}
 use Rattle.rh_exact_paths.proofs.DownLegs.{none_stops_down}
 use Rattle.rh_exact_paths.proofs.UpLegs.{none_stops_up}
-use Rattle.rh_exact_paths.proofs.Worlds.{NodeLaws, WorldLaws}
+use Rattle.rh_exact_paths.proofs.AtFronts.{NodeLaws, WorldLaws}
 use Rattle.rh_exact_paths.proofs.worlds.what_is_lost_in_time_had_passed.Goals as goal
 
 pub returns : goal.returns
