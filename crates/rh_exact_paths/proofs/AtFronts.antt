@@ -1,6 +1,6 @@
 -- fronts of the changes that lead to a world of roles: what is known behind each
 use Rattle.std.proofs.Common.{◌≡◌, ◌≢◌, ◌⊎◌, inl, inr, ◌<◌, ◌≤◌, ℕ, zero, suc, List, [], ◌∷◌, ◌++◌, Bool, true, false, true≢false, not, ◌&&◌, Some, None, arith, refl, sym, ap, ◌∙◌, subst}
-use Rattle.std.specs.List.{AllByRecursion, list_all}
+use Rattle.std.specs.List.{AllByRecursion, list_all, list_any}
 use Rattle.std.specs.declared.option.Option.{Option}
 use Rattle.std.proofs.lemmas.Bool.{and_parts, cases_eq}
 use mathlib.Core.List.{IsPrefix}
@@ -14,7 +14,7 @@ use Rattle.rh_shell.specs.declared.course.Course.TheVariants.{Going}
 use Rattle.rh_shell.specs.declared.rooms.Rooms.{Rooms}
 use Rattle.rh_shell.specs.Moving.{EndEvent, Event, after_end_events, after_events}
 use Rattle.rh_shell.specs.Rules.{Acts, Rules}
-use Rattle.rh_shell.specs.Moves.{is_in_use}
+use Rattle.rh_shell.specs.Moves.{Passage, is_in_use}
 use Rattle.rh_shell.specs.Shells.{Shell, begun, end_at, finished}
 use Rattle.rh_client.specs.declared.state.ClientRole.{ClientRole}
 use Rattle.rh_client.specs.Client as client
@@ -45,14 +45,14 @@ use Rattle.rh_causes.proofs.OnceUp.{AllFollow, AllFollowAtEnd}
 use Rattle.rh_history.proofs.Leading.{cast_kept}
 use Rattle.rh_history.proofs.Numbers.{asked}
 use Rattle.rh_history.proofs.Recordings.{traced_first}
-use Rattle.rh_streams.specs.Streams.{HasPipes, HearsInTurn, NeverRefuses, StaysUnused, StaysUnusedAtEnd, Stream}
+use Rattle.rh_streams.specs.Streams.{HasPipes, HearsInTurn, NeverRefuses, StaysUnused, StaysUnusedAtEnd, Stream, is_up_on}
 use Rattle.rh_growing.specs.Growing.{EndGrowing, Growing}
 use Rattle.rh_traced.specs.Cookies.{ByChanges}
 use Rattle.rh_traced.specs.Numbers.{ComeUpByLines, ComeUpInOrder, is_made}
 use Rattle.rh_traced.specs.Ours.{AreOurs, deeds, rules}
 use Rattle.rh_traced.specs.Recordings.{IsKnown, history_at}
 use Rattle.rh_traced.proofs.ByChanges.{lines_by_changes}
-use Rattle.rh_proxies_begin.specs.Pipes.{in_pipe, out_pipe}
+use Rattle.rh_proxies_begin.specs.Pipes.{in_pipe, os, out_pipe}
 use Rattle.rh_down.specs.Down.{client_reads, proxy_reads, server_reads}
 use Rattle.rh_first_texts.specs.Ports.{IsPort}
 use Rattle.rh_fifo.proofs.Marked.{RouteLaws}
@@ -68,11 +68,12 @@ use Rattle.rh_exact_ways.specs.Keeping.{KeepsIfOfUse, KnowsLeg}
 use Rattle.rh_exact_ways.proofs.Passing.{InLaw, OutLaw, ServerLaw}
 use Rattle.rh_exact_paths.specs.Leaving.{AllGoOn}
 use Rattle.rh_exact_paths.proofs.Drawn.{finished_empty, nothing_left, place_empty}
-use Rattle.rh_exact_paths.proofs.Finished.{finished_unused, place_unused}
+use Rattle.rh_exact_paths.proofs.Finished.{finished_unused, known_place, place_unused}
 use Rattle.rh_exact_paths.proofs.Fronts.{IsEnded, all_front, allowed_front}
 use Rattle.rh_exact_paths.proofs.Grown.{client_grown, end_going_before, going_before, in_grown, out_grown, server_grown}
 use Rattle.rh_exact_paths.proofs.Left.{left_by_change, reader_stays}
 use Rattle.rh_exact_paths.proofs.Marks.{run_clean, run_clean_at_end, unmarked}
+use Rattle.rh_exact_paths.proofs.OutRises.{rose_or_done}
 use Rattle.rh_exact_paths.proofs.Receivers.{ClientOrder, InOrder, OutOrder, ServerOrder}
 use Rattle.rh_exact_paths.proofs.Told.{told_by_change}
 
@@ -403,6 +404,47 @@ module _ {K : Type 0} (m : Makers K InProxy OutProxy) (w : OurWorld K) (new : Is
       (node.keeps_out (ours.out_config n) ((H e).outs n) leg (out_accepted e here n) up untold
       (out_goes e here n)) (out_place (W e).company n) ((ways e here).nodes.outs n)
       (sym (asked Absent (places.finished out_proxy.rules leg) (W e).company.outs n) ∙ done)
+
+  -- so it is of an out proxy's os leg, also where that never came up
+  pub os_unused : (e : List Change) (here : At e) (n : ℕ)
+      → company.finished rules (W e).company (who.Out n) (os n) ≡ true
+      → was_lost (os n) ((H e).outs n) ≡ false
+      → is_in_use out_proxy.rules (out_node numbers (H e) n).role (os n) ≡ false
+  os_unused e here n done untold =
+      known_place out_proxy.rules (begun (new_proxy (ours.out_config n)) ROOMS) ((H e).outs n)
+      (os n) (out_goes e here n) (came_up (os n) ((H e).outs n))
+      (node.knows_out (ours.out_config n) ((H e).outs n) (os n) (out_accepted e here n)).absent
+      (λ up.
+      node.keeps_out (ours.out_config n) ((H e).outs n) (os n) (out_accepted e here n) up untold
+      (out_goes e here n)) known_there (out_place (W e).company n) ((ways e here).nodes.outs n)
+      (sym (asked Absent (places.finished out_proxy.rules (os n)) (W e).company.outs n) ∙ done)
+    where
+      role : OutProxy
+      role = (out_node numbers (H e) n).role
+
+      s : Stream out_proxy.rules (new_proxy (ours.out_config n)) ROOMS
+          (proxy_reads (ours.out_config n)) ((H e).outs n)
+      s = (ways e here).directions.down.proxies n
+
+      rose : (list_any (is_up_on (os n)) s.leads.moves ≡ true)
+          ⊎ (is_in_use out_proxy.rules role (os n) ≡ false)
+          → (came_up (os n) ((H e).outs n) ≡ true)
+          ⊎ (is_in_use out_proxy.rules role (os n) ≡ false)
+      rose (inl up) = inl (sym (s.ups (os n)) ∙ up)
+      rose (inr none) = inr none
+
+      known_there : out_proxy.rules.was_up role (os n) ≡ true
+          → (came_up (os n) ((H e).outs n) ≡ true)
+          ⊎ (is_in_use out_proxy.rules role (os n) ≡ false)
+      known_there was =
+          rose (subst (λ (r : OutProxy). out_proxy.rules.was_up r (os n) ≡ true
+          → (list_any (is_up_on (os n)) s.leads.moves ≡ true)
+          ⊎ (is_in_use out_proxy.rules r (os n) ≡ false)) s.role
+          (subst (λ (p : Passage OutProxy). out_proxy.rules.was_up p.role (os n) ≡ true
+          → (list_any (is_up_on (os n)) s.leads.moves ≡ true)
+          ⊎ (is_in_use out_proxy.rules p.role (os n) ≡ false)) s.leads.reached
+          (rose_or_done (ours.out_config n) n (ours.out_number n) s.leads.moves
+          s.leads.allowed)) was)
 
   -- ---- nothing is begun there
 

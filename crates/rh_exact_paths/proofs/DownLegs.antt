@@ -138,8 +138,7 @@ module _ {K : Type 0} (m : Makers K InProxy OutProxy) (w : OurWorld K) (new : Is
       passes = λ e here up unused. near_passes e here unused;
       finished = λ e here done untold.
           near_passes e here
-          (worlds.out_unused m w new ours node law changes allowed works going e here n (os n) done
-          ((leaves e here).os_rises n done) untold);
+          (worlds.os_unused m w new ours node law changes allowed works going e here n done untold);
       put = λ e here done untold unleft. (
         worlds.server_drawn m w new ours node law changes allowed works going e here (os n)
             (was_up (W e) (H e) (os n) side.Server) done untold,

@@ -71,3 +71,39 @@ place_unused rules made events leg going kept (Here node legs) run done =
     (subst (λ x. finished rules x leg ≡ true) run done) kept
 place_unused rules made events leg going kept (Gone now) run done =
     stopped_unused rules (after_events rules made events) leg going run.stopped
+
+-- where the role knows only legs as ones that were up that came up, or for which it has no use
+module _ {S : Type 0} (rules : Rules S) (made : Shell S) (events : List Event) (leg : Leg)
+    (going : (after_events rules made events).course ≡ Going) (rose : Bool) where
+  abbrev node : Shell S
+  node = after_events rules made events
+
+  abbrev pub Unused : Type 0
+  Unused = is_in_use rules node.role leg ≡ false
+
+  known_unused : (rose ≡ false → end_at node leg ≡ None)
+      → (rose ≡ true → KeepsEnd node leg ⊎ Unused)
+      → (rules.was_up node.role leg ≡ true → (rose ≡ true) ⊎ Unused)
+      → finished rules node leg ≡ true → Unused
+  known_unused absent kept known done = by rose refl
+    where
+      on : rose ≡ false → (rose ≡ true) ⊎ Unused → Unused
+      on e (inl up) = absurd (true≢false (sym up ∙ e))
+      on e (inr none) = none
+
+      by : (b : Bool) → rose ≡ b → Unused
+      by true e = finished_unused rules node leg going done (kept e)
+      by false e =
+          on e (known (sym (ap (finished_by rules node leg) going
+          ∙ ap (finished_at rules node leg) (absent e)) ∙ done))
+
+  pub known_place : (rose ≡ false → end_at node leg ≡ None)
+      → (rose ≡ true → KeepsEnd node leg ⊎ Unused)
+      → (rules.was_up node.role leg ≡ true → (rose ≡ true) ⊎ Unused)
+      → (place : Place S) → IsRun rules made events place
+      → places.finished rules leg place ≡ true → Unused
+  known_place absent kept known Absent run done = absurd (true≢false (sym done))
+  known_place absent kept known (Here here legs) run done =
+      known_unused absent kept known (subst (λ x. finished rules x leg ≡ true) run done)
+  known_place absent kept known (Gone now) run done =
+      stopped_unused rules node leg going run.stopped

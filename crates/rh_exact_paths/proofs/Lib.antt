@@ -4,6 +4,7 @@ mod Left
 mod Grown
 mod Fates
 mod Finished
+mod OutRises
 mod Marks
 mod Drawn
 mod Later

@@ -106,11 +106,10 @@ abbrev pub Rises : {K : Type 0} → World K ClientRole Server InProxy OutProxy �
 Rises v h leg end =
     company.finished rules v.company (at v leg end) leg ≡ true → was_up v h leg end ≡ true
 
--- so it is of the nodes that take, but for a server, which knows numbers that have no leg of their
--- own; and the nodes that put left it behind its handover mark or END, as far as the server wrote
+-- so it is of a client and of in proxies; the nodes that put left a leg behind its handover mark or
+-- END, as far as the server wrote; and where a proxy was let go, its leg went down
 pub record LegsAreLeft {K : Type 0} (numbers : Numbers)
     (v : World K ClientRole Server InProxy OutProxy) (h : History) (writing : ℕ) : Type 0 where
-  pub os_rises : (n : ℕ) → Rises v h (os n) side.Client
   pub co_rises : (n : ℕ) → Rises v h (co n) side.Client
   pub ci_rises : (n : ℕ) → Rises v h (ci n) side.Server
   pub os_puts : (n : ℕ) → n ≤ writing → (s : ServerStream numbers h)
