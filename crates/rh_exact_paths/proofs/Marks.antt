@@ -218,7 +218,8 @@ module _ {S : Type 0} (rules : Rules S) (leg : Leg) where
     all_clean s [] held clean kept = clean
     all_clean s (event ∷ events) held clean kept =
         let both = neither (is_loss_of leg event) (was_lost leg events) kept in
-        all_clean (after_event rules s event) events (follow (started s.role) s event refl held).held
+        all_clean (after_event rules s event) events
+        (follow (started s.role) s event refl held).held
         (after s held clean event both.0) both.1
 
     pub run_clean : (first : S) (rooms : Rooms) (events : List Event)
