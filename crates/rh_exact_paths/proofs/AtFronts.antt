@@ -59,7 +59,7 @@ use Rattle.rh_fifo.proofs.Marked.{RouteLaws}
 use Rattle.rh_fifo.specs.Flows.{Numbers, numbers_of}
 use Rattle.rh_fifo.specs.Premises.{AreInRange}
 use Rattle.rh_passed.specs.Passed.{AsksNoEcho, HeadsAre}
-use Rattle.rh_exact_paths.specs.Stub.{IsRead}
+use Rattle.rh_live_intakes.specs.Live.{IsRead}
 use Rattle.rh_paths.specs.Legs.{was_left, was_told}
 use Rattle.rh_paths.specs.Lost.{was_lost}
 use Rattle.rh_paths.specs.OnWay.{left_on}

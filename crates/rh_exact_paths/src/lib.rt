@@ -3,7 +3,6 @@
 #![tactic(auto)]
 
 pub mod recordings;
-pub mod stub;
 pub mod worlds;
 
 pub use recordings::recordings_lose_nothing;

@@ -19,7 +19,6 @@ ghost use Rattle.rh_exact_ways.specs.Pdus.{NoneStopsButBehindEnd};
 ghost use Rattle.rh_exact_paths.specs.Exact.{IsExact};
 ghost use Rattle.rh_exact_paths.specs.Leaving.{AllGoOn, AllLeave};
 
-use crate::stub::what_comes_is_read;
 use rh_client::{ClientRole, a_client_takes_in_order};
 use rh_down::what_goes_down_is_a_route;
 use rh_ends_begin::an_end_never_refuses;
@@ -29,6 +28,7 @@ use rh_exact_ways::{
 };
 use rh_growing::{a_nodes_stream_grows, an_ends_stream_grows};
 use rh_inproxy::{InProxyRole, an_in_proxy_keeps_order};
+use rh_live_intakes::what_comes_is_read;
 use rh_outproxy::{OutProxyRole, an_out_proxy_keeps_order};
 use rh_passed::{
     a_server_is_done_behind_a_mark, an_in_proxy_is_done_behind_a_mark_or_end,

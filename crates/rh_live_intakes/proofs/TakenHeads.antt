@@ -68,7 +68,7 @@ IsNoEcho verdict =
 
 in_frames : (s : InProxy) (n : ℕ) (verdict : Result Asked HttpFault) (taken : HeadTaken)
     → IsNoEcho verdict → (in_opening.head_by s n verdict).1 ≡ Ok taken → taken.behind ≡ Frames
-in_frames s n (Err fault) taken none e = absurd cc
+in_frames s n (Err fault) taken none = λ e. absurd cc
 in_frames s n (Ok request) taken none =
     by_test (λ (x : InProxy × Result HeadTaken HeadRefused).
     x.1 ≡ Ok taken → taken.behind ≡ Frames) (nat_le request.length greatest_echo)
@@ -83,7 +83,7 @@ in_brings pipe leg heard none top text first role taken =
 
 out_frames : (s : OutProxy) (verdict : Result Asked HttpFault) (taken : HeadTaken)
     → IsNoEcho verdict → (out_opening.head_by s verdict).1 ≡ Ok taken → taken.behind ≡ Frames
-out_frames s (Err fault) taken none e = absurd cc
+out_frames s (Err fault) taken none = λ e. absurd cc
 out_frames s (Ok request) taken none =
     by_test (λ (x : OutProxy × Result HeadTaken HeadRefused).
     x.1 ≡ Ok taken → taken.behind ≡ Frames) (nat_le request.length greatest_echo) _ _
