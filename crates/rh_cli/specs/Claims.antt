@@ -1,5 +1,6 @@
 -- what holds of every recording, beside its report
 use Rattle.std.specs.Prelude.{◌≡◌, ◌≤◌, ◌++◌, ℕ, List, [], ◌∷◌, true}
+use Rattle.rh_http.specs.declared.lengths.TheConstants.{SERVICE_UNAVAILABLE}
 use Rattle.rh_line.specs.declared.cause.Cause.{Cause}
 use Rattle.rh_line.specs.declared.cause.Cause.TheVariants.{HttpRefused, LegBroken, LegEnded, Silent}
 use Rattle.rh_line.specs.declared.leg.Leg.{Leg}
@@ -43,11 +44,11 @@ pub record RefusesForBreak (before : List Line) (line : Line) : Type 0 where
   pub out_channel : (node : Who) (n status : ℕ)
       → IsOneOf (NodeClosed node (HttpRefused (leg_at ClientOut n) status))
       (step (after Before before) line).1
-      → (status ≡ 503) × ReportsBreak (before ++ line ∷ []) (leg_at OutServer n)
+      → (status ≡ SERVICE_UNAVAILABLE) × ReportsBreak (before ++ line ∷ []) (leg_at OutServer n)
   pub in_channel : (node : Who) (n status : ℕ)
       → IsOneOf (NodeClosed node (HttpRefused (leg_at ClientIn n) status))
       (step (after Before before) line).1
-      → (status ≡ 503) × ReportsBreak (before ++ line ∷ []) (leg_at InServer n)
+      → (status ≡ SERVICE_UNAVAILABLE) × ReportsBreak (before ++ line ∷ []) (leg_at InServer n)
 
 -- what no node did: a leg broke or ended, a channel's proxy refused its request, or no byte came
 -- for too long

@@ -2,12 +2,10 @@ mod Rests
 mod Pdus
 mod Ended
 mod Stops
-mod KeptEnds
 mod NodeKeeps
 mod CameUp
 mod ClientOver
 mod HeadTexts
-mod WorldHeads
 mod ReadBy
 mod Passing
 mod LegGoes

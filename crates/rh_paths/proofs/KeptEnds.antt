@@ -23,7 +23,7 @@ use Rattle.rh_shell.specs.Shells.{Shell, bytes_at, bytes_by, broken_at, broken_b
 use Rattle.rh_streams.proofs.Draws.{draw_drew}
 use Rattle.rh_streams.proofs.Ends.{end_has, end_is, end_leg, end_of, leg_is, set_beside, set_here}
 use Rattle.rh_streams.proofs.Pieces.{piece_heard}
-use Rattle.rh_exact_ways.specs.Keeping.{KeepsEnd, is_loss_of}
+use Rattle.rh_paths.specs.Lost.{is_loss_of}
 
 -- ---- an end among others
 
@@ -86,13 +86,18 @@ seat_forgets leg ends i new end other at = by (nat_lt i (length ends))
     by true = set_forgets leg ends i new end other at
     by false = inl (push_stays leg ends new end at)
 
--- ---- a finished end that was not told lost is of no use
+-- ---- a finished end that was not told lost is of no use, and nothing is begun there
 
-unused_if : (marked useless empty : Bool) → marked ≡ false
-    → (marked || (useless && empty)) ≡ true → useless ≡ true
-unused_if true useless empty m e = absurd cc
-unused_if false true empty m e = refl
-unused_if false false empty m e = absurd cc
+finished_if : (marked useless empty : Bool) → marked ≡ false
+    → (marked || (useless && empty)) ≡ true → (useless ≡ true) × (empty ≡ true)
+finished_if true useless empty m e = absurd cc
+finished_if false true true m e = (refl, refl)
+finished_if false true false m e = absurd cc
+finished_if false false empty m e = absurd cc
+
+none_begun : (begun : List ℕ) → is_empty begun ≡ true → begun ≡ []
+none_begun [] e = refl
+none_begun (b ∷ bs) e = absurd cc
 
 not_used : (done ended : Bool) → (done || ended) ≡ true → (not ended && not done) ≡ false
 not_used true true e = refl
@@ -110,25 +115,32 @@ module _ {S : Type 0} (rules : Rules S) (leg : Leg) where
     pub at : end_of leg s.legs ≡ Some end
     pub unmarked : is_marked end.standing ≡ false
 
-  pub keeps_end : (s : Shell S) → Stands s → KeepsEnd s leg
-  keeps_end s h = record {
-    end = h.end;
-    at = end_is leg s.legs ∙ h.at;
-    unmarked = h.unmarked;
-  }
+  -- it is of no use, and all that was begun there was drawn
+  pub record IsLeft (s : Shell S) : Type 0 where
+    pub end : NearEnd
+    pub at : end_of leg s.legs ≡ Some end
+    pub undrawn : end.begun ≡ []
+    pub unused : Unused s.role
 
-  unused : (role : S) (end : NearEnd) → end.leg ≡ leg → is_marked end.standing ≡ false
-      → is_finished rules role end ≡ true → Unused role
-  unused role end same unmarked done =
-      subst (λ (l : Leg). is_in_use rules role l ≡ false) same
-      (not_used (rules.is_done role end.leg) (is_ended (rules.phase role))
-      (unused_if (is_marked end.standing) (is_useless rules end role) (is_empty end.begun)
-      unmarked done))
+  left : (s : Shell S) (end : NearEnd) → end_of leg s.legs ≡ Some end
+      → is_marked end.standing ≡ false → is_finished rules s.role end ≡ true → IsLeft s
+  left s end at unmarked done =
+      let both = finished_if (is_marked end.standing) (is_useless rules end s.role)
+      (is_empty end.begun) unmarked done in
+      record {
+        end = end;
+        at = at;
+        undrawn = none_begun end.begun both.1;
+        unused =
+            subst (λ (l : Leg). is_in_use rules s.role l ≡ false)
+            (leg_is end.leg leg (end_leg leg s.legs end at))
+            (not_used (rules.is_done s.role end.leg) (is_ended (rules.phase s.role)) both.0);
+      }
 
-  -- behind an event: it goes on only if it did, and stands or was of no use
+  -- behind an event: it goes on only if it did, and stands or was left
   pub record Behind (s t : Shell S) : Type 0 where
     pub going : t.course ≡ Going → s.course ≡ Going
-    pub stands : t.course ≡ Going → Stands s → Stands t ⊎ Unused s.role
+    pub stands : t.course ≡ Going → Stands s → Stands t ⊎ IsLeft s
 
   same_legs : (s t : Shell S) → t.legs ≡ s.legs → (t.course ≡ Going → s.course ≡ Going)
       → Behind s t
@@ -330,13 +342,12 @@ module _ {S : Type 0} (rules : Rules S) (leg : Leg) where
           on : (h : Stands s)
               → (end_of leg (seated_at s.legs at new) ≡ Some h.end)
               ⊎ (slice_get s.legs at ≡ Some h.end)
-              → Stands (with_leg rules s k cookie) ⊎ Unused s.role
+              → Stands (with_leg rules s k cookie) ⊎ IsLeft s
           on h (inl stays) =
               inl (record { end = h.end; at = stays; unmarked = h.unmarked })
           on h (inr there) =
               let free = found_passes (is_free rules s.role k.kind) s.legs h.end there in
-              inr (unused s.role h.end (leg_is h.end.leg leg (end_leg leg s.legs h.end h.at))
-              h.unmarked
+              inr (left s h.end h.at h.unmarked
               (and_parts (is_of k.kind h.end.leg) (is_finished rules s.role h.end) free).1)
 
           by : (t : Bool) → Behind s (cond t (with_leg rules s k cookie) s)
