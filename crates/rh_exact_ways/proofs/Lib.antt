@@ -6,7 +6,7 @@ mod NodeKeeps
 mod CameUp
 mod ClientOver
 mod HeadTexts
-mod ReadBy
-mod Passing
+pub mod ReadBy
+pub mod Passing
 mod LegGoes
 mod NoLoss
