@@ -1,7 +1,8 @@
 #!/usr/bin/env python3
 """Measures how fast 64 MB of packets in hex are shown: RTS packets, long paddings, other PDUs, random bodies.
 
-The program is crates/rh_cli/out/rh_cli, as `./rh_cli --version` leaves it.
+The program is crates/rh_cli/out/rh_cli, as `./rh_cli --version` leaves it. bench/plain has the word
+too: `rustc -O --edition 2021 -o PATH bench/plain/main.rs` builds it for --against.
 """
 import itertools
 import random

@@ -26,12 +26,22 @@ const PAIRS: [[u8; 2]; 256] = {
     pairs
 };
 
+/// The two digits of a byte.
+pub fn pair(byte: u8) -> [u8; 2] {
+    PAIRS[usize::from(byte)]
+}
+
 pub fn write(out: &mut Vec<u8>, bytes: &[u8]) {
     let start = out.len();
     out.resize(start + 2 * bytes.len(), 0);
-    for (pair, &byte) in out[start..].chunks_exact_mut(2).zip(bytes) {
-        pair.copy_from_slice(&PAIRS[usize::from(byte)]);
+    for (two, &byte) in out[start..].chunks_exact_mut(2).zip(bytes) {
+        two.copy_from_slice(&pair(byte));
     }
+}
+
+/// Whether there are as many digits as spell 1 to `most` bytes.
+pub fn fits(text: &[u8], most: usize) -> bool {
+    !text.is_empty() && text.len() % 2 == 0 && text.len() <= 2 * most
 }
 
 /// Whether all of these are digits.
@@ -39,11 +49,13 @@ pub fn is_hex(text: &[u8]) -> bool {
     text.iter().fold(0, |all, &digit| all | VALUES[usize::from(digit)]) != NO_DIGIT
 }
 
+/// The byte that two digits spell.
+pub fn byte(two: &[u8; 2]) -> u8 {
+    VALUES[usize::from(two[0])] << 4 | VALUES[usize::from(two[1])]
+}
+
 /// Reads digits, of which all are known to be some, into `bytes`.
 pub fn read(text: &[u8], bytes: &mut Vec<u8>) {
     bytes.clear();
-    bytes.extend(
-        text.chunks_exact(2)
-            .map(|two| VALUES[usize::from(two[0])] << 4 | VALUES[usize::from(two[1])]),
-    );
+    bytes.extend(text.as_chunks().0.iter().map(byte));
 }

@@ -87,7 +87,7 @@ impl fmt::Display for Cause {
             Cause::LegEnded { leg, partial } => write!(f, "2 LegEnded {leg} {partial}"),
             Cause::BadFrame { leg, place, fault } => write!(f, "3 BadFrame {leg} {place} {fault}"),
             Cause::BadPacket { leg, place, fault } => {
-                write!(f, "4 BadPacket {leg} {place} {:?} {}", fault.kind, fault.place)
+                write!(f, "4 BadPacket {leg} {place} {fault}")
             }
             Cause::Unexpected { leg, place } => write!(f, "5 Unexpected {leg} {place}"),
             Cause::CookieMismatch { leg, expected, got } => {

@@ -1,8 +1,10 @@
-//! RPC over HTTP version 2, replayed without proofs: a program to measure the proved one against.
+//! RPC over HTTP version 2, replayed and shown without proofs: a program to measure the proved one
+//! against.
 //!
 //!     rustc -O --edition 2021 bench/plain/main.rs
 //!
-//! Words: `replay` reads a recording and writes its report; `make <n>` sums up a generated run.
+//! Words: `replay` reads a recording and writes its report; `show` reads a packet in hex from each
+//! line and tells it in one; `make <n>` sums up a generated run.
 
 mod client;
 mod direct;
@@ -19,11 +21,13 @@ mod record;
 mod report;
 mod rts;
 mod server;
+mod show;
 #[cfg(test)]
 mod tests;
 mod window;
 mod world;
 
+use report::Report;
 use std::io::{self, Read};
 use std::process::ExitCode;
 
@@ -38,21 +42,36 @@ enum Fault {
     TooLong,
 }
 
-fn replay() -> Result<(), Fault> {
+fn read_input() -> Result<Vec<u8>, Fault> {
     let mut input = Vec::new();
     let most = MOST_INPUT as u64 + 1;
     io::stdin().lock().take(most).read_to_end(&mut input).map_err(|_| Fault::Read)?;
     if input.len() > MOST_INPUT {
         return Err(Fault::TooLong);
     }
-    let recording = record::Recording::read(&input).map_err(Fault::BadInput)?;
+    Ok(input)
+}
+
+fn write_report(write: impl FnOnce(&mut Report)) -> Result<(), Fault> {
     let mut output = io::stdout().lock();
-    let mut report = report::Report::new(&mut output);
-    match recording.roles {
-        true => world::run(&recording, &mut report),
-        false => direct::run(&recording, &mut report),
-    }
+    let mut report = Report::new(&mut output);
+    write(&mut report);
     report.end().map_err(|_| Fault::Write)
+}
+
+fn replay() -> Result<(), Fault> {
+    let input = read_input()?;
+    let recording = record::Recording::read(&input).map_err(Fault::BadInput)?;
+    write_report(|report| match recording.roles {
+        true => world::run(&recording, report),
+        false => direct::run(&recording, report),
+    })
+}
+
+fn show() -> Result<(), Fault> {
+    let input = read_input()?;
+    let packets = show::Packets::read(&input).map_err(Fault::BadInput)?;
+    write_report(|report| packets.show(report))
 }
 
 fn make(word: &str) -> Result<(), Fault> {
@@ -67,6 +86,7 @@ fn run() -> Result<(), Fault> {
         std::env::args_os().skip(1).map(|word| word.to_string_lossy().into_owned()).collect();
     match words.iter().map(String::as_str).collect::<Vec<_>>()[..] {
         ["replay"] => replay(),
+        ["show"] => show(),
         ["make", n] => make(n),
         _ => Err(Fault::Usage),
     }

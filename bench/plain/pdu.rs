@@ -67,17 +67,32 @@ pub fn frame_len(bytes: &[u8]) -> Result<usize, HeadFault> {
     }
 }
 
+/// The call_id of a header in which nothing is wrong.
+pub fn call_id(header: &[u8]) -> u32 {
+    let four = [header[12], header[13], header[14], header[15]];
+    if header[4] >> 4 == 0 {
+        u32::from_be_bytes(four)
+    } else {
+        u32::from_le_bytes(four)
+    }
+}
+
 /// Whether an end may give these bytes.
 pub fn check(bytes: &[u8]) -> Result<(), PduFault> {
-    if bytes.len() < HEADER_LEN {
-        return Err(PduFault::Cut(bytes.len()));
+    check_front(bytes, bytes.len())
+}
+
+/// Whether an end may give `len` bytes, of which the first are these: a whole header, or all.
+pub fn check_front(front: &[u8], len: usize) -> Result<(), PduFault> {
+    if len < HEADER_LEN {
+        return Err(PduFault::Cut(len));
     }
-    let frag = frame_len(bytes).map_err(PduFault::Head)?;
-    if bytes[2] == PTYPE_RTS {
+    let frag = frame_len(front).map_err(PduFault::Head)?;
+    if front[2] == PTYPE_RTS {
         return Err(PduFault::Rts);
     }
-    if frag != bytes.len() {
-        return Err(PduFault::Length { frag: frag as u16, len: bytes.len() });
+    if frag != len {
+        return Err(PduFault::Length { frag: frag as u16, len });
     }
     Ok(())
 }

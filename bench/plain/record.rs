@@ -123,8 +123,7 @@ fn read_line(text: &[u8], roles: bool) -> Option<Line<'_>> {
     if let Some(rest) = text.strip_prefix(b"give ") {
         let (end, hex) = rest.split_at_checked(2)?;
         let side = side(end.strip_suffix(b" ")?)?;
-        let fits = !hex.is_empty() && hex.len() % 2 == 0 && hex.len() <= 2 * MOST_BYTES;
-        return fits.then_some(Line::Give { side, hex });
+        return hex::fits(hex, MOST_BYTES).then_some(Line::Give { side, hex });
     }
     let mut words: [&[u8]; 5] = [&[]; 5];
     let mut len = 0;
@@ -187,22 +186,27 @@ fn split_line(text: &[u8]) -> Option<(&[u8], &[u8])> {
     Some((line.strip_suffix(b"\n").unwrap_or(line), rest))
 }
 
+/// The lines, without their LFs.
+pub fn lines_of(mut text: &[u8]) -> impl Iterator<Item = &[u8]> {
+    std::iter::from_fn(move || {
+        let (line, rest) = split_line(text)?;
+        text = rest;
+        Some(line)
+    })
+}
+
 impl<'a> Recording<'a> {
     /// Reads all lines; refuses with the number of the first one outside the grammar.
     pub fn read(text: &'a [u8]) -> Result<Recording<'a>, u64> {
-        let (first, mut rest) = split_line(text).ok_or(1u64)?;
+        let (first, lines) = split_line(text).ok_or(1u64)?;
         let roles = match first {
             b"rh 1 direct" => false,
             b"rh 1 roles" => true,
             _ => return Err(1),
         };
-        let recording = Recording { roles, lines: rest };
         let mut keys: Vec<&[u8]> = Vec::new();
         let mut others = false;
-        let mut count = 1;
-        while let Some((text, further)) = split_line(rest) {
-            count += 1;
-            rest = further;
+        for (text, count) in lines_of(lines).zip(2..) {
             match read_line(text, roles).ok_or(count)? {
                 Line::Set { key, .. } if others || keys.contains(&key) => return Err(count),
                 Line::Give { hex, .. } if !hex::is_hex(hex) => return Err(count),
@@ -210,16 +214,12 @@ impl<'a> Recording<'a> {
                 _ => others = true,
             }
         }
-        Ok(recording)
+        Ok(Recording { roles, lines })
     }
 
     /// The lines behind the first one.
     pub fn lines(&self) -> impl Iterator<Item = Line<'a>> + use<'a> {
-        let (roles, mut rest) = (self.roles, self.lines);
-        std::iter::from_fn(move || {
-            let (text, further) = split_line(rest)?;
-            rest = further;
-            read_line(text, roles)
-        })
+        let roles = self.roles;
+        lines_of(self.lines).map_while(move |text| read_line(text, roles))
     }
 }

@@ -8,6 +8,21 @@ use std::io::{self, Write};
 
 const PIECE: usize = 65_536;
 
+/// Appends a number in decimal.
+pub fn write_number(text: &mut Vec<u8>, mut number: u64) {
+    let mut digits = [0; 20];
+    let mut first = digits.len();
+    loop {
+        first -= 1;
+        digits[first] = b'0' + (number % 10) as u8;
+        number /= 10;
+        if number == 0 {
+            break;
+        }
+    }
+    text.extend_from_slice(&digits[first..]);
+}
+
 pub struct Report<'a> {
     sink: Option<&'a mut dyn Write>,
     text: Vec<u8>,
@@ -68,9 +83,14 @@ impl<'a> Report<'a> {
 
     /// Adds a line of a few words.
     pub fn line(&mut self, line: std::fmt::Arguments) {
+        // Writing to a vector doesn't fail.
+        self.add_line(|text| drop(text.write_fmt(line)));
+    }
+
+    /// Adds the line that `write` appends.
+    pub fn add_line(&mut self, write: impl FnOnce(&mut Vec<u8>)) {
         if self.sink.is_some() {
-            // Writing to a vector doesn't fail.
-            let _ = self.text.write_fmt(line);
+            write(&mut self.text);
             self.end_line();
         }
     }
@@ -96,15 +116,13 @@ impl<'a> Report<'a> {
     }
 
     pub fn taken(&mut self, side: Side, pdu: &[u8]) {
-        if self.sink.is_some() {
-            self.text.extend_from_slice(if side == Side::Client {
-                b"take c pdu "
-            } else {
-                b"take s pdu "
+        self.add_line(|text| {
+            text.extend_from_slice(match side {
+                Side::Client => b"take c pdu ",
+                Side::Server => b"take s pdu ",
             });
-            hex::write(&mut self.text, pdu);
-            self.end_line();
-        }
+            hex::write(text, pdu);
+        });
     }
 
     fn leg_words(&mut self, word: &[u8], leg: Option<Leg>, dir: Dir) {
@@ -112,7 +130,7 @@ impl<'a> Report<'a> {
         match leg {
             Some(leg) => {
                 self.text.extend_from_slice(leg.kind.text().as_bytes());
-                self.number(u64::from(leg.number));
+                write_number(&mut self.text, u64::from(leg.number));
             }
             None => self.text.extend_from_slice(b"cs"),
         }
@@ -129,23 +147,9 @@ impl<'a> Report<'a> {
 
     fn count(&mut self, count: Option<usize>) {
         match count {
-            Some(count) => self.number(count as u64),
+            Some(count) => write_number(&mut self.text, count as u64),
             None => self.text.extend_from_slice(b"no"),
         }
-    }
-
-    fn number(&mut self, mut number: u64) {
-        let mut digits = [0; 20];
-        let mut first = digits.len();
-        loop {
-            first -= 1;
-            digits[first] = b'0' + (number % 10) as u8;
-            number /= 10;
-            if number == 0 {
-                break;
-            }
-        }
-        self.text.extend_from_slice(&digits[first..]);
     }
 
     /// The bytes moved, in up to two pieces.

@@ -1,7 +1,10 @@
 //! RTS packets (MS-RPCH 2.2.3 and 2.2.4): their bytes, and the named packets of the four roles.
 
+use crate::hex;
 use crate::leg::LegKind;
 use std::fmt;
+
+const COOKIE_TEXT_LEN: usize = 36;
 
 #[derive(Clone, Copy, PartialEq, Eq, Debug, Default)]
 pub struct Cookie(pub [u8; 16]);
@@ -11,17 +14,24 @@ impl Cookie {
     pub fn number(n: u64) -> Cookie {
         Cookie(u128::from(n).to_be_bytes())
     }
+
+    /// Hex in groups of 4, 2, 2, 2 and 6 bytes.
+    pub fn text(&self) -> [u8; COOKIE_TEXT_LEN] {
+        let pairs = self.0.map(hex::pair);
+        let digits = pairs.as_flattened();
+        let mut text = [b'-'; COOKIE_TEXT_LEN];
+        text[..8].copy_from_slice(&digits[..8]);
+        text[9..13].copy_from_slice(&digits[8..12]);
+        text[14..18].copy_from_slice(&digits[12..16]);
+        text[19..23].copy_from_slice(&digits[16..20]);
+        text[24..].copy_from_slice(&digits[20..]);
+        text
+    }
 }
 
 impl fmt::Display for Cookie {
     fn fmt(&self, f: &mut fmt::Formatter) -> fmt::Result {
-        for (place, byte) in self.0.iter().enumerate() {
-            if matches!(place, 4 | 6 | 8 | 10) {
-                f.write_str("-")?;
-            }
-            write!(f, "{byte:02x}")?;
-        }
-        Ok(())
+        f.write_str(&String::from_utf8_lossy(&self.text()))
     }
 }
 
@@ -45,6 +55,12 @@ pub struct RtsFault {
     pub place: usize,
 }
 
+impl fmt::Display for RtsFault {
+    fn fmt(&self, f: &mut fmt::Formatter) -> fmt::Result {
+        write!(f, "{:?} {}", self.kind, self.place)
+    }
+}
+
 #[derive(Clone, Copy, PartialEq, Eq, Debug)]
 pub enum RtsKind {
     BadHeader,
@@ -61,9 +77,8 @@ fn fault<T>(kind: RtsKind, place: usize) -> Result<T, RtsFault> {
     Err(RtsFault { kind, place })
 }
 
-/// A command other than Padding.
 #[derive(Clone, Copy, PartialEq, Eq, Debug)]
-enum Command {
+pub enum Command<'a> {
     Window(u32),
     Ack(Ack),
     Timeout(u32),
@@ -72,9 +87,11 @@ enum Command {
     Keepalive(u32),
     Version(u32),
     Empty,
+    Padding(&'a [u8]),
     NegativeAnce,
     Ance,
-    Address,
+    /// The 4 or 16 bytes of the address and the padding behind them.
+    Address(&'a [u8], &'a [u8]),
     Group(Cookie),
     Destination(u32),
     PingTraffic(u32),
@@ -98,9 +115,9 @@ impl Ack {
 const MOST_COMMANDS: usize = 8;
 
 /// A packet's flags and its commands without Padding; `count` goes on where there is no room.
-struct View {
+struct View<'a> {
     flags: u16,
-    commands: [Command; MOST_COMMANDS],
+    commands: [Command<'a>; MOST_COMMANDS],
     count: usize,
 }
 
@@ -116,7 +133,23 @@ fn cookie_at(bytes: &[u8], place: usize) -> Cookie {
     Cookie(bytes[place..place + 16].try_into().unwrap())
 }
 
-fn view(bytes: &[u8]) -> Result<View, RtsFault> {
+fn view(bytes: &[u8]) -> Result<View<'_>, RtsFault> {
+    let flags = read_flags(bytes)?;
+    let mut view = View { flags, commands: [Command::Empty; MOST_COMMANDS], count: 0 };
+    read_commands(bytes, |command| {
+        if matches!(command, Command::Padding(_)) {
+            return;
+        }
+        if let Some(room) = view.commands.get_mut(view.count) {
+            *room = command;
+        }
+        view.count += 1;
+    })?;
+    Ok(view)
+}
+
+/// The flags of a packet with whose header nothing is wrong.
+pub fn read_flags(bytes: &[u8]) -> Result<u16, RtsFault> {
     if bytes.len() < HEADER_LEN {
         return fault(RtsKind::CutShort, bytes.len());
     }
@@ -132,29 +165,32 @@ fn view(bytes: &[u8]) -> Result<View, RtsFault> {
     if flags & !ALL_FLAGS != 0 {
         return fault(RtsKind::BadFlags, 16);
     }
-    let mut view = View { flags, commands: [Command::Empty; MOST_COMMANDS], count: 0 };
+    Ok(flags)
+}
+
+/// Tells the commands behind such a header one by one, up to the first fault.
+pub fn read_commands<'a>(
+    bytes: &'a [u8],
+    mut tell: impl FnMut(Command<'a>),
+) -> Result<(), RtsFault> {
     let mut place = HEADER_LEN;
     for _ in 0..u16_at(bytes, 18) {
         let (command, len) = command_at(bytes, place)?;
         place += len;
-        if let Some(command) = command {
-            if view.count < MOST_COMMANDS {
-                view.commands[view.count] = command;
-            }
-            view.count += 1;
-        }
+        tell(command);
     }
     if place < bytes.len() {
         return fault(RtsKind::Left, place);
     }
-    Ok(view)
+    Ok(())
 }
 
-/// The command that begins at a place, None for Padding, and its length.
-fn command_at(bytes: &[u8], place: usize) -> Result<(Option<Command>, usize), RtsFault> {
+/// The command that begins at a place, and its length.
+fn command_at(bytes: &[u8], place: usize) -> Result<(Command<'_>, usize), RtsFault> {
     let len = command_len(bytes, place)?;
     let number = || u32_at(bytes, place + 4);
     let cookie = || cookie_at(bytes, place + 4);
+    let end = place + len;
     let command = match u32_at(bytes, place) {
         0 => Command::Window(number()),
         1 => Command::Ack(Ack {
@@ -168,15 +204,15 @@ fn command_at(bytes: &[u8], place: usize) -> Result<(Option<Command>, usize), Rt
         5 => Command::Keepalive(number()),
         6 => Command::Version(number()),
         7 => Command::Empty,
-        8 => return Ok((None, len)),
+        8 => Command::Padding(&bytes[place + 8..end]),
         9 => Command::NegativeAnce,
         10 => Command::Ance,
-        11 => Command::Address,
+        11 => Command::Address(&bytes[place + 8..end - 12], &bytes[end - 12..end]),
         12 => Command::Group(cookie()),
         13 => Command::Destination(number()),
         _ => Command::PingTraffic(number()),
     };
-    Ok((Some(command), len))
+    Ok((command, len))
 }
 
 /// The length of the command that begins at a place, where all of it is there and in order.
@@ -460,9 +496,10 @@ fn on_is_up(flags: u16, commands: &[Command]) -> Option<Packet> {
     Some(match (flags, commands) {
         (
             IN_CHANNEL,
-            &[Version(_), Cookie(a), Cookie(b), Window(window), Timeout(n), Group(group), Address],
+            &[Version(_), Cookie(a), Cookie(b), Window(w), Timeout(n), Group(group), Address(..)],
         ) => {
-            Packet::ConnB2 { connection: a, cookie: b, window, timeout: n, group, address: [0; 4] }
+            let address = [0; 4];
+            Packet::ConnB2 { connection: a, cookie: b, window: w, timeout: n, group, address }
         }
         (R1, &[Version(_), Cookie(a), Cookie(b), Cookie(c), Window(window), Timeout(timeout)]) => {
             Packet::InR1A2 { chain: Chain::of(a, b, c), window, timeout }

@@ -1,5 +1,5 @@
-//! Bytes that no honest role puts, each case whole and byte by byte, and what a refused request is
-//! told.
+//! Bytes that no honest role puts, each case whole and byte by byte, what a refused request is
+//! told, and packets as text.
 //!
 //!     rustc --test --edition 2021 -o tests bench/plain/main.rs && ./tests
 
@@ -9,8 +9,11 @@ use crate::inproxy::{self, InProxy};
 use crate::leg::{Leg, LegKind};
 use crate::node::{Role, State};
 use crate::outproxy::{self, OutProxy};
+use crate::record::lines_of;
+use crate::report::{write_number, Report};
 use crate::rts::{Ack, Chain, Cookie, Packet};
 use crate::server::Server;
+use crate::show::Packets;
 use std::collections::VecDeque;
 
 const WINDOW: u32 = 65_536;
@@ -277,4 +280,153 @@ fn requests_are_answered() {
         b"HTTP/1.1 503 RPC Error: 6ba\r\nContent-Length: 0\r\n\r\n"
     );
     assert!(proxy.finished(ci()));
+}
+
+fn shown(text: &[u8]) -> Result<String, u64> {
+    let packets = Packets::read(text)?;
+    let mut sink = Vec::new();
+    let mut report = Report::new(&mut sink);
+    packets.show(&mut report);
+    report.end().unwrap();
+    Ok(String::from_utf8(sink).unwrap())
+}
+
+/// The line is told so, in digits of either case.
+fn shows(line: &str, want: &str) {
+    for line in [line.to_string(), line.to_uppercase()] {
+        assert_eq!(shown(line.as_bytes()), Ok(format!("{want}\n")));
+    }
+}
+
+/// An RTS packet with this many commands, which are those of `body`.
+fn rts_hex(flags: u16, count: u16, body: &str) -> String {
+    let [len, flags, count] = [20 + body.len() as u16 / 2, flags, count].map(u16::swap_bytes);
+    format!("0500140310000000{len:04x}000000000000{flags:04x}{count:04x}{body}")
+}
+
+#[test]
+fn rts_packets_are_shown() {
+    let id = "00112233445566778899aabbccddeeff";
+    let id_text = "00112233-4455-6677-8899-aabbccddeeff";
+    let pad = "0102030405060708090a0b0c";
+    let cases = [
+        ("0000000000000100", "ReceiveWindowSize 65536"),
+        (
+            &format!("010000000a000000ffffffff{id}"),
+            &format!("FlowControlAck 10 4294967295 {id_text}"),
+        ),
+        ("02000000c0d40100", "ConnectionTimeout 120000"),
+        (&format!("03000000{id}"), &format!("Cookie {id_text}")),
+        ("0400000000000040", "ChannelLifetime 1073741824"),
+        ("05000000e0930400", "ClientKeepalive 300000"),
+        ("0600000001000000", "Version 1"),
+        ("07000000", "Empty"),
+        ("0800000000000000", "Padding -"),
+        ("0800000003000000c0ffee", "Padding c0ffee"),
+        ("09000000", "NegativeANCE"),
+        ("0a000000", "ANCE"),
+        (&format!("0b000000000000007f000001{pad}"), &format!("ClientAddress 0 7f000001 {pad}")),
+        (&format!("0b00000001000000{id}{pad}"), &format!("ClientAddress 1 {id} {pad}")),
+        (&format!("0c000000{id}"), &format!("AssociationGroupId {id_text}")),
+        ("0d00000003000000", "Destination 3"),
+        ("0e00000000000000", "PingTrafficSentNotify 0"),
+    ];
+    for (body, text) in cases {
+        shows(&rts_hex(0x7f, 1, body), &format!("rts 007f {text}"));
+    }
+    let (bodies, texts): (Vec<&str>, Vec<&str>) = cases.into_iter().unzip();
+    let all = rts_hex(0x02, cases.len() as u16, &bodies.concat());
+    shows(&all, &format!("rts 0002 {}", texts.join(" ")));
+    shows(&rts_hex(0, 0, ""), "rts 0000");
+}
+
+#[test]
+fn rts_faults_are_shown() {
+    shows(&rts_hex(0, 0, "")[..32], "fault CutShort 16");
+    shows(&rts_hex(0, 0, "").replacen("05", "06", 1), "fault BadHeader 0");
+    shows(&format!("{}00", rts_hex(0, 0, "")), "fault BadLength 8");
+    shows(&rts_hex(0x80, 0, ""), "fault BadFlags 16");
+    for (count, body, want) in [
+        (1, "", "CutShort 20"),
+        (2, "07000000", "CutShort 24"),
+        (2, "07000000080000000400000000", "CutShort 24"),
+        (1, "0f000000", "BadType 20"),
+        (1, "0d00000004000000", "BadType 24"),
+        (1, "0b00000002000000", "BadAddressType 24"),
+        (1, "0800000000000100", "BadCount 24"),
+        (1, "0700000007000000", "Left 24"),
+    ] {
+        shows(&rts_hex(0, count, body), &format!("fault {want}"));
+    }
+}
+
+#[test]
+fn other_pdus_are_shown() {
+    for (line, want) in [
+        ("0500000300000000001400000000000101020304", "rpc 0 20 1"),
+        ("050102031000000010000000ffffffff", "rpc 2 16 4294967295"),
+        ("05", "fault Cut 1"),
+        ("050014", "fault Cut 3"),
+        ("04000003100000001000000000000000", "fault Version 4"),
+        ("05020003100000001000000000000000", "fault Minor 2"),
+        ("05000003200000001000000000000000", "fault ByteOrder 32"),
+        ("05000003100000000f00000000000000", "fault TooShort 15"),
+        ("05000003000000002001000000000000", "fault TooLong 8193"),
+        ("0500000310000000110000000000000000ff", "fault Length 17 18"),
+    ] {
+        shows(line, want);
+    }
+}
+
+#[test]
+fn texts_are_lines_of_hex() {
+    assert_eq!(shown(b""), Ok(String::new()));
+    assert_eq!(shown(b"05\n0500"), Ok("fault Cut 1\nfault Cut 2\n".to_string()));
+    assert_eq!(shown(b"05\n0500\n"), shown(b"05\n0500"));
+    for bad in ["", "0", "050", "05 ", "0x05", "05\r"] {
+        assert_eq!(shown(format!("05\n{bad}\n05\n").as_bytes()), Err(2));
+    }
+    let zeros = |digits| shown(&vec![b'0'; digits]);
+    assert_eq!(zeros(2 * 65_535), Ok("fault Version 0\n".to_string()));
+    assert_eq!(zeros(2 * 65_536), Err(1));
+}
+
+#[test]
+fn digits_are_told_at_each_place() {
+    for byte in 0..=u8::MAX {
+        for place in 0..80 {
+            let mut text = [b'0'; 80];
+            text[place] = byte;
+            assert_eq!(crate::hex::is_hex(&text), byte.is_ascii_hexdigit());
+        }
+    }
+    let bytes: Vec<u8> = (0..=u8::MAX).collect();
+    let text: String = bytes.iter().map(|byte| format!("{byte:02x}")).collect();
+    for start in 0..=bytes.len() {
+        let mut written = Vec::new();
+        crate::hex::write(&mut written, &bytes[start..]);
+        assert_eq!(written, &text.as_bytes()[2 * start..]);
+        assert_eq!(hex(&text[2 * start..]), &bytes[start..]);
+        assert_eq!(hex(&text[2 * start..].to_uppercase()), &bytes[start..]);
+    }
+}
+
+#[test]
+fn lines_end_anywhere() {
+    for len in 0..100 {
+        let line = vec![b'x'; len];
+        let lines = |text: &[u8]| lines_of(text).map(<[u8]>::to_vec).collect::<Vec<_>>();
+        assert_eq!(lines(&line).concat(), line);
+        assert_eq!(lines(&[&line, &b"\n"[..]].concat()), [&line[..]]);
+        assert_eq!(lines(&[&line, &b"\n\n"[..], &line].concat())[..2], [&line[..], &[]]);
+    }
+}
+
+#[test]
+fn numbers_are_decimal() {
+    for number in (0..1_200).chain([9_999, 10_000, 4_294_967_295, u64::MAX]) {
+        let mut text = Vec::new();
+        write_number(&mut text, number);
+        assert_eq!(text, number.to_string().as_bytes());
+    }
 }

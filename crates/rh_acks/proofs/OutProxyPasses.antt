@@ -5,6 +5,7 @@ use Rattle.std.specs.Prelude.{if◌then◌else◌}
 use Rattle.std.specs.List.{AllByRecursion}
 use Rattle.std.specs.declared.option.Option.{Option}
 use Rattle.rh_rts.specs.declared.command.Cookie.{Cookie}
+use Rattle.rh_rts.specs.declared.command.TheConstants.{TO_OUT_PROXY}
 use Rattle.rh_sig.specs.declared.named.Named.{Named}
 use Rattle.rh_sig.specs.declared.named.Named.TheVariants as named
 use Rattle.rh_window.specs.declared.recv_window.Ack.{Ack}
@@ -24,7 +25,7 @@ use Rattle.rh_outproxy.specs.declared.state.OutProxyConfig.{OutProxyConfig}
 use Rattle.rh_outproxy.specs.OutProxy.{OutProxy, is_client_marked, is_server_first, joined, new_proxy}
 use Rattle.rh_outproxy.specs.Rows.{Done, is_co, is_os, is_carrying, taken, unexpected, forwarded, forwarded_by, passed_on}
 use Rattle.rh_outproxy.specs.Opening.{up, head, conn_c1_by, first_packet}
-use Rattle.rh_outproxy.specs.Acknowledging.{out_proxy, on_ack, on_ack_to, ack_due}
+use Rattle.rh_outproxy.specs.Acknowledging.{on_ack, on_ack_to, ack_due}
 use Rattle.rh_outproxy.specs.Ending.{drawn, mark, on_end_b1}
 use Rattle.rh_outproxy.specs.OutReplacement.{on_out_r1_a9}
 use Rattle.rh_outproxy.specs.Putting.{Pick, or_else, answer_by, put_answer, waiting_by, put_waiting, pdu_by, put_pdu, put_end, put_handover, put_mark, put_ping, next_co, first_by, put_first, ack_by, put_ack, next_os}
@@ -149,7 +150,8 @@ module _ (to : ℕ) where
       → Row leg (named.AckTo destination received available channel) came put
       (on_ack_to s destination received available channel)
   ack_row s leg destination received available channel came put on h =
-      by_test (Row leg m came put) (destination == out_proxy) (on_ack s received available channel)
+      by_test (Row leg m came put) (destination == TO_OUT_PROXY)
+      (on_ack s received available channel)
       (passed_on s destination (named.AckTo 0 received available channel))
       (λ t. same_row leg m came put s h (on_ack s received available channel)
       (same_ack s received available channel))

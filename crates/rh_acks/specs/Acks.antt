@@ -4,6 +4,7 @@
 use Rattle.std.specs.Prelude.{◌≡◌, ◌≤◌, ℕ, List}
 use Rattle.std.specs.List.{AllByRecursion}
 use Rattle.rh_rts.specs.declared.command.Cookie.{Cookie}
+use Rattle.rh_rts.specs.declared.command.TheConstants.{TO_CLIENT}
 use Rattle.rh_window.specs.declared.range.TheConstants.{GREATEST_WINDOW}
 use Rattle.rh_sig.specs.declared.named.Named.{Named}
 use Rattle.rh_sig.specs.declared.named.Named.TheVariants.{AckTo}
@@ -50,6 +51,6 @@ pub record IsTrueOn (messages : List Message) (received available : ℕ) (cookie
 -- it is so of one to the client, on some leg of the client
 abbrev pub IsTrue : List OnLeg → OnLeg → Type 0
 IsTrue came (leg, Packet (AckTo destination received available cookie)) =
-    destination ≡ 0
+    destination ≡ TO_CLIENT
     → (n : ℕ) × IsTrueOn (of_leg (ci_leg n) came) received available cookie
 IsTrue came one = Unit {0}

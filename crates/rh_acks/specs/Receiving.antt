@@ -1,6 +1,7 @@
 -- how an in proxy refuses what comes from the client (MS-RPCH 3.2; flow control, 3.2.1)
 use Rattle.std.specs.Prelude.{◌≡◌, ℕ, ◌+◌, ◌<◌, List, length, Err}
 use Rattle.rh_rts.specs.declared.command.Cookie.{Cookie}
+use Rattle.rh_rts.specs.declared.command.TheConstants.{TO_CLIENT}
 use Rattle.rh_sig.specs.declared.named.Named.{Named}
 use Rattle.rh_sig.specs.declared.named.Named.TheVariants.{AckTo}
 use Rattle.rh_line.specs.declared.leg.LegKind.TheVariants.{InServer}
@@ -22,7 +23,7 @@ IsOnlyOn n cookie came = (m : ℕ) → HasBegunIn cookie (of_leg (ci_leg m) came
 pub record EndsBehind (window n : ℕ) (came put : List OnLeg) (reached : ℕ) : Type 0 where
   pub opened : window < reached
   pub acked : (received available : ℕ) (cookie : Cookie)
-      → HasOn InServer (AckTo 0 received available cookie) put → IsOnlyOn n cookie came
+      → HasOn InServer (AckTo TO_CLIENT received available cookie) put → IsOnlyOn n cookie came
       → received + available < reached
 
 -- a row refuses for the window only where that is so, and nothing as out of range

@@ -1,6 +1,6 @@
--- a node that closes since it was not the turn of what came, another cookie was named (MS-RPCH 3.2),
--- or too many packets wait (profile): its role refuses the next message that was put at the other
--- end of the leg
+-- a node that closes since it was not the turn of what came, another cookie was named (MS-RPCH
+-- 3.2), or too many packets wait (profile): its role refuses the next message that was put at the
+-- other end of the leg
 use Rattle.std.specs.Prelude.{◌≡◌, ◌⊎◌, List, IsTrue, true, Some, None, Err}
 use Rattle.std.specs.declared.option.Option.{Option}
 use Rattle.rh_sig.specs.declared.name.Pipe.{Pipe}

@@ -5,6 +5,7 @@ use Rattle.std.proofs.lemmas.List.{append-nil, append_assoc}
 use Rattle.std.specs.Prelude.{IfSome}
 use Rattle.std.specs.declared.option.Option.{Option}
 use Rattle.rh_rts.specs.declared.command.Cookie.{Cookie}
+use Rattle.rh_rts.specs.declared.command.TheConstants.{TO_OUT_PROXY}
 use Rattle.rh_sig.specs.declared.named.Named.{Named}
 use Rattle.rh_sig.specs.declared.named.Named.TheVariants as named
 use Rattle.rh_window.specs.declared.recv_window.Ack.{Ack}
@@ -32,7 +33,7 @@ use Rattle.rh_outproxy.specs.Rows.{Done, is_co, is_os, is_carrying, taken, unexp
 use Rattle.rh_outproxy.specs.Opening.{up, head, conn_c1_by, may_up}
 use Rattle.rh_outproxy.specs.declared.state.ClientLeg.{ClientLeg}
 use Rattle.rh_outproxy.specs.declared.state.ClientLeg.TheVariants as clients
-use Rattle.rh_outproxy.specs.Acknowledging.{ack_due, on_ack, on_ack_to, out_proxy}
+use Rattle.rh_outproxy.specs.Acknowledging.{ack_due, on_ack, on_ack_to}
 use Rattle.rh_outproxy.specs.Ending.{drawn, mark, on_end_b1}
 use Rattle.rh_outproxy.specs.OutReplacement.{on_out_r1_a9}
 use Rattle.rh_outproxy.specs.Putting.{Pick, or_else, answer_by, put_answer, waiting_by, put_waiting, pdu_by, put_pdu, put_mark, put_ping, next_co, put_first, ack_by, put_ack, next_os}
@@ -539,7 +540,7 @@ module _ (n : ℕ) where
         (on_ack_to s to received available cookie)
     ack_row to received available cookie =
         by_test (Row s came put h (on_server (named.AckTo to received available cookie)))
-        (to == out_proxy) (on_ack s received available cookie)
+        (to == TO_OUT_PROXY) (on_ack s received available cookie)
         (passed_on s to (named.AckTo 0 received available cookie))
         (λ e. same_row s came put h (on_server (named.AckTo to received available cookie))
         (on_ack s received available cookie)

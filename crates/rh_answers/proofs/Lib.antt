@@ -1,8 +1,3 @@
-pub mod Views
-pub mod Replacements
-pub mod Rows
-pub mod Puts
-pub mod Moves
 pub mod Since
 pub mod Until
 pub mod Allowed

@@ -20,9 +20,9 @@ use Rattle.rh_client_counts.specs.Counting.{is_in_r1_a1, is_in_a4, is_out_r1_a2,
 use Rattle.rh_client_counts.proofs.Allowed.{allowed_moves_keep}
 use Rattle.rh_client_counts.proofs.Standing.{passes, total_stays, total_rises}
 use Rattle.rh_answers.specs.Wishes.{AsksOneBehind}
-use Rattle.rh_answers.proofs.Views.{View, view, Way, Free, InIsAsked, InIsAnswered, OutIsAsked, OutIsAnswered, OutIsSwitched, OutIsFinished, is_in_way, out_if, has_in, is_in_first, behind_out, newest_out, Marks, EventsKeep}
-use Rattle.rh_answers.proofs.Replacements as keeps
-use Rattle.rh_answers.proofs.Moves.{client_keeps}
+use Rattle.rh_client_counts.proofs.Views.{View, view, Way, Free, InIsAsked, InIsAnswered, OutIsAsked, OutIsAnswered, OutIsSwitched, OutIsFinished, is_in_way, out_if, has_in, is_in_first, behind_out, newest_out, Marks, EventsKeep}
+use Rattle.rh_client_counts.proofs.Replacements as keeps
+use Rattle.rh_client_counts.proofs.Moves.{client_keeps}
 
 -- an OUT channel is replaced, and not finished
 abbrev under : Way → ℕ

@@ -5,6 +5,7 @@ use Rattle.std.specs.List.{list_any}
 use Rattle.std.specs.declared.option.Option.{Option}
 use Rattle.std.specs.declared.result.Result.{Result}
 use Rattle.rh_rts.specs.declared.command.Cookie.{Cookie}
+use Rattle.rh_rts.specs.declared.command.TheConstants.{TO_OUT_PROXY}
 use Rattle.rh_sig.specs.declared.named.Named.{Named}
 use Rattle.rh_sig.specs.declared.named.Named.TheVariants as named
 use Rattle.rh_window.specs.Sending.{ack_verdict, after_acked}
@@ -32,7 +33,7 @@ use Rattle.rh_outproxy.specs.declared.state.ServerLeg.{ServerLeg}
 use Rattle.rh_outproxy.specs.OutProxy.{OutProxy, is_client_marked, is_successor, is_known, is_server_down, joined}
 use Rattle.rh_outproxy.specs.Rows.{Done, is_second, refuse, same_cookie, forwarded, forwarded_by, is_carrying, passed_on, taken, takes_pdus, unexpected}
 use Rattle.rh_outproxy.specs.Opening.{conn_c1_by, opened}
-use Rattle.rh_outproxy.specs.Acknowledging.{ack_by, ack_row, acked, admitted, line_row, on_ack, on_ack_to, on_pdu, out_proxy}
+use Rattle.rh_outproxy.specs.Acknowledging.{ack_by, ack_row, acked, admitted, line_row, on_ack, on_ack_to, on_pdu}
 use Rattle.rh_outproxy.specs.Machine.{on_co, on_os}
 use Rattle.rh_outproxy.specs.Putting as putting
 use Rattle.rh_outproxy.specs.Putting.{Pick, or_else, out_response, behind_response}
@@ -232,7 +233,7 @@ asks packet = 0
 -- an acknowledgement for the proxy goes no further
 abbrev pub goes_on : Named → ℕ
 goes_on (named.AckTo to received window of) =
-    if to == out_proxy then 0 else size (Packet (named.AckTo to received window of))
+    if to == TO_OUT_PROXY then 0 else size (Packet (named.AckTo to received window of))
 goes_on packet = size (Packet packet)
 
 module _ (put came asked : ℕ) where
@@ -390,7 +391,7 @@ module _ (put came asked : ℕ) where
   ack_to_keeps : (s : OutProxy) (to received window : ℕ) (of : Cookie) → Books put came asked s
       → RowKeeps put came asked (goes_on (named.AckTo to received window of)) 0
       (on_ack_to s to received window of)
-  ack_to_keeps s to received window of k = by (to == out_proxy)
+  ack_to_keeps s to received window of k = by (to == TO_OUT_PROXY)
     where
       by : (t : Bool) → RowKeeps put came asked
           (if t then 0 else size (Packet (named.AckTo to received window of))) 0

@@ -47,8 +47,8 @@ impl UpOnce for ServerRole {
 }
 
 /// A leg comes up at most once at a client: its ci legs and its co legs have the numbers of its IN
-/// and OUT channels, each of which has the number behind the one that it replaces, and none of which
-/// is above the last number.
+/// and OUT channels, each of which has the number behind the one that it replaces, and none of
+/// which is above the last number.
 pub fn a_clients_leg_comes_up_once()
     ensures moves { ComesUpOnce client.rules ClientIsNumbered }
     ensures calls { KeepsUp client.rules client.acts ClientIsNumbered }

@@ -1,5 +1,7 @@
 -- what holds of every recording, beside its report
 use Rattle.std.specs.Prelude.{◌≡◌, ◌≤◌, ◌++◌, ℕ, List, [], ◌∷◌, true}
+use Rattle.std.specs.List.{list_all}
+use Rattle.rh_http.specs.declared.lengths.TheConstants.{SERVICE_UNAVAILABLE}
 use Rattle.rh_line.specs.declared.cause.Cause.{Cause}
 use Rattle.rh_line.specs.declared.cause.Cause.TheVariants.{HttpRefused, LegBroken, LegEnded, Silent}
 use Rattle.rh_line.specs.declared.leg.Leg.{Leg}
@@ -17,7 +19,9 @@ use Rattle.rh_bounds.specs.Bounds.{WindowsHold}
 use Rattle.rh_closes.specs.Recordings.{IsLicensedIn, IsRefusedIn}
 use Rattle.rh_closes.specs.Reports.{ShowsIn}
 use Rattle.rh_closes.specs.Silences.{IsSilentIn}
+use Rattle.rh_ends_in_time.specs.Losses.{AllLoseInTime, loses_no_leg}
 use Rattle.rh_events.specs.Order.{IsOrdered}
+use Rattle.rh_exact_paths.specs.Exact.{KeepsAll}
 use Rattle.rh_named.specs.Named.{NamesIt}
 use Rattle.rh_ordered.specs.Counted.{CountsCapped}
 use Rattle.rh_ordered.specs.Recordings.{OffersBehindFirst}
@@ -43,11 +47,11 @@ pub record RefusesForBreak (before : List Line) (line : Line) : Type 0 where
   pub out_channel : (node : Who) (n status : ℕ)
       → IsOneOf (NodeClosed node (HttpRefused (leg_at ClientOut n) status))
       (step (after Before before) line).1
-      → (status ≡ 503) × ReportsBreak (before ++ line ∷ []) (leg_at OutServer n)
+      → (status ≡ SERVICE_UNAVAILABLE) × ReportsBreak (before ++ line ∷ []) (leg_at OutServer n)
   pub in_channel : (node : Who) (n status : ℕ)
       → IsOneOf (NodeClosed node (HttpRefused (leg_at ClientIn n) status))
       (step (after Before before) line).1
-      → (status ≡ 503) × ReportsBreak (before ++ line ∷ []) (leg_at InServer n)
+      → (status ≡ SERVICE_UNAVAILABLE) × ReportsBreak (before ++ line ∷ []) (leg_at InServer n)
 
 -- what no node did: a leg broke or ended, a channel's proxy refused its request, or no byte came
 -- for too long
@@ -67,13 +71,20 @@ RolesAreHonest world line =
     (node : Who) (why : Cause) → IsOneOf (NodeClosed node why) (step world line).1
     → IsFromOutside why
 
+-- what both ends gave is exactly what was taken and what is on its way while no node closed, where
+-- the `break` and `end` lines that were answered ok are of legs that were over, and so where there
+-- are none; as long as the counts of the in proxies' legs fit their type
+pub record LosesNothing (before : List Line) : Type 0 where
+  pub in_time : AllLoseInTime Before before → KeepsAll (after Before before)
+  pub unbroken : list_all loses_no_leg before ≡ true → KeepsAll (after Before before)
+
 -- at every line of the report what an end took is a front of what the other end gave, each PDU
 -- once and in order, and all of it at a clean end; and a report of roles counts what it tells.
 -- Behind each front of the lines no more is held for a channel than its window, nothing stands
 -- behind a handover mark, and what was given is what was taken and what is on its way, unless a leg
--- is lost. Each line closes nodes for a reason, and none for what another node did; in all of the
--- report each node is closed once at most, and each later answer of an end that closed names the
--- same cause.
+-- is lost; and none is lost where nothing broke. Each line closes nodes for a reason, and none for
+-- what another node did; in all of the report each node is closed once at most, and each later
+-- answer of an end that closed names the same cause.
 pub record Claims (lines : List Line) : Type 0 where
   pub ordered : OffersBehindFirst lines → IsOrdered lines (run lines)
   pub counted : (behind : List Line) → lines ≡ First true ∷ behind
@@ -84,6 +95,7 @@ pub record Claims (lines : List Line) : Type 0 where
       → ClosesForReason (after Before before) line
   pub ways : (before behind : List Line) → lines ≡ before ++ behind
       → KeepsWays (after Before before)
+  pub exact : (before behind : List Line) → lines ≡ before ++ behind → LosesNothing before
   pub refusals : (before behind : List Line) (line : Line) → lines ≡ before ++ line ∷ behind
       → RefusesForBreak before line
   pub honest : (before behind : List Line) (line : Line) → lines ≡ before ++ line ∷ behind

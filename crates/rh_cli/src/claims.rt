@@ -12,6 +12,7 @@ use rh_closes::{
     each_cause_of_a_recording_shows, each_close_of_a_recording_shows,
     only_a_client_of_a_recording_is_refused,
 };
+use rh_exact_paths::recordings_lose_nothing;
 use rh_expected::no_node_of_a_recording_refuses_what_comes;
 use rh_fifo::every_recording_is_ordered;
 use rh_honest::no_node_of_a_recording_closes_for_bad_bytes;
@@ -24,10 +25,11 @@ use rh_windows::no_window_closes_a_node_of_a_recording;
 
 /// In every recording what each end takes is what the other end gave, each PDU once and in order,
 /// whatever its lines cut, delay, break and replace; what was given and not taken is on its way,
-/// unless a leg is lost. No more is held for a channel than its window, and each node is reported
-/// as closed once at most, by a line whose answers show why; each later answer of that end names
-/// the same cause (MS-RPCH 3.2). A node closes only since a leg broke or ended, since its request
-/// was refused, or since no byte came for too long.
+/// unless a leg is lost, and none is lost where nothing broke and no node closed. No more is held
+/// for a channel than its window, and each node is reported as closed once at most, by a line whose
+/// answers show why; each later answer of that end names the same cause (MS-RPCH 3.2). A node
+/// closes only since a leg broke or ended, since its request was refused, or since no byte came for
+/// too long.
 pub fn recordings_keep_to_their_claims()
     ensures { (lines : List Line) → Claims lines }
 {
@@ -44,6 +46,7 @@ pub fn recordings_keep_to_their_claims()
     no_body_of_a_recording_is_too_long();
     no_node_of_a_recording_lacks_room();
     every_recording_keeps_what_is_on_its_way();
+    recordings_lose_nothing();
     a_node_of_a_recording_falls_silent();
     a_recording_reports_a_node_closed_once();
     an_end_of_a_recording_names_its_cause();

@@ -40,7 +40,7 @@ use Rattle.rh_client.specs.declared.replacement.OutStage.TheVariants as out_stag
 use Rattle.rh_client.specs.declared.replacement.Waits.{Waits}
 use Rattle.rh_client.specs.declared.replacement.Waits.TheVariants as waits
 use Rattle.rh_client.specs.declared.state.ClientRole.{ClientRole}
-use Rattle.rh_client.specs.declared.lengths.TheConstants.{CONN_B1_LEN, IN_R1_A1_LEN, IN_R1_A5_LEN, OUT_R1_A7_LEN, END_A1_LEN, ACK_TO_LEN, PING_LEN}
+use Rattle.rh_sig.specs.declared.lengths.TheConstants.{CONN_B1_LEN, IN_R1_A1_LEN, IN_R1_A5_LEN, OUT_R1_A7_LEN, END_A1_LEN, ACK_TO_LEN, PING_LEN}
 use Rattle.rh_client.specs.Channels.{unopened_in, metered, is_named, out_up}
 use Rattle.rh_client.specs.Replacements.{is_out, is_finished, has_out, with_out}
 use Rattle.rh_client.specs.State.{Done, taken, unexpected, is_open, is_writing, is_in_successor, is_current, is_out_successor, is_over, settled}

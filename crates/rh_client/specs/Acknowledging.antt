@@ -3,6 +3,7 @@ use Rattle.std.specs.Prelude.{ℕ, ◌==◌, ◌&&◌, List, Bool, false, not, i
 use Rattle.std.specs.declared.option.Option.{Option}
 use Rattle.std.specs.declared.result.Result.{Result}
 use Rattle.rh_rts.specs.declared.command.Cookie.{Cookie}
+use Rattle.rh_rts.specs.declared.command.TheConstants.{TO_CLIENT}
 use Rattle.rh_window.specs.Sending.{ack_verdict, after_acked}
 use Rattle.rh_window.specs.declared.fault.BadAck.{BadAck}
 use Rattle.rh_window.specs.declared.recv_window.Ack.{Ack}
@@ -91,7 +92,7 @@ ack_named s received available of =
 -- an acknowledgement for the client, which has the destination 0
 abbrev pub on_ack_to : ClientRole → ℕ → ℕ → ℕ → Cookie → Done
 on_ack_to s to received available of =
-    if is_open s.phase && to == 0 then ack_named s received available of else unexpected s
+    if is_open s.phase && to == TO_CLIENT then ack_named s received available of else unexpected s
 
 -- ---- acknowledgements that are due
 

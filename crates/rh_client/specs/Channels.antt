@@ -4,6 +4,7 @@ use Rattle.std.specs.Str.{bytes_eq}
 use Rattle.rh_rts.specs.declared.command.Cookie.{Cookie}
 use Rattle.rh_keep.specs.Meters.{started, may_put, after_put}
 use Rattle.rh_window.specs.Sending.{unsent, after_sent}
+use Rattle.rh_rts.specs.declared.command.TheConstants.{COOKIE_LEN}
 use Rattle.rh_client.specs.declared.channels.Opening.{Opening}
 use Rattle.rh_client.specs.declared.channels.Opening.TheVariants.{NotUp, Request, First, Second, Put}
 use Rattle.rh_client.specs.declared.channels.InChannel.{InChannel}
@@ -12,7 +13,7 @@ use Rattle.rh_client.specs.declared.channels.TheConstants.{UNTOLD_TIMEOUT}
 
 -- what stands for a cookie that isn't known
 abbrev pub no_cookie : Cookie
-no_cookie = record { 0 = replicate 16 0 }
+no_cookie = record { 0 = replicate COOKIE_LEN 0 }
 
 -- ---- how much was put of what a leg begins with
 

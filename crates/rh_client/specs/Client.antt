@@ -10,6 +10,7 @@ use Rattle.rh_shell.specs.declared.answers.Count.{Count}
 use Rattle.rh_shell.specs.declared.rooms.Rooms.{Rooms}
 use Rattle.rh_shell.specs.Rules.{Rules, Acts}
 use Rattle.rh_shell.specs.Shells.{Shell, begun}
+use Rattle.rh_client.specs.declared.client.TheConstants.{ROOMS}
 use Rattle.rh_client.specs.declared.state.ClientRole.{ClientRole}
 use Rattle.rh_client.specs.State.{Done, first, unexpected, is_current, is_out_successor}
 use Rattle.rh_client.specs.Opening.{wants, was_up, up, pipe_by, head, on_conn_a3, on_conn_c2}
@@ -103,7 +104,7 @@ acts = record {
 
 -- a channel and its successor may be unfinished in each direction
 abbrev pub rooms : Rooms
-rooms = record { client_out = 2; out_server = 0; client_in = 2; in_server = 0 }
+rooms = ROOMS
 
 abbrev pub first_client : ClientConfig → Shell ClientRole
 first_client config = begun (first config) rooms

@@ -2,6 +2,7 @@
 use Rattle.std.specs.Prelude.{ℕ, ◌==◌, ◌&&◌, Bool, false, if◌then◌else◌, nat_lt, Ok, Err}
 use Rattle.std.specs.declared.result.Result.{Result}
 use Rattle.rh_keep.specs.Meters.{wanted}
+use Rattle.rh_rts.specs.declared.command.TheConstants.{TO_CLIENT}
 use Rattle.rh_shell.specs.declared.end_role.RecycleRefused.{RecycleRefused}
 use Rattle.rh_shell.specs.declared.end_role.RecycleRefused.TheVariants.{Busy, Last}
 use Rattle.rh_client.specs.declared.channels.TheConstants.{LAST_NUMBER}
@@ -65,12 +66,12 @@ answered s window timeout = answer_by s window timeout s.replacement
 -- IN_R1/A4: another in proxy tells its window and its timeout
 abbrev pub on_in_r1_a4 : ClientRole → ℕ → ℕ → ℕ → Done
 on_in_r1_a4 s to window timeout =
-    if to == 0 then answered s window timeout else unexpected s
+    if to == TO_CLIENT then answered s window timeout else unexpected s
 
 -- IN_R2/A4: the same in proxy has those that it told for the predecessor
 abbrev pub on_in_r2_a4 : ClientRole → ℕ → Done
 on_in_r2_a4 s to =
-    if to == 0 then answered s s.writing.told s.writing.timeout else unexpected s
+    if to == TO_CLIENT then answered s s.writing.told s.writing.timeout else unexpected s
 
 -- ---- it is over
 

@@ -4,6 +4,7 @@ use Rattle.std.specs.Option.{is_some}
 use Rattle.std.specs.declared.option.Option.{Option}
 use Rattle.std.specs.declared.result.Result.{Result}
 use Rattle.rh_rts.specs.declared.command.Cookie.{Cookie}
+use Rattle.rh_http.specs.declared.lengths.TheConstants.{SUCCESS}
 use Rattle.rh_http.specs.declared.fault.HttpFault.{HttpFault}
 use Rattle.rh_http.specs.declared.response.Response.{Response}
 use Rattle.rh_heads.specs.Verdicts.{response_verdict}
@@ -108,7 +109,7 @@ pipe_by InServer = None
 -- an OUT channel is opened by a response of status 200 (MS-RPCH 2.1.2); an IN channel has no
 -- response before its end, so that any refuses it
 abbrev pub success : ℕ
-success = 200
+success = SUCCESS
 
 abbrev pub opened_by : Response → Result HeadTaken HeadRefused
 opened_by response =

@@ -1,5 +1,6 @@
 -- the replacement of an OUT channel (profile)
 use Rattle.std.specs.Prelude.{ℕ, ◌==◌, ◌&&◌, true, false, not, if◌then◌else◌, nat_lt, Some}
+use Rattle.rh_rts.specs.declared.command.TheConstants.{TO_CLIENT}
 use Rattle.rh_line.specs.Lines.{after_finish}
 use Rattle.rh_shell.specs.declared.answers.Phase.TheVariants as phase
 use Rattle.rh_client.specs.declared.channels.TheConstants.{LAST_NUMBER}
@@ -30,7 +31,7 @@ a2_by s n (Out stage waiting) =
 -- successor
 abbrev pub on_out_r1_a2 : ClientRole → ℕ → ℕ → Done
 on_out_r1_a2 s n to =
-    if is_open s.phase && (to == 0 && nat_lt n LAST_NUMBER)
+    if is_open s.phase && (to == TO_CLIENT && nat_lt n LAST_NUMBER)
     then a2_by s n s.replacement
     else unexpected s
 
@@ -57,7 +58,7 @@ a6_by s timeout (Out stage waiting) = a6_at s waiting timeout stage
 -- timeout is kept
 abbrev pub on_out_r1_a6 : ClientRole → ℕ → ℕ → ℕ → Done
 on_out_r1_a6 s n to timeout =
-    if to == 0 && is_current s n then a6_by s timeout s.replacement else unexpected s
+    if to == TO_CLIENT && is_current s n then a6_by s timeout s.replacement else unexpected s
 
 -- ---- it is over
 

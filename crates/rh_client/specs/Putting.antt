@@ -5,6 +5,7 @@ use Rattle.rh_keep.specs.Meters.{may_put, fits}
 use Rattle.rh_window.specs.Sending.{may_send}
 use Rattle.rh_window.specs.declared.recv_window.Ack.{Ack}
 use Rattle.rh_http.specs.Texts.{in_request, out_request}
+use Rattle.rh_rts.specs.declared.command.TheConstants.{TO_OUT_PROXY, TO_SERVER}
 use Rattle.rh_sig.specs.declared.named.Named.{Named}
 use Rattle.rh_sig.specs.declared.named.Named.TheVariants as named
 use Rattle.rh_sig.specs.declared.ranges.TheConstants.{PROTOCOL_VERSION}
@@ -22,9 +23,10 @@ use Rattle.rh_client.specs.declared.channels.InChannel.{InChannel}
 use Rattle.rh_client.specs.declared.channels.OutChannel.{OutChannel}
 use Rattle.rh_client.specs.declared.channels.Opening.{Opening}
 use Rattle.rh_client.specs.declared.channels.Opening.TheVariants.{NotUp, Request, First, Second, Put}
-use Rattle.rh_client.specs.declared.lengths.TheConstants.{CONN_B1_LEN, IN_R1_A1_LEN, IN_R1_A5_LEN}
-use Rattle.rh_client.specs.declared.lengths.TheConstants.{OUT_R1_A7_LEN, END_A1_LEN, ACK_TO_LEN}
-use Rattle.rh_client.specs.declared.lengths.TheConstants.{PING_LEN, CONN_A1_LEN, OUT_R1_A3_C1_LEN}
+use Rattle.rh_sig.specs.declared.lengths.TheConstants.{CONN_B1_LEN, IN_R1_A1_LEN, IN_R1_A5_LEN}
+use Rattle.rh_sig.specs.declared.lengths.TheConstants.{OUT_R1_A7_LEN, END_A1_LEN, ACK_TO_LEN}
+use Rattle.rh_sig.specs.declared.lengths.TheConstants.{PING_LEN}
+use Rattle.rh_client.specs.declared.lengths.TheConstants.{CONN_A1_LEN, OUT_R1_A3_C1_LEN}
 use Rattle.rh_client.specs.declared.replacement.Replacement.{Replacement}
 use Rattle.rh_client.specs.declared.replacement.Replacement.TheVariants.{NoneUnderWay, In, Out}
 use Rattle.rh_client.specs.declared.replacement.InStage.{InStage}
@@ -144,7 +146,7 @@ put_out_r1_a7 s waiting =
         writing = metered s.writing OUT_R1_A7_LEN;
         replacement = Out out_stage.Switched waiting;
       },
-      Packet (named.OutR1A7 2 s.out_successor.cookie),
+      Packet (named.OutR1A7 TO_SERVER s.out_successor.cookie),
     )
     else None
 
@@ -177,7 +179,7 @@ ack_by s which (Some ack) =
         line = after_told s.line which ack;
         writing = metered s.writing ACK_TO_LEN;
       },
-      Packet (named.AckTo 3 ack.received ack.available (cookie_of s which)),
+      Packet (named.AckTo TO_OUT_PROXY ack.received ack.available (cookie_of s which)),
     )
     else None
 

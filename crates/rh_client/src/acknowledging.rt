@@ -7,7 +7,7 @@ use crate::channels::InChannel;
 use crate::replacement::Replacement;
 use crate::state::ClientRole;
 use rh_line::{LineFault, Which};
-use rh_rts::Cookie;
+use rh_rts::{Cookie, TO_CLIENT};
 use rh_shell::Refused;
 use rh_window::Ack;
 
@@ -108,7 +108,7 @@ impl ClientRole {
     ) -> Result<(), Refused>
         ensures { (self.new, result) ≡ seen.on_ack_to self.old to received available of }
     {
-        if !self.is_open() || to != 0 {
+        if !self.is_open() || to != TO_CLIENT {
             return Err(Refused::Unexpected);
         }
         self.ack_named(received, available, of)

@@ -5,13 +5,15 @@ ghost use Rattle.std.specs.Str.{bytes_eq};
 ghost use Rattle.rh_client.specs.Channels.{no_cookie};
 
 use rh_keep::Meter;
-use rh_rts::Cookie;
+use rh_rts::{Cookie, NO_COOKIE};
+use rh_sig::ranges::LEAST_TIMEOUT;
 use rh_window::SendWindow;
 
 /// The greatest number of a channel: it has no successor.
-pub const LAST_NUMBER: u32 = 4_294_967_295;
-/// The timeout that stands for an in proxy's until it is told, in milliseconds (profile).
-pub const UNTOLD_TIMEOUT: u32 = 120_000;
+pub const LAST_NUMBER: u32 = rh_line::LAST_NUMBER;
+/// The timeout that stands for an in proxy's until it is told: the least one, in milliseconds
+/// (profile).
+pub const UNTOLD_TIMEOUT: u32 = LEAST_TIMEOUT;
 
 /// How much was put of what a leg begins with.
 #[derive(Clone, Copy, Debug, PartialEq, Eq)]
@@ -62,7 +64,7 @@ pub struct OutChannel {
 fn no_cookie() -> Cookie
     ensures { result ≡ no_cookie }
 {
-    Cookie([0; 16])
+    NO_COOKIE
 }
 
 /// Whether two cookies are the same.

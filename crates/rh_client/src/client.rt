@@ -73,6 +73,7 @@ use crate::opening::{head_by, pipe_by};
 use crate::state::ClientRole;
 use rh_http::ClientConfig;
 use rh_line::{GiveFault, Leg, LegKind, LineTake, RecycleFault, State, Take, Verdict};
+use rh_pdu::header::GREATEST_FRAG;
 use rh_rts::Cookie;
 use rh_shell::{
     Begun, Count, EndRole, GiveRefused, HeadRefused, HeadTaken, Phase, RecycleRefused, Refused,
@@ -226,7 +227,7 @@ impl Client {
     /// room, which stays behind it.
     ///
     /// Answers `Closed` exactly where the client closed, with that cause; the room then stays.
-    pub fn take(&mut self, room: &mut [u8; 8192]) -> Take
+    pub fn take(&mut self, room: &mut [u8; GREATEST_FRAG]) -> Take
         ensures answer { result ≡ ends.take_answer acts self.old }
         ensures room { room.new ≡ ends.room_after_take acts self.old room.old }
         ensures new { self.new ≡ ends.after_take acts self.old }
@@ -392,7 +393,7 @@ impl EndRole for ClientRole {
         self.give_pdu(pdu)
     }
 
-    fn take(&mut self, room: &mut [u8; 8192]) -> LineTake {
+    fn take(&mut self, room: &mut [u8; GREATEST_FRAG]) -> LineTake {
         self.take_pdu(room)
     }
 

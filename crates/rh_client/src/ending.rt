@@ -4,6 +4,7 @@ use crate::channels::InChannel;
 use crate::state::ClientRole;
 use rh_line::{LegKind, LineTake, Which};
 use rh_pdu::check;
+use rh_pdu::header::GREATEST_FRAG;
 use rh_shell::{GiveRefused, Refused};
 
 impl ClientRole {
@@ -35,7 +36,7 @@ impl ClientRole {
     }
 
     /// The next PDU is taken, where one is there.
-    pub(crate) fn take_pdu(&mut self, room: &mut [u8; 8192]) -> LineTake
+    pub(crate) fn take_pdu(&mut self, room: &mut [u8; GREATEST_FRAG]) -> LineTake
         ensures answer { result ≡ take_answer self.old.line }
         ensures room { room.new ≡ put_first self.old.line.current.pdus room.old }
         ensures new { self.new ≡ seen.take self.old }

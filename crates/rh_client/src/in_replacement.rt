@@ -4,6 +4,7 @@ use crate::channels::{InChannel, LAST_NUMBER};
 use crate::replacement::{InStage, Replacement};
 use crate::state::ClientRole;
 use crate::successors::{ci, co};
+use rh_rts::TO_CLIENT;
 use rh_shell::{RecycleRefused, Refused};
 use std::mem;
 
@@ -86,7 +87,7 @@ impl ClientRole {
     pub(crate) fn on_in_r1_a4(&mut self, to: u32, window: u32, timeout: u32) -> Result<(), Refused>
         ensures { (self.new, result) ≡ seen.on_in_r1_a4 self.old to window timeout }
     {
-        if to != 0 {
+        if to != TO_CLIENT {
             return Err(Refused::Unexpected);
         }
         self.answer(window, timeout)
@@ -96,7 +97,7 @@ impl ClientRole {
     pub(crate) fn on_in_r2_a4(&mut self, to: u32) -> Result<(), Refused>
         ensures { (self.new, result) ≡ seen.on_in_r2_a4 self.old to }
     {
-        if to != 0 {
+        if to != TO_CLIENT {
             return Err(Refused::Unexpected);
         }
         self.answer(self.writing.told, self.writing.timeout)

@@ -2,18 +2,17 @@
 
 ghost use Rattle.std.specs.Prelude.{◌≡◌, ◌≤◌, length};
 ghost use Rattle.rh_heads.specs.Verdicts.{response_verdict};
+ghost use Rattle.rh_http.specs.Reading.{greatest_head};
 ghost use Rattle.rh_client.specs.Opening.{head_by, pipe_by};
 
 use crate::state::ClientRole;
 use rh_heads::judge_response;
+use rh_http::lengths::SUCCESS;
 use rh_line::LegKind;
 use rh_rts::Cookie;
 use rh_shell::answers::Behind;
 use rh_shell::{Count, HeadRefused, HeadTaken, Phase, Refused};
 use rh_sig::Pipe;
-
-/// The status of a response that opens an OUT channel.
-const SUCCESS: u16 = 200;
 
 impl ClientRole {
     ghost use Rattle.std.specs.Prelude.{◌≡◌};
@@ -157,7 +156,7 @@ pub(crate) fn pipe_by(kind: LegKind) -> Option<Pipe>
 
 /// What a response is to a client (MS-RPCH 2.1.2).
 pub(crate) fn head_by(kind: LegKind, text: &[u8]) -> Result<HeadTaken, HeadRefused>
-    requires { length text.now ≤ 16384 }
+    requires { length text.now ≤ greatest_head }
     ensures { result ≡ head_by kind (response_verdict text.now) }
 {
     match judge_response(text) {

@@ -3,6 +3,7 @@
 use crate::channels::{LAST_NUMBER, OutChannel};
 use crate::replacement::{OutStage, Replacement, Waits};
 use crate::state::ClientRole;
+use rh_rts::TO_CLIENT;
 use rh_shell::{Phase, Refused};
 use std::mem;
 
@@ -43,7 +44,7 @@ impl ClientRole {
     pub(crate) fn on_out_r1_a2(&mut self, number: u32, to: u32) -> Result<(), Refused>
         ensures { (self.new, result) ≡ seen.on_out_r1_a2 self.old number to }
     {
-        if !self.is_open() || to != 0 || number == LAST_NUMBER {
+        if !self.is_open() || to != TO_CLIENT || number == LAST_NUMBER {
             return Err(Refused::Unexpected);
         }
         self.want_out_successor(number)
@@ -53,7 +54,7 @@ impl ClientRole {
     pub(crate) fn on_out_r1_a6(&mut self, number: u32, to: u32, timeout: u32) -> Result<(), Refused>
         ensures { (self.new, result) ≡ seen.on_out_r1_a6 self.old number to timeout }
     {
-        if to != 0 || !self.is_current(number) {
+        if to != TO_CLIENT || !self.is_current(number) {
             return Err(Refused::Unexpected);
         }
         match self.replacement {

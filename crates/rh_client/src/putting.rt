@@ -2,16 +2,17 @@
 //! answers whether it put something.
 
 use crate::channels::Opening;
-use crate::lengths::{
-    ACK_TO_LEN, CONN_A1_LEN, CONN_B1_LEN, END_A1_LEN, IN_R1_A1_LEN, IN_R1_A5_LEN, OUT_R1_A3_C1_LEN,
-    OUT_R1_A7_LEN, PING_LEN,
-};
+use crate::lengths::{CONN_A1_LEN, OUT_R1_A3_C1_LEN};
 use crate::replacement::{InStage, OutStage, Replacement, Waits};
 use crate::requests::{begin_in_request, begin_out_request};
 use crate::state::ClientRole;
 use rh_line::{LegKind, Which};
+use rh_rts::{TO_OUT_PROXY, TO_SERVER};
 use rh_shell::{Begun, Phase};
 use rh_sig::Named;
+use rh_sig::lengths::{
+    ACK_TO_LEN, CONN_B1_LEN, END_A1_LEN, IN_R1_A1_LEN, IN_R1_A5_LEN, OUT_R1_A7_LEN, PING_LEN,
+};
 use rh_sig::ranges::PROTOCOL_VERSION;
 
 impl ClientRole {
@@ -201,7 +202,7 @@ impl ClientRole {
             stage: OutStage::Switched,
             waits,
         };
-        begun.begin_packet(&Named::OutR1A7(2, self.out_successor.cookie));
+        begun.begin_packet(&Named::OutR1A7(TO_SERVER, self.out_successor.cookie));
         true
     }
 
@@ -240,7 +241,7 @@ impl ClientRole {
         }
         let of = self.cookie_of(which);
         self.line.told(which, &ack);
-        begun.begin_packet(&Named::AckTo(3, ack.received, ack.available, of));
+        begun.begin_packet(&Named::AckTo(TO_OUT_PROXY, ack.received, ack.available, of));
         true
     }
 

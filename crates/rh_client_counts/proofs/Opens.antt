@@ -36,7 +36,7 @@ use Rattle.rh_client_counts.specs.Replacing.{InIsAt, OutIsAt, ReplacesIns, Repla
 use Rattle.rh_client_counts.specs.Opening.{opened, IsUnused, OpensOnce}
 use Rattle.rh_client_counts.proofs.Allowed.{allowed_moves_keep}
 use Rattle.rh_client_counts.proofs.Standing.{passes, total_stays, total_rises, once_at_most}
-use Rattle.rh_client_counts.proofs.Views.{View, view, Way, way_of, Free, InIsAsked, InIsAnswered, OutIsAsked, OutIsAnswered, OutIsSwitched, OutIsFinished, is_in_way, is_out_way, out_if, has_in, behind_out, Marks, IsGreeting, IsPast, IsDue, EventsKeep}
+use Rattle.rh_client_counts.proofs.Views.{View, view, Way, way_of, Free, InIsAsked, InIsAnswered, OutIsAsked, OutIsAnswered, OutIsSwitched, OutIsFinished, is_in_way, is_out_way, out_if, has_in, first_is_in, behind_out, Marks, IsGreeting, IsPast, IsDue, EventsKeep}
 use Rattle.rh_client_counts.proofs.Replacements as keeps
 use Rattle.rh_client_counts.proofs.Puts.{not_both}
 use Rattle.rh_client_counts.proofs.Moves.{client_keeps}
@@ -240,7 +240,7 @@ module _ (window : ℕ) where
           in_asked = false;
           way = InIsAsked;
           waiting = out_if (has_out v.waiting);
-        }) came put refl w h;
+        }) came put refl (first_is_in v.waiting w) h;
     begins_out = λ v came put w l h.
         waits_out v (record v {
           out_successor = v.current + 1;

@@ -24,7 +24,7 @@ use Rattle.rh_client.specs.InReplacement.{recycle_by, wish_by, wished, wants_suc
 use Rattle.rh_client.specs.OutReplacement.{succeeded, ended_or, pass_by, passed}
 use Rattle.rh_client.specs.Ending.{take}
 use Rattle.rh_client.specs.Putting.{settled_or_wished}
-use Rattle.rh_client_counts.proofs.Views.{View, view, view_by, Free, out_if, has_in, behind_out, EventsKeep}
+use Rattle.rh_client_counts.proofs.Views.{View, view, view_by, Free, out_if, has_in, is_in_first, behind_out, EventsKeep}
 
 free : (r : Replacement) → is_none r ≡ true → r ≡ NoneUnderWay
 free NoneUnderWay e = refl
@@ -46,16 +46,16 @@ module _ (P : Fact View) (events : EventsKeep P) where
   -- ---- a replacement begins
 
   begin_in_holds : (s : ClientRole) (w : Waits) (came put : List OnLeg) → has_in w ≡ true
-      → P (record (view s) { way = Free; waiting = w }) came put
+      → is_in_first w ≡ true → P (record (view s) { way = Free; waiting = w }) came put
       → Holds (begin_in s (has_out w)) came put
-  begin_in_holds s w came put is h =
+  begin_in_holds s w came put is at h =
       by_test (λ (t : ClientRole). Holds t came put) (nat_lt s.writing.number LAST_NUMBER)
       (record s {
         in_successor = unopened_in (s.writing.number + 1) s.config.lifetime;
         replacement = In in_stage.Asked (has_out w);
       })
       (record s { replacement = NoneUnderWay })
-      (λ e. events.begins_in (record (view s) { waiting = w }) came put is e h)
+      (λ e. events.begins_in (record (view s) { waiting = w }) came put at e h)
       (λ e. events.drops_in (record (view s) { waiting = w }) came put is e h)
 
   pub begin_out_holds : (s : ClientRole) (w : Waits) (came put : List OnLeg) → has_out w ≡ true
@@ -81,10 +81,10 @@ module _ (P : Fact View) (events : EventsKeep P) where
       → P (record (view s) { way = Free; waiting = w }) came put
       → Holds (after_out s w) came put
   after_out_holds s waits.Nothing came put h = h
-  after_out_holds s waits.In came put h = begin_in_holds s waits.In came put refl h
+  after_out_holds s waits.In came put h = begin_in_holds s waits.In came put refl refl h
   after_out_holds s waits.Out came put h = begin_out_holds s waits.Out came put refl h
   after_out_holds s waits.InThenOut came put h =
-      begin_in_holds s waits.InThenOut came put refl h
+      begin_in_holds s waits.InThenOut came put refl refl h
   after_out_holds s waits.OutThenIn came put h =
       begin_out_holds s waits.OutThenIn came put refl h
 
@@ -93,7 +93,7 @@ module _ (P : Fact View) (events : EventsKeep P) where
       → is_open s.phase ≡ true → nat_lt s.writing.number LAST_NUMBER ≡ true
       → Holds s came put → Holds (wish_by s r) came put
   wish_holds s NoneUnderWay came put e open' lower h =
-      begin_in_holds s waits.In came put refl
+      begin_in_holds s waits.In came put refl refl
       (events.wants_in (view_by s NoneUnderWay) came put open' lower
       (at_replacement s NoneUnderWay came put e h))
   wish_holds s (In stage w) came put e open' lower h = h

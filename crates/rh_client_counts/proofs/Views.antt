@@ -1,5 +1,5 @@
 -- what the replacements at a client read and change, and what may happen to it
-use Rattle.std.proofs.Common.{◌≡◌, ◌⊎◌, Some, ℕ, ◌+◌, nat_lt, Bool, true, false, if◌then◌else◌, List, [], ◌∷◌, ◌++◌}
+use Rattle.std.proofs.Common.{◌≡◌, ◌⊎◌, Some, ℕ, ◌+◌, nat_lt, Bool, true, false, if◌then◌else◌, List, [], ◌∷◌, ◌++◌, refl}
 use Rattle.rh_rts.specs.declared.command.Cookie.{Cookie}
 use Rattle.rh_sig.specs.declared.named.Named.TheVariants.{ConnA1, ConnB1, InR1A1, InR1A5, OutR1A3, OutR1A7}
 use Rattle.rh_sig.specs.declared.ranges.TheConstants.{PROTOCOL_VERSION}
@@ -86,6 +86,21 @@ has_in waits.In = true
 has_in waits.Out = false
 has_in waits.InThenOut = true
 has_in waits.OutThenIn = true
+
+-- that of an IN channel goes first
+abbrev pub is_in_first : Waits → Bool
+is_in_first waits.Nothing = false
+is_in_first waits.In = true
+is_in_first waits.Out = false
+is_in_first waits.InThenOut = true
+is_in_first waits.OutThenIn = false
+
+pub first_is_in : (x : Waits) → is_in_first x ≡ true → has_in x ≡ true
+first_is_in waits.Nothing e = e
+first_is_in waits.In e = e
+first_is_in waits.Out e = e
+first_is_in waits.InThenOut e = e
+first_is_in waits.OutThenIn e = refl
 
 -- what waits once that of an OUT channel begins
 abbrev pub behind_out : Waits → Waits
@@ -281,7 +296,7 @@ pub record EventsKeep (P : Fact View) : Type 0 where
       → nat_lt (newest_out v) LAST_NUMBER ≡ true → P v came put
       → P (record v { waiting = with_out v.waiting }) (came ++ one ∷ []) put
   -- it begins, or is dropped, since the channel has the last number
-  pub begins_in : (v : View) (came put : List OnLeg) → has_in v.waiting ≡ true
+  pub begins_in : (v : View) (came put : List OnLeg) → is_in_first v.waiting ≡ true
       → nat_lt v.writing LAST_NUMBER ≡ true → P (record v { way = Free }) came put
       → P (record v {
         in_successor = v.writing + 1;

@@ -1,5 +1,5 @@
-//! The hops between a client and its proxies, whose acknowledgements pass other nodes. Its functions
-//! do nothing: their contracts are the laws.
+//! The hops between a client and its proxies, whose acknowledgements pass other nodes. Its
+//! functions do nothing: their contracts are the laws.
 #![tactic(auto)]
 
 pub mod worlds;

@@ -17,8 +17,9 @@ use Rattle.rh_shell.specs.Wires.{of_leg}
 use Rattle.rh_passages.proofs.Messages.{all_append}
 use Rattle.rh_client.specs.declared.channels.Opening.{Opening}
 use Rattle.rh_client.specs.declared.channels.Opening.TheVariants.{NotUp, Request, First, Second, Put}
-use Rattle.rh_client.specs.declared.lengths.TheConstants.{CONN_B1_LEN, IN_R1_A1_LEN}
-use Rattle.rh_client.specs.declared.lengths.TheConstants.{PING_LEN, CONN_A1_LEN, OUT_R1_A3_C1_LEN}
+use Rattle.rh_sig.specs.declared.lengths.TheConstants.{CONN_B1_LEN, IN_R1_A1_LEN}
+use Rattle.rh_sig.specs.declared.lengths.TheConstants.{PING_LEN}
+use Rattle.rh_client.specs.declared.lengths.TheConstants.{CONN_A1_LEN, OUT_R1_A3_C1_LEN}
 use Rattle.rh_client.specs.declared.replacement.Replacement.{Replacement}
 use Rattle.rh_client.specs.declared.replacement.Replacement.TheVariants.{NoneUnderWay, In, Out}
 use Rattle.rh_client.specs.declared.state.ClientRole.{ClientRole}

@@ -18,9 +18,9 @@ use Rattle.rh_shell.specs.Moves.{OnLeg}
 use Rattle.rh_passages.proofs.Logs.{PutKeeps}
 use Rattle.rh_passages.proofs.Messages.{all_append}
 use Rattle.rh_client.specs.declared.channels.Opening.TheVariants.{Put}
-use Rattle.rh_client.specs.declared.lengths.TheConstants.{IN_R1_A5_LEN}
-use Rattle.rh_client.specs.declared.lengths.TheConstants.{OUT_R1_A7_LEN, END_A1_LEN, ACK_TO_LEN}
-use Rattle.rh_client.specs.declared.lengths.TheConstants.{PING_LEN}
+use Rattle.rh_sig.specs.declared.lengths.TheConstants.{IN_R1_A5_LEN}
+use Rattle.rh_sig.specs.declared.lengths.TheConstants.{OUT_R1_A7_LEN, END_A1_LEN, ACK_TO_LEN}
+use Rattle.rh_sig.specs.declared.lengths.TheConstants.{PING_LEN}
 use Rattle.rh_client.specs.declared.replacement.Replacement.{Replacement}
 use Rattle.rh_client.specs.declared.replacement.Replacement.TheVariants.{NoneUnderWay, In, Out}
 use Rattle.rh_client.specs.declared.replacement.InStage.TheVariants as in_stage

@@ -3,6 +3,7 @@
 use Rattle.std.specs.Prelude.{ℕ, zero, suc, ◌≡◌, ◌⊎◌, ◌++◌, List, [], ◌∷◌}
 use Rattle.std.specs.List.{AllByRecursion}
 use Rattle.rh_rts.specs.declared.command.Cookie.{Cookie}
+use Rattle.rh_rts.specs.declared.command.TheConstants.{TO_OUT_PROXY, TO_SERVER}
 use Rattle.rh_http.specs.declared.config.ClientConfig.{ClientConfig}
 use Rattle.rh_http.specs.Texts.{in_request, out_request}
 use Rattle.rh_sig.specs.declared.named.Named.{Named}
@@ -84,8 +85,8 @@ IsChannel way Comes Early (suc n) messages =
 -- the packets behind CONN/B1 or IN_R1/A1: acknowledgements to the out proxy, OUT_R1/A7 to the
 -- server, END/A1, IN_R1/A5 with the successor's cookie, and Pings (MS-RPCH 3.2.1, 3.2.2)
 abbrev pub IsBehindPacket : (Cookie → Type 0) → Named → Type 0
-IsBehindPacket IsNext (AckTo to received available cookie) = to ≡ 3
-IsBehindPacket IsNext (OutR1A7 to successor) = to ≡ 2
+IsBehindPacket IsNext (AckTo to received available cookie) = to ≡ TO_OUT_PROXY
+IsBehindPacket IsNext (OutR1A7 to successor) = to ≡ TO_SERVER
 IsBehindPacket IsNext EndA1 = Unit {0}
 IsBehindPacket IsNext (InR1A5 successor) = IsNext successor
 IsBehindPacket IsNext Ping = Unit {0}

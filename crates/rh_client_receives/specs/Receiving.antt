@@ -2,6 +2,7 @@
 -- what it refuses for its window, and what it acknowledges (MS-RPCH 3.2)
 use Rattle.std.specs.Prelude.{◌≡◌, ℕ, ◌+◌, ◌<◌, ◌≤◌, List, Err}
 use Rattle.rh_rts.specs.declared.command.Cookie.{Cookie}
+use Rattle.rh_rts.specs.declared.command.TheConstants.{TO_OUT_PROXY}
 use Rattle.rh_window.specs.declared.range.TheConstants.{GREATEST_WINDOW}
 use Rattle.rh_sig.specs.declared.named.Named.TheVariants.{ConnA1, OutR1A3, AckTo}
 use Rattle.rh_line.specs.declared.leg.Leg.{Leg}
@@ -28,7 +29,7 @@ pub record IsBehindWindow (k : ℕ) (put : List OnLeg) (reached : ℕ) : Type 0 
 abbrev pub IsBehindAcks : ℕ → List EndMove → List OnLeg → ℕ → Type 0
 IsBehindAcks k moves put reached =
     (leg : Leg) (received available : ℕ) (cookie : Cookie)
-    → Has (AckTo 3 received available cookie) (of_leg leg put)
+    → Has (AckTo TO_OUT_PROXY received available cookie) (of_leg leg put)
     → HasComeUp moves (co k) cookie
     → ((j : ℕ) → HasComeUp moves (co j) cookie → j ≡ k)
     → received + available < reached

@@ -2,6 +2,7 @@
 
 ghost use Rattle.std.specs.Prelude.{◌≡◌, ◌+◌, List, [], false, length, ℕ};
 ghost use Rattle.rh_rts.specs.declared.command.Cookie.{Cookie};
+ghost use Rattle.rh_rts.specs.declared.command.TheConstants.{TO_OUT_PROXY};
 ghost use Rattle.rh_window.specs.Sides.{IsWindow};
 ghost use Rattle.rh_http.specs.declared.config.ClientConfig.{ClientConfig};
 ghost use Rattle.rh_sig.specs.declared.named.Named.{Named};
@@ -56,7 +57,7 @@ pub fn a_client_acknowledges_what_came()
         → (leg : Leg) (destination received available : ℕ) (cookie : Cookie)
         → Has (AckTo destination received available cookie)
         (of_leg leg (client_moved config moves).passage.put)
-        → destination ≡ 3 }
+        → destination ≡ TO_OUT_PROXY }
     ensures acks { (config : ClientConfig) (moves : List EndMove) → IsWindow config.window
         → AreAllowedMoves config moves → AreUpFirst [] moves
         → (leg : Leg) (destination received available : ℕ) (cookie : Cookie)

@@ -2,6 +2,7 @@
 -- replacements and of a clean end, this profile's)
 use Rattle.std.specs.Prelude.{ℕ, ◌≡◌, ◌⊎◌, ◌+◌, ◌<◌, ◌≤◌, Bool, true, false, List, Err}
 use Rattle.rh_rts.specs.declared.command.Cookie.{Cookie}
+use Rattle.rh_rts.specs.declared.command.TheConstants.{TO_CLIENT}
 use Rattle.rh_sig.specs.declared.named.Named.{Named}
 use Rattle.rh_sig.specs.declared.named.Named.TheVariants.{ConnA3, ConnC2, AckTo, InR1A4, InR2A4, OutR1A2, OutR1A6, OutR1A10, EndB2}
 use Rattle.rh_line.specs.declared.leg.Leg.{Leg}
@@ -57,18 +58,18 @@ UnexpectedOn p n (ConnA3 timeout) = (n ≡ 1 → ⊥) ⊎ (0 < packets (of_leg (
 UnexpectedOn p n (ConnC2 version window timeout) =
     (n ≡ 1 → ⊥)
     ⊎ ((opened p ≡ 1) ⊎ (count_of is_conn_a3 (of_leg (co n) p.came) ≡ 0))
-UnexpectedOn p n (AckTo to received available of) = (to ≡ 0 → ⊥) ⊎ (opened p ≡ 0)
+UnexpectedOn p n (AckTo to received available of) = (to ≡ TO_CLIENT → ⊥) ⊎ (opened p ≡ 0)
 UnexpectedOn p n (InR1A4 to version window timeout) =
-    (to ≡ 0 → ⊥) ⊎ (in_asked p ≡ in_answered p)
-UnexpectedOn p n (InR2A4 to) = (to ≡ 0 → ⊥) ⊎ (in_asked p ≡ in_answered p)
+    (to ≡ TO_CLIENT → ⊥) ⊎ (in_asked p ≡ in_answered p)
+UnexpectedOn p n (InR2A4 to) = (to ≡ TO_CLIENT → ⊥) ⊎ (in_asked p ≡ in_answered p)
 UnexpectedOn p n (OutR1A2 to) =
-    (to ≡ 0 → ⊥)
+    (to ≡ TO_CLIENT → ⊥)
     ⊎ ((opened p ≡ 0)
     ⊎ ((LAST_NUMBER ≤ n)
     ⊎ ((out_asked p < out_wanted p)
     ⊎ ((n ≡ out_asked p) × (out_wanted p ≡ out_asked p) × (out_asked p ≡ out_finished p + 1)))))
 UnexpectedOn p n (OutR1A6 to version timeout) =
-    (to ≡ 0 → ⊥)
+    (to ≡ TO_CLIENT → ⊥)
     ⊎ ((out_asked p ≡ out_answered p) ⊎ (n ≡ out_answered p + 1 → ⊥))
 UnexpectedOn p n OutR1A10 = (out_switched p ≡ out_finished p) ⊎ (n ≡ out_finished p + 1 → ⊥)
 UnexpectedOn p n EndB2 = (opened p ≡ 0) ⊎ Has EndB2 (of_leg (co n) p.came)

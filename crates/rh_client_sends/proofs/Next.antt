@@ -22,9 +22,10 @@ use Rattle.rh_passages.specs.Passing.{HasBegunIn, BeginsIn, BeginsOut}
 use Rattle.rh_passages.proofs.Messages.{last_one_so}
 use Rattle.rh_client.specs.declared.channels.Opening.{Opening}
 use Rattle.rh_client.specs.declared.channels.Opening.TheVariants.{NotUp, Request, First, Second, Put}
-use Rattle.rh_client.specs.declared.lengths.TheConstants.{CONN_B1_LEN, IN_R1_A1_LEN, IN_R1_A5_LEN}
-use Rattle.rh_client.specs.declared.lengths.TheConstants.{OUT_R1_A7_LEN, END_A1_LEN, ACK_TO_LEN}
-use Rattle.rh_client.specs.declared.lengths.TheConstants.{PING_LEN, CONN_A1_LEN, OUT_R1_A3_C1_LEN}
+use Rattle.rh_sig.specs.declared.lengths.TheConstants.{CONN_B1_LEN, IN_R1_A1_LEN, IN_R1_A5_LEN}
+use Rattle.rh_sig.specs.declared.lengths.TheConstants.{OUT_R1_A7_LEN, END_A1_LEN, ACK_TO_LEN}
+use Rattle.rh_sig.specs.declared.lengths.TheConstants.{PING_LEN}
+use Rattle.rh_client.specs.declared.lengths.TheConstants.{CONN_A1_LEN, OUT_R1_A3_C1_LEN}
 use Rattle.rh_client.specs.declared.replacement.Replacement.{Replacement}
 use Rattle.rh_client.specs.declared.replacement.Replacement.TheVariants.{NoneUnderWay, In, Out}
 use Rattle.rh_client.specs.declared.replacement.InStage.TheVariants as in_stage

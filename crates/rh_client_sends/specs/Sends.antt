@@ -2,6 +2,7 @@
 -- it refuses (MS-RPCH 3.2.1); and the cookies of its channels
 use Rattle.std.specs.Prelude.{◌≡◌, ℕ, ◌+◌, ◌<◌, ◌≤◌, ◌⊎◌, List, [], ◌∷◌, false, Err}
 use Rattle.rh_rts.specs.declared.command.Cookie.{Cookie}
+use Rattle.rh_rts.specs.declared.command.TheConstants.{TO_CLIENT}
 use Rattle.rh_window.specs.declared.range.TheConstants.{GREATEST_WINDOW}
 use Rattle.rh_sig.specs.declared.named.Named.{Named}
 use Rattle.rh_sig.specs.declared.named.Named.TheVariants.{ConnC2, InR1A4, AckTo}
@@ -37,7 +38,7 @@ abbrev pub TellsEdge : (Cookie → Type 0) → Named → ℕ → Type 0
 TellsEdge IsOf (ConnC2 version window timeout) edge = edge ≡ window
 TellsEdge IsOf (InR1A4 to version window timeout) edge = edge ≡ window
 TellsEdge IsOf (AckTo to received available cookie) edge =
-    (to ≡ 0) × (edge ≡ received + available) × IsOf cookie
+    (to ≡ TO_CLIENT) × (edge ≡ received + available) × IsOf cookie
 TellsEdge IsOf packet edge = ⊥
 
 -- a packet that came on an OUT channel tells an edge that is at least so many bytes
@@ -63,7 +64,7 @@ pub record IsFalseAckOn (moves : List EndMove) (put : List OnLeg) (received avai
 
 abbrev pub IsFalseAck : List EndMove → List OnLeg → Named → Type 0
 IsFalseAck moves put (AckTo to received available cookie) =
-    (to ≡ 0) × ((n : ℕ) × IsFalseAckOn moves put received available cookie n)
+    (to ≡ TO_CLIENT) × ((n : ℕ) × IsFalseAckOn moves put received available cookie n)
 IsFalseAck moves put packet = ⊥
 
 -- a packet that a row refuses as out of range is one

@@ -45,10 +45,10 @@ pub fn each_close_shows<K, C: Role, S: Role, I: Role, O: Role>()
 
 /// So for each cause that names its event. A node that closed with `LegBroken` stands where the
 /// line broke that leg, or ended it in the direction in which the node puts there. One that closed
-/// with `LegEnded` stands where the line ended that leg in the direction in which it reads, and held
-/// that many bytes of what was unfinished there. One that closed with `Silent` was told that moment,
-/// and the leg was silent as long as its role allows. One that closed with `HttpRefused` stands
-/// where bytes moved to on that leg.
+/// with `LegEnded` stands where the line ended that leg in the direction in which it reads, and
+/// held that many bytes of what was unfinished there. One that closed with `Silent` was told that
+/// moment, and the leg was silent as long as its role allows. One that closed with `HttpRefused`
+/// stands where bytes moved to on that leg.
 pub fn each_cause_shows<K, C, S, I, O>()
     ensures broken { (r : Rulebook C S I O) (m : Makers K I O) (d : Deeds C S) (line : Line)
         (w : World K C S I O) (node : Who) (leg : Leg)
@@ -73,5 +73,6 @@ pub fn each_cause_shows<K, C, S, I, O>()
         (w : World K C S I O) (node : Who) (leg : Leg) (status : ℕ)
         (is : IsLicensed r m d line w node (cause.HttpRefused leg status))
         → ShowsMove (step_line r m d line w).1
-        (midst r m d line w node (cause.HttpRefused leg status) is) node is.closed.closes.event leg }
+        (midst r m d line w node (cause.HttpRefused leg status) is) node
+        is.closed.closes.event leg }
 {}

@@ -1,4 +1,5 @@
 pub mod Behind
+pub mod Both
 pub mod Goes
 pub mod Losing
 pub mod Rounds

@@ -12,20 +12,24 @@ use Rattle.rh_world.specs.Any.{act, after, prepared, step}
 use Rattle.rh_world.specs.Config.{AreInRange}
 use Rattle.rh_world.specs.Roles as roles
 use Rattle.rh_bounds.proofs.Reached.{prepared_is_recorded}
+use Rattle.rh_ends_in_time.specs.Both.{AreUpAtBoth}
 use Rattle.rh_ends_in_time.specs.Losses.{AllLoseInTime, IsEndedInTime, LosesInTime, LosesInTimeAt, loses_no_leg}
 use Rattle.rh_ends_in_time.proofs.Behind.{NoLeg}
+use Rattle.rh_ends_in_time.proofs.Both.{none_up}
 use Rattle.rh_ends_in_time.proofs.Goes.{InTime, ends_in_time, goes_none, goes_then}
-use Rattle.rh_ends_in_time.proofs.EachLine.{others_lose_none, step_in_time}
+use Rattle.rh_ends_in_time.proofs.EachLine.{others_lose_none, step_in_time, step_keeps}
 
 record IsReached (world : roles.World) : Type 0 where
   config : WorldConfig
   ranges : AreInRange config
+  both : AreUpAtBoth world
   goes : InTime roles.rules roles.makers roles.deeds (roles.begun config) world
 
 begun_reached : (config : WorldConfig) → AreInRange config → IsReached (roles.begun config)
 begun_reached config ranges = record {
   config = config;
   ranges = ranges;
+  both = none_up;
   goes = goes_none roles.rules roles.makers roles.deeds NoLeg (roles.begun config);
 }
 
@@ -34,10 +38,11 @@ step_reached : (world : roles.World) (line : Line) → LosesInTime roles.rules w
 step_reached world line over reached = record {
   config = reached.config;
   ranges = reached.ranges;
+  both = step_keeps roles.rules roles.makers roles.deeds line world reached.both;
   goes =
       goes_then roles.rules roles.makers roles.deeds NoLeg (roles.begun reached.config) world
       (roles.step line world).0 reached.goes
-      (step_in_time roles.rules roles.makers roles.deeds line world over);
+      (step_in_time roles.rules roles.makers roles.deeds line world reached.both over);
 }
 
 abbrev IsRecorded : AnyWorld → Type 0

@@ -6,14 +6,20 @@ use Rattle.rh_line.specs.declared.leg.Leg.{Leg}
 use Rattle.rh_nodes.specs.declared.event.Event.TheVariants.{Ends, Breaks}
 use Rattle.rh_nodes.specs.Company.{Rulebook}
 use Rattle.rh_nodes.specs.Giving.{Deeds}
+use Rattle.rh_nodes.specs.Legs as legs
 use Rattle.rh_nodes.specs.Opening.{Makers}
 use Rattle.rh_nodes.specs.Settling.{is_finished}
+use Rattle.rh_nodes.specs.Wires.{sender}
 use Rattle.rh_nodes.specs.World.{World}
 use Rattle.rh_history.specs.Changes.{ByLines, Change, GoesDown, IsTold, all_changed}
 
--- what one end puts on a leg is over: its node has the leg finished, and nothing is in flight there
-abbrev pub IsOver : {K C S I O : Type 0} → Rulebook C S I O → World K C S I O → Leg → Type 0
-IsOver r w leg = (dir : Dir) × (is_finished r leg dir w ≡ true)
+-- what one end puts on a leg is over: the leg is up for it, its node has the leg finished, and
+-- nothing is in flight there
+pub record IsOver {K C S I O : Type 0} (r : Rulebook C S I O) (w : World K C S I O) (leg : Leg)
+    : Type 0 where
+  pub dir : Dir
+  pub up : legs.is_up leg (sender dir) w.legs ≡ true
+  pub done : is_finished r leg dir w ≡ true
 
 -- the leg that a change ends for a node: it is told so, or has the leg down
 abbrev pub ended_by : Change → Option Leg

@@ -1,79 +1,25 @@
 -- no head that comes to a proxy asks for an echo
-use Rattle.std.proofs.Common.{◌≡◌, ◌≤◌, ℕ, List, [], ◌∷◌, Bool, true, false, true≢false, ◌||◌, nat_le, Ok, Some, arith, inl, inr, refl, sym, ap, ◌∙◌, subst}
+use Rattle.std.proofs.Common.{◌≡◌, ℕ, List, [], ◌∷◌, Bool, true, false, true≢false, ◌||◌, Some, refl, sym, ap, ◌∙◌, subst}
 use Rattle.std.specs.Prelude.{if◌then◌else◌}
 use Rattle.std.specs.List.{AllByRecursion, list_any}
 use Rattle.std.specs.declared.option.Option.{Option}
-use Rattle.std.specs.declared.result.Result.{Result}
-use Rattle.std.proofs.lemmas.Bool.Decides.{nat_tests}
-use Rattle.rh_http.specs.declared.config.ClientConfig.{ClientConfig}
-use Rattle.rh_http.specs.declared.fault.HttpFault.{HttpFault}
-use Rattle.rh_http.specs.Lengths.{greatest_echo}
-use Rattle.rh_heads.specs.Verdicts.{Asked, request_verdict}
-use Rattle.rh_order.proofs.ItemLists.{neither, nil_front}
+use Rattle.rh_order.proofs.ItemLists.{neither}
 use Rattle.rh_line.specs.declared.leg.Leg.{Leg}
-use Rattle.rh_line.specs.declared.leg.LegKind.TheVariants.{ClientIn, ClientOut}
 use Rattle.rh_sig.specs.declared.name.Pipe.{Pipe}
 use Rattle.rh_shell.specs.declared.stage.Stage.{Stage}
 use Rattle.rh_shell.specs.declared.stage.Stage.TheVariants as stage
-use Rattle.rh_shell.specs.Intakes.{ends_head, is_whole_head}
 use Rattle.rh_shell.specs.Moves.{AreAllowed, Move, Up, HeadCame, PduCame, PacketCame, Puts, IsDrawn, Marks, Pings, Passage, moved, started}
 use Rattle.rh_shell.specs.Moving.{Leads}
 use Rattle.rh_shell.specs.NearEnds.{first_stage}
 use Rattle.rh_shell.specs.Rules.{Rules}
 use Rattle.rh_shell.specs.Shells.{same_leg}
 use Rattle.rh_shell.proofs.Leading.{leads_none, leads_one, leads_then}
-use Rattle.rh_client.specs.Legible.{IsConfig}
 use Rattle.rh_history.proofs.Wired.{same_itself}
 use Rattle.rh_streams.specs.Streams.{HasPipes, IsFirstHead, IsHeadOf, is_head_on}
 use Rattle.rh_streams.specs.Turns.{AreInTurn, AreInTurnFrom, IsInTurn, Stages, behind_head, none_up, stages_after, with_stage}
 use Rattle.rh_streams.proofs.Ends.{leg_is}
-use Rattle.rh_ends_begin.specs.Begins.{IsRequestOf}
 use Rattle.rh_passed.specs.Passed.{AsksNoEcho, HeadsAre}
-use Rattle.rh_first_texts.specs.Ports.{IsPort}
-use Rattle.rh_first_texts.proofs.Requests.{request_asks}
-use Rattle.rh_first_texts.proofs.Taken.{asked_for, in_asks}
-
--- ---- requests
-
-no_echo : (n : ℕ) → 17 ≤ n → nat_le n greatest_echo ≡ false
-no_echo n least = grind (arith, nat_tests)
-
-told_no_echo : (inbound : Bool) (config : ClientConfig) (n : ℕ) (text : List ℕ) → 17 ≤ n
-    → request_verdict inbound text ≡ Ok (asked_for config n) → AsksNoEcho inbound text
-told_no_echo inbound config n text least read = λ asked is.
-    by asked (sym is ∙ read)
-  where
-    by : (asked : Asked) → ◌≡◌ {A = Result Asked HttpFault} (Ok asked) (Ok (asked_for config n))
-        → nat_le asked.length greatest_echo ≡ false
-    by asked e =
-        let same : asked ≡ asked_for config n = cc in
-        ap (λ (x : Asked). nat_le x.length greatest_echo) same ∙ no_echo n least
-
-pub in_no_echo : (config : ClientConfig) (text : List ℕ) → IsConfig config
-    → IsPort config.port → IsRequestOf config ClientIn text → AsksNoEcho true text
-in_no_echo config text range port is =
-    told_no_echo true config config.lifetime text (omega (arith, range.lifetime.0))
-    (in_asks config text range port is)
-
-pub out_no_echo : (config : ClientConfig) (text : List ℕ) → IsPort config.port
-    → IsRequestOf config ClientOut text → AsksNoEcho false text
-out_no_echo config text port (inl is) =
-    told_no_echo false config 76 text (omega arith)
-    (ap (request_verdict false) is ∙ request_asks false config 76 port refl)
-out_no_echo config text port (inr is) =
-    told_no_echo false config 120 text (omega arith)
-    (ap (request_verdict false) is ∙ request_asks false config 120 port refl)
-
--- ---- no head stands in no bytes
-
-none_whole : is_whole_head [] ≡ true → ⊥
-unfolding ends_head
-none_whole e = absurd cc
-
-pub none_first : (text heard : List ℕ) → heard ≡ [] → IsFirstHead text heard → ⊥
-none_first text heard none first =
-    none_whole (subst (λ (x : List ℕ). is_whole_head x ≡ true)
-    (nil_front text first.front.0 (first.front.1 ∙ none)) first.whole.whole)
+use Rattle.rh_live_intakes.specs.Live.{BeginsNoEcho}
 
 -- ---- no head comes where none comes first
 
@@ -146,7 +92,7 @@ module _ {S : Type 0} (rules : Rules S) (first : S) (pipe : Leg → Option Pipe)
       next (Marks k) is = not_yet
       next (Pings k) is = not_yet
 
-  pub headless : (moves : List Move) → AreAllowed rules (started first) moves
+  headless : (moves : List Move) → AreAllowed rules (started first) moves
       → AreInTurn rules first moves → list_any (is_head_on leg) moves ≡ false
   headless moves allowed turn =
       no_heads (started first) none_up moves (leads_none rules (started first)) allowed turn none
@@ -157,7 +103,7 @@ module _ {S : Type 0} (rules : Rules S) (first : S) (pipe : Leg → Option Pipe)
 -- ---- and each that comes is of its kind
 
 -- of a leg on which no head comes, or of one with which bytes begin that were heard there
-pub each_head : (Heads : List ℕ → Type 0) (heard : Leg → List ℕ) (IsBare : Leg → Type 0)
+each_head : (Heads : List ℕ → Type 0) (heard : Leg → List ℕ) (IsBare : Leg → Type 0)
     → ((leg : Leg) (text : List ℕ) → (IsBare leg → ⊥) → IsFirstHead text (heard leg) → Heads text)
     → (moves : List Move) → ((leg : Leg) → AllByRecursion (IsHeadOf leg (heard leg)) moves)
     → ((leg : Leg) → IsBare leg → list_any (is_head_on leg) moves ≡ false)
@@ -184,3 +130,38 @@ each_head Heads heard IsBare asks (move ∷ moves) first bare = (
     one (IsDrawn leg) first bare = tt
     one (Marks leg) first bare = tt
     one (Pings leg) first bare = tt
+
+-- ---- so where the bytes begin with none that asks for an echo, none comes
+
+module _ {S : Type 0} (rules : Rules S) (first : S) (pipe : Leg → Option Pipe)
+    (has : HasPipes rules first pipe) (inbound : Bool) (heard : Leg → List ℕ)
+    (begins : (leg : Leg) → BeginsNoEcho inbound (pipe leg) (heard leg)) where
+  abbrev IsBare : Leg → Type 0
+  IsBare leg = first_stage (pipe leg) ≡ stage.Head → ⊥
+
+  asks_none : (leg : Leg) (text : List ℕ) → (IsBare leg → ⊥) → IsFirstHead text (heard leg)
+      → AsksNoEcho inbound text
+  asks_none leg text other whole = by (first_stage (pipe leg)) refl
+    where
+      by : (s : Stage) → first_stage (pipe leg) ≡ s → AsksNoEcho inbound text
+      by stage.Head e = begins leg e text whole
+      by stage.Greeting e =
+          absurd (other (λ head.
+          let bad : stage.Greeting ≡ stage.Head = sym e ∙ head in absurd cc))
+      by stage.Frames e =
+          absurd (other (λ head.
+          let bad : stage.Frames ≡ stage.Head = sym e ∙ head in absurd cc))
+      by stage.PassedOver e =
+          absurd (other (λ head.
+          let bad : stage.PassedOver ≡ stage.Head = sym e ∙ head in absurd cc))
+      by stage.Shut e =
+          absurd (other (λ head.
+          let bad : stage.Shut ≡ stage.Head = sym e ∙ head in absurd cc))
+
+  pub no_echoes : (moves : List Move) → AreAllowed rules (started first) moves
+      → AreInTurn rules first moves
+      → ((leg : Leg) → AllByRecursion (IsHeadOf leg (heard leg)) moves)
+      → AllByRecursion (HeadsAre (AsksNoEcho inbound)) moves
+  no_echoes moves allowed turn heads =
+      each_head (AsksNoEcho inbound) heard IsBare asks_none moves heads
+      (λ leg bare. headless rules first pipe has leg bare moves allowed turn)

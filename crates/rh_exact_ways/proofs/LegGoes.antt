@@ -19,7 +19,8 @@ use Rattle.rh_history.specs.Carried.{wire_at}
 use Rattle.rh_history.specs.Histories.{History}
 use Rattle.rh_streams.specs.Streams.{is_live}
 use Rattle.rh_streams.proofs.Ends.{end_is, end_leg, leg_is}
-use Rattle.rh_paths.specs.Legs.{is_cut, on_leg, was_up}
+use Rattle.rh_live_intakes.specs.Live.{ReadsLeg}
+use Rattle.rh_paths.specs.Legs.{is_cut, on_leg, was_told, was_up}
 use Rattle.rh_paths.specs.OnWay.{is_lost, left_at, left_on, on_way, read_on}
 use Rattle.rh_exact_ways.specs.Keeping.{KeepsEnd}
 
@@ -40,9 +41,9 @@ way_told : (pipe : Option Pipe) (cut : Bool) (read : Option Reading) (flight : L
     → on_way pipe cut read flight left ≡ Some (messages_from pipe r (flight ++ begun))
 way_told pipe cut read flight left r begun c d e = rw (c, d, e) refl
 
-left_told : {S : Type 0} (s : Shell S) (leg : Leg) (up : Bool) (o : Option (List ℕ))
-    → s.course ≡ Going → left_at up (end_at s leg) ≡ o → left_on s leg up ≡ o
-left_told s leg up o going e = rw going e
+left_told : {S : Type 0} (s : Shell S) (leg : Leg) (up lost : Bool) (o : Option (List ℕ))
+    → s.course ≡ Going → left_at up lost (end_at s leg) ≡ o → left_on s leg up lost ≡ o
+left_told s leg up lost o going e = rw going e
 
 read_told : {S : Type 0} (rules : Rules S) (s : Shell S) (pipe : Option Pipe) (leg : Leg)
     (up : Bool) (end : NearEnd) → s.course ≡ Going → end_at s leg ≡ Some end
@@ -76,11 +77,11 @@ module _ {K C S I O P T : Type 0} (v : World K C S I O) (h : History) (leg : Leg
     → is_up (sender dir) (wire_at v.legs leg) ≡ true)
     (up_there : was_up v h leg (receiver dir) ≡ true
     → is_up (receiver dir) (wire_at v.legs leg) ≡ true)
-    (held : was_up v h leg (sender dir) ≡ true → (end : NearEnd) × (end_at puts leg ≡ Some end))
+    (untold : was_told v h leg (sender dir) ≡ false)
     (kept : was_up v h leg (receiver dir) ≡ true
     → KeepsEnd takes leg ⊎ (is_in_use rules takes.role leg ≡ false))
     (absent : was_up v h leg (receiver dir) ≡ false → end_at takes leg ≡ None)
-    (live : (end : NearEnd) → end_at takes leg ≡ Some end → is_live end.intake.stage ≡ true)
+    (reads : ReadsLeg takes leg)
     (passes : was_up v h leg (receiver dir) ≡ true → is_in_use rules takes.role leg ≡ false
     → (stops_at (is_lost (on_leg v h leg dir pipe puts rules takes)) came ≡ false) ⊎ Else) where
   abbrev Goes : Type 0
@@ -93,27 +94,32 @@ module _ {K C S I O P T : Type 0} (v : World K C S I O) (h : History) (leg : Leg
       (is_empty (in_flight dir (wire_at v.legs leg))) up_there up_here
 
   -- what is begun is told
-  left_is : (begun : List ℕ)
-      × (left_on puts leg (was_up v h leg (sender dir)) ≡ Some begun)
-  left_is = by (was_up v h leg (sender dir)) refl (end_at puts leg) refl
+  abbrev up : Bool
+  up = was_up v h leg (sender dir)
+
+  abbrev lost : Bool
+  lost = was_told v h leg (sender dir)
+
+  left_is : (begun : List ℕ) × (left_on puts leg up lost ≡ Some begun)
+  left_is = by up refl (end_at puts leg) refl
     where
-      by : (a : Bool) → was_up v h leg (sender dir) ≡ a → (o : Option NearEnd)
-          → end_at puts leg ≡ o
-          → (begun : List ℕ) × (left_on puts leg (was_up v h leg (sender dir)) ≡ Some begun)
+      by : (a : Bool) → up ≡ a → (o : Option NearEnd) → end_at puts leg ≡ o
+          → (begun : List ℕ) × (left_on puts leg up lost ≡ Some begun)
       by a e (Some end) at = (
         end.begun,
-        left_told puts leg (was_up v h leg (sender dir)) (Some end.begun) puts_on
-            (ap (left_at (was_up v h leg (sender dir))) at),
+        left_told puts leg up lost (Some end.begun) puts_on (ap (left_at up lost) at),
       )
       by false e None at = (
         [],
-        left_told puts leg (was_up v h leg (sender dir)) (Some []) puts_on
-            (ap (left_at (was_up v h leg (sender dir))) at
-            ∙ ap (λ (t : Bool). left_at t None) e),
+        left_told puts leg up lost (Some []) puts_on
+            (ap (left_at up lost) at ∙ ap (λ (t : Bool). left_at t lost None) e),
       )
-      by true e None at =
-          let there = held e in
-          absurd (let bad : None ≡ Some there.0 = sym at ∙ there.1 in cc)
+      by true e None at = (
+        [],
+        left_told puts leg up lost (Some []) puts_on
+            (ap (left_at up lost) at ∙ ap (λ (t : Bool). left_at t lost None) e
+            ∙ ap (λ (t : Bool). left_at true t None) untold),
+      )
 
   goes_by : (r : Reading)
       → read_on rules takes pipe leg (was_up v h leg (receiver dir)) ≡ Some r → Goes
@@ -121,8 +127,8 @@ module _ {K C S I O P T : Type 0} (v : World K C S I O) (h : History) (leg : Leg
       inl (ap (λ (o : Option (List Message)). stops_at (is_lost o) came)
       (way_told pipe (is_cut v h leg dir)
       (read_on rules takes pipe leg (was_up v h leg (receiver dir)))
-      (in_flight dir (wire_at v.legs leg)) (left_on puts leg (was_up v h leg (sender dir))) r
-      left_is.0 not_cut read left_is.1))
+      (in_flight dir (wire_at v.legs leg)) (left_on puts leg up lost) r left_is.0 not_cut read
+      left_is.1))
 
   pub leg_goes : Goes
   leg_goes = by (was_up v h leg (receiver dir)) refl
@@ -134,7 +140,7 @@ module _ {K C S I O P T : Type 0} (v : World K C S I O) (h : History) (leg : Leg
           goes_by (reading k.end.intake.stage k.end.intake.held)
           (read_told rules takes pipe leg (was_up v h leg (receiver dir)) k.end takes_on k.at
           (ap (λ (b : Bool). b || is_useless rules k.end takes.role) k.unmarked ∙ over)
-          (live k.end k.at))
+          (reads takes_on k.end k.at))
 
       of_kept : was_up v h leg (receiver dir) ≡ true
           → KeepsEnd takes leg ⊎ (is_in_use rules takes.role leg ≡ false) → Goes

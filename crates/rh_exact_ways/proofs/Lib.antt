@@ -2,13 +2,11 @@ mod Rests
 mod Pdus
 mod Ended
 mod Stops
-mod KeptEnds
 mod NodeKeeps
 mod CameUp
 mod ClientOver
 mod HeadTexts
-mod WorldHeads
-mod ReadBy
-mod Passing
+pub mod ReadBy
+pub mod Passing
 mod LegGoes
 mod NoLoss

@@ -14,9 +14,7 @@ use Rattle.rh_order.specs.Paths.{reader, stops_at}
 use Rattle.rh_order.specs.Routes.{Route}
 use Rattle.rh_shell.specs.Moves.{EndMove, EndPassage, is_in_use}
 use Rattle.rh_shell.specs.Moving.{EndEvent, Event, after_end_events, after_events}
-use Rattle.rh_shell.specs.NearEnds.{NearEnd}
-use Rattle.rh_shell.specs.Rules.{Rules}
-use Rattle.rh_shell.specs.Shells.{Shell, begun, end_at}
+use Rattle.rh_shell.specs.Shells.{begun}
 use Rattle.rh_client.specs.declared.state.ClientRole.{ClientRole}
 use Rattle.rh_client.specs.Client as client
 use Rattle.rh_client.specs.Order as client_order
@@ -43,12 +41,14 @@ use Rattle.rh_up.specs.Up as goes_up
 use Rattle.rh_passed.specs.Passed.{AsksNoEcho, HeadsAre}
 use Rattle.rh_fifo.specs.Directions.{down_route_of, up_route_of}
 use Rattle.rh_fifo.specs.Flows.{Numbers}
+use Rattle.rh_live_intakes.specs.Live.{ReadsLeg}
 use Rattle.rh_paths.specs.Legs.{has_passed}
+use Rattle.rh_paths.specs.Lost.{was_lost}
 use Rattle.rh_paths.specs.OnWay.{is_lost}
 use Rattle.rh_paths.specs.Ways.{AreOnTheirWay, client_node, down_far, down_lost, down_near, in_node, out_node, server_node, up_far, up_lost, up_near}
-use Rattle.rh_exact_ways.specs.Keeping.{KeepsEnd, KeepsIfOfUse, KnowsLeg, was_lost}
+use Rattle.rh_exact_ways.specs.Keeping.{KeepsIfOfUse, KnowsLeg}
 use Rattle.rh_exact_ways.specs.Pdus.{IsBehindEnd, NoneStopsButBehindEnd}
-use Rattle.rh_exact_ways.specs.Unlost.{AreServedDown, AreServedUp, IsServed, NoneIsLost}
+use Rattle.rh_exact_ways.specs.Unlost.{NoneIsLost}
 use Rattle.rh_exact_ways.proofs.LegGoes.{leg_goes}
 use Rattle.rh_exact_ways.proofs.Passing.{InLaw, OutLaw, ServerLaw, client_passes, in_passes, out_passes, passed_goes, server_passes}
 
@@ -119,12 +119,12 @@ pub record NoEchoes (numbers : Numbers) (h : History) : Type 0 where
       (proxy_reads (numbers.outs n)) (h.outs n))
       → AllByRecursion (HeadsAre (AsksNoEcho false)) one.leads.moves
 
-end_by : {S : Type 0} (rules : Rules S) (node : Shell S) (leg : Leg)
-    → KeepsEnd node leg ⊎ (is_in_use rules node.role leg ≡ false)
-    → (is_in_use rules node.role leg ≡ false → (end : NearEnd) × (end_at node leg ≡ Some end))
-    → (end : NearEnd) × (end_at node leg ≡ Some end)
-end_by rules node leg (inl k) more = (k.end, k.at)
-end_by rules node leg (inr none) more = more none
+-- what comes is read
+pub record AreRead (numbers : Numbers) (h : History) : Type 0 where
+  pub client : (leg : Leg) → ReadsLeg (client_node numbers h) leg
+  pub server : (leg : Leg) → ReadsLeg (server_node numbers h) leg
+  pub ins : (n : ℕ) (leg : Leg) → ReadsLeg (in_node numbers h n) leg
+  pub outs : (n : ℕ) (leg : Leg) → ReadsLeg (out_node numbers h n) leg
 
 only : {A : Type 0} → A ⊎ ⊥ → A
 only (inl a) = a
@@ -140,26 +140,25 @@ own_reader (suc n) =
 module _ {K : Type 0} (law : NodeLaws) (numbers : Numbers)
     (v : World K ClientRole Server InProxy OutProxy) (h : History)
     (ways : AreOnTheirWay numbers v h) (accepted : Accepted numbers h)
-    (echoes : NoEchoes numbers h) (none : NoneIsLost numbers v h) where
+    (echoes : NoEchoes numbers h) (are_read : AreRead numbers h)
+    (none : NoneIsLost numbers v h) where
   -- ---- down
 
   abbrev down : Route
   down = down_route_of ways.directions
 
   down_near_goes : (n : ℕ)
-      → IsServed v h (os n) D server.rules (server_node numbers h) (out_node numbers h n)
       → (stops_at ((down_lost numbers v h).near n) (down.came (reader down.legs n) n) ≡ false)
       ⊎ IsBehindEnd down n
-  down_near_goes n served =
+  down_near_goes n =
       leg_goes v h (os n) D (Some OsD) (server_node numbers h) out_proxy.rules
       (out_node numbers h n) (down.came (reader down.legs n) n) (IsBehindEnd down n) none.server
       (none.outs n) (none.up (os n) side.Server) (none.up (os n) side.Client)
-      (λ up. end_by server.rules (server_node numbers h) (os n)
-      (law.keeps_server numbers.window h.server (os n) accepted.server up
-      (none.told who.Server (os n)) none.server) (served.kept up))
+      (none.told who.Server (os n))
       (λ up. law.keeps_out (numbers.outs n) (h.outs n) (os n) (accepted.outs n) up
       (none.told (who.Out n) (os n)) (none.outs n))
-      (law.knows_out (numbers.outs n) (h.outs n) (os n) (accepted.outs n)).absent served.live
+      (law.knows_out (numbers.outs n) (h.outs n) (os n) (accepted.outs n)).absent
+      (are_read.outs n (os n))
       (λ up unused.
       inl (passed_goes (is_lost (down_near numbers v h n)) (down.came (reader down.legs n) n)
       (subst (λ (m : ℕ). has_passed (down.came m n) ≡ true) (sym (own_reader n))
@@ -185,28 +184,25 @@ module _ {K : Type 0} (law : NodeLaws) (numbers : Numbers)
       unused)
 
   down_far_goes : (n : ℕ) → down.taker.shelves.current ≤ n
-      → IsServed v h (co n) D out_proxy.rules (out_node numbers h n) (client_node numbers h)
       → stops_at ((down_lost numbers v h).far n) (down.got n) ≡ false
-  down_far_goes n from served =
+  down_far_goes n from =
       only (leg_goes v h (co n) D (Some CoD) (out_node numbers h n) client.rules
       (client_node numbers h) (down.got n) ⊥ (none.outs n) none.client
       (none.up (co n) side.Server) (none.up (co n) side.Client)
-      (λ up. end_by out_proxy.rules (out_node numbers h n) (co n)
-      (law.keeps_out (numbers.outs n) (h.outs n) (co n) (accepted.outs n) up
-      (none.told (who.Out n) (co n)) (none.outs n)) (served.kept up))
+      (none.told (who.Out n) (co n))
       (λ up. law.keeps_client numbers.client h.client (co n) accepted.client up
       (none.told who.Client (co n)) none.client)
-      (law.knows_client numbers.client h.client (co n) accepted.client).absent served.live
+      (law.knows_client numbers.client h.client (co n) accepted.client).absent
+      (are_read.client (co n))
       (λ up unused.
       inl (passed_goes (is_lost (down_far numbers v h n)) (down.got n)
       (client_passed n from
       ((law.knows_client numbers.client h.client (co n) accepted.client).known up) unused))))
 
-  pub down_goes : AreServedDown numbers v h down
-      → NoneStopsButBehindEnd down (down_lost numbers v h)
-  down_goes served = record {
-    near = λ n from within. down_near_goes n (served.near n from within);
-    far = λ n from within leg. down_far_goes n from (served.far n from within);
+  pub down_goes : NoneStopsButBehindEnd down (down_lost numbers v h)
+  down_goes = record {
+    near = λ n from within. down_near_goes n;
+    far = λ n from within leg. down_far_goes n from;
   }
 
   -- ---- up
@@ -251,43 +247,36 @@ module _ {K : Type 0} (law : NodeLaws) (numbers : Numbers)
             inr (subst (λ (m : ℕ). has_end (below (up.came m) n) ≡ true) (sym same) ended)
 
     up_near_goes : (n : ℕ)
-        → IsServed v h (ci n) U client.rules (client_node numbers h)
-        (in_node numbers h (reader_of v.readers n))
         → (stops_at ((up_lost numbers v h).near n) (up.came (reader up.legs n) n) ≡ false)
         ⊎ IsBehindEnd up n
-    up_near_goes n served =
+    up_near_goes n =
         let k = reader_of v.readers n in
         leg_goes v h (ci n) U (Some CiU) (client_node numbers h) in_proxy.rules
         (in_node numbers h k) (up.came (reader up.legs n) n) (IsBehindEnd up n) none.client
         (none.ins k) (none.up (ci n) side.Client) (none.up (ci n) side.Server)
-        (λ rose. end_by client.rules (client_node numbers h) (ci n)
-        (law.keeps_client numbers.client h.client (ci n) accepted.client rose
-        (none.told who.Client (ci n)) none.client) (served.kept rose))
+        (none.told who.Client (ci n))
         (λ rose. law.keeps_in (numbers.ins k) (h.ins k) (ci n) (accepted.ins k) rose
         (none.told (who.In k) (ci n)) (none.ins k))
-        (law.knows_in (numbers.ins k) (h.ins k) (ci n) (accepted.ins k)).absent served.live
-        (in_passed n)
+        (law.knows_in (numbers.ins k) (h.ins k) (ci n) (accepted.ins k)).absent
+        (are_read.ins k (ci n)) (in_passed n)
 
-    up_far_goes : (n : ℕ)
-        → IsServed v h (is n) U in_proxy.rules (in_node numbers h n) (server_node numbers h)
-        → stops_at ((up_lost numbers v h).far n) (up.got n) ≡ false
-    up_far_goes n served =
+    up_far_goes : (n : ℕ) → stops_at ((up_lost numbers v h).far n) (up.got n) ≡ false
+    up_far_goes n =
         only (leg_goes v h (is n) U (Some IsU) (in_node numbers h n) server.rules
         (server_node numbers h) (up.got n) ⊥ (none.ins n) none.server
         (none.up (is n) side.Client) (none.up (is n) side.Server)
-        (λ rose. end_by in_proxy.rules (in_node numbers h n) (is n)
-        (law.keeps_in (numbers.ins n) (h.ins n) (is n) (accepted.ins n) rose
-        (none.told (who.In n) (is n)) (none.ins n)) (served.kept rose))
+        (none.told (who.In n) (is n))
         (λ rose. law.keeps_server numbers.window h.server (is n) accepted.server rose
         (none.told who.Server (is n)) none.server)
-        (law.knows_server numbers.window h.server (is n) accepted.server).absent served.live
+        (law.knows_server numbers.window h.server (is n) accepted.server).absent
+        (are_read.server (is n))
         (λ rose unused.
         inl (passed_goes (is_lost (up_far numbers v h n)) (up.got n)
         (server_passes law.server_law numbers.window n server_reads h.server
         ways.directions.up.taker rose unused))))
 
-    pub up_goes : AreServedUp numbers v h up → NoneStopsButBehindEnd up (up_lost numbers v h)
-    up_goes served = record {
-      near = λ n from within. up_near_goes n (served.near n from within);
-      far = λ n from within leg. up_far_goes n (served.far n from within leg);
+    pub up_goes : NoneStopsButBehindEnd up (up_lost numbers v h)
+    up_goes = record {
+      near = λ n from within. up_near_goes n;
+      far = λ n from within leg. up_far_goes n;
     }

@@ -133,7 +133,7 @@ same_test a b = by (a == b) (b == a) refl refl
     by false true e f =
         sym e ∙ ap (λ (k : ℕ). a == k) (same_number b a f) ∙ test_same a
 
-ups_are : (n : ℕ) (moves : List EndMove)
+pub ups_are : (n : ℕ) (moves : List EndMove)
     → list_any (is_end_up_on (is n)) moves ≡ server_order.came_up moves n
 ups_are n [] = refl
 ups_are n (move ∷ moves) =

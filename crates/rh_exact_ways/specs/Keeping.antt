@@ -1,22 +1,11 @@
 -- the legs that a node keeps while its role has use for them (MS-RPCH 3.2; profile)
-use Rattle.std.specs.Prelude.{◌≡◌, ◌⊎◌, List, Bool, true, false, Some, None}
-use Rattle.std.specs.List.{list_any}
+use Rattle.std.specs.Prelude.{◌≡◌, ◌⊎◌, Bool, true, false, Some, None}
 use Rattle.rh_line.specs.declared.leg.Leg.{Leg}
 use Rattle.rh_shell.specs.declared.course.Course.TheVariants.{Going}
 use Rattle.rh_shell.specs.Moves.{is_in_use}
-use Rattle.rh_shell.specs.Moving.{Event, Ends, Breaks}
 use Rattle.rh_shell.specs.NearEnds.{NearEnd, is_marked}
 use Rattle.rh_shell.specs.Rules.{Rules}
-use Rattle.rh_shell.specs.Shells.{Shell, end_at, same_leg}
-
--- the node is told that the leg ended or broke
-abbrev pub is_loss_of : Leg → Event → Bool
-is_loss_of leg (Ends other) = same_leg other leg
-is_loss_of leg (Breaks other) = same_leg other leg
-is_loss_of leg event = false
-
-abbrev pub was_lost : Leg → List Event → Bool
-was_lost leg events = list_any (is_loss_of leg) events
+use Rattle.rh_shell.specs.Shells.{Shell, end_at}
 
 -- it keeps an end of the leg, and was not told that this ended or broke
 pub record KeepsEnd {S : Type 0} (node : Shell S) (leg : Leg) : Type 0 where

@@ -24,16 +24,8 @@ ghost use Rattle.rh_fifo.specs.Premises.{AreInRange};
 ghost use Rattle.rh_first_texts.specs.Ports.{IsPort};
 ghost use Rattle.rh_passed.specs.Passed.{AsksNoEcho, HeadsAre};
 
-use rh_client::ClientRole;
-use rh_ends_begin::{a_client_asks_by_its_requests, a_client_begins_with_a_request};
-use rh_fifo::directions_are_joined;
-use rh_history::{a_leg_is_read_at_its_ends, what_is_heard_was_drawn};
-use rh_inproxy::InProxyRole;
-use rh_outproxy::OutProxyRole;
+use rh_live_intakes::no_bytes_that_come_ask_for_an_echo;
 use rh_proxies_begin::proxies_keep_their_pipes;
-use rh_reading::texts_are_whole;
-use rh_server::ServerRole;
-use rh_traced::a_recording_of_roles_is_known;
 
 /// In each world of new roles whose numbers are in their ranges, where the port of the client's
 /// server is one, at every moment that changes of lines and half steps reach, and whichever moves
@@ -55,12 +47,6 @@ pub fn no_head_that_comes_asks_for_an_echo<K>()
         (proxy_reads (ours.out_config n)) ((history_at m w v by.leads).outs n))
         → AllByRecursion (HeadsAre (AsksNoEcho false)) stream.leads.moves }
 {
-    directions_are_joined::<K>();
-    what_is_heard_was_drawn::<K, ClientRole, ServerRole, InProxyRole, OutProxyRole>();
-    a_leg_is_read_at_its_ends::<K, ClientRole, ServerRole, InProxyRole, OutProxyRole>();
-    a_recording_of_roles_is_known::<K>();
-    a_client_begins_with_a_request();
-    a_client_asks_by_its_requests();
-    texts_are_whole();
+    no_bytes_that_come_ask_for_an_echo::<K>();
     proxies_keep_their_pipes();
 }

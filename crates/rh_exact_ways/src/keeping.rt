@@ -14,7 +14,8 @@ ghost use Rattle.rh_outproxy.specs.Machine as out_proxy;
 ghost use Rattle.rh_outproxy.specs.OutProxy.{new_proxy};
 ghost use Rattle.rh_server.specs.Servers as server;
 ghost use Rattle.rh_history.specs.Carried.{AreAccepted, AreAcceptedAtEnd, came_up, happened};
-ghost use Rattle.rh_exact_ways.specs.Keeping.{KeepsIfOfUse, KnowsLeg, was_lost};
+ghost use Rattle.rh_paths.specs.Lost.{was_lost};
+ghost use Rattle.rh_exact_ways.specs.Keeping.{KeepsIfOfUse, KnowsLeg};
 
 use rh_causes::{
     a_clients_leg_comes_up_once, a_servers_leg_comes_up_once, an_in_proxys_leg_comes_up_once,

@@ -21,12 +21,13 @@ ghost use Rattle.rh_fifo.specs.Flows.{numbers_of};
 ghost use Rattle.rh_fifo.specs.Premises.{AreInRange};
 ghost use Rattle.rh_first_texts.specs.Ports.{IsPort};
 ghost use Rattle.rh_paths.specs.Ways.{AreOnTheirWay, down_on, up_on};
-ghost use Rattle.rh_exact_ways.specs.Unlost.{AreServedDown, AreServedUp, NoneIsLost};
+ghost use Rattle.rh_exact_ways.specs.Unlost.{NoneIsLost};
 
 use crate::going::legs_that_go_on_lose_nothing;
 use crate::heads::no_head_that_comes_asks_for_an_echo;
 use crate::keeping::{a_leg_of_use_is_kept, a_leg_that_came_up_is_known};
 use rh_client::a_client_takes_in_order;
+use rh_live_intakes::what_comes_is_read;
 use rh_passed::{
     a_server_is_done_behind_a_mark, an_in_proxy_is_done_behind_a_mark_or_end,
     an_out_proxy_is_done_behind_a_mark,
@@ -36,9 +37,7 @@ use rh_traced::a_recording_of_roles_is_known;
 /// In each world of new roles whose numbers are in their ranges, where the port of the client's
 /// server is one, at every moment that changes of lines and half steps reach: while all nodes go
 /// on, no node was told that a leg ended or broke, and each leg that came up for a node is up for
-/// it, what was given is exactly what was taken and what is on its way. Of the legs of the channels
-/// from the taker's current one up to that on which the giver writes, what comes is to be read, and
-/// one for which the node that puts has no use any more is to be kept there still.
+/// it, what was given is exactly what was taken and what is on its way.
 pub fn what_no_leg_lost_is_on_its_way<K>()
     ensures down { (m : Makers K InProxy OutProxy) (w : World K ClientRole Server InProxy OutProxy)
         → IsNew w → (ours : AreOurs m w.company w.cast) → AreInRange (numbers_of ours)
@@ -47,7 +46,6 @@ pub fn what_no_leg_lost_is_on_its_way<K>()
         → (let h = history_at m w v by.leads in
         let numbers = numbers_of ours in
         (ways : AreOnTheirWay numbers v h) → NoneIsLost numbers v h
-        → AreServedDown numbers v h (down_route_of ways.directions)
         → all_given server.rules server.acts (server.new_server numbers.window) h.server
         ≡ all_taken client.rules client.acts (client.first_client numbers.client) h.client
         ++ path (down_route_of ways.directions) (down_on numbers v h)) }
@@ -58,13 +56,13 @@ pub fn what_no_leg_lost_is_on_its_way<K>()
         → (let h = history_at m w v by.leads in
         let numbers = numbers_of ours in
         (ways : AreOnTheirWay numbers v h) → NoneIsLost numbers v h
-        → AreServedUp numbers v h (up_route_of ways.directions)
         → all_given client.rules client.acts (client.first_client numbers.client) h.client
         ≡ all_taken server.rules server.acts (server.new_server numbers.window) h.server
         ++ path (up_route_of ways.directions) (up_on numbers v h)) }
 {
     legs_that_go_on_lose_nothing::<K>();
     no_head_that_comes_asks_for_an_echo::<K>();
+    what_comes_is_read::<K>();
     a_leg_of_use_is_kept();
     a_leg_that_came_up_is_known();
     a_client_takes_in_order();

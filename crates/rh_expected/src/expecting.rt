@@ -65,8 +65,8 @@ use rh_world_asked::what_comes_to_a_client_has_a_name;
 /// out proxy on the client's and on the server's, and of the server on those of in proxies and on
 /// those of out proxies. An out proxy may expect what the server put only where no OUT leg of the
 /// client came up under the cookie of zeros, and the server what an in proxy put only where changes
-/// of lines alone led there. Where the port of the client's server is one, so it is of the client on
-/// its OUT legs with `Unexpected`, and of an out proxy that expects what its client put where it
+/// of lines alone led there. Where the port of the client's server is one, so it is of the client
+/// on its OUT legs with `Unexpected`, and of an out proxy that expects what its client put where it
 /// goes on and reads frames there, whatever the cookies (MS-RPCH 3.2; profile).
 pub fn no_node_refuses_what_it_expects<K>()
     ensures in_unexpected { WorldsExpect K (OfClient AreDistinct) InExpects

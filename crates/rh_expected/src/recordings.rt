@@ -18,8 +18,8 @@ use rh_cookies::cookies_of_a_recording_are_left;
 use rh_world::WorldConfig as Config;
 
 /// In no recording does a report tell of a node that closed with `Unexpected` or `CookieMismatch`,
-/// on any leg: whatever a recording cuts, delays, breaks and replaces, what comes at a node comes in
-/// its turn, and names the cookies that it knows (MS-RPCH 3.2; successors and the end are this
+/// on any leg: whatever a recording cuts, delays, breaks and replaces, what comes at a node comes
+/// in its turn, and names the cookies that it knows (MS-RPCH 3.2; successors and the end are this
 /// profile's).
 pub fn no_node_of_a_recording_refuses_what_comes()
     ensures unexpected { (before : List Line) (line : Line) (node : Who) (leg : Leg) (place : ℕ)

@@ -41,8 +41,8 @@ use rh_unused::{
 use rh_up::what_goes_up_is_a_route;
 
 /// In each world of new roles whose numbers are in their ranges, at every moment that changes of
-/// lines and half steps reach, each node has its stream: what it put on a leg begins as it is read at
-/// the other end, may go on the pipe that is read there, and spells what was drawn.
+/// lines and half steps reach, each node has its stream: what it put on a leg begins as it is read
+/// at the other end, may go on the pipe that is read there, and spells what was drawn.
 pub fn what_is_put_is_legible<K>()
     ensures { (m : Makers K InProxy OutProxy) (w : World K ClientRole Server InProxy OutProxy)
         → IsNew w → (ours : AreOurs m w.company w.cast) → AreInRange (numbers_of ours)

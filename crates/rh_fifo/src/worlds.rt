@@ -20,8 +20,8 @@ use rh_traced::a_recording_of_roles_is_known;
 use rh_up::what_came_up_was_given;
 
 /// In each world of new roles whose numbers are in their ranges order is kept at every moment that
-/// changes of lines and half steps reach: what an end took is a front of what the other one gave, and
-/// where it is told that no more comes it took all of it, and the other was told to close.
+/// changes of lines and half steps reach: what an end took is a front of what the other one gave,
+/// and where it is told that no more comes it took all of it, and the other was told to close.
 pub fn roles_keep_order<K>()
     ensures { (m : Makers K InProxy OutProxy) (w : World K ClientRole Server InProxy OutProxy)
         → IsNew w → (ours : AreOurs m w.company w.cast) → AreInRange (numbers_of ours)

@@ -1,7 +1,7 @@
--- at most ten IN channels are acknowledged to the client in a stretch with one answer at most: where
--- the first of these acknowledgements goes, few answers were put since the move behind which the one
--- waited that waits longest, and one more until the last goes. All came since that move, so they are
--- of channels that were late there, which are few, or were announced since
+-- at most ten IN channels are acknowledged to the client in a stretch with one answer at most:
+-- where the first of these acknowledgements goes, few answers were put since the move behind which
+-- the one waited that waits longest, and one more until the last goes. All came since that move, so
+-- they are of channels that were late there, which are few, or were announced since
 use Rattle.std.proofs.Common.{◌≡◌, ◌⊎◌, inl, inr, ℕ, zero, suc, ◌+◌, ◌-◌, ◌*◌, ◌<◌, ◌≤◌, Bool, true, List, [], ◌∷◌, ◌++◌, append_assoc, length, Some, refl, sym, ap, ◌∙◌, subst, arith}
 use Rattle.std.proofs.lemmas.List.{length-append}
 use Rattle.std.specs.List.{AllByRecursion}

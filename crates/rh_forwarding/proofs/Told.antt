@@ -7,7 +7,7 @@ use Rattle.rh_text.specs.declared.ends.Side.TheVariants as side
 use Rattle.rh_rts.specs.declared.command.Cookie.{Cookie}
 use Rattle.rh_sig.specs.declared.named.Named.{Named}
 use Rattle.rh_sig.specs.declared.named.Named.TheVariants.{ConnA2, ConnB2, InR1A2, InR1A6, InR2A2, OutR1A4}
-use Rattle.rh_sig.specs.declared.ranges.TheConstants.{LEAST_LIFETIME}
+use Rattle.rh_keep.specs.declared.range.TheConstants.{LEAST_LIFETIME}
 use Rattle.rh_sig.specs.Values.{IsLifetime}
 use Rattle.rh_line.specs.declared.leg.Leg.{Leg}
 use Rattle.rh_line.specs.declared.leg.LegKind.{LegKind}

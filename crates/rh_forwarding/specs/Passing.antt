@@ -4,6 +4,7 @@ use Rattle.std.specs.Prelude.{ℕ, ◌≡◌, ◌⊎◌, ◌+◌, ◌*◌, ◌<�
 use Rattle.std.specs.declared.option.Option.{Option}
 use Rattle.rh_rts.specs.declared.command.Cookie.{Cookie}
 use Rattle.rh_keep.specs.Meters.{may_put}
+use Rattle.rh_sig.specs.declared.lengths.TheConstants.{ACK_TO_LEN}
 use Rattle.rh_shell.specs.Moves.{EndMove, Passage}
 use Rattle.rh_shell.specs.Wires.{of_leg}
 use Rattle.rh_server.specs.declared.state.OutLeg.{OutLeg}
@@ -16,7 +17,7 @@ use Rattle.rh_out_room.specs.Waits.{behind, is_in_a3}
 use Rattle.rh_rounds.specs.Rounds.{taken_in}
 use Rattle.rh_server_counts.specs.Counting.{out_put, waits_for}
 use Rattle.rh_server_in_rows.specs.Handovers.{passed}
-use Rattle.rh_server_room.specs.Overtaking.{AreLong, is_ack_for}
+use Rattle.rh_server_room.specs.Overtaking.{AreLong, ack_room, is_ack_for}
 use Rattle.rh_server_full.specs.Taken.{due_in}
 
 -- ---- a server
@@ -24,7 +25,7 @@ use Rattle.rh_server_full.specs.Taken.{due_in}
 -- the meter of a leg lets an acknowledgement to the client go
 abbrev pub lets_acks_on : Option OutLeg → Bool
 lets_acks_on None = false
-lets_acks_on (Some leg) = may_put leg.meter 56
+lets_acks_on (Some leg) = may_put leg.meter ACK_TO_LEN
 
 -- the writing channel may have a successor, or has room for such an acknowledgement
 abbrev pub MayGoOn : Server → Type 0
@@ -48,7 +49,7 @@ behind_wish n p = count_of is_in_a3 (behind is_out_r1_a1 1 (of_leg (os_leg n) p.
 abbrev pub FewPass : ℕ → List EndMove → List EndMove → Type 0
 FewPass window front later =
     (least : ℕ) (channel : Cookie) → AreLong least (passed window (front ++ later)).came
-    → 56 * length (passed window front).role.waiting.due + 312 ≤ least
+    → ACK_TO_LEN * length (passed window front).role.waiting.due + ack_room ≤ least
     → OneIsDue window (front ++ later) → MayGoOn (passed window (front ++ later)).role
     → 1 ≤ waits_for (is_ack_for channel) (passed window front).role
     → out_put (is_ack_for channel) (passed window (front ++ later))

@@ -2,7 +2,7 @@
 //! on: its contract is the law.
 
 ghost use Rattle.std.specs.Prelude.{ℕ};
-ghost use Rattle.rh_sig.specs.declared.ranges.TheConstants.{LEAST_LIFETIME};
+ghost use Rattle.rh_keep.specs.declared.range.TheConstants.{LEAST_LIFETIME};
 ghost use Rattle.rh_moments.specs.Moments.{IsMoment, Moves, Numbers, server_behind};
 ghost use Rattle.rh_outproxy_expects.specs.Early.{HaveLifetimes};
 ghost use Rattle.rh_server_room.specs.Overtaking.{AreLong};

@@ -3,6 +3,8 @@ use Rattle.std.specs.Prelude.{ℕ, Bool, List, [], ◌∷◌, ◌++◌, ◌==◌
 use Rattle.std.specs.List.{before_first, list_all}
 use Rattle.std.specs.Str.{all_ascii_digits, str_to_ascii_lowercase}
 use Rattle.std.specs.Str.Parse.{digits_value}
+use Rattle.rh_http.specs.declared.numbers.TheConstants.{MOST_DIGITS, LEAST_PORT, GREATEST_PORT}
+use Rattle.rh_http.specs.declared.target.TheConstants.{QUESTION_MARK, COLON}
 use Rattle.rh_http.specs.Hosts.{greatest_host, is_host_byte}
 use Rattle.rh_http.specs.Lengths.{Fields, greatest_response, lengths_of, may_ask, success}
 use Rattle.rh_http.specs.Requests.{path_of}
@@ -22,7 +24,7 @@ is_path path =
 
 -- what stands behind the first question mark
 abbrev pub query_of : List ℕ → Option (List ℕ)
-query_of target = behind (path_of target ++ 63 ∷ []) target
+query_of target = behind (path_of target ++ QUESTION_MARK ∷ []) target
 
 -- 1 to 255 characters that may stand in a host
 abbrev pub is_host : List ℕ → Bool
@@ -32,17 +34,17 @@ is_host text =
 -- a number from 1 to 65,535 in decimal, with no leading zero
 abbrev pub is_port : List ℕ → ℕ → Bool
 is_port digits number =
-    bytes_eq digits (decimal number) && (nat_le 1 number && nat_le number 65535)
+    bytes_eq digits (decimal number) && (nat_le LEAST_PORT number && nat_le number GREATEST_PORT)
 
 abbrev pub port_of : List ℕ → Option ℕ
 port_of digits = only_if (is_port digits (digits_value 10 digits)) (digits_value 10 digits)
 
 -- a host and a port, with a colon between them
 abbrev pub host_before : List ℕ → List ℕ
-host_before query = before_first (λ c. c == 58) query
+host_before query = before_first (λ c. c == COLON) query
 
 abbrev pub port_behind : List ℕ → Option ℕ
-port_behind query = option_and_then port_of (behind (host_before query ++ 58 ∷ []) query)
+port_behind query = option_and_then port_of (behind (host_before query ++ COLON ∷ []) query)
 
 abbrev pub with_port : List ℕ → Option ℕ → Option (List ℕ × ℕ)
 with_port host None = None
@@ -60,7 +62,7 @@ server_behind target = option_and_then server_of (query_of target)
 -- the number that 1 to 10 digits spell
 abbrev pub is_length_text : List ℕ → Bool
 is_length_text text =
-    nat_le 1 (length text) && (nat_le (length text) 10 && all_ascii_digits text)
+    nat_le 1 (length text) && (nat_le (length text) MOST_DIGITS && all_ascii_digits text)
 
 abbrev pub length_in : List ℕ → Option ℕ
 length_in text = only_if (is_length_text text) (digits_value 10 text)

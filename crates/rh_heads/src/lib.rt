@@ -6,6 +6,7 @@
 #![tactic(auto)]
 
 ghost use Rattle.std.specs.Prelude.{◌≡◌, ◌≤◌, length};
+ghost use Rattle.rh_http.specs.Reading.{greatest_head};
 ghost use Rattle.rh_heads.specs.Verdicts.{asked_of, request_verdict, response_verdict};
 
 pub mod laws;
@@ -21,7 +22,7 @@ use rh_http::{HttpFault, Request, Response, read_request, read_response};
 /// line; else with the first that is wrong: its syntax, its method, its path, its target, its
 /// length.
 pub fn judge_request(text: &[u8], inbound: bool) -> Result<Request, HttpFault>
-    requires { length text.now ≤ 16384 }
+    requires { length text.now ≤ greatest_head }
     ensures { asked_of result ≡ request_verdict inbound text.now }
 {
     whole(read_request(text, inbound), text.len())
@@ -32,7 +33,7 @@ pub fn judge_request(text: &[u8], inbound: bool) -> Result<Request, HttpFault>
 /// Fails with `TooLong` where the text, of at most 16,384 bytes, does not end with its first blank
 /// line; else with the first that is wrong: its syntax, its length.
 pub fn judge_response(text: &[u8]) -> Result<Response, HttpFault>
-    requires { length text.now ≤ 16384 }
+    requires { length text.now ≤ greatest_head }
     ensures { result ≡ response_verdict text.now }
 {
     whole(read_response(text), text.len())

@@ -12,7 +12,7 @@ use Rattle.rh_record.specs.declared.answer.Who.TheVariants as who
 use Rattle.rh_shell.specs.Rules.{Rules}
 use Rattle.rh_shell.specs.Shells as shell
 use Rattle.rh_shell.specs.Shells.{Shell}
-use Rattle.rh_nodes.specs.declared.opening.TheConstants.{NO_COOKIE}
+use Rattle.rh_rts.specs.declared.command.TheConstants.{NO_COOKIE}
 use Rattle.rh_nodes.specs.declared.place.Place.{Place}
 use Rattle.rh_nodes.specs.declared.place.Place.TheVariants.{Absent, Here, Gone}
 use Rattle.rh_nodes.specs.Company as company

@@ -24,7 +24,7 @@ use Rattle.rh_history.proofs.Drawing.{drawn_rises, risen_append}
 
 -- ---- numbers of 64 bits have cookies of their own
 
-same_number : (a b : ℕ) → a < 2 ^ 64 → b < 2 ^ 64 → cookie_of a ≡ cookie_of b → a ≡ b
+pub same_number : (a b : ℕ) → a < 2 ^ 64 → b < 2 ^ 64 → cookie_of a ≡ cookie_of b → a ≡ b
 same_number a b small below same =
     sym (from_be_bytes-to_be_bytes_8 a small)
     ∙ ap (λ (c : Cookie). from_be_bytes w64 (drop 8 c.0)) same
@@ -32,16 +32,16 @@ same_number a b small below same =
 
 -- ---- legs and their cookies
 
-abbrev Risen : Type 0
+abbrev pub Risen : Type 0
 Risen = List (Leg × Cookie)
 
 -- the leg is one of them, with this cookie
-abbrev IsAmong : Risen → Leg → Cookie → Type 0
+abbrev pub IsAmong : Risen → Leg → Cookie → Type 0
 IsAmong [] leg cookie = ⊥
 IsAmong (one ∷ legs) leg cookie = (one ≡ (leg, cookie)) ⊎ IsAmong legs leg cookie
 
 -- its cookie is that of a number in between
-drawn_between : (low high : ℕ) (legs : Risen) (leg : Leg) (cookie : Cookie)
+pub drawn_between : (low high : ℕ) (legs : Risen) (leg : Leg) (cookie : Cookie)
     → AreDrawn low legs high → IsAmong legs leg cookie
     → (number : ℕ) × (low ≤ number) × (number < high) × (cookie ≡ cookie_of number)
 drawn_between low high [] leg cookie drawn among = absurd among
@@ -82,7 +82,7 @@ drawn_apart low high (x ∷ legs) one other cookie small drawn (inr a) (inr b) =
     drawn_apart (drawn.0 + 1) high legs one other cookie small drawn.3 a b
 
 -- those of a front are drawn as well
-drawn_front : (low high : ℕ) (legs more : Risen) → AreDrawn low (legs ++ more) high
+pub drawn_front : (low high : ℕ) (legs more : Risen) → AreDrawn low (legs ++ more) high
     → AreDrawn low legs high
 drawn_front low high [] more drawn = drawn_rises low high more drawn
 drawn_front low high (one ∷ legs) more drawn =
@@ -192,7 +192,7 @@ module _ {K C S I O : Type 0} (w : World K C S I O) (leg : Leg) (cookie : Cookie
       by (inr b) = inr (one_rose change b)
 
 module _ {K C S I O : Type 0} (r : Rulebook C S I O) (m : Makers K I O) (d : Deeds C S) where
-  all_rose : (w : World K C S I O) (h : History) (changes : List Change) (leg : Leg)
+  pub all_rose : (w : World K C S I O) (h : History) (changes : List Change) (leg : Leg)
       (cookie : Cookie) → RoseWith (happened (all_noted r m d w h changes).client) leg cookie
       → RoseWith (happened h.client) leg cookie ⊎ IsAmong (all_risen changes) leg cookie
   all_rose w h [] leg cookie rose = inl rose

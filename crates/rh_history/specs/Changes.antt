@@ -3,6 +3,7 @@
 use Rattle.std.specs.Prelude.{◌&&◌, not, ◌≡◌, ◌==◌, ◌≤◌, ◌||◌, ◌⊎◌, ℕ, List, [], ◌∷◌, length, Bool, true, false, IsTrue, nat_lt}
 use Rattle.std.specs.List.{list_all}
 use Rattle.rh_rts.specs.declared.command.Cookie.{Cookie}
+use Rattle.rh_rts.specs.declared.command.TheConstants.{COOKIE_LEN}
 use Rattle.rh_text.specs.declared.ends.Dir.{Dir}
 use Rattle.rh_text.specs.declared.ends.Side.{Side}
 use Rattle.rh_text.specs.declared.ends.Side.TheVariants as side
@@ -194,9 +195,9 @@ pub record Leads {K C S I O : Type 0} (r : Rulebook C S I O) (m : Makers K I O) 
   pub allowed : AreAllowed r m d w changes
   pub reached : all_changed r m d w changes ≡ v
 
--- a cookie of 16 bytes (MS-RPCH 2.2.3.1)
+-- a whole cookie (MS-RPCH 2.2.3.1)
 abbrev pub is_whole : Cookie → Bool
-is_whole cookie = length cookie.0 == 16
+is_whole cookie = length cookie.0 == COOKIE_LEN
 
 -- a change that lines make, which have legs up with whole cookies; half steps may make others
 abbrev pub of_line : Change → Bool

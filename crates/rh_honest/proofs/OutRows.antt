@@ -4,6 +4,7 @@ use Rattle.std.specs.Prelude.{◌==◌, ◌&&◌, Some, None, Ok, Err}
 use Rattle.std.specs.declared.option.Option.{Option}
 use Rattle.std.specs.declared.result.Result.{Result}
 use Rattle.rh_rts.specs.declared.command.Cookie.{Cookie}
+use Rattle.rh_rts.specs.declared.command.TheConstants.{TO_OUT_PROXY}
 use Rattle.rh_window.specs.declared.fault.BadAck.{BadAck}
 use Rattle.rh_window.specs.Sending.{ack_verdict}
 use Rattle.rh_sig.specs.declared.named.Named.{Named}
@@ -17,7 +18,7 @@ use Rattle.rh_shell.specs.Waiting.{Waiting}
 use Rattle.rh_shell.specs.Waiting as waits
 use Rattle.rh_outproxy.specs.declared.state.Channel.{Channel}
 use Rattle.rh_outproxy.specs.declared.state.Channel.TheVariants as channels
-use Rattle.rh_outproxy.specs.Acknowledging.{ack_by, ack_row, line_row, on_ack_to, on_pdu, out_proxy}
+use Rattle.rh_outproxy.specs.Acknowledging.{ack_by, ack_row, line_row, on_ack_to, on_pdu}
 use Rattle.rh_outproxy.specs.Machine.{on_co, on_os, rules}
 use Rattle.rh_outproxy.specs.Opening.{conn_c1_by, new_length, successor_length, told_length}
 use Rattle.rh_outproxy.specs.OutProxy.{OutProxy, is_client_marked, is_successor, joined}
@@ -79,7 +80,7 @@ ack_is (Some cookie) s received available of =
 ack_to : (s : OutProxy) (to received available : ℕ) (of : Cookie)
     → RowFits (on_ack_to s to received available of)
 ack_to s to received available of =
-    either (to == out_proxy) _ _ (ack_is (joined s.channel) s received available of)
+    either (to == TO_OUT_PROXY) _ _ (ack_is (joined s.channel) s received available of)
     (passed_is s to (named.AckTo 0 received available of))
 
 -- ---- the table

@@ -1,5 +1,5 @@
--- what is fed to a node of a recording closes it for its role alone; up to the change that closes it
--- the legs of the client have cookies of their own
+-- what is fed to a node of a recording closes it for its role alone; up to the change that closes
+-- it the legs of the client have cookies of their own
 use Rattle.std.proofs.Common.{◌≡◌, true, List, [], ◌∷◌, ◌++◌, append_assoc, sym, ap, ◌∙◌, subst}
 use Rattle.std.specs.List.{list_all}
 use Rattle.std.proofs.lemmas.Bool.{and_parts}

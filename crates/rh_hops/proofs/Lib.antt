@@ -7,7 +7,6 @@ pub mod Receiving
 mod ServerReceives
 mod InProxySends
 mod OutProxyReceives
-mod Numbered
 mod ServerSends
 pub mod NextRefused
 pub mod OneByte

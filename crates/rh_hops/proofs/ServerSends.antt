@@ -54,7 +54,7 @@ use Rattle.rh_history.proofs.Wired.{same_itself}
 use Rattle.rh_hops.specs.Hops.{os_leg, pdu_bytes, edge_told, greatest_edge, RefusesFalseAcks, SendsWithin}
 use Rattle.rh_hops.proofs.Legs.{on}
 use Rattle.rh_hops.proofs.Counts.{bytes_append, edges_rise}
-use Rattle.rh_hops.proofs.Numbered.{Absent, Once, absent_at, absent_push, absent_removed, absent_set, once_at, once_first, once_map, once_push, once_removed, once_set}
+use Rattle.rh_server.proofs.Numbered.{Absent, Once, absent_at, absent_push, absent_removed, absent_set, once_at, once_first, once_map, once_push, once_removed, once_set}
 use Rattle.rh_hops.proofs.Places.{found_passes}
 use Rattle.rh_hops.proofs.Sending.{Sends, unsent_sends, heard_more, put_more, opens_sends, acked_sends, refused_sends, sent_sends, sends_within, IsFalse, verdict_false}
 use Rattle.rh_hops.proofs.Steps.{RowKeeps, PutKeeps, StepsKeep, ActsKeep, end_moves_keep}

@@ -1,10 +1,12 @@
 -- where the head of a message ends: behind its first CR LF CR LF (RFC 9112 section 2.1)
 use Rattle.std.specs.Prelude.{◌≡◌, ◌≤◌, ◌-◌, ℕ, List, [], ◌∷◌, take, drop, Some, None}
 use Rattle.std.specs.declared.option.Option.{Option}
+use Rattle.rh_text.specs.declared.lines.TheConstants.{LINE_FEED}
+use Rattle.rh_http.specs.declared.end.TheConstants.{CARRIAGE_RETURN}
 
 -- the end of the last line, and the empty line
 abbrev pub blank_line : List ℕ
-blank_line = 13 ∷ 10 ∷ 13 ∷ 10 ∷ []
+blank_line = CARRIAGE_RETURN ∷ LINE_FEED ∷ CARRIAGE_RETURN ∷ LINE_FEED ∷ []
 
 -- the first n bytes end with it
 abbrev pub EndsAt : List ℕ → ℕ → Type 0

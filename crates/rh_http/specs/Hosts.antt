@@ -2,12 +2,13 @@
 use Rattle.std.specs.Prelude.{◌≡◌, ◌<◌, ◌≤◌, ◌-◌, ◌||◌, ◌==◌, ℕ, Bool, true, false, List, IsTrue, codes, length, take, drop, replicate, slice_index}
 use Rattle.std.specs.Char.{is_ascii_alphanumeric}
 use Rattle.std.specs.List.{list_all, list_any}
+use Rattle.rh_http.specs.declared.host.TheConstants.{GREATEST_HOST}
 use Rattle.rh_http.specs.declared.fault.HostFault.{HostFault}
 use Rattle.rh_http.specs.declared.fault.HostFault.TheVariants.{Empty, TooLong, Character}
 
 -- the most characters of a host
 abbrev pub greatest_host : ℕ
-greatest_host = 255
+greatest_host = GREATEST_HOST
 
 -- letters, digits, '-', '.', '_' and '@'
 abbrev pub is_host_byte : ℕ → Bool

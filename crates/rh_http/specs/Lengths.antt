@@ -1,6 +1,8 @@
 -- the Content-Length of a head (RFC 9112 sections 5 and 6.2; the ranges are this profile's)
 use Rattle.std.specs.Prelude.{◌≡◌, ◌≢◌, ◌≤◌, ◌⊎◌, ◌||◌, ◌&&◌, ◌==◌, nat_le, ℕ, Bool, true, false, List, [], ◌∷◌, IsTrue, codes, if◌then◌else◌}
 use Rattle.std.specs.Str.{bytes_eq, str_to_ascii_lowercase}
+use Rattle.rh_keep.specs.Lifetimes.{is_lifetime}
+use Rattle.rh_http.specs.declared.lengths.TheConstants.{GREATEST_ECHO, OPENS_OUT, REPLACES_OUT, GREATEST_RESPONSE, SUCCESS}
 use Rattle.rh_http.specs.Numbers.{IsLengthText}
 
 -- the names and the values of a head's fields, without the blanks round a value
@@ -25,13 +27,13 @@ HasLength fields n = (text : List ℕ) × (lengths_of fields ≡ text ∷ []) ×
 
 -- the most bytes of an echo request
 abbrev pub greatest_echo : ℕ
-greatest_echo = 16
+greatest_echo = GREATEST_ECHO
 
 -- the lengths of a request that opens a channel: the lifetime of an IN channel, or the bytes of the
 -- packets that open an OUT channel or replace one
 abbrev pub opens : Bool → ℕ → Bool
-opens true n = nat_le 131072 n && nat_le n 2147483648
-opens false n = n == 76 || n == 120
+opens true n = is_lifetime n
+opens false n = n == OPENS_OUT || n == REPLACES_OUT
 
 -- it is an echo request, or opens a channel
 abbrev pub may_ask : Bool → ℕ → Bool
@@ -45,11 +47,11 @@ AsksLength inbound fields n = HasLength fields n × IsTrue (may_ask inbound n)
 
 -- the status of success
 abbrev pub success : ℕ
-success = 200
+success = SUCCESS
 
--- the greatest lifetime of an OUT channel, and 65,536 bytes
+-- the greatest lifetime of an OUT channel, and the bytes for Pings
 abbrev pub greatest_response : ℕ
-greatest_response = 2147549184
+greatest_response = GREATEST_RESPONSE
 
 -- the length of a response; where its status isn't 200 and the field isn't there, 0
 abbrev pub TellsLength : ℕ → Fields → ℕ → Type 0

@@ -4,12 +4,13 @@ use Rattle.std.specs.declared.result.Result.{Result}
 use Rattle.rh_http.specs.declared.fault.HttpFault.{HttpFault}
 use Rattle.rh_http.specs.declared.fault.HttpFault.TheVariants.{TooLong}
 use Rattle.rh_http.specs.declared.got.Got.{Got}
+use Rattle.rh_http.specs.declared.got.TheConstants.{GREATEST_HEAD}
 use Rattle.rh_http.specs.declared.got.Got.TheVariants.{Need, Head, Fault}
 use Rattle.rh_http.specs.Ends.{IsOpen, FirstEnd}
 
 -- the most bytes of a head
 abbrev pub greatest_head : ℕ
-greatest_head = 16384
+greatest_head = GREATEST_HEAD
 
 -- a head that ends within the most bytes is judged; where none ends there, more bytes may end one,
 -- or none can

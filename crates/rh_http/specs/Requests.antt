@@ -7,15 +7,17 @@ use Rattle.httparse.specs.Grammar.{RequestHead, ReadsRequest}
 use Rattle.httparse.specs.Spans.{name_and_value}
 use Rattle.rh_http.specs.declared.fault.HttpFault.{HttpFault}
 use Rattle.rh_http.specs.declared.fault.HttpFault.TheVariants.{TooLong, Syntax, Method, Path, Target, Length}
+use Rattle.rh_http.specs.declared.got.TheConstants.{GREATEST_FIELDS}
 use Rattle.rh_http.specs.declared.host.Host.{Host}
 use Rattle.rh_http.specs.declared.request.Request.{Request}
+use Rattle.rh_http.specs.declared.target.TheConstants.{QUESTION_MARK, COLON}
 use Rattle.rh_http.specs.Hosts.{IsHost}
 use Rattle.rh_http.specs.Numbers.{IsPortText}
 use Rattle.rh_http.specs.Lengths.{Fields, AsksLength}
 
 -- the most fields of a head
 abbrev pub greatest_fields : ℕ
-greatest_fields = 64
+greatest_fields = GREATEST_FIELDS
 
 -- the text is this request head, which has no more fields
 pub record IsRequestText (text : List ℕ) (head : RequestHead) : Type 0 where
@@ -29,7 +31,7 @@ method_of false = codes "RPC_OUT_DATA"
 
 -- a target up to its first question mark; all of it where it has none
 abbrev pub path_of : List ℕ → List ℕ
-path_of target = before_first (λ c. c == 63) target
+path_of target = before_first (λ c. c == QUESTION_MARK) target
 
 -- the path of a proxy, in letters of either case
 abbrev pub IsPath : List ℕ → Type 0
@@ -42,12 +44,12 @@ pub record IsServer (query host : List ℕ) (port : ℕ) : Type 0 where
   pub is_host : IsHost host
   pub digits : List ℕ
   pub is_port : IsPortText digits port
-  pub joined : query ≡ host ++ 58 ∷ digits
+  pub joined : query ≡ host ++ COLON ∷ digits
 
 -- which stand behind the first question mark
 abbrev pub IsTarget : List ℕ → List ℕ → ℕ → Type 0
 IsTarget target host port =
-    (query : List ℕ) × (target ≡ path_of target ++ 63 ∷ query) × IsServer query host port
+    (query : List ℕ) × (target ≡ path_of target ++ QUESTION_MARK ∷ query) × IsServer query host port
 
 -- some host and port stand there
 abbrev pub HasTarget : List ℕ → Type 0

@@ -3,11 +3,16 @@
 use Rattle.std.specs.Prelude.{◌≡◌, ◌<◌, ◌≤◌, ℕ, Bool, true, false, List, [], ◌∷◌, ◌++◌, codes, length, map, drop, IsTrue, Ok, Err}
 use Rattle.std.specs.declared.result.Result.{Result}
 use Rattle.std.specs.Fmt.{decimal}
+use Rattle.rh_text.specs.declared.lines.TheConstants.{LINE_FEED}
 use Rattle.rh_rts.specs.declared.fault.NoRoom.{NoRoom}
 use Rattle.rh_http.specs.declared.config.ClientConfig.{ClientConfig}
 use Rattle.rh_http.specs.declared.refusal.Refusal.{Refusal}
 use Rattle.rh_http.specs.declared.refusal.Refusal.TheVariants.{Bad, Missing, Unavailable}
 use Rattle.rh_http.specs.declared.got.Got.TheVariants.{Head}
+use Rattle.rh_http.specs.declared.writing.TheConstants.{ECHO_LEN}
+use Rattle.rh_http.specs.declared.end.TheConstants.{CARRIAGE_RETURN}
+use Rattle.rh_http.specs.declared.lengths.TheConstants.{BAD_REQUEST, NOT_FOUND, SERVICE_UNAVAILABLE}
+use Rattle.rh_http.specs.declared.numbers.TheConstants.{LEAST_PORT, GREATEST_PORT}
 use Rattle.rh_http.specs.Lengths.{Fields, may_ask}
 use Rattle.rh_http.specs.Reading.{IsAnswer}
 use Rattle.rh_http.specs.Responses.{JudgesResponse}
@@ -15,7 +20,7 @@ use Rattle.rh_http.specs.Requests.{JudgesRequest, host_text, method_of}
 
 -- the end of a line
 abbrev pub crlf : List ℕ
-crlf = 13 ∷ 10 ∷ []
+crlf = CARRIAGE_RETURN ∷ LINE_FEED ∷ []
 
 -- lines, and the empty line behind them
 abbrev pub head_of : List (List ℕ) → List ℕ
@@ -73,7 +78,7 @@ out_request config n = request_text (method_of false) config n
 -- that length, whatever follows it
 abbrev pub IsReadAs : Bool → ClientConfig → ℕ → List ℕ → Type 0
 IsReadAs inbound config n text =
-    1 ≤ config.port → config.port < 65536 → IsTrue (may_ask inbound n)
+    LEAST_PORT ≤ config.port → config.port ≤ GREATEST_PORT → IsTrue (may_ask inbound n)
     → (rest : List ℕ)
     → IsAnswer (JudgesRequest inbound) (text ++ rest)
     (Head (record { host = config.host; port = config.port; length = n }) (length text))
@@ -95,13 +100,13 @@ response_text n = head_of (
 
 -- the bytes of an Echo packet
 abbrev pub echo_length : ℕ
-echo_length = 20
+echo_length = ECHO_LEN
 
 -- the status of a refusal, and its line
 abbrev pub status_of : Refusal → ℕ
-status_of Bad = 400
-status_of Missing = 404
-status_of Unavailable = 503
+status_of Bad = BAD_REQUEST
+status_of Missing = NOT_FOUND
+status_of Unavailable = SERVICE_UNAVAILABLE
 
 abbrev pub refusal_line : Refusal → List ℕ
 refusal_line Bad = status_line (codes "400") (codes "Bad Request")

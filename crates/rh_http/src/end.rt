@@ -3,6 +3,9 @@
 use memchr::memmem;
 use std::marker::Model;
 
+/// The first byte of what ends a line of a head; the second is `LINE_FEED` (RFC 9112 section 2.1).
+pub const CARRIAGE_RETURN: u8 = b'\r';
+
 /// The end of the last line of a head, and the empty line behind it (RFC 9112 section 2.1).
 const BLANK_LINE: &[u8] = b"\r\n\r\n";
 

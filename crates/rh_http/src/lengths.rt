@@ -8,21 +8,26 @@ ghost use Rattle.rh_http.specs.Found.{IsFound};
 
 use crate::numbers::read_length;
 use httparse::spans::HeaderSpan;
+use rh_keep::{GREATEST_LIFETIME, LEAST_LIFETIME};
 
 /// The most bytes of an echo request (profile).
-const GREATEST_ECHO: u64 = 16;
-/// The lifetimes of an IN channel, in bytes (profile).
-const LEAST_LIFETIME: u64 = 131_072;
-
-const GREATEST_LIFETIME: u64 = 2_147_483_648;
-/// The bytes of the packets that open an OUT channel, and of those that replace one (profile).
-const OPENS_OUT: u64 = 76;
-
-const REPLACES_OUT: u64 = 120;
-/// The greatest length of a response: the greatest lifetime and 65,536 bytes (profile).
-const GREATEST_RESPONSE: u64 = 2_147_549_184;
+pub const GREATEST_ECHO: u32 = 16;
+/// The bytes of the packet that opens an OUT channel (profile).
+pub const OPENS_OUT: u32 = 76;
+/// The bytes of the packets that replace an OUT channel (profile).
+pub const REPLACES_OUT: u32 = 120;
+/// The bytes of a response that are above the lifetime of its OUT channel, for Pings (profile).
+pub const PING_ROOM: u32 = 65_536;
+/// The greatest length of a response, in bytes (profile).
+pub const GREATEST_RESPONSE: u32 = GREATEST_LIFETIME + PING_ROOM;
 /// The status of success (RFC 9110 section 15.3.1).
 pub const SUCCESS: u16 = 200;
+/// The status where the head is at fault elsewhere than in its path (RFC 9110 section 15.5.1).
+pub const BAD_REQUEST: u16 = 400;
+/// The status where the path is not that of a proxy (RFC 9110 section 15.5.5).
+pub const NOT_FOUND: u16 = 404;
+/// The status where the server could not be connected (RFC 9110 section 15.6.4).
+pub const SERVICE_UNAVAILABLE: u16 = 503;
 
 /// The values of the fields with that name.
 #[derive(Clone, Copy, Debug, PartialEq, Eq)]
@@ -62,13 +67,13 @@ fn find_lengths<'a>(head: &'a [u8], fields: &[HeaderSpan]) -> Lengths<'a>
 fn may_ask_length(inbound: bool, length: u64) -> bool
     ensures { result ≡ may_ask inbound length }
 {
-    if length <= GREATEST_ECHO {
+    if length <= u64::from(GREATEST_ECHO) {
         return true;
     }
     if inbound {
-        length >= LEAST_LIFETIME && length <= GREATEST_LIFETIME
+        length >= u64::from(LEAST_LIFETIME) && length <= u64::from(GREATEST_LIFETIME)
     } else {
-        length == OPENS_OUT || length == REPLACES_OUT
+        length == u64::from(OPENS_OUT) || length == u64::from(REPLACES_OUT)
     }
 }
 
@@ -101,7 +106,7 @@ pub fn response_length(head: &[u8], fields: &[HeaderSpan], status: u16) -> Optio
         Lengths::Absent if status != SUCCESS => Some(0),
         Lengths::Once(text) => {
             let length = read_length(text)?;
-            if length <= GREATEST_RESPONSE {
+            if length <= u64::from(GREATEST_RESPONSE) {
                 Some(length as u32)
             } else {
                 None

@@ -7,7 +7,7 @@ pub mod end;
 pub mod fault;
 pub mod got;
 pub mod host;
-mod lengths;
+pub mod lengths;
 mod names;
 mod numbers;
 mod pieces;

@@ -7,11 +7,11 @@ ghost use Rattle.rh_http.specs.Numbers.{IsLengthText, IsPortText};
 use rh_text::read_number;
 
 /// The most digits of a length.
-const MOST_DIGITS: usize = 10;
-/// The least and the greatest port.
-const LEAST_PORT: u64 = 1;
-
-const GREATEST_PORT: u64 = 65_535;
+pub const MOST_DIGITS: usize = 10;
+/// The least port.
+pub const LEAST_PORT: u64 = 1;
+/// The greatest port.
+pub const GREATEST_PORT: u64 = 65_535;
 
 /// The number with one more digit behind its own.
 fn with_digit(number: u64, digit: u8) -> u64

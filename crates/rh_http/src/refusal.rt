@@ -5,11 +5,11 @@ use crate::fault::HttpFault;
 /// Why a proxy refuses a request (the choice of statuses is the profile's).
 #[derive(Clone, Copy, Debug, PartialEq, Eq)]
 pub enum Refusal {
-    /// 400: the head is at fault elsewhere than in its path.
+    /// `BAD_REQUEST`: the head is at fault elsewhere than in its path.
     Bad,
-    /// 404: the path is not that of a proxy.
+    /// `NOT_FOUND`: the path is not that of a proxy.
     Missing,
-    /// 503: the server could not be connected.
+    /// `SERVICE_UNAVAILABLE`: the server could not be connected.
     Unavailable,
 }
 

@@ -8,6 +8,11 @@ use crate::host::Host;
 use crate::numbers::read_port;
 use memchr::memchr;
 
+/// What stands between the path of a target and its query.
+pub const QUESTION_MARK: u8 = b'?';
+/// What stands between the host and the port of a server.
+pub const COLON: u8 = b':';
+
 /// The path of a proxy, and that of one which asks for a certificate, in small letters.
 const PATH: &[u8] = b"/rpc/rpcproxy.dll";
 
@@ -29,7 +34,7 @@ fn split_first(text: &[u8], byte: u8) -> Option<(&[u8], &[u8])>
 pub fn has_path(target: &[u8]) -> bool
     ensures { IsTrue result ↔ IsPath (path_of target.now) }
 {
-    let path = match split_first(target, b'?') {
+    let path = match split_first(target, QUESTION_MARK) {
         Some((path, _)) => path,
         None => target,
     };
@@ -41,7 +46,7 @@ fn read_server(query: &[u8]) -> Option<(Host, u16)>
     ensures { MatchOption result ((host : List ℕ) (port : ℕ) → ¬ IsServer query.now host port)
         (λ server. IsServer query.now (host_text server.0) server.1) }
 {
-    let (host, port) = split_first(query, b':')?;
+    let (host, port) = split_first(query, COLON)?;
     let port = read_port(port)?;
     match Host::new(host) {
         Ok(host) => Some((host, port)),
@@ -54,6 +59,6 @@ pub fn read_target(target: &[u8]) -> Option<(Host, u16)>
     ensures { MatchOption result (¬ HasTarget target.now)
         (λ server. IsTarget target.now (host_text server.0) server.1) }
 {
-    let (_, query) = split_first(target, b'?')?;
+    let (_, query) = split_first(target, QUESTION_MARK)?;
     read_server(query)
 }

@@ -1,6 +1,7 @@
 //! Writes the heads of clients and proxies (MS-RPCH 2.1.2).
 
 ghost use Rattle.std.specs.Prelude.{◌≡◌, ◌≤◌, true, false, length};
+ghost use Rattle.rh_http.specs.Hosts.{greatest_host};
 ghost use Rattle.rh_http.specs.Lengths.{greatest_response, success};
 ghost use Rattle.rh_http.specs.Requests.{method_of};
 ghost use Rattle.rh_http.specs.Texts.{Writes, IsReadAs, IsToldAs, status_of, head_of, target_of, request_lines, request_text, in_request, out_request, response_text, echo_length, refusal_line, refusal_text};
@@ -13,7 +14,7 @@ use itoa::Buffer;
 use rh_rts::NoRoom;
 
 /// The bytes of an Echo packet, which follows the head of its answer (MS-RPCH 2.1.2).
-const ECHO_LEN: u32 = 20;
+pub const ECHO_LEN: u32 = 20;
 
 /// Writes a request of these texts.
 fn write_texts<'a>(
@@ -25,9 +26,9 @@ fn write_texts<'a>(
     room: &mut [u8],
 ) -> Result<usize, NoRoom>
     requires method { length method.now ≤ 12 }
-    requires host { length host.now ≤ 255 }
+    requires host { length host.now ≤ greatest_host }
     requires port { length port.now ≤ 40 }
-    requires proxy { length proxy.now ≤ 255 }
+    requires proxy { length proxy.now ≤ greatest_host }
     requires digits { length digits.now ≤ 40 }
     ensures { Writes
         (head_of (request_lines method.now (target_of host.now port.now) proxy.now digits.now))

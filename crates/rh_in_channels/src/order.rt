@@ -40,8 +40,8 @@ pub fn in_channels_are_announced_in_order()
 }
 
 /// The server answers them in that order: once it put as many IN_R1/A3 and IN_R2/A3 as IN_R1/A2 and
-/// IN_R2/A2 had come behind a front of its moves, it put as many IN_R1/A3 as IN_R1/A2 had come there
-/// (successors are this profile's).
+/// IN_R2/A2 had come behind a front of its moves, it put as many IN_R1/A3 as IN_R1/A2 had come
+/// there (successors are this profile's).
 pub fn in_channels_are_answered_in_order()
     ensures { (numbers : Numbers) (reader : ℕ → ℕ) (moves : Moves)
         → IsMoment numbers reader moves → AreAnswered numbers moves.server }

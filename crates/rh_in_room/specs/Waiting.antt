@@ -2,6 +2,7 @@
 use Rattle.std.specs.Prelude.{ℕ, suc, ◌≡◌, ◌≤◌, ◌<◌, ◌+◌, ◌++◌, List, [], ◌∷◌, false}
 use Rattle.std.specs.List.{AllByRecursion}
 use Rattle.rh_rts.specs.declared.command.Cookie.{Cookie}
+use Rattle.rh_rts.specs.declared.command.TheConstants.{TO_OUT_PROXY}
 use Rattle.rh_sig.specs.declared.named.Named.{Named}
 use Rattle.rh_sig.specs.declared.named.Named.TheVariants.{AckTo, OutR1A8}
 use Rattle.rh_line.specs.declared.leg.LegKind.TheVariants.{ClientIn}
@@ -34,14 +35,15 @@ pub record CameBehind (often : ℕ) (channel : Cookie) (came : List OnLeg) : Typ
   pub number : ℕ
   pub received : ℕ
   pub available : ℕ
-  pub is : came ≡ before ++ (ci number, Packet (AckTo 3 received available channel)) ∷ later
+  pub is : came
+      ≡ before ++ (ci number, Packet (AckTo TO_OUT_PROXY received available channel)) ∷ later
   pub behind : often ≤ switches before
   pub near : (k : ℕ) → suc number < k → of_leg (ci k) before ≡ []
 
 -- such an acknowledgement to the out proxy, or OUT_R1/A8
 abbrev pub IsInTurn : ℕ → List OnLeg → Named → Type 0
 IsInTurn often came (AckTo to received available channel) =
-    (to ≡ 3) × CameBehind often channel came
+    (to ≡ TO_OUT_PROXY) × CameBehind often channel came
 IsInTurn often came (OutR1A8 to successor) = Unit {0}
 IsInTurn often came packet = ⊥
 

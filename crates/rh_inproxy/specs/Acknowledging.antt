@@ -4,6 +4,7 @@ use Rattle.std.specs.Prelude.{ℕ, ◌==◌, ◌&&◌, ◌||◌, Bool, true, fal
 use Rattle.std.specs.declared.option.Option.{Option}
 use Rattle.std.specs.declared.result.Result.{Result}
 use Rattle.rh_rts.specs.declared.command.Cookie.{Cookie}
+use Rattle.rh_rts.specs.declared.command.TheConstants.{TO_CLIENT, TO_OUT_PROXY}
 use Rattle.rh_sig.specs.declared.named.Named.{Named}
 use Rattle.rh_sig.specs.declared.named.Named.TheVariants.{AckTo}
 use Rattle.rh_window.specs.declared.fault.BadAck.{BadAck}
@@ -40,7 +41,8 @@ forwarded s packet = forward_by s (waiting.forwarded s.waiting packet)
 -- AckTo 3 on a ci leg: no IN_R1/A5 came there
 abbrev pub on_ack_to : InProxy → Which → ℕ → ℕ → ℕ → Cookie → Done
 on_ack_to s which to received available channel =
-    if not (has_a5 s which) && (to == 3) then forwarded s (AckTo 3 received available channel)
+    if not (has_a5 s which) && (to == TO_OUT_PROXY)
+    then forwarded s (AckTo TO_OUT_PROXY received available channel)
     else unexpected s
 
 -- ---- those of the server
@@ -78,7 +80,7 @@ abbrev pub ack_by : InProxy → Which → Cookie → Option Ack → Pick
 ack_by s which cookie None = None
 ack_by s which cookie (Some ack) = Some (
   record s { line = line.after_told s.line which ack },
-  Packet (AckTo 0 ack.received ack.available cookie),
+  Packet (AckTo TO_CLIENT ack.received ack.available cookie),
 )
 
 -- with the cookie of the channel

@@ -9,6 +9,7 @@ use Rattle.rh_shell.specs.declared.answers.Count.{Count}
 use Rattle.rh_shell.specs.declared.rooms.Rooms.{Rooms}
 use Rattle.rh_shell.specs.Rules.{Rules}
 use Rattle.rh_shell.specs.Shells.{Shell, begun}
+use Rattle.rh_inproxy.specs.declared.in_proxy.TheConstants.{ROOMS}
 use Rattle.rh_inproxy.specs.declared.state.InProxyConfig.{InProxyConfig}
 use Rattle.rh_inproxy.specs.Acknowledging.{on_ack_to, on_ack}
 use Rattle.rh_inproxy.specs.Answers.{Done, unexpected}
@@ -94,7 +95,7 @@ rules = record {
 
 -- two ci legs may be unfinished, and one is leg
 abbrev pub rooms : Rooms
-rooms = record { client_out = 0; out_server = 0; client_in = 2; in_server = 1 }
+rooms = ROOMS
 
 abbrev pub first_node : InProxyConfig → Shell InProxy
 first_node config = begun (first config) rooms

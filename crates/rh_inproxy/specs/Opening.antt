@@ -15,6 +15,7 @@ use Rattle.rh_sig.specs.declared.name.Pipe.{Pipe}
 use Rattle.rh_sig.specs.declared.name.Pipe.TheVariants.{CiU, IsD}
 use Rattle.rh_sig.specs.declared.named.Named.{Named}
 use Rattle.rh_sig.specs.declared.named.Named.TheVariants.{ConnB2, InR1A2}
+use Rattle.rh_sig.specs.declared.ranges.TheConstants.{DEFAULT_KEEPALIVE, PROTOCOL_VERSION}
 use Rattle.rh_line.specs.declared.leg.Leg.{Leg}
 use Rattle.rh_line.specs.declared.leg.LegKind.TheVariants.{ClientIn}
 use Rattle.rh_shell.specs.declared.answers.Behind.TheVariants.{Frames, PassedOver}
@@ -225,7 +226,7 @@ opened s opener keepalive = taken (record s {
 -- 0 stands for the one agreed by default, in milliseconds (MS-RPCH 2.2.3.5; the number is this
 -- profile's)
 abbrev pub kept_for : ℕ → ℕ
-kept_for keepalive = if keepalive == 0 then KEEPALIVE else keepalive
+kept_for keepalive = if keepalive == DEFAULT_KEEPALIVE then KEEPALIVE else keepalive
 
 abbrev pub opener : Cookie → Cookie → Entry → Opener
 opener connection channel entry =
@@ -247,10 +248,10 @@ on_first_in_r1_a1 s connection predecessor channel =
 
 abbrev pub announcement : InProxy → Opener → Entry → Named
 announcement s o (Connects group) =
-    ConnB2 1 o.connection o.channel s.config.window s.config.timeout group
+    ConnB2 PROTOCOL_VERSION o.connection o.channel s.config.window s.config.timeout group
     (V4 s.config.address) (replicate 12 0)
 announcement s o (Replaces predecessor) =
-    InR1A2 1 o.connection predecessor o.channel s.config.window s.config.timeout
+    InR1A2 PROTOCOL_VERSION o.connection predecessor o.channel s.config.window s.config.timeout
 
 abbrev pub first_by : InProxy → Opening → Pick
 first_by s (Announces o) =

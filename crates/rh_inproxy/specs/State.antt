@@ -17,6 +17,7 @@ use Rattle.rh_line.specs.declared.which.Which.TheVariants.{Current, Next}
 use Rattle.rh_shell.specs.Shells.{is_of, same_leg}
 use Rattle.rh_shell.specs.Waiting.{Waiting, empty}
 use Rattle.rh_shell.specs.declared.waiting.TheConstants.{FORWARDED_ROOM}
+use Rattle.rh_rts.specs.declared.command.TheConstants.{COOKIE_LEN}
 use Rattle.rh_inproxy.specs.declared.state.InProxyConfig.{InProxyConfig}
 use Rattle.rh_inproxy.specs.declared.state.Target.{Target}
 use Rattle.rh_inproxy.specs.declared.state.Opening.{Opening}
@@ -69,7 +70,7 @@ pub record IsConfig (config : InProxyConfig) : Type 0 where
 -- ---- the first state
 
 abbrev pub no_cookie : Cookie
-no_cookie = record { 0 = replicate 16 0 }
+no_cookie = record { 0 = replicate COOKIE_LEN 0 }
 
 abbrev pub first_leg : ℕ → ClientLeg
 first_leg number = record { number = number; cookie = no_cookie }

@@ -3,7 +3,7 @@
 use crate::row::Row;
 use crate::state::{InProxyRole, Successor, same_cookie};
 use rh_line::{Leg, LegKind, Which};
-use rh_rts::Cookie;
+use rh_rts::{Cookie, TO_CLIENT, TO_OUT_PROXY};
 use rh_shell::{Begun, Refused};
 use rh_sig::Named;
 use rh_window::Ack;
@@ -51,10 +51,10 @@ impl InProxyRole {
         ensures { (self.new, result)
             ≡ seen.on_ack_to self.old which to received available channel }
     {
-        if self.has_a5(which) || to != 3 {
+        if self.has_a5(which) || to != TO_OUT_PROXY {
             return Err(Refused::Unexpected);
         }
-        self.forward(Named::AckTo(3, received, available, channel))
+        self.forward(Named::AckTo(TO_OUT_PROXY, received, available, channel))
     }
 
     /// Takes an acknowledgement of the channel with which the is leg was opened.
@@ -111,7 +111,7 @@ impl InProxyRole {
             return false;
         };
         self.line.told(which, &ack);
-        begun.begin_packet(&Named::AckTo(0, ack.received, ack.available, cookie));
+        begun.begin_packet(&Named::AckTo(TO_CLIENT, ack.received, ack.available, cookie));
         true
     }
 

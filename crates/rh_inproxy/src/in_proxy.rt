@@ -32,7 +32,7 @@
 use crate::state::{InProxyConfig, InProxyRole};
 use rh_http::Host;
 use rh_line::{Leg, State, Verdict};
-use rh_rts::Cookie;
+use rh_rts::NO_COOKIE;
 use rh_shell::{Rooms, Shell};
 use std::alloc::{AllocError, Global};
 use std::marker::Model;
@@ -102,7 +102,7 @@ impl InProxy {
     pub fn up(&mut self, leg: Leg)
         ensures { self.new ≡ seen.up rules self.old leg no_cookie }
     {
-        self.shell.up(leg, Cookie([0; 16]));
+        self.shell.up(leg, NO_COOKIE);
     }
 
     /// A piece came on the leg. On a leg that isn't up, or is finished, it is passed over.

@@ -10,15 +10,17 @@ use crate::state::{
     is_client_leg,
 };
 use rh_heads::judge_request;
+use rh_http::lengths::GREATEST_ECHO;
 use rh_http::{Host, Request};
 use rh_line::{Leg, LegKind};
 use rh_rts::{Address4or16, Cookie};
 use rh_shell::{Begun, Behind, HeadRefused, HeadTaken, Phase, Refused};
+use rh_sig::ranges::DEFAULT_KEEPALIVE;
 use rh_sig::{Named, Pipe};
 use rh_window::SendWindow;
 
 /// The greatest Content-Length of an echo request, in bytes (profile).
-pub const ECHO_LENGTH: u32 = 16;
+pub const ECHO_LENGTH: u32 = GREATEST_ECHO;
 /// The most that the Content-Lengths of the requests add up to before a later ci leg comes up, in
 /// bytes: so no edge that the server tells passes 32 bits (profile).
 pub const GREATEST_LENGTHS: u64 = 2_147_221_503;
@@ -42,13 +44,18 @@ fn begin_echo_answer(begun: &mut Begun)
 pub(crate) fn kept_for(keepalive: u32) -> u32
     ensures { result ≡ kept_for keepalive }
 {
-    if keepalive == 0 { KEEPALIVE } else { keepalive }
+    if keepalive == DEFAULT_KEEPALIVE {
+        KEEPALIVE
+    } else {
+        keepalive
+    }
 }
 
 impl InProxyRole {
     ghost use Rattle.std.specs.Prelude.{◌≡◌, ◌≤◌, [], Some, length};
     ghost use Rattle.rh_sig.specs.Values.{MayBeWritten};
     ghost use Rattle.rh_heads.specs.Verdicts.{asked};
+    ghost use Rattle.rh_http.specs.Reading.{greatest_head};
     ghost use Rattle.rh_shell.specs.Rules.{put_into};
     ghost use Rattle.rh_inproxy.specs.Answers.{is_some};
     ghost use Rattle.rh_inproxy.specs.Opening as seen;
@@ -193,7 +200,7 @@ impl InProxyRole {
 
     /// A head came on a ci leg.
     pub(crate) fn on_head(&mut self, leg: Leg, text: &[u8]) -> Result<HeadTaken, HeadRefused>
-        requires { length text.now ≤ 16384 }
+        requires { length text.now ≤ greatest_head }
         ensures { (self.new, result) ≡ seen.head self.old leg text.now }
     {
         match judge_request(text, true) {

@@ -5,7 +5,7 @@ ghost use Rattle.rh_inproxy.specs.State.{same_cookie, is_client_leg, follows};
 
 use rh_http::Host;
 use rh_line::{Leg, LegKind, RecvLine, Which};
-use rh_rts::Cookie;
+use rh_rts::{Cookie, NO_COOKIE};
 use rh_shell::{FORWARDED_ROOM, Waiting};
 use rh_window::SendWindow;
 use std::alloc::{AllocError, Global};
@@ -221,7 +221,7 @@ impl InProxyRole {
             line: RecvLine::new(alloc, config.window)?,
             current: ClientLeg {
                 number: config.number,
-                cookie: Cookie([0; 16]),
+                cookie: NO_COOKIE,
             },
             successor: Successor::Absent,
             handover: Handover::Before,

@@ -3,6 +3,8 @@
 use Rattle.std.specs.Prelude.{ℕ, suc, ◌≡◌, ◌≤◌, ◌⊎◌, List, [], ◌∷◌, true}
 use Rattle.std.specs.List.{AllByRecursion}
 use Rattle.rh_rts.specs.declared.command.Cookie.{Cookie}
+use Rattle.rh_rts.specs.declared.command.TheConstants.{TO_CLIENT, TO_OUT_PROXY, TO_SERVER}
+use Rattle.rh_sig.specs.declared.ranges.TheConstants.{PROTOCOL_VERSION}
 use Rattle.rh_rts.specs.declared.command.Address4or16.TheVariants.{V4}
 use Rattle.rh_sig.specs.declared.named.Named.{Named}
 use Rattle.rh_sig.specs.declared.named.Named.TheVariants.{ConnB1, ConnB2, InR1A1, InR1A2, InR1A5, InR1A6, InR2A2, OutR1A7, OutR1A8, EndA2, AckTo, Ping}
@@ -47,13 +49,13 @@ Leaves successor packet = ⊥
 
 -- OUT_R1/A7 to the server, with this successor
 abbrev pub Switches : Cookie → Named → Type 0
-Switches successor (OutR1A7 to other) = (to ≡ 2) × (other ≡ successor)
+Switches successor (OutR1A7 to other) = (to ≡ TO_SERVER) × (other ≡ successor)
 Switches successor packet = ⊥
 
 -- an acknowledgement to the out proxy
 abbrev pub Acknowledges : ℕ → ℕ → Cookie → Named → Type 0
 Acknowledges received available channel (AckTo to bytes window of) =
-    (to ≡ 3) × (bytes ≡ received) × (window ≡ available) × (of ≡ channel)
+    (to ≡ TO_OUT_PROXY) × (bytes ≡ received) × (window ≡ available) × (of ≡ channel)
 Acknowledges received available channel packet = ⊥
 
 -- such a packet came on the ci leg of this number
@@ -88,11 +90,11 @@ HasPdu pdu (message ∷ messages) = (message ≡ Pdu pdu) ⊎ HasPdu pdu message
 -- IN_R1/A1 told there; and the own window and timeout
 abbrev pub IsFirst : InProxyConfig → List OnLeg → Named → Type 0
 IsFirst config came (ConnB2 version connection channel window timeout group address padding) =
-    (version ≡ 1) × (window ≡ config.window) × (timeout ≡ config.timeout)
+    (version ≡ PROTOCOL_VERSION) × (window ≡ config.window) × (timeout ≡ config.timeout)
     × (address ≡ V4 config.address)
     × CameFirst config.number (Connects connection channel group) came
 IsFirst config came (InR1A2 version connection predecessor successor window timeout) =
-    (version ≡ 1) × (window ≡ config.window) × (timeout ≡ config.timeout)
+    (version ≡ PROTOCOL_VERSION) × (window ≡ config.window) × (timeout ≡ config.timeout)
     × CameFirst config.number (Replaces connection predecessor successor) came
 IsFirst config came packet = ⊥
 
@@ -100,9 +102,9 @@ IsFirst config came packet = ⊥
 -- OUT_R1/A8 for OUT_R1/A7; END/A2; a Ping
 abbrev pub IsPlainPacket : List OnLeg → Named → Type 0
 IsPlainPacket came (AckTo to received available channel) =
-    ((to ≡ 0) × Came (BeginsIn channel) came)
-    ⊎ ((to ≡ 3) × Came (Acknowledges received available channel) came)
-IsPlainPacket came (OutR1A8 to successor) = (to ≡ 2) × Came (Switches successor) came
+    ((to ≡ TO_CLIENT) × Came (BeginsIn channel) came)
+    ⊎ ((to ≡ TO_OUT_PROXY) × Came (Acknowledges received available channel) came)
+IsPlainPacket came (OutR1A8 to successor) = (to ≡ TO_SERVER) × Came (Switches successor) came
 IsPlainPacket came EndA2 = Unit {0}
 IsPlainPacket came Ping = Unit {0}
 IsPlainPacket came packet = ⊥

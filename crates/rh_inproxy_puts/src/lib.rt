@@ -1,5 +1,5 @@
-//! What an in proxy puts on its is leg, in order and for what came. Its functions do nothing, or call
-//! a law that they stand on: their contracts are the laws.
+//! What an in proxy puts on its is leg, in order and for what came. Its functions do nothing, or
+//! call a law that they stand on: their contracts are the laws.
 #![tactic(auto)]
 
 pub mod puts;

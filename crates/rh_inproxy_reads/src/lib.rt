@@ -1,5 +1,5 @@
-//! Which legs an in proxy reads in a world of roles. Its function calls a law that it stands on: its
-//! contract is the law.
+//! Which legs an in proxy reads in a world of roles. Its function calls a law that it stands on:
+//! its contract is the law.
 #![tactic(auto)]
 
 pub mod worlds;

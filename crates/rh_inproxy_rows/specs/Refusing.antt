@@ -2,6 +2,7 @@
 -- end are this profile's)
 use Rattle.std.specs.Prelude.{ℕ, suc, ◌+◌, ◌≡◌, ◌⊎◌, ◌≤◌, Bool, true, false, List, [], ◌∷◌, IsTrue, Err}
 use Rattle.rh_rts.specs.declared.command.Cookie.{Cookie}
+use Rattle.rh_rts.specs.declared.command.TheConstants.{TO_OUT_PROXY, TO_SERVER}
 use Rattle.rh_sig.specs.declared.named.Named.{Named}
 use Rattle.rh_sig.specs.declared.named.Named.TheVariants.{ConnB1, ConnB3, InR1A1, InR1A5, InR1B1, InR1B2, InR2A2, OutR1A7, EndA1, Ack, AckTo, KeepAlive}
 use Rattle.rh_line.specs.declared.leg.Leg.{Leg}
@@ -72,8 +73,8 @@ UnexpectedOnClient first p n (ConnB1 version connection channel lifetime keepali
     (n ≡ first → ⊥) ⊎ HasPacket p n
 UnexpectedOnClient first p n (InR1A1 version connection predecessor channel) = HasPacket p n
 UnexpectedOnClient first p n (AckTo to received available channel) =
-    (to ≡ 3 → ⊥) ⊎ IsNew p n ⊎ IsLeft p n
-UnexpectedOnClient first p n (OutR1A7 to successor) = (to ≡ 2 → ⊥) ⊎ IsNew p n ⊎ IsLeft p n
+    (to ≡ TO_OUT_PROXY → ⊥) ⊎ IsNew p n ⊎ IsLeft p n
+UnexpectedOnClient first p n (OutR1A7 to successor) = (to ≡ TO_SERVER → ⊥) ⊎ IsNew p n ⊎ IsLeft p n
 UnexpectedOnClient first p n (KeepAlive keepalive) = IsNew p n ⊎ IsLeft p n
 UnexpectedOnClient first p n EndA1 = IsNew p n ⊎ IsLeft p n ⊎ IsEnded p n ⊎ HasPdu p (suc n)
 UnexpectedOnClient first p n (InR1A5 successor) = IsNew p n ⊎ IsLeft p n ⊎ IsUntold first p n

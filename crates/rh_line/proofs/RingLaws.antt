@@ -3,7 +3,7 @@ use Rattle.std.proofs.Common.{◌≡◌, ℕ, ◌≤◌, ◌==◌, false, List, 
 use Rattle.std.proofs.Common.{refl, sym, ◌∙◌, ap, subst, arith}
 use Rattle.std.proofs.lemmas.List.{length-append, take_at, drop_at}
 use Rattle.std.specs.List.{concat, AllByRecursion}
-use Rattle.rh_pdu.specs.Header.{frag_of}
+use Rattle.rh_pdu.specs.Header.{frag_of, greatest_length, header_length}
 use Rattle.rh_pdu.specs.Frames.{IsFrame, IsPdu}
 use Rattle.rh_pdu.specs.Cut.{frames_of}
 use Rattle.rh_pdu.proofs.Cuts.{frame_at}
@@ -48,9 +48,9 @@ pushed bytes pdu h is =
 
 -- the first PDU and those behind it
 pub record Begins (bytes : List ℕ) (pdus : List (List ℕ)) (len : ℕ) : Type 0 where
-  pub header : 16 ≤ length bytes
+  pub header : header_length ≤ length bytes
   pub within : len ≤ length bytes
-  pub long : len ≤ 8192
+  pub long : len ≤ greatest_length
   pub told : frag_of bytes ≡ len
   pub first : slice_get pdus 0 ≡ Some (take len bytes)
   pub rest : frames_of (drop len bytes) ≡ behind pdus

@@ -1,10 +1,11 @@
 -- queues of PDUs
 use Rattle.std.specs.Prelude.{ℕ, ◌+◌, ◌-◌, ◌==◌, ◌++◌, if◌then◌else◌, List, [], ◌∷◌, length, drop, Some, None}
 use Rattle.std.specs.declared.option.Option.{Option}
+use Rattle.rh_line.specs.declared.send_line.TheConstants.{QUEUE_BYTES}
 
 -- the most bytes of PDUs that a queue holds
 abbrev pub queue_bytes : ℕ
-queue_bytes = 262144
+queue_bytes = QUEUE_BYTES
 
 -- the bytes of all PDUs together
 abbrev pub total : List (List ℕ) → ℕ

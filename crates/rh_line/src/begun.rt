@@ -6,33 +6,37 @@ ghost use Rattle.std.specs.List.{concat};
 ghost use Rattle.rh_line.specs.Queue.{untouched};
 
 use crate::send_line::SendLine;
+use rh_pdu::header::GREATEST_FRAG;
 use std::marker::Model;
 
 /// The bytes still to be drawn of a PDU, in an array of its own.
 #[derive(Drop)]
-pub struct Begun {
-    room: [u8; 8192],
+pub struct BegunPdu {
+    room: [u8; GREATEST_FRAG],
     from: usize,
     to: usize,
 }
 
-impl Model for Begun {
+impl Model for BegunPdu {
     ghost use Rattle.std.specs.Prelude.{List, ℕ, take, drop, ◌≤◌};
+    ghost use Rattle.rh_pdu.specs.Header.{greatest_length};
 
     ghost Value = { List ℕ };
 
     ghost view = { λ a. drop a.from (take a.to a.room) };
 
-    ghost invariant = { λ a. (a.from ≤ a.to) × (a.to ≤ 8192) };
+    ghost invariant = { λ a. (a.from ≤ a.to) × (a.to ≤ greatest_length) };
 }
 
-impl Begun {
+impl BegunPdu {
+    ghost use Rattle.rh_pdu.specs.Header.{greatest_length};
+
     /// No PDU.
-    pub fn new() -> Begun
+    pub fn new() -> BegunPdu
         ensures { result ≡ [] }
     {
-        Begun {
-            room: [0; 8192],
+        BegunPdu {
+            room: [0; GREATEST_FRAG],
             from: 0,
             to: 0,
         }
@@ -41,7 +45,7 @@ impl Begun {
     /// How many bytes are still to be drawn: 0 to 8,192.
     pub fn len(&self) -> usize
         ensures bytes { result ≡ length self.now }
-        ensures most { result ≤ 8192 }
+        ensures most { result ≤ greatest_length }
     {
         self.to - self.from
     }
@@ -76,7 +80,7 @@ impl Begun {
 /// has, or all where there are fewer. Answers how many.
 ///
 /// A PDU leaves the queue when its first byte is drawn.
-pub fn draw(queue: &mut SendLine, begun: &mut Begun, room: &mut [u8]) -> usize
+pub fn draw(queue: &mut SendLine, begun: &mut BegunPdu, room: &mut [u8]) -> usize
     ensures count { result ≡ length (take (length room.old) (begun.old ++ concat queue.old)) }
     ensures room { room.new
         ≡ take (length room.old) (begun.old ++ concat queue.old) ++ drop result room.old }

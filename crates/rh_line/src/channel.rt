@@ -7,6 +7,7 @@ ghost use Rattle.rh_line.specs.Queue.{front_length, put_first};
 
 use crate::line_fault::LineFault;
 use crate::pdu_ring::PduRing;
+use rh_pdu::header::GREATEST_FRAG;
 use rh_window::{Ack, RecvWindow};
 use std::alloc::{AllocError, Global};
 use std::marker::Model;
@@ -133,7 +134,7 @@ impl Channel {
 
     /// Takes the first PDU out and releases it to the window, puts it at the front of the room and
     /// answers its length. The room behind it stays. `None` exactly where there is no PDU.
-    pub(crate) fn take(&mut self, room: &mut [u8; 8192]) -> Option<u16>
+    pub(crate) fn take(&mut self, room: &mut [u8; GREATEST_FRAG]) -> Option<u16>
         ensures len { result ≡ front_length self.old.pdus }
         ensures room { room.new ≡ put_first self.old.pdus room.old }
         ensures new { self.new ≡ released self.old.pdus self.old }

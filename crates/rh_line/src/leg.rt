@@ -1,5 +1,8 @@
 //! The legs of a virtual connection.
 
+/// The greatest number of a leg.
+pub const LAST_NUMBER: u32 = 4_294_967_295;
+
 /// Between which roles a leg runs. The order is that in which legs are looked at.
 #[derive(Clone, Copy, Debug, PartialEq, Eq)]
 pub enum LegKind {

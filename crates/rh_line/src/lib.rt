@@ -18,14 +18,14 @@ pub mod state;
 pub mod texts;
 pub mod which;
 
-pub use begun::{Begun, draw};
+pub use begun::{BegunPdu, draw};
 pub use cause::Cause;
 pub use give_fault::GiveFault;
 pub use laws::{
     all_was_taken_or_is_held, ends_are_kept, held_bytes_are_within_windows, histories_are_of_lines,
     lines_keep_order, lines_keep_to_their_windows,
 };
-pub use leg::{Leg, LegKind};
+pub use leg::{LAST_NUMBER, Leg, LegKind};
 pub use line_fault::LineFault;
 pub use line_take::LineTake;
 pub use recv_line::RecvLine;

@@ -4,12 +4,12 @@ ghost use Rattle.std.specs.Prelude.{◌≡◌, ◌+◌, ◌≤◌, [], ◌∷◌
 ghost use Rattle.std.specs.List.{AllByRecursion};
 ghost use Rattle.rh_pdu.specs.Cut.{frames_of};
 ghost use Rattle.rh_pdu.specs.Frames.{IsPdu};
-ghost use Rattle.rh_pdu.specs.Header.{frag_of, header_length};
+ghost use Rattle.rh_pdu.specs.Header.{frag_of, greatest_length, header_length};
 ghost use Rattle.rh_line.specs.Queue.{behind, front_length, total};
 ghost use Rattle.rh_line.specs.Rings.{IsEndToEnd};
 
 use circular_buffer::HeapCircularBuffer;
-use rh_pdu::header::LITTLE_ENDIAN;
+use rh_pdu::header::{FRAG_AT, GREATEST_FRAG, LITTLE_ENDIAN, ORDER_AT};
 use std::alloc::{AllocError, Global};
 use std::marker::Model;
 
@@ -69,9 +69,10 @@ impl PduRing {
 
     /// Takes the first PDU out, puts it at the front of the room and answers its length, 16 to
     /// 8,192 bytes. The room behind it stays. `None` exactly where there is no PDU.
-    pub(crate) fn pop(&mut self, room: &mut [u8; 8192]) -> Option<u16>
+    #[inline(always)]
+    pub(crate) fn pop(&mut self, room: &mut [u8; GREATEST_FRAG]) -> Option<u16>
         ensures some { IfSome result (λ len. slice_get self.old.pdus 0 ≡ Some (take len room.new)) }
-        ensures long { IfSome result (λ len. len ≤ 8192) }
+        ensures long { IfSome result (λ len. len ≤ greatest_length) }
         ensures room { IfSome result (λ len. drop len room.new ≡ drop len room.old) }
         ensures rest { self.new ≡ ring (behind self.old.pdus) self.old.room }
         ensures none { IfNone result ((self.old.pdus ≡ []) × (room.new ≡ room.old)) }
@@ -89,9 +90,9 @@ fn front_frag(bytes: &HeapCircularBuffer<u8>) -> u16
     ensures { result ≡ frag_of bytes.now.items }
 {
     let (Some(order), Some(first), Some(last)) = (
-        bytes.nth_front(4),
-        bytes.nth_front(8),
-        bytes.nth_front(9),
+        bytes.nth_front(ORDER_AT),
+        bytes.nth_front(FRAG_AT),
+        bytes.nth_front(FRAG_AT + 1),
     ) else {
         unreachable!()
     };
@@ -107,7 +108,7 @@ fn first_length(bytes: &HeapCircularBuffer<u8>) -> Option<u16>
     requires { IsEndToEnd bytes.now.items }
     ensures len { result ≡ front_length (frames_of bytes.now.items) }
     ensures within { IfSome result (λ len. len ≤ length bytes.now.items) }
-    ensures long { IfSome result (λ len. len ≤ 8192) }
+    ensures long { IfSome result (λ len. len ≤ greatest_length) }
 {
     if bytes.is_empty() {
         return None;

@@ -9,6 +9,7 @@ use crate::channel::Channel;
 use crate::line_fault::LineFault;
 use crate::line_take::LineTake;
 use crate::which::Which;
+use rh_pdu::header::GREATEST_FRAG;
 use rh_window::{Ack, RecvWindow};
 use std::alloc::{AllocError, Global};
 use std::marker::Model;
@@ -226,7 +227,7 @@ impl RecvLine {
     ///
     /// Answers `Ended` exactly where none is there and END came on the current channel or on one
     /// that was current before. Behind the last PDU of a finished channel the next one is current.
-    pub fn take(&mut self, room: &mut [u8; 8192]) -> LineTake
+    pub fn take(&mut self, room: &mut [u8; GREATEST_FRAG]) -> LineTake
         ensures answer { result ≡ take_answer self.old }
         ensures room { room.new ≡ put_first self.old.current.pdus room.old }
         ensures new { self.new ≡ after_take self.old }

@@ -4,9 +4,11 @@ ghost use Rattle.std.specs.Prelude.{◌≡◌, ◌+◌, ◌≤◌, ◌↔◌, �
 ghost use Rattle.std.specs.Bool.{OnTrue, OnFalse};
 ghost use Rattle.std.specs.List.{AllByRecursion};
 ghost use Rattle.rh_pdu.specs.Frames.{IsPdu};
+ghost use Rattle.rh_pdu.specs.Header.{greatest_length};
 ghost use Rattle.rh_line.specs.Queue.{behind, front_length, total};
 
 use crate::pdu_ring::PduRing;
+use rh_pdu::header::GREATEST_FRAG;
 use std::alloc::{AllocError, Global};
 use std::marker::Model;
 
@@ -75,9 +77,9 @@ impl SendLine {
 
     /// Takes the first PDU out, puts it at the front of the room and answers its length, 16 to
     /// 8,192 bytes. The room behind it stays. `None` exactly where the queue is empty.
-    pub fn pop(&mut self, room: &mut [u8; 8192]) -> Option<u16>
+    pub fn pop(&mut self, room: &mut [u8; GREATEST_FRAG]) -> Option<u16>
         ensures some { IfSome result (λ len. slice_get self.old 0 ≡ Some (take len room.new)) }
-        ensures long { IfSome result (λ len. len ≤ 8192) }
+        ensures long { IfSome result (λ len. len ≤ greatest_length) }
         ensures room { IfSome result (λ len. drop len room.new ≡ drop len room.old) }
         ensures rest { self.new ≡ behind self.old }
         ensures none { IfNone result ((self.old ≡ []) × (room.new ≡ room.old)) }

@@ -5,11 +5,13 @@ use Rattle.rh_text.specs.declared.ends.Side.{Side}
 use Rattle.rh_text.specs.declared.ends.Side.TheVariants.{Client, Server}
 use Rattle.rh_record.specs.declared.line.Line.{Line}
 use Rattle.rh_record.specs.declared.line.Line.TheVariants.{First, Give, Close, Settle}
+use Rattle.rh_make.specs.declared.count.TheConstants.{MOST_GIVEN}
+use Rattle.rh_make.specs.declared.making.TheConstants.{ROUNDS, SETTLED_AFTER}
 use Rattle.rh_make.specs.Requests.{pdu}
 
 -- how many PDUs may be given
 abbrev pub IsCount : ℕ → Type 0
-IsCount n = (1 ≤ n) × (n ≤ 10000)
+IsCount n = (1 ≤ n) × (n ≤ MOST_GIVEN)
 
 -- ---- the lines
 
@@ -18,11 +20,11 @@ abbrev pub giver : ℕ → Side
 giver i = if i % 2 == 1 then Client else Server
 
 abbrev pub settle : Line
-settle = Settle 1000
+settle = Settle ROUNDS
 
--- whether all settles behind PDU i of n: behind each 16th, and behind the last
+-- whether all settles behind PDU i of n: behind so many each, and behind the last
 abbrev pub settles : ℕ → ℕ → Bool
-settles n i = i % 16 == 0 || i == n
+settles n i = i % SETTLED_AFTER == 0 || i == n
 
 -- the lines of PDU i
 abbrev pub turn : ℕ → ℕ → List Line

@@ -3,10 +3,11 @@
 use Rattle.std.specs.Prelude.{ℕ, ◌+◌, ◌-◌, ◌*◌, ◌%◌, List, [], ◌∷◌, ◌++◌, replicate}
 use Rattle.std.specs.Int.{w16, w32, to_le_bytes}
 use Rattle.rh_pdu.specs.Header.{header_length}
+use Rattle.rh_make.specs.declared.requests.TheConstants.{LEAST_SIZE, SIZE_STEP, SIZES}
 
 -- how many bytes PDU i has
 abbrev pub size : ℕ → ℕ
-size i = 24 + i * 613 % 5000
+size i = LEAST_SIZE + i * SIZE_STEP % SIZES
 
 -- version 5.0, PTYPE 0, first and last fragment, least significant byte first, no authentication;
 -- the call is i

@@ -14,7 +14,10 @@ use std::alloc::{AllocError, Global};
 use std::marker::Model;
 
 /// How many rounds a settling has at most.
-const ROUNDS: u32 = 1000;
+pub const ROUNDS: u32 = 1000;
+
+/// Behind each so many PDUs all settles.
+pub const SETTLED_AFTER: u32 = 16;
 
 /// The world of the lines so far, and what they were answered comes to.
 #[derive(Drop)]
@@ -48,7 +51,7 @@ fn giver(number: u32) -> Side
 fn settles(count: u32, number: u32) -> bool
     ensures { result ≡ lines.settles count number }
 {
-    number % 16 == 0 || number == count
+    number % SETTLED_AFTER == 0 || number == count
 }
 
 impl Making {

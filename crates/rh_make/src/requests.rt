@@ -7,12 +7,21 @@ use rh_pdu::header::{HEADER_LEN, VERSION};
 use rh_record::Bytes;
 use std::alloc::{AllocError, Global};
 
+/// The least size of a PDU, in bytes.
+pub const LEAST_SIZE: u16 = 24;
+
+/// By how many bytes the size rises from one PDU to the next, as long as it is one that there is.
+pub const SIZE_STEP: u64 = 613;
+
+/// How many sizes there are, from the least on.
+pub const SIZES: u64 = 5000;
+
 /// How many bytes a PDU of this number has: 24 to 5,023.
 fn size(number: u32) -> u16
     ensures { result ≡ seen.size number }
 {
-    let more = u64::from(number) * 613 % 5000;
-    24 + more as u16
+    let more = u64::from(number) * SIZE_STEP % SIZES;
+    LEAST_SIZE + more as u16
 }
 
 /// Its header: version 5.0, a request, first and last fragment, the least byte of a number first,

@@ -130,8 +130,8 @@ pub record AreMade (numbers : Numbers) (moves : Moves) : Type 0 where
   pub client_counted : AreCountedAtEnd clients.rules clients.acts
       (end_started (client_state.first numbers.client)) moves.client
   pub client_up : AreUpFirst [] moves.client
-  pub server : AreAllowedAtEnd servers.rules servers.acts (end_started (servers.first numbers.window))
-      moves.server
+  pub server : AreAllowedAtEnd servers.rules servers.acts
+      (end_started (servers.first numbers.window)) moves.server
   pub server_counted : AreCountedAtEnd servers.rules servers.acts
       (end_started (servers.first numbers.window)) moves.server
   pub server_up : AreUpFirst [] moves.server

@@ -14,7 +14,7 @@ use Rattle.rh_nodes.specs.Places as places
 use Rattle.rh_nodes.specs.Company as company
 use Rattle.rh_nodes.specs.Company.{Company, Rulebook, with_ins, with_outs}
 use Rattle.rh_nodes.specs.Opening.{Makers, connect}
-use Rattle.rh_nodes.specs.declared.opening.TheConstants.{NO_COOKIE}
+use Rattle.rh_rts.specs.declared.command.TheConstants.{NO_COOKIE}
 use Rattle.rh_nodes.specs.Settling.{leg_at, open_next, opened}
 use Rattle.rh_nodes.specs.World.{World, tell, was_told}
 

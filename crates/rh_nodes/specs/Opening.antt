@@ -12,7 +12,7 @@ use Rattle.rh_shell.specs.Shells as shell
 use Rattle.rh_shell.specs.Shells.{Shell}
 use Rattle.rh_nodes.specs.declared.place.Place.{Place}
 use Rattle.rh_nodes.specs.declared.place.Place.TheVariants.{Absent, Here}
-use Rattle.rh_nodes.specs.declared.opening.TheConstants.{NO_COOKIE}
+use Rattle.rh_rts.specs.declared.command.TheConstants.{NO_COOKIE}
 use Rattle.rh_nodes.specs.Numbered.{ask, put_at}
 use Rattle.rh_nodes.specs.Places.{is_absent}
 use Rattle.rh_nodes.specs.Company as company

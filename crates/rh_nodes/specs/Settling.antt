@@ -6,12 +6,14 @@ use Rattle.rh_text.specs.declared.ends.Side.TheVariants.{Client, Server}
 use Rattle.rh_text.specs.declared.ends.Dir.{Dir}
 use Rattle.rh_text.specs.declared.ends.Dir.TheVariants.{U, D}
 use Rattle.rh_line.specs.declared.leg.Leg.{Leg}
+use Rattle.rh_line.specs.declared.leg.TheConstants.{LAST_NUMBER}
 use Rattle.rh_line.specs.declared.leg.LegKind.{LegKind}
 use Rattle.rh_line.specs.declared.leg.LegKind.TheVariants.{ClientOut, OutServer, ClientIn, InServer}
 use Rattle.rh_record.specs.declared.answer.Answer.{Answer}
 use Rattle.rh_record.specs.declared.answer.Answer.TheVariants as answer
 use Rattle.rh_record.specs.declared.answer.TakeAnswer.{TakeAnswer}
 use Rattle.rh_record.specs.declared.answer.TakeAnswer.TheVariants as takes
+use Rattle.rh_nodes.specs.declared.settling.TheConstants.{MOST_BYTES}
 use Rattle.rh_nodes.specs.Breaking.{is_up, end_leg}
 use Rattle.rh_nodes.specs.Carrying.{send, feed}
 use Rattle.rh_nodes.specs.Company as company
@@ -54,18 +56,18 @@ open_next_in r m leg w =
 abbrev pub next_number : ℕ → ℕ
 next_number len = max len 1
 
--- there is no number above 4,294,967,295
+-- there is no number above the last one
 abbrev pub open_client_outs : {K C S I O : Type 0} → Rulebook C S I O → Makers K I O
     → World K C S I O → World K C S I O × List Answer
 open_client_outs r m w =
-    if nat_le (next_number (length w.legs.client_out)) 4294967295
+    if nat_le (next_number (length w.legs.client_out)) LAST_NUMBER
     then open_next r m (leg_at ClientOut (next_number (length w.legs.client_out))) w
     else (w, [])
 
 abbrev pub open_client_ins : {K C S I O : Type 0} → Rulebook C S I O → Makers K I O
     → World K C S I O → World K C S I O × List Answer
 open_client_ins r m w =
-    if nat_le (next_number (length w.legs.client_in)) 4294967295
+    if nat_le (next_number (length w.legs.client_in)) LAST_NUMBER
     then open_next_in r m (leg_at ClientIn (next_number (length w.legs.client_in))) w
     else (w, [])
 
@@ -89,7 +91,7 @@ open_all r m w =
 -- ---- part 2: each leg that is up carries what it can, first towards the server
 
 abbrev pub most_bytes : ℕ
-most_bytes = 65536
+most_bytes = MOST_BYTES
 
 abbrev pub carry_bytes : {K C S I O : Type 0} → Rulebook C S I O → Leg → Dir
     → World K C S I O → World K C S I O × Option (List ℕ)

@@ -7,6 +7,7 @@ ghost use Rattle.rh_nodes.specs.Giving as seen;
 use crate::cast::Cast;
 use crate::nodes::Nodes;
 use rh_line::{GiveFault, Take};
+use rh_pdu::header::GREATEST_FRAG;
 use rh_record::{Answer, Side, TakeAnswer};
 use rh_shell::{EndRole, Shell};
 use rh_text::Bytes;
@@ -42,7 +43,7 @@ fn first_pdu(alloc: Global, room: &[u8], len: u16) -> Result<Bytes, AllocError>
 fn take_from<R: EndRole>(
     alloc: Global,
     node: &mut Shell<R>,
-    room: &mut [u8; 8192],
+    room: &mut [u8; GREATEST_FRAG],
 ) -> Result<TakeAnswer, AllocError>
     ensures { IfOk result (λ answer. (node.new, answer) ≡ seen.take_from R.acts node.old) }
 {

@@ -30,6 +30,7 @@ use crate::legs::Legs;
 use crate::places::Places;
 use crate::readers::Readers;
 use rh_line::{Leg, LegKind};
+use rh_pdu::header::GREATEST_FRAG;
 use rh_record::{Side, Who};
 use std::alloc::{AllocError, Global};
 use std::marker::Model;
@@ -56,7 +57,7 @@ pub struct Nodes<K: Cast> {
     /// Where bytes are drawn before they go into flight.
     pub(crate) room: Vec<u8>,
     /// Where a PDU is put that is taken.
-    pub(crate) taken: [u8; 8192],
+    pub(crate) taken: [u8; GREATEST_FRAG],
 }
 
 impl<K: Cast> Model for Nodes<K> {
@@ -126,7 +127,7 @@ impl<K: Cast> Nodes<K> {
             same,
             closed: Closings::new(alloc),
             room: Vec::new(alloc),
-            taken: [0; 8192],
+            taken: [0; GREATEST_FRAG],
         })
     }
 

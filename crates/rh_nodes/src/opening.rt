@@ -9,12 +9,9 @@ use crate::cast::Cast;
 use crate::nodes::Nodes;
 use rh_line::{Leg, LegKind};
 use rh_record::{Side, Who};
-use rh_rts::Cookie;
+use rh_rts::{Cookie, NO_COOKIE};
 use rh_shell::{Role, Shell};
 use std::alloc::{AllocError, Global};
-
-/// What a node is told as the cookie of a leg that is not the client's. It is passed over.
-pub const NO_COOKIE: Cookie = Cookie([0; 16]);
 
 /// The node at this moment.
 fn at_moment<R: Role>(node: Shell<R>, now: u64) -> Shell<R>
@@ -181,7 +178,7 @@ impl<K: Cast> Nodes<K> {
     }
 
     /// Connects a leg of the server, where one end wants it and the other may have it up. Answers
-    /// whether it is up.
+    /// whether it is up. The cookie that its ends are told is passed over.
     fn open_server(&mut self, leg: Leg) -> Result<bool, AllocError>
         ensures { IfOk result (λ ok. (self.new, ok) ≡ seen.open_server
             (rules_of K.Client.rules K.Server.rules K.InProxy.rules K.OutProxy.rules)

@@ -35,6 +35,7 @@ pub fn make_room<T: Copy>(
 }
 
 /// The first `count` bytes, as a list of their own.
+#[inline(always)]
 fn front_of(
     alloc: Global,
     ring: &HeapCircularBuffer<u8>,

@@ -10,15 +10,16 @@ ghost use Rattle.rh_nodes.specs.Settling as seen;
 use crate::cast::Cast;
 use crate::nodes::Nodes;
 use crate::wire::sender;
-use rh_line::{Leg, LegKind};
+use rh_line::{LAST_NUMBER, Leg, LegKind};
 use rh_record::{Answer, Dir, Report, Side, TakeAnswer};
 use rh_text::Bytes;
 use std::alloc::{AllocError, Global};
 
-// What is done to a leg, here and where bytes are carried, is inlined into the loops over the legs of
-// a kind: in each of them the nodes at a leg's ends are known.
+// What is done to a leg, here and where bytes are carried, is inlined into the loops over the legs
+// of a kind: in each of them the nodes at a leg's ends are known.
 
-/// How many bytes a round carries at most on a leg in a direction.
+/// How many bytes a round carries at most on a leg in a direction. What a line may tell of bytes is
+/// bounded by a number of its own.
 pub const MOST_BYTES: u32 = 65_536;
 
 impl<K: Cast> Nodes<K> {
@@ -67,7 +68,7 @@ impl<K: Cast> Nodes<K> {
             result self.new report.old report.new }
     {
         let number = self.legs.len(LegKind::ClientOut).max(1);
-        if number > u64::from(u32::MAX) {
+        if number > u64::from(LAST_NUMBER) {
             return Ok(());
         }
         let leg = Leg {
@@ -85,7 +86,7 @@ impl<K: Cast> Nodes<K> {
             result self.new report.old report.new }
     {
         let number = self.legs.len(LegKind::ClientIn).max(1);
-        if number > u64::from(u32::MAX) {
+        if number > u64::from(LAST_NUMBER) {
             return Ok(());
         }
         let leg = Leg {

@@ -14,33 +14,34 @@ use Rattle.rh_nodes.specs.Opening.{Makers}
 use Rattle.rh_nodes.specs.Steps.{last, last_of, told}
 use Rattle.rh_nodes.specs.World.{World}
 use Rattle.rh_events.specs.Events.{Event, event, events, given, offered, taken}
-use Rattle.rh_ordered.specs.Counted.{CountsCapped, capped}
+use Rattle.rh_ordered.specs.Counted.{CountsCapped, capped_count}
 use Rattle.rh_ordered.proofs.Passing.{count_more, counted, counts_of}
 use Rattle.rh_ordered.proofs.Counting.{CountsTold, reports}
 
 -- ---- counts from none
 
-one_capped : (n : ℕ) → one_more (capped n) ≡ capped (n + 1)
+one_capped : (n : ℕ) → one_more (capped_count n) ≡ capped_count (n + 1)
 one_capped n = omega arith
 
 more_capped : (pdus : List (List ℕ)) (n : ℕ)
-    → count_more pdus (capped n) ≡ capped (n + length pdus)
-more_capped [] n = ap capped (omega arith)
+    → count_more pdus (capped_count n) ≡ capped_count (n + length pdus)
+more_capped [] n = ap capped_count (omega arith)
 more_capped (pdu ∷ pdus) n =
-    ap (count_more pdus) (one_capped n) ∙ more_capped pdus (n + 1) ∙ ap capped (omega arith)
+    ap (count_more pdus) (one_capped n) ∙ more_capped pdus (n + 1) ∙ ap capped_count (omega arith)
 
-from_none : (pdus : List (List ℕ)) → count_more pdus 0 ≡ capped (length pdus)
-from_none pdus = more_capped pdus 0 ∙ ap capped (omega arith)
+from_none : (pdus : List (List ℕ)) → count_more pdus 0 ≡ capped_count (length pdus)
+from_none pdus = more_capped pdus 0 ∙ ap capped_count (omega arith)
 
 counted_none : (begun now : Counts) (gave took gave_all took_all : List (List ℕ))
     → begun ≡ none → now ≡ counted begun gave took → gave_all ≡ gave → took_all ≡ took
-    → now ≡ counts_of (capped (length gave_all)) (capped (length took_all))
+    → now ≡ counts_of (capped_count (length gave_all)) (capped_count (length took_all))
 counted_none begun now gave took gave_all took_all from is gives takes =
     is ∙ ap (λ counts. counted counts gave took) from
     ∙ ap (λ n. counts_of n (count_more took 0)) (from_none gave)
-    ∙ ap (counts_of (capped (length gave))) (from_none took)
-    ∙ ap (λ pdus. counts_of (capped (length pdus)) (capped (length took))) (sym gives)
-    ∙ ap (λ pdus. counts_of (capped (length gave_all)) (capped (length pdus))) (sym takes)
+    ∙ ap (counts_of (capped_count (length gave))) (from_none took)
+    ∙ ap (λ pdus. counts_of (capped_count (length pdus)) (capped_count (length took))) (sym gives)
+    ∙ ap (λ pdus. counts_of (capped_count (length gave_all)) (capped_count (length pdus)))
+    (sym takes)
 
 -- ---- the report
 
@@ -82,7 +83,7 @@ module _ {K C S I O : Type 0} (r : Rulebook C S I O) (m : Makers K I O) (d : Dee
             ∙ ap (λ (counts : Counts). at.front ++ Up counts.given counts.taken
             ∷ Down at.v.down.given at.v.down.taken ∷ states) up
             ∙ ap (λ (counts : Counts). at.front
-            ++ Up (capped (length (given Client (offered lines) all)))
-            (capped (length (taken Server all)))
+            ++ Up (capped_count (length (given Client (offered lines) all)))
+            (capped_count (length (taken Server all)))
             ∷ Down counts.given counts.taken ∷ states) down,
       )

@@ -4,6 +4,7 @@ use Rattle.std.proofs.lemmas.Bool.Decides.{nat_tests}
 use Rattle.std.proofs.lemmas.List.Sums.{count_by-le-length}
 use Rattle.std.specs.List.{AllByRecursion, list_any}
 use Rattle.rh_rts.specs.declared.command.Cookie.{Cookie}
+use Rattle.rh_rts.specs.declared.command.TheConstants.{TO_OUT_PROXY}
 use Rattle.rh_sig.specs.declared.named.Named.{Named}
 use Rattle.rh_sig.specs.declared.named.Named.TheVariants as named
 use Rattle.rh_line.specs.declared.leg.Leg.{Leg}
@@ -22,7 +23,7 @@ use Rattle.rh_outproxy.specs.declared.state.Channel.TheVariants as channels
 use Rattle.rh_outproxy.specs.OutProxy.{OutProxy, is_client_marked}
 use Rattle.rh_outproxy.specs.Rows.{Done, is_co, is_os, is_carrying, taken, unexpected, forwarded, forwarded_by, passed_on}
 use Rattle.rh_outproxy.specs.Opening.{conn_c1_by}
-use Rattle.rh_outproxy.specs.Acknowledging.{on_ack, on_ack_to, out_proxy}
+use Rattle.rh_outproxy.specs.Acknowledging.{on_ack, on_ack_to}
 use Rattle.rh_outproxy.specs.Ending.{on_end_b1}
 use Rattle.rh_outproxy.specs.OutReplacement.{on_out_r1_a9}
 use Rattle.rh_outproxy.specs.Machine.{packet, on_co, on_os}
@@ -137,7 +138,7 @@ module _ (s : OutProxy) (room : s.waiting.room ≡ FORWARDED_ROOM)
   ack_place : (to received available : ℕ) (cookie : Cookie)
       → HasPlace (on_ack_to s to received available cookie).1
   ack_place to received available cookie =
-      by_test (λ (x : Done). HasPlace x.1) (to == out_proxy)
+      by_test (λ (x : Done). HasPlace x.1) (to == TO_OUT_PROXY)
       (on_ack s received available cookie)
       (passed_on s to (named.AckTo 0 received available cookie))
       (λ e. own_place s received available cookie)

@@ -3,6 +3,7 @@
 use Rattle.std.specs.Prelude.{ℕ, zero, suc, ◌≡◌, ◌+◌, ◌≤◌, ◌++◌, Bool, true, false, if◌then◌else◌, List, [], ◌∷◌}
 use Rattle.std.specs.List.{AllByRecursion}
 use Rattle.rh_rts.specs.declared.command.Cookie.{Cookie}
+use Rattle.rh_rts.specs.declared.command.TheConstants.{TO_CLIENT}
 use Rattle.rh_sig.specs.declared.named.Named.{Named}
 use Rattle.rh_sig.specs.declared.named.Named.TheVariants.{AckTo, ConnC2, InR1A3, InR1A4, InR2A3, InR2A4, OutR1A2, OutR1A6}
 use Rattle.rh_shell.specs.declared.due.Due.{Due}
@@ -26,7 +27,7 @@ is_in_a3 packet = false
 
 -- an acknowledgement to the client, for the channel with this cookie (MS-RPCH 2.2.4)
 abbrev pub AcksFor : Cookie → Named → Type 0
-AcksFor cookie (AckTo to received window of) = (to ≡ 0) × (of ≡ cookie)
+AcksFor cookie (AckTo to received window of) = (to ≡ TO_CLIENT) × (of ≡ cookie)
 AcksFor cookie packet = ⊥
 
 -- what an out proxy forwards
@@ -36,7 +37,7 @@ IsForwarded (InR1A4 to version window timeout) = Unit {0}
 IsForwarded (InR2A4 to) = Unit {0}
 IsForwarded (OutR1A2 to) = Unit {0}
 IsForwarded (OutR1A6 to version timeout) = Unit {0}
-IsForwarded (AckTo to received window of) = to ≡ 0
+IsForwarded (AckTo to received window of) = to ≡ TO_CLIENT
 IsForwarded packet = ⊥
 
 -- ---- messages

@@ -6,6 +6,7 @@ use Rattle.std.specs.Prelude.{if◌then◌else◌, IfSome}
 use Rattle.std.specs.declared.option.Option.{Option}
 use Rattle.std.specs.declared.result.Result.{Result}
 use Rattle.rh_rts.specs.declared.command.Cookie.{Cookie}
+use Rattle.rh_rts.specs.declared.command.TheConstants.{TO_OUT_PROXY}
 use Rattle.rh_sig.specs.declared.named.Named.{Named}
 use Rattle.rh_sig.specs.declared.named.Named.TheVariants as named
 use Rattle.rh_window.specs.Sides.{Sender}
@@ -28,7 +29,7 @@ use Rattle.rh_outproxy.specs.declared.state.OutProxyConfig.{OutProxyConfig}
 use Rattle.rh_outproxy.specs.OutProxy.{OutProxy, is_server_first, is_known, joined, new_proxy}
 use Rattle.rh_outproxy.specs.Rows.{Done, is_co, is_os, is_first, same_cookie, unexpected, refuse, forwarded, passed_on}
 use Rattle.rh_outproxy.specs.Opening.{up, head, told_length, new_length, successor_length, on_out_r2_c1, conn_c1_by, first_packet}
-use Rattle.rh_outproxy.specs.Acknowledging.{out_proxy, acked, on_ack, on_ack_to, ack_due, ack_row}
+use Rattle.rh_outproxy.specs.Acknowledging.{acked, on_ack, on_ack_to, ack_due, ack_row}
 use Rattle.rh_outproxy.specs.Acknowledging as acks
 use Rattle.rh_outproxy.specs.OutReplacement.{on_out_r1_a9}
 use Rattle.rh_outproxy.specs.Ending.{drawn, mark, on_end_b1}
@@ -134,7 +135,7 @@ ack_window s received available cookie = search rules
 
 os_window : (s : OutProxy) (m : Named) → IsNoWindow (on_os s m).1
 os_window s (named.AckTo to received available cookie) =
-    by_test (λ (x : Done). IsNoWindow x.1) (to == out_proxy) (on_ack s received available cookie)
+    by_test (λ (x : Done). IsNoWindow x.1) (to == TO_OUT_PROXY) (on_ack s received available cookie)
     (passed_on s to (named.AckTo 0 received available cookie))
     (λ e. ack_window s received available cookie)
     (λ e. (passed_plain s to (named.AckTo 0 received available cookie)).1)
@@ -235,12 +236,12 @@ module _ (config : OutProxyConfig) where
 
     acked_row : (received available : ℕ) (cookie : Cookie) → HasBegunOut cookie (of_leg co came)
         → is_known s.channel ≡ true
-        → Row os (named.AckTo out_proxy received available cookie) (acked s received available)
+        → Row os (named.AckTo TO_OUT_PROXY received available cookie) (acked s received available)
     acked_row received available cookie begun known =
         by (ack_verdict s.window received available) refl
       where
         by : (v : Result (Unit {0}) BadAck) → ack_verdict s.window received available ≡ v
-            → Row os (named.AckTo out_proxy received available cookie)
+            → Row os (named.AckTo TO_OUT_PROXY received available cookie)
             (record s { window = after_acked s.window received available }, ack_row v)
         by (Ok applied) e =
             acked_one config (seen s) came put received available cookie begun known h
@@ -253,11 +254,11 @@ module _ (config : OutProxyConfig) where
     ack_row_by : (o : Option Cookie) → IfSome o (λ (cookie : Cookie).
         HasBegunOut cookie (of_leg co came) × (is_known s.channel ≡ true))
         → (received available : ℕ) (other : Cookie)
-        → Row os (named.AckTo out_proxy received available other)
+        → Row os (named.AckTo TO_OUT_PROXY received available other)
         (acks.ack_by o s received available other)
     ack_row_by None begun received available other = h
     ack_row_by (Some cookie) begun received available other =
-        by_test (Row os (named.AckTo out_proxy received available other))
+        by_test (Row os (named.AckTo TO_OUT_PROXY received available other))
         (same_cookie cookie other) (acked s received available)
         (refuse s (refused.Cookie cookie other))
         (λ e. acked_row received available other
@@ -269,11 +270,11 @@ module _ (config : OutProxyConfig) where
         → Row os (named.AckTo to received available cookie)
         (on_ack_to s to received available cookie)
     ack_to_row to received available cookie =
-        by_test (Row os (named.AckTo to received available cookie)) (to == out_proxy)
+        by_test (Row os (named.AckTo to received available cookie)) (to == TO_OUT_PROXY)
         (on_ack s received available cookie)
         (passed_on s to (named.AckTo 0 received available cookie))
         (λ e. subst (λ (n : ℕ). Row os (named.AckTo n received available cookie)
-        (on_ack s received available cookie)) (sym (eqb-true to out_proxy e))
+        (on_ack s received available cookie)) (sym (eqb-true to TO_OUT_PROXY e))
         (ack_row_by (joined s.channel)
         (joined_begun s.channel (of_leg co came) h.begun) received available cookie))
         (λ e. passed_row (named.AckTo to received available cookie) to
@@ -427,11 +428,11 @@ module _ (config : OutProxyConfig) where
     refused_ack : (o : Option Cookie) → IfSome o (λ (cookie : Cookie).
         HasBegunOut cookie (of_leg co came) × (is_known s.channel ≡ true))
         → (received available : ℕ) (other : Cookie)
-        → Refuses os (named.AckTo out_proxy received available other)
+        → Refuses os (named.AckTo TO_OUT_PROXY received available other)
         (acks.ack_by o s received available other)
     refused_ack None begun received available other = tt
     refused_ack (Some cookie) begun received available other =
-        by_test (Refuses os (named.AckTo out_proxy received available other))
+        by_test (Refuses os (named.AckTo TO_OUT_PROXY received available other))
         (same_cookie cookie other) (acked s received available)
         (refuse s (refused.Cookie cookie other))
         (λ e. verdict e (ack_verdict s.window received available)
@@ -440,7 +441,7 @@ module _ (config : OutProxyConfig) where
       where
         verdict : same_cookie cookie other ≡ true → (v : Result (Unit {0}) BadAck)
             → IsFalse s.window received available v
-            → Refuses os (named.AckTo out_proxy received available other)
+            → Refuses os (named.AckTo TO_OUT_PROXY received available other)
             (record s { window = after_acked s.window received available }, ack_row v)
         verdict e (Ok applied) is = tt
         verdict e (Err bad) is = (
@@ -453,11 +454,11 @@ module _ (config : OutProxyConfig) where
 
     refused_os : (m : Named) → Refuses os m (on_os s m)
     refused_os (named.AckTo to received available cookie) =
-        by_test (Refuses os (named.AckTo to received available cookie)) (to == out_proxy)
+        by_test (Refuses os (named.AckTo to received available cookie)) (to == TO_OUT_PROXY)
         (on_ack s received available cookie)
         (passed_on s to (named.AckTo 0 received available cookie))
         (λ e. subst (λ (n : ℕ). Refuses os (named.AckTo n received available cookie)
-        (on_ack s received available cookie)) (sym (eqb-true to out_proxy e))
+        (on_ack s received available cookie)) (sym (eqb-true to TO_OUT_PROXY e))
         (refused_ack (joined s.channel)
         (joined_begun s.channel (of_leg co came) h.begun) received available cookie))
         (λ e. in_range os (named.AckTo to received available cookie)

@@ -3,6 +3,7 @@ use Rattle.std.proofs.Common.{◌≡◌, ◌⊎◌, ℕ, ◌+◌, ◌≤◌, Boo
 use Rattle.std.specs.Prelude.{IfSome}
 use Rattle.std.proofs.lemmas.Bool.Decides.{nat_tests}
 use Rattle.rh_rts.specs.declared.command.Cookie.{Cookie}
+use Rattle.rh_rts.specs.declared.command.TheConstants.{TO_OUT_PROXY}
 use Rattle.rh_window.specs.Sides.{Sender}
 use Rattle.rh_window.specs.Sending.{unsent, may_send, after_sent, after_acked}
 use Rattle.rh_sig.specs.declared.named.Named.{Named}
@@ -16,7 +17,6 @@ use Rattle.rh_shell.specs.Wires.{of_leg}
 use Rattle.rh_outproxy.specs.declared.state.Channel.{Channel}
 use Rattle.rh_outproxy.specs.declared.state.Channel.TheVariants as channels
 use Rattle.rh_outproxy.specs.declared.state.OutProxyConfig.{OutProxyConfig}
-use Rattle.rh_outproxy.specs.Acknowledging.{out_proxy}
 use Rattle.rh_outproxy.specs.OutProxy.{is_known, joined}
 use Rattle.rh_passages.specs.Passing.{pdu_bytes, count_of, Has, BeginsOut, HasBegunOut}
 use Rattle.rh_passages.proofs.Messages.{leg_more, has_more, has_last, one_more_so, last_one_so, count_append, count_rises}
@@ -96,8 +96,8 @@ module _ (n : ℕ) (came : List OnLeg) where
     received = h.received;
     available = h.available;
     cookie = h.cookie;
-    has = more_keeps (Has (AckTo out_proxy h.received h.available h.cookie))
-        (has_more (AckTo out_proxy h.received h.available h.cookie)) (os_leg n) came one h.has;
+    has = more_keeps (Has (AckTo TO_OUT_PROXY h.received h.available h.cookie))
+        (has_more (AckTo TO_OUT_PROXY h.received h.available h.cookie)) (os_leg n) came one h.has;
     begun = more_keeps (HasBegunOut h.cookie) (one_more_so (BeginsOut h.cookie)) (co_leg n) came
         one h.begun;
     within = h.within;
@@ -207,7 +207,7 @@ module _ (config : OutProxyConfig) (x : Seen) (came put : List OnLeg) where
       → is_known x.channel ≡ true → Sends config x came put
       → (let one : OnLeg = (
         os_leg config.number,
-        Packet (AckTo out_proxy received available cookie),
+        Packet (AckTo TO_OUT_PROXY received available cookie),
       ) in
       Sends config (record {
         config = x.config;
@@ -232,7 +232,7 @@ module _ (config : OutProxyConfig) (x : Seen) (came put : List OnLeg) where
       os = os_leg config.number
 
       packet : Named
-      packet = AckTo out_proxy received available cookie
+      packet = AckTo TO_OUT_PROXY received available cookie
 
       edge : ℕ
       edge = (after_acked x.window received available).edge

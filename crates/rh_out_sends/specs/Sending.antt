@@ -2,6 +2,7 @@
 -- acknowledgements it refuses (MS-RPCH 3.2)
 use Rattle.std.specs.Prelude.{◌≡◌, ◌⊎◌, ◌+◌, ◌<◌, ◌≤◌, ℕ, List, Bool, true, false, Err}
 use Rattle.rh_rts.specs.declared.command.Cookie.{Cookie}
+use Rattle.rh_rts.specs.declared.command.TheConstants.{TO_OUT_PROXY}
 use Rattle.rh_window.specs.declared.range.TheConstants.{GREATEST_WINDOW}
 use Rattle.rh_sig.specs.declared.named.Named.{Named}
 use Rattle.rh_sig.specs.declared.named.Named.TheVariants.{ConnA1, OutR1A3, AckTo}
@@ -13,7 +14,6 @@ use Rattle.rh_shell.specs.Rules.{Row}
 use Rattle.rh_shell.specs.Moves.{OnLeg, Passage}
 use Rattle.rh_shell.specs.Shells.{same_leg}
 use Rattle.rh_shell.specs.Wires.{of_leg}
-use Rattle.rh_outproxy.specs.Acknowledging.{out_proxy}
 use Rattle.rh_outproxy.specs.Machine.{rules}
 use Rattle.rh_outproxy.specs.OutProxy.{OutProxy}
 use Rattle.rh_passages.specs.Passing.{pdu_bytes, count_of, Has, HasBegunOut}
@@ -57,7 +57,7 @@ pub record IsInRoom (n : ℕ) (came : List OnLeg) (bytes : ℕ) : Type 0 where
   pub received : ℕ
   pub available : ℕ
   pub cookie : Cookie
-  pub has : Has (AckTo out_proxy received available cookie) (of_leg (os_leg n) came)
+  pub has : Has (AckTo TO_OUT_PROXY received available cookie) (of_leg (os_leg n) came)
   pub begun : HasBegunOut cookie (of_leg (co_leg n) came)
   pub within : bytes ≤ received + available
 
@@ -71,7 +71,7 @@ MaySend n came bytes = (bytes ≡ 0) ⊎ (IsInWindow n came bytes ⊎ IsInRoom n
 -- from the server, and is of a channel that began
 abbrev pub IsFalseAck : ℕ → List OnLeg → ℕ → Leg → Named → Type 0
 IsFalseAck n came sent leg (AckTo to received available cookie) =
-    (leg ≡ os_leg n) × (to ≡ out_proxy) × HasBegunOut cookie (of_leg (co_leg n) came)
+    (leg ≡ os_leg n) × (to ≡ TO_OUT_PROXY) × HasBegunOut cookie (of_leg (co_leg n) came)
     × ((sent < received) ⊎ (GREATEST_WINDOW < available))
 IsFalseAck n came sent leg packet = ⊥
 

@@ -5,6 +5,7 @@ use Rattle.std.specs.declared.option.Option.{Option}
 use Rattle.std.specs.declared.result.Result.{Result}
 use Rattle.std.specs.List.{list_any}
 use Rattle.rh_rts.specs.declared.command.Cookie.{Cookie}
+use Rattle.rh_rts.specs.declared.command.TheConstants.{TO_OUT_PROXY}
 use Rattle.rh_pdu.specs.Frames.{IsPdu}
 use Rattle.rh_sig.specs.declared.name.Pipe.TheVariants.{CoD}
 use Rattle.rh_sig.specs.declared.named.Named.{Named}
@@ -32,7 +33,7 @@ use Rattle.rh_outproxy.specs.declared.state.Mark.TheVariants as marks
 use Rattle.rh_outproxy.specs.OutProxy.{OutProxy, is_successor, is_client_marked, joined}
 use Rattle.rh_outproxy.specs.Rows.{is_co, is_os, is_first, is_second, same_cookie, refuse, is_carrying, takes_pdus, taken, unexpected, forwarded, forwarded_by, passed_on}
 use Rattle.rh_outproxy.specs.Opening.{told_length, new_length, successor_length, opened, conn_c1_by}
-use Rattle.rh_outproxy.specs.Acknowledging.{acked, ack_row, admitted, line_row, out_proxy, on_pdu, on_ack_to, on_ack, ack_by}
+use Rattle.rh_outproxy.specs.Acknowledging.{acked, ack_row, admitted, line_row, on_pdu, on_ack_to, on_ack, ack_by}
 use Rattle.rh_outproxy.specs.Machine as machine
 use Rattle.rh_outproxy.proofs.FinePackets.{conn_c2_goes, ack_to_goes, in_r1_a4_goes, in_r2_a4_goes, out_r1_a2_goes, out_r1_a6_goes}
 use Rattle.rh_outproxy.proofs.LegibleKept.{HasCookies, MayWait, IsSound, Keeps, keeps_anyhow, keeps_from}
@@ -173,7 +174,7 @@ pub ack_to_keeps : (s : OutProxy) (to received available : ℕ) (of : Cookie)
     → Keeps s (Packet (named.AckTo to received available of)) (on_ack_to s to received available of)
 ack_to_keeps s to received available of =
     let m = Packet (named.AckTo to received available of) in
-    by_test (Keeps s m) (to == out_proxy) (on_ack s received available of)
+    by_test (Keeps s m) (to == TO_OUT_PROXY) (on_ack s received available of)
     (passed_on s to (named.AckTo 0 received available of))
     (λ t. ack_keeps (joined s.channel) s m received available of)
     (λ t. passed_keeps s to m (named.AckTo 0 received available of)

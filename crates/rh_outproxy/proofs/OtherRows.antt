@@ -2,6 +2,7 @@
 use Rattle.std.proofs.Common.{◌≡◌, ℕ, Bool, true, false, ◌&&◌, ◌==◌, nat_lt, if◌then◌else◌, List, [], ◌∷◌, ◌++◌, Some, None, Ok, Err, refl}
 use Rattle.std.specs.declared.option.Option.{Option}
 use Rattle.rh_rts.specs.declared.command.Cookie.{Cookie}
+use Rattle.rh_rts.specs.declared.command.TheConstants.{TO_OUT_PROXY}
 use Rattle.rh_sig.specs.declared.named.Named.{Named}
 use Rattle.rh_sig.specs.declared.named.Named.TheVariants as named
 use Rattle.rh_line.specs.declared.leg.Leg.{Leg}
@@ -20,7 +21,7 @@ use Rattle.rh_outproxy.specs.declared.state.Channel.TheVariants as channels
 use Rattle.rh_outproxy.specs.OutProxy.{OutProxy, is_successor, is_client_marked, joined}
 use Rattle.rh_outproxy.specs.Rows.{Done, is_first, is_second, same_cookie, refuse, is_carrying, taken, unexpected, forwarded, forwarded_by, passed_on}
 use Rattle.rh_outproxy.specs.Opening.{told_length, new_length, successor_length, opened, conn_c1_by}
-use Rattle.rh_outproxy.specs.Acknowledging.{acked, out_proxy, on_ack_to, on_ack, ack_by}
+use Rattle.rh_outproxy.specs.Acknowledging.{acked, on_ack_to, on_ack, ack_by}
 use Rattle.rh_outproxy.specs.Machine as machine
 use Rattle.rh_outproxy.specs.Order.{from_server, to_client, came_log}
 use Rattle.rh_outproxy.proofs.ProxyLaw.{picture_of, AreOther, Law, stays}
@@ -107,7 +108,7 @@ ack_alike (Some cookie) s received available of =
 pub ack_to_alike : (s : OutProxy) (to received available : ℕ) (of : Cookie)
     → Alike s (on_ack_to s to received available of).0
 ack_to_alike s to received available of =
-    by_test (λ (d : Done). Alike s d.0) (to == out_proxy) (on_ack s received available of)
+    by_test (λ (d : Done). Alike s d.0) (to == TO_OUT_PROXY) (on_ack s received available of)
     (passed_on s to (named.AckTo 0 received available of))
     (λ t. ack_alike (joined s.channel) s received available of)
     (λ t. passed_alike s to (named.AckTo 0 received available of) refl)

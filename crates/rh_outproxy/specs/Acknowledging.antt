@@ -3,6 +3,7 @@ use Rattle.std.specs.Prelude.{ℕ, ◌==◌, ◌||◌, List, if◌then◌else◌
 use Rattle.std.specs.declared.option.Option.{Option}
 use Rattle.std.specs.declared.result.Result.{Result}
 use Rattle.rh_rts.specs.declared.command.Cookie.{Cookie}
+use Rattle.rh_rts.specs.declared.command.TheConstants.{TO_CLIENT, TO_OUT_PROXY}
 use Rattle.rh_sig.specs.declared.named.Named.TheVariants.{AckTo}
 use Rattle.rh_window.specs.declared.fault.BadAck.{BadAck}
 use Rattle.rh_window.specs.declared.recv_window.Ack.{Ack}
@@ -56,15 +57,11 @@ ack_by (Some cookie) s received available of =
 abbrev pub on_ack : OutProxy → ℕ → ℕ → Cookie → Done
 on_ack s received available of = ack_by (joined s.channel) s received available of
 
--- the destination of an out proxy
-abbrev pub out_proxy : ℕ
-out_proxy = 3
-
 -- AckTo 3 is applied to the window towards the client; AckTo 0 is forwarded
 abbrev pub on_ack_to : OutProxy → ℕ → ℕ → ℕ → Cookie → Done
 on_ack_to s to received available of =
-    if to == out_proxy then on_ack s received available of
-    else passed_on s to (AckTo 0 received available of)
+    if to == TO_OUT_PROXY then on_ack s received available of
+    else passed_on s to (AckTo TO_CLIENT received available of)
 
 -- ---- the proxy's own acknowledgements
 

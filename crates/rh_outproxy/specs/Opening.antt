@@ -4,6 +4,7 @@ use Rattle.std.specs.Prelude.{ℕ, ◌==◌, ◌&&◌, ◌||◌, List, Bool, fal
 use Rattle.std.specs.declared.option.Option.{Option}
 use Rattle.std.specs.declared.result.Result.{Result}
 use Rattle.rh_rts.specs.declared.command.Cookie.{Cookie}
+use Rattle.rh_http.specs.declared.lengths.TheConstants.{OPENS_OUT, REPLACES_OUT}
 use Rattle.rh_http.specs.declared.fault.HttpFault.{HttpFault}
 use Rattle.rh_http.specs.Lengths.{greatest_echo}
 use Rattle.rh_heads.specs.Verdicts.{Asked, request_verdict}
@@ -84,10 +85,10 @@ told_length (Some request) n = request.length == n
 -- the Content-Length with which a client asks for a channel: the bytes of CONN/A1, and those of
 -- OUT_R1/A3 and OUT_R2/C1
 abbrev pub new_length : ℕ
-new_length = 76
+new_length = OPENS_OUT
 
 abbrev pub successor_length : ℕ
-successor_length = 120
+successor_length = REPLACES_OUT
 
 -- the channel begins, with the client's window
 abbrev pub opened : OutProxy → Channel → ℕ → OutProxy

@@ -2,6 +2,7 @@
 use Rattle.std.specs.Prelude.{ℕ, ◌+◌, ◌&&◌, ◌++◌, List, [], ◌∷◌, length, nat_le, if◌then◌else◌, Some, None}
 use Rattle.std.specs.declared.option.Option.{Option}
 use Rattle.rh_rts.specs.declared.command.Cookie.{Cookie}
+use Rattle.rh_http.specs.declared.lengths.TheConstants.{PING_ROOM}
 use Rattle.rh_http.specs.Texts.{response_text, echo_length}
 use Rattle.rh_sig.specs.declared.named.Named.{Named}
 use Rattle.rh_sig.specs.declared.named.Named.TheVariants.{ConnA3, EndB2, OutR1A10, Ping}
@@ -14,6 +15,7 @@ use Rattle.rh_line.specs.Lines.{is_empty, after_take, after_told}
 use Rattle.rh_shell.specs.declared.due.Due.{Due}
 use Rattle.rh_shell.specs.Rules.{Message, Text, Pdu, Packet}
 use Rattle.rh_shell.specs.Waiting.{with_due}
+use Rattle.rh_outproxy.specs.declared.putting.TheConstants.{PING_LEN}
 use Rattle.rh_outproxy.specs.declared.state.Answer.{Answer}
 use Rattle.rh_outproxy.specs.declared.state.Answer.TheVariants as answers
 use Rattle.rh_outproxy.specs.declared.state.Channel.{Channel}
@@ -39,7 +41,7 @@ or_else (Some pick) later = Some pick
 
 -- the bytes of Pings, which are above the lifetime (profile)
 abbrev pub ping_room : ℕ
-ping_room = 65536
+ping_room = PING_ROOM
 
 -- the Echo packet: the flag ECHO, and no command (MS-RPCH 2.2.3)
 abbrev pub echo_packet : List ℕ
@@ -117,8 +119,8 @@ put_handover s =
 -- a Ping goes within the bytes above the lifetime
 abbrev pub put_ping : OutProxy → Pick
 put_ping s =
-    if is_ping_due s.ping && nat_le (s.pinged + 20) ping_room
-    then Some (record s { ping = NotDue; pinged = s.pinged + 20 }, Packet Ping)
+    if is_ping_due s.ping && nat_le (s.pinged + PING_LEN) ping_room
+    then Some (record s { ping = NotDue; pinged = s.pinged + PING_LEN }, Packet Ping)
     else None
 
 abbrev pub put_mark : OutProxy → Pick

@@ -3,6 +3,7 @@
 use Rattle.std.specs.Prelude.{ℕ, Bool, true, false, not, ◌&&◌, ◌==◌, if◌then◌else◌, is_some, Ok, Err}
 use Rattle.std.specs.Str.{bytes_eq}
 use Rattle.rh_rts.specs.declared.command.Cookie.{Cookie}
+use Rattle.rh_rts.specs.declared.command.TheConstants.{TO_CLIENT}
 use Rattle.rh_sig.specs.declared.named.Named.{Named}
 use Rattle.rh_line.specs.declared.leg.Leg.{Leg}
 use Rattle.rh_line.specs.declared.leg.LegKind.TheVariants.{ClientOut, OutServer}
@@ -87,4 +88,4 @@ forwarded s packet =
 -- a packet for the client is forwarded as this one, as long as the channel carries any
 abbrev pub passed_on : OutProxy → ℕ → Named → Done
 passed_on s to packet =
-    if is_carrying s && (to == 0) then forwarded s packet else unexpected s
+    if is_carrying s && (to == TO_CLIENT) then forwarded s packet else unexpected s

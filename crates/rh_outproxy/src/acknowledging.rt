@@ -3,12 +3,9 @@
 use crate::rows::{Row, same_cookie};
 use crate::state::OutProxyRole;
 use rh_line::{LineFault, Which};
-use rh_rts::Cookie;
+use rh_rts::{Cookie, TO_CLIENT, TO_OUT_PROXY};
 use rh_shell::Refused;
 use rh_sig::Named;
-
-/// The destination of an out proxy.
-const OUT_PROXY: u32 = 3;
 
 impl OutProxyRole {
     ghost use Rattle.std.specs.Prelude.{◌≡◌};
@@ -34,10 +31,10 @@ impl OutProxyRole {
     pub(crate) fn on_ack_to(&mut self, to: u32, received: u32, available: u32, of: Cookie) -> Row
         ensures { (self.new, result) ≡ seen.on_ack_to self.old to received available of }
     {
-        if to == OUT_PROXY {
+        if to == TO_OUT_PROXY {
             self.on_ack(received, available, of)
         } else {
-            self.pass_on(to, Named::AckTo(0, received, available, of))
+            self.pass_on(to, Named::AckTo(TO_CLIENT, received, available, of))
         }
     }
 

@@ -2,6 +2,7 @@
 
 use crate::rows::Row;
 use crate::state::OutProxyRole;
+use rh_rts::TO_CLIENT;
 use rh_sig::Named;
 
 impl OutProxyRole {
@@ -12,13 +13,13 @@ impl OutProxyRole {
     pub(crate) fn on_in_r1_a3(&mut self, to: u32, version: u32, size: u32, timeout: u32) -> Row
         ensures { (self.new, result) ≡ seen.on_in_r1_a3 self.old to version size timeout }
     {
-        self.pass_on(to, Named::InR1A4(0, version, size, timeout))
+        self.pass_on(to, Named::InR1A4(TO_CLIENT, version, size, timeout))
     }
 
     /// IN_R2/A3 is forwarded as A4.
     pub(crate) fn on_in_r2_a3(&mut self, to: u32) -> Row
         ensures { (self.new, result) ≡ seen.on_in_r2_a3 self.old to }
     {
-        self.pass_on(to, Named::InR2A4(0))
+        self.pass_on(to, Named::InR2A4(TO_CLIENT))
     }
 }

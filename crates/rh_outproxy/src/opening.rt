@@ -4,6 +4,7 @@ use crate::rows::{Row, is_first, is_second};
 use crate::state::{Answer, Channel, ClientLeg, OutProxyRole, ServerLeg};
 use rh_heads::judge_request;
 use rh_http::Request;
+use rh_http::lengths::{GREATEST_ECHO, OPENS_OUT, REPLACES_OUT};
 use rh_line::Leg;
 use rh_rts::Cookie;
 use rh_shell::{Behind, Count, HeadRefused, HeadTaken, Refused};
@@ -11,16 +12,10 @@ use rh_sig::Named;
 use rh_sig::ranges::PROTOCOL_VERSION;
 use rh_window::SendWindow;
 
-/// The most bytes of an echo request.
-const GREATEST_ECHO: u32 = 16;
-/// The Content-Length of a request for a new channel: the bytes of CONN/A1.
-const NEW_LENGTH: u32 = 76;
-/// The Content-Length of a request for a successor: the bytes of OUT_R1/A3 and OUT_R2/C1.
-const SUCCESSOR_LENGTH: u32 = 120;
-
 impl OutProxyRole {
     ghost use Rattle.std.specs.Prelude.{◌≡◌, ◌≤◌, length, IfSome, Ok};
     ghost use Rattle.rh_heads.specs.Verdicts.{asked};
+    ghost use Rattle.rh_http.specs.Reading.{greatest_head};
     ghost use Rattle.rh_sig.specs.Values.{MayBeWritten};
     ghost use Rattle.rh_outproxy.specs.Opening as seen;
 
@@ -62,7 +57,7 @@ impl OutProxyRole {
 
     /// The request for an OUT channel, or an echo request.
     pub(crate) fn on_head(&mut self, _leg: Leg, text: &[u8]) -> Result<HeadTaken, HeadRefused>
-        requires { length text.now ≤ 16384 }
+        requires { length text.now ≤ greatest_head }
         ensures { (self.new, result) ≡ seen.head self.old _leg text.now }
     {
         match judge_request(text, false) {
@@ -110,7 +105,7 @@ impl OutProxyRole {
     ) -> Row
         ensures { (self.new, result) ≡ seen.on_conn_a1 self.old count connection cookie size }
     {
-        if !is_first(count) || !self.told_length(NEW_LENGTH) {
+        if !is_first(count) || !self.told_length(OPENS_OUT) {
             return Err(Refused::Unexpected);
         }
         self.channel = Channel::New { connection, cookie };
@@ -130,7 +125,7 @@ impl OutProxyRole {
         ensures { (self.new, result)
             ≡ seen.on_out_r1_a3 self.old count connection predecessor cookie size }
     {
-        if !is_first(count) || !self.told_length(SUCCESSOR_LENGTH) {
+        if !is_first(count) || !self.told_length(REPLACES_OUT) {
             return Err(Refused::Unexpected);
         }
         self.channel = Channel::Successor {

@@ -32,7 +32,7 @@ ghost use Rattle.rh_shell.specs.Shells as shells;
 use crate::state::{OutProxyConfig, OutProxyRole};
 use rh_http::Host;
 use rh_line::{Leg, State, Verdict};
-use rh_rts::Cookie;
+use rh_rts::NO_COOKIE;
 use rh_shell::{Rooms, Shell};
 use std::alloc::{AllocError, Global};
 use std::marker::Model;
@@ -66,14 +66,12 @@ pub const ROOMS: Rooms = Rooms {
     in_server: 0,
 };
 
-/// The cookie that an out proxy passes over when a leg comes up.
-const NO_COOKIE: Cookie = Cookie([0; 16]);
-
 impl OutProxy {
     ghost use Rattle.std.specs.Prelude.{◌≡◌, ◌≤◌, IfOk, length, take, drop};
     ghost use Rattle.rh_sig.specs.Values.{IsLifetime, IsTimeout};
     ghost use Rattle.rh_window.specs.Sides.{IsWindow};
-    ghost use Rattle.rh_outproxy.specs.declared.out_proxy.TheConstants.{ROOMS, NO_COOKIE};
+    ghost use Rattle.rh_outproxy.specs.declared.out_proxy.TheConstants.{ROOMS};
+    ghost use Rattle.rh_rts.specs.declared.command.TheConstants.{NO_COOKIE};
     ghost use Rattle.rh_outproxy.specs.OutProxy.{new_proxy, server_told, server_of};
 
     /// An out proxy before its first leg is up.

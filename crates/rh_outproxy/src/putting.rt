@@ -1,22 +1,23 @@
 //! What an out proxy puts: the next message of a leg.
 
 ghost use Rattle.std.specs.Prelude.{◌≡◌, ◌+◌, ◌≤◌};
+ghost use Rattle.rh_http.specs.declared.writing.TheConstants.{ECHO_LEN};
 ghost use Rattle.rh_http.specs.Texts.{response_text};
 ghost use Rattle.rh_rts.specs.Writing.{over};
+ghost use Rattle.rh_outproxy.specs.declared.putting.TheConstants.{RESPONSE_ROOM};
 ghost use Rattle.rh_outproxy.specs.Putting.{echo_packet, echo_text};
 
 use crate::state::{Answer, Channel, Mark, OutProxyRole, Ping, ServerLeg};
+use rh_http::lengths::PING_ROOM;
 use rh_http::{write_echo, write_out_response};
 use rh_line::{Leg, Which};
 use rh_shell::{Begun, Due, Gate};
 use rh_sig::Named;
 
-/// The bytes of Pings, which are above the lifetime of a channel (profile).
-const PING_ROOM: u32 = 65_536;
 /// The bytes of a Ping.
-const PING_LEN: u32 = 20;
+pub const PING_LEN: u32 = 20;
 /// The most bytes of a response, with the Echo packet behind it.
-const RESPONSE_ROOM: usize = 128;
+pub const RESPONSE_ROOM: usize = 128;
 
 /// The Echo packet: the flag ECHO, and no command (MS-RPCH 2.2.3).
 const ECHO_PACKET: [u8; 20] = [
@@ -51,7 +52,7 @@ fn begin_response(begun: &mut Begun, length: u32)
 /// Writes the Echo packet from this place on.
 #[tactic(auto, unfolding(rh_rts::specs::Writing::over))]
 fn write_echo_packet(room: &mut [u8; RESPONSE_ROOM], at: usize)
-    requires { at + 20 ≤ 128 }
+    requires { at + ECHO_LEN ≤ RESPONSE_ROOM }
     ensures { room.new ≡ over room.old at echo_packet }
 {
     room[at..at + ECHO_PACKET.len()].copy_from_slice(&ECHO_PACKET);

@@ -4,7 +4,7 @@ ghost use Rattle.std.specs.Prelude.{◌≡◌};
 ghost use Rattle.rh_outproxy.specs.Rows.{is_first, is_second, same_cookie};
 
 use crate::state::{ClientLeg, OutProxyRole};
-use rh_rts::Cookie;
+use rh_rts::{Cookie, TO_CLIENT};
 use rh_shell::{Count, Refused};
 use rh_sig::Named;
 
@@ -51,7 +51,7 @@ impl OutProxyRole {
         requires { MayBeWritten packet }
         ensures { (self.new, result) ≡ seen.passed_on self.old to packet }
     {
-        if self.is_carrying() && to == 0 {
+        if self.is_carrying() && to == TO_CLIENT {
             self.forward(packet)
         } else {
             Err(Refused::Unexpected)

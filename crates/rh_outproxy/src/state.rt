@@ -144,6 +144,8 @@ pub struct OutProxyRole {
 }
 
 impl Model for OutProxyRole {
+    ghost use Rattle.rh_keep.specs.declared.range.TheConstants.{GREATEST_LIFETIME};
+    ghost use Rattle.rh_http.specs.declared.lengths.TheConstants.{PING_ROOM};
     ghost use Rattle.std.specs.Prelude.{◌≤◌};
     ghost use Rattle.rh_outproxy.specs.OutProxy as seen;
 
@@ -165,11 +167,13 @@ impl Model for OutProxyRole {
       pinged = s.pinged;
     } };
 
-    ghost invariant = { λ s. (s.pinged ≤ 65536) × (s.config.lifetime ≤ 2147483648) };
+    ghost invariant = { λ s. (s.pinged ≤ PING_ROOM)
+        × (s.config.lifetime ≤ GREATEST_LIFETIME) };
 }
 
 impl OutProxyRole {
     ghost use Rattle.std.specs.Prelude.{◌≡◌, ◌≤◌, IfOk};
+    ghost use Rattle.rh_keep.specs.declared.range.TheConstants.{GREATEST_LIFETIME};
     ghost use Rattle.rh_window.specs.Sides.{IsWindow};
     ghost use Rattle.rh_line.specs.Lines.{is_empty};
     ghost use Rattle.rh_outproxy.specs.OutProxy as seen;
@@ -180,7 +184,7 @@ impl OutProxyRole {
     /// Fails only for want of memory.
     pub fn new(alloc: Global, config: OutProxyConfig) -> Result<OutProxyRole, AllocError>
         requires window { IsWindow config.window }
-        requires lifetime { config.lifetime ≤ 2147483648 }
+        requires lifetime { config.lifetime ≤ GREATEST_LIFETIME }
         ensures { IfOk result (λ role. role ≡ seen.new_proxy config) }
     {
         Ok(OutProxyRole {

@@ -4,6 +4,7 @@ use Rattle.std.proofs.lemmas.Bool.{and_parts, eqb-true}
 use Rattle.std.specs.declared.option.Option.{Option}
 use Rattle.rh_heads.specs.Verdicts.{Asked}
 use Rattle.rh_rts.specs.declared.command.Cookie.{Cookie}
+use Rattle.rh_rts.specs.declared.command.TheConstants.{TO_OUT_PROXY}
 use Rattle.rh_sig.specs.declared.named.Named.{Named}
 use Rattle.rh_sig.specs.declared.named.Named.TheVariants as named
 use Rattle.rh_line.specs.declared.leg.Leg.{Leg}
@@ -26,7 +27,7 @@ use Rattle.rh_outproxy.specs.declared.state.Ping.TheVariants as pings
 use Rattle.rh_outproxy.specs.OutProxy.{OutProxy, has_come, is_client_marked, is_known, is_server_down, is_successor, joined}
 use Rattle.rh_outproxy.specs.Rows.{Done, is_carrying, is_first, is_joined, takes_pdus, taken, unexpected, forwarded, forwarded_by, passed_on}
 use Rattle.rh_outproxy.specs.Opening.{up, told_length, new_length, successor_length, opened, on_out_r2_c1, conn_c1_by}
-use Rattle.rh_outproxy.specs.Acknowledging.{admitted, on_pdu, on_ack, on_ack_to, out_proxy}
+use Rattle.rh_outproxy.specs.Acknowledging.{admitted, on_pdu, on_ack, on_ack_to}
 use Rattle.rh_outproxy.specs.Ending.{on_end_b1}
 use Rattle.rh_outproxy.specs.OutReplacement.{on_out_r1_a9}
 use Rattle.rh_outproxy.specs.Machine.{on_co, on_os}
@@ -374,7 +375,7 @@ module _ (config : OutProxyConfig) where
           (on_ack_to s to received available cookie)
       ack_row to received available cookie =
           by_test (Row came put (os, Packet (named.AckTo to received available cookie)))
-          (to == out_proxy) (on_ack s received available cookie)
+          (to == TO_OUT_PROXY) (on_ack s received available cookie)
           (passed_on s to (named.AckTo 0 received available cookie))
           (λ e. same_row (os, Packet (named.AckTo to received available cookie)) s came put h
           (on_ack s received available cookie) (same_ack s received available cookie))

@@ -3,6 +3,7 @@
 use Rattle.std.specs.Prelude.{◌≡◌, ◌⊎◌, ◌+◌, List, [], ◌∷◌}
 use Rattle.std.specs.List.{AllByRecursion}
 use Rattle.rh_rts.specs.declared.command.Cookie.{Cookie}
+use Rattle.rh_rts.specs.declared.command.TheConstants.{TO_CLIENT}
 use Rattle.rh_http.specs.Texts.{response_text}
 use Rattle.rh_sig.specs.declared.named.Named.{Named}
 use Rattle.rh_sig.specs.declared.named.Named.TheVariants.{ConnA1, ConnA2, ConnA3, ConnC1, ConnC2, InR1A3, InR1A4, InR2A3, InR2A4, OutR1A1, OutR1A2, OutR1A3, OutR1A4, OutR1A5, OutR1A6, OutR1A10, EndB2, Ack, AckTo, Ping}
@@ -87,12 +88,13 @@ IsEcho (text ∷ other ∷ rest) = ⊥
 -- and Pings are the proxy's (MS-RPCH 2.2.4; replacement and the end are this profile's)
 abbrev pub PassesPacket : List Message → Named → Type 0
 PassesPacket came (InR1A4 to version window timeout) =
-    (to ≡ 0) × Has (InR1A3 to version window timeout) came
-PassesPacket came (InR2A4 to) = (to ≡ 0) × Has (InR2A3 to) came
-PassesPacket came (OutR1A2 to) = (to ≡ 0) × Has (OutR1A1 to) came
-PassesPacket came (OutR1A6 to version timeout) = (to ≡ 0) × Has (OutR1A5 to version timeout) came
+    (to ≡ TO_CLIENT) × Has (InR1A3 to version window timeout) came
+PassesPacket came (InR2A4 to) = (to ≡ TO_CLIENT) × Has (InR2A3 to) came
+PassesPacket came (OutR1A2 to) = (to ≡ TO_CLIENT) × Has (OutR1A1 to) came
+PassesPacket came (OutR1A6 to version timeout) =
+    (to ≡ TO_CLIENT) × Has (OutR1A5 to version timeout) came
 PassesPacket came (AckTo to received available channel) =
-    (to ≡ 0) × Has (AckTo to received available channel) came
+    (to ≡ TO_CLIENT) × Has (AckTo to received available channel) came
 PassesPacket came EndB2 = Unit {0}
 PassesPacket came OutR1A10 = Unit {0}
 PassesPacket came Ping = Unit {0}

@@ -2,6 +2,7 @@
 use Rattle.std.proofs.Common.{◌≡◌, ℕ, ◌≤◌, ◌==◌, if◌then◌else◌, List, Some, Ok, Err, sym, ap, ◌∙◌, subst, rules}
 use Rattle.std.specs.declared.result.Result.{Result}
 use Rattle.rh_rts.specs.declared.command.Cookie.{Cookie}
+use Rattle.rh_rts.specs.declared.command.TheConstants.{TO_OUT_PROXY}
 use Rattle.rh_sig.specs.declared.named.Named.{Named}
 use Rattle.rh_sig.specs.declared.named.Named.TheVariants as named
 use Rattle.rh_window.specs.declared.fault.BadAck.{BadAck}
@@ -17,7 +18,7 @@ use Rattle.rh_outproxy.specs.declared.state.Channel.TheVariants as channels
 use Rattle.rh_outproxy.specs.OutProxy.{OutProxy, joined}
 use Rattle.rh_outproxy.specs.Rows.{Done, is_co, is_os, same_cookie, refuse, unexpected, passed_on}
 use Rattle.rh_outproxy.specs.Opening.{conn_c1_by}
-use Rattle.rh_outproxy.specs.Acknowledging.{out_proxy, on_ack, ack_by, acked, ack_row, on_ack_to}
+use Rattle.rh_outproxy.specs.Acknowledging.{on_ack, ack_by, acked, ack_row, on_ack_to}
 use Rattle.rh_outproxy.specs.Ending.{on_end_b1}
 use Rattle.rh_outproxy.specs.OutReplacement.{on_out_r1_a9}
 use Rattle.rh_outproxy.specs.Machine.{pdu, packet, on_co, on_os}
@@ -117,10 +118,10 @@ module _ (expected got : Cookie) where
           (on_ack_to s to received available of)
       ack_says =
           by_test (Says (MismatchFromServer n p expected got
-          (named.AckTo to received available of))) (to == out_proxy)
+          (named.AckTo to received available of))) (to == TO_OUT_PROXY)
           (on_ack s received available of) (passed_on s to (named.AckTo 0 received available of))
           (λ e f. let k = own_says s.channel h.begun f in
-          (same_number to out_proxy e, k.0, k.1, k.2))
+          (same_number to TO_OUT_PROXY e, k.0, k.1, k.2))
           (λ e. never (passed_on s to (named.AckTo 0 received available of))
           (passed_none s to (named.AckTo 0 received available of)))
 

@@ -5,6 +5,7 @@ use Rattle.std.specs.declared.result.Result.{Result}
 use Rattle.std.proofs.lemmas.Bool.Decides.{nat_tests}
 use Rattle.std.proofs.lemmas.Slice.Eq.{bytes_eq-Decides}
 use Rattle.rh_rts.specs.declared.command.Cookie.{Cookie}
+use Rattle.rh_rts.specs.declared.command.TheConstants.{TO_OUT_PROXY}
 use Rattle.rh_heads.specs.Verdicts.{Asked}
 use Rattle.rh_sig.specs.declared.named.Named.{Named}
 use Rattle.rh_sig.specs.declared.named.Named.TheVariants as named
@@ -28,7 +29,7 @@ use Rattle.rh_outproxy.specs.declared.state.Channel.TheVariants as channels
 use Rattle.rh_outproxy.specs.OutProxy.{OutProxy, joined, is_successor, has_come, is_client_marked}
 use Rattle.rh_outproxy.specs.Rows.{Done, is_co, is_os, is_first, is_second, is_joined, is_carrying, takes_pdus, same_cookie, taken, unexpected, forwarded, forwarded_by, passed_on}
 use Rattle.rh_outproxy.specs.Opening.{was_up, told_length, new_length, successor_length, conn_c1_by}
-use Rattle.rh_outproxy.specs.Acknowledging.{out_proxy, on_ack, ack_by, acked, ack_row, on_ack_to, on_pdu, line_row, admitted}
+use Rattle.rh_outproxy.specs.Acknowledging.{on_ack, ack_by, acked, ack_row, on_ack_to, on_pdu, line_row, admitted}
 use Rattle.rh_outproxy.specs.Machine.{packet, on_co, on_os}
 use Rattle.rh_passages.specs.Passing.{count_of}
 use Rattle.rh_passages.specs.Counted.{packets, Tells}
@@ -172,13 +173,13 @@ module _ (n : ℕ) (p : Passage OutProxy) (h : Told n (seen p.role) p.came) wher
       (on_ack_to s to received available of)
   ack_says to received available of =
       by_test (Says (UnexpectedFromServer n p (named.AckTo to received available of)))
-      (to == out_proxy) (on_ack s received available of) _
+      (to == TO_OUT_PROXY) (on_ack s received available of) _
       (λ e f. inl (
-        same_number to out_proxy e,
+        same_number to TO_OUT_PROXY e,
         own_ack_says received available of s.channel h.channel f,
       ))
       (λ e f. inr (
-        other_number to out_proxy e,
+        other_number to TO_OUT_PROXY e,
         passed_says to (named.AckTo 0 received available of) f,
       ))
 

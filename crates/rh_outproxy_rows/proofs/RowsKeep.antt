@@ -2,6 +2,7 @@
 use Rattle.std.proofs.Common.{◌≡◌, ℕ, ◌==◌, ◌&&◌, Bool, true, false, List, [], ◌∷◌, ◌++◌, Ok, Err, is_some, refl, sym, ap, subst, arith}
 use Rattle.std.proofs.lemmas.Bool.{and_parts}
 use Rattle.rh_rts.specs.declared.command.Cookie.{Cookie}
+use Rattle.rh_rts.specs.declared.command.TheConstants.{TO_OUT_PROXY}
 use Rattle.rh_sig.specs.declared.named.Named.{Named}
 use Rattle.rh_sig.specs.declared.named.Named.TheVariants as named
 use Rattle.rh_line.specs.declared.leg.Leg.{Leg}
@@ -18,7 +19,7 @@ use Rattle.rh_outproxy.specs.declared.state.Channel.TheVariants as channels
 use Rattle.rh_outproxy.specs.OutProxy.{OutProxy, joined, is_successor, is_client_marked}
 use Rattle.rh_outproxy.specs.Rows.{Done, is_first, is_second, is_joined, is_carrying, takes_pdus, taken, unexpected, forwarded, forwarded_by, passed_on}
 use Rattle.rh_outproxy.specs.Opening.{told_length, new_length, successor_length, opened, conn_c1_by}
-use Rattle.rh_outproxy.specs.Acknowledging.{out_proxy, on_ack, on_ack_to, on_pdu}
+use Rattle.rh_outproxy.specs.Acknowledging.{on_ack, on_ack_to, on_pdu}
 use Rattle.rh_outproxy.specs.Ending.{on_end_b1}
 use Rattle.rh_outproxy.specs.OutReplacement.{on_out_r1_a9}
 use Rattle.rh_outproxy.specs.Machine.{on_co, on_os}
@@ -175,7 +176,7 @@ module _ (n : ℕ) where
         (on_ack_to s to received available cookie)
     ack_row to received available cookie =
         let m : Message = Packet (named.AckTo to received available cookie) in
-        by_test (Row (os, m) came) (to == out_proxy) (on_ack s received available cookie) _
+        by_test (Row (os, m) came) (to == TO_OUT_PROXY) (on_ack s received available cookie) _
         (λ e. same_row m s came refl h (on_ack s received available cookie)
         (same_ack s received available cookie))
         (λ e. passed_row m refl to (named.AckTo 0 received available cookie))

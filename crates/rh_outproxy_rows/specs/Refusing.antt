@@ -4,6 +4,7 @@ use Rattle.std.specs.Prelude.{ℕ, ◌≡◌, ◌⊎◌, ◌≤◌, List, [], �
 use Rattle.std.specs.declared.option.Option.{Option}
 use Rattle.std.specs.declared.result.Result.{Result}
 use Rattle.rh_rts.specs.declared.command.Cookie.{Cookie}
+use Rattle.rh_rts.specs.declared.command.TheConstants.{TO_CLIENT, TO_OUT_PROXY}
 use Rattle.rh_http.specs.declared.fault.HttpFault.{HttpFault}
 use Rattle.rh_http.specs.Lengths.{greatest_echo}
 use Rattle.rh_heads.specs.Verdicts.{Asked, request_verdict}
@@ -19,7 +20,6 @@ use Rattle.rh_shell.specs.Rules.{Message}
 use Rattle.rh_shell.specs.Wires.{of_leg}
 use Rattle.rh_outproxy.specs.OutProxy.{OutProxy}
 use Rattle.rh_outproxy.specs.Opening.{told_length, new_length, successor_length}
-use Rattle.rh_outproxy.specs.Acknowledging.{out_proxy}
 use Rattle.rh_outproxy.specs.Machine.{rules}
 use Rattle.rh_passages.specs.Passing.{count_of, HasBegunOut}
 use Rattle.rh_passages.specs.Counted.{packets, Tells}
@@ -70,7 +70,7 @@ TakesNone n p = CarriesNone n p ⊎ (1 ≤ count_of is_end_b1 (from_server n p))
 
 -- a packet with this destination isn't the client's, or none is carried
 abbrev pub PassesNone : ℕ → Passage OutProxy → ℕ → Type 0
-PassesNone n p to = (to ≡ 0 → ⊥) ⊎ CarriesNone n p
+PassesNone n p to = (to ≡ TO_CLIENT → ⊥) ⊎ CarriesNone n p
 
 -- ---- RPC PDUs
 
@@ -103,7 +103,7 @@ abbrev pub UnexpectedFromServer : ℕ → Passage OutProxy → Named → Type 0
 UnexpectedFromServer n p (ConnC1 version window timeout) =
     (count_of is_conn_a1 (from_client n p) ≡ 0) ⊎ (1 ≤ count_of is_conn_c1 (from_server n p))
 UnexpectedFromServer n p (AckTo to received available of) =
-    ((to ≡ out_proxy) × IsUnjoined n p) ⊎ ((to ≡ out_proxy → ⊥) × PassesNone n p to)
+    ((to ≡ TO_OUT_PROXY) × IsUnjoined n p) ⊎ ((to ≡ TO_OUT_PROXY → ⊥) × PassesNone n p to)
 UnexpectedFromServer n p (InR1A3 to version window timeout) = PassesNone n p to
 UnexpectedFromServer n p (InR2A3 to) = PassesNone n p to
 UnexpectedFromServer n p (OutR1A1 to) = PassesNone n p to
@@ -127,7 +127,7 @@ Unexpected n p moves leg packet = UnexpectedBy n p moves packet leg.kind
 -- of the other
 abbrev pub MismatchFromServer : ℕ → Passage OutProxy → Cookie → Cookie → Named → Type 0
 MismatchFromServer n p expected got (AckTo to received available of) =
-    (to ≡ out_proxy) × (got ≡ of) × HasBegunOut expected (from_client n p)
+    (to ≡ TO_OUT_PROXY) × (got ≡ of) × HasBegunOut expected (from_client n p)
     × (HasBegunOut got (from_client n p) → ⊥)
 MismatchFromServer n p expected got packet = ⊥
 

@@ -23,9 +23,9 @@ use Rattle.rh_inproxy.specs.State.{InProxy, first, hands_over}
 use Rattle.rh_inproxy.specs.Opening.{had_client, is_absent, newest, newest_by, phase_by, up, was_up}
 use Rattle.rh_inproxy.specs.Ending.{is_done, is_succeeded, newest_ended}
 use Rattle.rh_inproxy.specs.InReplacement.{has_passed}
-use Rattle.rh_inproxy.specs.Order.{KeepsOrder, came_log, next_shelf}
+use Rattle.rh_inproxy.specs.Order.{KeepsOrder, came_log, next_shelf, put_items}
 use Rattle.rh_inproxy.specs.Machine.{rules as proxy_rules}
-use Rattle.rh_passed.specs.Passed.{AsksNoEcho, HeadsAre, IsDoneBehindEnds, IsDoneBehindMark, LosesNone, ci_leg}
+use Rattle.rh_passed.specs.Passed.{AsksNoEcho, HeadsAre, IsDoneBehindEnd, IsDoneBehindEnds, IsDoneBehindMark, LosesNone, ci_leg, is_leg}
 use Rattle.rh_passed.proofs.Allowed.{moves_keep, of_role}
 use Rattle.rh_passed.proofs.InProxyKept.{Holds, IsBehind, IsWork, Over}
 use Rattle.rh_passed.proofs.InProxyPuts.{keeps, starts}
@@ -265,3 +265,41 @@ in_proxy_done config moves order may heads n up e =
     by (inr is) =
         ap (λ (b : Bool). has_handover (came_log p.came n) || b) is.1
         ∙ last (has_handover (came_log p.came n))
+
+-- and behind its work it put its own on the is leg
+pub in_proxy_put : (config : InProxyConfig) (moves : List Move)
+    → (let p = all_moved proxy_rules (start config) moves in
+    KeepsOrder config.number p → AreAllowed proxy_rules (start config) moves
+    → AllByRecursion (HeadsAre (AsksNoEcho true)) moves → (n : ℕ)
+    → IsDoneBehindEnd proxy_rules p.role (is_leg n) (put_items p.put))
+in_proxy_put config moves order may heads n e = by (unused p.role (is_leg n) e)
+  where
+    p : Passage InProxy
+    p = all_moved proxy_rules (start config) moves
+
+    h : Holds config (Unit {0}) p.role
+    h = moves_keep proxy_rules (HeadsAre (AsksNoEcho true)) (λ s came put. Unit {0})
+        (of_role (Holds config (Unit {0})))
+        (keeps config (Unit {0}) (HeadsAre (AsksNoEcho true)) (λ leg text asks. asks)
+        (λ leg asks. tt))
+        (start config) moves may heads (λ front allowed. tt) (starts config (Unit {0}))
+
+    last : (b : Bool) → (b || true) ≡ true
+    last true = refl
+    last false = refl
+
+    done : (w : Work) → w ≡ works.Done → IsWork (Unit {0}) p.role w
+        → (has_handover (put_items p.put) || has_end (put_items p.put)) ≡ true
+    done works.Underway same work = absurd cc
+    done (works.EchoDue number) same work = absurd cc
+    done (works.EchoPut number) same work = absurd cc
+    done works.Done same (inl passed) =
+        ap (λ (b : Bool). b || has_end (put_items p.put)) (sym order.handover_put ∙ passed)
+    done works.Done same (inr over) =
+        ap (λ (b : Bool). has_handover (put_items p.put) || b) (sym order.end_put ∙ over.put)
+        ∙ last (has_handover (put_items p.put))
+
+    by : (p.role.work ≡ works.Done) ⊎ (is_done p.role (is_leg n) ≡ true)
+        → (has_handover (put_items p.put) || has_end (put_items p.put)) ≡ true
+    by (inl same) = done p.role.work same h.works
+    by (inr bad) = absurd (true≢false (sym bad))

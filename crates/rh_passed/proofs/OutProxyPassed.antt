@@ -39,7 +39,7 @@ use Rattle.rh_outproxy.specs.Opening.{up, head_by, on_conn_c1, first_packet}
 use Rattle.rh_outproxy.specs.Acknowledging.{on_ack_to}
 use Rattle.rh_outproxy.specs.OutReplacement.{on_out_r1_a9}
 use Rattle.rh_outproxy.specs.Ending.{drawn, mark, on_end_b1, only_marks}
-use Rattle.rh_outproxy.specs.Order.{KeepsOrder, came_log, server_leg}
+use Rattle.rh_outproxy.specs.Order.{KeepsOrder, came_log, put_items, server_leg}
 use Rattle.rh_outproxy.specs.Putting.{Pick, or_else, answer_by, behind_response, pdu_by, put_answer, put_end, put_handover, put_waiting, put_pdu, put_mark, put_ping, waiting_by, next_co, first_by, put_first, put_ack, next_os}
 use Rattle.rh_outproxy.specs.Putting.{put as put_of}
 use Rattle.rh_outproxy.specs.Machine.{on_co, on_os, pdu, packet}
@@ -375,6 +375,40 @@ out_proxy_done config moves order may heads e =
         ap (λ (b : Bool). has_handover came || b)
         (sym order.shelved.holds.ended ∙ (order.end_came put).0)
         ∙ last (has_handover came)
+      where
+        last : (b : Bool) → (b || true) ≡ true
+        last true = refl
+        last false = refl
+
+-- and it put its own there
+pub out_proxy_put : (config : OutProxyConfig) (moves : List Move)
+    → (let p = all_moved proxy_rules (started (new_proxy config)) moves in
+    KeepsOrder config.number p → AreAllowed proxy_rules (started (new_proxy config)) moves
+    → AllByRecursion (HeadsAre (AsksNoEcho false)) moves
+    → (leg : Leg)
+    → IsDoneBehindEnd proxy_rules p.role leg (put_items config.number p.put))
+out_proxy_put config moves order may heads leg e =
+    by (over config p.role h (useless config p.role leg e))
+  where
+    p : Passage OutProxy
+    p = all_moved proxy_rules (started (new_proxy config)) moves
+
+    h : Fine config p.role
+    h = moves_keep proxy_rules (HeadsAre (AsksNoEcho false)) (λ s came put. Unit {0})
+        (of_role (Fine config)) (keeps config) (started (new_proxy config)) moves may heads
+        (λ front allowed. tt)
+        (record { made = refl; answer = refl; server = λ f. absurd (true≢false (sym f)) })
+
+    by : (is_put p.role.handover ≡ true) ⊎ (is_put p.role.end ≡ true)
+        → (has_handover (put_items config.number p.put)
+        || has_end (put_items config.number p.put)) ≡ true
+    by (inl put) =
+        ap (λ (b : Bool). b || has_end (put_items config.number p.put))
+        (sym order.handover_put ∙ put)
+    by (inr put) =
+        ap (λ (b : Bool). has_handover (put_items config.number p.put) || b)
+        (sym order.end_put ∙ put)
+        ∙ last (has_handover (put_items config.number p.put))
       where
         last : (b : Bool) → (b || true) ≡ true
         last true = refl

@@ -20,15 +20,18 @@ use Rattle.rh_nodes.specs.declared.place.Place.TheVariants.{Absent, Here, Gone}
 use Rattle.rh_history.specs.Carried.{IsHeard, came_up, drawn_on, end_drawn_on, happened, heard_on}
 use Rattle.rh_history.specs.Histories.{IsRun}
 use Rattle.rh_streams.specs.Streams.{EndStream, IsReadTo, Stream, is_live}
+use Rattle.rh_paths.specs.Forgotten.{DrawsOut, EndDrawsOut, IsDrawnOut}
+use Rattle.rh_paths.specs.Lost.{was_lost}
 use Rattle.rh_paths.specs.OnWay.{read_on}
 use Rattle.rh_paths.proofs.Ends.{gone_unread}
 
--- the node that puts: what it put spells what it drew and what is begun, and it put nothing on a
--- leg that did not come up
-pub record Puts {P : Type 0} (node : Shell P) (leg : Leg) (up : Bool) (put : List Message)
+-- the node that puts: what it put spells what it drew and what is begun, or what it drew where it
+-- forgot the leg; and it put nothing on a leg that did not come up
+pub record Puts {P : Type 0} (node : Shell P) (leg : Leg) (up told : Bool) (put : List Message)
     (drawn : List ℕ) : Type 0 where
   pub spells : (end : NearEnd) → node.course ≡ Going → end_at node leg ≡ Some end
       → spelled put ≡ drawn ++ end.begun
+  pub all : IsDrawnOut node leg up told put drawn
   pub unput : up ≡ false → put ≡ []
 
 -- the node that takes: what came is read in what it heard, which is a front of what it was fed,
@@ -47,11 +50,14 @@ pub record Takes {T : Type 0} (rules : Rules T) (node : Shell T) (pipe : Option 
 module _ {S : Type 0} {rules : Rules S} {acts : Acts S} {made : S} {rooms : Rooms}
     {pipe : Leg → Option Pipe} {events : List EndEvent}
     (stream : EndStream rules acts made rooms pipe events) (leg : Leg) where
-  pub end_puts : Puts (after_end_events rules acts (begun made rooms) events) leg
-      (came_up leg (happened events)) (of_leg leg stream.passage.passage.put)
+  pub end_puts : EndDrawsOut rules acts made rooms pipe events stream
+      → Puts (after_end_events rules acts (begun made rooms) events) leg
+      (came_up leg (happened events)) (was_lost leg (happened events))
+      (of_leg leg stream.passage.passage.put)
       (end_drawn_on rules acts (begun made rooms) leg events)
-  end_puts = record {
+  end_puts all = record {
     spells = λ end going at. (stream.seats leg end going at).spells;
+    all = all leg;
     unput = stream.unput leg;
   }
 
@@ -80,10 +86,13 @@ proxy_front rules first events leg fed (Gone now) run is = is
 
 module _ {S : Type 0} {rules : Rules S} {made : S} {rooms : Rooms} {pipe : Leg → Option Pipe}
     {events : List Event} (stream : Stream rules made rooms pipe events) (leg : Leg) where
-  pub proxy_puts : Puts (after_events rules (begun made rooms) events) leg (came_up leg events)
-      (of_leg leg stream.passage.put) (drawn_on rules (begun made rooms) leg events)
-  proxy_puts = record {
+  pub proxy_puts : DrawsOut rules made rooms pipe events stream
+      → Puts (after_events rules (begun made rooms) events) leg (came_up leg events)
+      (was_lost leg events) (of_leg leg stream.passage.put)
+      (drawn_on rules (begun made rooms) leg events)
+  proxy_puts all = record {
     spells = λ end going at. (stream.seats leg end going at).spells;
+    all = all leg;
     unput = stream.unput leg;
   }
 

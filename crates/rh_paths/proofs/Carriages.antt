@@ -22,7 +22,7 @@ use Rattle.rh_nodes.specs.World.{World, at}
 use Rattle.rh_history.specs.Carriages.{Carriage, IsCarried, IsDone}
 use Rattle.rh_history.specs.Carried.{AreCarried, carriage, drawn_by, ledger, wire_at}
 use Rattle.rh_history.specs.Histories.{History}
-use Rattle.rh_paths.specs.Legs.{is_cut, on_leg, was_up}
+use Rattle.rh_paths.specs.Legs.{is_cut, on_leg, was_told, was_up}
 use Rattle.rh_paths.specs.OnWay.{is_lost, items_on_way, left_on, read_on}
 use Rattle.rh_paths.proofs.AtEnds.{Puts, Takes}
 use Rattle.rh_paths.proofs.Ends.{left_spells, read_stands}
@@ -70,7 +70,8 @@ module _ {K C S I O : Type 0} (r : Rulebook C S I O) (m : Makers K I O) (d : Dee
     -- what its two nodes did there is joined by its bytes
     module _ {P T : Type 0} (puts : Shell P) (rules : Rules T) (takes : Shell T)
         (pipe : Option Pipe) {put came : List Message} {drawn heard : List ℕ}
-        (here : Puts puts leg (was_up v h leg (sender dir)) put drawn)
+        (here : Puts puts leg (was_up v h leg (sender dir)) (was_told v h leg (sender dir)) put
+        drawn)
         (there : Takes rules takes pipe leg (was_up v h leg (receiver dir)) came heard fed_there)
         (drew : drawn_by r m d first cast h (at v leg (sender dir)) leg ≡ drawn) where
       unheard : was_up v h leg (receiver dir) ≡ false → heard ≡ []
@@ -78,10 +79,11 @@ module _ {K C S I O : Type 0} (r : Rulebook C S I O) (m : Makers K I O) (d : Dee
 
       joined : IsJoined pipe put came drawn heard (in_flight dir (wire_at v.legs leg))
           (is_cut v h leg dir) (read_on rules takes pipe leg (was_up v h leg (receiver dir)))
-          (left_on puts leg (was_up v h leg (sender dir)))
+          (left_on puts leg (was_up v h leg (sender dir)) (was_told v h leg (sender dir)))
       joined = record {
         spells =
-            left_spells puts leg (was_up v h leg (sender dir)) put drawn here.spells
+            left_spells puts leg (was_up v h leg (sender dir)) (was_told v h leg (sender dir)) put
+            drawn here.spells here.all
             (λ e. (here.unput e, sym drew ∙ (carried.idle (at v leg (sender dir)) leg e).0));
         stands =
             read_stands takes leg (was_up v h leg (receiver dir)) rules pipe came heard there.reads
@@ -110,6 +112,7 @@ module _ {K C S I O : Type 0} (r : Rulebook C S I O) (m : Makers K I O) (d : Dee
           ∙ leg_arrives law put_view came_view same pipe put came drawn heard
           (in_flight dir (wire_at v.legs leg)) (is_cut v h leg dir)
           (read_on rules takes pipe leg (was_up v h leg (receiver dir)))
-          (left_on puts leg (was_up v h leg (sender dir))) begins back joined kept
+          (left_on puts leg (was_up v h leg (sender dir)) (was_told v h leg (sender dir))) begins
+          back joined kept
           ∙ ap (λ (items : List Item).
           items ++ items_on_way came_view (on_leg v h leg dir pipe puts rules takes)) (sym some)

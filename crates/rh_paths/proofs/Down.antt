@@ -27,10 +27,11 @@ use Rattle.rh_history.specs.Carried.{AreCarried, AreHeard, drawn_on, end_drawn_o
 use Rattle.rh_history.specs.Histories.{History, IsRun, out_place}
 use Rattle.rh_traced.specs.Ours.{AreOurs, deeds, rules}
 use Rattle.rh_proxies_begin.specs.Pipes.{co, os}
-use Rattle.rh_down.specs.Down.{GoesDown, route_of}
+use Rattle.rh_down.specs.Down.{GoesDown, proxy_reads, route_of, server_reads}
 use Rattle.rh_streams.proofs.LegLogs.{leg_reads_back}
 use Rattle.rh_down.proofs.Sides.{client_came, proxy_came, proxy_put, put_views, sent_views, server_sent}
 use Rattle.rh_fifo.specs.Flows.{Numbers, numbers_of}
+use Rattle.rh_paths.specs.Forgotten.{DrawsOut, EndDrawsOut}
 use Rattle.rh_paths.specs.OnWay.{is_lost, items_on_way}
 use Rattle.rh_paths.specs.Ways.{client_node, down_far, down_lost, down_near, down_on, out_node, server_node}
 use Rattle.rh_paths.proofs.AtEnds.{end_puts, end_takes, proxy_puts, proxy_takes}
@@ -45,7 +46,11 @@ module _ {K : Type 0} (law : AllRead) (m : Makers K InProxy OutProxy)
     (heard : AreHeard v h)
     (runs : (n : ℕ) → IsRun out_proxy.rules (begun (new_proxy (ours.out_config n)) ROOMS)
     (h.outs n) (out_place v.company n))
-    (d : GoesDown ours.config ours.window ours.out_config h.client h.server h.outs) where
+    (d : GoesDown ours.config ours.window ours.out_config h.client h.server h.outs)
+    (by_server : EndDrawsOut server.rules server.acts (server.first ours.window) server.rooms
+    server_reads h.server d.giver)
+    (by_outs : (n : ℕ) → DrawsOut out_proxy.rules (new_proxy (ours.out_config n)) ROOMS
+    (proxy_reads (ours.out_config n)) (h.outs n) (d.proxies n)) where
   abbrev numbers : Numbers
   numbers = numbers_of ours
 
@@ -58,7 +63,7 @@ module _ {K : Type 0} (law : AllRead) (m : Makers K InProxy OutProxy)
       let put = d.giver.passage.passage.put in
       let came = (d.proxies n).passage.came in
       arrives rules m deeds first cast v h carried leg D (server_node numbers h) out_proxy.rules
-      (out_node numbers h n) (Some OsD) (end_puts d.giver leg)
+      (out_node numbers h n) (Some OsD) (end_puts d.giver leg by_server)
       (proxy_takes (d.proxies n) leg (h.fed (who.Out n) leg)
       (fed_none rules m deeds first cast v h carried leg D) (out_place v.company n) (runs n)
       (heard.outs n leg))
@@ -77,7 +82,7 @@ module _ {K : Type 0} (law : AllRead) (m : Makers K InProxy OutProxy)
       let put = (d.proxies n).passage.put in
       let came = d.taker.passage.passage.came in
       arrives rules m deeds first cast v h carried leg D (out_node numbers h n) client.rules
-      (client_node numbers h) (Some CoD) (proxy_puts (d.proxies n) leg)
+      (client_node numbers h) (Some CoD) (proxy_puts (d.proxies n) leg (by_outs n))
       (end_takes d.taker leg (h.fed who.Client leg) (heard.client leg))
       (ap (λ (node : Shell OutProxy). drawn_on out_proxy.rules node leg (h.outs n)) (ours.outs n))
       law to_client down_items put_views (d.proxies_begin n)

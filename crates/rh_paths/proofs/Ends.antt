@@ -2,6 +2,7 @@
 use Rattle.std.proofs.Common.{◌≡◌, ℕ, Bool, true, false, List, [], ◌++◌, Some, None, refl, sym, ap, ◌∙◌}
 use Rattle.std.specs.Prelude.{◌&&◌, ◌||◌, not, if◌then◌else◌}
 use Rattle.std.specs.declared.option.Option.{Option}
+use Rattle.std.proofs.lemmas.List.{append-nil}
 use Rattle.rh_sig.specs.declared.name.Pipe.{Pipe}
 use Rattle.rh_line.specs.declared.leg.Leg.{Leg}
 use Rattle.rh_shell.specs.declared.answers.Phase.{Phase}
@@ -14,32 +15,37 @@ use Rattle.rh_shell.specs.Rules.{Rules, Message}
 use Rattle.rh_shell.specs.Shells.{Shell, end_at, is_working, is_working_by, state_by}
 use Rattle.rh_reading.specs.Reading.{Reading, begin, messages_read, reading, reading_after}
 use Rattle.rh_streams.specs.Streams.{IsReadTo, is_live}
+use Rattle.rh_paths.specs.Forgotten.{IsDrawnOut}
 use Rattle.rh_paths.specs.OnWay.{left_at, left_by, left_on, read_at, read_by, read_on}
 use Rattle.rh_paths.proofs.Legs.{StandsAt}
 use Rattle.rh_heads.proofs.Finds.{some_is}
 
 module _ {S : Type 0} (s : Shell S) (leg : Leg) (up : Bool) where
   -- what was put spells what was drawn and is begun
-  module _ (put : List Message) (drawn : List ℕ)
+  module _ (lost : Bool) (put : List Message) (drawn : List ℕ)
       (seat : (end : NearEnd) → s.course ≡ Going → end_at s leg ≡ Some end
       → spelled put ≡ drawn ++ end.begun)
+      (all : IsDrawnOut s leg up lost put drawn)
       (new : up ≡ false → (put ≡ []) × (drawn ≡ [])) (begun : List ℕ) where
     left_end : s.course ≡ Going → (o : Option NearEnd) → end_at s leg ≡ o → (u : Bool) → up ≡ u
-        → left_at u o ≡ Some begun → spelled put ≡ drawn ++ begun
-    left_end going (Some end) at u is told =
+        → (l : Bool) → lost ≡ l → left_at u l o ≡ Some begun → spelled put ≡ drawn ++ begun
+    left_end going (Some end) at u is l was told =
         seat end going at ∙ ap (λ (b : List ℕ). drawn ++ b) (some_is end.begun begun told)
-    left_end going None at true is told = absurd (cc)
-    left_end going None at false is told =
+    left_end going None at true is true was told = absurd (cc)
+    left_end going None at true is false was told =
+        all (record { goes = going; gone = at; rose = is; untold = was })
+        ∙ sym (append-nil drawn) ∙ ap (λ (b : List ℕ). drawn ++ b) (some_is [] begun told)
+    left_end going None at false is l was told =
         ap spelled (new is).0 ∙ some_is [] begun told
         ∙ ap (λ (d : List ℕ). d ++ begun) (sym (new is).1)
 
-    left_course : (c : Course) → s.course ≡ c → left_by up (end_at s leg) c ≡ Some begun
+    left_course : (c : Course) → s.course ≡ c → left_by up lost (end_at s leg) c ≡ Some begun
         → spelled put ≡ drawn ++ begun
-    left_course Going is told = left_end is (end_at s leg) refl up refl told
+    left_course Going is told = left_end is (end_at s leg) refl up refl lost refl told
     left_course (Closed why) is told = absurd (cc)
     left_course (Refusing why client rest) is told = absurd (cc)
 
-    pub left_spells : left_on s leg up ≡ Some begun → spelled put ≡ drawn ++ begun
+    pub left_spells : left_on s leg up lost ≡ Some begun → spelled put ≡ drawn ++ begun
     left_spells told = left_course s.course refl told
 
   -- what came is what is read up to where it stands

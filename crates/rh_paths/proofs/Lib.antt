@@ -1,3 +1,7 @@
+pub mod KeptEnds
+pub mod KeptLegs
+mod Forgotten
+mod DrawnFlows
 mod Legs
 mod Ends
 mod Used

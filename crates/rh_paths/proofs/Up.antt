@@ -15,9 +15,11 @@ use Rattle.rh_client.specs.declared.state.ClientRole.{ClientRole}
 use Rattle.rh_client.specs.Client as client
 use Rattle.rh_client.specs.Legible as client_legible
 use Rattle.rh_client.specs.Order.{up_items}
+use Rattle.rh_client.specs.State as client_state
 use Rattle.rh_inproxy.specs.Legible as proxy_legible
 use Rattle.rh_inproxy.specs.Machine as in_proxy
 use Rattle.rh_inproxy.specs.Order.{item_came, item_put, put_items}
+use Rattle.rh_inproxy.specs.State as in_state
 use Rattle.rh_inproxy.specs.State.{InProxy}
 use Rattle.rh_outproxy.specs.OutProxy.{OutProxy}
 use Rattle.rh_server.specs.Order.{got, in_items}
@@ -32,12 +34,14 @@ use Rattle.rh_history.specs.Carried.{AreCarried, AreHeard, came_up, drawn_on, en
 use Rattle.rh_history.specs.Histories.{History, IsRun, in_place}
 use Rattle.rh_traced.specs.Numbers.{AreRead, is_made}
 use Rattle.rh_traced.specs.Ours.{AreOurs, deeds, rules}
-use Rattle.rh_proxies_begin.specs.Pipes.{ci, is}
+use Rattle.rh_ends_begin.specs.Begins.{client_reads}
+use Rattle.rh_proxies_begin.specs.Pipes.{ci, in_pipe, is}
 use Rattle.rh_up.specs.Up.{GoesUp, has_leg, up_route}
 use Rattle.rh_up.proofs.JoinedLegs.{client_put, in_views, proxy_came, proxy_put, server_came, up_views}
 use Rattle.rh_up.proofs.Laws.{AreBegun}
 use Rattle.rh_streams.proofs.LegLogs.{leg_reads_back}
 use Rattle.rh_fifo.specs.Flows.{Numbers, numbers_of}
+use Rattle.rh_paths.specs.Forgotten.{DrawsOut, EndDrawsOut}
 use Rattle.rh_paths.specs.OnWay.{is_lost, items_on_way}
 use Rattle.rh_paths.specs.Ways.{client_node, in_node, server_node, up_far, up_lost, up_near, up_on}
 use Rattle.rh_paths.proofs.ReadBy.{read_by}
@@ -56,7 +60,11 @@ module _ {K : Type 0} (law : AllRead) (m : Makers K InProxy OutProxy)
     (are : AreRead v.readers (is_made v.company))
     (g : GoesUp ours.config ours.window ours.in_config h.client h.server h.ins
     (is_made v.company) (reader_of v.readers))
-    (starts : AreBegun g.giver.passage (λ n. (g.proxies n).passage)) where
+    (starts : AreBegun g.giver.passage (λ n. (g.proxies n).passage))
+    (by_client : EndDrawsOut client.rules client.acts (client_state.first ours.config)
+    client.rooms client_reads h.client g.giver)
+    (by_ins : (n : ℕ) → DrawsOut in_proxy.rules (in_state.first (ours.in_config n))
+    in_proxy.rooms (in_pipe (ours.in_config n)) (h.ins n) (g.proxies n)) where
   abbrev route : Route
   route = up_route (reader_of v.readers) g.giver.passage (λ n. (g.proxies n).passage)
       g.taker.leads.moves g.taker.passage
@@ -74,7 +82,7 @@ module _ {K : Type 0} (law : AllRead) (m : Makers K InProxy OutProxy)
       let put = g.giver.passage.passage.put in
       let came = (g.proxies k).passage.came in
       arrives rules m deeds first cast v h carried leg U (client_node numbers h) in_proxy.rules
-      (in_node numbers h k) (Some CiU) (end_puts g.giver leg)
+      (in_node numbers h k) (Some CiU) (end_puts g.giver leg by_client)
       (proxy_takes (g.proxies k) leg (h.fed (who.In k) leg)
       (fed_none rules m deeds first cast v h carried leg U) (in_place v.company k) (runs k)
       (heard.ins k leg))
@@ -138,7 +146,7 @@ module _ {K : Type 0} (law : AllRead) (m : Makers K InProxy OutProxy)
       let put = (g.proxies n).passage.put in
       let came = g.taker.passage.passage.came in
       arrives rules m deeds first cast v h carried leg U (in_node numbers h n) server.rules
-      (server_node numbers h) (Some IsU) (proxy_puts (g.proxies n) leg)
+      (server_node numbers h) (Some IsU) (proxy_puts (g.proxies n) leg (by_ins n))
       (end_takes g.taker leg (h.fed who.Server leg) (heard.server leg))
       (ap (λ (node : Shell InProxy). drawn_on in_proxy.rules node leg (h.ins n)) (ours.ins n))
       law item_put in_items in_views (starts.proxies n)

@@ -18,7 +18,7 @@ use Rattle.rh_nodes.specs.World.{World}
 use Rattle.rh_history.specs.Carried.{wire_at}
 use Rattle.rh_history.specs.Histories.{History}
 use Rattle.rh_streams.specs.Streams.{is_live}
-use Rattle.rh_paths.specs.Legs.{IsInUse, has_passed, is_cut, on_leg, was_up}
+use Rattle.rh_paths.specs.Legs.{IsInUse, has_passed, is_cut, on_leg, was_told, was_up}
 use Rattle.rh_paths.specs.OnWay.{is_lost, left_on, on_way, read_by, read_on}
 
 pub both_up : (a b x y z : Bool) → x ≡ true → y ≡ true
@@ -30,9 +30,9 @@ both_up false false true true z e f = refl
 both_up a b false y z e f = absurd (cc)
 both_up a b true false z e f = absurd (cc)
 
-pub left_told : {S : Type 0} (s : Shell S) (leg : Leg) (up : Bool) (end : NearEnd)
-    → s.course ≡ Going → end_at s leg ≡ Some end → left_on s leg up ≡ Some end.begun
-left_told s leg up end going at = rw (going, at) refl
+pub left_told : {S : Type 0} (s : Shell S) (leg : Leg) (up lost : Bool) (end : NearEnd)
+    → s.course ≡ Going → end_at s leg ≡ Some end → left_on s leg up lost ≡ Some end.begun
+left_told s leg up lost end going at = rw (going, at) refl
 
 pub read_told : {S : Type 0} (rules : Rules S) (s : Shell S) (pipe : Option Pipe) (leg : Leg)
     (up : Bool) (end : NearEnd) → s.course ≡ Going → end_at s leg ≡ Some end
@@ -71,15 +71,16 @@ module _ {K C S I O P T : Type 0} (v : World K C S I O) (h : History) (leg : Leg
   used_leg =
       let wire = wire_at v.legs leg in
       let put_up = was_up v h leg (sender dir) in
+      let put_lost = was_told v h leg (sender dir) in
       let take_up = was_up v h leg (receiver dir) in
       way_told pipe (is_cut v h leg dir) (read_on rules takes pipe leg take_up)
-      (in_flight dir wire) (left_on puts leg put_up)
+      (in_flight dir wire) (left_on puts leg put_up put_lost)
       (reading used.far.intake.stage used.far.intake.held) used.near.begun
       (both_up take_up put_up (is_up (receiver dir) wire) (is_up (sender dir) wire)
       (is_empty (in_flight dir wire)) used.up_there used.up_here)
       (read_told rules takes pipe leg take_up used.far used.takes_on used.kept_there used.of_use
       used.live)
-      (left_told puts leg put_up used.near used.puts_on used.kept_here)
+      (left_told puts leg put_up put_lost used.near used.puts_on used.kept_here)
 
   pub used_goes : (came : List Item)
       → stops_at (is_lost (on_leg v h leg dir pipe puts rules takes)) came ≡ false

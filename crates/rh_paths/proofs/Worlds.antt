@@ -38,6 +38,7 @@ use Rattle.rh_up.proofs.Laws.{BeginLaws, are_begun}
 use Rattle.rh_fifo.specs.Directions.{Directions, down_route_of, up_route_of}
 use Rattle.rh_fifo.specs.Flows.{Numbers, numbers_of}
 use Rattle.rh_fifo.proofs.Marked.{RouteLaws, down_is_route, up_is_route}
+use Rattle.rh_paths.specs.Forgotten.{DrawnDirections}
 use Rattle.rh_paths.specs.OnWay.{is_lost, items_on_way}
 use Rattle.rh_paths.specs.Laws.{IsOnItsWay}
 use Rattle.rh_paths.specs.Ways.{AreNodes, AreOnTheirWay, down_far, down_lost, down_near, down_on, in_node, losses, on_legs, out_node, up_far, up_lost, up_near, up_on}
@@ -141,14 +142,17 @@ module _ {K : Type 0} (read : AllRead) (law : OrderLaws) (begin : BeginLaws) (kn
     outs = out_runs;
   }
 
-  module _ (directions : Directions numbers v here) where
+  module _ (drawn : DrawnDirections numbers v here) where
+    abbrev directions : Directions numbers v here
+    directions = drawn.directions
+
     down : IsOnItsWay (down_route_of directions) (down_on numbers v here) (down_lost numbers v here)
     down =
         on_its_way law (down_route_of directions) from_server down_items has_leg
         (down_near numbers v here) (down_far numbers v here)
         (λ n. (out_node numbers here n).course) (down_is_route law.routes directions)
         (down_arrives read m w.company w.cast ours v here carried traced.heard out_runs
-        directions.down (down_is_route law.routes directions))
+        directions.down drawn.server drawn.outs (down_is_route law.routes directions))
 
     up : IsOnItsWay (up_route_of directions) (up_on numbers v here) (up_lost numbers v here)
     up =
@@ -158,7 +162,7 @@ module _ {K : Type 0} (read : AllRead) (law : OrderLaws) (begin : BeginLaws) (kn
         (up_arrives read m w.company w.cast ours v here carried traced.heard in_runs
         (known m w v new ours by.leads).read directions.up
         (are_begun begin ours.config ours.window ours.in_config here.client here.server here.ins
-        (is_made v.company) (reader_of v.readers) directions.up)
+        (is_made v.company) (reader_of v.readers) directions.up) drawn.client drawn.ins
         (up_is_route law.routes directions))
 
     pub on_their_way : AreOnTheirWay numbers v here

@@ -15,6 +15,7 @@ use Rattle.rh_nodes.specs.World.{World, at}
 use Rattle.rh_history.specs.Carried.{came_up, events_of, wire_at}
 use Rattle.rh_history.specs.Histories.{History}
 use Rattle.rh_streams.specs.Streams.{is_live}
+use Rattle.rh_paths.specs.Lost.{was_lost}
 use Rattle.rh_paths.specs.OnWay.{left_on, on_way, read_on}
 
 -- the leg came up for the node at an end
@@ -24,6 +25,10 @@ was_up v h leg end = came_up leg (events_of h (at v leg end))
 -- and is not up there any more
 abbrev pub was_left : {K C S I O : Type 0} → World K C S I O → History → Leg → Side → Bool
 was_left v h leg end = was_up v h leg end && not (is_up end (wire_at v.legs leg))
+
+-- and was told that it ended or broke
+abbrev pub was_told : {K C S I O : Type 0} → World K C S I O → History → Leg → Side → Bool
+was_told v h leg end = was_lost leg (events_of h (at v leg end))
 
 -- the end that takes left; or the one that puts did, and nothing is in flight, so that some may
 -- have been lost
@@ -38,7 +43,8 @@ abbrev pub on_leg : {K C S I O P T : Type 0} → World K C S I O → History →
 on_leg v h leg dir pipe puts rules takes =
     on_way pipe (is_cut v h leg dir)
     (read_on rules takes pipe leg (was_up v h leg (receiver dir)))
-    (in_flight dir (wire_at v.legs leg)) (left_on puts leg (was_up v h leg (sender dir)))
+    (in_flight dir (wire_at v.legs leg))
+    (left_on puts leg (was_up v h leg (sender dir)) (was_told v h leg (sender dir)))
 
 -- it is up for both its ends; both nodes go on and keep it, and the one that takes has use for it
 pub record IsInUse {K C S I O P T : Type 0} (v : World K C S I O) (leg : Leg) (dir : Dir)

@@ -15,20 +15,22 @@ use Rattle.rh_streams.specs.Streams.{is_live}
 
 -- ---- the end that puts
 
--- the bytes that are begun and not drawn: none where the leg did not come up. Of a leg that is
+-- the bytes that are begun and not drawn: none where the leg did not come up, and where the node
+-- forgot it and was not told that it is lost, since it drew all before. Of a leg that is lost and
 -- forgotten, and of a node that closed, they are not told
-abbrev pub left_at : Bool → Option NearEnd → Option (List ℕ)
-left_at up (Some end) = Some end.begun
-left_at true None = None
-left_at false None = Some []
+abbrev pub left_at : Bool → Bool → Option NearEnd → Option (List ℕ)
+left_at up told (Some end) = Some end.begun
+left_at true true None = None
+left_at true false None = Some []
+left_at false told None = Some []
 
-abbrev pub left_by : Bool → Option NearEnd → Course → Option (List ℕ)
-left_by up end Going = left_at up end
-left_by up end (Closed why) = None
-left_by up end (Refusing why leg rest) = None
+abbrev pub left_by : Bool → Bool → Option NearEnd → Course → Option (List ℕ)
+left_by up told end Going = left_at up told end
+left_by up told end (Closed why) = None
+left_by up told end (Refusing why leg rest) = None
 
-abbrev pub left_on : {S : Type 0} → Shell S → Leg → Bool → Option (List ℕ)
-left_on s leg up = left_by up (end_at s leg) s.course
+abbrev pub left_on : {S : Type 0} → Shell S → Leg → Bool → Bool → Option (List ℕ)
+left_on s leg up told = left_by up told (end_at s leg) s.course
 
 -- ---- the end that takes
 

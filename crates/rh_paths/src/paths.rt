@@ -21,9 +21,9 @@ ghost use Rattle.rh_fifo.specs.Flows.{Numbers, numbers_of};
 ghost use Rattle.rh_fifo.specs.Premises.{AreInRange};
 ghost use Rattle.rh_paths.specs.Ways.{AreInUseDown, AreInUseUp, AreOnTheirWay, down_on, up_on};
 
+use crate::drawn::what_was_forgotten_was_drawn;
 use rh_down::what_goes_down_is_a_route;
 use rh_ends_begin::a_client_begins_with_a_request;
-use rh_fifo::directions_are_joined;
 use rh_order::{nothing_is_lost, nothing_stands_behind_a_mark, what_can_be_taken_was_given};
 use rh_proxies_begin::an_in_proxy_begins;
 use rh_reading::all_that_was_put_is_read;
@@ -42,7 +42,7 @@ pub fn nothing_on_its_way_is_lost<K>()
         → (v : World K ClientRole Server InProxy OutProxy) (by : ByChanges rules m deeds w v)
         → AreOnTheirWay (numbers_of ours) v (history_at m w v by.leads) }
 {
-    directions_are_joined::<K>();
+    what_was_forgotten_was_drawn::<K>();
     what_goes_down_is_a_route();
     what_goes_up_is_a_route();
     nothing_is_lost();

@@ -5,6 +5,7 @@ use Rattle.std.specs.declared.result.Result.{Result}
 use Rattle.rh_pdu.specs.declared.fault.HeadFault.{HeadFault}
 use Rattle.rh_pdu.specs.declared.fault.PduFault.{PduFault}
 use Rattle.rh_pdu.specs.declared.fault.PduFault.TheVariants.{Cut, Head, Rts, Length}
+use Rattle.rh_pdu.specs.declared.header.TheConstants.{PTYPE_AT}
 use Rattle.rh_pdu.specs.Header.{header_length, rts, frag_of, head_fault}
 
 -- where the header is whole: its fault, then an rts PDU, then a frag_length that isn't the number
@@ -12,7 +13,7 @@ use Rattle.rh_pdu.specs.Header.{header_length, rts, frag_of, head_fault}
 abbrev pub fault_behind : List ℕ → Option HeadFault → Option PduFault
 fault_behind bytes (Some fault) = Some (Head fault)
 fault_behind bytes None =
-    if slice_index bytes 2 == rts then Some Rts
+    if slice_index bytes PTYPE_AT == rts then Some Rts
     else (if frag_of bytes == length bytes then None
     else Some (Length (frag_of bytes) (length bytes)))
 

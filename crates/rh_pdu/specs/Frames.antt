@@ -1,6 +1,7 @@
 -- frames of a stream, and PDUs
 use Rattle.std.specs.Prelude.{ℕ, ◌≡◌, ◌≢◌, ◌<◌, ◌≤◌, ◌++◌, List, length, take, slice_index, None}
 use Rattle.std.specs.List.{concat, AllByRecursion}
+use Rattle.rh_pdu.specs.declared.header.TheConstants.{PTYPE_AT}
 use Rattle.rh_pdu.specs.Header.{header_length, rts, frag_of, head_fault}
 
 -- a header that breaks no rule, and as many bytes as it says
@@ -12,7 +13,7 @@ pub record IsFrame (bytes : List ℕ) : Type 0 where
 -- a frame that is no rts PDU
 pub record IsPdu (bytes : List ℕ) : Type 0 where
   pub frame : IsFrame bytes
-  pub not_rts : slice_index bytes 2 ≢ rts
+  pub not_rts : slice_index bytes PTYPE_AT ≢ rts
 
 -- the bytes are these frames, one after the other, and then a rest of which no prefix is a frame
 pub record Framed (bytes : List ℕ) (frames : List (List ℕ)) (rest : List ℕ) : Type 0 where

@@ -24,6 +24,7 @@ fn put(buf: &mut [u8], held: usize, want: usize, piece: &[u8]) -> usize
 }
 
 /// Puts the piece behind the bytes held, up to the end of the frame whose header is held.
+#[inline(always)]
 fn put_behind(buf: &mut [u8], held: usize, piece: &[u8]) -> Put
     requires room { length buf.old ≡ greatest_length }
     requires header { header_length ≤ held }
@@ -42,6 +43,7 @@ fn put_behind(buf: &mut [u8], held: usize, piece: &[u8]) -> Put
 
 /// Puts the piece behind the bytes held, up to the end of the first frame, or of the first header
 /// where that breaks a rule.
+#[inline(always)]
 pub fn put_frame(buf: &mut [u8], held: usize, piece: &[u8]) -> Put
     requires room { length buf.old ≡ greatest_length }
     requires below { held ≤ greatest_length }

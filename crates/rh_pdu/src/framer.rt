@@ -81,6 +81,7 @@ impl Framer {
     /// Answers `Frame` where a frame is whole, `Fault` where the header at hand breaks a rule, and
     /// from then on, and else `Need`. What `Frame` left of the piece is to be fed again. A place
     /// above 2^64 - 1 bytes is told as that number.
+    #[inline(always)]
     pub fn feed(&mut self, piece: &[u8]) -> Feed
         ensures sound { IsSound self.old }
         ensures fed { Fed result self.old self.new piece.now }

@@ -7,6 +7,22 @@ use crate::reading::{frag_of, head_fault, is_little, long_at, short_at};
 pub const HEADER_LEN: usize = 16;
 /// The greatest frag_length, in bytes (profile).
 pub const GREATEST_FRAG: usize = 8192;
+/// Where the version stands.
+pub const VERSION_AT: usize = 0;
+/// Where the minor version stands.
+pub const MINOR_AT: usize = 1;
+/// Where the kind of PDU, its PTYPE, stands.
+pub const PTYPE_AT: usize = 2;
+/// Where the flags stand.
+pub const FLAGS_AT: usize = 3;
+/// Where the data representation stands, whose first four bits are the byte order.
+pub const ORDER_AT: usize = 4;
+/// Where frag_length stands.
+pub const FRAG_AT: usize = 8;
+/// Where auth_length stands.
+pub const AUTH_AT: usize = 10;
+/// Where the number of the call stands.
+pub const CALL_AT: usize = 12;
 /// The version of the protocol.
 pub const VERSION: u8 = 5;
 /// The greatest minor version.
@@ -50,12 +66,12 @@ impl Header {
             return Err(fault);
         }
         Ok(Header {
-            ptype: bytes[2],
-            flags: bytes[3],
+            ptype: bytes[PTYPE_AT],
+            flags: bytes[FLAGS_AT],
             little: is_little(bytes),
             frag: frag_of(bytes),
-            auth: short_at(bytes, 10),
-            call: long_at(bytes, 12),
+            auth: short_at(bytes, AUTH_AT),
+            call: long_at(bytes, CALL_AT),
         })
     }
 }

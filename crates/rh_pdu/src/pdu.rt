@@ -5,7 +5,7 @@ ghost use Rattle.rh_pdu.specs.Frames.{IsPdu};
 ghost use Rattle.rh_pdu.specs.Checking.{checked, pdu_fault};
 
 use crate::fault::PduFault;
-use crate::header::{HEADER_LEN, RTS};
+use crate::header::{HEADER_LEN, PTYPE_AT, RTS};
 use crate::reading::{frag_of, head_fault};
 
 /// Whether the bytes are one whole PDU that is no RTS PDU.
@@ -22,7 +22,7 @@ pub fn check(bytes: &[u8]) -> Result<(), PduFault>
     if let Some(fault) = head_fault(bytes) {
         return Err(PduFault::Head(fault));
     }
-    if bytes[2] == RTS {
+    if bytes[PTYPE_AT] == RTS {
         return Err(PduFault::Rts);
     }
     let frag = frag_of(bytes);

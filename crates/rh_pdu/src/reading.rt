@@ -4,14 +4,17 @@ ghost use Rattle.std.specs.Prelude.{◌≡◌, ◌≤◌, ◌<◌, ◌+◌, leng
 ghost use Rattle.rh_pdu.specs.Header.{header_length, is_little, short_at, long_at, frag_of, head_fault};
 
 use crate::fault::HeadFault;
-use crate::header::{GREATEST_FRAG, GREATEST_MINOR, HEADER_LEN, LITTLE_ENDIAN, VERSION};
+use crate::header::{
+    FRAG_AT, GREATEST_FRAG, GREATEST_MINOR, HEADER_LEN, LITTLE_ENDIAN, MINOR_AT, ORDER_AT, VERSION,
+    VERSION_AT,
+};
 
 /// Whether integers have their least byte first.
 pub fn is_little(bytes: &[u8]) -> bool
     requires { header_length ≤ length bytes.now }
     ensures { result ≡ is_little bytes.now }
 {
-    bytes[4] / 16 == LITTLE_ENDIAN
+    bytes[ORDER_AT] / 16 == LITTLE_ENDIAN
 }
 
 /// The two bytes from this place on, as a number in the header's own byte order.
@@ -50,7 +53,7 @@ pub fn frag_of(bytes: &[u8]) -> u16
     requires { header_length ≤ length bytes.now }
     ensures { result ≡ frag_of bytes.now }
 {
-    short_at(bytes, 8)
+    short_at(bytes, FRAG_AT)
 }
 
 /// The first rule that a header breaks.
@@ -59,14 +62,14 @@ pub fn head_fault(bytes: &[u8]) -> Option<HeadFault>
     requires { header_length ≤ length bytes.now }
     ensures { result ≡ head_fault bytes.now }
 {
-    if bytes[0] != VERSION {
-        return Some(HeadFault::Version(bytes[0]));
+    if bytes[VERSION_AT] != VERSION {
+        return Some(HeadFault::Version(bytes[VERSION_AT]));
     }
-    if bytes[1] > GREATEST_MINOR {
-        return Some(HeadFault::Minor(bytes[1]));
+    if bytes[MINOR_AT] > GREATEST_MINOR {
+        return Some(HeadFault::Minor(bytes[MINOR_AT]));
     }
-    if bytes[4] / 16 > LITTLE_ENDIAN {
-        return Some(HeadFault::ByteOrder(bytes[4]));
+    if bytes[ORDER_AT] / 16 > LITTLE_ENDIAN {
+        return Some(HeadFault::ByteOrder(bytes[ORDER_AT]));
     }
     let frag = frag_of(bytes);
     if usize::from(frag) < HEADER_LEN {

@@ -34,7 +34,7 @@ unfolding head_fault frag_of
 out_frame = record { long = omega arith; head = refl; whole = refl }
 
 pub out_unnamed : message_in (Some CoD) out_proxy.echo_packet ≡ []
-unfolding packet_of read_packet packets.head_fault named_of name_on names fits
+unfolding packet_of read_packet packets.header_fault named_of name_on names fits
 out_unnamed = refl
 
 -- so they read well where packets without a name do
@@ -43,5 +43,5 @@ unfolding packet_of
 in_well = λ is. refl
 
 pub out_well : FrameIsWell is_packet (Some CoD) out_proxy.echo_packet
-unfolding packet_of read_packet packets.head_fault named_of name_on names fits
+unfolding packet_of read_packet packets.header_fault named_of name_on names fits
 out_well = λ is. refl

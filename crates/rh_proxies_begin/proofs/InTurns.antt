@@ -1,5 +1,5 @@
--- where the moves of an in proxy are in their turn, it puts on each ci leg one answer at most, where
--- a body is passed over
+-- where the moves of an in proxy are in their turn, it puts on each ci leg one answer at most,
+-- where a body is passed over
 use Rattle.std.proofs.Common.{◌≡◌, ◌⊎◌, inl, inr, ℕ, ◌==◌, List, [], ◌∷◌, ◌++◌, Bool, true, false, ◌&&◌, ◌||◌, Some, None, Ok, Err, refl, sym, ap, ◌∙◌, subst}
 use Rattle.std.specs.Prelude.{if◌then◌else◌, nat_le, IfSome}
 use Rattle.std.specs.declared.option.Option.{Option}

@@ -49,7 +49,8 @@ pub fn what_an_out_proxy_puts_first_reads_well()
         → AllByRecursion (IsWellText well (Some OsU))
         (of_leg (os config.number) (all_moved rules (started (new_proxy config)) moves).put) }
     ensures client { (config : OutProxyConfig) (moves : List Move)
-        → AreAllowed rules (started (new_proxy config)) moves → AreInTurn rules (new_proxy config) moves
+        → AreAllowed rules (started (new_proxy config)) moves
+        → AreInTurn rules (new_proxy config) moves
         → AllByRecursion (IsWellText is_packet (Some CoD))
         (of_leg (co config.number) (all_moved rules (started (new_proxy config)) moves).put) }
 {

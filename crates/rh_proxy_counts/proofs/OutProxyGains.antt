@@ -1,6 +1,7 @@
 -- what an out proxy owes behind a row: no more than what came is worth
 use Rattle.std.proofs.Common.{◌≡◌, ℕ, ◌+◌, ◌≤◌, ◌==◌, Bool, true, false, ◌&&◌, if◌then◌else◌, Ok, Err, refl, sym, ap, arith}
 use Rattle.rh_rts.specs.declared.command.Cookie.{Cookie}
+use Rattle.rh_rts.specs.declared.command.TheConstants.{TO_OUT_PROXY}
 use Rattle.rh_sig.specs.declared.named.Named.{Named}
 use Rattle.rh_sig.specs.declared.named.Named.TheVariants as named
 use Rattle.rh_line.specs.declared.leg.Leg.{Leg}
@@ -15,7 +16,7 @@ use Rattle.rh_outproxy.specs.declared.state.OutProxyConfig.{OutProxyConfig}
 use Rattle.rh_outproxy.specs.OutProxy.{OutProxy, is_client_marked, is_known, is_server_down}
 use Rattle.rh_outproxy.specs.Rows.{Done, is_co, is_os, is_first, is_carrying, takes_pdus, taken, unexpected, forwarded, forwarded_by, passed_on}
 use Rattle.rh_outproxy.specs.Opening.{told_length, new_length, successor_length, opened, on_out_r2_c1, conn_c1_by}
-use Rattle.rh_outproxy.specs.Acknowledging.{out_proxy, on_ack, on_ack_to}
+use Rattle.rh_outproxy.specs.Acknowledging.{on_ack, on_ack_to}
 use Rattle.rh_outproxy.specs.Ending.{on_end_b1}
 use Rattle.rh_outproxy.specs.OutReplacement.{on_out_r1_a9}
 use Rattle.rh_outproxy.specs.Machine.{packet, on_co, on_os}
@@ -148,7 +149,7 @@ module _ (client server put : Named → Bool) (strict : Bool)
     ack_gains : (k to received available : ℕ) (cookie : Cookie)
         → Gains k s (on_ack_to s to received available cookie)
     ack_gains k to received available cookie =
-        by_test (Gains k s) (to == out_proxy) (on_ack s received available cookie)
+        by_test (Gains k s) (to == TO_OUT_PROXY) (on_ack s received available cookie)
         (passed_on s to (named.AckTo 0 received available cookie))
         (λ e. due.same_gains put n strict leads.closed k s (on_ack s received available cookie) h
         (same_ack s received available cookie))

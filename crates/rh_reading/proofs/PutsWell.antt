@@ -29,7 +29,8 @@ module _ (well_of : Answers) (pipe : Option Pipe) where
   -- ---- one after the other
 
   pub well_then : (r : Reading) (a b : List ℕ) → ReadsWellFrom well_of pipe r a
-      → ReadsWellFrom well_of pipe (reading_after pipe r a) b → ReadsWellFrom well_of pipe r (a ++ b)
+      → ReadsWellFrom well_of pipe (reading_after pipe r a) b
+      → ReadsWellFrom well_of pipe r (a ++ b)
   well_then r [] b first next = next
   well_then r (x ∷ a) b first next =
       (first.0, well_then (read_byte pipe r x).0 a b first.1 next)
@@ -228,7 +229,8 @@ module _ (well_of : Answers) (pipe : Option Pipe) where
         → (IsWholeText is_whole text × AreNoTexts put) ⊎ (ReadsNothing pipe text × (put ≡ []))
         → AllByRecursion (ReadsBack pipe) put → AreFramesWell put → (heard : List ℕ)
         → IsPrefix heard (text ++ spelled put) → ReadsWellFrom well_of pipe (reading s []) heard
-    text_well text put well (inl h) back frames heard p = by_part (parted heard text (spelled put) p)
+    text_well text put well (inl h) back frames heard p =
+        by_part (parted heard text (spelled put) p)
       where
         by_part : Parted heard text (spelled put) → ReadsWellFrom well_of pipe (reading s []) heard
         by_part (inl front) = from_first heard (well heard (front.0 ∷ front.1, front.2))

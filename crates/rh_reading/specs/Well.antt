@@ -6,6 +6,7 @@ use Rattle.std.specs.declared.option.Option.{Option}
 use Rattle.std.specs.declared.result.Result.{Result}
 use mathlib.Core.List.{IsPrefix}
 use Rattle.rh_pdu.specs.declared.fault.HeadFault.{HeadFault}
+use Rattle.rh_pdu.specs.declared.header.TheConstants.{PTYPE_AT}
 use Rattle.rh_pdu.specs.Header.{rts, header_length, frag_of, head_fault}
 use Rattle.rh_sig.specs.declared.fault.SigFault.TheVariants as sig
 use Rattle.rh_sig.specs.declared.name.Pipe.{Pipe}
@@ -47,7 +48,7 @@ AreTaken well = (named : Named) → well (Ok named) ≡ true
 -- a whole frame of the type of RTS PDUs
 abbrev pub FrameIsWell : Answers → Option Pipe → List ℕ → Type 0
 FrameIsWell well pipe frame =
-    slice_index frame 2 ≡ rts → well (packet_of frame pipe) ≡ true
+    slice_index frame PTYPE_AT ≡ rts → well (packet_of frame pipe) ≡ true
 
 -- behind a whole header
 abbrev pub HeaderIsWell : Answers → Option Pipe → List ℕ → Option HeadFault → Type 0

@@ -11,7 +11,9 @@ use Rattle.rh_record.specs.declared.line.Line.TheVariants.{OpenLeg, OpenSame, Br
 use Rattle.rh_record.specs.declared.verb.Verb.{Verb}
 use Rattle.rh_record.specs.declared.verb.Verb.TheVariants as verbs
 use Rattle.rh_record.specs.Verbs.{verb_word}
-use Rattle.rh_record.specs.Words.{Cut, Then, Word, IsCount, IsRoute}
+use Rattle.rh_record.specs.Words.{Cut, Then, Word, IsCount, IsRoute, most_bytes, most_number}
+use Rattle.rh_record.specs.declared.words.TheConstants.{BLANK}
+use Rattle.rh_record.specs.declared.reading.TheConstants.{LAST_MOMENT, MOST_ROUNDS}
 use Rattle.rh_record.specs.Recording.{LineText, form_word}
 use Rattle.rh_record.specs.declared.line.RecordKind.{RecordKind}
 use Rattle.rh_record.specs.declared.place.Place.{Place}
@@ -67,7 +69,7 @@ one_form word true true h k = refl
 one_form word false false h k = refl
 one_form word _ _ h k = absurd (omega (arith, ap (λ (w : List ℕ). get_or w 0 0) (sym h ∙ k)))
 
-no_cut : (word rest : List ℕ) → [] ≡ word ++ 32 ∷ rest → ⊥
+no_cut : (word rest : List ℕ) → [] ≡ word ++ BLANK ∷ rest → ⊥
 no_cut [] rest e = (let h = e in cc)
 no_cut (x ∷ word) rest e = (let h = e in cc)
 
@@ -80,7 +82,7 @@ one_piece text leg other dir way count many h k =
     let later = both here.1 here.3.0 here.3.1 in (
       one_route here.0 leg other here.2.0 here.2.1,
       one_dir later.0 dir way later.2.0 later.2.1,
-      one_number 1 65536 later.1 count many (omega arith) later.3.0 later.3.1,
+      one_number 1 most_bytes later.1 count many (omega arith) later.3.0 later.3.1,
     )
 
 -- two lines of one text are the same line
@@ -93,13 +95,13 @@ one_line text (Set a v) (Set b w) h k =
     let here = both text h k in
     let later = both here.1 here.3.0 here.3.1 in
     let keys : a ≡ b = one_key later.0 a b later.2.0 later.2.1 in
-    let values : v ≡ w = one_number 0 4294967295 later.1 v w
+    let values : v ≡ w = one_number 0 most_number later.1 v w
     (omega arith) later.3.0.spelled later.3.1.spelled in cc
 one_line text (Give a p) (Give b q) h k =
     let here = both text h k in
     let later = both here.1 here.3.0 here.3.1 in
     let sides : a ≡ b = one_side later.0 a b later.2.0 later.2.1 in
-    let bytes : p ≡ q = one_hex 65536 later.1 p q later.3.0 later.3.1 in cc
+    let bytes : p ≡ q = one_hex most_bytes later.1 p q later.3.0 later.3.1 in cc
 one_line text (Take a) (Take b) h k =
     let here = both text h k in ap Take (one_side here.1 a b here.3.0 here.3.1)
 one_line text (Close a) (Close b) h k =
@@ -135,7 +137,7 @@ one_line text (EndLeg l d) (EndLeg m e) h k =
     let dirs : d ≡ e = one_dir later.1 d e later.3.0 later.3.1 in cc
 one_line text (Tick n) (Tick o) h k =
     let here = both text h k in
-    ap Tick (one_number 0 9223372036854775807 here.1 n o (omega arith) here.3.0 here.3.1)
+    ap Tick (one_number 0 LAST_MOMENT here.1 n o (omega arith) here.3.0 here.3.1)
 one_line text RecycleIn RecycleIn h k = refl
 one_line text RecycleOut RecycleOut h k = refl
 one_line text RecycleIn RecycleOut h k =
@@ -151,7 +153,7 @@ one_line text RecycleOut RecycleIn h k =
           (sym here.3.0 ∙ here.3.1),
     ))
 one_line text (Settle n) (Settle o) h k =
-    let here = both text h k in ap Settle (one_number 1 100000 here.1 n o
+    let here = both text h k in ap Settle (one_number 1 MOST_ROUNDS here.1 n o
     (omega arith) here.3.0 here.3.1)
 one_line text a b h k = absurd (omega (arith, same_verb text a b h k))
 

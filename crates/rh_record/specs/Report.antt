@@ -7,6 +7,7 @@ use Rattle.hex.specs.Hex.{encode_lower}
 use Rattle.rh_text.specs.declared.ends.Side.{Side}
 use Rattle.rh_text.specs.declared.ends.Side.TheVariants.{Client, Server}
 use Rattle.rh_text.specs.Ends.{side_word, dir_word}
+use Rattle.rh_text.specs.declared.lines.TheConstants.{LINE_FEED}
 use Rattle.rh_pdu.specs.Texts.{pdu_fault_text}
 use Rattle.rh_line.specs.declared.leg.Leg.{Leg}
 use Rattle.rh_line.specs.declared.state.State.{State}
@@ -122,4 +123,4 @@ answer_text (Last side state inbound outbound) = end_name side ++ state_text sta
 -- the answers, each ended by LF
 abbrev pub report_text : List Answer → List ℕ
 report_text [] = []
-report_text (answer ∷ answers) = answer_text answer ++ 10 ∷ report_text answers
+report_text (answer ∷ answers) = answer_text answer ++ LINE_FEED ∷ report_text answers

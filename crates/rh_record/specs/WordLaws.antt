@@ -18,25 +18,26 @@ use Rattle.rh_line.specs.declared.leg.LegKind.{LegKind}
 use Rattle.rh_line.specs.declared.leg.LegKind.TheVariants.{ClientOut, OutServer, ClientIn, InServer}
 use Rattle.rh_line.specs.Texts.{letters_of}
 use Rattle.rh_record.specs.Words.{Cut, Then, IsLeg, IsRoute, key_word}
+use Rattle.rh_record.specs.declared.words.TheConstants.{BLANK}
 use Rattle.rh_record.specs.declared.line.Key.{Key}
 use Rattle.rh_record.specs.declared.line.Key.TheVariants.{Cwin, Iwin, Owin, Swin, Ilife, Olife, Itime, Otime, Keep, Same}
 
 -- ---- the first blank
 
-behind_none : (x : ℕ) (xs : List ℕ) → ¬ Contains (x ∷ xs) 32 → ¬ Contains xs 32
+behind_none : (x : ℕ) (xs : List ℕ) → ¬ Contains (x ∷ xs) BLANK → ¬ Contains xs BLANK
 behind_none x xs none (k, below, is) = none (suc k, omega (arith, below), is)
 
-front_none : (x : ℕ) (xs : List ℕ) → ¬ Contains (x ∷ xs) 32 → x ≢ 32
+front_none : (x : ℕ) (xs : List ℕ) → ¬ Contains (x ∷ xs) BLANK → x ≢ BLANK
 front_none x xs none is = none (0, omega arith, is)
 
-one_blank : (a b : List ℕ) (rest more : List ℕ) → ¬ Contains a 32 → ¬ Contains b 32
-    → a ++ 32 ∷ rest ≡ b ++ 32 ∷ more → (a ≡ b) × (rest ≡ more)
+one_blank : (a b : List ℕ) (rest more : List ℕ) → ¬ Contains a BLANK → ¬ Contains b BLANK
+    → a ++ BLANK ∷ rest ≡ b ++ BLANK ∷ more → (a ≡ b) × (rest ≡ more)
 one_blank [] [] rest more na nb e = (refl, (let h = e in cc))
 one_blank [] (y ∷ b) rest more na nb e = absurd (front_none y b nb (let h = e in cc))
 one_blank (x ∷ a) [] rest more na nb e = absurd (front_none x a na (let h = e in cc))
 one_blank (x ∷ a) (y ∷ b) rest more na nb e =
     let heads : x ≡ y = (let h = e in cc) in
-    let tails : a ++ 32 ∷ rest ≡ b ++ 32 ∷ more = (let h = e in cc) in
+    let tails : a ++ BLANK ∷ rest ≡ b ++ BLANK ∷ more = (let h = e in cc) in
     let same = one_blank a b rest more (behind_none x a na) (behind_none y b nb) tails in
     let fronts : a ≡ b = same.0 in
     ((cc), same.1)
@@ -79,15 +80,15 @@ one_key word _ _ h k = absurd (omega (arith, ap two_letters (sym h ∙ k)))
 -- ---- words in a row
 
 -- the blank stands behind the word
-blank_at : (word rest : List ℕ) → (length word < length (word ++ 32 ∷ rest))
-    × (slice_index (word ++ 32 ∷ rest) (length word) ≡ 32)
+blank_at : (word rest : List ℕ) → (length word < length (word ++ BLANK ∷ rest))
+    × (slice_index (word ++ BLANK ∷ rest) (length word) ≡ BLANK)
 blank_at [] rest = (omega arith, refl)
 blank_at (x ∷ word) rest = let h = blank_at word rest in (omega (arith, h.0), h.1)
 
 pub cut_blank : (text word rest : List ℕ) → Cut text word rest
-    → (length word < length text) × (slice_index text (length word) ≡ 32)
+    → (length word < length text) × (slice_index text (length word) ≡ BLANK)
 cut_blank text word rest cut =
-    subst (λ t. (length word < length t) × (slice_index t (length word) ≡ 32)) (sym cut.joined)
+    subst (λ t. (length word < length t) × (slice_index t (length word) ≡ BLANK)) (sym cut.joined)
     (blank_at word rest)
 
 -- two readings of one text by words begin with the same word, and go on with the same text

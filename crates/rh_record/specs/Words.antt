@@ -1,10 +1,14 @@
 -- the words of a recording's line, one blank between two of them (profile)
-use Rattle.std.specs.Prelude.{◌≡◌, ℕ, ◌≤◌, List, ◌∷◌, ◌++◌, Contains, codes, Some, None, Bool, ◌==◌, ◌&&◌, ◌||◌, nat_le, IsTrue}
+use Rattle.std.specs.Prelude.{◌≡◌, ℕ, ◌≤◌, List, ◌∷◌, ◌++◌, Contains, codes, Some, None, Bool, ◌&&◌, nat_le, IsTrue}
 use Rattle.std.specs.declared.option.Option.{Option}
 use Rattle.rh_text.specs.Numbers.{IsNumber}
+use Rattle.rh_keep.specs.Lifetimes.{is_lifetime}
+use Rattle.rh_sig.specs.Values.{is_window, is_timeout, is_keepalive}
 use Rattle.rh_line.specs.declared.leg.Leg.{Leg}
 use Rattle.rh_line.specs.declared.leg.LegKind.TheVariants.{ClientIn}
 use Rattle.rh_line.specs.Texts.{leg_text}
+use Rattle.rh_record.specs.declared.words.TheConstants.{BLANK, MOST_NUMBER}
+use Rattle.rh_record.specs.declared.reading.TheConstants.{MOST_BYTES, LAST_MOMENT, MOST_ROUNDS}
 use Rattle.rh_record.specs.declared.line.Key.{Key}
 use Rattle.rh_record.specs.declared.line.Key.TheVariants.{Cwin, Iwin, Owin, Swin, Ilife, Olife, Itime, Otime, Keep, Same}
 
@@ -12,8 +16,8 @@ use Rattle.rh_record.specs.declared.line.Key.TheVariants.{Cwin, Iwin, Owin, Swin
 
 -- the text begins with a word, which has no blank, and the rest stands behind its blank
 pub record Cut (text word rest : List ℕ) : Type 0 where
-  pub one : ¬ Contains word 32
-  pub joined : text ≡ word ++ 32 ∷ rest
+  pub one : ¬ Contains word BLANK
+  pub joined : text ≡ word ++ BLANK ∷ rest
 
 -- a word of this kind, and behind its blank a text of that one
 abbrev pub Then : (List ℕ → Type 0) → (List ℕ → Type 0) → List ℕ → Type 0
@@ -36,11 +40,11 @@ Word word Behind = Then (Is word) Behind
 
 -- the greatest number of 32 bits
 abbrev pub most_number : ℕ
-most_number = 4294967295
+most_number = MOST_NUMBER
 
 -- the most bytes of a give, and the greatest count of a send or a move
 abbrev pub most_bytes : ℕ
-most_bytes = 65536
+most_bytes = MOST_BYTES
 
 -- a count of bytes
 abbrev pub IsCount : ℕ → List ℕ → Type 0
@@ -48,11 +52,11 @@ IsCount count text = IsNumber 1 most_bytes text count
 
 -- a moment, in milliseconds
 abbrev pub IsMoment : ℕ → List ℕ → Type 0
-IsMoment now text = IsNumber 0 9223372036854775807 text now
+IsMoment now text = IsNumber 0 LAST_MOMENT text now
 
 -- a number of rounds
 abbrev pub IsRounds : ℕ → List ℕ → Type 0
-IsRounds rounds text = IsNumber 1 100000 text rounds
+IsRounds rounds text = IsNumber 1 MOST_ROUNDS text rounds
 
 -- ---- legs
 
@@ -94,15 +98,15 @@ within lowest greatest value = nat_le lowest value && nat_le value greatest
 -- whether a key takes a value: bytes of a window or a lifetime, milliseconds of a timeout or a
 -- keepalive
 abbrev pub takes : Key → ℕ → Bool
-takes Cwin value = within 8192 262144 value
-takes Iwin value = within 8192 262144 value
-takes Owin value = within 8192 262144 value
-takes Swin value = within 8192 262144 value
-takes Ilife value = within 131072 2147483648 value
-takes Olife value = within 131072 2147483648 value
-takes Itime value = within 120000 14400000 value
-takes Otime value = within 120000 14400000 value
-takes Keep value = value == 0 || within 60000 most_number value
+takes Cwin value = is_window value
+takes Iwin value = is_window value
+takes Owin value = is_window value
+takes Swin value = is_window value
+takes Ilife value = is_lifetime value
+takes Olife value = is_lifetime value
+takes Itime value = is_timeout value
+takes Otime value = is_timeout value
+takes Keep value = is_keepalive value
 takes Same value = within 0 1 value
 
 -- a value of the key

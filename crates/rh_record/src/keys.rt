@@ -5,13 +5,18 @@ ghost use Rattle.rh_record.specs.Words.{IsValue, within};
 
 use crate::line::Key;
 use crate::words::MOST_NUMBER;
+use rh_keep::{GREATEST_LIFETIME, LEAST_LIFETIME};
+use rh_sig::ranges::{
+    DEFAULT_KEEPALIVE, GREATEST_KEEPALIVE, GREATEST_TIMEOUT, LEAST_KEEPALIVE, LEAST_TIMEOUT,
+};
 use rh_text::read_number;
+use rh_window::{GREATEST_WINDOW, LEAST_WINDOW};
 
 /// Whether the value lies from `least` to `most`.
-fn is_within(least: u64, most: u64, value: u64) -> bool
+fn is_within(least: u32, most: u32, value: u64) -> bool
     ensures { result ≡ within least most value }
 {
-    least <= value && value <= most
+    u64::from(least) <= value && value <= u64::from(most)
 }
 
 impl Key {
@@ -61,10 +66,15 @@ impl Key {
         ensures { result ≡ takes self value }
     {
         match self {
-            Key::Cwin | Key::Iwin | Key::Owin | Key::Swin => is_within(8_192, 262_144, value),
-            Key::Ilife | Key::Olife => is_within(131_072, 2_147_483_648, value),
-            Key::Itime | Key::Otime => is_within(120_000, 14_400_000, value),
-            Key::Keep => value == 0 || is_within(60_000, MOST_NUMBER, value),
+            Key::Cwin | Key::Iwin | Key::Owin | Key::Swin => {
+                is_within(LEAST_WINDOW, GREATEST_WINDOW, value)
+            }
+            Key::Ilife | Key::Olife => is_within(LEAST_LIFETIME, GREATEST_LIFETIME, value),
+            Key::Itime | Key::Otime => is_within(LEAST_TIMEOUT, GREATEST_TIMEOUT, value),
+            Key::Keep => {
+                value == u64::from(DEFAULT_KEEPALIVE)
+                    || is_within(LEAST_KEEPALIVE, GREATEST_KEEPALIVE, value)
+            }
             Key::Same => is_within(0, 1, value),
         }
     }

@@ -6,20 +6,24 @@ ghost use Rattle.rh_record.specs.declared.line.Line.TheVariants.{Give};
 
 use crate::line::{Key, Line, RecordKind};
 
+/// How many keys there are.
+pub const KEYS: usize = 10;
+
 /// Which keys were set, each at its place of `Key::place`.
 #[derive(Clone, Copy, Debug)]
 pub struct Keys {
-    set: [bool; 10],
+    set: [bool; KEYS],
 }
 
 impl Key {
     ghost use Rattle.std.specs.Prelude.{◌≡◌, ◌<◌};
     ghost use Rattle.rh_record.specs.Places.{key_place};
+    ghost use Rattle.rh_record.specs.declared.place.TheConstants.{KEYS};
 
     /// The place of the key in the order of the keys, from 0.
     pub fn place(self) -> usize
         ensures place { result ≡ key_place self }
-        ensures few { result < 10 }
+        ensures few { result < KEYS }
     {
         match self {
             Key::Cwin => 0,
@@ -44,7 +48,7 @@ impl Keys {
     pub fn none() -> Keys
         ensures { result ≡ no_keys }
     {
-        Keys { set: [false; 10] }
+        Keys { set: [false; KEYS] }
     }
 
     /// Whether the key was set.

@@ -1,7 +1,7 @@
 //! Reads the lines of a recording: words with one blank between two of them, the first of which is
 //! the verb.
 
-ghost use Rattle.std.specs.Prelude.{◌≡◌, ◌↔◌, ℕ, List, Bool, IsTrue, codes, Err, IfOk, MatchOption};
+ghost use Rattle.std.specs.Prelude.{◌≡◌, ◌↔◌, ◌++◌, ◌∷◌, ℕ, List, Bool, IsTrue, codes, Err, IfOk, IfSome, MatchOption};
 ghost use Rattle.std.specs.declared.option.Option.{Option};
 ghost use Rattle.rh_text.specs.declared.ends.Dir.{Dir};
 ghost use Rattle.rh_text.specs.declared.ends.Side.{Side};
@@ -9,6 +9,7 @@ ghost use Rattle.rh_text.specs.Ends.{dir_word, side_word};
 ghost use Rattle.rh_line.specs.declared.leg.Leg.{Leg};
 ghost use Rattle.rh_record.specs.declared.line.Line.{Line};
 ghost use Rattle.rh_record.specs.declared.reading.LineRefused.TheVariants.{Grammar};
+ghost use Rattle.rh_record.specs.declared.words.TheConstants.{BLANK};
 ghost use Rattle.rh_record.specs.Verbs.{verb_word};
 ghost use Rattle.rh_record.specs.Words.{Is, IsCount, IsInLeg, IsLeg, IsRoute, IsValue, Then, Word, key_word};
 ghost use Rattle.rh_record.specs.Recording.{IsLine, form_word};
@@ -59,9 +60,18 @@ pub(crate) enum Parsed<'a> {
 
 // ---- words that several lines have
 
-/// The leg, the direction and the count of bytes.
+/// The count of bytes.
 #[inline(always)]
-fn read_piece(text: &[u8]) -> Option<(Option<Leg>, Dir, u32)>
+fn read_count(word: &[u8]) -> Option<u32>
+    ensures { MatchOption result ((count : ℕ) → ¬ IsCount count word.now)
+        (λ count. IsCount count word.now) }
+{
+    let count = read_number(word, 1, MOST_BYTES as u64)? as u32;
+    Some(count)
+}
+
+/// The leg, the direction and the count of bytes.
+fn read_any_piece(text: &[u8]) -> Option<(Option<Leg>, Dir, u32)>
     ensures { MatchOption result ((leg : Option Leg) (dir : Dir) (count : ℕ)
         → ¬ Then (IsRoute leg) (Word (dir_word dir) (IsCount count)) text.now)
         (λ found. Then (IsRoute found.0) (Word (dir_word found.1) (IsCount found.2)) text.now) }
@@ -70,8 +80,38 @@ fn read_piece(text: &[u8]) -> Option<(Option<Leg>, Dir, u32)>
     let leg = read_route(leg)?;
     let (dir, count) = split_word(rest)?;
     let dir = Dir::of_word(dir)?;
-    let count = read_number(count, 1, MOST_BYTES as u64)? as u32;
+    let count = read_count(count)?;
     Some((leg, dir, count))
+}
+
+/// The direction behind the leg of a direct recording, and the word behind that, which takes no
+/// search for a blank; `None` may mean another leg.
+#[inline(always)]
+fn split_direct(text: &[u8]) -> Option<(Dir, &[u8])>
+    ensures { IfSome result (λ found.
+        text.now ≡ codes "cs" ++ BLANK ∷ (dir_word found.0 ++ BLANK ∷ found.1.now)) }
+{
+    match text {
+        [b'c', b's', b' ', b'u', b' ', count @ ..] => Some((Dir::U, count)),
+        [b'c', b's', b' ', b'd', b' ', count @ ..] => Some((Dir::D, count)),
+        _ => None,
+    }
+}
+
+/// The leg, the direction and the count of bytes. The leg of a direct recording is tried first.
+#[inline(always)]
+fn read_piece(text: &[u8]) -> Option<(Option<Leg>, Dir, u32)>
+    ensures { MatchOption result ((leg : Option Leg) (dir : Dir) (count : ℕ)
+        → ¬ Then (IsRoute leg) (Word (dir_word dir) (IsCount count)) text.now)
+        (λ found. Then (IsRoute found.0) (Word (dir_word found.1) (IsCount found.2)) text.now) }
+{
+    match split_direct(text) {
+        Some((dir, word)) => {
+            let count = read_count(word)?;
+            Some((None, dir, count))
+        }
+        None => read_any_piece(text),
+    }
 }
 
 /// The leg and the direction.
@@ -289,8 +329,7 @@ fn parse_behind(verb: Verb, words: &[u8]) -> Option<Parsed<'_>>
 pub(crate) fn parse(text: &[u8]) -> Option<Parsed<'_>>
     ensures { IsParsed result text.now }
 {
-    let (word, words) = split_word(text)?;
-    let verb = Verb::of_word(word)?;
+    let (verb, words) = Verb::split(text)?;
     parse_behind(verb, words)
 }
 

@@ -57,8 +57,9 @@ pub fn one_reading()
     ensures { (text : List ℕ) (a b : Line) → LineText a text → LineText b text → a ≡ b }
 {}
 
-/// A text is the text of one recording, or has one first bad line, and never both: this function
-/// does nothing, and its contract is that law. `first_bad_line::<Recording>` tells which.
+/// A text is the text of one recording at most, and has one first bad line at most, and never both:
+/// this function does nothing, and its contract is these laws. That it is one of the two is said by
+/// `first_bad_line::<Recording>`, which tells which.
 pub fn one_recording()
     ensures lines { (text : List ℕ) (a b : List Line) → TextOf recording text a
         → TextOf recording text b → a ≡ b }

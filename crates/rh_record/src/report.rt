@@ -39,7 +39,7 @@ impl Report {
     }
 
     /// Adds an answer at the end.
-    #[inline]
+    #[inline(always)]
     pub fn push(&mut self, answer: Answer) -> Result<(), AllocError>
         ensures ok { OnOk result (self.new ≡ self.old ++ answer ∷ []) }
         ensures err { OnErr result (self.new ≡ self.old) }

@@ -3,7 +3,7 @@
 //! Each call fails where there is no memory; a front of what was to be appended may stand in `out`
 //! then, and nothing else.
 
-ghost use Rattle.std.specs.Prelude.{◌≡◌, ◌++◌, ◌∷◌, [], Some, None, codes, string_bytes};
+ghost use Rattle.std.specs.Prelude.{◌≡◌, ◌++◌, ◌∷◌, [], Some, None, Ok, Err, codes, string_bytes};
 ghost use Rattle.std.specs.Fmt.{decimal};
 ghost use Rattle.rh_text.specs.Ends.{dir_word};
 ghost use Rattle.rh_text.specs.Writing.{Writes, parts_text};
@@ -17,7 +17,7 @@ use crate::answer::{Answer, TakeAnswer, Who};
 use crate::report::Report;
 use rh_line::{Cause, Dir, GiveFault, Leg, RecycleFault, Side, State, write_cause};
 use rh_pdu::{PduFault, write_pdu_fault};
-use rh_text::{Bytes, Part, write_parts};
+use rh_text::{Bytes, Part, write_five, write_parts, write_three};
 use std::alloc::AllocError;
 
 const SPACE: Part<'static> = Part::Text(" ");
@@ -61,6 +61,40 @@ fn write_faulty(front: &[Part<'_>], fault: PduFault, out: &mut String) -> Result
     write_parts(&[END], out)
 }
 
+// What is written of most lines is kept apart from the rest, whose parts would take their room too.
+
+/// Appends the answer to a give that was accepted.
+fn write_accepted(side: Side, len: u16, out: &mut String) -> Result<(), AllocError>
+    ensures { Writes (report_text (answers.Give side (Ok len) ∷ [])) result
+        (string_bytes out.old) (string_bytes out.new) }
+{
+    let (give, side_word) = (Part::Text("give "), Part::Text(side.word()));
+    let len = Part::Number(u64::from(len));
+    write_five(&[give, side_word, Part::Text(" ok "), len, END], out)
+}
+
+/// Appends the answer to a give that was refused.
+fn write_refused(side: Side, fault: &GiveFault, out: &mut String) -> Result<(), AllocError>
+    ensures { Writes (report_text (answers.Give side (Err fault.now) ∷ [])) result
+        (string_bytes out.old) (string_bytes out.new) }
+{
+    let (give, side_word) = (Part::Text("give "), Part::Text(side.word()));
+    match fault {
+        GiveFault::Full { held, len } => {
+            let (held, len) = (Part::Number(*held as u64), Part::Number(*len as u64));
+            let full = Part::Text(" full ");
+            write_parts(&[give, side_word, full, held, SPACE, len, END], out)
+        }
+        GiveFault::BadPdu(fault) => {
+            write_faulty(&[give, side_word, Part::Text(" bad ")], *fault, out)
+        }
+        GiveFault::Closing => write_parts(&[give, side_word, Part::Text(" closing\n")], out),
+        GiveFault::Closed(cause) => {
+            write_caused(&[give, side_word, Part::Text(" closed ")], cause, out)
+        }
+    }
+}
+
 /// Appends the answer to a give.
 fn write_give(
     side: Side,
@@ -70,24 +104,9 @@ fn write_give(
     ensures { Writes (report_text (answers.Give side answer.now ∷ [])) result
         (string_bytes out.old) (string_bytes out.new) }
 {
-    let (give, side_word) = (Part::Text("give "), Part::Text(side.word()));
     match answer {
-        Ok(len) => {
-            let len = Part::Number(u64::from(*len));
-            write_parts(&[give, side_word, Part::Text(" ok "), len, END], out)
-        }
-        Err(GiveFault::Full { held, len }) => {
-            let (held, len) = (Part::Number(*held as u64), Part::Number(*len as u64));
-            let full = Part::Text(" full ");
-            write_parts(&[give, side_word, full, held, SPACE, len, END], out)
-        }
-        Err(GiveFault::BadPdu(fault)) => {
-            write_faulty(&[give, side_word, Part::Text(" bad ")], *fault, out)
-        }
-        Err(GiveFault::Closing) => write_parts(&[give, side_word, Part::Text(" closing\n")], out),
-        Err(GiveFault::Closed(cause)) => {
-            write_caused(&[give, side_word, Part::Text(" closed ")], cause, out)
-        }
+        Ok(len) => write_accepted(side, *len, out),
+        Err(fault) => write_refused(side, fault, out),
     }
 }
 
@@ -98,11 +117,11 @@ fn write_pdu(side: Side, pdu: &[u8], out: &mut String) -> Result<(), AllocError>
 {
     let (take, side_word) = (Part::Text("take "), Part::Text(side.word()));
     let (gave, hex) = (Part::Text(" pdu "), Part::Hex(pdu));
-    write_parts(&[take, side_word, gave, hex, END], out)
+    write_five(&[take, side_word, gave, hex, END], out)
 }
 
-/// Appends the answer to a take.
-fn write_take(side: Side, answer: &TakeAnswer, out: &mut String) -> Result<(), AllocError>
+/// Appends the answer to a take, whatever it gave.
+fn write_any_take(side: Side, answer: &TakeAnswer, out: &mut String) -> Result<(), AllocError>
     ensures { Writes (report_text (answers.Take side answer.now ∷ [])) result
         (string_bytes out.old) (string_bytes out.new) }
 {
@@ -114,6 +133,17 @@ fn write_take(side: Side, answer: &TakeAnswer, out: &mut String) -> Result<(), A
         TakeAnswer::Closed(cause) => {
             write_caused(&[take, side_word, Part::Text(" closed ")], cause, out)
         }
+    }
+}
+
+/// Appends the answer to a take.
+fn write_take(side: Side, answer: &TakeAnswer, out: &mut String) -> Result<(), AllocError>
+    ensures { Writes (report_text (answers.Take side answer.now ∷ [])) result
+        (string_bytes out.old) (string_bytes out.new) }
+{
+    match answer {
+        TakeAnswer::Pdu(bytes) => write_pdu(side, bytes.as_slice(), out),
+        _ => write_any_take(side, answer, out),
     }
 }
 
@@ -157,7 +187,7 @@ fn write_send(
         (Some(leg), _) => write_send_on(leg, dir, count, out),
         (None, Some(count)) => {
             let count = Part::Number(u64::from(count));
-            write_parts(&[send, count, END], out)
+            write_three(&[send, count, END], out)
         }
         (None, None) => write_parts(&[send, Part::Text("no\n")], out),
     }
@@ -216,7 +246,23 @@ fn write_move_direct(dir: Dir, bytes: &[u8], out: &mut String) -> Result<(), All
         return write_parts(&[moved, Part::Text("0\n")], out);
     }
     let (len, hex) = (Part::Number(bytes.len() as u64), Part::Hex(bytes));
-    write_parts(&[moved, len, SPACE, hex, END], out)
+    write_five(&[moved, len, SPACE, hex, END], out)
+}
+
+/// Appends the answer to a move on a leg that isn't up.
+fn write_no_move(leg: Option<Leg>, dir: Dir, out: &mut String) -> Result<(), AllocError>
+    ensures { Writes (report_text (answers.Move leg dir None ∷ [])) result
+        (string_bytes out.old) (string_bytes out.new) }
+{
+    let (dir_word, no) = (Part::Text(dir.word()), Part::Text(" no\n"));
+    match leg {
+        None => write_parts(&[Part::Text("move cs "), dir_word, no], out),
+        Some(leg) => {
+            let (moved, letters) = (Part::Text("move "), Part::Text(leg.kind.letters()));
+            let number = Part::Number(u64::from(leg.number));
+            write_parts(&[moved, letters, number, SPACE, dir_word, no], out)
+        }
+    }
 }
 
 /// Appends the answer to a move.
@@ -229,16 +275,10 @@ fn write_move(
     ensures { Writes (report_text (answers.Move leg dir bytes.now ∷ [])) result
         (string_bytes out.old) (string_bytes out.new) }
 {
-    let (dir_word, no) = (Part::Text(dir.word()), Part::Text(" no\n"));
     match (leg, bytes) {
         (Some(leg), Some(bytes)) => write_move_on(leg, dir, bytes.as_slice(), out),
         (None, Some(bytes)) => write_move_direct(dir, bytes.as_slice(), out),
-        (None, None) => write_parts(&[Part::Text("move cs "), dir_word, no], out),
-        (Some(leg), None) => {
-            let (moved, letters) = (Part::Text("move "), Part::Text(leg.kind.letters()));
-            let number = Part::Number(u64::from(leg.number));
-            write_parts(&[moved, letters, number, SPACE, dir_word, no], out)
-        }
+        (_, None) => write_no_move(leg, dir, out),
     }
 }
 
@@ -400,6 +440,15 @@ fn write_numbered<'a>(
     )
 }
 
+/// Appends the answer to a close.
+fn write_close(side: Side, out: &mut String) -> Result<(), AllocError>
+    ensures { Writes (report_text (answers.Close side ∷ [])) result
+        (string_bytes out.old) (string_bytes out.new) }
+{
+    let side_word = Part::Text(side.word());
+    write_parts(&[Part::Text("close "), side_word, Part::Text(" ok\n")], out)
+}
+
 /// Appends the text of an answer, with LF at its end.
 ///
 /// Fails where there is no memory; a front of the text may stand in `out` then, and nothing else.
@@ -410,10 +459,7 @@ pub fn write_answer(answer: &Answer, out: &mut String) -> Result<(), AllocError>
     match answer {
         Answer::Give { side, answer } => write_give(*side, answer, out),
         Answer::Take { side, answer } => write_take(*side, answer, out),
-        Answer::Close { side } => {
-            let side_word = Part::Text(side.word());
-            write_parts(&[Part::Text("close "), side_word, Part::Text(" ok\n")], out)
-        }
+        Answer::Close { side } => write_close(*side, out),
         Answer::Send { leg, dir, count } => write_send(*leg, *dir, *count, out),
         Answer::Move { leg, dir, bytes } => write_move(*leg, *dir, bytes, out),
         Answer::OpenLeg { leg, ok } => write_leg_done("open ", *leg, "", *ok, out),
@@ -440,6 +486,7 @@ pub fn write_answer(answer: &Answer, out: &mut String) -> Result<(), AllocError>
 /// Appends the text of a report: one answer a line.
 ///
 /// Fails where there is no memory; a front of the text may stand in `out` then, and nothing else.
+#[inline(always)]
 pub fn write_report(report: &Report, out: &mut String) -> Result<(), AllocError>
     ensures { Writes (report_text report.now) result (string_bytes out.old) (string_bytes out.new) }
 {

@@ -2,6 +2,7 @@
 //! nothing: their contracts are the laws.
 
 ghost use Rattle.std.specs.Prelude.{◌≡◌, ◌⊎◌, ℕ};
+ghost use Rattle.rh_http.specs.declared.lengths.TheConstants.{SERVICE_UNAVAILABLE};
 ghost use Rattle.rh_http.specs.Lengths.{success};
 ghost use Rattle.rh_line.specs.declared.cause.Cause.TheVariants as cause;
 ghost use Rattle.rh_line.specs.declared.leg.LegKind.TheVariants.{ClientIn, ClientOut};
@@ -124,14 +125,16 @@ pub fn a_client_refused_with_503_lost_its_server<K>()
         → (ours : AreOurs m w.company w.cast) → AreInRange (numbers_of ours)
         → (v : World K ClientRole Server InProxy OutProxy) (by : ByChanges rules m deeds w v)
         (n : ℕ)
-        → ClosedWith (cause.HttpRefused (leg_at ClientOut n) 503) v.company.client.course
+        → ClosedWith (cause.HttpRefused (leg_at ClientOut n) SERVICE_UNAVAILABLE)
+        v.company.client.course
         → IsUnreached (leg_at OutServer n) ((history_at m w v by.leads).outs n) }
     ensures in_channel { (m : Makers K InProxy OutProxy)
         (w : World K ClientRole Server InProxy OutProxy) → IsNew w
         → (ours : AreOurs m w.company w.cast) → AreInRange (numbers_of ours)
         → (v : World K ClientRole Server InProxy OutProxy) (by : ByChanges rules m deeds w v)
         (n : ℕ)
-        → ClosedWith (cause.HttpRefused (leg_at ClientIn n) 503) v.company.client.course
+        → ClosedWith (cause.HttpRefused (leg_at ClientIn n) SERVICE_UNAVAILABLE)
+        v.company.client.course
         → (reader_of v.readers n ≡ n)
         × IsUnreached (leg_at InServer n) ((history_at m w v by.leads).ins n) }
 {
@@ -161,7 +164,7 @@ pub fn a_refused_client_lost_its_server<K>()
         → (v : World K ClientRole Server InProxy OutProxy) (by : ByChanges rules m deeds w v)
         (n status : ℕ)
         → ClosedWith (cause.HttpRefused (leg_at ClientOut n) status) v.company.client.course
-        → (status ≡ 503)
+        → (status ≡ SERVICE_UNAVAILABLE)
         × IsUnreached (leg_at OutServer n) ((history_at m w v by.leads).outs n) }
     ensures in_channel { (m : Makers K InProxy OutProxy)
         (w : World K ClientRole Server InProxy OutProxy) → IsNew w
@@ -170,7 +173,7 @@ pub fn a_refused_client_lost_its_server<K>()
         → (v : World K ClientRole Server InProxy OutProxy) (by : ByChanges rules m deeds w v)
         (n status : ℕ)
         → ClosedWith (cause.HttpRefused (leg_at ClientIn n) status) v.company.client.course
-        → (status ≡ 503) × (reader_of v.readers n ≡ n)
+        → (status ≡ SERVICE_UNAVAILABLE) × (reader_of v.readers n ≡ n)
         × IsUnreached (leg_at InServer n) ((history_at m w v by.leads).ins n) }
 {
     a_refused_client_heard_what_was_drawn::<K>();

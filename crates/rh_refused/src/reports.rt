@@ -2,6 +2,7 @@
 //! contract is the law.
 
 ghost use Rattle.std.specs.Prelude.{◌≡◌, ◌++◌, ◌∷◌, List, [], ℕ};
+ghost use Rattle.rh_http.specs.declared.lengths.TheConstants.{SERVICE_UNAVAILABLE};
 ghost use Rattle.rh_line.specs.declared.cause.Cause.TheVariants.{HttpRefused};
 ghost use Rattle.rh_line.specs.declared.leg.LegKind.TheVariants.{ClientIn, ClientOut};
 ghost use Rattle.rh_line.specs.declared.leg.LegKind.TheVariants.{InServer, OutServer};
@@ -31,11 +32,11 @@ pub fn a_refused_client_of_a_recording_lost_its_server()
     ensures out_channel { (before : List Line) (line : Line) (node : Who) (n status : ℕ)
         → IsOneOf (NodeClosed node (HttpRefused (leg_at ClientOut n) status))
         (step (after Before before) line).1
-        → (status ≡ 503) × ReportsBreak (before ++ line ∷ []) (leg_at OutServer n) }
+        → (status ≡ SERVICE_UNAVAILABLE) × ReportsBreak (before ++ line ∷ []) (leg_at OutServer n) }
     ensures in_channel { (before : List Line) (line : Line) (node : Who) (n status : ℕ)
         → IsOneOf (NodeClosed node (HttpRefused (leg_at ClientIn n) status))
         (step (after Before before) line).1
-        → (status ≡ 503) × ReportsBreak (before ++ line ∷ []) (leg_at InServer n) }
+        → (status ≡ SERVICE_UNAVAILABLE) × ReportsBreak (before ++ line ∷ []) (leg_at InServer n) }
 {
     only_a_client_of_a_recording_is_refused();
     what_a_line_tells_shows::<WorldConfig, ClientRole, ServerRole, InProxyRole, OutProxyRole>();

@@ -1,5 +1,5 @@
-//! Tests of a node of any role, of each of the four roles, and of the four together. They stand here
-//! so that a role is proved once, and not once more with its tests.
+//! Tests of a node of any role, of each of the four roles, and of the four together. They stand
+//! here so that a role is proved once, and not once more with its tests.
 #![tactic(auto)]
 
 #[cfg(test)]

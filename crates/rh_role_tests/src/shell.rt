@@ -7,6 +7,7 @@ use rh_line::{Cause, Leg, LegKind, LineFault, RecvLine, SendLine, State, Verdict
 use rh_rts::Cookie;
 use rh_shell::{Begun, Count, HeadRefused, HeadTaken, Phase, Refused, Role, Rooms, Shell};
 use rh_sig::{Named, Pipe};
+use rh_vectors::packets::PING;
 use rh_window::LEAST_WINDOW;
 use std::alloc::Global;
 use std::process::Abort;
@@ -157,11 +158,6 @@ const IS1: Leg = Leg {
 const COMES: [u8; 30] = [
     0x6e, 0x63, 0x61, 0x63, 0x6e, 0x5f, 0x68, 0x74, 0x74, 0x70, 0x2f, 0x31, 0x2e, 0x30, 5, 0, 0, 3,
     0x10, 0, 0, 0, 16, 0, 0, 0, 1, 0, 0, 0,
-];
-
-/// A Ping (MS-RPCH 2.2.4).
-const PING: [u8; 20] = [
-    5, 0, 20, 3, 0x10, 0, 0, 0, 20, 0, 0, 0, 0, 0, 0, 0, 1, 0, 0, 0,
 ];
 
 /// A node with no leg, whose role's IN channel has this number.

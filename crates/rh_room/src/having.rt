@@ -51,9 +51,9 @@ use rh_unused::{
 /// In each world of new roles whose numbers are in their ranges, at every moment that changes of
 /// lines and half steps reach: no further change closes the client with `ControlFull`, whichever
 /// leg is named. Nor does one close another node so, where no two legs of the client of one kind
-/// came up under one cookie, if at each such moment of each such world in proxies have room for what
-/// the client put next on the legs that they read, out proxies for what the server put next, and the
-/// server for what in proxies did (MS-RPCH 3.2; profile).
+/// came up under one cookie, if at each such moment of each such world in proxies have room for
+/// what the client put next on the legs that they read, out proxies for what the server put next,
+/// and the server for what in proxies did (MS-RPCH 3.2; profile).
 pub fn no_node_that_has_room_closes_for_a_full_leg<K>()
     ensures client { (m : Makers K InProxy OutProxy)
         (w : World K ClientRole Server InProxy OutProxy) → IsNew w

@@ -15,9 +15,9 @@ use Rattle.rh_rts.specs.declared.fault.RtsKind.TheVariants.{CutShort}
 use Rattle.rh_rts.specs.declared.packet.TheConstants.{ALL_FLAGS}
 use Rattle.rh_rts.specs.Commands.{IsBytes}
 use Rattle.rh_rts.specs.Packets.{le2, header_front, header_bytes}
-use Rattle.rh_rts.specs.Refusals.{fault, header_like, short_at, frag_of, flags_of, count_of}
+use Rattle.rh_rts.specs.Refusals.{fault, header_like, le2_at, frag_of, flags_of, count_of}
 use Rattle.rh_rts.specs.Refusals.{DiffersAt, IsLike, IsHead, HeadFault}
-use Rattle.rh_rts.specs.Reading.{agreed, told_fault, like_fault, head_fault}
+use Rattle.rh_rts.specs.Reading.{agreed, told_fault, like_fault, header_fault}
 use Rattle.rh_rts.proofs.Fields.{front}
 
 -- ---- the first byte that differs
@@ -107,22 +107,22 @@ by_length b false e =
     let long : 20 ≤ length b = ltb-false _ _ e in
     by_like b _ _ long (agrees (header_like b) b (omega (arith, long))) refl
 
-pub head_is : (b : List ℕ) → HeadIs b (head_fault b)
-unfolding head_fault
+pub head_is : (b : List ℕ) → HeadIs b (header_fault b)
+unfolding header_fault
 head_is b = by_length b _ refl
 
 -- nothing is wrong with a header, as far as it is of the right length and like what it is to be
-liked : (b : List ℕ) → IsLike b → head_fault b ≡ told_fault b
-unfolding head_fault
+liked : (b : List ℕ) → IsLike b → header_fault b ≡ told_fault b
+unfolding header_fault
 liked b h = rw (le-ltb _ _ h.long, same_found (header_like b) b h.front) refl
 
-pub no_fault : (b : List ℕ) → IsHead b → head_fault b ≡ None
+pub no_fault : (b : List ℕ) → IsHead b → header_fault b ≡ None
 no_fault b h = liked b h.like ∙ rw (eq-eqb _ _ h.frag, le-ltb _ _ h.flags) refl
 
 -- what is the first to be wrong is found
 pub fault_found : (b : List ℕ) (place : ℕ) (kind : RtsKind) → HeadFault b place kind
-    → head_fault b ≡ fault place kind
-unfolding head_fault
+    → header_fault b ≡ fault place kind
+unfolding header_fault
 fault_found b place CutShort h = rw (lt-ltb _ _ h.1, h.0) refl
 fault_found b place BadHeader h =
     rw (
@@ -144,9 +144,9 @@ two_bytes x y a b (suc (suc i)) = omega arith
 
 -- two bytes spell the number that they are
 short_front : (b : List ℕ) (at : ℕ) → IsBytes b
-    → slice_index b at ∷ slice_index b (at + 1) ∷ [] ≡ le2 (short_at b at)
+    → slice_index b at ∷ slice_index b (at + 1) ∷ [] ≡ le2 (le2_at b at)
 short_front b at fits =
-    sym (le_bytes_2 (slice_index b at ∷ slice_index b (at + 1) ∷ []) (short_at b at) refl
+    sym (le_bytes_2 (slice_index b at ∷ slice_index b (at + 1) ∷ []) (le2_at b at) refl
     (two_bytes (slice_index b at) (slice_index b (at + 1)) (fits at) (fits (at + 1))) refl)
 
 last_four : (b : List ℕ) → 20 ≤ length b

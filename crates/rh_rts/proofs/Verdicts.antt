@@ -8,7 +8,7 @@ use Rattle.rh_rts.specs.Commands.{IsBytes}
 use Rattle.rh_rts.specs.Packets.{Parts}
 use Rattle.rh_rts.specs.Refusals.{IsHead, count_of}
 use Rattle.rh_rts.specs.Judging.{Judged}
-use Rattle.rh_rts.specs.Reading.{head_fault, body_fault, read_packet}
+use Rattle.rh_rts.specs.Reading.{header_fault, body_fault, read_packet}
 use Rattle.rh_rts.proofs.Heads.{HeadIs, head_is}
 use Rattle.rh_rts.proofs.Fields.{IsBytes-drop}
 use Rattle.rh_rts.proofs.Bodies.{all_listed, first_found}
@@ -34,7 +34,7 @@ of_head b fits None head = of_body b fits head (body_fault (length b) (count_of 
 of_head b fits (Some wrong) head = (Err wrong, inl head)
 
 pub some_verdict : (b : List ℕ) → IsBytes b → (verdict : Result Parts RtsFault) × Judged b verdict
-some_verdict b fits = of_head b fits (head_fault b) (head_is b)
+some_verdict b fits = of_head b fits (header_fault b) (head_is b)
 
 -- what is read is so
 pub judged : (b : List ℕ) → IsBytes b → Judged b (read_packet b)

@@ -35,8 +35,8 @@ abbrev pub like_fault : ℕ → List ℕ → Option RtsFault
 like_fault same b = if nat_lt same FLAGS_AT then fault same BadHeader else told_fault b
 
 -- what is wrong with the header
-unfoldable pub head_fault : List ℕ → Option RtsFault
-head_fault b =
+unfoldable pub header_fault : List ℕ → Option RtsFault
+header_fault b =
     if nat_lt (length b) PACKET_HEADER_LEN then fault (length b) CutShort
     else like_fault (agreed (header_like b) b) b
 
@@ -49,7 +49,7 @@ body_fault total (suc n) b =
 -- the first part that is wrong
 abbrev pub first_fault : List ℕ → Option RtsFault
 first_fault b =
-    or_else (head_fault b) (body_fault (length b) (count_of b) (drop PACKET_HEADER_LEN b))
+    or_else (header_fault b) (body_fault (length b) (count_of b) (drop PACKET_HEADER_LEN b))
 
 -- the flags and the commands, where nothing is wrong
 abbrev pub contents : List ℕ → Parts

@@ -29,17 +29,17 @@ abbrev pub header_like : List ℕ → List ℕ
 header_like b = header_front (slice_index b FRAG_AT ∷ slice_index b (FRAG_AT + 1) ∷ [])
 
 -- the number of two bytes from this place on
-abbrev pub short_at : List ℕ → ℕ → ℕ
-short_at b at = from_le_bytes w16 (slice_index b at ∷ slice_index b (at + 1) ∷ [])
+abbrev pub le2_at : List ℕ → ℕ → ℕ
+le2_at b at = from_le_bytes w16 (slice_index b at ∷ slice_index b (at + 1) ∷ [])
 
 abbrev pub frag_of : List ℕ → ℕ
-frag_of b = short_at b FRAG_AT
+frag_of b = le2_at b FRAG_AT
 
 abbrev pub flags_of : List ℕ → ℕ
-flags_of b = short_at b FLAGS_AT
+flags_of b = le2_at b FLAGS_AT
 
 abbrev pub count_of : List ℕ → ℕ
-count_of b = short_at b COUNT_AT
+count_of b = le2_at b COUNT_AT
 
 -- the first byte that isn't the one that is wanted stands at that place
 pub record DiffersAt (place : ℕ) (want b : List ℕ) : Type 0 where
@@ -71,14 +71,14 @@ HeadFault b place _ = ⊥
 
 -- the number of four bytes in front
 abbrev pub number_of : List ℕ → ℕ
-number_of b = from_le_bytes w32 (take 4 b)
+number_of b = from_le_bytes w32 (take NUMBER_LEN b)
 
 -- the type of a command, and the number behind it
 abbrev pub type_of : List ℕ → ℕ
 type_of b = number_of b
 
 abbrev pub field_of : List ℕ → ℕ
-field_of b = number_of (drop 4 b)
+field_of b = number_of (drop NUMBER_LEN b)
 
 -- the bytes of a command of this layout, with this number behind its type
 abbrev pub length_by : Layout → ℕ → ℕ

@@ -13,12 +13,23 @@ pub const V4_LEN: usize = 4;
 pub const V6_LEN: usize = 16;
 /// The length of the padding behind a client's address, in bytes.
 pub const ADDRESS_PADDING_LEN: usize = 12;
-/// The greatest destination: the out proxy.
-pub const GREATEST_DESTINATION: u32 = 3;
+/// The destination of a packet to the client (MS-RPCH 2.2.3.3).
+pub const TO_CLIENT: u32 = 0;
+/// The destination of a packet to an in proxy (MS-RPCH 2.2.3.3).
+pub const TO_IN_PROXY: u32 = 1;
+/// The destination of a packet to the server (MS-RPCH 2.2.3.3).
+pub const TO_SERVER: u32 = 2;
+/// The destination of a packet to an out proxy (MS-RPCH 2.2.3.3).
+pub const TO_OUT_PROXY: u32 = 3;
+/// The greatest destination.
+pub const GREATEST_DESTINATION: u32 = TO_OUT_PROXY;
 
 /// A cookie, as its bytes stand in the packet (MS-RPCH 2.2.3.1).
 #[derive(Clone, Copy, Debug, PartialEq, Eq)]
 pub struct Cookie(pub [u8; COOKIE_LEN]);
+
+/// What stands where there is no cookie.
+pub const NO_COOKIE: Cookie = Cookie([0; COOKIE_LEN]);
 
 /// A client's address, as its bytes stand in the packet (MS-RPCH 2.2.3.2).
 #[derive(Clone, Copy, Debug, PartialEq, Eq)]
@@ -30,35 +41,42 @@ pub enum Address4or16 {
 /// A command (MS-RPCH 2.2.3.5), in the order of the types.
 #[derive(Debug, Drop)]
 pub enum Command {
-    /// In bytes.
+    /// In bytes (MS-RPCH 2.2.3.5.1).
     ReceiveWindowSize(u32),
-    /// In bytes, and the channel that they came by.
+    /// In bytes, and the channel that they came by (MS-RPCH 2.2.3.5.2).
     FlowControlAck {
         received: u32,
         window: u32,
         cookie: Cookie,
     },
-    /// In milliseconds.
+    /// In milliseconds (MS-RPCH 2.2.3.5.3).
     ConnectionTimeout(u32),
+    /// Of a connection or a channel (MS-RPCH 2.2.3.5.4).
     Cookie(Cookie),
-    /// In bytes.
+    /// In bytes (MS-RPCH 2.2.3.5.5).
     ChannelLifetime(u32),
-    /// In milliseconds.
+    /// In milliseconds (MS-RPCH 2.2.3.5.6).
     ClientKeepalive(u32),
+    /// Of the protocol (MS-RPCH 2.2.3.5.7).
     Version(u32),
+    /// It says nothing (MS-RPCH 2.2.3.5.8).
     Empty,
-    /// At most 65,535 bytes.
+    /// At most 65,535 bytes (MS-RPCH 2.2.3.5.9).
     Padding(Bytes),
+    /// A new channel was not made (MS-RPCH 2.2.3.5.10).
     NegativeAnce,
+    /// A new channel was made (MS-RPCH 2.2.3.5.11).
     Ance,
+    /// Where the client's connection comes from (MS-RPCH 2.2.3.5.12).
     ClientAddress {
         address: Address4or16,
         padding: [u8; ADDRESS_PADDING_LEN],
     },
+    /// The group that a connection is of (MS-RPCH 2.2.3.5.13).
     AssociationGroupId(Cookie),
-    /// 0 client, 1 in proxy, 2 server, 3 out proxy.
+    /// `TO_CLIENT` to `TO_OUT_PROXY` (MS-RPCH 2.2.3.5.14).
     Destination(u32),
-    /// In bytes.
+    /// In bytes (MS-RPCH 2.2.3.5.15).
     PingTrafficSentNotify(u32),
 }
 

@@ -8,9 +8,9 @@ ghost use Rattle.rh_rts.specs.Writing.{over, Writes};
 
 use crate::command::{Address4or16, Command, Cookie};
 use crate::fault::NoRoom;
-use crate::header::header_front;
+use crate::header::{PACKET_HEADER_LEN, header_front};
 use crate::kinds;
-use crate::layout::{TYPE_OF_V4, TYPE_OF_V6, fields, layouts};
+use crate::layout::{NUMBER_LEN, TYPE_OF_V4, TYPE_OF_V6, fields, layouts};
 use crate::packet::{Packet, length_of};
 
 /// Writes the piece from this place on, and answers the place behind it.
@@ -27,8 +27,8 @@ fn put(room: &mut [u8], at: usize, piece: &[u8]) -> usize
 
 /// Writes a number of four bytes, and answers the place behind it.
 fn put_number(room: &mut [u8], at: usize, number: u32) -> usize
-    requires { at + 4 ≤ length room.old }
-    ensures place { result ≡ at + 4 }
+    requires { at + NUMBER_LEN ≤ length room.old }
+    ensures place { result ≡ at + NUMBER_LEN }
     ensures bytes { room.new ≡ over room.old at (le4 number) }
 {
     put(room, at, &number.to_le_bytes())
@@ -56,8 +56,8 @@ fn put_address(room: &mut [u8], at: usize, address: Address4or16) -> usize
 /// Writes two numbers of four bytes, and answers the place behind them.
 #[tactic(auto, using(crate::proofs::Overs::over_over))]
 fn put_pair(room: &mut [u8], at: usize, first: u32, second: u32) -> usize
-    requires { at + 8 ≤ length room.old }
-    ensures place { result ≡ at + 8 }
+    requires { at + (NUMBER_LEN + NUMBER_LEN) ≤ length room.old }
+    ensures place { result ≡ at + (NUMBER_LEN + NUMBER_LEN) }
     ensures bytes { room.new ≡ over room.old at (le4 first ++ le4 second) }
 {
     let at = put_number(room, at, first);
@@ -67,8 +67,8 @@ fn put_pair(room: &mut [u8], at: usize, first: u32, second: u32) -> usize
 /// Writes a type and a cookie, and answers the place behind them.
 #[tactic(auto, using(crate::proofs::Overs::over_over))]
 fn put_cookie(room: &mut [u8], at: usize, kind: u32, cookie: Cookie) -> usize
-    requires { at + (4 + length cookie.0) ≤ length room.old }
-    ensures place { result ≡ at + (4 + length cookie.0) }
+    requires { at + (NUMBER_LEN + length cookie.0) ≤ length room.old }
+    ensures place { result ≡ at + (NUMBER_LEN + length cookie.0) }
     ensures bytes { room.new ≡ over room.old at (le4 kind ++ cookie.0) }
 {
     let at = put_number(room, at, kind);
@@ -135,8 +135,8 @@ fn put_commands(room: &mut [u8], at: usize, commands: &[Command]) -> usize
 /// Writes the header in front.
 #[tactic(auto, using(crate::proofs::Overs::over_over))]
 fn put_header(room: &mut [u8], frag: u16, flags: u16, count: u16) -> usize
-    requires { 20 ≤ length room.old }
-    ensures place { result ≡ 20 }
+    requires { PACKET_HEADER_LEN ≤ length room.old }
+    ensures place { result ≡ PACKET_HEADER_LEN }
     ensures bytes { room.new ≡ over room.old 0 (header_bytes frag flags count) }
 {
     let at = put(room, 0, &header_front(frag.to_le_bytes()));

@@ -3,7 +3,7 @@
 ghost use Rattle.std.specs.Prelude.{◌≡◌, ◌≤◌, ◌<◌, ◌+◌, length, take, drop, MatchOption};
 ghost use Rattle.std.specs.Prelude.{MatchResult};
 ghost use Rattle.rh_rts.specs.Packets.{header_front};
-ghost use Rattle.rh_rts.specs.Refusals.{DiffersAt, IsHead, HeadFault, flags_of, count_of, short_at};
+ghost use Rattle.rh_rts.specs.Refusals.{DiffersAt, IsHead, HeadFault, flags_of, count_of, le2_at};
 
 use crate::fault::{RtsFault, RtsKind};
 use crate::packet::ALL_FLAGS;
@@ -39,9 +39,9 @@ fn first_difference(want: &[u8], bytes: &[u8]) -> Option<usize>
 }
 
 /// The number of two bytes from this place on.
-fn short_at(bytes: &[u8], at: usize) -> u16
+fn le2_at(bytes: &[u8], at: usize) -> u16
     requires { at + 1 < length bytes.now }
-    ensures { result ≡ short_at bytes.now at }
+    ensures { result ≡ le2_at bytes.now at }
 {
     u16::from_le_bytes([bytes[at], bytes[at + 1]])
 }
@@ -66,13 +66,13 @@ pub fn read_head(bytes: &[u8]) -> Result<(u16, u16, &[u8]), RtsFault>
             kind: RtsKind::BadHeader,
         });
     }
-    if usize::from(short_at(bytes, FRAG_AT)) != bytes.len() {
+    if usize::from(le2_at(bytes, FRAG_AT)) != bytes.len() {
         return Err(RtsFault {
             place: FRAG_AT,
             kind: RtsKind::BadLength,
         });
     }
-    let flags = short_at(bytes, FLAGS_AT);
+    let flags = le2_at(bytes, FLAGS_AT);
     if flags > ALL_FLAGS {
         return Err(RtsFault {
             place: FLAGS_AT,
@@ -80,5 +80,5 @@ pub fn read_head(bytes: &[u8]) -> Result<(u16, u16, &[u8]), RtsFault>
         });
     }
     let (_, rest) = bytes.split_at(PACKET_HEADER_LEN);
-    Ok((flags, short_at(bytes, COUNT_AT), rest))
+    Ok((flags, le2_at(bytes, COUNT_AT), rest))
 }

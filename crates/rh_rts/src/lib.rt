@@ -14,7 +14,10 @@ pub mod packet;
 mod reading;
 mod views;
 
-pub use command::{Address4or16, Command, CommandRef, Cookie, GREATEST_DESTINATION};
+pub use command::{
+    ADDRESS_PADDING_LEN, Address4or16, COOKIE_LEN, Command, CommandRef, Cookie,
+    GREATEST_DESTINATION, NO_COOKIE, TO_CLIENT, TO_IN_PROXY, TO_OUT_PROXY, TO_SERVER, V4_LEN,
+};
 pub use decoding::decode;
 pub use encoding::{encode, encode_parts};
 pub use fault::{DecodeFault, NoRoom, PacketFault, RtsFault, RtsKind};

@@ -5,13 +5,17 @@ ghost use Rattle.rh_rts.specs.Commands.{spelling, spellings, address_bytes, IsAd
 ghost use Rattle.rh_rts.specs.Commands.{HaveSizes};
 ghost use Rattle.rh_rts.specs.Packets.{parts, packet_length, made, bad_destination, as_told};
 
-use crate::command::{ADDRESS_PADDING_LEN, Address4or16, Command, Cookie, GREATEST_DESTINATION};
+use crate::command::{
+    ADDRESS_PADDING_LEN, Address4or16, COOKIE_LEN, Command, Cookie, GREATEST_DESTINATION,
+};
 use crate::fault::PacketFault;
 use crate::header::PACKET_HEADER_LEN;
 use crate::layout::{NUMBER_LEN, fields, layouts};
 use std::alloc::{AllocError, Global};
 use std::marker::Model;
 
+/// No flags.
+pub const NONE: u16 = 0;
 /// A ping.
 pub const PING: u16 = 0x0001;
 /// An acknowledgement, a keepalive interval, or the traffic of pings.
@@ -161,7 +165,7 @@ fn bad_destination(commands: &[Command]) -> Option<u32>
 
 /// The length of a packet of these commands, in bytes: 2^64 - 1 where it is above that.
 pub fn length_of(commands: &[Command]) -> u64
-    ensures length { result ≡ as_told (20 + length (spellings commands.now)) }
+    ensures length { result ≡ as_told (PACKET_HEADER_LEN + length (spellings commands.now)) }
     ensures size { HaveSizes commands.now }
 {
     let mut sum = PACKET_HEADER_LEN as u64;
@@ -173,7 +177,7 @@ pub fn length_of(commands: &[Command]) -> u64
 
 /// The length of a number, in bytes.
 fn number_length(number: u32) -> u64
-    ensures length { result ≡ 4 }
+    ensures length { result ≡ NUMBER_LEN }
     ensures size { number < 2 ^ 32 }
 {
     let bytes = number.to_le_bytes();
@@ -182,8 +186,8 @@ fn number_length(number: u32) -> u64
 
 /// The length of a cookie, in bytes.
 fn cookie_length(cookie: Cookie) -> u64
-    ensures length { result ≡ 16 }
-    ensures size { length cookie.0 ≡ 16 }
+    ensures length { result ≡ COOKIE_LEN }
+    ensures size { length cookie.0 ≡ COOKIE_LEN }
 {
     cookie.0.len() as u64
 }
@@ -192,7 +196,7 @@ fn cookie_length(cookie: Cookie) -> u64
 fn address_length(address: Address4or16, padding: [u8; ADDRESS_PADDING_LEN]) -> u64
     ensures length { result ≡ length (address_bytes address) + length padding }
     ensures address { IsAddress address }
-    ensures padding { length padding ≡ 12 }
+    ensures padding { length padding ≡ ADDRESS_PADDING_LEN }
 {
     let address = match address {
         Address4or16::V4(bytes) => bytes.len(),
@@ -215,7 +219,9 @@ fn command_length(command: &Command) -> u64
         (Ack $a:ident $b:ident $c:ident) => {
             number_length(*$a) + number_length(*$b) + cookie_length(*$c)
         };
-        (Counted $a:ident $b:ident $c:ident) => { ($a.len() as u64).saturating_add(4) };
+        (Counted $a:ident $b:ident $c:ident) => {
+            ($a.len() as u64).saturating_add(NUMBER_LEN as u64)
+        };
         (Address $a:ident $b:ident $c:ident) => { address_length(*$a, *$b) };
     }
     macro_rules! rows {

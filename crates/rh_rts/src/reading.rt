@@ -18,7 +18,7 @@ use crate::layout::{ACK_COOKIE_AT, FIELDS_AT, Layout, NUMBER_LEN, TYPE_OF_V4, la
 
 /// The number of four bytes in front.
 fn number(bytes: &[u8]) -> u32
-    requires { 4 ≤ length bytes.now }
+    requires { NUMBER_LEN ≤ length bytes.now }
     ensures { result ≡ number_of bytes.now }
 {
     let (front, _) = bytes.split_at(NUMBER_LEN);
@@ -27,7 +27,7 @@ fn number(bytes: &[u8]) -> u32
 
 /// The number of four bytes behind the type.
 fn field(bytes: &[u8]) -> u32
-    requires { 8 ≤ length bytes.now }
+    requires { FIELDS_AT ≤ length bytes.now }
     ensures { result ≡ field_of bytes.now }
 {
     let (_, rest) = bytes.split_at(NUMBER_LEN);
@@ -36,7 +36,7 @@ fn field(bytes: &[u8]) -> u32
 
 /// The cookie from this place on.
 fn cookie_at(at: usize, bytes: &[u8]) -> Cookie
-    requires { at + 16 ≤ length bytes.now }
+    requires { at + COOKIE_LEN ≤ length bytes.now }
     ensures { result ≡ cookie_at at bytes.now }
 {
     let (_, rest) = bytes.split_at(at);
@@ -48,7 +48,7 @@ fn cookie_at(at: usize, bytes: &[u8]) -> Cookie
 
 /// What is wrong with the number behind the type.
 fn field_fault(place: usize, layout: Layout, field: u32) -> Option<RtsFault>
-    requires { place + 4 < 2 ^ 64 }
+    requires { place + NUMBER_LEN < 2 ^ 64 }
     ensures { result ≡ field_fault place layout field }
 {
     let (greatest, kind) = layout.greatest_field()?;
@@ -66,7 +66,8 @@ fn field_fault(place: usize, layout: Layout, field: u32) -> Option<RtsFault>
 fn whole_length(place: usize, bytes: &[u8]) -> Result<usize, RtsFault>
     requires { place + length bytes.now < 2 ^ 64 }
     ensures kind { IfOk result (λ _. type_of bytes.now < length rows) }
-    ensures fits { IfOk result (λ len. (4 ≤ length bytes.now) × (len ≤ length bytes.now)) }
+    ensures fits { IfOk result (λ len. (NUMBER_LEN ≤ length bytes.now)
+        × (len ≤ length bytes.now)) }
     ensures verdict { MatchResult result
         (λ len. (command_fault place bytes.now ≡ None) × (len ≡ length_of bytes.now))
         (λ wrong. command_fault place bytes.now ≡ Some wrong) }
@@ -104,8 +105,9 @@ fn whole_length(place: usize, bytes: &[u8]) -> Result<usize, RtsFault>
 
 /// The address type and the address behind the type, and the padding behind them.
 fn read_address(bytes: &[u8]) -> CommandRef<'_>
-    requires fixed { 8 ≤ length bytes.now }
-    requires whole { 8 + address_len (field_of bytes.now) + 12 ≤ length bytes.now }
+    requires fixed { FIELDS_AT ≤ length bytes.now }
+    requires whole { FIELDS_AT + address_len (field_of bytes.now) + ADDRESS_PADDING_LEN
+        ≤ length bytes.now }
     ensures { shown result ≡ client_address_at (field_of bytes.now)
         (address_len (field_of bytes.now)) bytes.now }
 {
@@ -129,8 +131,8 @@ fn read_address(bytes: &[u8]) -> CommandRef<'_>
 
 /// The 12 bytes in front.
 fn padding(bytes: &[u8]) -> [u8; ADDRESS_PADDING_LEN]
-    requires { 12 ≤ length bytes.now }
-    ensures { result ≡ take 12 bytes.now }
+    requires { ADDRESS_PADDING_LEN ≤ length bytes.now }
+    ensures { result ≡ take ADDRESS_PADDING_LEN bytes.now }
 {
     let (front, _) = bytes.split_at(ADDRESS_PADDING_LEN);
     let mut padding = [0; ADDRESS_PADDING_LEN];
@@ -140,10 +142,10 @@ fn padding(bytes: &[u8]) -> [u8; ADDRESS_PADDING_LEN]
 
 /// The two numbers and the cookie behind the type.
 fn read_ack(bytes: &[u8]) -> CommandRef<'_>
-    requires { 28 ≤ length bytes.now }
+    requires { ACK_COOKIE_AT + COOKIE_LEN ≤ length bytes.now }
     ensures { shown result ≡ commands.FlowControlAck (field_of bytes.now)
-        (number_of (drop 8 bytes.now))
-        (cookie_at 12 bytes.now) }
+        (number_of (drop FIELDS_AT bytes.now))
+        (cookie_at ACK_COOKIE_AT bytes.now) }
 {
     let (_, rest) = bytes.split_at(FIELDS_AT);
     CommandRef::FlowControlAck {
@@ -155,9 +157,9 @@ fn read_ack(bytes: &[u8]) -> CommandRef<'_>
 
 /// As many bytes as the number behind the type tells.
 fn counted(bytes: &[u8]) -> &[u8]
-    requires fixed { 8 ≤ length bytes.now }
-    requires whole { 8 + field_of bytes.now ≤ length bytes.now }
-    ensures { result.now ≡ take (field_of bytes.now) (drop 8 bytes.now) }
+    requires fixed { FIELDS_AT ≤ length bytes.now }
+    requires whole { FIELDS_AT + field_of bytes.now ≤ length bytes.now }
+    ensures { result.now ≡ take (field_of bytes.now) (drop FIELDS_AT bytes.now) }
 {
     let (_, rest) = bytes.split_at(FIELDS_AT);
     let (counted, _) = rest.split_at(field(bytes) as usize);
@@ -168,7 +170,7 @@ fn counted(bytes: &[u8]) -> &[u8]
 #[tactic(auto, unfolding(crate::specs::Listing::command_of, crate::specs::Layouts::row_of))]
 fn command_in_front(bytes: &[u8]) -> CommandRef<'_>
     requires kind { type_of bytes.now < length rows }
-    requires fixed { 4 ≤ length bytes.now }
+    requires fixed { NUMBER_LEN ≤ length bytes.now }
     requires whole { length_of bytes.now ≤ length bytes.now }
     ensures { shown result ≡ command_of bytes.now }
 {

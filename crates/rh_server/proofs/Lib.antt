@@ -1,3 +1,4 @@
+pub mod Numbered
 mod Onces
 mod Picks
 mod Gives

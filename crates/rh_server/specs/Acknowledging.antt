@@ -3,6 +3,7 @@ use Rattle.std.specs.Prelude.{ℕ, ◌+◌, ◌==◌, ◌&&◌, List, Bool, true
 use Rattle.std.specs.declared.option.Option.{Option}
 use Rattle.std.specs.declared.result.Result.{Result}
 use Rattle.rh_rts.specs.declared.command.Cookie.{Cookie}
+use Rattle.rh_rts.specs.declared.command.TheConstants.{TO_CLIENT, TO_OUT_PROXY}
 use Rattle.rh_sig.specs.declared.named.Named.{Named}
 use Rattle.rh_sig.specs.declared.named.Named.TheVariants.{AckTo}
 use Rattle.rh_line.specs.Lines.{after_admit, admit_verdict}
@@ -17,6 +18,7 @@ use Rattle.rh_shell.specs.declared.answers.Refused.TheVariants as refused
 use Rattle.rh_shell.specs.Rules.{Row}
 use Rattle.rh_shell.specs.declared.due.Origin.TheVariants.{Forwarded}
 use Rattle.rh_shell.specs.Waiting.{Waiting, count, takes, forwarded}
+use Rattle.rh_shell.specs.declared.waiting.TheConstants.{FORWARDED_ROOM}
 use Rattle.rh_server.specs.declared.state.OutLeg.{OutLeg}
 use Rattle.rh_server.specs.States.{Server, is_open, same_cookie, out_at, out_place, out_cookie}
 use Rattle.rh_server.specs.OutLines.{has, is_ack_of}
@@ -60,9 +62,9 @@ has_ack_elsewhere s leg = not (leg.number == s.writing) && has_ack_by s.waiting 
 abbrev pub elsewhere : Server → ℕ
 elsewhere s = count_by (has_ack_elsewhere s) s.outs
 
--- sixteen packets that are to be forwarded wait for the writing leg
+-- as many packets that are to be forwarded as may wait for a leg wait for the writing one
 abbrev pub is_full : Server → Bool
-is_full s = nat_le (16 + elsewhere s) (count Forwarded s.waiting.due)
+is_full s = nat_le (FORWARDED_ROOM + elsewhere s) (count Forwarded s.waiting.due)
 
 abbrev pub out_server : ℕ → Leg
 out_server number = record { kind = OutServer; number = number }
@@ -107,9 +109,10 @@ forwards_to s packet (Some number) =
 abbrev pub on_ack_to : Server → Count → ℕ → ℕ → ℕ → Cookie → Done
 on_ack_to s count destination received window cookie =
     if is_first count then unexpected s
-    else (if destination == 0 then forwards_writing s (AckTo 0 received window cookie)
-    else (if destination == 3
-    then forwards_to s (AckTo 3 received window cookie) (channel_leg cookie s.outs)
+    else (if destination == TO_CLIENT
+    then forwards_writing s (AckTo TO_CLIENT received window cookie)
+    else (if destination == TO_OUT_PROXY
+    then forwards_to s (AckTo TO_OUT_PROXY received window cookie) (channel_leg cookie s.outs)
     else unexpected s))
 
 -- ---- acknowledgements from an out proxy

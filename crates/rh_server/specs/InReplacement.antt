@@ -3,6 +3,8 @@ use Rattle.std.specs.Prelude.{ℕ, ◌+◌, ◌==◌, ◌&&◌, ◌||◌, List, 
 use Rattle.std.specs.List.{list_any}
 use Rattle.std.specs.declared.option.Option.{Option}
 use Rattle.rh_rts.specs.declared.command.Cookie.{Cookie}
+use Rattle.rh_rts.specs.declared.command.TheConstants.{TO_CLIENT}
+use Rattle.rh_sig.specs.declared.ranges.TheConstants.{PROTOCOL_VERSION}
 use Rattle.rh_sig.specs.declared.named.Named.TheVariants as named
 use Rattle.rh_line.specs.Lines.{Line, after_open_next, after_end, after_finish, after_take}
 use Rattle.rh_line.specs.declared.which.Which.{Which}
@@ -10,6 +12,7 @@ use Rattle.rh_line.specs.declared.which.Which.TheVariants.{Current, Next}
 use Rattle.rh_shell.specs.declared.answers.Count.{Count}
 use Rattle.rh_shell.specs.declared.answers.Refused.TheVariants as refused
 use Rattle.rh_shell.specs.Waiting.{added}
+use Rattle.rh_line.specs.declared.leg.TheConstants.{LAST_NUMBER}
 use Rattle.rh_server.specs.declared.state.Stage.{Stage}
 use Rattle.rh_server.specs.declared.state.Stage.TheVariants as stage
 use Rattle.rh_server.specs.declared.state.Edge.TheVariants.{Shut}
@@ -41,7 +44,7 @@ opens_next s leg (Waits window timeout ended) = with_in
     (record s {
       line = ended_if ended (after_open_next s.line true);
       next = record { leg = leg.number; number = leg.number; cookie = leg.cookie };
-      waiting = added s.waiting (named.InR1A3 0 1 window timeout);
+      waiting = added s.waiting (named.InR1A3 TO_CLIENT PROTOCOL_VERSION window timeout);
     })
     (record leg { stage = Opened; tells = tells.InR1B2 })
 
@@ -159,7 +162,7 @@ abbrev pub carries_next : Server → ℕ → Cookie → Which → Server
 carries_next s number successor which = record (carried_on s which (s.newest_in + 1)) {
   newest_in = s.newest_in + 1;
   newest = newest_by s.newest number successor;
-  waiting = added s.waiting (named.InR2A3 0);
+  waiting = added s.waiting (named.InR2A3 TO_CLIENT);
 }
 
 abbrev pub in_r2_a2_on : Server → ℕ → Cookie → Option Which → Done
@@ -171,6 +174,6 @@ in_r2_a2_on s number successor (Some which) = took (carries_next s number succes
 abbrev pub on_in_r2_a2 : Server → ℕ → Count → Cookie → Done
 on_in_r2_a2 s number count successor =
     if not (is_first count) && (is_open s.stage
-    && (not (waits kind.InR2A3 s.waiting) && nat_lt s.newest_in 4294967295))
+    && (not (waits kind.InR2A3 s.waiting) && nat_lt s.newest_in LAST_NUMBER))
     then in_r2_a2_on s number successor (channel_at s number)
     else unexpected s

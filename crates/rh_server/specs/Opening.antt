@@ -2,6 +2,7 @@
 use Rattle.std.specs.Prelude.{ℕ, ◌+◌, ◌==◌, ◌&&◌, List, [], ◌∷◌, ◌++◌, length, Bool, true, false, not, if◌then◌else◌, nat_lt, slice_set, Some, None, Ok, Err}
 use Rattle.std.specs.declared.option.Option.{Option}
 use Rattle.rh_rts.specs.declared.command.Cookie.{Cookie}
+use Rattle.rh_sig.specs.declared.ranges.TheConstants.{PROTOCOL_VERSION}
 use Rattle.rh_sig.specs.declared.named.Named.TheVariants.{ConnC1}
 use Rattle.rh_window.specs.Sending.{unsent}
 use Rattle.rh_keep.specs.Meters.{Meter, started}
@@ -14,6 +15,8 @@ use Rattle.rh_shell.specs.declared.answers.Refused.{Refused}
 use Rattle.rh_shell.specs.declared.answers.Refused.TheVariants as refused
 use Rattle.rh_shell.specs.Rules.{Row}
 use Rattle.rh_shell.specs.Waiting.{added}
+use Rattle.rh_server.specs.declared.opening.TheConstants.{BEFORE_FIRST}
+use Rattle.rh_server.specs.declared.state.TheConstants.{LEGS}
 use Rattle.rh_server.specs.declared.state.Stage.{Stage}
 use Rattle.rh_server.specs.declared.state.Stage.TheVariants.{Waits, OutCame, InCame, Open, Ended}
 use Rattle.rh_server.specs.declared.state.Greeting.TheVariants as greeting
@@ -67,9 +70,9 @@ out_leg_up number = record {
   meter = started 0 0;
 }
 
--- four legs of a kind are kept at most
+-- so many legs of a kind are kept at most
 abbrev pub has_room : {A : Type 0} → List A → Bool
-has_room legs = nat_lt (length legs) 4
+has_room legs = nat_lt (length legs) LEGS
 
 -- a leg has the number above the newest of its kind
 abbrev pub may_up_by : Server → ℕ → LegKind → Bool
@@ -108,7 +111,7 @@ up s leg cookie = if may_up s leg then up_by s leg.number leg.kind else s
 abbrev pub opens : Server → Cookie → ℕ → ℕ → Server
 opens s connection window timeout = record s {
   stage = Open connection;
-  waiting = added s.waiting (ConnC1 1 window timeout);
+  waiting = added s.waiting (ConnC1 PROTOCOL_VERSION window timeout);
 }
 
 -- the OUT channel of a leg
@@ -124,7 +127,7 @@ with_out_channel s place leg cookie window meter = record s {
 -- the first OUT channel begins behind CONN/A3, whose 28 bytes its meter counts
 abbrev pub first_out_at : Server → Cookie → ℕ → ℕ → Option ℕ → Option OutLeg → Server
 first_out_at s cookie lifetime window (Some place) (Some leg) =
-    with_out_channel s place leg cookie window (started lifetime 28)
+    with_out_channel s place leg cookie window (started lifetime BEFORE_FIRST)
 first_out_at s cookie lifetime window place leg = s
 
 abbrev pub with_first_out : Server → Cookie → ℕ → ℕ → Server

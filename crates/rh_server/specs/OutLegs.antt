@@ -1,6 +1,7 @@
 -- an os leg by itself: what is put there, and acknowledged (MS-RPCH 3.2.1)
 use Rattle.std.specs.Prelude.{ℕ, ◌==◌, ◌&&◌, Bool, Ok, Err}
 use Rattle.std.specs.declared.result.Result.{Result}
+use Rattle.rh_sig.specs.declared.lengths.TheConstants.{END_B1_LEN}
 use Rattle.rh_window.specs.Sending.{may_send, after_sent, ack_verdict, after_acked}
 use Rattle.rh_window.specs.declared.fault.BadAck.{BadAck}
 use Rattle.rh_keep.specs.Meters.{may_put, fits, after_put}
@@ -25,7 +26,7 @@ went leg len = record leg {
 
 -- END may go there, where it fits
 abbrev pub may_end : OutLeg → ℕ → Bool
-may_end leg writing = (leg.number == writing) && fits leg.meter 24
+may_end leg writing = (leg.number == writing) && fits leg.meter END_B1_LEN
 
 -- an acknowledgement comes
 abbrev pub acked_by : Result (Unit {0}) BadAck → Row

@@ -4,6 +4,9 @@
 use Rattle.std.specs.Prelude.{ℕ, ◌+◌, ◌==◌, ◌≤◌, ◌&&◌, List, Bool, true, false, if◌then◌else◌, find, count_by, Some, None}
 use Rattle.std.specs.declared.option.Option.{Option}
 use Rattle.rh_rts.specs.declared.command.Cookie.{Cookie}
+use Rattle.rh_rts.specs.declared.command.TheConstants.{TO_OUT_PROXY}
+use Rattle.rh_sig.specs.declared.lengths.TheConstants.{ACK_TO_LEN, CONN_C1_LEN, IN_R1_A3_LEN}
+use Rattle.rh_sig.specs.declared.lengths.TheConstants.{IN_R2_A3_LEN, OUT_R1_A1_LEN, OUT_R1_A5_LEN, OUT_R1_A9_LEN}
 use Rattle.rh_sig.specs.declared.named.Named.{Named}
 use Rattle.rh_sig.specs.declared.named.Named.TheVariants as named
 use Rattle.rh_keep.specs.Meters.{Meter, may_put, fits}
@@ -70,33 +73,34 @@ pub record Gate : Type 0 where
 
 -- the bytes of a packet that goes on the writing channel (MS-RPCH 2.2.4)
 abbrev pub length_of : Named → ℕ
-length_of (named.ConnC1 version window timeout) = 44
-length_of (named.InR1A3 destination version window timeout) = 52
-length_of (named.InR2A3 destination) = 28
-length_of (named.OutR1A1 destination) = 28
-length_of (named.OutR1A5 destination version timeout) = 44
-length_of named.OutR1A9 = 24
-length_of (named.AckTo destination received window cookie) = 56
+length_of (named.ConnC1 version window timeout) = CONN_C1_LEN
+length_of (named.InR1A3 destination version window timeout) = IN_R1_A3_LEN
+length_of (named.InR2A3 destination) = IN_R2_A3_LEN
+length_of (named.OutR1A1 destination) = OUT_R1_A1_LEN
+length_of (named.OutR1A5 destination version timeout) = OUT_R1_A5_LEN
+length_of named.OutR1A9 = OUT_R1_A9_LEN
+length_of (named.AckTo destination received window cookie) = ACK_TO_LEN
 length_of packet = 0
 
 -- the packets of replacement ask whether they fit; CONN/C1 and AckTo leave the reserve
 abbrev pub lets_by_meter : Meter → Named → Bool
-lets_by_meter m (named.ConnC1 version window timeout) = may_put m 44
-lets_by_meter m (named.InR1A3 destination version window timeout) = fits m 52
-lets_by_meter m (named.InR2A3 destination) = fits m 28
-lets_by_meter m (named.OutR1A1 destination) = fits m 28
-lets_by_meter m (named.OutR1A5 destination version timeout) = fits m 44
-lets_by_meter m named.OutR1A9 = fits m 24
-lets_by_meter m (named.AckTo destination received window cookie) = may_put m 56
+lets_by_meter m (named.ConnC1 version window timeout) = may_put m CONN_C1_LEN
+lets_by_meter m (named.InR1A3 destination version window timeout) = fits m IN_R1_A3_LEN
+lets_by_meter m (named.InR2A3 destination) = fits m IN_R2_A3_LEN
+lets_by_meter m (named.OutR1A1 destination) = fits m OUT_R1_A1_LEN
+lets_by_meter m (named.OutR1A5 destination version timeout) = fits m OUT_R1_A5_LEN
+lets_by_meter m named.OutR1A9 = fits m OUT_R1_A9_LEN
+lets_by_meter m (named.AckTo destination received window cookie) =
+    may_put m ACK_TO_LEN
 lets_by_meter m packet = false
 
 -- AckTo 3 goes on the leg of its channel and asks no meter; OUT_R1/A9 goes once the successor may
 -- take the channel's place; and no packet waits but these
 abbrev pub lets_packet : Gate → Named → Bool
 lets_packet g (named.AckTo destination received window cookie) =
-    if destination == 3 then same_cookie cookie g.cookie
-    else g.is_writing && may_put g.meter 56
-lets_packet g named.OutR1A9 = g.is_writing && (g.hands_over && fits g.meter 24)
+    if destination == TO_OUT_PROXY then same_cookie cookie g.cookie
+    else g.is_writing && may_put g.meter ACK_TO_LEN
+lets_packet g named.OutR1A9 = g.is_writing && (g.hands_over && fits g.meter OUT_R1_A9_LEN)
 lets_packet g packet = g.is_writing && lets_by_meter g.meter packet
 
 abbrev pub lets : Gate → Due → Bool
@@ -106,7 +110,7 @@ lets g due = lets_packet g due.packet
 
 -- it is for the channel of that cookie
 abbrev pub is_ack_of : Cookie → Due → Bool
-is_ack_of cookie due = takes (named.AckTo 3 0 0 cookie) due
+is_ack_of cookie due = takes (named.AckTo TO_OUT_PROXY 0 0 cookie) due
 
 -- an acknowledgement with a destination
 abbrev pub is_ack : Named → Bool

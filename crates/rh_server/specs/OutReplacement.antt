@@ -3,6 +3,8 @@ use Rattle.std.specs.Prelude.{ℕ, ◌+◌, ◌==◌, ◌&&◌, ◌||◌, Bool, 
 use Rattle.std.specs.declared.option.Option.{Option}
 use Rattle.std.specs.declared.result.Result.{Result}
 use Rattle.rh_rts.specs.declared.command.Cookie.{Cookie}
+use Rattle.rh_rts.specs.declared.command.TheConstants.{TO_CLIENT, TO_SERVER}
+use Rattle.rh_sig.specs.declared.ranges.TheConstants.{PROTOCOL_VERSION}
 use Rattle.rh_sig.specs.declared.named.Named.TheVariants as named
 use Rattle.rh_keep.specs.Meters.{started, wanted}
 use Rattle.rh_shell.specs.declared.answers.Count.{Count}
@@ -17,6 +19,7 @@ use Rattle.rh_server.specs.declared.state.OutLeg.{OutLeg}
 use Rattle.rh_server.specs.declared.state.Replacement.{Replacement}
 use Rattle.rh_server.specs.declared.state.Replacement.TheVariants.{Steady, Asked, Answered, Confirmed}
 use Rattle.rh_server.specs.declared.out_line.Kind.TheVariants as kind
+use Rattle.rh_line.specs.declared.leg.TheConstants.{LAST_NUMBER}
 use Rattle.rh_server.specs.OutLines.{waits}
 use Rattle.rh_server.specs.States.{Server, is_open, is_steady, same_cookie, out_at, out_place, out_leg, out_cookie}
 use Rattle.rh_server.specs.Opening.{Done, took, refuse, unexpected, is_first, with_out_channel}
@@ -26,7 +29,7 @@ use Rattle.rh_server.specs.Acknowledging.{out_server}
 
 -- the greatest number of a channel
 abbrev pub last_number : ℕ
-last_number = 4294967295
+last_number = LAST_NUMBER
 
 -- a replacement is under way, or a packet of it still waits
 abbrev pub is_under_way : Server → Bool
@@ -36,7 +39,7 @@ is_under_way s = not (is_steady s.replacement) || waits kind.OutR1 s.waiting
 abbrev pub asks : Server → Server
 asks s = record s {
   replacement = Asked;
-  waiting = added s.waiting (named.OutR1A1 0);
+  waiting = added s.waiting (named.OutR1A1 TO_CLIENT);
 }
 
 -- it is asked for: none is under way, and the writing channel's number is not the last one, for
@@ -67,7 +70,7 @@ abbrev pub answered : Server → ℕ → OutLeg → Cookie → ℕ → ℕ → �
 answered s place leg successor lifetime window timeout =
     record (with_out_channel s place leg successor window (started lifetime 0)) {
       replacement = Answered successor;
-      waiting = added s.waiting (named.OutR1A5 0 1 timeout);
+      waiting = added s.waiting (named.OutR1A5 TO_CLIENT PROTOCOL_VERSION timeout);
     }
 
 abbrev pub answered_by : Server → Cookie → ℕ → ℕ → ℕ → Option ℕ → Option OutLeg → Done
@@ -138,7 +141,7 @@ out_r1_a8_at s successor Confirmed = unexpected s
 -- OUT_R1/A8 comes on an is leg, not first, for the server; OUT_R1/A5 was put, and none came since
 abbrev pub on_out_r1_a8 : Server → Count → ℕ → Cookie → Done
 on_out_r1_a8 s count destination successor =
-    if not (is_first count) && ((destination == 2) && not (waits kind.OutR1 s.waiting))
+    if not (is_first count) && ((destination == TO_SERVER) && not (waits kind.OutR1 s.waiting))
     then out_r1_a8_at s successor s.replacement
     else unexpected s
 

@@ -2,6 +2,9 @@
 use Rattle.std.specs.Prelude.{ℕ, ◌≡◌, ◌==◌, ◌&&◌, ◌||◌, List, Bool, true, false, not, if◌then◌else◌, nat_lt, slice_get, slice_set, IfSome, Some, None}
 use Rattle.std.specs.declared.option.Option.{Option}
 use Rattle.rh_rts.specs.declared.command.Cookie.{Cookie}
+use Rattle.rh_rts.specs.declared.command.TheConstants.{TO_OUT_PROXY}
+use Rattle.rh_sig.specs.declared.lengths.TheConstants.{ACK_TO_LEN, END_B1_LEN, OUT_R1_A9_LEN}
+use Rattle.rh_sig.specs.declared.ranges.TheConstants.{PROTOCOL_VERSION}
 use Rattle.rh_sig.specs.declared.named.Named.{Named}
 use Rattle.rh_sig.specs.declared.named.Named.TheVariants as named
 use Rattle.rh_window.specs.declared.recv_window.Ack.{Ack}
@@ -64,7 +67,7 @@ put_tells_by s leg tells.ConnB3 =
     if is_open s.stage
     then Some (
       with_in s (record leg { tells = tells.Nothing }),
-      Packet (named.ConnB3 s.line.size 1),
+      Packet (named.ConnB3 s.line.size PROTOCOL_VERSION),
     )
     else None
 put_tells_by s leg tells.InR1B2 =
@@ -165,8 +168,8 @@ counts s place len = counts_at s place len (slice_get s.outs place)
 -- AckTo 3 is not counted; behind OUT_R1/A9 the successor is the writing channel
 abbrev pub was_put : Server → ℕ → Named → Server
 was_put s place (named.AckTo destination received window cookie) =
-    if destination == 3 then s else counts s place 56
-was_put s place named.OutR1A9 = handed (counts s place 24)
+    if destination == TO_OUT_PROXY then s else counts s place ACK_TO_LEN
+was_put s place named.OutR1A9 = handed (counts s place OUT_R1_A9_LEN)
 was_put s place packet = counts s place (length_of packet)
 
 -- it was let go by the leg's gate
@@ -222,7 +225,7 @@ is_end_due s = is_closing s.giving && (not (is_put s.end_mark) && is_nil s.queue
 abbrev pub put_end : Server → ℕ → Pick
 put_end s place =
     if is_end_due s && may_end_at s (slice_get s.outs place)
-    then Some (record (counts s place 24) { end_mark = end_mark.Put }, Packet named.EndB1)
+    then Some (record (counts s place END_B1_LEN) { end_mark = end_mark.Put }, Packet named.EndB1)
     else None
 
 abbrev pub put_pdu_or_end : Server → ℕ → Pick

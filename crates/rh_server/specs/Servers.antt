@@ -18,6 +18,8 @@ use Rattle.rh_shell.specs.declared.rooms.Rooms.{Rooms}
 use Rattle.rh_shell.specs.Rules.{Rules, Acts}
 use Rattle.rh_shell.specs.Shells.{Shell, begun}
 use Rattle.rh_shell.specs.Waiting.{empty}
+use Rattle.rh_server.specs.declared.server.TheConstants.{ROOMS}
+use Rattle.rh_server.specs.declared.out_line.TheConstants.{LINE_ROOM}
 use Rattle.rh_server.specs.declared.state.Stage.TheVariants.{Waits}
 use Rattle.rh_server.specs.declared.state.Giving.TheVariants.{Going}
 use Rattle.rh_server.specs.declared.state.EndMark.TheVariants.{Unput}
@@ -141,14 +143,14 @@ first window = record {
   writing = 1;
   end_mark = Unput;
   replacement = Steady;
-  waiting = empty 20;
+  waiting = empty LINE_ROOM;
   newest_out = 0;
   outs = [];
 }
 
 -- four legs of each kind
 abbrev pub rooms : Rooms
-rooms = record { client_out = 0; out_server = 4; client_in = 0; in_server = 4 }
+rooms = ROOMS
 
 abbrev pub new_server : ℕ → Shell Server
 new_server window = begun (first window) rooms

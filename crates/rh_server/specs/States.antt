@@ -8,6 +8,7 @@ use Rattle.rh_line.specs.Lines.{Line}
 use Rattle.rh_shell.specs.Waiting.{Waiting}
 use Rattle.rh_shell.specs.declared.answers.Phase.{Phase}
 use Rattle.rh_shell.specs.declared.answers.Phase.TheVariants as phase
+use Rattle.rh_rts.specs.declared.command.TheConstants.{COOKIE_LEN}
 use Rattle.rh_server.specs.declared.state.Stage.{Stage}
 use Rattle.rh_server.specs.declared.state.Stage.TheVariants.{Waits, OutCame, InCame, Open, Ended}
 use Rattle.rh_server.specs.declared.state.Giving.{Giving}
@@ -68,7 +69,7 @@ same_cookie one other = bytes_eq one.0 other.0
 
 -- what stands for a cookie that is not known
 abbrev pub no_cookie : Cookie
-no_cookie = record { 0 = replicate 16 0 }
+no_cookie = record { 0 = replicate COOKIE_LEN 0 }
 
 abbrev pub is_open : Stage → Bool
 is_open Waits = false

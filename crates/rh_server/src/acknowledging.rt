@@ -7,7 +7,7 @@ use crate::opening::{Row, is_first};
 use crate::out_line::Taking;
 use crate::state::{OutLeg, ServerRole, same_cookie};
 use rh_line::{Leg, LegKind, LineFault, Which};
-use rh_rts::Cookie;
+use rh_rts::{Cookie, TO_CLIENT, TO_OUT_PROXY};
 use rh_shell::{Count, FORWARDED_ROOM, Refused};
 use rh_sig::Named;
 
@@ -174,8 +174,8 @@ impl ServerRole {
             return Err(Refused::Unexpected);
         }
         match destination {
-            0 => self.forwards_writing(Named::AckTo(0, received, window, cookie)),
-            3 => self.forwards_to(Named::AckTo(3, received, window, cookie), cookie),
+            0 => self.forwards_writing(Named::AckTo(TO_CLIENT, received, window, cookie)),
+            3 => self.forwards_to(Named::AckTo(TO_OUT_PROXY, received, window, cookie), cookie),
             _ => Err(Refused::Unexpected),
         }
     }

@@ -9,8 +9,9 @@ use crate::out_line::Kind;
 use crate::state::{
     Edge, InChannel, InLeg, InStage, Leaving, Newest, ServerRole, Stage, Tells, same_cookie,
 };
-use rh_line::{LineTake, Which};
-use rh_rts::Cookie;
+use rh_line::{LAST_NUMBER, LineTake, Which};
+use rh_pdu::header::GREATEST_FRAG;
+use rh_rts::{Cookie, TO_CLIENT};
 use rh_shell::{Count, Refused};
 use rh_sig::Named;
 use rh_sig::ranges::PROTOCOL_VERSION;
@@ -55,7 +56,7 @@ impl ServerRole {
         };
         self.out_line.add(
             Kind::InR1A3,
-            Named::InR1A3(0, PROTOCOL_VERSION, window, timeout),
+            Named::InR1A3(TO_CLIENT, PROTOCOL_VERSION, window, timeout),
         );
         self.set_in(InLeg {
             stage: InStage::Opened,
@@ -100,7 +101,7 @@ impl ServerRole {
     }
 
     /// Takes the next PDU into the room. The next channel may become current by that.
-    pub(crate) fn take_pdu(&mut self, room: &mut [u8; 8192]) -> LineTake
+    pub(crate) fn take_pdu(&mut self, room: &mut [u8; GREATEST_FRAG]) -> LineTake
         ensures answer { result ≡ take_answer self.old.line }
         ensures room { room.new ≡ put_first self.old.line.current.pdus room.old }
         ensures new { self.new ≡ seen.take self.old }
@@ -252,7 +253,7 @@ impl ServerRole {
         if is_first(count) || !self.is_open() {
             return Err(Refused::Unexpected);
         }
-        if self.out_line.waits(Kind::InR2A3) || self.newest_in == u32::MAX {
+        if self.out_line.waits(Kind::InR2A3) || self.newest_in == LAST_NUMBER {
             return Err(Refused::Unexpected);
         }
         let Some(which) = self.channel_at(number) else {
@@ -266,7 +267,7 @@ impl ServerRole {
         if number == self.newest.leg {
             self.newest.cookie = successor;
         }
-        self.out_line.add(Kind::InR2A3, Named::InR2A3(0));
+        self.out_line.add(Kind::InR2A3, Named::InR2A3(TO_CLIENT));
         Ok(())
     }
 }

@@ -10,7 +10,7 @@ use crate::state::{
 };
 use rh_keep::Meter;
 use rh_line::{Leg, LegKind};
-use rh_rts::Cookie;
+use rh_rts::{Cookie, NO_COOKIE};
 use rh_shell::{Count, Refused};
 use rh_sig::Named;
 use rh_sig::ranges::PROTOCOL_VERSION;
@@ -19,10 +19,8 @@ use rh_window::SendWindow;
 /// What a row made of a packet: it was taken, or why it is refused.
 pub(crate) type Row = Result<(), Refused>;
 
-/// What stands for a cookie that is not known.
-pub(crate) const NO_COOKIE: Cookie = Cookie([0; 16]);
 /// The bytes of CONN/A3, which the first OUT channel begins with.
-const BEFORE_FIRST: u32 = 28;
+pub const BEFORE_FIRST: u32 = 28;
 
 /// Whether no packet came before.
 pub(crate) fn is_first(count: Count) -> bool
@@ -71,10 +69,10 @@ impl ServerRole {
         let number = u64::from(leg.number);
         match leg.kind {
             LegKind::InServer => {
-                number == u64::from(self.newest_in) + 1 && self.ins.len() < LEGS
+                number == u64::from(self.newest_in) + 1 && self.ins.len() < usize::from(LEGS)
             }
             LegKind::OutServer => {
-                number == u64::from(self.newest_out) + 1 && self.outs.len() < LEGS
+                number == u64::from(self.newest_out) + 1 && self.outs.len() < usize::from(LEGS)
             }
             LegKind::ClientIn | LegKind::ClientOut => false,
         }

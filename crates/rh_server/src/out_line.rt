@@ -3,13 +3,21 @@
 ghost use Rattle.std.specs.Prelude.{◌≡◌};
 ghost use Rattle.rh_server.specs.OutLines.{kind_of, are_kind, length_of, lets_by_meter, lets_packet};
 
-use crate::state::same_cookie;
+use crate::state::{LEGS, same_cookie};
 use rh_keep::Meter;
-use rh_rts::Cookie;
+use rh_rts::{Cookie, TO_OUT_PROXY};
 use rh_shell::{Due, FORWARDED_ROOM, Gate, Origin, Waiting};
 use rh_sig::Named;
+use rh_sig::lengths::{
+    ACK_TO_LEN, CONN_C1_LEN, IN_R1_A3_LEN, IN_R2_A3_LEN, OUT_R1_A1_LEN, OUT_R1_A5_LEN,
+    OUT_R1_A9_LEN,
+};
 use std::alloc::{AllocError, Global};
 use std::marker::Model;
+
+/// How many packets may wait that are to be forwarded: those of a leg, and one more for each OUT
+/// leg.
+pub const LINE_ROOM: u8 = FORWARDED_ROOM + LEGS;
 
 /// The kinds of the server's own packets on the OUT line. Of each one waits at most.
 #[derive(Clone, Copy, Debug, PartialEq, Eq)]
@@ -91,11 +99,13 @@ pub(crate) fn length_of(packet: &Named) -> u16
     ensures { result ≡ length_of packet.now }
 {
     match packet {
-        Named::ConnC1(..) | Named::OutR1A5(..) => 44,
-        Named::InR1A3(..) => 52,
-        Named::InR2A3(..) | Named::OutR1A1(..) => 28,
-        Named::OutR1A9 => 24,
-        Named::AckTo(..) => 56,
+        Named::ConnC1(..) => CONN_C1_LEN,
+        Named::InR1A3(..) => IN_R1_A3_LEN,
+        Named::InR2A3(..) => IN_R2_A3_LEN,
+        Named::OutR1A1(..) => OUT_R1_A1_LEN,
+        Named::OutR1A5(..) => OUT_R1_A5_LEN,
+        Named::OutR1A9 => OUT_R1_A9_LEN,
+        Named::AckTo(..) => ACK_TO_LEN,
         _ => 0,
     }
 }
@@ -137,7 +147,7 @@ impl Gate for LegGate {
     fn may_go(&self, due: &Due) -> bool {
         match due.packet {
             Named::AckTo(3, _, _, cookie) => same_cookie(cookie, self.cookie),
-            Named::OutR1A9 => self.is_writing && self.hands_over && self.meter.fits(24),
+            Named::OutR1A9 => self.is_writing && self.hands_over && self.meter.fits(OUT_R1_A9_LEN),
             packet => self.is_writing && lets_by_meter(&self.meter, &packet),
         }
     }
@@ -166,15 +176,16 @@ impl OutLine {
     ghost use Rattle.rh_sig.specs.Values.{MayBeWritten};
     ghost use Rattle.rh_shell.specs.declared.due.Origin.TheVariants.{Forwarded as to_forward};
     ghost use Rattle.rh_shell.specs.Waiting.{empty, added, forwarded, taken, count};
+    ghost use Rattle.rh_server.specs.declared.out_line.TheConstants.{LINE_ROOM};
     ghost use Rattle.rh_server.specs.OutLines as seen;
 
     /// No packet, with room for those that are to be forwarded: 16 on the writing channel, and one
     /// for each leg.
     pub(crate) fn new(alloc: Global) -> Result<OutLine, AllocError>
-        ensures { IfOk result (λ line. line ≡ empty 20) }
+        ensures { IfOk result (λ line. line ≡ empty LINE_ROOM) }
     {
         Ok(OutLine {
-            waiting: Waiting::new(alloc, FORWARDED_ROOM + 4)?,
+            waiting: Waiting::new(alloc, LINE_ROOM)?,
         })
     }
 
@@ -196,14 +207,14 @@ impl OutLine {
     pub(crate) fn has_ack_of(&self, cookie: Cookie) -> bool
         ensures { result ≡ seen.has (seen.is_ack_of cookie) self.now }
     {
-        self.has(&Taking(Named::AckTo(3, 0, 0, cookie)))
+        self.has(&Taking(Named::AckTo(TO_OUT_PROXY, 0, 0, cookie)))
     }
 
     /// An AckTo 3 for this channel is dropped, where one waits.
     pub(crate) fn drop_ack_of(&mut self, cookie: Cookie)
         ensures { self.new ≡ (taken (seen.is_ack_of cookie) self.old).0 }
     {
-        let _ = self.take(&Taking(Named::AckTo(3, 0, 0, cookie)));
+        let _ = self.take(&Taking(Named::AckTo(TO_OUT_PROXY, 0, 0, cookie)));
     }
 
     /// How many wait that are to be forwarded.

@@ -7,7 +7,8 @@ use crate::opening::{Row, is_first};
 use crate::out_line::Kind;
 use crate::state::{Replacement, ServerRole, Stage, same_cookie};
 use rh_keep::Meter;
-use rh_rts::Cookie;
+use rh_line::LAST_NUMBER;
+use rh_rts::{Cookie, TO_CLIENT, TO_SERVER};
 use rh_shell::{Count, RecycleRefused, Refused};
 use rh_sig::Named;
 use rh_sig::ranges::PROTOCOL_VERSION;
@@ -32,14 +33,14 @@ impl ServerRole {
         ensures { self.new ≡ seen.asks self.old }
     {
         self.replacement = Replacement::Asked;
-        self.out_line.add(Kind::OutR1, Named::OutR1A1(0));
+        self.out_line.add(Kind::OutR1, Named::OutR1A1(TO_CLIENT));
     }
 
     /// The writing channel is to be replaced. Nothing has changed where that is refused.
     pub(crate) fn recycle_out(&mut self) -> Result<(), RecycleRefused>
         ensures { (self.new, result) ≡ seen.recycle self.old }
     {
-        if self.writing == u32::MAX {
+        if self.writing == LAST_NUMBER {
             return Err(RecycleRefused::Last);
         }
         if self.is_under_way() {
@@ -55,7 +56,7 @@ impl ServerRole {
     fn wishes(&self) -> bool
         ensures { result ≡ seen.wishes self.now }
     {
-        if !self.is_open() || self.writing == u32::MAX || self.is_under_way() {
+        if !self.is_open() || self.writing == LAST_NUMBER || self.is_under_way() {
             return false;
         }
         match self.out_place(self.writing) {
@@ -142,15 +143,17 @@ impl ServerRole {
         leg.window = SendWindow::new(window);
         leg.meter = Meter::new(lifetime, 0);
         self.replacement = Replacement::Answered(successor);
-        self.out_line
-            .add(Kind::OutR1, Named::OutR1A5(0, PROTOCOL_VERSION, timeout));
+        self.out_line.add(
+            Kind::OutR1,
+            Named::OutR1A5(TO_CLIENT, PROTOCOL_VERSION, timeout),
+        );
         Ok(())
     }
 
     pub(crate) fn on_out_r1_a8(&mut self, count: Count, destination: u32, successor: Cookie) -> Row
         ensures { (self.new, result) ≡ seen.on_out_r1_a8 self.old count destination successor }
     {
-        if is_first(count) || destination != 2 || self.out_line.waits(Kind::OutR1) {
+        if is_first(count) || destination != TO_SERVER || self.out_line.waits(Kind::OutR1) {
             return Err(Refused::Unexpected);
         }
         let Replacement::Answered(cookie) = self.replacement else {

@@ -1,18 +1,16 @@
 //! What a server puts.
 
-use crate::opening::NO_COOKIE;
 use crate::out_line::{LegGate, length_of};
 use crate::state::{
     Edge, EndMark, Giving, Greeting, InLeg, Leaving, OutLeg, Replacement, ServerRole, Tells,
 };
-use rh_line::{Leg, LegKind, Which};
-use rh_shell::Begun;
+use rh_line::{LAST_NUMBER, Leg, LegKind, Which};
+use rh_rts::NO_COOKIE;
+use rh_shell::{Begun, GREETING};
 use rh_sig::Named;
+use rh_sig::lengths::{END_B1_LEN, OUT_R1_A9_LEN};
 use rh_sig::ranges::PROTOCOL_VERSION;
 use rh_window::Ack;
-
-/// What a server says first on a leg (profile).
-const GREETING: [u8; 14] = *b"ncacn_http/1.0";
 
 impl OutLeg {
     ghost use Rattle.std.specs.Prelude.{◌≡◌, ◌&&◌, true};
@@ -56,13 +54,14 @@ impl OutLeg {
     fn may_end(&self, writing: u32) -> bool
         ensures { result ≡ seen.may_end self.now writing }
     {
-        self.number == writing && self.meter.fits(24)
+        self.number == writing && self.meter.fits(END_B1_LEN)
     }
 }
 
 impl ServerRole {
     ghost use Rattle.std.specs.Prelude.{◌≡◌, ◌<◌, [], IfSome, Some, true, slice_get, length};
     ghost use Rattle.rh_keep.specs.Meters.{fits};
+    ghost use Rattle.rh_sig.specs.declared.lengths.TheConstants.{END_B1_LEN};
     ghost use Rattle.rh_shell.specs.Rules.{put_into};
     ghost use Rattle.rh_server.specs.States.{is_some};
     ghost use Rattle.rh_server.specs.Putting as seen;
@@ -220,7 +219,7 @@ impl ServerRole {
             },
             meter: leg.meter,
             is_writing: leg.number == self.writing,
-            hands_over: self.replacement == Replacement::Confirmed && self.writing < u32::MAX,
+            hands_over: self.replacement == Replacement::Confirmed && self.writing < LAST_NUMBER,
         }
     }
 
@@ -243,7 +242,7 @@ impl ServerRole {
         match packet {
             Named::AckTo(3, ..) => {}
             Named::OutR1A9 => {
-                self.counts(place, 24);
+                self.counts(place, OUT_R1_A9_LEN);
                 self.writing += 1;
                 self.end_mark = EndMark::Unput;
                 self.replacement = Replacement::Steady;
@@ -325,9 +324,9 @@ impl ServerRole {
     fn ended(&mut self, place: usize)
         requires there { place < length self.old.outs }
         requires may_end { seen.may_end_at self.old (slice_get self.old.outs place) ≡ true }
-        ensures { self.new ≡ seen.counts self.old place 24 }
+        ensures { self.new ≡ seen.counts self.old place END_B1_LEN }
     {
-        self.outs[place].counts(24);
+        self.outs[place].counts(END_B1_LEN);
     }
 
     /// END/B1, once on the writing channel, where no PDU is left.

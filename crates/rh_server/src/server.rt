@@ -43,7 +43,7 @@
 //! A third one, whether the channel that waits first may be opened, is looked at when one is
 //! announced and when one becomes current.
 
-use crate::opening::{NO_COOKIE, Row};
+use crate::opening::Row;
 use crate::out_line::OutLine;
 use crate::state::{
     Edge, EndMark, Giving, InChannel, LEGS, Newest, Replacement, ServerRole, Stage,
@@ -51,7 +51,8 @@ use crate::state::{
 use rh_line::{
     GiveFault, Leg, LegKind, LineTake, RecvLine, RecycleFault, SendLine, State, Take, Verdict,
 };
-use rh_rts::Cookie;
+use rh_pdu::header::GREATEST_FRAG;
+use rh_rts::{Cookie, NO_COOKIE};
 use rh_shell::{
     Begun, Count, EndRole, GiveRefused, HeadRefused, HeadTaken, Phase, RecycleRefused, Refused,
     Role, Rooms, Shell,
@@ -70,9 +71,9 @@ pub struct ServerConfig {
 /// Four legs of each kind that a server has may be unfinished.
 pub const ROOMS: Rooms = Rooms {
     client_out: 0,
-    out_server: 4,
+    out_server: LEGS,
     client_in: 0,
-    in_server: 4,
+    in_server: LEGS,
 };
 
 /// A server with its legs.
@@ -212,7 +213,7 @@ impl Server {
     /// room, which stays behind it.
     ///
     /// Answers `Closed` exactly where the server closed, with that cause; the room then stays.
-    pub fn take(&mut self, room: &mut [u8; 8192]) -> Take
+    pub fn take(&mut self, room: &mut [u8; GREATEST_FRAG]) -> Take
         ensures answer { result ≡ ends.take_answer acts self.old }
         ensures room { room.new ≡ ends.room_after_take acts self.old room.old }
         ensures new { self.new ≡ ends.after_take acts self.old }
@@ -280,7 +281,7 @@ impl ServerRole {
                 cookie: NO_COOKIE,
             },
             newest_in: 0,
-            ins: Vec::with_capacity(alloc, LEGS)?,
+            ins: Vec::with_capacity(alloc, usize::from(LEGS))?,
             queue: SendLine::new(alloc)?,
             giving: Giving::Going,
             writing: 1,
@@ -288,7 +289,7 @@ impl ServerRole {
             replacement: Replacement::Steady,
             out_line: OutLine::new(alloc)?,
             newest_out: 0,
-            outs: Vec::with_capacity(alloc, LEGS)?,
+            outs: Vec::with_capacity(alloc, usize::from(LEGS))?,
         })
     }
 
@@ -450,7 +451,7 @@ impl EndRole for ServerRole {
         self.give_pdu(pdu)
     }
 
-    fn take(&mut self, room: &mut [u8; 8192]) -> LineTake {
+    fn take(&mut self, room: &mut [u8; GREATEST_FRAG]) -> LineTake {
         self.take_pdu(room)
     }
 

@@ -189,10 +189,11 @@ pub struct ServerRole {
 }
 
 /// How many legs of a kind are kept: those that are unfinished.
-pub const LEGS: usize = 4;
+pub const LEGS: u8 = 4;
 
 impl Model for ServerRole {
     ghost use Rattle.std.specs.Prelude.{◌≡◌, ◌≤◌, vec_capacity};
+    ghost use Rattle.rh_server.specs.declared.state.TheConstants.{LEGS};
     ghost use Rattle.rh_server.specs.States as seen;
 
     ghost Value = { seen.Server };
@@ -223,8 +224,8 @@ impl Model for ServerRole {
         × (s.is_left ≡ s.line.finished)
         × (seen.IsEdge s.edge s.line)
         × (s.line.next.window.told ≡ 0)
-        × (4 ≤ vec_capacity s.ins)
-        × (4 ≤ vec_capacity s.outs) };
+        × (LEGS ≤ vec_capacity s.ins)
+        × (LEGS ≤ vec_capacity s.outs) };
 }
 
 impl ServerRole {

@@ -128,34 +128,34 @@ pub record LeavesAlone (kind : Named → Bool) : Type 0 where
   pub in_r2_a3 : Apart kind is_in_r2_a3
 
 pub ack_alone : LeavesAlone is_ack
-ack_alone = record { conn_c1 = c1; in_r1_a3 = r1; in_r2_a3 = r2 }
+ack_alone = record { conn_c1 = conn; in_r1_a3 = first; in_r2_a3 = second }
   where
-    c1 : Apart is_ack is_conn_c1
-    c1 (named.AckTo a b c d) e = refl
-    c1 p e = absurd (false≢true e)
+    conn : Apart is_ack is_conn_c1
+    conn (named.AckTo a b c d) e = refl
+    conn p e = absurd (false≢true e)
 
-    r1 : Apart is_ack is_in_r1_a3
-    r1 (named.AckTo a b c d) e = refl
-    r1 p e = absurd (false≢true e)
+    first : Apart is_ack is_in_r1_a3
+    first (named.AckTo a b c d) e = refl
+    first p e = absurd (false≢true e)
 
-    r2 : Apart is_ack is_in_r2_a3
-    r2 (named.AckTo a b c d) e = refl
-    r2 p e = absurd (false≢true e)
+    second : Apart is_ack is_in_r2_a3
+    second (named.AckTo a b c d) e = refl
+    second p e = absurd (false≢true e)
 
 pub out_alone : LeavesAlone of_out
-out_alone = record { conn_c1 = c1; in_r1_a3 = r1; in_r2_a3 = r2 }
+out_alone = record { conn_c1 = conn; in_r1_a3 = first; in_r2_a3 = second }
   where
-    c1 : Apart of_out is_conn_c1
-    c1 (named.ConnC1 a b c) e = absurd (false≢true e)
-    c1 p e = refl
+    conn : Apart of_out is_conn_c1
+    conn (named.ConnC1 a b c) e = absurd (false≢true e)
+    conn p e = refl
 
-    r1 : Apart of_out is_in_r1_a3
-    r1 (named.InR1A3 a b c d) e = absurd (false≢true e)
-    r1 p e = refl
+    first : Apart of_out is_in_r1_a3
+    first (named.InR1A3 a b c d) e = absurd (false≢true e)
+    first p e = refl
 
-    r2 : Apart of_out is_in_r2_a3
-    r2 (named.InR2A3 a) e = absurd (false≢true e)
-    r2 p e = refl
+    second : Apart of_out is_in_r2_a3
+    second (named.InR2A3 a) e = absurd (false≢true e)
+    second p e = refl
 
 -- the stages count alike
 pub record AreAlike (at new : Stage) : Type 0 where

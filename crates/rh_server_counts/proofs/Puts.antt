@@ -213,20 +213,20 @@ module _ (n : ℕ) (came put : List OnLeg) where
 
       by : (x : Option Due) → Went is_conn_c1 dues left.due x → Went is_in_r1_a3 dues left.due x
           → Went is_in_r2_a3 dues left.due x → Puts OutServer (waiting_by s place (left, x))
-      by None c1 r1 r2 = tt
-      by (Some due) c1 r1 r2 =
+      by None conn first second = tt
+      by (Some due) conn first second =
           let t : Server = record s { waiting = left } in
           same_holds t (was_put t place due.packet) came (put ++ on_os (Packet due.packet) ∷ [])
           (was_put_same t place due.packet) (record {
             opening = opening_put s.stage dues left.due s.ins s.ins came put
                 (on_os (Packet due.packet)) (record {
-                  conn_c1 = one_of is_conn_c1 due.packet left.due c1;
+                  conn_c1 = one_of is_conn_c1 due.packet left.due conn;
                   conn_b3 = omega arith;
                   greetings = λ e. absurd (opened s.stage is e);
                   early_b3 = λ e. refl;
                 }) h.opening;
             answering = put_keeps (look s) left.due came put (on_os (Packet due.packet))
-                (others_have (lets gate) dues h.answering.origins) r1 r2 h.answering;
+                (others_have (lets gate) dues h.answering.origins) first second h.answering;
           })
         where
           one_of : (test : Named → Bool) (packet : Named) (others : List Due)

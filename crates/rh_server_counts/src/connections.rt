@@ -2,6 +2,7 @@
 
 ghost use Rattle.std.specs.Prelude.{◌≡◌, List, ℕ};
 ghost use Rattle.std.specs.List.{AllByRecursion};
+ghost use Rattle.rh_rts.specs.declared.command.TheConstants.{TO_CLIENT};
 ghost use Rattle.rh_line.specs.declared.leg.LegKind.TheVariants.{OutServer};
 ghost use Rattle.rh_shell.specs.Moves.{AreAllowedAtEnd, EndMove, all_end_moved, end_started};
 ghost use Rattle.rh_passages.specs.Passing.{of_kind};
@@ -25,6 +26,6 @@ pub fn a_server_puts_conn_c1_first()
     ensures { (window : ℕ) (moves : List EndMove)
         → AreAllowedAtEnd rules acts (end_started (first window)) moves
         → let p = (all_end_moved rules acts (end_started (first window)) moves).passage in
-        HaveRoom p.came → in_came (is_ack_to 0) p ≡ 0 → out_put is_conn_c1 p ≡ 0
+        HaveRoom p.came → in_came (is_ack_to TO_CLIENT) p ≡ 0 → out_put is_conn_c1 p ≡ 0
         → AllByRecursion MayGoBefore (of_kind OutServer p.put) }
 {}

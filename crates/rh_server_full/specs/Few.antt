@@ -2,6 +2,7 @@
 -- be (MS-RPCH 3.2.1)
 use Rattle.std.specs.Prelude.{ℕ, suc, ◌≡◌, ◌⊎◌, ◌≤◌, List, [], ◌∷◌, length}
 use Rattle.rh_rts.specs.declared.command.Cookie.{Cookie}
+use Rattle.rh_rts.specs.declared.command.TheConstants.{TO_CLIENT}
 use Rattle.rh_sig.specs.declared.named.Named.TheVariants.{AckTo}
 use Rattle.rh_shell.specs.Moves.{EndMove}
 use Rattle.rh_shell.specs.Rules.{Packet}
@@ -26,16 +27,16 @@ pub record NoMoreWait (numbers : Numbers) (reader : ℕ → ℕ) (moves : Moves)
   pub waiting : (channels : List ℕ)
       → ((channel : Cookie) (late : IsLate numbers reader moves front channel)
       → IsAmong late.number channels)
-      → waits_for (is_ack_to 0) (server_behind numbers moves).passage.role ≤ length channels
+      → waits_for (is_ack_to TO_CLIENT) (server_behind numbers moves).passage.role ≤ length channels
   pub next : (channels : List ℕ)
       → ((channel : Cookie) (late : IsLate numbers reader moves front channel)
       → IsAmong late.number channels)
       → (n received window : ℕ) (channel : Cookie)
       → IsAhead (server_behind numbers moves).passage (is_leg n)
       (all_read_of (of_leg (is_leg n) (in_behind numbers moves n).put))
-      (Packet (AckTo 0 received window channel))
+      (Packet (AckTo TO_CLIENT received window channel))
       → waits_for (is_ack_for channel) (server_behind numbers moves).passage.role ≡ 0
-      → suc (waits_for (is_ack_to 0) (server_behind numbers moves).passage.role)
+      → suc (waits_for (is_ack_to TO_CLIENT) (server_behind numbers moves).passage.role)
       ≤ length channels
 
 -- by the move behind which the one waited that waits longest

@@ -2,6 +2,7 @@
 -- 3.2.1; the room is this profile's)
 use Rattle.std.specs.Prelude.{ℕ, ◌≡◌, ◌≤◌, Err}
 use Rattle.rh_rts.specs.declared.command.Cookie.{Cookie}
+use Rattle.rh_rts.specs.declared.command.TheConstants.{TO_CLIENT, TO_OUT_PROXY}
 use Rattle.rh_sig.specs.declared.named.Named.TheVariants.{AckTo}
 use Rattle.rh_line.specs.declared.leg.Leg.{Leg}
 use Rattle.rh_shell.specs.declared.answers.Count.{Count}
@@ -15,8 +16,8 @@ use Rattle.rh_server_room.specs.Forwarding.{is_ack_at}
 -- proxy
 pub record IsFilled (s : Server) (to : ℕ) (channel : Cookie) : Type 0 where
   pub none : waits_for (is_ack_at to channel) s ≡ 0
-  pub least : 15 ≤ waits_for (is_ack_to 0) s
-  pub own : to ≡ 3 → 16 ≤ waits_for (is_ack_to 0) s
+  pub least : 15 ≤ waits_for (is_ack_to TO_CLIENT) s
+  pub own : to ≡ TO_OUT_PROXY → 16 ≤ waits_for (is_ack_to TO_CLIENT) s
 
 abbrev pub FillsFirst : Server → Type 0
 FillsFirst s =

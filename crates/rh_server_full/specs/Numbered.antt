@@ -2,6 +2,7 @@
 -- (MS-RPCH 3.2.1; successors are this profile's)
 use Rattle.std.specs.Prelude.{ℕ, suc, ◌≡◌, ◌+◌, ◌<◌, ◌≤◌, List}
 use Rattle.rh_rts.specs.declared.command.Cookie.{Cookie}
+use Rattle.rh_rts.specs.declared.command.TheConstants.{TO_CLIENT}
 use Rattle.rh_sig.specs.declared.named.Named.TheVariants.{AckTo}
 use Rattle.rh_shell.specs.Moves.{EndMove}
 use Rattle.rh_shell.specs.Rules.{Packet}
@@ -37,5 +38,5 @@ pub record AreLate (numbers : Numbers) (reader : ℕ → ℕ) (moves : Moves) (f
   pub ahead : (n received window : ℕ) (channel : Cookie)
       → IsAhead (server_behind numbers moves).passage (is_leg n)
       (all_read_of (of_leg (is_leg n) (in_behind numbers moves n).put))
-      (Packet (AckTo 0 received window channel))
+      (Packet (AckTo TO_CLIENT received window channel))
       → IsLate numbers reader moves front channel

@@ -2,6 +2,7 @@
 -- 3.2.1)
 use Rattle.std.specs.Prelude.{ℕ, ◌≡◌, ◌+◌, ◌<◌, ◌≤◌, ◌++◌, List, [], ◌∷◌}
 use Rattle.rh_rts.specs.declared.command.Cookie.{Cookie}
+use Rattle.rh_rts.specs.declared.command.TheConstants.{TO_CLIENT}
 use Rattle.rh_shell.specs.Moves.{EndMove}
 use Rattle.rh_server.specs.States.{Server}
 use Rattle.rh_server_counts.specs.Counting.{in_came, is_ack_to, is_in_r1_a3, is_in_r2_a3, out_put, waits_for}
@@ -36,4 +37,4 @@ pub record Oldest (window : ℕ) (moves : List EndMove) : Type 0 where
 -- where one waits there is such a move
 abbrev pub HasOldest : ℕ → List EndMove → Type 0
 HasOldest window moves =
-    1 ≤ waits_for (is_ack_to 0) (passed window moves).role → Oldest window moves
+    1 ≤ waits_for (is_ack_to TO_CLIENT) (passed window moves).role → Oldest window moves

@@ -1,10 +1,11 @@
 -- how many IN channels a server answers while an acknowledgement waits (MS-RPCH 3.2.1)
 use Rattle.std.specs.Prelude.{ℕ, ◌+◌, ◌*◌, ◌≤◌, ◌++◌, ◌∷◌, [], List, length}
+use Rattle.rh_sig.specs.declared.lengths.TheConstants.{ACK_TO_LEN}
 use Rattle.rh_shell.specs.Moves.{EndMove, Passage}
 use Rattle.rh_server.specs.States.{Server}
 use Rattle.rh_server_in_rows.specs.Handovers.{passed}
 use Rattle.rh_rounds.specs.Rounds.{taken_in}
-use Rattle.rh_server_room.specs.Overtaking.{AreLong}
+use Rattle.rh_server_room.specs.Overtaking.{AreLong, ack_room}
 use Rattle.rh_server_full.specs.Oldest.{Oldest}
 pub use Rattle.rh_server_full.specs.Oldest.{due_in}
 
@@ -17,7 +18,7 @@ behind_oldest window moves oldest = passed window (oldest.front ++ oldest.move �
 abbrev pub FewAreTaken : ℕ → List EndMove → Type 0
 FewAreTaken window moves =
     (oldest : Oldest window moves) (least : ℕ) → AreLong least (passed window moves).came
-    → 56 * length (behind_oldest window moves oldest).role.waiting.due + 312 ≤ least
+    → ACK_TO_LEN * length (behind_oldest window moves oldest).role.waiting.due + ack_room ≤ least
     → due_in (behind_oldest window moves oldest).role ≤ 1
     → taken_in (passed window moves)
     ≤ taken_in (behind_oldest window moves oldest)

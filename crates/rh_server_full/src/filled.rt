@@ -1,8 +1,10 @@
 //! How many packets wait at a server, and where it has no room. These functions do nothing: their
 //! contracts are the laws.
 
-ghost use Rattle.std.specs.Prelude.{List, length, ℕ, ◌≤◌};
+ghost use Rattle.std.specs.Prelude.{List, length, ℕ, ◌+◌, ◌≤◌};
+ghost use Rattle.rh_shell.specs.declared.waiting.TheConstants.{OWN_ROOM};
 ghost use Rattle.rh_shell.specs.Moves.{EndMove};
+ghost use Rattle.rh_server.specs.declared.out_line.TheConstants.{LINE_ROOM};
 ghost use Rattle.rh_server_in_rows.specs.Handovers.{passed};
 ghost use Rattle.rh_server_full.specs.Filled.{FillsFirst};
 
@@ -24,5 +26,5 @@ pub fn fifteen_wait_where_there_is_no_room()
 /// wait there, and eight of its own (MS-RPCH 3.2.1; the rooms are this profile's).
 pub fn few_packets_wait_at_a_server()
     ensures { (window : ℕ) (moves : List EndMove)
-        → length (passed window moves).role.waiting.due ≤ 28 }
+        → length (passed window moves).role.waiting.due ≤ LINE_ROOM + OWN_ROOM }
 {}

@@ -14,7 +14,7 @@ use Rattle.rh_server.specs.declared.state.Tells.TheVariants as tells
 use Rattle.rh_server.specs.States.{Server, is_fresh, is_waiting, stays, in_at, in_place, removed_at, set_at}
 use Rattle.rh_server.specs.Opening.{in_leg_up}
 use Rattle.rh_server.specs.Ending.{waits_ended}
-use Rattle.rh_server_in_rows.proofs.Numbered.{Absent, Once, absent_at, absent_back, absent_front, absent_missing, absent_push, absent_removed, absent_set, absent_unset, once_at, once_first, once_map, once_push, once_removed, once_set}
+use Rattle.rh_server.proofs.Numbered.{Absent, Once, absent_at, absent_back, absent_front, absent_missing, absent_push, absent_removed, absent_set, absent_unset, once_at, once_first, once_map, once_push, once_removed, once_set}
 use Rattle.rh_server_in_rows.proofs.Places.{Found, Placed, placed}
 use Rattle.rh_server_in_rows.proofs.Tallies.{Tally, Grows}
 

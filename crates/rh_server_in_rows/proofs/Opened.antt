@@ -14,7 +14,7 @@ use Rattle.rh_server_counts.specs.Answering.{AreAnswered}
 use Rattle.rh_server_in_rows.specs.Refusing.{first_at}
 use Rattle.rh_server_in_rows.specs.Handovers.{HadOpened, answers, passed}
 use Rattle.rh_server_in_rows.proofs.Kept.{IsOpen, is_begun, is_opened, leg_at_place, number_of, top_of}
-use Rattle.rh_server_in_rows.proofs.Numbered.{Absent, absent_if}
+use Rattle.rh_server.proofs.Numbered.{Absent, absent_if}
 use Rattle.rh_server_in_rows.proofs.Places.{Found, Placed, found_at, number_found, placed}
 use Rattle.rh_server_in_rows.proofs.Tallies.{Tally, tally}
 use Rattle.rh_server_in_rows.proofs.Tests.{some_waits}

@@ -20,7 +20,7 @@ use Rattle.rh_server.specs.States.{Server, is_fresh, is_waiting, stays, in_place
 use Rattle.rh_server.specs.Opening.{first_in}
 use Rattle.rh_server.specs.Ending.{waits_ended}
 use Rattle.rh_server.specs.InReplacement.{opens_next, opens_leg, first_waiting, waiting_place, next_opened, becomes_current, moved_if, take, announced, is_fresh_below, has_fresh_below}
-use Rattle.rh_server_in_rows.proofs.Numbered.{none_any, once_all, once_map}
+use Rattle.rh_server.proofs.Numbered.{none_any, once_all, once_map}
 use Rattle.rh_server_in_rows.proofs.Places.{Found, found_at}
 use Rattle.rh_server_in_rows.proofs.Tallies.{Begins, Grows, Tally}
 use Rattle.rh_server_in_rows.proofs.Kept.{IsOpen, Kept, Look, So, Tail, Top, is_begun, is_opened, kept_more, leg_at_place, look, number_of, open_more, set_kept, so_more, so_top, tail_more, top_kept, top_of}

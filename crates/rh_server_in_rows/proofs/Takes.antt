@@ -41,7 +41,7 @@ use Rattle.rh_server.specs.Ending.{end_a2_on_leg, end_a2_waiting, is_over_on, en
 use Rattle.rh_server.specs.Servers.{on_is, on_os, packet_by, pdu_by}
 use Rattle.rh_server_counts.specs.Counting.{is_conn_b2, is_end_a2, is_in_r1_a2, is_in_r1_a6, leg_at, often_at}
 use Rattle.rh_server_in_rows.specs.Refusing.{named_by, successor_by}
-use Rattle.rh_server_in_rows.proofs.Numbered.{absent_at}
+use Rattle.rh_server.proofs.Numbered.{absent_at}
 use Rattle.rh_server_in_rows.proofs.Places.{Found, found_at, number_found}
 use Rattle.rh_server_in_rows.proofs.Tallies.{Grows, Still, Tally, began, carried_came, carried_names, carried_other, named_at, named_own, now_often, other_came, quiet_came, tally}
 use Rattle.rh_server_in_rows.proofs.Kept.{Kept, Look, Top, is_begun, is_opened, kept_more, leg_at_place, look, newer_kept, number_of, renamed_kept, set_kept, so_top, top_kept, top_of}
@@ -188,16 +188,16 @@ module _ (n : ℕ) where
       → IsKept (in_leg m s.ins) → Holds s came put
       → RowKeeps Holds (leg_at InServer m, Packet packet) came put (on_conn_b2 s m count a b c d)
   conn_b2_row s m count a b c d packet came put counts names kept h =
-      by_test (Row m) (is_first count && ((m == 1) && not (waits kinds.ConnC1 s.waiting)))
+      by_test (RowOn m) (is_first count && ((m == 1) && not (waits kinds.ConnC1 s.waiting)))
       (conn_b2_at s s.stage a b c d) (unexpected s)
       (λ t.
       let one = same_number m 1 (and_parts (m == 1) _ (and_parts (is_first count) _ t).1).0 in
-      subst (λ (k : ℕ). Row k (conn_b2_at s s.stage a b c d)) (sym one)
+      subst (λ (k : ℕ). RowOn k (conn_b2_at s s.stage a b c d)) (sym one)
       (by s.stage refl (subst (λ (k : ℕ). IsKept (in_leg k s.ins)) one kept)))
       (λ t. h)
     where
-      Row : ℕ → Done → Type 0
-      Row k x = RowKeeps Holds (leg_at InServer k, Packet packet) came put x
+      RowOn : ℕ → Done → Type 0
+      RowOn k x = RowKeeps Holds (leg_at InServer k, Packet packet) came put x
 
       more : List OnLeg
       more = came ++ (leg_at InServer 1, Packet packet) ∷ []
@@ -219,10 +219,10 @@ module _ (n : ℕ) where
           (number_found 1 s.ins (in_place 1 s.ins) refl)
 
       by : (x : Stage) → s.stage ≡ x → IsKept (in_leg 1 s.ins)
-          → Row 1 (conn_b2_at s x a b c d)
+          → RowOn 1 (conn_b2_at s x a b c d)
       by stage.Waits at kept = opened (stage.InCame a c d) (ap is_begun at) refl kept
       by (stage.OutCame known) at kept =
-          by_test (Row 1) (same_cookie known a) (took (opens (with_first_in s b) known c d)) _
+          by_test (RowOn 1) (same_cookie known a) (took (opens (with_first_in s b) known c d)) _
           (λ e. opened (stage.Open known) (ap is_begun at) refl kept)
           (λ e. h)
       by (stage.InCame known window timeout) at kept = h

@@ -5,6 +5,7 @@ use Rattle.std.specs.declared.option.Option.{Option}
 use Rattle.rh_rts.specs.declared.command.Cookie.{Cookie}
 use Rattle.rh_sig.specs.declared.named.Named.{Named}
 use Rattle.rh_sig.specs.declared.named.Named.TheVariants.{ConnB2, InR1A2, InR1B2, InR2A2, EndA2}
+use Rattle.rh_line.specs.declared.leg.TheConstants.{LAST_NUMBER}
 use Rattle.rh_line.specs.declared.leg.LegKind.TheVariants.{InServer}
 use Rattle.rh_shell.specs.declared.answers.Count.{Count}
 use Rattle.rh_shell.specs.declared.answers.Refused.TheVariants as refused
@@ -101,7 +102,7 @@ UnexpectedEndA2 p n =
 abbrev pub UnexpectedInR2A2 : Passage Server → ℕ → Type 0
 UnexpectedInR2A2 p n =
     (came_on p n ≡ 0) ⊎ IsOpening p ⊎ (out_put is_in_r2_a3 p < in_came is_in_r2_a2 p)
-    ⊎ (4294967295 ≤ p.role.newest_in) ⊎ IsShut p n
+    ⊎ (LAST_NUMBER ≤ p.role.newest_in) ⊎ IsShut p n
 
 -- a leg of a lower number is kept on which no channel began
 pub record IsFreshBelow (p : Passage Server) (n : ℕ) : Type 0 where

@@ -27,10 +27,10 @@ use rh_server_counts::{a_server_answers_each_in_channel_once, a_server_opens_onc
 /// IN_R1/A3 were put or due than IN_R1/A2 had come. The server refuses IN_R1/A6 as unexpected only
 /// where no channel began on its leg, where another IN_R1/A6 came there, or where no IN_R1/A3 was
 /// put for a channel that opened behind that of the leg: at each front at which that had opened, no
-/// fewer were put or due than were put in all. It refuses the cookie of an IN_R1/A6 only where it is
-/// another than that which the last IN_R1/A2 on some leg names; and each channel that had not begun
-/// at a front at which that of the IN_R1/A6 had opened, and had opened at some front, is on that
-/// leg.
+/// fewer were put or due than were put in all. It refuses the cookie of an IN_R1/A6 only where it
+/// is another than that which the last IN_R1/A2 on some leg names; and each channel that had not
+/// begun at a front at which that of the IN_R1/A6 had opened, and had opened at some front, is on
+/// that leg.
 ///
 /// Whether its moves are allowed or not, the newest number of an IN channel is at most how many is
 /// legs came up and how often IN_R2/A2 came together; and each is leg that is kept came up.

@@ -8,7 +8,7 @@ use Rattle.rh_passages.proofs.Messages.{all_append}
 use Rattle.rh_server.specs.declared.state.Greeting.{Greeting}
 use Rattle.rh_server.specs.declared.state.Greeting.TheVariants.{Due, Put}
 use Rattle.rh_server_puts.specs.Greeting.{IsFrame, IsGreeted, MayGreet}
-use Rattle.rh_server_puts.proofs.Numbered.{Absent, Once, absent_at, absent_push, absent_removed, absent_set, once_at, once_first, once_map, once_push, once_removed, once_set}
+use Rattle.rh_server.proofs.Numbered.{Absent, Once, absent_at, absent_push, absent_removed, absent_set, once_at, once_first, once_map, once_push, once_removed, once_set}
 
 -- nothing was put where the greeting is due
 abbrev pub IsAs : List Message → Greeting → Type 0

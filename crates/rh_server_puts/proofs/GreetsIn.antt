@@ -53,7 +53,7 @@ use Rattle.rh_server.specs.Servers.{acts, first, on_is, on_os, packet_by, pdu}
 use Rattle.rh_server.specs.Servers.{rules as server_rules}
 use Rattle.rh_server_puts.specs.Copying.{leg_at}
 use Rattle.rh_server_puts.specs.Greeting.{is, IsFrame, MayGreet, GreetsFirst}
-use Rattle.rh_server_puts.proofs.Numbered.{once_at}
+use Rattle.rh_server.proofs.Numbered.{once_at}
 use Rattle.rh_server_puts.proofs.Each.{number_found}
 use Rattle.rh_server_puts.proofs.Greets.{IsAs, IsSo, Greets, greets_start, greets_removed, greets_up, greets_frame, greets_text, greets_other, greets_let, greets_newer}
 use Rattle.rh_server_puts.proofs.GreetsOut.{is_when_due, is_when_put, greets_out}

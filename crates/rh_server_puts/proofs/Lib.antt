@@ -4,7 +4,6 @@ pub mod Each
 mod Copied
 mod CopiedRows
 mod CopiedPuts
-pub mod Numbered
 mod Greets
 mod GreetsOut
 mod GreetsIn

@@ -2,6 +2,8 @@
 use Rattle.std.specs.Prelude.{ℕ, ◌≡◌, ◌⊎◌, List}
 use Rattle.std.specs.List.{AllByRecursion}
 use Rattle.rh_rts.specs.declared.command.Cookie.{Cookie}
+use Rattle.rh_rts.specs.declared.command.TheConstants.{TO_CLIENT, TO_OUT_PROXY}
+use Rattle.rh_sig.specs.declared.ranges.TheConstants.{PROTOCOL_VERSION}
 use Rattle.rh_sig.specs.declared.named.Named.{Named}
 use Rattle.rh_sig.specs.declared.named.Named.TheVariants.{ConnB2, ConnB3, ConnC1, InR1A2, InR1A3, InR1B2, InR2A3, OutR1A1, OutR1A4, OutR1A5, Ack, AckTo}
 use Rattle.rh_line.specs.declared.leg.Leg.{Leg}
@@ -59,18 +61,20 @@ CameOn kind Is came = (n : ℕ) × CameAt kind n Is came
 -- began there; and CONN/B3 and IN_R1/B2 tell the server's window
 abbrev pub CopiesAt : ℕ → List OnLeg → LegKind → ℕ → Named → Type 0
 CopiesAt size came kind n (ConnC1 version window timeout) =
-    (version ≡ 1) × CameAt InServer 1 (IsConnB2 window timeout) came
+    (version ≡ PROTOCOL_VERSION) × CameAt InServer 1 (IsConnB2 window timeout) came
 CopiesAt size came kind n (InR1A3 to version window timeout) =
-    ((to ≡ 0) × (version ≡ 1)) × CameOn InServer (IsInR1A2 window timeout) came
-CopiesAt size came kind n (InR2A3 to) = to ≡ 0
-CopiesAt size came kind n (OutR1A1 to) = to ≡ 0
+    ((to ≡ TO_CLIENT) × (version ≡ PROTOCOL_VERSION))
+    × CameOn InServer (IsInR1A2 window timeout) came
+CopiesAt size came kind n (InR2A3 to) = to ≡ TO_CLIENT
+CopiesAt size came kind n (OutR1A1 to) = to ≡ TO_CLIENT
 CopiesAt size came kind n (OutR1A5 to version timeout) =
-    ((to ≡ 0) × (version ≡ 1)) × CameOn OutServer (IsOutR1A4 timeout) came
+    ((to ≡ TO_CLIENT) × (version ≡ PROTOCOL_VERSION))
+    × CameOn OutServer (IsOutR1A4 timeout) came
 CopiesAt size came kind n (AckTo to received window cookie) =
-    ((to ≡ 0) ⊎ (to ≡ 3)) × HasOn InServer (AckTo to received window cookie) came
+    ((to ≡ TO_CLIENT) ⊎ (to ≡ TO_OUT_PROXY)) × HasOn InServer (AckTo to received window cookie) came
 CopiesAt size came kind n (Ack received window cookie) =
     CameAt kind n (Begins cookie) came ⊎ (cookie ≡ no_cookie)
-CopiesAt size came kind n (ConnB3 window version) = (window ≡ size) × (version ≡ 1)
+CopiesAt size came kind n (ConnB3 window version) = (window ≡ size) × (version ≡ PROTOCOL_VERSION)
 CopiesAt size came kind n (InR1B2 window) = window ≡ size
 CopiesAt size came kind n packet = Unit {0}
 

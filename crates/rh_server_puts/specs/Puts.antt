@@ -1,6 +1,7 @@
 -- what a server puts on its legs: on which, and in which order (MS-RPCH 3.2.5; successors are this
 -- profile's)
 use Rattle.std.specs.Prelude.{ℕ, suc, ◌≡◌, ◌⊎◌, List, [], ◌∷◌, Bool, true, false}
+use Rattle.rh_rts.specs.declared.command.TheConstants.{TO_OUT_PROXY}
 use Rattle.rh_sig.specs.declared.named.Named.{Named}
 use Rattle.rh_sig.specs.declared.named.Named.TheVariants.{ConnB3, ConnC1, InR1A3, InR1B1, InR1B2, InR2A3, OutR1A1, OutR1A5, OutR1A9, EndB1, Ack, AckTo}
 use Rattle.rh_line.specs.declared.leg.Leg.{Leg}
@@ -45,7 +46,7 @@ PacketStands t leg InR1B1 = leg.kind ≡ InServer
 PacketStands t leg (InR1B2 size) = leg.kind ≡ InServer
 PacketStands t leg (Ack received window cookie) = leg.kind ≡ InServer
 PacketStands t leg (AckTo to received window cookie) =
-    (leg ≡ os t.writing) ⊎ ((to ≡ 3) × (leg.kind ≡ OutServer))
+    (leg ≡ os t.writing) ⊎ ((to ≡ TO_OUT_PROXY) × (leg.kind ≡ OutServer))
 PacketStands t leg (ConnC1 version window timeout) = leg ≡ os t.writing
 PacketStands t leg (InR1A3 to version window timeout) = leg ≡ os t.writing
 PacketStands t leg (InR2A3 to) = leg ≡ os t.writing

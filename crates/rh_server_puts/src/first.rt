@@ -1,6 +1,7 @@
 //! On which leg a server puts CONN/C1. Its function does nothing: its contract is the law.
 
 ghost use Rattle.std.specs.Prelude.{◌≡◌, List, ℕ};
+ghost use Rattle.rh_rts.specs.declared.command.TheConstants.{TO_CLIENT};
 ghost use Rattle.rh_shell.specs.Moves.{AreAllowedAtEnd, EndMove, all_end_moved, end_started};
 ghost use Rattle.rh_server.specs.Servers.{acts, first, rules};
 ghost use Rattle.rh_server_counts.specs.Counting.{in_came, is_ack_to, is_conn_c1, out_put};
@@ -16,7 +17,7 @@ pub fn a_server_puts_conn_c1_on_the_first_leg()
     ensures { (window : ℕ) (moves : List EndMove)
         → AreAllowedAtEnd rules acts (end_started (first window)) moves
         → let p = (all_end_moved rules acts (end_started (first window)) moves).passage in
-        HaveRoom p.came → in_came (is_ack_to 0) p ≡ 0 → out_put is_conn_c1 p ≡ 0
+        HaveRoom p.came → in_came (is_ack_to TO_CLIENT) p ≡ 0 → out_put is_conn_c1 p ≡ 0
         → ConnC1GoesOnFirst p.role }
 {
     a_server_puts_conn_c1_first();

@@ -189,7 +189,8 @@ module _ (n : ℕ) (s : Server) (W G : Message → View → Type 0) (puts : AreP
         subst (λ (t : Server). W (Packet named.OutR1A9) (view (handed t)))
         (sym (counts_is without 24 refl))
         (puts.hands place leg is_at due is (subst (IsLet (gate s leg)) (sym same)
-        (let_of (gate s leg) named.OutR1A9 (λ a b c d other three. absurd cc) e)) same over.0 over.1)
+        (let_of (gate s leg) named.OutR1A9 (λ a b c d other three. absurd cc) e)) same
+        over.0 over.1)
     let_weak due is packet same e =
         counted_weak due is packet same
         (let_of (gate s leg) packet (λ a b c d other three. absurd cc) e) refl

@@ -2,6 +2,7 @@
 -- several ci legs over one is leg are this profile's)
 use Rattle.std.specs.Prelude.{ℕ, suc, ◌≡◌, ◌⊎◌, List, [], ◌∷◌}
 use Rattle.rh_rts.specs.declared.command.Cookie.{Cookie}
+use Rattle.rh_rts.specs.declared.command.TheConstants.{TO_CLIENT}
 use Rattle.rh_sig.specs.declared.named.Named.TheVariants.{AckTo, InR2A2}
 use Rattle.rh_shell.specs.Moves.{OnLeg, Passage}
 use Rattle.rh_shell.specs.Rules.{Message, Packet}
@@ -27,7 +28,7 @@ abbrev pub Acknowledge : List OnLeg → ℕ → List Message → Type 0
 Acknowledge came n [] = Unit {0}
 Acknowledge came n (Packet (InR2A2 successor) ∷ messages) = Acknowledge came (suc n) messages
 Acknowledge came n (Packet (AckTo to received available channel) ∷ messages) =
-    (to ≡ 0 → IsOfTwo came n channel) × Acknowledge came n messages
+    (to ≡ TO_CLIENT → IsOfTwo came n channel) × Acknowledge came n messages
 Acknowledge came n (message ∷ messages) = Acknowledge came n messages
 
 -- ---- the law

@@ -3,6 +3,7 @@
 use Rattle.std.specs.Prelude.{ℕ, suc, ◌≡◌, ◌⊎◌, ◌+◌, ◌≤◌, ◌++◌, List, [], ◌∷◌}
 use mathlib.Core.List.{IsPrefix}
 use Rattle.rh_rts.specs.declared.command.Cookie.{Cookie}
+use Rattle.rh_rts.specs.declared.command.TheConstants.{TO_CLIENT}
 use Rattle.rh_sig.specs.declared.named.Named.TheVariants.{AckTo}
 use Rattle.rh_shell.specs.Rules.{Message, Packet}
 use Rattle.rh_shell.specs.Wires.{of_leg}
@@ -33,6 +34,6 @@ pub record IsAckOf (numbers : Numbers) (reader : ℕ → ℕ) (moves : Moves) (n
 abbrev pub AreAnsweredFirst : Numbers → (ℕ → ℕ) → Moves → Type 0
 AreAnsweredFirst numbers reader moves =
     (n : ℕ) (before : List Message) (received window : ℕ) (channel : Cookie)
-    → IsPrefix (before ++ Packet (AckTo 0 received window channel) ∷ [])
+    → IsPrefix (before ++ Packet (AckTo TO_CLIENT received window channel) ∷ [])
     (all_read_of (of_leg (is_leg n) (in_behind numbers moves n).put))
     → IsAckOf numbers reader moves n (n + count_of is_in_r2_a2 before) channel

@@ -1,6 +1,7 @@
 -- the acknowledgements to out proxies that wait at a server are for channels of its os legs
 -- (MS-RPCH 3.2.1)
 use Rattle.std.specs.Prelude.{ℕ, ◌+◌, ◌≤◌, ◌==◌, ◌&&◌, count_by}
+use Rattle.rh_rts.specs.declared.command.TheConstants.{TO_OUT_PROXY}
 use Rattle.rh_server.specs.declared.state.OutLeg.{OutLeg}
 use Rattle.rh_server.specs.Acknowledging.{elsewhere, has_ack_by}
 use Rattle.rh_server.specs.States.{Server}
@@ -14,5 +15,5 @@ on_writing s =
 -- no more wait than there are such legs, of which one at most, and others for whose channel one
 -- waits
 pub record AcksHaveLegs (s : Server) : Type 0 where
-  pub legs : waits_for (is_ack_to 3) s ≤ elsewhere s + on_writing s
+  pub legs : waits_for (is_ack_to TO_OUT_PROXY) s ≤ elsewhere s + on_writing s
   pub one : on_writing s ≤ 1

@@ -1,6 +1,7 @@
 -- what is so in a server's logs where it refuses what comes as unexpected (MS-RPCH 3.2.5; profile)
 use Rattle.std.specs.Prelude.{ℕ, suc, ◌≡◌, ◌⊎◌, ◌≤◌, IsTrue, Err}
 use Rattle.rh_rts.specs.declared.command.Cookie.{Cookie}
+use Rattle.rh_rts.specs.declared.command.TheConstants.{TO_CLIENT, TO_OUT_PROXY, TO_SERVER}
 use Rattle.rh_sig.specs.declared.named.Named.{Named}
 use Rattle.rh_sig.specs.declared.named.Named.TheVariants.{ConnA2, ConnB2, InR1A2, InR1A6, OutR1A4, OutR1A8, Ack, AckTo, PingTraffic}
 use Rattle.rh_line.specs.declared.leg.Leg.{Leg}
@@ -43,9 +44,9 @@ abbrev pub UnexpectedIn : Passage Server → Leg → Named → Type 0
 UnexpectedIn p leg (ConnB2 version connection cookie window timeout group address padding) =
     IsLater p leg ⊎ (leg.number ≡ 1 → ⊥) ⊎ (1 ≤ in_came is_conn_b2 p)
 UnexpectedIn p leg (AckTo destination received window cookie) =
-    IsFirst p leg ⊎ ((destination ≡ 0 → ⊥) × (destination ≡ 3 → ⊥))
+    IsFirst p leg ⊎ ((destination ≡ TO_CLIENT → ⊥) × (destination ≡ TO_OUT_PROXY → ⊥))
 UnexpectedIn p leg (OutR1A8 destination successor) =
-    IsFirst p leg ⊎ (destination ≡ 2 → ⊥)
+    IsFirst p leg ⊎ (destination ≡ TO_SERVER → ⊥)
     ⊎ (out_put is_out_r1_a5 p ≤ in_came is_out_r1_a8 p)
 UnexpectedIn p leg packet = Unit {0}
 

@@ -22,7 +22,7 @@ use Rattle.rh_server.specs.Opening.{in_leg_up}
 use Rattle.rh_server_counts.specs.Counting.{is_conn_b2, is_in_r1_a2, is_in_r1_a6}
 use Rattle.rh_server_puts.specs.Copying.{Begins, CameAt}
 use Rattle.rh_server_puts.proofs.Each.{came_more}
-use Rattle.rh_server_puts.proofs.Numbered.{Absent, Once, absent_at, absent_push, absent_removed, absent_set, once_at, once_first, once_map, once_push, once_removed, once_set}
+use Rattle.rh_server.proofs.Numbered.{Absent, Once, absent_at, absent_push, absent_removed, absent_set, once_at, once_first, once_map, once_push, once_removed, once_set}
 use Rattle.rh_server_turns.specs.Answers.{Came, AnswersOn}
 use Rattle.rh_server_turns.proofs.InLogs.{Base, Written, answers_so, came_so, written_so}
 use Rattle.rh_server_turns.proofs.InPlaces.{Found, Placed, placed}

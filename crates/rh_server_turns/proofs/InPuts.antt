@@ -41,7 +41,7 @@ use Rattle.rh_server_counts.specs.Counting.{leg_at}
 use Rattle.rh_server_puts.specs.Copying.{Begins, CameAt}
 use Rattle.rh_server_puts.specs.Greeting.{is}
 use Rattle.rh_server_puts.proofs.Each.{number_found}
-use Rattle.rh_server_puts.proofs.Numbered.{once_map}
+use Rattle.rh_server.proofs.Numbered.{once_map}
 use Rattle.rh_server_turns.specs.Answers.{AcksAt, AnswersOn, TellsAt}
 use Rattle.rh_server_turns.proofs.InView.{Alone, view, out_alone}
 use Rattle.rh_server_turns.proofs.InLogs.{Base, IsTold, Written, acked, base_answers, greeted, left, told, told_answers}

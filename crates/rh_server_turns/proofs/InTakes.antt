@@ -104,16 +104,16 @@ module _ (n : ℕ) where
       → Alive (in_leg m s.ins) → Holds s came put
       → RowKeeps Holds (leg_at InServer m, Packet packet) came put (on_conn_b2 s m count a b c d)
   conn_b2_row s m count v a b c d packet came put begins passes alive h =
-      by_test (Row m) (is_first count && ((m == 1) && not (waits kinds.ConnC1 s.waiting)))
+      by_test (RowOn m) (is_first count && ((m == 1) && not (waits kinds.ConnC1 s.waiting)))
       (conn_b2_at s s.stage a b c d) (unexpected s)
       (λ t.
       let one = same_number m 1 (and_parts (m == 1) _ (and_parts (is_first count) _ t).1).0 in
-      subst (λ (k : ℕ). Row k (conn_b2_at s s.stage a b c d)) (sym one)
+      subst (λ (k : ℕ). RowOn k (conn_b2_at s s.stage a b c d)) (sym one)
       (by s.stage refl (subst (λ (k : ℕ). Alive (in_leg k s.ins)) one alive)))
       (λ t. h)
     where
-      Row : ℕ → Done → Type 0
-      Row k x = RowKeeps Holds (leg_at InServer k, Packet packet) came put x
+      RowOn : ℕ → Done → Type 0
+      RowOn k x = RowKeeps Holds (leg_at InServer k, Packet packet) came put x
 
       opened : (new : Stage) → is_opening s.stage ≡ true → is_begun s.stage ≡ false
           → is_begun new ≡ true → Alive (in_leg 1 s.ins)
@@ -127,11 +127,11 @@ module _ (n : ℕ) where
           (more s came put (leg_at InServer 1, Packet packet) h)
 
       by : (x : Stage) → s.stage ≡ x → Alive (in_leg 1 s.ins)
-          → Row 1 (conn_b2_at s x a b c d)
+          → RowOn 1 (conn_b2_at s x a b c d)
       by stage.Waits at alive =
           opened (stage.InCame a c d) (ap is_opening at) (ap is_begun at) refl alive
       by (stage.OutCame known) at alive =
-          by_test (Row 1) (same_cookie known a) (took (opens (with_first_in s b) known c d)) _
+          by_test (RowOn 1) (same_cookie known a) (took (opens (with_first_in s b) known c d)) _
           (λ e. opened (stage.Open known) (ap is_opening at) (ap is_begun at) refl alive)
           (λ e. h)
       by (stage.InCame known window timeout) at alive = h

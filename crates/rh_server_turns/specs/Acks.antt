@@ -1,6 +1,7 @@
 -- for which channels a server passes acknowledgements on to out proxies (MS-RPCH 3.2.5)
 use Rattle.std.specs.Prelude.{ℕ, ◌≡◌, ◌⊎◌}
 use Rattle.rh_rts.specs.declared.command.Cookie.{Cookie}
+use Rattle.rh_rts.specs.declared.command.TheConstants.{TO_OUT_PROXY}
 use Rattle.rh_sig.specs.declared.named.Named.TheVariants.{AckTo}
 use Rattle.rh_shell.specs.Moves.{Passage}
 use Rattle.rh_shell.specs.Wires.{of_leg}
@@ -14,5 +15,5 @@ use Rattle.rh_server_rows.specs.Cookies.{IsOutChannel}
 abbrev pub PassesOnOwn : Passage Server → Type 0
 PassesOnOwn p =
     (n received window : ℕ) (cookie : Cookie)
-    → Has (AckTo 3 received window cookie) (of_leg (os n) p.put)
+    → Has (AckTo TO_OUT_PROXY received window cookie) (of_leg (os n) p.put)
     → IsOutChannel n cookie p.came ⊎ (cookie ≡ no_cookie)

@@ -2,6 +2,7 @@
 -- 3.2.5; successors are this profile's)
 use Rattle.std.specs.Prelude.{ℕ, suc, ◌≡◌, ◌≤◌, List, ◌∷◌, ◌++◌, true, false}
 use Rattle.std.specs.List.{AllByRecursion}
+use Rattle.rh_rts.specs.declared.command.TheConstants.{TO_OUT_PROXY}
 use Rattle.rh_sig.specs.declared.named.Named.TheVariants.{OutR1A9, EndB1}
 use Rattle.rh_line.specs.declared.leg.LegKind.TheVariants.{OutServer}
 use Rattle.rh_shell.specs.Moves.{OnLeg, Passage}
@@ -15,13 +16,13 @@ use Rattle.rh_server_puts.specs.Puts.{os}
 abbrev pub IsWritten : Message → Type 0
 IsWritten (Text bytes) = ⊥
 IsWritten (Pdu pdu) = Unit {0}
-IsWritten (Packet packet) = is_ack_to 3 packet ≡ false
+IsWritten (Packet packet) = is_ack_to TO_OUT_PROXY packet ≡ false
 
 -- an acknowledgement to an out proxy
 abbrev pub IsToOutProxy : Message → Type 0
 IsToOutProxy (Text bytes) = ⊥
 IsToOutProxy (Pdu pdu) = ⊥
-IsToOutProxy (Packet packet) = is_ack_to 3 packet ≡ true
+IsToOutProxy (Packet packet) = is_ack_to TO_OUT_PROXY packet ≡ true
 
 -- neither an RPC PDU nor END/B1
 abbrev pub MayFollowEnd : Message → Type 0

@@ -5,6 +5,7 @@ use Rattle.std.specs.List.{concat, flat_map, AllByRecursion}
 use Rattle.std.specs.declared.option.Option.{Option}
 use Rattle.std.specs.declared.result.Result.{Result}
 use Rattle.rh_pdu.specs.Frames.{IsFrame}
+use Rattle.rh_pdu.specs.declared.header.TheConstants.{PTYPE_AT}
 use Rattle.rh_pdu.specs.Header.{rts}
 use Rattle.rh_sig.specs.declared.name.Pipe.{Pipe}
 use Rattle.rh_sig.specs.declared.named.Named.{Named}
@@ -57,7 +58,8 @@ named_messages (Err fault) = []
 -- the message that a frame is; a Ping is none
 abbrev pub message_in : Option Pipe → List ℕ → List Message
 message_in pipe frame =
-    if slice_index frame 2 == rts then named_messages (packet_of frame pipe) else Pdu frame ∷ []
+    if slice_index frame PTYPE_AT == rts then named_messages (packet_of frame pipe)
+    else Pdu frame ∷ []
 
 abbrev pub messages_in : Option Pipe → List (List ℕ) → List Message
 messages_in pipe frames = flat_map (message_in pipe) frames

@@ -5,6 +5,7 @@ use Rattle.std.specs.Str.{bytes_eq}
 use Rattle.std.specs.declared.option.Option.{Option}
 use Rattle.std.specs.declared.result.Result.{Result}
 use Rattle.rh_http.specs.Refusals.{refusal_of}
+use Rattle.rh_pdu.specs.declared.header.TheConstants.{PTYPE_AT}
 use Rattle.rh_pdu.specs.Header.{rts}
 use Rattle.rh_sig.specs.declared.fault.SigFault.TheVariants as sig
 use Rattle.rh_sig.specs.declared.name.Pipe.{Pipe}
@@ -120,7 +121,7 @@ take_packet rules at role (Err fault) = (role, Err (cause_unread at.leg at.place
 -- a frame is a packet, or else an RPC PDU
 unfoldable pub take_frame : {S : Type 0} → Rules S → Heading → S → List ℕ → S × Result Count Cause
 take_frame rules at role frame =
-    if slice_index frame 2 == rts
+    if slice_index frame PTYPE_AT == rts
     then take_packet rules at role (packet_of frame at.pipe)
     else close_row at at.count (rules.pdu role at.leg at.count frame)
 

@@ -11,6 +11,7 @@ use Rattle.rh_pdu.specs.Feeding.{capped}
 use Rattle.rh_shell.specs.declared.stage.Stage.{Stage}
 use Rattle.rh_shell.specs.declared.stage.Stage.TheVariants as stage
 use Rattle.rh_shell.specs.declared.stage.Body.{Body}
+use Rattle.rh_shell.specs.declared.text.TheConstants.{GREETING_LEN}
 
 -- what came and is not whole
 pub record Intake : Type 0 where
@@ -74,7 +75,7 @@ abbrev pub is_whole_head : List ℕ → Bool
 is_whole_head all = nat_le greatest_head (length all) || ends_head all
 
 abbrev pub greeting_length : ℕ
-greeting_length = 14
+greeting_length = GREETING_LEN
 
 abbrev pub is_whole_greeting : List ℕ → Bool
 is_whole_greeting all = nat_le greeting_length (length all)

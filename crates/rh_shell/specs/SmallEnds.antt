@@ -6,6 +6,7 @@ use Rattle.std.specs.declared.result.Result.{Result}
 use Rattle.rh_pdu.specs.Checking.{checked, pdu_fault}
 use Rattle.rh_pdu.specs.declared.fault.PduFault.{PduFault}
 use Rattle.rh_line.specs.Queue.{queue_bytes, total}
+use Rattle.rh_line.specs.declared.leg.TheConstants.{LAST_NUMBER}
 use Rattle.rh_line.specs.declared.leg.Leg.{Leg}
 use Rattle.rh_line.specs.declared.leg.LegKind.TheVariants.{InServer}
 use Rattle.rh_line.specs.declared.line_fault.LineFault.{LineFault}
@@ -43,5 +44,5 @@ queue_by queue pdu (Err refused) = queue
 abbrev pub recycled : Option Leg → ℕ → Option Leg × Result (Unit {0}) RecycleRefused
 recycled (Some leg) number = (Some leg, Err (Busy leg))
 recycled None number =
-    if number == 4294967295 then (None, Err Last)
+    if number == LAST_NUMBER then (None, Err Last)
     else (Some (record { kind = InServer; number = 2 }), Ok tt)

@@ -4,11 +4,12 @@ ghost use Rattle.std.specs.Prelude.{◌≡◌};
 ghost use Rattle.rh_shell.specs.NearEnds.{is_empty};
 
 use rh_line::{LineTake, RecvLine, SendLine};
+use rh_pdu::header::GREATEST_FRAG;
 use rh_sig::{Named, write_named};
 use std::marker::Model;
 
-/// The most bytes of a message that is put.
-pub const GREATEST_MESSAGE: usize = 8192;
+/// The most bytes of a message that is put, which has room for every PDU.
+pub const GREATEST_MESSAGE: usize = GREATEST_FRAG;
 
 /// The bytes still to be drawn of a message, in an array of its own: 8,192 at most.
 #[derive(Drop)]
@@ -20,12 +21,13 @@ pub struct Begun {
 
 impl Model for Begun {
     ghost use Rattle.std.specs.Prelude.{List, ℕ, take, drop, ◌≤◌};
+    ghost use Rattle.rh_shell.specs.declared.begun.TheConstants.{GREATEST_MESSAGE};
 
     ghost Value = { List ℕ };
 
     ghost view = { λ a. drop a.from (take a.to a.room) };
 
-    ghost invariant = { λ a. (a.from ≤ a.to) × (a.to ≤ 8192) };
+    ghost invariant = { λ a. (a.from ≤ a.to) × (a.to ≤ GREATEST_MESSAGE) };
 }
 
 impl Begun {
@@ -84,7 +86,7 @@ impl Begun {
 
     /// Begins these bytes, of which there are 8,192 at most, in the place of what was begun.
     pub fn begin(&mut self, bytes: &[u8])
-        requires { length bytes.now ≤ 8192 }
+        requires { length bytes.now ≤ GREATEST_MESSAGE }
         ensures { self.new ≡ bytes.now }
     {
         self.room[..bytes.len()].copy_from_slice(bytes);

@@ -3,6 +3,7 @@
 use crate::role::Role;
 use rh_line::{Leg, LineTake};
 use rh_pdu::PduFault;
+use rh_pdu::header::GREATEST_FRAG;
 
 /// Why an end's role does not accept a PDU. Nothing has changed then.
 #[derive(Clone, Copy, Debug, PartialEq, Eq)]
@@ -40,7 +41,7 @@ pub trait EndRole: Role {
 
     /// The next PDU of the other end is taken from the line, where one is there, and put at the
     /// front of the room, which stays behind it.
-    fn take(&mut self, room: &mut [u8; 8192]) -> LineTake
+    fn take(&mut self, room: &mut [u8; GREATEST_FRAG]) -> LineTake
         ensures answer { result ≡ take_answer (acts.line self.old) }
         ensures room { room.new ≡ put_first (acts.line self.old).current.pdus room.old }
         ensures new { self.new ≡ acts.take self.old };

@@ -4,6 +4,7 @@ use crate::course::Course;
 use crate::end_role::{EndRole, GiveRefused, RecycleRefused};
 use crate::shell::Shell;
 use rh_line::{Cause, GiveFault, LineTake, RecycleFault, State, Take};
+use rh_pdu::header::GREATEST_FRAG;
 
 impl<R: EndRole> Shell<R> {
     ghost use Rattle.std.specs.Prelude.{◌≡◌};
@@ -41,7 +42,7 @@ impl<R: EndRole> Shell<R> {
     /// room, which stays behind it.
     ///
     /// Answers `Closed` exactly where the node closed, with that cause; the room then stays.
-    pub fn take(&mut self, room: &mut [u8; 8192]) -> Take
+    pub fn take(&mut self, room: &mut [u8; GREATEST_FRAG]) -> Take
         ensures answer { result ≡ seen.take_answer R.acts self.old }
         ensures room { room.new ≡ seen.room_after_take R.acts self.old room.old }
         ensures new { self.new ≡ seen.after_take R.acts self.old }

@@ -1,6 +1,7 @@
 //! Bytes come on a leg.
 
 ghost use Rattle.std.specs.Prelude.{◌≡◌, ◌≤◌, ◌<◌, ℕ, [], length, take, drop, IfSome};
+ghost use Rattle.rh_http.specs.Reading.{greatest_head};
 ghost use Rattle.rh_pdu.specs.Frames.{IsFrame};
 ghost use Rattle.rh_shell.specs.Intakes.{counted, length_told};
 ghost use Rattle.rh_shell.specs.Texts.{IsWithin};
@@ -16,14 +17,15 @@ use crate::reading::{PacketFault, read_packet};
 use crate::role::Role;
 use crate::stage::{Body, Stage};
 use crate::stop::Stop;
+use crate::text::GREETING_LEN;
 use rh_http::Refusal;
 use rh_line::{Cause, Leg};
-use rh_pdu::header::{HEADER_LEN, RTS};
+use rh_pdu::header::{HEADER_LEN, PTYPE_AT, RTS};
 use rh_pdu::{Feed, Framer, Header};
 use rh_sig::{Named, Pipe, SigFault};
 
 /// What a server says first on a leg (profile).
-pub const GREETING: [u8; 14] = *b"ncacn_http/1.0";
+pub const GREETING: [u8; GREETING_LEN] = *b"ncacn_http/1.0";
 
 /// A cause with no refusal.
 fn stop(cause: Cause) -> Stop
@@ -58,7 +60,7 @@ fn is_greeting(text: &[u8]) -> bool
 
 /// The role takes a head, or refuses it.
 fn take_head<R: Role>(leg: Leg, role: &mut R, text: &[u8]) -> Result<HeadTaken, Stop>
-    requires { length text.now ≤ 16384 }
+    requires { length text.now ≤ greatest_head }
     ensures { (role.new, result) ≡ seen.take_head R.rules leg role.old text.now }
 {
     let place = text.len() as u32;
@@ -164,7 +166,7 @@ fn take_frame<R: Role>(at: Heading, role: &mut R, frame: &[u8]) -> Result<Count,
     requires { IsFrame frame.now }
     ensures { (role.new, result) ≡ seen.take_frame R.rules at role.old frame.now }
 {
-    if frame[2] == RTS {
+    if frame[PTYPE_AT] == RTS {
         return take_packet(at, role, frame);
     }
     let row = role.pdu(at.leg, at.count, frame);

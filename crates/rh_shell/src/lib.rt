@@ -29,6 +29,7 @@ pub use answers::{Behind, Count, HeadRefused, HeadTaken, Phase, Refused};
 pub use begun::Begun;
 pub use due::{Due, Origin};
 pub use end_role::{EndRole, GiveRefused, RecycleRefused};
+pub use hearing::GREETING;
 pub use laws::{cuts_change_nothing, first_cause_is_kept};
 pub use merging::{edges_never_fall, one_waits_of_each};
 pub use moving::{

@@ -12,6 +12,7 @@ use rh_sig::{Named, Pipe};
 /// that is due, and what goes first on a leg. It knows no frame, place, moment or cause.
 pub trait Role: Drop {
     ghost use Rattle.std.specs.Prelude.{◌≡◌, ◌≤◌, length, []};
+    ghost use Rattle.rh_http.specs.Reading.{greatest_head};
     ghost use Rattle.rh_pdu.specs.Frames.{IsPdu};
     ghost use Rattle.rh_shell.specs.Rules.{Rules, put_into};
 
@@ -44,7 +45,7 @@ pub trait Role: Drop {
 
     /// A head came: the bytes up to and with its blank line, or 16,384 bytes that have none.
     fn head(&mut self, leg: Leg, text: &[u8]) -> Result<HeadTaken, HeadRefused>
-        requires { length text.now ≤ 16384 }
+        requires { length text.now ≤ greatest_head }
         ensures { (self.new, result) ≡ rules.head self.old leg text.now };
 
     /// An RPC PDU came, behind so many packets.

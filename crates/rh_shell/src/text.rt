@@ -37,12 +37,14 @@ pub(crate) struct HeadText {
 impl Model for HeadText {
     ghost use Rattle.std.specs.Prelude.{List, ℕ, take, ◌≤◌};
     ghost use Rattle.rh_http.specs.Ends.{IsOpen};
+    ghost use Rattle.rh_http.specs.Reading.{greatest_head};
 
     ghost Value = { List ℕ };
 
     ghost view = { λ a. take a.len a.bytes };
 
-    ghost invariant = { λ a. (a.len ≤ 16384) × (a.end ≤ a.len) × IsOpen (take a.end a.bytes) };
+    ghost invariant = { λ a. (a.len ≤ greatest_head) × (a.end ≤ a.len)
+        × IsOpen (take a.end a.bytes) };
 }
 
 impl HeadText {
@@ -60,7 +62,7 @@ impl HeadText {
     /// The bytes that came.
     pub(crate) fn bytes(&self) -> &[u8]
         ensures bytes { result.now ≡ self.now }
-        ensures most { length self.now ≤ 16384 }
+        ensures most { length self.now ≤ greatest_head }
     {
         &self.bytes[..self.len]
     }
@@ -107,12 +109,13 @@ pub(crate) struct GreetingText {
 
 impl Model for GreetingText {
     ghost use Rattle.std.specs.Prelude.{List, ℕ, take, ◌≤◌};
+    ghost use Rattle.rh_shell.specs.declared.text.TheConstants.{GREETING_LEN};
 
     ghost Value = { List ℕ };
 
     ghost view = { λ a. take a.len a.bytes };
 
-    ghost invariant = { λ a. a.len ≤ 14 };
+    ghost invariant = { λ a. a.len ≤ GREETING_LEN };
 }
 
 impl GreetingText {
@@ -129,7 +132,7 @@ impl GreetingText {
     /// The bytes that came.
     pub(crate) fn bytes(&self) -> &[u8]
         ensures bytes { result.now ≡ self.now }
-        ensures most { length self.now ≤ 14 }
+        ensures most { length self.now ≤ greeting_length }
     {
         &self.bytes[..self.len]
     }

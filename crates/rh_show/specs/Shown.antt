@@ -5,7 +5,9 @@ use Rattle.std.specs.declared.option.Option.{Option}
 use Rattle.std.specs.declared.result.Result.{Result}
 use Rattle.std.specs.Fmt.{decimal}
 use Rattle.hex.specs.Hex.{encode_lower}
+use Rattle.rh_text.specs.declared.lines.TheConstants.{LINE_FEED}
 use Rattle.rh_pdu.specs.declared.fault.PduFault.{PduFault}
+use Rattle.rh_pdu.specs.declared.header.TheConstants.{PTYPE_AT}
 use Rattle.rh_pdu.specs.Header.{header_length, rts, header_of}
 use Rattle.rh_pdu.specs.Checking.{pdu_fault}
 use Rattle.rh_pdu.specs.Texts.{pdu_fault_text}
@@ -101,7 +103,7 @@ pdu_text b = checked_text b (pdu_fault b)
 
 -- a whole header of the PTYPE of RTS packets
 abbrev pub IsRts : List ℕ → Type 0
-IsRts b = (header_length ≤ length b) × (slice_index b 2 ≡ rts)
+IsRts b = (header_length ≤ length b) × (slice_index b PTYPE_AT ≡ rts)
 
 -- the bytes are read as an RTS packet, and this is the text of the packet or of its fault
 abbrev pub RtsText : List ℕ → List ℕ → Type 0
@@ -116,4 +118,4 @@ abbrev pub ShowText : List (List ℕ) → List ℕ → Type 0
 ShowText [] text = text ≡ []
 ShowText (b ∷ packets) text =
     (line : List ℕ) × (more : List ℕ)
-    × ShownAs b line × (text ≡ line ++ 10 ∷ more) × ShowText packets more
+    × ShownAs b line × (text ≡ line ++ LINE_FEED ∷ more) × ShowText packets more

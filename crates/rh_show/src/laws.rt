@@ -9,8 +9,9 @@ ghost use Rattle.rh_show.specs.Shown.{ShowText, ShownAs};
 use crate::reader::Packets;
 
 /// Bytes are told as one text, and the packets of a text as one text of lines. A text is that of
-/// one list of packets, or has one first bad line, and never both: `first_bad_line::<Packets>`
-/// tells which. This function does nothing, and its contract is these laws.
+/// one list of packets at most, and has one first bad line at most, and never both; that it is one
+/// of the two is said by `first_bad_line::<Packets>`, which tells which. This function does
+/// nothing, and its contract is these laws.
 pub fn one_text()
     ensures told { (bytes : List ℕ) → IsBytes bytes → (text : List ℕ) × ShownAs bytes text }
     ensures shown { (bytes x y : List ℕ) → ShownAs bytes x → ShownAs bytes y → x ≡ y }

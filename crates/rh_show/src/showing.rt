@@ -4,10 +4,11 @@ ghost use Rattle.std.specs.Prelude.{◌≡◌, ◌++◌, ◌∷◌, [], List, �
 ghost use Rattle.rh_pdu.specs.Header.{header_of};
 ghost use Rattle.rh_pdu.specs.Frames.{IsPdu};
 ghost use Rattle.rh_text.specs.Writing.{Writes};
+ghost use Rattle.rh_text.specs.declared.lines.TheConstants.{LINE_FEED};
 ghost use Rattle.rh_show.specs.Shown.{RtsText, ShownAs, pdu_text};
 
 use crate::commands::write_packet;
-use rh_pdu::header::{HEADER_LEN, RTS};
+use rh_pdu::header::{HEADER_LEN, PTYPE_AT, RTS};
 use rh_pdu::{Header, check, write_pdu_fault};
 use rh_rts::view;
 use rh_text::{Part, write_parts};
@@ -59,7 +60,7 @@ fn write_shown(bytes: &[u8], out: &mut String) -> Result<(), AllocError>
     ensures { (text : List ℕ) × ShownAs bytes.now text
         × Writes text result (string_bytes out.old) (string_bytes out.new) }
 {
-    if bytes.len() >= HEADER_LEN && bytes[2] == RTS {
+    if bytes.len() >= HEADER_LEN && bytes[PTYPE_AT] == RTS {
         write_rts(bytes, out)
     } else {
         write_pdu(bytes, out)
@@ -75,7 +76,7 @@ fn write_shown(bytes: &[u8], out: &mut String) -> Result<(), AllocError>
 /// Fails where there is no memory; a front of the line may stand in `out` then, and nothing else.
 pub fn show_packet(bytes: &[u8], out: &mut String) -> Result<(), AllocError>
     ensures { (line : List ℕ) × ShownAs bytes.now line
-        × Writes (line ++ 10 ∷ []) result (string_bytes out.old) (string_bytes out.new) }
+        × Writes (line ++ LINE_FEED ∷ []) result (string_bytes out.old) (string_bytes out.new) }
 {
     write_shown(bytes, out)?;
     out.push_str("\n")

@@ -18,10 +18,10 @@ use Rattle.rh_sig.specs.declared.name.Name.{Name}
 use Rattle.rh_sig.specs.declared.name.Pipe.{Pipe}
 use Rattle.rh_sig.specs.declared.named.Named.{Named}
 use Rattle.rh_sig.specs.Names.{unpadded, IsNamed, IsCarried}
-use Rattle.rh_sig.specs.Values.{IsWithin, IsInRange, AreInRange, IsOut, IsRefused}
+use Rattle.rh_sig.specs.Values.{IsWithin, is_within, IsInRange, AreInRange, IsOut, IsRefused}
 use Rattle.rh_sig.specs.Values.{value_of, name_of_named, commands_of, parts_of, ReadsAs}
 use Rattle.rh_sig.specs.Reading.{value}
-use Rattle.rh_sig.specs.Naming.{is_within, is_in_range, first_out, name_on, unless_out, named_by}
+use Rattle.rh_sig.specs.Naming.{is_in_range, first_out, name_on, unless_out, named_by}
 use Rattle.rh_sig.specs.Naming.{named_of, named_bytes}
 use Rattle.rh_sig.proofs.Again.{same_commands, same_name, same_value}
 use Rattle.rh_sig.proofs.Members.{any_or}

@@ -1,6 +1,5 @@
 -- the names of packets: those of opening, flow control and pings (MS-RPCH 2.2.4), and the profile's
--- own of
--- replacement and of a clean end, after the same pattern
+-- own of replacement and of a clean end, after the same pattern
 use Rattle.std.specs.Prelude.{◌≡◌, ◌+◌, ℕ, List, [], ◌∷◌}
 use Rattle.std.specs.Prelude.{map}
 use Rattle.std.specs.List.{Contains}
@@ -26,9 +25,8 @@ use Rattle.rh_rts.specs.declared.kinds.TheConstants.{DESTINATION}
 use Rattle.rh_rts.specs.declared.kinds.TheConstants.{CLIENT_KEEPALIVE, ASSOCIATION_GROUP_ID}
 use Rattle.rh_rts.specs.declared.kinds.TheConstants.{CLIENT_ADDRESS}
 use Rattle.rh_rts.specs.declared.kinds.TheConstants.{FLOW_CONTROL_ACK, PING_TRAFFIC_SENT_NOTIFY}
-use Rattle.rh_rts.specs.declared.packet.TheConstants.{PING, OTHER_CMD, RECYCLE_CHANNEL}
+use Rattle.rh_rts.specs.declared.packet.TheConstants.{NONE, PING, OTHER_CMD, RECYCLE_CHANNEL}
 use Rattle.rh_rts.specs.declared.packet.TheConstants.{IN_CHANNEL, OUT_CHANNEL, EOF}
-use Rattle.rh_sig.specs.declared.rows.TheConstants.{NONE}
 
 -- the types of commands, in their order
 abbrev pub types_of : List Command → List ℕ

@@ -1,6 +1,6 @@
 -- the named packet that a packet is on a pipe: its name by the table, its fields, and the first
 -- value out of range
-use Rattle.std.specs.Prelude.{◌==◌, ◌&&◌, ◌||◌, ℕ, List, [], ◌∷◌, Bool, true, nat_le}
+use Rattle.std.specs.Prelude.{◌==◌, ℕ, List, [], ◌∷◌, Bool, true}
 use Rattle.std.specs.Prelude.{if◌then◌else◌, Some, None, Ok, Err}
 use Rattle.std.specs.declared.option.Option.{Option}
 use Rattle.std.specs.declared.result.Result.{Result}
@@ -8,11 +8,8 @@ use Rattle.rh_rts.specs.declared.command.Command.{Command}
 use Rattle.rh_rts.specs.declared.command.Command.TheVariants as commands
 use Rattle.rh_rts.specs.Commands.{kind_of}
 use Rattle.rh_rts.specs.Packets.{Parts, packet_bytes}
-use Rattle.rh_window.specs.declared.range.TheConstants.{LEAST_WINDOW, GREATEST_WINDOW}
-use Rattle.rh_sig.specs.declared.ranges.TheConstants.{LEAST_TIMEOUT, GREATEST_TIMEOUT}
-use Rattle.rh_sig.specs.declared.ranges.TheConstants.{LEAST_LIFETIME, GREATEST_LIFETIME}
-use Rattle.rh_sig.specs.declared.ranges.TheConstants.{DEFAULT_KEEPALIVE, LEAST_KEEPALIVE}
-use Rattle.rh_sig.specs.declared.ranges.TheConstants.{GREATEST_KEEPALIVE, PROTOCOL_VERSION}
+use Rattle.rh_keep.specs.Lifetimes.{is_lifetime}
+use Rattle.rh_sig.specs.declared.ranges.TheConstants.{PROTOCOL_VERSION}
 use Rattle.rh_sig.specs.declared.fault.SigFault.{SigFault}
 use Rattle.rh_sig.specs.declared.fault.SigFault.TheVariants.{Unknown, OutOfRange}
 use Rattle.rh_sig.specs.declared.name.Name.{Name}
@@ -20,22 +17,17 @@ use Rattle.rh_sig.specs.declared.name.Pipe.{Pipe}
 use Rattle.rh_sig.specs.declared.named.Named.{Named}
 use Rattle.rh_sig.specs.Names.{types_of, unpadded}
 use Rattle.rh_sig.specs.Looking.{names, found}
-use Rattle.rh_sig.specs.Values.{value_of, parts_of}
+use Rattle.rh_sig.specs.Values.{is_window, is_timeout, is_keepalive, value_of, parts_of}
 use Rattle.rh_sig.specs.Reading.{value}
 
 -- ---- ranges
 
--- whether it is one of those from the least to the greatest
-abbrev pub is_within : ℕ → ℕ → ℕ → Bool
-is_within least greatest n = nat_le least n && nat_le n greatest
-
 -- whether the value of the command is in range
 abbrev pub is_in_range : Command → Bool
-is_in_range (commands.ReceiveWindowSize n) = is_within LEAST_WINDOW GREATEST_WINDOW n
-is_in_range (commands.ConnectionTimeout n) = is_within LEAST_TIMEOUT GREATEST_TIMEOUT n
-is_in_range (commands.ChannelLifetime n) = is_within LEAST_LIFETIME GREATEST_LIFETIME n
-is_in_range (commands.ClientKeepalive n) =
-    (n == DEFAULT_KEEPALIVE) || is_within LEAST_KEEPALIVE GREATEST_KEEPALIVE n
+is_in_range (commands.ReceiveWindowSize n) = is_window n
+is_in_range (commands.ConnectionTimeout n) = is_timeout n
+is_in_range (commands.ChannelLifetime n) = is_lifetime n
+is_in_range (commands.ClientKeepalive n) = is_keepalive n
 is_in_range (commands.Version n) = n == PROTOCOL_VERSION
 is_in_range _ = true
 

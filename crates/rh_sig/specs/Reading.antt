@@ -6,6 +6,7 @@ use Rattle.rh_rts.specs.declared.command.Cookie.{Cookie}
 use Rattle.rh_rts.specs.declared.command.Command.{Command}
 use Rattle.rh_rts.specs.declared.command.Command.TheVariants as commands
 use Rattle.rh_rts.specs.declared.command.CommandRef.{CommandRef}
+use Rattle.rh_rts.specs.declared.command.TheConstants.{COOKIE_LEN, V4_LEN, ADDRESS_PADDING_LEN}
 use Rattle.rh_rts.specs.Showing.{shown}
 use Rattle.rh_sig.specs.declared.name.Name.{Name}
 use Rattle.rh_sig.specs.declared.name.Name.TheVariants.{ConnA1, ConnA2, ConnA3, ConnB1, ConnB2}
@@ -32,7 +33,7 @@ zeros n = replicate n 0
 abbrev pub cookie_of : Command → Cookie
 cookie_of (commands.Cookie cookie) = cookie
 cookie_of (commands.AssociationGroupId cookie) = cookie
-cookie_of _ = record { 0 = zeros 16 }
+cookie_of _ = record { 0 = zeros COOKIE_LEN }
 
 abbrev pub received_of : Command → ℕ
 received_of (commands.FlowControlAck received window cookie) = received
@@ -44,15 +45,15 @@ window_of _ = 0
 
 abbrev pub ack_cookie_of : Command → Cookie
 ack_cookie_of (commands.FlowControlAck received window cookie) = cookie
-ack_cookie_of _ = record { 0 = zeros 16 }
+ack_cookie_of _ = record { 0 = zeros COOKIE_LEN }
 
 abbrev pub address_of : Command → Address4or16
 address_of (commands.ClientAddress address padding) = address
-address_of _ = V4 (zeros 4)
+address_of _ = V4 (zeros V4_LEN)
 
 abbrev pub padding_of : Command → List ℕ
 padding_of (commands.ClientAddress address padding) = padding
-padding_of _ = zeros 12
+padding_of _ = zeros ADDRESS_PADDING_LEN
 
 -- ---- the places
 

@@ -1,5 +1,6 @@
 -- what named packets say, and which values are in range
 use Rattle.std.specs.Prelude.{◌≡◌, ◌≤◌, ◌⊎◌, ◌++◌, ℕ, List, [], ◌∷◌, Some, None, IfSome}
+use Rattle.std.specs.Prelude.{◌==◌, ◌&&◌, ◌||◌, Bool, nat_le}
 use Rattle.std.specs.declared.option.Option.{Option}
 use Rattle.rh_sig.specs.declared.name.Name.{Name}
 use Rattle.rh_sig.specs.declared.name.Name.TheVariants.{ConnA1, ConnA2, ConnA3, ConnB1, ConnB2}
@@ -21,9 +22,10 @@ use Rattle.rh_rts.specs.Packets.{Parts}
 use Rattle.rh_sig.specs.declared.name.Pipe.{Pipe}
 use Rattle.rh_sig.specs.Names.{row_of, IsNamed, IsNameless, unpadded}
 use Rattle.rh_rts.specs.Commands.{kind_of}
+use Rattle.rh_window.specs.declared.range.TheConstants.{LEAST_WINDOW, GREATEST_WINDOW}
 use Rattle.rh_window.specs.Sides.{IsWindow}
 use Rattle.rh_sig.specs.declared.ranges.TheConstants.{LEAST_TIMEOUT, GREATEST_TIMEOUT}
-use Rattle.rh_sig.specs.declared.ranges.TheConstants.{LEAST_LIFETIME, GREATEST_LIFETIME}
+pub use Rattle.rh_keep.specs.Lifetimes.{IsLifetime}
 use Rattle.rh_sig.specs.declared.ranges.TheConstants.{DEFAULT_KEEPALIVE, LEAST_KEEPALIVE}
 use Rattle.rh_sig.specs.declared.ranges.TheConstants.{GREATEST_KEEPALIVE}
 use Rattle.rh_sig.specs.declared.ranges.TheConstants.{PROTOCOL_VERSION}
@@ -193,17 +195,27 @@ ArePlain (c ∷ cs) = IsPlain c × ArePlain cs
 abbrev pub IsWithin : ℕ → ℕ → ℕ → Type 0
 IsWithin least greatest n = (least ≤ n) × (n ≤ greatest)
 
+-- whether it is one of those from the least to the greatest
+abbrev pub is_within : ℕ → ℕ → ℕ → Bool
+is_within least greatest n = nat_le least n && nat_le n greatest
+
+-- whether it is the size of a receive window, in bytes
+abbrev pub is_window : ℕ → Bool
+is_window n = is_within LEAST_WINDOW GREATEST_WINDOW n
+
 -- a connection timeout, in milliseconds
 abbrev pub IsTimeout : ℕ → Type 0
 IsTimeout n = IsWithin LEAST_TIMEOUT GREATEST_TIMEOUT n
 
--- a channel lifetime, in bytes
-abbrev pub IsLifetime : ℕ → Type 0
-IsLifetime n = IsWithin LEAST_LIFETIME GREATEST_LIFETIME n
+abbrev pub is_timeout : ℕ → Bool
+is_timeout n = is_within LEAST_TIMEOUT GREATEST_TIMEOUT n
 
 -- a keepalive interval, in milliseconds, or what stands for the one by default
 abbrev pub IsKeepalive : ℕ → Type 0
 IsKeepalive n = (n ≡ DEFAULT_KEEPALIVE) ⊎ IsWithin LEAST_KEEPALIVE GREATEST_KEEPALIVE n
+
+abbrev pub is_keepalive : ℕ → Bool
+is_keepalive n = (n == DEFAULT_KEEPALIVE) || is_within LEAST_KEEPALIVE GREATEST_KEEPALIVE n
 
 -- the value of the command is in range; the window of an acknowledgement has none
 abbrev pub IsInRange : Command → Type 0

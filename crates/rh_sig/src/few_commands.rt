@@ -2,6 +2,7 @@
 
 ghost use Rattle.std.specs.Prelude.{◌≡◌, ◌<◌, length, MatchOption};
 ghost use Rattle.rh_sig.specs.Names.{unpadded};
+ghost use Rattle.rh_sig.specs.declared.few_commands.TheConstants.{MOST};
 
 use rh_rts::{CommandRef, View};
 use std::marker::Model;
@@ -20,6 +21,7 @@ pub struct FewCommands<'a> {
 impl<'a> Model for FewCommands<'a> {
     ghost use Rattle.std.specs.Prelude.{◌≡◌, ◌≤◌, List, length, take};
     ghost use Rattle.rh_rts.specs.declared.command.Command.{Command};
+    ghost use Rattle.rh_sig.specs.declared.few_commands.TheConstants.{MOST};
     ghost use Rattle.rh_sig.specs.Names.{types_of};
     ghost use Rattle.rh_sig.specs.Reading.{all_shown};
 
@@ -27,13 +29,14 @@ impl<'a> Model for FewCommands<'a> {
 
     ghost view = { λ k. all_shown (take k.len k.commands) };
 
-    ghost invariant = { λ k. (k.len ≤ 7) × (length k.commands ≡ 7)
+    ghost invariant = { λ k. (k.len ≤ MOST) × (length k.commands ≡ MOST)
         × (take k.len k.types ≡ types_of (all_shown (take k.len k.commands))) };
 }
 
 impl<'a> FewCommands<'a> {
     ghost use Rattle.std.specs.Prelude.{◌≡◌, ◌≤◌, ◌<◌, ◌++◌, ◌↔◌, [], ◌∷◌, length, IsTrue};
     ghost use Rattle.rh_rts.specs.Showing.{shown};
+    ghost use Rattle.rh_sig.specs.declared.few_commands.TheConstants.{MOST};
     ghost use Rattle.rh_sig.specs.Names.{types_of};
     ghost use Rattle.rh_sig.specs.Reading.{all_shown};
 
@@ -50,14 +53,14 @@ impl<'a> FewCommands<'a> {
 
     /// Whether there is no room for another command.
     fn is_full(&self) -> bool
-        ensures { IsTrue result ↔ (7 ≤ length self.now) }
+        ensures { IsTrue result ↔ (MOST ≤ length self.now) }
     {
         self.len == MOST
     }
 
     /// Adds a command behind the others.
     fn push(&mut self, command: CommandRef<'a>)
-        requires { length self.old < 7 }
+        requires { length self.old < MOST }
         ensures { self.new ≡ self.old ++ shown command.entry ∷ [] }
     {
         self.commands[self.len] = command;
@@ -82,7 +85,7 @@ impl<'a> FewCommands<'a> {
 
 /// The commands without the padding, unless there are more than seven.
 pub fn without_padding<'a>(view: &View<'a>) -> Option<FewCommands<'a>>
-    ensures { MatchOption result (7 < length (unpadded view.now.commands))
+    ensures { MatchOption result (MOST < length (unpadded view.now.commands))
         (λ k. k ≡ unpadded view.now.commands) }
 {
     let mut kept = FewCommands::new();

@@ -4,11 +4,8 @@ ghost use Rattle.std.specs.Prelude.{◌≡◌};
 ghost use Rattle.rh_rts.specs.Showing.{shown};
 ghost use Rattle.rh_sig.specs.Values.{value_of};
 
-use rh_rts::{Address4or16, CommandRef, Cookie};
+use rh_rts::{ADDRESS_PADDING_LEN, Address4or16, CommandRef, Cookie, NO_COOKIE, V4_LEN};
 use std::marker::Model;
-
-/// What stands for the cookie of a command that has none.
-const NO_COOKIE: Cookie = Cookie([0; 16]);
 
 /// The commands whose fields are still to be read.
 #[derive(Drop)]
@@ -99,14 +96,14 @@ impl<'a> Fields<'a> {
     }
 
     /// The address of the next command and its padding; zeros where it has none.
-    pub fn address(&mut self) -> (Address4or16, [u8; 12])
+    pub fn address(&mut self) -> (Address4or16, [u8; ADDRESS_PADDING_LEN])
         ensures address { result.0 ≡ address_of (first self.old) }
         ensures padding { result.1 ≡ padding_of (first self.old) }
         ensures rest { self.new ≡ rest self.old }
     {
         match self.next() {
             CommandRef::ClientAddress { address, padding } => (address, padding),
-            _ => (Address4or16::V4([0; 4]), [0; 12]),
+            _ => (Address4or16::V4([0; V4_LEN]), [0; ADDRESS_PADDING_LEN]),
         }
     }
 }

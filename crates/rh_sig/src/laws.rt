@@ -6,6 +6,7 @@ ghost use Rattle.rh_rts.specs.Packets.{Parts, IsPacket};
 ghost use Rattle.rh_rts.specs.Reading.{read_packet};
 ghost use Rattle.rh_rts.specs.Refusals.{frag_of};
 ghost use Rattle.rh_sig.specs.declared.fault.SigFault.{SigFault};
+ghost use Rattle.rh_sig.specs.declared.lengths.TheConstants.{GREATEST_NAMED_LEN};
 ghost use Rattle.rh_sig.specs.declared.name.Name.{Name};
 ghost use Rattle.rh_sig.specs.declared.name.Pipe.{Pipe};
 ghost use Rattle.rh_sig.specs.declared.named.Named.{Named};
@@ -52,5 +53,5 @@ pub fn packets_are_named()
     ensures length { (named : Named) (rest : List ℕ) → IsPacket (parts_of named)
         → frag_of (named_bytes named ++ rest) ≡ length (named_bytes named) }
     ensures short { (named : Named) → IsPacket (parts_of named)
-        → length (named_bytes named) ≤ 140 }
+        → length (named_bytes named) ≤ GREATEST_NAMED_LEN }
 {}

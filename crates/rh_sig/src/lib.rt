@@ -7,6 +7,7 @@ mod few_commands;
 mod fields;
 mod kinds;
 pub mod laws;
+pub mod lengths;
 mod name;
 mod named;
 mod naming;

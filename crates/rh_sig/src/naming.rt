@@ -5,10 +5,10 @@ ghost use Rattle.rh_sig.specs.Looking.{names, found};
 
 use crate::kinds::kind;
 use crate::name::{Name, Pipe};
-use crate::rows::{NONE, named_packets};
+use crate::rows::named_packets;
 use crate::signature::Sig;
 use rh_rts::kinds;
-use rh_rts::packet::{EOF, IN_CHANNEL, OTHER_CMD, OUT_CHANNEL, PING, RECYCLE_CHANNEL};
+use rh_rts::packet::{EOF, IN_CHANNEL, NONE, OTHER_CMD, OUT_CHANNEL, PING, RECYCLE_CHANNEL};
 
 /// The name that a packet has on this pipe with these flags and types of commands.
 #[tactic(auto, unfolding(crate::specs::Looking::names))]

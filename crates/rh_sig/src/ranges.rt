@@ -1,12 +1,15 @@
-//! The values that commands may have here (profile). Those of receive windows are `rh_window`'s.
+//! The values that commands may have here (profile). Those of receive windows are `rh_window`'s,
+//! those of lifetimes `rh_keep`'s.
 
 ghost use Rattle.std.specs.Prelude.{◌≡◌};
 ghost use Rattle.rh_rts.specs.Showing.{shown};
 ghost use Rattle.rh_sig.specs.Reading.{all_shown};
-ghost use Rattle.rh_sig.specs.Naming.{is_within, is_in_range, first_out};
+ghost use Rattle.rh_sig.specs.Values.{is_within};
+ghost use Rattle.rh_sig.specs.Naming.{is_in_range, first_out};
 
 use crate::fault::SigFault;
 use crate::fields::number_of;
+use rh_keep::{GREATEST_LIFETIME, LEAST_LIFETIME};
 use rh_rts::CommandRef;
 use rh_window::{GREATEST_WINDOW, LEAST_WINDOW};
 
@@ -14,10 +17,6 @@ use rh_window::{GREATEST_WINDOW, LEAST_WINDOW};
 pub const LEAST_TIMEOUT: u32 = 120_000;
 /// The greatest connection timeout, in milliseconds.
 pub const GREATEST_TIMEOUT: u32 = 14_400_000;
-/// The least channel lifetime, in bytes.
-pub const LEAST_LIFETIME: u32 = 131_072;
-/// The greatest channel lifetime, in bytes.
-pub const GREATEST_LIFETIME: u32 = 2_147_483_648;
 /// The keepalive interval that stands for the one agreed by default.
 pub const DEFAULT_KEEPALIVE: u32 = 0;
 /// The least other keepalive interval, in milliseconds.

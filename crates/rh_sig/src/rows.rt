@@ -1,35 +1,42 @@
 //! The table of named packets, each row once.
 
-/// No flags.
-pub const NONE: u16 = 0;
-
 /// Calls a macro with a row for each named packet: its name with its fields, the pipes that carry
 /// it, its flags, and its commands with the fields that they have.
 ///
-/// The packets of opening, flow control and pings are those of MS-RPCH 2.2.4. Those of replacement
-/// (`InR..`, `OutR..`) and of a clean end (`End..`) follow its pattern and are (profile).
+/// The packets of opening, flow control and pings are those of MS-RPCH 2.2.4, each of opening with
+/// its section. Those of replacement (`InR..`, `OutR..`) and of a clean end (`End..`) follow its
+/// pattern and are (profile).
 macro_rules! named_packets {
     ($rows:ident) => {
         $rows! {
+            // MS-RPCH 2.2.4.2
             ConnA1(version, connection, channel, window) on CoU is NONE
                 [Version(version), Cookie(connection), Cookie(channel), ReceiveWindowSize(window)];
+            // MS-RPCH 2.2.4.3
             ConnA2(version, connection, channel, lifetime, window) on OsU is OUT_CHANNEL
                 [Version(version), Cookie(connection), Cookie(channel), ChannelLifetime(lifetime),
                 ReceiveWindowSize(window)];
+            // MS-RPCH 2.2.4.4
             ConnA3(timeout) on CoD is NONE [ConnectionTimeout(timeout)];
+            // MS-RPCH 2.2.4.5
             ConnB1(version, connection, channel, lifetime, keepalive, group) on CiU is NONE
                 [Version(version), Cookie(connection), Cookie(channel), ChannelLifetime(lifetime),
                 ClientKeepalive(keepalive), AssociationGroupId(group)];
+            // MS-RPCH 2.2.4.6
             ConnB2(version, connection, channel, window, timeout, group, address, padding)
                 on IsU is IN_CHANNEL
                 [Version(version), Cookie(connection), Cookie(channel), ReceiveWindowSize(window),
                 ConnectionTimeout(timeout), AssociationGroupId(group),
                 ClientAddress { address, padding }];
+            // MS-RPCH 2.2.4.7
             ConnB3(window, version) on IsD is NONE [ReceiveWindowSize(window), Version(version)];
+            // MS-RPCH 2.2.4.8
             ConnC1(version, window, timeout) on OsD is NONE
                 [Version(version), ReceiveWindowSize(window), ConnectionTimeout(timeout)];
+            // MS-RPCH 2.2.4.9
             ConnC2(version, window, timeout) on CoD is NONE
                 [Version(version), ReceiveWindowSize(window), ConnectionTimeout(timeout)];
+            // (profile)
             InR1A1(version, connection, predecessor, successor) on CiU is RECYCLE_CHANNEL
                 [Version(version), Cookie(connection), Cookie(predecessor), Cookie(successor)];
             InR1A2(version, connection, predecessor, successor, window, timeout)
@@ -73,6 +80,7 @@ macro_rules! named_packets {
             EndA2 on IsU is EOF [Empty];
             EndB1 on OsD is EOF [Empty];
             EndB2 on CoD is EOF [Empty];
+            // MS-RPCH 2.2.4
             Ack(received, window, cookie) on IsD | OsU is OTHER_CMD
                 [FlowControlAck { received, window, cookie }];
             AckTo(destination, received, window, cookie) on CiU | IsU | OsD | CoD is OTHER_CMD

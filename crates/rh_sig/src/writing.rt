@@ -4,6 +4,7 @@ ghost use Rattle.std.specs.Prelude.{◌≡◌, ◌≤◌, length};
 ghost use Rattle.rh_rts.specs.Packets.{parts, IsPacket};
 ghost use Rattle.rh_rts.specs.declared.packet.TheConstants.{ALL_FLAGS};
 ghost use Rattle.rh_rts.specs.Writing.{Writes};
+ghost use Rattle.rh_sig.specs.declared.few_commands.TheConstants.{MOST};
 ghost use Rattle.rh_sig.specs.declared.name.Name.{Name};
 ghost use Rattle.rh_sig.specs.declared.name.Pipe.{Pipe};
 ghost use Rattle.rh_sig.specs.declared.named.Named.{Named};
@@ -11,8 +12,10 @@ ghost use Rattle.rh_sig.specs.Names.{IsCarried, IsNamed};
 ghost use Rattle.rh_sig.specs.Values.{name_of_named, parts_of, ReadsAs, MayBeWritten, ArePlain};
 
 use crate::named::Named;
-use crate::rows::{NONE, named_packets};
-use rh_rts::packet::{EOF, IN_CHANNEL, OTHER_CMD, OUT_CHANNEL, PING, RECYCLE_CHANNEL, length_of};
+use crate::rows::named_packets;
+use rh_rts::packet::{
+    EOF, IN_CHANNEL, NONE, OTHER_CMD, OUT_CHANNEL, PING, RECYCLE_CHANNEL, length_of,
+};
 use rh_rts::{Command, NoRoom, encode_parts};
 
 /// Writes the packet at the front of the room, and answers its length in bytes.
@@ -56,7 +59,7 @@ fn write_row(named: &Named, room: &mut [u8]) -> Result<usize, NoRoom>
 /// Writes a packet of these flags and of at most seven commands.
 fn write_commands(flags: u16, commands: &[Command], room: &mut [u8]) -> Result<usize, NoRoom>
     requires flags { flags ≤ ALL_FLAGS }
-    requires few { length commands.now ≤ 7 }
+    requires few { length commands.now ≤ MOST }
     requires plain { ArePlain commands.now }
     ensures writes { Writes (parts flags commands.now) room.old room.new result }
     ensures packet { IsPacket (parts flags commands.now) }

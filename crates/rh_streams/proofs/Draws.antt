@@ -196,8 +196,8 @@ module _ {S : Type 0} (rules : Rules S) where
       }) refl refl refl is
       (record { leg = refl; pipe = refl; intake = refl; standing = refl; count = refl })
   drew_byte p end b (c ∷ cs) is =
-      drew_none p p end _ (way_none rules nowhere p) (leaves_none rules (is_reached end.leg) (Unit {0}) p)
-      refl refl refl is
+      drew_none p p end _ (way_none rules nowhere p)
+      (leaves_none rules (is_reached end.leg) (Unit {0}) p) refl refl refl is
       (record { leg = refl; pipe = refl; intake = refl; standing = refl; count = refl })
 
   as_role : (p : Passage S) (end : NearEnd) (role : S) (d : S → Drawn S) → p.role ≡ role

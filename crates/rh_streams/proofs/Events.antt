@@ -156,8 +156,8 @@ module _ {S : Type 0} (rules : Rules S) (pipes : Leg → Option Pipe) (rose : Le
 
     closes : (why : Cause) → Calm (close s why)
     closes why =
-        calm p (close s why) (way_none rules nowhere p) (leaves_none rules anything (Unit {0}) p) is refl
-        refl held apart (λ leg. tt)
+        calm p (close s why) (way_none rules nowhere p) (leaves_none rules anything (Unit {0}) p)
+        is refl refl held apart (λ leg. tt)
 
     -- ---- a leg is lost
 
@@ -676,7 +676,8 @@ module _ {S : Type 0} (rules : Rules S) (pipes : Leg → Option Pipe) (rose : Le
       where
         first : (is_working rules s ≡ true)
             × ((has_room rules s k.kind && rules.may_up s.role k) ≡ true)
-        first = and_parts (is_working rules s) (has_room rules s k.kind && rules.may_up s.role k) may
+        first =
+            and_parts (is_working rules s) (has_room rules s k.kind && rules.may_up s.role k) may
 
         work : (s.course ≡ Going) × (not (is_ended (rules.phase s.role)) ≡ true)
         work = at_work s.course (rules.phase s.role) first.0
@@ -770,8 +771,8 @@ module _ {S : Type 0} (rules : Rules S) (pipes : Leg → Option Pipe) (rose : Le
           → Calm p s is held apart (passed_by rules (record s { now = now }) o)
       by_silent (Some silent) =
           calm p s is held apart p (passed_by rules (record s { now = now }) (Some silent))
-          (way_none rules nowhere p) (leaves_none rules anything (Unit {0}) p) is refl refl held apart
-          (λ leg. tt)
+          (way_none rules nowhere p) (leaves_none rules anything (Unit {0}) p)
+          is refl refl held apart (λ leg. tt)
       by_silent None =
           let all = pings rules now s.legs p s.role is in
           calm p s is held apart all.passage (passed_by rules (record s { now = now }) None)

@@ -49,8 +49,8 @@ abbrev pub is_reached : Leg → Stages → Type 0
 is_reached leg g = is_some (g leg) ≡ true
 
 module _ {S : Type 0} (rules : Rules S) where
-  -- moves in their turn, where so much is known of what comes next, which they leave; and, where that
-  -- is asked of them, those that come are counted
+  -- moves in their turn, where so much is known of what comes next, which they leave; and, where
+  -- that is asked of them, those that come are counted
   pub record LeavesStages (asks : Stages → Type 0) (Counts : Type 0) (p : Passage S)
       (moves : List Move) : Type 0
     where

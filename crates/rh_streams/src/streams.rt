@@ -17,8 +17,8 @@ use rh_shell::{EndRole, Role};
 /// Moves that are allowed lead to a node's role, whatever happens there. Each comes in its turn,
 /// and a leg came up by them exactly where it came up by an event. What they took on each leg is a
 /// front of the messages in the bytes that were heard; the bytes that were drawn are a front of
-/// those that they put, or of a refusal where nothing was put. The count that comes with a packet is
-/// of the packets that came on its leg before: none, one, or more.
+/// those that they put, or of a refusal where nothing was put. The count that comes with a packet
+/// is of the packets that came on its leg before: none, one, or more.
 ///
 /// Each head that came on a leg is the one with which the bytes there begin, whole at its end and
 /// not before; and the client is refused for a leg that cannot be connected, or for such a head.

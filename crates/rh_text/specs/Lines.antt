@@ -1,11 +1,12 @@
 -- texts of lines, each ended by LF, of which the last may lack it
 use Rattle.std.specs.Prelude.{◌≡◌, ◌≢◌, ℕ, ◌+◌, List, [], ◌∷◌, ◌++◌, length, Contains, ◌⊎◌}
+use Rattle.rh_text.specs.declared.lines.TheConstants.{LINE_FEED}
 
 -- the text begins with a line without LF, and the rest stands behind its LF, which a last line may
 -- lack
 pub record BeginsWith (text line rest : List ℕ) : Type 0 where
-  pub one : ¬ Contains line 10
-  pub joined : (text ≡ line ++ 10 ∷ rest) ⊎ ((text ≡ line) × (rest ≡ []))
+  pub one : ¬ Contains line LINE_FEED
+  pub joined : (text ≡ line ++ LINE_FEED ∷ rest) ⊎ ((text ≡ line) × (rest ≡ []))
 
 -- what lines may be: at each place of a text, which texts are which line; the place behind a line;
 -- where a text begins, and where it may end

@@ -61,8 +61,9 @@ pub fn first_bad_line<G: Grammar>(text: &[u8]) -> Option<u64>
     None
 }
 
-/// A text is that of one list of lines, or has one first bad line, and never both. This function
-/// does nothing, and its contract is these laws.
+/// A text is that of one list of lines at most, and has one first bad line at most, and never both;
+/// that it is one of the two is said by `first_bad_line`. This function does nothing, and its
+/// contract is these laws.
 pub fn one_text<G: Grammar>()
     ensures lines { (text : List ℕ) (a b : List G.Line)
         → TextOf G.rules text a → TextOf G.rules text b → a ≡ b }

@@ -13,6 +13,6 @@ pub use bytes::Bytes;
 pub use digits::{is_hex, read_hex, write_hex};
 pub use ends::{Dir, Side};
 pub use grammar::{Grammar, first_bad_line, one_text};
-pub use lines::split_line;
+pub use lines::{LINE_FEED, split_line};
 pub use numbers::read_number;
-pub use writing::{Part, push_ascii, write_parts};
+pub use writing::{Part, push_ascii, write_five, write_parts, write_three};

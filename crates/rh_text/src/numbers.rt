@@ -47,6 +47,7 @@ fn begins_well(text: &[u8]) -> bool
 
 /// The number that the text spells, from `least` to `most`; `None` exactly where it spells no such
 /// number.
+#[inline(always)]
 pub fn read_number(text: &[u8], least: u64, most: u64) -> Option<u64>
     ensures { MatchOption result ((number : ℕ) → ¬ IsNumber least most text.now number)
         (λ number. IsNumber least most text.now number) }

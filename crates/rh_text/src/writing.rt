@@ -1,6 +1,7 @@
 //! Appends texts, so that what stands after want of memory is known.
 
-ghost use Rattle.std.specs.Prelude.{◌≡◌, ◌≤◌, ◌++◌, IsAscii, MatchOption, length, string_bytes, take};
+ghost use Rattle.std.specs.Prelude.{◌≡◌, ◌≤◌, ◌++◌, IsAscii, IfSome, MatchOption};
+ghost use Rattle.std.specs.Prelude.{length, string_bytes, take};
 ghost use Rattle.std.specs.Str.{IsUtf8};
 ghost use Rattle.hex.specs.Hex.{encode_lower};
 ghost use Rattle.rh_text.specs.Writing.{Writes, part_text, parts_text};
@@ -54,7 +55,7 @@ fn write_part(part: &Part<'_>, out: &mut String) -> Result<(), AllocError>
 
 /// Copies a text behind the first bytes of a room, and tells where it ends; `None` where there is
 /// no place for it, and nothing is copied then.
-#[inline]
+#[inline(always)]
 fn gather_text(text: &[u8], room: &mut [u8], held: usize) -> Option<usize>
     requires { held ≤ length room.old }
     ensures gathered { MatchOption result (room.new ≡ room.old)
@@ -94,6 +95,7 @@ fn gather_hex(bytes: &[u8], room: &mut [u8], held: usize) -> Option<usize>
 
 /// Writes a part behind the first bytes of a room, and tells where it ends; `None` where there is
 /// no place for it, and nothing is written then.
+#[inline(always)]
 fn gather(part: &Part<'_>, room: &mut [u8], held: usize) -> Option<usize>
     requires { held ≤ length room.old }
     ensures gathered { MatchOption result (room.new ≡ room.old)
@@ -137,4 +139,51 @@ pub fn write_parts(parts: &[Part<'_>], out: &mut String) -> Result<(), AllocErro
         };
     }
     push_utf8(&room[..held], out)
+}
+
+/// Writes two parts behind the first bytes of a room, and tells where they end; `None` where there
+/// is no place for them.
+#[inline(always)]
+fn gather_two(one: &Part<'_>, two: &Part<'_>, room: &mut [u8], held: usize) -> Option<usize>
+    requires { held ≤ length room.old }
+    ensures gathered { IfSome result (λ end. (end ≤ length room.new)
+        × (take end room.new ≡ take held room.old ++ (part_text one.now ++ part_text two.now))) }
+    ensures utf8 { IfSome result (λ end. IsUtf8 (part_text one.now ++ part_text two.now)) }
+    ensures same_length { length room.new ≡ length room.old }
+{
+    let middle = gather(one, room, held)?;
+    let end = gather(two, room, middle)?;
+    Some(end)
+}
+
+/// Appends three parts as `write_parts` does, and sooner where they are short.
+#[inline(always)]
+pub fn write_three(parts: &[Part<'_>; 3], out: &mut String) -> Result<(), AllocError>
+    ensures { Writes (parts_text parts.now) result (string_bytes out.old) (string_bytes out.new) }
+{
+    let [one, two, three] = *parts;
+    let mut room = [0; ROOM];
+    if let Some(held) = gather_two(&one, &two, &mut room, 0) {
+        if let Some(end) = gather(&three, &mut room, held) {
+            return push_utf8(&room[..end], out);
+        }
+    }
+    write_parts(&[one, two, three], out)
+}
+
+/// Appends five parts as `write_parts` does, and sooner where they are short.
+#[inline(always)]
+pub fn write_five(parts: &[Part<'_>; 5], out: &mut String) -> Result<(), AllocError>
+    ensures { Writes (parts_text parts.now) result (string_bytes out.old) (string_bytes out.new) }
+{
+    let [one, two, three, four, five] = *parts;
+    let mut room = [0; ROOM];
+    if let Some(held) = gather_two(&one, &two, &mut room, 0) {
+        if let Some(more) = gather_two(&three, &four, &mut room, held) {
+            if let Some(end) = gather(&five, &mut room, more) {
+                return push_utf8(&room[..end], out);
+            }
+        }
+    }
+    write_parts(&[one, two, three, four, five], out)
 }

@@ -1,4 +1,5 @@
--- changes that lines make have each channel read, and each leg of an in proxy with one that was made
+-- changes that lines make have each channel read, and each leg of an in proxy with one that was
+-- made
 use Rattle.std.proofs.Common.{◌≡◌, ℕ, Bool, true, false, not, ◌&&◌, ◌||◌, IsTrue, refl, sym, ap, ◌∙◌, subst, ⊎_elim, arith}
 use Rattle.std.specs.Prelude.{◌≢◌, ◌<◌}
 use Rattle.std.proofs.lemmas.Bool.{true≢false, and_parts, or_cases, eqb-true, lt-ltb}

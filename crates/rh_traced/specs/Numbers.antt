@@ -1,6 +1,7 @@
 -- which in proxy reads which IN channel of the client (MS-RPCH 3.2; the numbers are this profile's)
 use Rattle.std.specs.Prelude.{◌≡◌, ◌≢◌, ◌<◌, ◌≤◌, ◌⊎◌, ◌-◌, ℕ, List, [], length, Bool, true, false, not}
 use Rattle.std.specs.List.{AllByRecursion}
+use Rattle.rh_rts.specs.declared.command.TheConstants.{COOKIE_LEN}
 use Rattle.rh_line.specs.declared.leg.LegKind.TheVariants.{ClientIn, InServer}
 use Rattle.rh_shell.specs.Moving.{Event, ComesUp}
 use Rattle.rh_nodes.specs.Company.{Company}
@@ -41,9 +42,9 @@ AreOpened readers made h =
     → (made n ≡ true) ⊎ ((reader_of readers n ≡ reader_of readers (n - 1))
     × (came_up (leg_at ClientIn n) (h.ins (reader_of readers n)) ≡ true))
 
--- a leg comes up under a cookie of 16 bytes (MS-RPCH 2.2.3.1)
+-- a leg comes up under a whole cookie (MS-RPCH 2.2.3.1)
 abbrev pub HasWholeCookie : Event → Type 0
-HasWholeCookie (ComesUp leg cookie) = length cookie.0 ≡ 16
+HasWholeCookie (ComesUp leg cookie) = length cookie.0 ≡ COOKIE_LEN
 HasWholeCookie event = Unit {0}
 
 abbrev pub HaveWholeCookies : List Event → Type 0

@@ -10,8 +10,8 @@ ghost use Rattle.rh_nodes.specs.World.{World};
 ghost use Rattle.rh_history.specs.Changes.{ByLines, Turn, after_turns};
 ghost use Rattle.rh_traced.specs.Cookies.{AreWhole, ByChanges, is_whole_half};
 
-/// What lines do they do by changes whose cookies are whole; so does each half step whose cookie is,
-/// as that of each call is by its type, and so do lines and such half steps in any order.
+/// What lines do they do by changes whose cookies are whole; so does each half step whose cookie
+/// is, as that of each call is by its type, and so do lines and such half steps in any order.
 pub fn turns_are_changes<K, C, S, I, O>()
     ensures lines { (r : Rulebook C S I O) (m : Makers K I O) (d : Deeds C S)
         (w v : World K C S I O) → ByLines r m d w v → ByChanges r m d w v }

@@ -34,11 +34,11 @@ pub fn proxies_are_numbered<K, C, S, I, O>()
         → came_up (leg_at ClientIn n) (events_of h Client) ≡ true }
 {}
 
-/// In every world that changes lead to from a new one, of lines and half steps, each IN channel that
-/// has a reader has an in proxy of its own number; or it has the reader of the channel before it,
-/// and came up there as well. Each leg of the client came up under a cookie of 16 bytes, as those of
-/// the changes are. Where lines alone led there, each IN channel that came up at the client is read, and each
-/// leg of an in proxy that came up at the server is of one that was made.
+/// In every world that changes lead to from a new one, of lines and half steps, each IN channel
+/// that has a reader has an in proxy of its own number; or it has the reader of the channel before
+/// it, and came up there as well. Each leg of the client came up under a cookie of 16 bytes, as
+/// those of the changes are. Where lines alone led there, each IN channel that came up at the
+/// client is read, and each leg of an in proxy that came up at the server is of one that was made.
 pub fn channels_come_up_in_order<K, C, S, I, O>()
     ensures changes { (r : Rulebook C S I O) (m : Makers K I O) (d : Deeds C S)
         (w v : World K C S I O) → IsNew w → LegsComeUpOnce r m d w.company w.cast

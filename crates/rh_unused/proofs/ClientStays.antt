@@ -23,7 +23,7 @@ use Rattle.rh_shell.specs.Rules.{Message, Packet}
 use Rattle.rh_client.specs.declared.channels.Opening.{Opening}
 use Rattle.rh_client.specs.declared.channels.Opening.TheVariants.{NotUp, Request, First, Second, Put}
 use Rattle.rh_client.specs.declared.channels.TheConstants.{LAST_NUMBER}
-use Rattle.rh_client.specs.declared.lengths.TheConstants.{IN_R1_A5_LEN}
+use Rattle.rh_sig.specs.declared.lengths.TheConstants.{IN_R1_A5_LEN}
 use Rattle.rh_client.specs.declared.replacement.Replacement.{Replacement}
 use Rattle.rh_client.specs.declared.replacement.Replacement.TheVariants.{NoneUnderWay, In, Out}
 use Rattle.rh_client.specs.declared.replacement.InStage.{InStage}

@@ -126,8 +126,8 @@ leg_removed P legs (Some place) h = each_removed P legs place h
 
 -- ---- what a server keeps
 
--- of the legs that it keeps; on that of the next channel, where there is one, a message came, and on
--- that of the current one, or this is the first; and the newest number is this one
+-- of the legs that it keeps; on that of the next channel, where there is one, a message came, and
+-- on that of the current one, or this is the first; and the newest number is this one
 pub record Placed (u x : ℕ → Bool) (n : ℕ) (legs : List InLeg) (here there : ℕ) (has_next : Bool)
     (number : ℕ) : Type 0 where
   pub ins : AllByRecursion (Stands u x) legs
@@ -293,8 +293,8 @@ module _ (u x : ℕ → Bool) (newest : ℕ) where
   moved_kept : (had : Bool) (s : Server) → (had ≡ true → x s.next.leg ≡ true) → Kept u x newest s
       → Kept u x newest (moved_if had s)
   moved_kept had s is k =
-      by_test (Kept u x newest) (had && not s.line.has_next) (becomes_current s) s (λ e. by had e is)
-      (λ e. k)
+      by_test (Kept u x newest) (had && not s.line.has_next) (becomes_current s) s
+      (λ e. by had e is) (λ e. k)
     where
       by : (h : Bool) → h && not s.line.has_next ≡ true → (h ≡ true → x s.next.leg ≡ true)
           → Kept u x newest (becomes_current s)

@@ -306,7 +306,8 @@ module _ (made : ℕ → Bool) (reader : ℕ → ℕ) (reads : ℕ → ℕ → B
   move_holds u v p (Puts leg) may ups h =
       let q = put_by p leg (put p.role leg) in
       let held : Holds u q =
-      put_holds u p leg (put p.role leg) (put_kept u (spoke p.came) p.role.newest_in p.role leg h.kept) h in
+      put_holds u p leg (put p.role leg)
+      (put_kept u (spoke p.came) p.role.newest_in p.role leg h.kept) h in
       quiet u v q q (not_up u v ups) (λ n. refl) held.kept held
   move_holds u v p (IsDrawn leg) may ups h =
       quiet u v p (record p { role = drawn p.role leg }) (not_up u v ups) (λ n. refl)
@@ -339,12 +340,13 @@ module _ (made : ℕ → Bool) (reader : ℕ → ℕ) (reads : ℕ → ℕ → B
   end_move_holds u v p (Moves move) may ups h = move_holds u v p.passage move may ups h
   end_move_holds u v p (Gives bytes) may ups h =
       given_holds u v p bytes (give p.passage.role bytes) ups
-      (same_kept u (spoke p.passage.came) p.passage.role.newest_in p.passage.role (give p.passage.role bytes).0
-      (same_give p.passage.role bytes) h.kept) h
+      (same_kept u (spoke p.passage.came) p.passage.role.newest_in p.passage.role
+      (give p.passage.role bytes).0 (same_give p.passage.role bytes) h.kept) h
   end_move_holds u v p Takes may ups h =
       taken_holds v (end_now_at p (take p.passage.role)) p.passage.role.line.current.pdus
       (quiet u v p.passage (record (p.passage) { role = take p.passage.role }) (not_up u v ups)
-      (λ n. refl) (take_kept u (spoke p.passage.came) p.passage.role.newest_in p.passage.role h.kept) h)
+      (λ n. refl)
+      (take_kept u (spoke p.passage.came) p.passage.role.newest_in p.passage.role h.kept) h)
   end_move_holds u v p Closes may ups h =
       quiet u v p.passage (end_moved server_rules server_acts p Closes).passage (not_up u v ups)
       (λ n. refl)
@@ -352,8 +354,8 @@ module _ (made : ℕ → Bool) (reader : ℕ → ℕ) (reads : ℕ → ℕ → B
   end_move_holds u v p Recycles may ups h =
       quiet u v p.passage (record (p.passage) { role = (recycle p.passage.role).0 })
       (not_up u v ups) (λ n. refl)
-      (same_kept u (spoke p.passage.came) p.passage.role.newest_in p.passage.role (recycle p.passage.role).0
-      (same_recycle p.passage.role) h.kept) h
+      (same_kept u (spoke p.passage.came) p.passage.role.newest_in p.passage.role
+      (recycle p.passage.role).0 (same_recycle p.passage.role) h.kept) h
 
   -- ---- all moves
 

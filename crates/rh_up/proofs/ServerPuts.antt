@@ -164,7 +164,8 @@ module _ (u x : ℕ → Bool) (newest : ℕ) where
     where
       by_leaving : (l : Leaving) → PickKept u x newest (put_b1_by s leg l)
       by_leaving leaving.Stays = tt
-      by_leaving leaving.InR1B1 = with_kept u x newest s (record leg { leaving = leaving.Left }) is k
+      by_leaving leaving.InR1B1 =
+          with_kept u x newest s (record leg { leaving = leaving.Left }) is k
       by_leaving leaving.Left = tt
       by_leaving leaving.Lost = tt
 

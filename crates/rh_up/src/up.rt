@@ -20,8 +20,8 @@ use rh_server::a_server_takes_in_order;
 use rh_streams::what_refuses_first_refuses_in_turn;
 
 /// A client, the in proxies and a server, joined by legs that carry bytes, are a route: each keeps
-/// its law of order, what each took is a front of what was put for it, and each channel that is read
-/// has an in proxy of its own or is read by that of the one before it.
+/// its law of order, what each took is a front of what was put for it, and each channel that is
+/// read has an in proxy of its own or is read by that of the one before it.
 pub fn what_goes_up_is_a_route()
     ensures { (config : ClientConfig) (window : ℕ) (in_config : ℕ → InProxyConfig)
         (client_events server_events : List EndEvent) (ins : ℕ → List Event) (made : ℕ → Bool)

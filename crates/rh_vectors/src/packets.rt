@@ -10,6 +10,10 @@ pub const CONN_A1: [u8; 76] = [
     3, 0, 0, 0, 0, 0, 0, 0, 0, 0, 0, 0, 0, 0, 0, 0, 0, 0, 0, 3, //
     0, 0, 0, 0, 0, 0, 1, 0,
 ];
+/// The first packet to a client: a connection timeout of 120,000 ms.
+pub const CONN_A3: [u8; 28] = [
+    5, 0, 20, 3, 0x10, 0, 0, 0, 28, 0, 0, 0, 0, 0, 0, 0, 0, 0, 1, 0, 2, 0, 0, 0, 0xc0, 0xd4, 1, 0,
+];
 /// The first packet of an IN channel: version 1, the cookies 1 and 4, a lifetime of 2^30 bytes, a
 /// keepalive each 300,000 ms, the group 2.
 pub const CONN_B1: [u8; 104] = [
@@ -35,6 +39,10 @@ pub const KEEP_ALIVE: [u8; 28] = [
 /// A ping: no command.
 pub const PING: [u8; 20] = [
     5, 0, 20, 3, 0x10, 0, 0, 0, 20, 0, 0, 0, 0, 0, 0, 0, 1, 0, 0, 0,
+];
+/// An echo: no command.
+pub const ECHO: [u8; 20] = [
+    5, 0, 20, 3, 0x10, 0, 0, 0, 20, 0, 0, 0, 0, 0, 0, 0, 0x40, 0, 0, 0,
 ];
 /// Five bytes of padding, and then a command without fields.
 pub const PADDED: [u8; 37] = [

@@ -1,6 +1,7 @@
 //! What a peer may do wrong with a window.
 
-/// The type of the command that acknowledges (MS-RPCH 2.2.3.5).
+/// The type of the command that acknowledges (MS-RPCH 2.2.3.5.2). It is that of `rh_rts::kinds`,
+/// and stands here too since windows know no packets and this crate stands on none.
 pub const FLOW_CONTROL_ACK: u32 = 1;
 
 /// A PDU that ends behind what its sender was told, in bytes from the channel's beginning.

@@ -1,5 +1,5 @@
-//! No node closes with `WindowExceeded` or `OutOfRange`: a row refuses so only on legs of a hop, and
-//! each hop keeps within its windows. Its functions do nothing: their contracts are the laws.
+//! No node closes with `WindowExceeded` or `OutOfRange`: a row refuses so only on legs of a hop,
+//! and each hop keeps within its windows. Its functions do nothing: their contracts are the laws.
 #![tactic(auto)]
 
 pub mod recordings;

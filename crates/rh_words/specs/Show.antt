@@ -1,5 +1,6 @@
 -- what the word `show` does, and what it writes of the packets that came
 use Rattle.std.specs.Prelude.{◌≡◌, ℕ, List, [], ◌∷◌, ◌++◌}
+use Rattle.rh_text.specs.declared.lines.TheConstants.{LINE_FEED}
 use Rattle.rh_text.specs.Lines.{TextOf}
 use Rattle.rh_show.specs.Lines.{packets}
 use Rattle.rh_show.specs.Shown.{ShownAs, ShowText}
@@ -9,7 +10,7 @@ use Rattle.rh_words.specs.Words.{Deeds}
 abbrev pub showing : Deeds (Unit {0}) (List ℕ)
 showing = record {
   Starts = λ _. Unit {0};
-  Does = λ _ bytes told _. (line : List ℕ) × ShownAs bytes line × (told ≡ line ++ 10 ∷ []);
+  Does = λ _ bytes told _. (line : List ℕ) × ShownAs bytes line × (told ≡ line ++ LINE_FEED ∷ []);
   Ends = λ _ told. told ≡ [];
 }
 

@@ -26,13 +26,8 @@ status_name TooLong = codes "input too long"
 
 -- its name, and the number of the bad line
 abbrev pub status_text : Status → List ℕ
-status_text Done = status_name Done
-status_text Usage = status_name Usage
 status_text (BadInput line) = status_name (BadInput line) ++ codes " " ++ decimal line
-status_text ReadFault = status_name ReadFault
-status_text WriteFault = status_name WriteFault
-status_text NoMemory = status_name NoMemory
-status_text TooLong = status_name TooLong
+status_text status = status_name status
 
 -- the status of how a word ended
 abbrev pub status_of : Ended → Status

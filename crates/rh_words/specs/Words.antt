@@ -4,12 +4,13 @@ use Rattle.std.specs.declared.option.Option.{Option}
 use Rattle.std.specs.Io.KnownBytes.{IsAtEnd}
 use Rattle.rh_io.specs.Counts.{Rose}
 use Rattle.rh_text.specs.Lines.{Rules, TextOf}
+use Rattle.rh_words.specs.declared.word.TheConstants.{MOST_INPUT}
 use Rattle.rh_words.specs.declared.word.Ended.{Ended}
 use Rattle.rh_words.specs.declared.word.Ended.TheVariants.{Done, BadInput, ReadFault, WriteFault, NoMemory, TooLong}
 
 -- the most bytes of input that are read
 abbrev pub most_input : ℕ
-most_input = 67108864
+most_input = MOST_INPUT
 
 -- ---- what a word does
 

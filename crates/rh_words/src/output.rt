@@ -30,8 +30,8 @@ impl From<AllocError> for Unfinished {
     }
 }
 
-/// Writes what was gathered where that is at least so many bytes, and keeps its room for more. Fewer
-/// stay, and nothing is written.
+/// Writes what was gathered where that is at least so many bytes, and keeps its room for more.
+/// Fewer stay, and nothing is written.
 pub fn pass_on<W: Sink>(
     gathered: &mut String,
     least: usize,

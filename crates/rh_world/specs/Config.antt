@@ -4,6 +4,8 @@ use Rattle.rh_record.specs.declared.line.Key.{Key}
 use Rattle.rh_record.specs.declared.line.Key.TheVariants.{Cwin, Iwin, Owin, Swin, Ilife, Olife, Itime, Otime, Keep, Same}
 use Rattle.rh_record.specs.Words.{takes}
 use Rattle.rh_world.specs.declared.config.WorldConfig.{WorldConfig}
+use Rattle.rh_world.specs.declared.config.TheConstants.{DEFAULT_WINDOW, DEFAULT_LIFETIME}
+use Rattle.rh_world.specs.declared.config.TheConstants.{DEFAULT_TIMEOUT, KEEPALIVE}
 
 -- each number is a value of its key
 pub record AreInRange (config : WorldConfig) : Type 0 where
@@ -21,15 +23,15 @@ pub record AreInRange (config : WorldConfig) : Type 0 where
 abbrev pub direct_config : WorldConfig
 direct_config = record {
   direct = true;
-  cwin = 65536;
-  iwin = 65536;
-  owin = 65536;
-  swin = 65536;
-  ilife = 1073741824;
-  olife = 1073741824;
-  itime = 120000;
-  otime = 120000;
-  keep = 300000;
+  cwin = DEFAULT_WINDOW;
+  iwin = DEFAULT_WINDOW;
+  owin = DEFAULT_WINDOW;
+  swin = DEFAULT_WINDOW;
+  ilife = DEFAULT_LIFETIME;
+  olife = DEFAULT_LIFETIME;
+  itime = DEFAULT_TIMEOUT;
+  otime = DEFAULT_TIMEOUT;
+  keep = KEEPALIVE;
   same = false;
 }
 

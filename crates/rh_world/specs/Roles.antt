@@ -1,5 +1,5 @@
 -- the world of the real roles (profile)
-use Rattle.std.specs.Prelude.{ℕ, List, [], ◌∷◌, Bool}
+use Rattle.std.specs.Prelude.{ℕ, List, Bool}
 use Rattle.rh_record.specs.declared.answer.Answer.{Answer}
 use Rattle.rh_record.specs.declared.line.Line.{Line}
 use Rattle.rh_rts.specs.declared.command.Cookie.{Cookie}
@@ -26,11 +26,12 @@ use Rattle.rh_nodes.specs.Settling as settling
 use Rattle.rh_nodes.specs.Steps as steps
 use Rattle.rh_nodes.specs.World as nodes
 use Rattle.rh_world.specs.declared.config.WorldConfig.{WorldConfig}
+use Rattle.rh_world.specs.declared.roles.TheConstants.{PORT, CLIENT_ADDRESS}
 use Rattle.rh_world.specs.Hosts.{server_host, proxy_host}
 
 -- ---- how the nodes are made
 
--- a client of the server `server:593` by way of the host `proxy`
+-- a client of the server `server` at its port by way of the host `proxy`
 abbrev pub client_config : WorldConfig → Cookie → Cookie → ClientConfig
 client_config config connection group = record {
   connection = connection;
@@ -39,7 +40,7 @@ client_config config connection group = record {
   lifetime = config.ilife;
   keepalive = config.keep;
   host = server_host;
-  port = 593;
+  port = PORT;
   proxy_host = proxy_host;
 }
 
@@ -49,13 +50,13 @@ client config connection group = clients.first_client (client_config config conn
 abbrev pub server : WorldConfig → Shell states.Server
 server config = servers.new_server config.swin
 
--- an in proxy that is told 127.0.0.1 as the client's address
+-- an in proxy that is told this as the client's address
 abbrev pub in_config : WorldConfig → ℕ → InProxyConfig
 in_config config number = record {
   number = number;
   window = config.iwin;
   timeout = config.itime;
-  address = 127 ∷ 0 ∷ 0 ∷ 1 ∷ [];
+  address = CLIENT_ADDRESS;
 }
 
 abbrev pub in_proxy : WorldConfig → ℕ → Shell ins.InProxy

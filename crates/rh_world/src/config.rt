@@ -2,6 +2,18 @@
 
 use rh_record::Key;
 
+/// The receive window that stands where no line sets one, in bytes.
+pub const DEFAULT_WINDOW: u32 = 65_536;
+
+/// The channel lifetime that stands where no line sets one, in bytes.
+pub const DEFAULT_LIFETIME: u32 = 1_073_741_824;
+
+/// The connection timeout that stands where no line sets one, in milliseconds.
+pub const DEFAULT_TIMEOUT: u32 = 120_000;
+
+/// The client's keepalive where no line sets one, in milliseconds.
+pub const KEEPALIVE: u32 = 300_000;
+
 /// The numbers of a world, each named by its key, and whether it is a direct one. A direct world
 /// uses none of the numbers.
 #[derive(Clone, Copy, Debug, PartialEq, Eq)]
@@ -41,15 +53,15 @@ impl WorldConfig {
     {
         WorldConfig {
             direct: true,
-            cwin: 65_536,
-            iwin: 65_536,
-            owin: 65_536,
-            swin: 65_536,
-            ilife: 1_073_741_824,
-            olife: 1_073_741_824,
-            itime: 120_000,
-            otime: 120_000,
-            keep: 300_000,
+            cwin: DEFAULT_WINDOW,
+            iwin: DEFAULT_WINDOW,
+            owin: DEFAULT_WINDOW,
+            swin: DEFAULT_WINDOW,
+            ilife: DEFAULT_LIFETIME,
+            olife: DEFAULT_LIFETIME,
+            itime: DEFAULT_TIMEOUT,
+            otime: DEFAULT_TIMEOUT,
+            keep: KEEPALIVE,
             same: false,
         }
     }

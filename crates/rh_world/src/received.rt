@@ -42,6 +42,7 @@ impl Received {
     }
 
     /// Makes room for so many bytes of so many PDUs.
+    #[inline(always)]
     pub(crate) fn reserve(
         &mut self,
         alloc: Global,

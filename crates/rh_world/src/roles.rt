@@ -19,10 +19,10 @@ use std::alloc::{AllocError, Global};
 use std::marker::Model;
 
 /// The port of the server.
-const PORT: u16 = 593;
+pub const PORT: u16 = 593;
 
 /// The address of the client, as the in proxies see it.
-const CLIENT_ADDRESS: [u8; 4] = [127, 0, 0, 1];
+pub const CLIENT_ADDRESS: [u8; 4] = [127, 0, 0, 1];
 
 /// How the nodes of the four roles are made, by the numbers of a world.
 #[derive(Drop)]

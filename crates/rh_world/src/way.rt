@@ -3,6 +3,7 @@
 ghost use Rattle.std.specs.Prelude.{◌≡◌, ◌+◌, ◌-◌, ◌/◌, ◌<◌, ◌≤◌, ◌^◌, ◌++◌, [], ◌∷◌, IfOk, OnOk, OnErr};
 ghost use Rattle.std.specs.Prelude.{length, vec_len, take, drop, None, MatchOption};
 ghost use Rattle.std.specs.List.{concat};
+ghost use Rattle.rh_pdu.specs.declared.header.TheConstants.{HEADER_LEN};
 ghost use Rattle.rh_pdu.specs.Frames.{IsBad, IsFrame};
 ghost use Rattle.rh_line.specs.Queue.{untouched};
 ghost use Rattle.rh_pdu.specs.Cut.{frames_of, rest_of};
@@ -10,8 +11,9 @@ ghost use Rattle.rh_world.specs.Direct as seen;
 
 use crate::received::Received;
 use circular_buffer::HeapCircularBuffer;
-use rh_line::{Begun, GiveFault, SendLine, draw};
+use rh_line::{BegunPdu, GiveFault, SendLine, draw};
 use rh_nodes::ring::{make_room, take_front};
+use rh_pdu::header::HEADER_LEN;
 use rh_pdu::{Feed, Framer, check};
 use rh_record::TakeAnswer;
 use rh_text::Bytes;
@@ -21,14 +23,11 @@ use std::marker::Model;
 /// How many bytes in flight there is room for at first.
 const FIRST_FLIGHT: usize = 4096;
 
-/// The length of the shortest PDU, in bytes: that of its header.
-const LEAST_PDU: usize = 16;
-
 /// What one direction carries: PDUs queued, bytes begun, in flight and fed, PDUs not yet taken.
 #[derive(Drop)]
 pub(crate) struct Way {
     queue: SendLine,
-    begun: Begun,
+    begun: BegunPdu,
     drawn: Vec<u8>,
     flight: HeapCircularBuffer<u8>,
     framer: Framer,
@@ -59,7 +58,7 @@ impl Way {
     {
         Ok(Way {
             queue: SendLine::new(alloc)?,
-            begun: Begun::new(),
+            begun: BegunPdu::new(),
             drawn: Vec::new(alloc),
             flight: HeapCircularBuffer::with_capacity(alloc, FIRST_FLIGHT)?,
             framer: Framer::new(),
@@ -85,6 +84,7 @@ impl Way {
 
     /// Queues a PDU, and answers its length or why it is refused. Bytes that are no PDU are told
     /// first.
+    #[inline(always)]
     pub(crate) fn give(&mut self, pdu: &[u8]) -> Result<u16, GiveFault>
         requires { self.old.given + 1 < 2 ^ 32 }
         ensures { (self.new, result) ≡ seen.give self.old pdu.now }
@@ -103,6 +103,7 @@ impl Way {
     }
 
     /// Draws up to `count` bytes into flight, and answers how many.
+    #[inline(always)]
     pub(crate) fn send(&mut self, alloc: Global, count: u32) -> Result<u32, AllocError>
         ensures done { IfOk result (λ drawn. (self.new, drawn) ≡ seen.send self.old count) }
         ensures err { OnErr result (self.new ≡ self.old) }
@@ -116,18 +117,20 @@ impl Way {
     }
 
     /// Feeds the first `count` bytes in flight, or all where there are fewer, and answers them.
+    #[inline(always)]
     pub(crate) fn feed(&mut self, alloc: Global, count: u32) -> Result<Bytes, AllocError>
         ensures done { IfOk result (λ piece. (self.new, piece) ≡ seen.move self.old count) }
         ensures err { OnErr result (self.new ≡ self.old) }
     {
         let most = self.framer.held() + self.flight.len().min(count as usize);
-        self.untaken.reserve(alloc, most, most / LEAST_PDU)?;
+        self.untaken.reserve(alloc, most, most / HEADER_LEN)?;
         let piece = take_front(alloc, &mut self.flight, count as usize)?;
         deliver(&mut self.framer, piece.as_slice(), &mut self.untaken);
         Ok(piece)
     }
 
     /// Takes the first PDU that came whole, if there is one.
+    #[inline(always)]
     pub(crate) fn take(&mut self, alloc: Global) -> Result<TakeAnswer, AllocError>
         ensures done { IfOk result (λ answer. (self.new, answer) ≡ seen.take_pdu self.old) }
         ensures err { OnErr result (self.new ≡ self.old) }
@@ -143,7 +146,7 @@ impl Way {
 /// Draws as many bytes as the room has into flight, by way of that room.
 fn carry(
     queue: &mut SendLine,
-    begun: &mut Begun,
+    begun: &mut BegunPdu,
     room: &mut [u8],
     flight: &mut HeapCircularBuffer<u8>,
 )
@@ -171,6 +174,7 @@ fn widen(room: &mut Vec<u8>, count: usize) -> Result<(), AllocError>
 
 /// Feeds a piece up to the end of the first frame, which the framer then lends, and answers how
 /// many bytes of the piece that used; `None` where all of it was used and no frame is whole.
+#[inline(always)]
 fn next_frame(framer: &mut Framer, piece: &[u8]) -> Option<usize>
     requires going { framer.old.fault ≡ None }
     requires sound { IsBad (rest_of (framer.old.rest ++ piece.now)) → ⊥ }
@@ -190,11 +194,12 @@ fn next_frame(framer: &mut Framer, piece: &[u8]) -> Option<usize>
 }
 
 /// Feeds a piece to its end, and keeps the frames that it makes whole.
+#[inline(always)]
 fn deliver(framer: &mut Framer, piece: &[u8], untaken: &mut Received)
     requires going { framer.old.fault ≡ None }
     requires sound { IsBad (rest_of (framer.old.rest ++ piece.now)) → ⊥ }
     requires room { length (framer.old.rest ++ piece.now) ≤ untaken.old.room }
-    requires places { length (framer.old.rest ++ piece.now) / LEAST_PDU ≤ untaken.old.places }
+    requires places { length (framer.old.rest ++ piece.now) / HEADER_LEN ≤ untaken.old.places }
     ensures going { framer.new.fault ≡ None }
     ensures rest { framer.new.rest ≡ rest_of (framer.old.rest ++ piece.now) }
     ensures frames { untaken.new.pdus

@@ -1,7 +1,7 @@
 //! Bytes drawn into rooms. Each room holds 0x77 before.
 
 use super::{FIRST, SECOND, queue_of_two};
-use rh_line::{Begun, SendLine, draw};
+use rh_line::{BegunPdu, SendLine, draw};
 use std::test::Fail;
 
 /// Four bytes of a room into which nothing was drawn.
@@ -9,7 +9,7 @@ const UNTOUCHED: [u8; 4] = [0x77; 4];
 
 #[test]
 fn a_pdu_that_does_not_fit_goes_on_in_the_next_room(rt: HostRuntime) -> Result<(), Fail> {
-    let (mut queue, mut begun) = (queue_of_two(&rt, rt.alloc())?, Begun::new());
+    let (mut queue, mut begun) = (queue_of_two(&rt, rt.alloc())?, BegunPdu::new());
     let mut room = [0x77; 10];
     assert_eq!(rt; draw(&mut queue, &mut begun, &mut room), 10);
     assert!(rt; &room[..] == &FIRST[..10]);
@@ -26,7 +26,7 @@ fn a_pdu_that_does_not_fit_goes_on_in_the_next_room(rt: HostRuntime) -> Result<(
 
 #[test]
 fn a_pdu_that_ends_with_the_room_leaves_the_next_one_queued(rt: HostRuntime) -> Result<(), Fail> {
-    let (mut queue, mut begun) = (queue_of_two(&rt, rt.alloc())?, Begun::new());
+    let (mut queue, mut begun) = (queue_of_two(&rt, rt.alloc())?, BegunPdu::new());
     let mut room = [0x77; 16];
     assert_eq!(rt; draw(&mut queue, &mut begun, &mut room), 16);
     assert!(rt; &room[..] == &FIRST[..]);
@@ -38,7 +38,7 @@ fn a_pdu_that_ends_with_the_room_leaves_the_next_one_queued(rt: HostRuntime) -> 
 
 #[test]
 fn a_room_takes_all_pdus_that_fit(rt: HostRuntime) -> Result<(), Fail> {
-    let (mut queue, mut begun) = (queue_of_two(&rt, rt.alloc())?, Begun::new());
+    let (mut queue, mut begun) = (queue_of_two(&rt, rt.alloc())?, BegunPdu::new());
     let mut room = [0x77; 40];
     assert_eq!(rt; draw(&mut queue, &mut begun, &mut room), 36);
     assert!(rt; &room[..16] == &FIRST[..]);
@@ -51,7 +51,7 @@ fn a_room_takes_all_pdus_that_fit(rt: HostRuntime) -> Result<(), Fail> {
 
 #[test]
 fn an_empty_queue_leaves_the_room(rt: HostRuntime) -> Result<(), Fail> {
-    let (mut queue, mut begun) = (SendLine::new(rt.alloc())?, Begun::new());
+    let (mut queue, mut begun) = (SendLine::new(rt.alloc())?, BegunPdu::new());
     let mut room = [0x77; 4];
     assert_eq!(rt; draw(&mut queue, &mut begun, &mut room), 0);
     assert!(rt; &room[..] == &UNTOUCHED[..]);
@@ -61,7 +61,7 @@ fn an_empty_queue_leaves_the_room(rt: HostRuntime) -> Result<(), Fail> {
 
 #[test]
 fn a_room_of_no_byte_begins_nothing(rt: HostRuntime) -> Result<(), Fail> {
-    let (mut queue, mut begun) = (queue_of_two(&rt, rt.alloc())?, Begun::new());
+    let (mut queue, mut begun) = (queue_of_two(&rt, rt.alloc())?, BegunPdu::new());
     let mut room = [0; 0];
     assert_eq!(rt; draw(&mut queue, &mut begun, &mut room), 0);
     assert_eq!(rt; begun.len(), 0);

@@ -7,16 +7,12 @@ use super::{
 use rh_line::{Cause, GiveFault, Leg, Take, Verdict};
 use rh_pdu::HeadFault;
 use rh_rts::{RtsFault, RtsKind};
+use rh_vectors::packets::CONN_A3;
 use std::alloc::{AllocError, Global};
 use std::process::Abort;
 use std::test::Fail;
 
-/// CONN/A3 with the timeout 120,000 (MS-RPCH 2.2.4).
-const CONN_A3: [u8; 28] = [
-    5, 0, 20, 3, 0x10, 0, 0, 0, 28, 0, 0, 0, 0, 0, 0, 0, 0, 0, 1, 0, 2, 0, 0, 0, 0xc0, 0xd4, 1, 0,
-];
-
-/// The same with a bit that is no flag.
+/// CONN/A3 with a bit that is no flag.
 const BAD_FLAGS: [u8; 28] = [
     5, 0, 20, 3, 0x10, 0, 0, 0, 28, 0, 0, 0, 0, 0, 0, 0, 0x80, 0, 1, 0, 2, 0, 0, 0, 0xc0, 0xd4, 1,
     0,

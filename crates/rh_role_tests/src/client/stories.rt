@@ -5,13 +5,13 @@ use super::{
     feed, feed_packet, feed_pdu, give, give_bytes, is_finished, length, made, opened, pass, pull,
     raise, recycle, take, wants,
 };
-use rh_client::lengths::{
-    ACK_TO_LEN, CONN_B1_LEN, END_A1_LEN, IN_R1_A1_LEN, IN_R1_A5_LEN, OUT_R1_A7_LEN, PING_LEN,
-};
 use rh_line::{GiveFault, RecycleFault, Take, Verdict};
 use rh_pdu::PduFault;
 use rh_shell::{EndRole, Phase, RecycleRefused};
 use rh_sig::Named;
+use rh_sig::lengths::{
+    ACK_TO_LEN, CONN_B1_LEN, END_A1_LEN, IN_R1_A1_LEN, IN_R1_A5_LEN, OUT_R1_A7_LEN, PING_LEN,
+};
 use std::alloc::AllocError;
 use std::process::Abort;
 use std::test::Fail;

@@ -8,6 +8,7 @@ use rh_http::{HttpFault, write_echo};
 use rh_inproxy::InProxy;
 use rh_line::{Cause, Leg, Verdict};
 use rh_sig::Named;
+use rh_vectors::packets::ECHO;
 use std::alloc::{AllocError, Global};
 use std::test::Fail;
 
@@ -102,10 +103,6 @@ fn is_echo(bytes: &[u8; 95]) -> bool {
     let (front, packet) = bytes.split_at(75);
     matches!(written, Ok(75)) && front == head.as_slice() && packet == ECHO.as_slice()
 }
-
-const ECHO: [u8; 20] = [
-    5, 0, 20, 3, 16, 0, 0, 0, 20, 0, 0, 0, 0, 0, 0, 0, 64, 0, 0, 0,
-];
 
 #[test]
 fn the_answer_to_an_echo_request_has_the_head_of_success(rt: HostRuntime) -> Result<(), Fail> {

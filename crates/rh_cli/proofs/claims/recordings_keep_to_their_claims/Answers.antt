@@ -22,6 +22,10 @@ returns c = λ lines. record {
     silent = c.a_node_of_a_recording_falls_silent.ensures before line;
   };
   ways = λ before behind is. c.every_recording_keeps_what_is_on_its_way.ensures before;
+  exact = λ before behind is. record {
+    in_time = c.recordings_lose_nothing.ensures.losses before;
+    unbroken = c.recordings_lose_nothing.ensures.none before;
+  };
   refusals = λ before behind line is. record {
     out_channel = c.a_refused_client_of_a_recording_lost_its_server.ensures.out_channel before line;
     in_channel = c.a_refused_client_of_a_recording_lost_its_server.ensures.in_channel before line;

@@ -24,7 +24,8 @@ returns g c m w v new ours others by =
     events =
     subst (λ (s : Shell ClientRole). AreAcceptedAtEnd client.rules client.acts s events)
     ours.client
-    (c.a_recording_of_roles_is_known.ensures.changes m w v new ours by.works.leads).traced.accepted.client in
+    (c.a_recording_of_roles_is_known.ensures.changes m w v new ours
+    by.works.leads).traced.accepted.client in
     let law : ClientLaws ours.config = record {
       comes = c.a_clients_leg_comes_up_once.ensures.comes ours.config;
       numbers = c.a_clients_leg_comes_up_once.ensures.numbers ours.config;

@@ -5,7 +5,10 @@ use Rattle.rh_ends_in_time.proofs.settling.settling_ends_legs_in_time.Goals as g
 
 pub returns : goal.returns
 returns g c = record {
-  round = λ r m d w. ends_in_time r m d w (round r m d w).0 (round_in_time r m d w);
-  settle = λ r m d rounds w.
-      ends_in_time r m d w (settle r m d rounds w).0 (settle_in_time r m d rounds w);
+  round = λ r m d w both.
+      ends_in_time r m d w (round r m d w).0 (round_in_time r m d w both).1;
+  settle = λ r m d rounds w both.
+      ends_in_time r m d w (settle r m d rounds w).0 (settle_in_time r m d rounds w both).1;
+  both = λ r m d w both. (round_in_time r m d w both).0;
+  both_settled = λ r m d rounds w both. (settle_in_time r m d rounds w both).0;
 }

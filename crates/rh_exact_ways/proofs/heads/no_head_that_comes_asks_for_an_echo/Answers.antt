@@ -1,82 +1,26 @@
-use Rattle.std.proofs.Common.{◌≡◌, ℕ, false, true≢false, sym, ap, ◌∙◌, subst}
-use mathlib.Core.List.{IsPrefix}
-use Rattle.rh_text.specs.declared.ends.Dir.TheVariants.{U}
-use Rattle.rh_line.specs.declared.leg.Leg.{Leg}
-use Rattle.rh_line.specs.declared.leg.LegKind.TheVariants.{InServer}
-use Rattle.rh_record.specs.declared.answer.Who.TheVariants as who
-use Rattle.rh_shell.specs.Shells.{Shell, same_leg}
-use Rattle.rh_nodes.specs.Opening.{Makers}
-use Rattle.rh_nodes.specs.Readers.{reader_of}
-use Rattle.rh_nodes.specs.World.{World}
-use Rattle.rh_client.specs.declared.state.ClientRole.{ClientRole}
-use Rattle.rh_client.specs.Client as client
-use Rattle.rh_inproxy.specs.State.{InProxy}
-use Rattle.rh_outproxy.specs.OutProxy.{OutProxy}
-use Rattle.rh_server.specs.States.{Server}
-use Rattle.rh_history.specs.Carried.{end_drawn_on, heard_on}
-use Rattle.rh_history.specs.Histories.{IsNew}
-use Rattle.rh_history.proofs.Wired.{same_itself}
-use Rattle.rh_proxies_begin.specs.Pipes.{co, is}
-use Rattle.rh_traced.specs.Cookies.{ByChanges}
-use Rattle.rh_traced.specs.Ours.{AreOurs, deeds, rules}
+use Rattle.std.proofs.Common.{true, false}
+use Rattle.rh_inproxy.specs.Machine as in_proxy
+use Rattle.rh_inproxy.specs.State as in_state
+use Rattle.rh_outproxy.specs.Machine as out_proxy
+use Rattle.rh_outproxy.specs.OutProxy.{new_proxy}
+use Rattle.rh_history.specs.Carried.{heard_on}
+use Rattle.rh_proxies_begin.specs.Pipes.{in_pipe, out_pipe}
 use Rattle.rh_traced.specs.Recordings.{history_at}
-use Rattle.rh_exact_ways.proofs.WorldHeads.{RequestLaws, apart_in, in_heads, out_heads}
+use Rattle.rh_exact_ways.proofs.HeadTexts.{no_echoes}
 use Rattle.rh_exact_ways.proofs.heads.no_head_that_comes_asks_for_an_echo.Goals as goal
 
 pub returns : goal.returns
 returns g c = record {
   ins = λ m w new ours ranges port v by n stream.
-      let d = c.directions_are_joined.ensures m w new ours ranges v by in
-      let k = (ours.in_config n).number in
-      in_heads laws ours.config port (history_at m w v by.leads).client d.up.giver ranges.client
-      (ours.in_config n) (c.proxies_keep_their_pipes.ensures.in_proxy (ours.in_config n))
-      ((history_at m w v by.leads).ins n) (d.up.near n)
-      (λ leg a b.
-      (c.a_leg_is_read_at_its_ends.ensures rules m deeds w.company v
-      (history_at m w v by.leads)
-      (c.a_recording_of_roles_is_known.ensures.changes m w v new ours by.leads).traced
-      (who.In n) leg
-      (λ end.
-      apart_in (reader_of v.readers leg.number) leg.number n leg.kind end a
-      (λ e same. apart leg n (ours.in_config n).number (ours.in_number n) e same (b e)))).1)
-      stream;
+      no_echoes in_proxy.rules (in_state.first (ours.in_config n)) (in_pipe (ours.in_config n))
+      (c.proxies_keep_their_pipes.ensures.in_proxy (ours.in_config n)) true
+      (λ leg. heard_on leg ((history_at m w v by.leads).ins n))
+      (c.no_bytes_that_come_ask_for_an_echo.ensures.ins m w new ours ranges port v by n)
+      stream.leads.moves stream.leads.allowed stream.in_turn stream.heads;
   outs = λ m w new ours ranges port v by n stream.
-      let d = c.directions_are_joined.ensures m w new ours ranges v by in
-      out_heads laws ours.config port (history_at m w v by.leads).client d.up.giver
-      (ours.out_config n) (c.proxies_keep_their_pipes.ensures.out_proxy (ours.out_config n))
-      ((history_at m w v by.leads).outs n) (near m w new ours v by n) stream;
+      no_echoes out_proxy.rules (new_proxy (ours.out_config n)) (out_pipe (ours.out_config n))
+      (c.proxies_keep_their_pipes.ensures.out_proxy (ours.out_config n)) false
+      (λ leg. heard_on leg ((history_at m w v by.leads).outs n))
+      (c.no_bytes_that_come_ask_for_an_echo.ensures.outs m w new ours ranges port v by n)
+      stream.leads.moves stream.leads.allowed stream.in_turn stream.heads;
 }
-  where
-    laws : RequestLaws
-    laws = record {
-      begins = c.a_client_begins_with_a_request.ensures;
-      asks = c.a_client_asks_by_its_requests.ensures;
-      in_whole = c.texts_are_whole.ensures.in_request;
-      out_whole = c.texts_are_whole.ensures.out_request;
-    }
-
-    -- the leg of another in proxy
-    apart : (leg : Leg) (n k : ℕ) → k ≡ n → leg.kind ≡ InServer → leg.number ≡ n
-        → same_leg (is k) leg ≡ false → ⊥
-    apart leg n k same kind number other =
-        true≢false (sym (same_itself (is k))
-        ∙ ap (same_leg (is k)) (ap is (same ∙ sym number)
-        ∙ ap (λ x. record leg { kind = x }) (sym kind)) ∙ other)
-
-    near : (m : Makers g.row.K.Denot InProxy OutProxy)
-        (w : World g.row.K.Denot ClientRole Server InProxy OutProxy) → IsNew w
-        → (ours : AreOurs m w.company w.cast)
-        → (v : World g.row.K.Denot ClientRole Server InProxy OutProxy)
-        (by : ByChanges rules m deeds w v) (n : ℕ)
-        → IsPrefix (heard_on (co (ours.out_config n).number) ((history_at m w v by.leads).outs n))
-        (end_drawn_on client.rules client.acts (client.first_client ours.config)
-        (co (ours.out_config n).number) (history_at m w v by.leads).client)
-    near m w new ours v by n =
-        let h = history_at m w v by.leads in
-        subst (λ (k : ℕ). IsPrefix (heard_on (co k) (h.outs n))
-        (end_drawn_on client.rules client.acts (client.first_client ours.config) (co k) h.client))
-        (sym (ours.out_number n))
-        (subst (λ (s : Shell ClientRole). IsPrefix (heard_on (co n) (h.outs n))
-        (end_drawn_on client.rules client.acts s (co n) h.client)) ours.client
-        (c.what_is_heard_was_drawn.ensures rules m deeds w.company v h
-        (c.a_recording_of_roles_is_known.ensures.changes m w v new ours by.leads).traced (co n) U))

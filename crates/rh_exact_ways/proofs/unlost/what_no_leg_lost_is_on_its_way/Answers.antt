@@ -18,30 +18,28 @@ use Rattle.rh_traced.specs.Numbers.{is_made}
 use Rattle.rh_traced.specs.Ours.{AreOurs, deeds, rules}
 use Rattle.rh_traced.specs.Recordings.{history_at}
 use Rattle.rh_fifo.specs.Flows.{numbers_of}
+use Rattle.rh_fifo.specs.Premises.{AreInRange}
+use Rattle.rh_first_texts.specs.Ports.{IsPort}
 use Rattle.rh_exact_ways.proofs.ReadBy.{read_by}
-use Rattle.rh_exact_ways.proofs.NoLoss.{Accepted, NodeLaws, down_goes, up_goes}
+use Rattle.rh_exact_ways.proofs.NoLoss.{Accepted, AreRead, NoEchoes, NodeLaws, down_goes, up_goes}
 use Rattle.rh_exact_ways.proofs.unlost.what_no_leg_lost_is_on_its_way.Goals as goal
 
 pub returns : goal.returns
 returns g c = record {
-  down = λ m w new ours ranges port v by ways none served.
-      let h = history_at m w v by.leads in
-      let numbers = numbers_of ours in
-      c.legs_that_go_on_lose_nothing.ensures.down numbers v h ways
-      (down_goes laws numbers v h ways (accepted m w new ours v by) (record {
-        ins = c.no_head_that_comes_asks_for_an_echo.ensures.ins m w new ours ranges port v by;
-        outs = c.no_head_that_comes_asks_for_an_echo.ensures.outs m w new ours ranges port v by;
-      }) none served);
-  up = λ m w new ours ranges port v by ways none served.
-      let h = history_at m w v by.leads in
-      let numbers = numbers_of ours in
-      c.legs_that_go_on_lose_nothing.ensures.up numbers v h ways
-      (up_goes laws numbers v h ways (accepted m w new ours v by) (record {
-        ins = c.no_head_that_comes_asks_for_an_echo.ensures.ins m w new ours ranges port v by;
-        outs = c.no_head_that_comes_asks_for_an_echo.ensures.outs m w new ours ranges port v by;
-      }) none
+  down = λ m w new ours ranges port v by ways none.
+      c.legs_that_go_on_lose_nothing.ensures.down (numbers_of ours) v (history_at m w v by.leads)
+      ways
+      (down_goes laws (numbers_of ours) v (history_at m w v by.leads) ways
+      (accepted m w new ours v by) (echoes m w new ours ranges port v by)
+      (are_read m w new ours ranges port v by) none);
+  up = λ m w new ours ranges port v by ways none.
+      c.legs_that_go_on_lose_nothing.ensures.up (numbers_of ours) v (history_at m w v by.leads)
+      ways
+      (up_goes laws (numbers_of ours) v (history_at m w v by.leads) ways
+      (accepted m w new ours v by) (echoes m w new ours ranges port v by)
+      (are_read m w new ours ranges port v by) none
       (read_by v.readers (is_made v.company)
-      (c.a_recording_of_roles_is_known.ensures.changes m w v new ours by.leads).read) served);
+      (c.a_recording_of_roles_is_known.ensures.changes m w v new ours by.leads).read));
 }
   where
     laws : NodeLaws
@@ -85,3 +83,29 @@ returns g c = record {
               subst (λ (s : Shell OutProxy). AreAccepted out_proxy.rules s (h.outs n))
               (ap (λ (k : g.row.K.Denot). m.out_proxy k n) same ∙ ours.outs n) (all.outs n);
         }
+
+    echoes : (m : Makers g.row.K.Denot InProxy OutProxy)
+        (w : World g.row.K.Denot ClientRole Server InProxy OutProxy) → IsNew w
+        → (ours : AreOurs m w.company w.cast) → AreInRange (numbers_of ours)
+        → IsPort ours.config.port
+        → (v : World g.row.K.Denot ClientRole Server InProxy OutProxy)
+        (by : ByChanges rules m deeds w v)
+        → NoEchoes (numbers_of ours) (history_at m w v by.leads)
+    echoes m w new ours ranges port v by = record {
+      ins = c.no_head_that_comes_asks_for_an_echo.ensures.ins m w new ours ranges port v by;
+      outs = c.no_head_that_comes_asks_for_an_echo.ensures.outs m w new ours ranges port v by;
+    }
+
+    are_read : (m : Makers g.row.K.Denot InProxy OutProxy)
+        (w : World g.row.K.Denot ClientRole Server InProxy OutProxy) → IsNew w
+        → (ours : AreOurs m w.company w.cast) → AreInRange (numbers_of ours)
+        → IsPort ours.config.port
+        → (v : World g.row.K.Denot ClientRole Server InProxy OutProxy)
+        (by : ByChanges rules m deeds w v)
+        → AreRead (numbers_of ours) (history_at m w v by.leads)
+    are_read m w new ours ranges port v by = record {
+      client = c.what_comes_is_read.ensures.client m w new ours v by;
+      server = c.what_comes_is_read.ensures.server m w new ours v by;
+      ins = c.what_comes_is_read.ensures.ins m w new ours ranges port v by;
+      outs = c.what_comes_is_read.ensures.outs m w new ours ranges port v by;
+    }

@@ -1,5 +1,5 @@
 use Rattle.std.proofs.Common.{inr, ap, ◌∙◌, arith}
-use Rattle.rh_sig.specs.declared.ranges.TheConstants.{LEAST_LIFETIME}
+use Rattle.rh_keep.specs.declared.range.TheConstants.{LEAST_LIFETIME}
 use Rattle.rh_forwarding.specs.Passing.{lets_acks_on}
 use Rattle.rh_forwarding.proofs.Opened.{few_open}
 use Rattle.rh_forwarding.proofs.Stretches.{few_between}

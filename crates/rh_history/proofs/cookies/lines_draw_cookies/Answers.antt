@@ -15,5 +15,6 @@ returns g c = record {
   none = draws_none;
   behind = draws_then;
   count = λ r m d kind w v by left.
-      drawn_rises w.cookies.next v.cookies.next (all_risen by.works.leads.changes) (by.drawn.numbers left);
+      drawn_rises w.cookies.next v.cookies.next (all_risen by.works.leads.changes)
+      (by.drawn.numbers left);
 }

@@ -24,4 +24,4 @@ returns g c = λ m w new ours ranges v by.
       elsewhere = c.an_in_proxy_begins.ensures.elsewhere;
     } in
     on_their_way read law begin c.a_recording_of_roles_is_known.ensures.changes m w new ours v by
-    (c.directions_are_joined.ensures m w new ours ranges v by)
+    (c.what_was_forgotten_was_drawn.ensures m w new ours ranges v by)

@@ -1,7 +1,7 @@
 use Rattle.rh_shell.specs.Shells.{end_at}
 use Rattle.rh_nodes.specs.Wires.{in_flight, receiver, sender}
 use Rattle.rh_history.specs.Carried.{wire_at}
-use Rattle.rh_paths.specs.Legs.{is_cut, was_up}
+use Rattle.rh_paths.specs.Legs.{is_cut, was_told, was_up}
 use Rattle.rh_paths.specs.OnWay.{left_on, read_on}
 use Rattle.rh_paths.proofs.Used.{closed_read, unread_way, used_leg}
 use Rattle.rh_paths.proofs.standing.what_stands_on_a_leg_is_read_in_its_bytes.Goals as goal
@@ -12,6 +12,7 @@ returns g c = record {
   closed = λ v h leg dir pipe puts rules takes closed.
       let take_up = was_up v h leg (receiver dir) in
       unread_way pipe (is_cut v h leg dir) (read_on rules takes pipe leg take_up)
-      (in_flight dir (wire_at v.legs leg)) (left_on puts leg (was_up v h leg (sender dir)))
+      (in_flight dir (wire_at v.legs leg))
+      (left_on puts leg (was_up v h leg (sender dir)) (was_told v h leg (sender dir)))
       (closed_read rules takes.role pipe take_up (end_at takes leg) takes.course closed);
 }

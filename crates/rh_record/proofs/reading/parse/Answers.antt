@@ -3,5 +3,4 @@ use Rattle.rh_record.proofs.reading.parse.Goals as goal
 
 pub returns-in_err-verb : goal.returns-in_err-verb
 returns-in_err-verb c =
-    rw c.from_residual-in_err-verb.ensures
-    (no_verb c.args.text.now _ _ c.in_ok-word.ensures c.in_err-verb.ensures)
+    rw c.from_residual.ensures (no_verb c.args.text.now c.in_err-verb.ensures)

@@ -4,7 +4,8 @@ use Rattle.rh_up.proofs.up.what_came_up_was_given.Goals as goal
 pub returns-clause-taken : goal.returns-clause-taken
 returns-clause-taken c = λ config window in_config client_events server_events ins made reader g.
     c.taken_is_a_front_of_given.ensures.taken
-    (up_route reader g.giver.passage (λ n. (g.proxies n).passage) g.taker.leads.moves g.taker.passage)
+    (up_route reader g.giver.passage (λ n. (g.proxies n).passage) g.taker.leads.moves
+    g.taker.passage)
     (c.what_goes_up_is_a_route.ensures config window in_config client_events server_events ins made
     reader g)
 

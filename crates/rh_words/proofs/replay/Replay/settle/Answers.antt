@@ -9,7 +9,8 @@ use Rattle.rh_world.specs.Any as seen
 use Rattle.rh_words.specs.Outputs.{out, Gathers, Stops}
 use Rattle.rh_words.proofs.Results.{at_error, of_err, map_ok, map_err}
 use Rattle.rh_words.proofs.Settling.{Settling, settling_first, settling_more, settling_stops, settling_sure}
-use Rattle.rh_words.proofs.Settling.{quiet_ends, spent_ends, ending_world, ending_given, ending_gathers, ending_stops, ending_sure}
+use Rattle.rh_words.proofs.Settling.{Ending, quiet_ends, spent_ends, ending_world, ending_given, ending_gathers, ending_stops, ending_sure}
+use Rattle.rh_words.proofs.replay.Replay.settle.Given.{Over}
 use Rattle.rh_words.proofs.replay.Replay.settle.Goals as goal
 
 pub rounds-init : goal.rounds-init
@@ -53,121 +54,101 @@ rounds-preserved g c =
       faults = grind (arith, nat_tests);
     }
 
-pub returns-then-branch-clause-world : goal.returns-then-branch-clause-world
-returns-then-branch-clause-world g c =
+-- behind the rounds, the last of which reported nothing
+quiet_end : (g : Over) (c : goal.After-end_line g)
+    → Ending c.args.self.now c.args.rounds c.round.new.self (Quiet c.rounds.count)
+    (string_bytes c.args.gathered.now) (string_bytes c.round.new.gathered)
+    (out g.W.Sink.written g.W.Sink.takes c.args.output.now)
+    (out g.W.Sink.written g.W.Sink.takes c.round.new.output)
+quiet_end g c =
     let below : c.rounds.count < c.args.rounds = omega (arith, c.rounds-test.true) in
     let none : (seen.round c.rounds.self).1 ≡ [] =
     nil_from_length (seen.round c.rounds.self).1 (grind (arith, nat_tests)) in
     let round = c.in_ok-round.ensures in
-    let ending = quiet_ends c.rounds.invariant.settles below none round.world
-    c.rounds.invariant.settling round.ok in
+    quiet_ends c.rounds.invariant.settles below none round.world c.rounds.invariant.settling
+    round.ok
+
+pub returns-then-branch-clause-world : goal.returns-then-branch-clause-world
+returns-then-branch-clause-world g c =
     map_ok c.end_line.result
     (λ (moved : c.end_line.new.self ≡ (seen.end_line c.round.new.self).0).
-    ending_world ending moved) c.end_line.ensures.world
+    ending_world (quiet_end g c) moved) c.end_line.ensures.world
 
 pub returns-then-branch-clause-given : goal.returns-then-branch-clause-given
 returns-then-branch-clause-given g c =
-    let below : c.rounds.count < c.args.rounds = omega (arith, c.rounds-test.true) in
-    let none : (seen.round c.rounds.self).1 ≡ [] =
-    nil_from_length (seen.round c.rounds.self).1 (grind (arith, nat_tests)) in
-    let round = c.in_ok-round.ensures in
-    let ending = quiet_ends c.rounds.invariant.settles below none round.world
-    c.rounds.invariant.settling round.ok in
     map_ok c.end_line.result
     (λ (moved : c.end_line.new.self ≡ (seen.end_line c.round.new.self).0).
-    ending_given ending moved) c.end_line.ensures.world
+    ending_given (quiet_end g c) moved) c.end_line.ensures.world
 
 pub returns-then-branch-clause-ok : goal.returns-then-branch-clause-ok
 returns-then-branch-clause-ok g c =
-    let below : c.rounds.count < c.args.rounds = omega (arith, c.rounds-test.true) in
-    let none : (seen.round c.rounds.self).1 ≡ [] =
-    nil_from_length (seen.round c.rounds.self).1 (grind (arith, nat_tests)) in
-    let round = c.in_ok-round.ensures in
-    let ending = quiet_ends c.rounds.invariant.settles below none round.world
-    c.rounds.invariant.settling round.ok in
     map_ok c.end_line.result
     (λ (wrote : Gathers (string_bytes c.round.new.gathered
     ++ report_text (Quiet c.rounds.count ∷ (seen.end_line c.round.new.self).1))
     (string_bytes c.end_line.new.gathered)
     (out g.W.Sink.written g.W.Sink.takes c.round.new.output)
     (out g.W.Sink.written g.W.Sink.takes c.end_line.new.output)).
-    ending_gathers ending wrote)
+    ending_gathers (quiet_end g c) wrote)
     c.end_line.ensures.ok
 
 pub returns-then-branch-clause-err : goal.returns-then-branch-clause-err
 returns-then-branch-clause-err g c =
-    let below : c.rounds.count < c.args.rounds = omega (arith, c.rounds-test.true) in
-    let none : (seen.round c.rounds.self).1 ≡ [] =
-    nil_from_length (seen.round c.rounds.self).1 (grind (arith, nat_tests)) in
-    let round = c.in_ok-round.ensures in
-    let ending = quiet_ends c.rounds.invariant.settles below none round.world
-    c.rounds.invariant.settling round.ok in
     map_err c.end_line.result
     (λ (wrote : Stops (string_bytes c.round.new.gathered
     ++ report_text (Quiet c.rounds.count ∷ (seen.end_line c.round.new.self).1))
     (g.W.Sink.written c.round.new.output)
     (g.W.Sink.written c.end_line.new.output)).
-    ending_stops ending wrote)
+    ending_stops (quiet_end g c) wrote)
     c.end_line.ensures.err
 
 pub returns-then-branch-clause-takes : goal.returns-then-branch-clause-takes
 returns-then-branch-clause-takes g c =
-    let below : c.rounds.count < c.args.rounds = omega (arith, c.rounds-test.true) in
-    let none : (seen.round c.rounds.self).1 ≡ [] =
-    nil_from_length (seen.round c.rounds.self).1 (grind (arith, nat_tests)) in
-    let round = c.in_ok-round.ensures in
-    let ending = quiet_ends c.rounds.invariant.settles below none round.world
-    c.rounds.invariant.settling round.ok in
-    λ fits. c.end_line.ensures.takes (ending_sure ending fits)
+    λ fits. c.end_line.ensures.takes (ending_sure (quiet_end g c) fits)
+
+-- behind all the rounds
+spent_end : (g : Over) (c : goal.After-end_line-2 g)
+    → Ending c.args.self.now c.args.rounds c.rounds.self (Spent c.args.rounds)
+    (string_bytes c.args.gathered.now) (string_bytes c.rounds.gathered)
+    (out g.W.Sink.written g.W.Sink.takes c.args.output.now)
+    (out g.W.Sink.written g.W.Sink.takes c.rounds.output)
+spent_end g c =
+    let all : c.rounds.count ≡ c.args.rounds =
+    omega (arith, c.rounds-test.false, c.rounds.auto.count-end) in
+    spent_ends c.rounds.invariant.settles all c.rounds.invariant.settling
 
 pub returns-clause-world : goal.returns-clause-world
 returns-clause-world g c =
-    let all : c.rounds.count ≡ c.args.rounds =
-    omega (arith, c.rounds-test.false, c.rounds.auto.count-end) in
-    let ending = spent_ends c.rounds.invariant.settles all c.rounds.invariant.settling in
     map_ok c.end_line-2.result
-    (λ (moved : c.end_line-2.new.self ≡ (seen.end_line c.rounds.self).0). ending_world ending moved)
-    c.end_line-2.ensures.world
+    (λ (moved : c.end_line-2.new.self ≡ (seen.end_line c.rounds.self).0).
+    ending_world (spent_end g c) moved) c.end_line-2.ensures.world
 
 pub returns-clause-given : goal.returns-clause-given
 returns-clause-given g c =
-    let all : c.rounds.count ≡ c.args.rounds =
-    omega (arith, c.rounds-test.false, c.rounds.auto.count-end) in
-    let ending = spent_ends c.rounds.invariant.settles all c.rounds.invariant.settling in
     map_ok c.end_line-2.result
-    (λ (moved : c.end_line-2.new.self ≡ (seen.end_line c.rounds.self).0). ending_given ending moved)
-    c.end_line-2.ensures.world
+    (λ (moved : c.end_line-2.new.self ≡ (seen.end_line c.rounds.self).0).
+    ending_given (spent_end g c) moved) c.end_line-2.ensures.world
 
 pub returns-clause-ok : goal.returns-clause-ok
 returns-clause-ok g c =
-    let all : c.rounds.count ≡ c.args.rounds =
-    omega (arith, c.rounds-test.false, c.rounds.auto.count-end) in
-    let ending = spent_ends c.rounds.invariant.settles all c.rounds.invariant.settling in
     map_ok c.end_line-2.result
     (λ (wrote : Gathers (string_bytes c.rounds.gathered
     ++ report_text (Spent c.args.rounds ∷ (seen.end_line c.rounds.self).1))
     (string_bytes c.end_line-2.new.gathered)
     (out g.W.Sink.written g.W.Sink.takes c.rounds.output)
     (out g.W.Sink.written g.W.Sink.takes c.end_line-2.new.output)).
-    ending_gathers ending wrote)
+    ending_gathers (spent_end g c) wrote)
     c.end_line-2.ensures.ok
 
 pub returns-clause-err : goal.returns-clause-err
 returns-clause-err g c =
-    let all : c.rounds.count ≡ c.args.rounds =
-    omega (arith, c.rounds-test.false, c.rounds.auto.count-end) in
-    let ending = spent_ends c.rounds.invariant.settles all c.rounds.invariant.settling in
     map_err c.end_line-2.result
     (λ (wrote : Stops (string_bytes c.rounds.gathered
     ++ report_text (Spent c.args.rounds ∷ (seen.end_line c.rounds.self).1))
     (g.W.Sink.written c.rounds.output)
     (g.W.Sink.written c.end_line-2.new.output)).
-    ending_stops ending wrote)
+    ending_stops (spent_end g c) wrote)
     c.end_line-2.ensures.err
 
 pub returns-clause-takes : goal.returns-clause-takes
 returns-clause-takes g c =
-    let all : c.rounds.count ≡ c.args.rounds =
-    omega (arith, c.rounds-test.false, c.rounds.auto.count-end) in
-    let ending = spent_ends c.rounds.invariant.settles all c.rounds.invariant.settling in
-    λ fits. c.end_line-2.ensures.takes (ending_sure ending fits)
+    λ fits. c.end_line-2.ensures.takes (ending_sure (spent_end g c) fits)

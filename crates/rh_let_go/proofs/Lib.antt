@@ -1,0 +1,6 @@
+mod Lists
+mod Standing
+mod Counts
+mod CameUp
+mod Counting
+mod NoneUp

@@ -1,0 +1,6 @@
+mod LiveBytes
+mod LiveEnds
+mod LiveNodes
+mod TakenHeads
+mod UpOnce
+mod FirstTexts

@@ -1,0 +1,5 @@
+mod ClientMarks
+mod ServerMarksRows
+mod ServerMarksLegs
+mod ServerMarksEnds
+mod ServerMarks
