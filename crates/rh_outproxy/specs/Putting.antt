@@ -15,7 +15,7 @@ use Rattle.rh_line.specs.Lines.{is_empty, after_take, after_told}
 use Rattle.rh_shell.specs.declared.due.Due.{Due}
 use Rattle.rh_shell.specs.Rules.{Message, Text, Pdu, Packet}
 use Rattle.rh_shell.specs.Waiting.{with_due}
-use Rattle.rh_outproxy.specs.declared.putting.TheConstants.{PING_LEN}
+use Rattle.rh_sig.specs.declared.lengths.TheConstants.{PING_LEN}
 use Rattle.rh_outproxy.specs.declared.state.Answer.{Answer}
 use Rattle.rh_outproxy.specs.declared.state.Answer.TheVariants as answers
 use Rattle.rh_outproxy.specs.declared.state.Channel.{Channel}

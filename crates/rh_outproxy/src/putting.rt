@@ -12,10 +12,9 @@ use rh_http::lengths::PING_ROOM;
 use rh_http::{write_echo, write_out_response};
 use rh_line::{Leg, Which};
 use rh_shell::{Begun, Due, Gate};
+use rh_sig::lengths::PING_LEN;
 use rh_sig::Named;
 
-/// The bytes of a Ping.
-pub const PING_LEN: u32 = 20;
 /// The most bytes of a response, with the Echo packet behind it.
 pub const RESPONSE_ROOM: usize = 128;
 
@@ -189,11 +188,11 @@ impl OutProxyRole {
         ensures put { (self.new, begun.new) ≡ put_into self.old (seen.put_ping self.old) }
         ensures told { result ≡ is_some (seen.put_ping self.old) }
     {
-        if self.ping != Ping::Due || self.pinged + PING_LEN > PING_ROOM {
+        if self.ping != Ping::Due || self.pinged + u32::from(PING_LEN) > PING_ROOM {
             return false;
         }
         self.ping = Ping::NotDue;
-        self.pinged += PING_LEN;
+        self.pinged += u32::from(PING_LEN);
         begun.begin_packet(&Named::Ping);
         true
     }
