@@ -153,7 +153,7 @@ module _ {S : Type 0} (rules : Rules S) (why : Cause) where
   leave_stays Absent h = absurd h
   leave_stays (Here node legs) h = by (nat_lt 1 legs || is_working rules node)
     where
-      by : (t : Bool) → ClosedPlace why (if t then Here node (legs - 1) else Gone node.now)
+      by : (t : Bool) → ClosedPlace why (if t then Here node (places.one_fewer legs) else Gone node.now)
       by true = h
       by false = tt
   leave_stays (Gone now) h = tt

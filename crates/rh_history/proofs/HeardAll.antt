@@ -87,7 +87,7 @@ module _ {S : Type 0} (rules : Rules S) (leg : Leg) where
   hear_left Absent heard fed h = h
   hear_left (Here node legs) heard fed h = by (nat_lt 1 legs || is_working rules node)
     where
-      by : (t : Bool) → IsHeard (if t then Here node (legs - 1) else Gone node.now) heard fed
+      by : (t : Bool) → IsHeard (if t then Here node (places.one_fewer legs) else Gone node.now) heard fed
       by true = h
       by false = prefix_of_same heard fed h
   hear_left (Gone now) heard fed h = h

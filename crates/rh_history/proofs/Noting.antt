@@ -61,7 +61,7 @@ module _ {S : Type 0} (rules : Rules S) where
 
       by : (a b : Bool) → is_working rules node ≡ b
           → IsRun rules made (events ++ [])
-          (if a || b then Here node (legs - 1) else Gone node.now)
+          (if a || b then Here node (places.one_fewer legs) else Gone node.now)
       by true b e = run
       by false true e = run
       by false false e = record {

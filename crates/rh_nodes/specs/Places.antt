@@ -1,6 +1,6 @@
 -- the place of a proxy: it is made when its client's leg comes up, and let go when it is of no more
 -- use (profile)
-use Rattle.std.specs.Prelude.{ℕ, ◌+◌, ◌-◌, List, [], Bool, true, false, min, nat_lt, ◌||◌, if◌then◌else◌, Some, None}
+use Rattle.std.specs.Prelude.{ℕ, ◌+◌, ◌-◌, ◌==◌, List, [], Bool, true, false, min, nat_lt, ◌||◌, if◌then◌else◌, Some, None}
 use Rattle.std.specs.declared.option.Option.{Option}
 use Rattle.rh_rts.specs.declared.command.Cookie.{Cookie}
 use Rattle.rh_line.specs.declared.cause.Cause.{Cause}
@@ -76,9 +76,13 @@ draw rules leg room Absent = (Absent, [])
 draw rules leg room (Here node legs) = drawn_here legs (shell.drawn rules node leg room)
 draw rules leg room (Gone now) = (Gone now, [])
 
+-- one leg fewer; a count that stood still does not tell any more how many there are, and stays
+abbrev pub one_fewer : ℕ → ℕ
+one_fewer legs = if legs == 4294967295 then legs else legs - 1
+
 -- a leg is not up any more: the proxy goes with the last one, where it ended or closed
 abbrev pub leave : {S : Type 0} → Rules S → Place S → Place S
 leave rules Absent = Absent
 leave rules (Here node legs) =
-    if nat_lt 1 legs || is_working rules node then Here node (legs - 1) else Gone node.now
+    if nat_lt 1 legs || is_working rules node then Here node (one_fewer legs) else Gone node.now
 leave rules (Gone now) = Gone now

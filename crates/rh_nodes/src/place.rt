@@ -16,11 +16,23 @@ use rh_shell::{Role, Shell};
 pub enum Place<R> {
     /// None was made.
     Absent,
-    /// A proxy, and how many of its legs are up for it.
+    /// A proxy, and how many of its legs are up for it: at the end of the type, that many or more.
     Here { node: Shell<R>, legs: u32 },
     /// The proxy ended or closed, and none of its legs is up any more: nothing that it could be
     /// told would change it. This was its last moment, in milliseconds.
     Gone { now: u64 },
+}
+
+/// How many legs are up when one of so many is not any more. A count that stood still at the end of
+/// its type says no more how many there are, so it stays.
+fn one_fewer(legs: u32) -> u32
+    ensures { result ≡ seen.one_fewer legs }
+{
+    if legs == u32::MAX {
+        legs
+    } else {
+        legs.saturating_sub(1)
+    }
 }
 
 /// Whether a node neither ended nor closed.
@@ -140,13 +152,13 @@ impl<R: Role> Place<R> {
     }
 
     /// A leg is not up for the proxy any more. It is let go where that was the last one, and the
-    /// proxy ended or closed.
+    /// proxy ended or closed; never, where more legs were up than are counted.
     pub(crate) fn leave(&mut self)
         ensures { self.new ≡ seen.leave R.rules self.old }
     {
         if let Place::Here { node, legs } = self {
             if *legs > 1 || is_working(node) {
-                *legs = legs.saturating_sub(1);
+                *legs = one_fewer(*legs);
             } else {
                 let now = node.now();
                 *self = Place::Gone { now };

@@ -134,7 +134,7 @@ leave_made : {S : Type 0} (rules : Rules S) (p : Place S)
 leave_made rules Absent = refl
 leave_made {S} rules (Here node legs) = by (nat_lt 1 legs || is_working rules node)
   where
-    by : (t : Bool) → not (is_absent (if t then Here node (legs - 1) else Gone node.now)) ≡ true
+    by : (t : Bool) → not (is_absent (if t then Here node (places.one_fewer legs) else Gone node.now)) ≡ true
     by true = refl
     by false = refl
 leave_made rules (Gone now) = refl
