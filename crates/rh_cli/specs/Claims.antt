@@ -73,7 +73,7 @@ RolesAreHonest world line =
 
 -- what both ends gave is exactly what was taken and what is on its way while no node closed, where
 -- the `break` and `end` lines that were answered ok are of legs that were over, and so where there
--- are none; as long as the counts of the in proxies' legs fit their type
+-- are none
 pub record LosesNothing (before : List Line) : Type 0 where
   pub in_time : AllLoseInTime Before before → KeepsAll (after Before before)
   pub unbroken : list_all loses_no_leg before ≡ true → KeepsAll (after Before before)

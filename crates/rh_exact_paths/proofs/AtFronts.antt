@@ -1,5 +1,5 @@
 -- fronts of the changes that lead to a world of roles: what is known behind each
-use Rattle.std.proofs.Common.{◌≡◌, ◌≢◌, ◌⊎◌, inl, inr, ◌+◌, ◌<◌, ◌≤◌, ℕ, List, [], ◌∷◌, ◌++◌, Bool, true, false, true≢false, not, Some, arith, refl, sym, ap, ◌∙◌, subst}
+use Rattle.std.proofs.Common.{◌≡◌, ◌≢◌, ◌⊎◌, inl, inr, ◌<◌, ◌≤◌, ℕ, List, [], ◌++◌, Bool, true, false, true≢false, not, Some, arith, refl, sym, ap, ◌∙◌, subst}
 use Rattle.std.specs.List.{AllByRecursion, list_all}
 use Rattle.std.specs.declared.option.Option.{Option}
 use Rattle.std.proofs.lemmas.Bool.{and_parts, cases_lt}
@@ -51,7 +51,7 @@ use Rattle.rh_history.proofs.Leading.{cast_kept}
 use Rattle.rh_history.proofs.Numbers.{asked}
 use Rattle.rh_history.proofs.Recordings.{traced_first}
 use Rattle.rh_history.proofs.Wired.{is_up_at}
-use Rattle.rh_let_go.specs.LetGo.{CountsFit, is_gone, ups, was_let_go}
+use Rattle.rh_let_go.specs.LetGo.{is_gone, was_let_go}
 use Rattle.rh_streams.specs.Streams.{HasPipes, HearsInTurn, NeverRefuses, StaysUnused, StaysUnusedAtEnd, Stream}
 use Rattle.rh_growing.specs.Growing.{EndGrowing, Growing}
 use Rattle.rh_traced.specs.Cookies.{ByChanges}
@@ -83,12 +83,6 @@ use Rattle.rh_exact_paths.proofs.Receivers.{ClientOrder, InOrder, OutOrder, Serv
 use Rattle.rh_exact_paths.proofs.ServerStays.{writing_stays}
 use Rattle.rh_exact_paths.proofs.Streams.{ClientStream, InStream, OutStream, ServerStream}
 use Rattle.rh_exact_paths.proofs.Told.{told_by_change}
-
-ups_append : (a b : List Event) → ups (a ++ b) ≡ ups a + ups b
-ups_append [] b = omega arith
-ups_append (event ∷ a) b =
-    let rest = ups_append a b in
-    omega (arith, rest)
 
 abbrev pub OurWorld : Type 0 → Type 0
 OurWorld K = World K ClientRole Server InProxy OutProxy
@@ -214,7 +208,7 @@ pub record WorldLaws {K : Type 0} (m : Makers K InProxy OutProxy) (w : OurWorld 
       (proxy_reads (ours.out_config n)) ((history_at m w v by.leads).outs n))
       → AllByRecursion (HeadsAre (AsksNoEcho false)) stream.leads.moves
   pub low : (v : OurWorld K) (by : ByChanges rules m deeds w v)
-      → CountsFit (history_at m w v by.leads) → (leg : Leg) (end : Side)
+      → (leg : Leg) (end : Side)
       → was_let_go v.company (at v leg end) ≡ true → legs.is_up leg end v.legs ≡ false
 
 -- ---- behind each front
@@ -223,8 +217,7 @@ module _ {K : Type 0} (m : Makers K InProxy OutProxy) (w : OurWorld K) (new : Is
     (ours : AreOurs m w.company w.cast) (node : NodeLaws) (law : WorldLaws m w ours)
     (changes : List Change) (allowed : AreAllowed rules m deeds w changes)
     (works : list_all of_line changes ≡ true)
-    (going : AllGoOn (numbers_of ours) (all_noted rules m deeds w nothing changes))
-    (fit : CountsFit (all_noted rules m deeds w nothing changes)) where
+    (going : AllGoOn (numbers_of ours) (all_noted rules m deeds w nothing changes)) where
   abbrev pub W : List Change → OurWorld K
   W e = all_changed rules m deeds w e
 
@@ -371,22 +364,6 @@ module _ {K : Type 0} (m : Makers K InProxy OutProxy) (w : OurWorld K) (new : Is
       ((H changes).outs n)
       (to_last e here (λ h. h.outs n) (out_grown rules m deeds w e here.0 n)) (going.outs n)
 
-  -- ---- and counts fit
-
-  fewer : (front all : List Event) → IsPrefix front all → ups all ≤ 4294967295
-      → ups front ≤ 4294967295
-  fewer front all p within =
-      let sum = subst (λ (events : List Event). ups events ≡ ups front + ups p.0) p.1
-      (ups_append front p.0) in
-      omega (arith, sum, within)
-
-  fits : (e : List Change) → At e → CountsFit (H e)
-  fits e here = record {
-    ins = λ n.
-        fewer ((H e).ins n) ((H changes).ins n)
-        (to_last e here (λ h. h.ins n) (in_grown rules m deeds w e here.0 n)) (fit.ins n);
-  }
-
   -- ---- what they have finished is of no more use
 
   pub client_unused : (e : List Change) (here : At e) (leg : Leg)
@@ -484,7 +461,7 @@ module _ {K : Type 0} (m : Makers K InProxy OutProxy) (w : OurWorld K) (new : Is
       by : (b : Bool) → was_let_go (W e).company (at (W e) leg end) ≡ b
           → was_let_go (W e).company (at (W e) leg end) ≡ false
       by true gone =
-          absurd (true≢false (sym up ∙ law.low (W e) (by_front e here) (fits e here) leg end gone))
+          absurd (true≢false (sym up ∙ law.low (W e) (by_front e here) leg end gone))
       by false stays = stays
 
   pub in_drawn : (e : List Change) (here : At e) (n : ℕ)

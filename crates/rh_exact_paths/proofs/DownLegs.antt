@@ -34,7 +34,6 @@ use Rattle.rh_paths.specs.OnWay.{items_on_way}
 use Rattle.rh_paths.specs.Ways.{AreOnTheirWay, client_node, down_far, down_lost, down_near, out_node, server_node}
 use Rattle.rh_exact_ways.specs.Pdus.{NoneStopsButBehindEnd}
 use Rattle.rh_exact_ways.proofs.Passing.{out_passes, passed_goes}
-use Rattle.rh_let_go.specs.LetGo.{CountsFit}
 use Rattle.rh_exact_paths.specs.GoingOn.{AllGoOn}
 use Rattle.rh_exact_paths.proofs.Streams.{ClientStream, OutStream, co_passed, os_passed}
 use Rattle.rh_exact_paths.proofs.Clients.{passed}
@@ -61,19 +60,18 @@ module _ {K : Type 0} (m : Makers K InProxy OutProxy) (w : OurWorld K) (new : Is
     (changes : List Change) (allowed : AreAllowed rules m deeds w changes)
     (works : list_all of_line changes ≡ true)
     (in_time : AllEndInTime rules m deeds w changes)
-    (going : AllGoOn (numbers_of ours) (all_noted rules m deeds w nothing changes))
-    (fit : CountsFit (all_noted rules m deeds w nothing changes)) where
+    (going : AllGoOn (numbers_of ours) (all_noted rules m deeds w nothing changes)) where
   abbrev W : List Change → OurWorld K
-  W e = worlds.W m w new ours node law changes allowed works going fit e
+  W e = worlds.W m w new ours node law changes allowed works going e
 
   abbrev H : List Change → History
-  H e = worlds.H m w new ours node law changes allowed works going fit e
+  H e = worlds.H m w new ours node law changes allowed works going e
 
   abbrev At : List Change → Type 0
   At e = IsPrefix e changes
 
   ways : (e : List Change) (here : At e) → AreOnTheirWay (numbers_of ours) (W e) (H e)
-  ways e here = worlds.ways m w new ours node law changes allowed works going fit e here
+  ways e here = worlds.ways m w new ours node law changes allowed works going e here
 
   abbrev down : (e : List Change) (here : At e) → Route
   down e here = down_route_of (ways e here).directions
@@ -97,7 +95,7 @@ module _ {K : Type 0} (m : Makers K InProxy OutProxy) (w : OurWorld K) (new : Is
     near_later e more here front passed s =
         out_later node.out_order (ours.out_config n) n own ((H e).outs n) ((H (e ++ more)).outs n)
         (out_grown rules m deeds w e more n)
-        (worlds.out_growing m w new ours node law changes allowed works going fit (e ++ more)
+        (worlds.out_growing m w new ours node law changes allowed works going (e ++ more)
         here n)
         ((ways e front).directions.down.proxies n) passed s
 
@@ -107,41 +105,41 @@ module _ {K : Type 0} (m : Makers K InProxy OutProxy) (w : OurWorld K) (new : Is
     near_passes e here unused s =
         out_passes node.out_law (ours.out_config n) n (ours.out_number n) ((H e).outs n) s
         (law.out_echoes (W e)
-        (worlds.by_front m w new ours node law changes allowed works going fit e here) n s) unused
+        (worlds.by_front m w new ours node law changes allowed works going e here) n s) unused
 
     near_facts : Facts rules m deeds w changes in_time (os n) D (Some OsD) out_proxy.rules
         (λ e. server_node (numbers_of ours) (H e)) (λ e. out_node (numbers_of ours) (H e) n)
         from_server (λ e here. (down e here).sent n) (λ e here. (down e here).came n n) NearPassed
     near_facts = record {
-      puts_on = worlds.server_goes m w new ours node law changes allowed works going fit;
+      puts_on = worlds.server_goes m w new ours node law changes allowed works going;
       takes_on = λ e here.
-          worlds.out_goes m w new ours node law changes allowed works going fit e here n;
-      told = worlds.told_ends m w new ours node law changes allowed works going fit (os n);
-      left = worlds.left_ends m w new ours node law changes allowed works going fit (os n);
+          worlds.out_goes m w new ours node law changes allowed works going e here n;
+      told = worlds.told_ends m w new ours node law changes allowed works going (os n);
+      left = worlds.left_ends m w new ours node law changes allowed works going (os n);
       kept = λ e here up untold.
           node.keeps_out (ours.out_config n) ((H e).outs n) (os n)
-          (worlds.out_accepted m w new ours node law changes allowed works going fit e here n) up
+          (worlds.out_accepted m w new ours node law changes allowed works going e here n) up
           untold
-          (worlds.out_goes m w new ours node law changes allowed works going fit e here n);
+          (worlds.out_goes m w new ours node law changes allowed works going e here n);
       absent = λ e here.
           (node.knows_out (ours.out_config n) ((H e).outs n) (os n)
-          (worlds.out_accepted m w new ours node law changes allowed works going fit e here
+          (worlds.out_accepted m w new ours node law changes allowed works going e here
           n)).absent;
       live = λ e here.
           law.live_out (W e)
-          (worlds.by_front m w new ours node law changes allowed works going fit e here) n (os n)
-          (worlds.out_goes m w new ours node law changes allowed works going fit e here n);
+          (worlds.by_front m w new ours node law changes allowed works going e here) n (os n)
+          (worlds.out_goes m w new ours node law changes allowed works going e here n);
       passes = λ e here up unused. near_passes e here unused;
       finished = λ e here up done untold.
           near_passes e here
-          (worlds.out_unused m w new ours node law changes allowed works going fit e here n (os n)
+          (worlds.out_unused m w new ours node law changes allowed works going e here n (os n)
           done up untold);
       rose = λ e here.
-          worlds.rose m w new ours node law changes allowed works going fit e here (os n);
+          worlds.rose m w new ours node law changes allowed works going e here (os n);
       put = λ e here is_up up done untold. (
-        worlds.server_drawn m w new ours node law changes allowed works going fit e here (os n)
+        worlds.server_drawn m w new ours node law changes allowed works going e here (os n)
             (was_up (W e) (H e) (os n) side.Server) done untold,
-        worlds.server_put m w new ours node law changes allowed works going fit e here n within
+        worlds.server_put m w new ours node law changes allowed works going e here n within
             done up untold (ways e here).directions.down.giver,
       );
       arrives = λ e here kept.
@@ -152,7 +150,7 @@ module _ {K : Type 0} (m : Makers K InProxy OutProxy) (w : OurWorld K) (new : Is
       came_is = λ e here passed s.
           out_later node.out_order (ours.out_config n) n own ((H e).outs n) ((H e).outs n)
           (prefix_self ((H e).outs n))
-          (worlds.out_growing m w new ours node law changes allowed works going fit e here n)
+          (worlds.out_growing m w new ours node law changes allowed works going e here n)
           ((ways e here).directions.down.proxies n) passed s;
       stays = λ e more here done.
           let front = front_more e more changes here in
@@ -170,7 +168,7 @@ module _ {K : Type 0} (m : Makers K InProxy OutProxy) (w : OurWorld K) (new : Is
     far_later e more here front passed s =
         client_later node.client_order ours.config n has (H e).client (H (e ++ more)).client
         (client_grown rules m deeds w e more)
-        (worlds.client_growing m w new ours node law changes allowed works going fit (e ++ more)
+        (worlds.client_growing m w new ours node law changes allowed works going (e ++ more)
         here)
         (ways e front).directions.down.taker passed s
 
@@ -186,7 +184,7 @@ module _ {K : Type 0} (m : Makers K InProxy OutProxy) (w : OurWorld K) (new : Is
     far_passes e here rose unused s =
         passed node.client_order ours.config n has (H e).client s
         ((node.knows_client ours.config (H e).client (co n)
-        (worlds.client_accepted m w new ours node law changes allowed works going fit e here)).known
+        (worlds.client_accepted m w new ours node law changes allowed works going e here)).known
         rose) unused
 
     far_facts : Facts rules m deeds w changes in_time (co n) D (Some CoD) client.rules
@@ -194,35 +192,35 @@ module _ {K : Type 0} (m : Makers K InProxy OutProxy) (w : OurWorld K) (new : Is
         down_items (λ e here. (down e here).put n) (λ e here. (down e here).got n) FarPassed
     far_facts = record {
       puts_on = λ e here.
-          worlds.out_goes m w new ours node law changes allowed works going fit e here n;
-      takes_on = worlds.client_goes m w new ours node law changes allowed works going fit;
-      told = worlds.told_ends m w new ours node law changes allowed works going fit (co n);
-      left = worlds.left_ends m w new ours node law changes allowed works going fit (co n);
+          worlds.out_goes m w new ours node law changes allowed works going e here n;
+      takes_on = worlds.client_goes m w new ours node law changes allowed works going;
+      told = worlds.told_ends m w new ours node law changes allowed works going (co n);
+      left = worlds.left_ends m w new ours node law changes allowed works going (co n);
       kept = λ e here up untold.
           node.keeps_client ours.config (H e).client (co n)
-          (worlds.client_accepted m w new ours node law changes allowed works going fit e here) up
-          untold (worlds.client_goes m w new ours node law changes allowed works going fit e here);
+          (worlds.client_accepted m w new ours node law changes allowed works going e here) up
+          untold (worlds.client_goes m w new ours node law changes allowed works going e here);
       absent = λ e here.
           (node.knows_client ours.config (H e).client (co n)
-          (worlds.client_accepted m w new ours node law changes allowed works going fit e
+          (worlds.client_accepted m w new ours node law changes allowed works going e
           here)).absent;
       live = λ e here.
           law.live_client (W e)
-          (worlds.by_front m w new ours node law changes allowed works going fit e here) (co n)
-          (worlds.client_goes m w new ours node law changes allowed works going fit e here);
+          (worlds.by_front m w new ours node law changes allowed works going e here) (co n)
+          (worlds.client_goes m w new ours node law changes allowed works going e here);
       passes = λ e here up unused. far_passes e here up unused;
       finished = λ e here up done untold.
           far_passes e here up
-          (worlds.client_unused m w new ours node law changes allowed works going fit e here (co n)
+          (worlds.client_unused m w new ours node law changes allowed works going e here (co n)
           done up untold);
       rose = λ e here.
-          worlds.rose m w new ours node law changes allowed works going fit e here (co n);
+          worlds.rose m w new ours node law changes allowed works going e here (co n);
       put = λ e here is_up up done untold.
           let proxy = (ways e here).directions.down.proxies n in (
-            worlds.out_drawn m w new ours node law changes allowed works going fit e here n is_up
+            worlds.out_drawn m w new ours node law changes allowed works going e here n is_up
                 done untold,
             ap has_passed (if_there (has_leg n) (put_items n proxy.passage.put) has)
-                ∙ worlds.out_put m w new ours node law changes allowed works going fit e here n
+                ∙ worlds.out_put m w new ours node law changes allowed works going e here n
                 done up untold proxy,
           );
       arrives = λ e here kept.
@@ -233,7 +231,7 @@ module _ {K : Type 0} (m : Makers K InProxy OutProxy) (w : OurWorld K) (new : Is
       came_is = λ e here passed s.
           client_later node.client_order ours.config n has (H e).client (H e).client
           (prefix_self (H e).client)
-          (worlds.client_growing m w new ours node law changes allowed works going fit e here)
+          (worlds.client_growing m w new ours node law changes allowed works going e here)
           (ways e here).directions.down.taker passed s;
       stays = λ e more here done.
           let front = front_more e more changes here in

@@ -10,7 +10,6 @@ use Rattle.rh_ends_in_time.specs.Losses.{IsEndedInTime, RolesEndInTime}
 use Rattle.rh_fifo.specs.Flows.{numbers_of}
 use Rattle.rh_fifo.proofs.Recorded.{ours}
 use Rattle.rh_paths.specs.Ways.{AreOnTheirWay}
-use Rattle.rh_let_go.specs.LetGo.{CountsFit}
 use Rattle.rh_exact_paths.specs.Exact.{IsExact, KeepsAll, RolesKeepAll, history_until}
 use Rattle.rh_exact_paths.specs.GoingOn.{AllGoOn}
 
@@ -21,7 +20,6 @@ pub record Laws : Type 0 where
       → AreOnTheirWay (numbers_of (ours config)) world (history_until config world ends)
   pub exact : (config : WorldConfig) → AreInRange config → (world : roles.World)
       (ends : EndsInTime roles.rules roles.makers roles.deeds (roles.begun config) world)
-      → CountsFit (history_until config world ends)
       → AllGoOn (numbers_of (ours config)) (history_until config world ends)
       → (ways : AreOnTheirWay (numbers_of (ours config)) world (history_until config world ends))
       → IsExact (numbers_of (ours config)) world (history_until config world ends) ways
@@ -37,7 +35,7 @@ roles_keep law world h =
       ours = ours h.config;
       ends = h.ends;
       ways = ways;
-      exact = λ fit going. law.exact h.config h.ranges world h.ends fit going ways;
+      exact = λ going. law.exact h.config h.ranges world h.ends going ways;
     }
 
 pub each_keeps : Laws → (world : AnyWorld) → IsEndedInTime world → KeepsAll world

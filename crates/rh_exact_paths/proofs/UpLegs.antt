@@ -51,7 +51,6 @@ use Rattle.rh_paths.specs.Ways.{AreOnTheirWay, client_node, in_node, server_node
 use Rattle.rh_exact_ways.specs.Pdus.{IsBehindEnd, NoneStopsButBehindEnd}
 use Rattle.rh_exact_ways.proofs.Passing.{in_passes, passed_goes, server_passes}
 use Rattle.rh_exact_ways.proofs.ReadBy.{read_by}
-use Rattle.rh_let_go.specs.LetGo.{CountsFit}
 use Rattle.rh_exact_paths.specs.GoingOn.{AllGoOn}
 use Rattle.rh_exact_paths.proofs.Streams.{InStream, ServerStream, ci_passed, is_passed}
 use Rattle.rh_exact_paths.proofs.Fates.{Facts, goes_or_passed, never_lost}
@@ -78,19 +77,18 @@ module _ {K : Type 0} (m : Makers K InProxy OutProxy) (w : OurWorld K) (new : Is
     (changes : List Change) (allowed : AreAllowed rules m deeds w changes)
     (works : list_all of_line changes ≡ true)
     (in_time : AllEndInTime rules m deeds w changes)
-    (going : AllGoOn (numbers_of ours) (all_noted rules m deeds w nothing changes))
-    (fit : CountsFit (all_noted rules m deeds w nothing changes)) where
+    (going : AllGoOn (numbers_of ours) (all_noted rules m deeds w nothing changes)) where
   abbrev W : List Change → OurWorld K
-  W e = worlds.W m w new ours node law changes allowed works going fit e
+  W e = worlds.W m w new ours node law changes allowed works going e
 
   abbrev H : List Change → History
-  H e = worlds.H m w new ours node law changes allowed works going fit e
+  H e = worlds.H m w new ours node law changes allowed works going e
 
   abbrev At : List Change → Type 0
   At e = IsPrefix e changes
 
   ways : (e : List Change) (here : At e) → AreOnTheirWay (numbers_of ours) (W e) (H e)
-  ways e here = worlds.ways m w new ours node law changes allowed works going fit e here
+  ways e here = worlds.ways m w new ours node law changes allowed works going e here
 
   abbrev up : (e : List Change) (here : At e) → Route
   up e here = up_route_of (ways e here).directions
@@ -108,7 +106,7 @@ module _ {K : Type 0} (m : Makers K InProxy OutProxy) (w : OurWorld K) (new : Is
         → from_first (ours.in_config (reads e)).number n ≡ true
     is_from e here read =
         let at_most =
-        ((worlds.known m w new ours node law changes allowed works going fit e here).read.each n
+        ((worlds.known m w new ours node law changes allowed works going e here).read.each n
         read).below in
         ap (λ (k : ℕ). from_first k n) (ours.in_number (reads e)) ∙ tested (reads e) at_most
       where
@@ -119,7 +117,7 @@ module _ {K : Type 0} (m : Makers K InProxy OutProxy) (w : OurWorld K) (new : Is
     is_read : (e : List Change) (here : At e) → has_passed ((up e here).sent n) ≡ true
         → reads e ≢ 0
     is_read e here passed =
-        (worlds.led m w new ours node law changes allowed works going fit e here).led n some
+        (worlds.led m w new ours node law changes allowed works going e here).led n some
         (by (cases_Bool (came_up (ci n) (happened (H e).client))))
       where
         none : came_up (ci n) (happened (H e).client) ≡ false → (up e here).sent n ≡ []
@@ -140,12 +138,12 @@ module _ {K : Type 0} (m : Makers K InProxy OutProxy) (w : OurWorld K) (new : Is
     near_later e more here read s passed =
         subst (λ (k : ℕ). (t : InStream (numbers_of ours) (H (e ++ more)) k)
         → ci_passed t.passage n)
-        (sym (worlds.same_reader m w new ours node law changes allowed works going fit e more here n
+        (sym (worlds.same_reader m w new ours node law changes allowed works going e more here n
         read))
         (λ t. in_later node.in_order (ours.in_config (reads e)) n
         (is_from e (front_more e more changes here) read) ((H e).ins (reads e))
         ((H (e ++ more)).ins (reads e)) (in_grown rules m deeds w e more (reads e))
-        (worlds.in_growing m w new ours node law changes allowed works going fit (e ++ more) here
+        (worlds.in_growing m w new ours node law changes allowed works going (e ++ more) here
         (reads e)) s passed t)
 
     -- nothing came to a proxy at which nothing happened
@@ -191,9 +189,9 @@ module _ {K : Type 0} (m : Makers K InProxy OutProxy) (w : OurWorld K) (new : Is
     near_passes e here rose unused s =
         both (in_passes node.in_law (ours.in_config (reads e)) n ((H e).ins (reads e)) s
         (law.in_echoes (W e)
-        (worlds.by_front m w new ours node law changes allowed works going fit e here) (reads e) s)
+        (worlds.by_front m w new ours node law changes allowed works going e here) (reads e) s)
         ((node.knows_in (ours.in_config (reads e)) ((H e).ins (reads e)) (ci n)
-        (worlds.in_accepted m w new ours node law changes allowed works going fit e here
+        (worlds.in_accepted m w new ours node law changes allowed works going e here
         (reads e))).known rose) unused)
       where
         both : (has_passed (in_order.came_log s.passage.came n) ≡ true)
@@ -212,37 +210,37 @@ module _ {K : Type 0} (m : Makers K InProxy OutProxy) (w : OurWorld K) (new : Is
         (λ e here. (up e here).sent n)
         (λ e here. (up e here).came (reader (up e here).legs n) n) NearPassed
     near_facts = record {
-      puts_on = worlds.client_goes m w new ours node law changes allowed works going fit;
+      puts_on = worlds.client_goes m w new ours node law changes allowed works going;
       takes_on = λ e here.
-          worlds.in_goes m w new ours node law changes allowed works going fit e here (reads e);
-      told = worlds.told_ends m w new ours node law changes allowed works going fit (ci n);
-      left = worlds.left_ends m w new ours node law changes allowed works going fit (ci n);
+          worlds.in_goes m w new ours node law changes allowed works going e here (reads e);
+      told = worlds.told_ends m w new ours node law changes allowed works going (ci n);
+      left = worlds.left_ends m w new ours node law changes allowed works going (ci n);
       kept = λ e here rose untold.
           node.keeps_in (ours.in_config (reads e)) ((H e).ins (reads e)) (ci n)
-          (worlds.in_accepted m w new ours node law changes allowed works going fit e here (reads
+          (worlds.in_accepted m w new ours node law changes allowed works going e here (reads
           e))
           rose untold
-          (worlds.in_goes m w new ours node law changes allowed works going fit e here (reads e));
+          (worlds.in_goes m w new ours node law changes allowed works going e here (reads e));
       absent = λ e here.
           (node.knows_in (ours.in_config (reads e)) ((H e).ins (reads e)) (ci n)
-          (worlds.in_accepted m w new ours node law changes allowed works going fit e here
+          (worlds.in_accepted m w new ours node law changes allowed works going e here
           (reads e))).absent;
       live = λ e here.
           law.live_in (W e)
-          (worlds.by_front m w new ours node law changes allowed works going fit e here) (reads e)
+          (worlds.by_front m w new ours node law changes allowed works going e here) (reads e)
           (ci n)
-          (worlds.in_goes m w new ours node law changes allowed works going fit e here (reads e));
+          (worlds.in_goes m w new ours node law changes allowed works going e here (reads e));
       passes = λ e here rose unused. near_passes e here rose unused;
       finished = λ e here up done untold.
           near_passes e here up
-          (worlds.in_unused m w new ours node law changes allowed works going fit e here (reads e)
+          (worlds.in_unused m w new ours node law changes allowed works going e here (reads e)
           (ci n) done up untold);
       rose = λ e here.
-          worlds.rose m w new ours node law changes allowed works going fit e here (ci n);
+          worlds.rose m w new ours node law changes allowed works going e here (ci n);
       put = λ e here is_up up done untold. (
-        worlds.client_drawn m w new ours node law changes allowed works going fit e here (ci n)
+        worlds.client_drawn m w new ours node law changes allowed works going e here (ci n)
             (was_up (W e) (H e) (ci n) side.Client) done untold,
-        worlds.client_put m w new ours node law changes allowed works going fit e here n done up
+        worlds.client_put m w new ours node law changes allowed works going e here n done up
             untold (ways e here).directions.up.giver,
       );
       arrives = λ e here kept. (ways e here).up.arrives.near n some kept;
@@ -255,11 +253,11 @@ module _ {K : Type 0} (m : Makers K InProxy OutProxy) (w : OurWorld K) (new : Is
           (passed_more ((up e here).came (reader (up e here).legs n) n) prefix.0 passed) in
           let read = is_read e here put in
           let same = read_by (W e).readers (is_made (W e).company)
-          (worlds.known m w new ours node law changes allowed works going fit e here).read n read in
+          (worlds.known m w new ours node law changes allowed works going e here).read n read in
           let s = (ways e here).directions.up.proxies (reads e) in
           λ t. in_later node.in_order (ours.in_config (reads e)) n (is_from e here read)
           ((H e).ins (reads e)) ((H e).ins (reads e)) (prefix_self ((H e).ins (reads e)))
-          (worlds.in_growing m w new ours node law changes allowed works going fit e here (reads
+          (worlds.in_growing m w new ours node law changes allowed works going e here (reads
           e)) s
           (or_first (has_passed (in_order.came_log s.passage.came n))
           (has_end (below (in_order.came_log s.passage.came) n))
@@ -280,7 +278,7 @@ module _ {K : Type 0} (m : Makers K InProxy OutProxy) (w : OurWorld K) (new : Is
       where
         last : reader_of (W changes).readers n ≡ n
         last =
-            (worlds.order m w new ours node law changes allowed works going fit changes
+            (worlds.order m w new ours node law changes allowed works going changes
             (prefix_self changes)).own n made
 
         tested : (k : ℕ) → (k ≡ n) ⊎ (k ≡ 0) → (nat_lt 0 n && (k == n || k == 0)) ≡ true
@@ -296,7 +294,7 @@ module _ {K : Type 0} (m : Makers K InProxy OutProxy) (w : OurWorld K) (new : Is
         by (inl none) = tested (reader_of (W e).readers n) (inr none)
         by (inr read) =
             tested (reader_of (W e).readers n)
-            (inl (sym (worlds.same_reader m w new ours node law changes allowed works going fit e
+            (inl (sym (worlds.same_reader m w new ours node law changes allowed works going e
             here.0 (subst At (sym here.1) (prefix_self changes)) n read)
             ∙ ap (λ (cs : List Change). reader_of (W cs).readers n) here.1 ∙ last))
 
@@ -317,7 +315,7 @@ module _ {K : Type 0} (m : Makers K InProxy OutProxy) (w : OurWorld K) (new : Is
       rose = rose_later e more rose;
       passed = server_later node.server_order ours.window n (H e).server (H (e ++ more)).server
           rose (rose_later e more rose) (server_grown rules m deeds w e more)
-          (worlds.server_growing m w new ours node law changes allowed works going fit (e ++ more)
+          (worlds.server_growing m w new ours node law changes allowed works going (e ++ more)
           here) s passed;
     }
 
@@ -329,7 +327,7 @@ module _ {K : Type 0} (m : Makers K InProxy OutProxy) (w : OurWorld K) (new : Is
         none : came_up (is n) (happened (H e).server) ≡ false → (up e here).got n ≡ []
         none down =
             let s = (ways e here).directions.up.taker in
-            let traced = (worlds.known m w new ours node law changes allowed works going fit e
+            let traced = (worlds.known m w new ours node law changes allowed works going e
             here).traced in
             let unheard : heard_on (is n) (happened (H e).server) ≡ [] =
             traced.heard.server (is n) ∙ (traced.carried.idle who.Server (is n) down).1 in
@@ -349,22 +347,22 @@ module _ {K : Type 0} (m : Makers K InProxy OutProxy) (w : OurWorld K) (new : Is
         in_items (λ e here. (up e here).put n) (λ e here. (up e here).got n) FarPassed
     far_facts = record {
       puts_on = λ e here.
-          worlds.in_goes m w new ours node law changes allowed works going fit e here n;
-      takes_on = worlds.server_goes m w new ours node law changes allowed works going fit;
-      told = worlds.told_ends m w new ours node law changes allowed works going fit (is n);
-      left = worlds.left_ends m w new ours node law changes allowed works going fit (is n);
+          worlds.in_goes m w new ours node law changes allowed works going e here n;
+      takes_on = worlds.server_goes m w new ours node law changes allowed works going;
+      told = worlds.told_ends m w new ours node law changes allowed works going (is n);
+      left = worlds.left_ends m w new ours node law changes allowed works going (is n);
       kept = λ e here rose untold.
           node.keeps_server ours.window (H e).server (is n)
-          (worlds.server_accepted m w new ours node law changes allowed works going fit e here) rose
-          untold (worlds.server_goes m w new ours node law changes allowed works going fit e here);
+          (worlds.server_accepted m w new ours node law changes allowed works going e here) rose
+          untold (worlds.server_goes m w new ours node law changes allowed works going e here);
       absent = λ e here.
           (node.knows_server ours.window (H e).server (is n)
-          (worlds.server_accepted m w new ours node law changes allowed works going fit e
+          (worlds.server_accepted m w new ours node law changes allowed works going e
           here)).absent;
       live = λ e here.
           law.live_server (W e)
-          (worlds.by_front m w new ours node law changes allowed works going fit e here) (is n)
-          (worlds.server_goes m w new ours node law changes allowed works going fit e here);
+          (worlds.by_front m w new ours node law changes allowed works going e here) (is n)
+          (worlds.server_goes m w new ours node law changes allowed works going e here);
       passes = λ e here rose unused. record {
         rose = rose;
         passed = λ s.
@@ -374,18 +372,18 @@ module _ {K : Type 0} (m : Makers K InProxy OutProxy) (w : OurWorld K) (new : Is
         rose = up;
         passed = λ s.
             server_passes node.server_law ours.window n server_reads (H e).server s up
-            (worlds.server_unused m w new ours node law changes allowed works going fit e here
+            (worlds.server_unused m w new ours node law changes allowed works going e here
             (is n) done up untold);
       };
       rose = λ e here.
-          worlds.rose m w new ours node law changes allowed works going fit e here (is n);
+          worlds.rose m w new ours node law changes allowed works going e here (is n);
       put = λ e here is_up up done untold.
           let proxy = (ways e here).directions.up.proxies n in (
-            worlds.in_drawn m w new ours node law changes allowed works going fit e here n is_up
+            worlds.in_drawn m w new ours node law changes allowed works going e here n is_up
                 done untold,
             ap has_passed (if_there (has_leg (reader_of (W e).readers) n)
                 (put_items proxy.passage.put) (has_one e here))
-                ∙ worlds.in_put m w new ours node law changes allowed works going fit e here n
+                ∙ worlds.in_put m w new ours node law changes allowed works going e here n
                 done up untold proxy,
           );
       arrives = λ e here kept.
@@ -399,7 +397,7 @@ module _ {K : Type 0} (m : Makers K InProxy OutProxy) (w : OurWorld K) (new : Is
             rose = rose;
             passed = server_later node.server_order ours.window n (H e).server (H e).server rose
                 rose (prefix_self (H e).server)
-                (worlds.server_growing m w new ours node law changes allowed works going fit e here)
+                (worlds.server_growing m w new ours node law changes allowed works going e here)
                 (ways e here).directions.up.taker passed;
           };
       stays = λ e more here done.
@@ -446,7 +444,7 @@ module _ {K : Type 0} (m : Makers K InProxy OutProxy) (w : OurWorld K) (new : Is
             → reader r.legs n ≡ reader_of (W changes).readers n
         same done =
             read_by (W changes).readers (is_made (W changes).company)
-            (worlds.known m w new ours node law changes allowed works going fit changes all).read n
+            (worlds.known m w new ours node law changes allowed works going changes all).read n
             (read done)
 
         passed : NearPassed n some changes
@@ -480,12 +478,12 @@ module _ {K : Type 0} (m : Makers K InProxy OutProxy) (w : OurWorld K) (new : Is
         (in_node (numbers_of ours) (H changes) n) server.rules
         (server_node (numbers_of ours) (H changes)) (going.ins n) going.server here there
         ((node.knows_server ours.window (H changes).server (is n)
-        (worlds.server_accepted m w new ours node law changes allowed works going fit changes
+        (worlds.server_accepted m w new ours node law changes allowed works going changes
         all)).absent there)
       where
         here : was_up (W changes) (H changes) (is n) side.Client ≡ false
         here =
-            ap (came_up (is n)) ((worlds.order m w new ours node law changes allowed works going fit
+            ap (came_up (is n)) ((worlds.order m w new ours node law changes allowed works going
             changes all).unmade n unmade)
 
         there : was_up (W changes) (H changes) (is n) side.Server ≡ false
@@ -496,7 +494,7 @@ module _ {K : Type 0} (m : Makers K InProxy OutProxy) (w : OurWorld K) (new : Is
                 → came_up (is n) (happened (H changes).server) ≡ false
             by (inl rose) =
                 not_both (is_made (W changes).company n)
-                ((worlds.led m w new ours node law changes allowed works going fit changes
+                ((worlds.led m w new ours node law changes allowed works going changes
                 all).joined n rose) unmade
             by (inr down) = down
 

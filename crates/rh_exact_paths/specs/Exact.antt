@@ -19,7 +19,6 @@ use Rattle.rh_ends_in_time.specs.InTime.{EndsInTime}
 use Rattle.rh_fifo.specs.Directions.{down_route_of, up_route_of}
 use Rattle.rh_fifo.specs.Flows.{Numbers, numbers_of}
 use Rattle.rh_paths.specs.Ways.{AreOnTheirWay, down_on, up_on}
-use Rattle.rh_let_go.specs.LetGo.{CountsFit}
 use Rattle.rh_exact_paths.specs.GoingOn.{AllGoOn}
 
 -- what happened at the nodes meanwhile
@@ -41,16 +40,14 @@ pub record IsExact {K : Type 0} (numbers : Numbers)
       ++ path (up_route_of ways.directions) (up_on numbers v h)
 
 -- changes that end a leg only where it is over lead to a world of roles from its settings. What
--- was given is what was taken and what is on its way; exactly, while all nodes go on, as long as
--- the counts of the in proxies' legs fit their type
+-- was given is what was taken and what is on its way; exactly, while all nodes go on
 pub record RolesKeepAll (world : roles.World) : Type 0 where
   pub config : WorldConfig
   pub settings : world.cast ≡ config
   pub ours : AreOurs roles.makers (roles.begun config).company config
   pub ends : EndsInTime roles.rules roles.makers roles.deeds (roles.begun config) world
   pub ways : AreOnTheirWay (numbers_of ours) world (history_until config world ends)
-  pub exact : CountsFit (history_until config world ends)
-      → AllGoOn (numbers_of ours) (history_until config world ends)
+  pub exact : AllGoOn (numbers_of ours) (history_until config world ends)
       → IsExact (numbers_of ours) world (history_until config world ends) ways
 
 -- only a world of roles has ways

@@ -18,7 +18,6 @@ ghost use Rattle.rh_paths.specs.Ways.{AreOnTheirWay, down_lost, up_lost};
 ghost use Rattle.rh_exact_ways.specs.Pdus.{NoneStopsButBehindEnd};
 ghost use Rattle.rh_exact_paths.specs.Exact.{IsExact};
 ghost use Rattle.rh_exact_paths.specs.GoingOn.{AllGoOn};
-ghost use Rattle.rh_let_go.specs.LetGo.{CountsFit};
 
 use rh_client::{ClientRole, a_client_takes_in_order};
 use rh_down::what_goes_down_is_a_route;
@@ -53,15 +52,14 @@ use rh_up::what_goes_up_is_a_route;
 /// In each world of new roles that lines lead to by changes that end a leg only where one of its
 /// ends is over: while all nodes go on, of the legs of the channels from the taker's current one up
 /// to that on which the giver writes each gives all that was put there, or its handover mark or END
-/// passed, or END came before on a channel that the same proxy reads; as long as the counts of the
-/// in proxies' legs fit their type.
+/// passed, or END came before on a channel that the same proxy reads.
 pub fn what_is_lost_in_time_had_passed<K>()
     ensures down { (m : Makers K InProxy OutProxy) (w : World K ClientRole Server InProxy OutProxy)
         → IsNew w → (ours : AreOurs m w.company w.cast) → AreInRange (numbers_of ours)
         → IsPort ours.config.port → (v : World K ClientRole Server InProxy OutProxy)
         (ends : EndsInTime rules m deeds w v)
         → (let h = all_noted rules m deeds w nothing ends.lines.leads.changes in
-        let numbers = numbers_of ours in CountsFit h → AllGoOn numbers h
+        let numbers = numbers_of ours in AllGoOn numbers h
         → (ways : AreOnTheirWay numbers v h)
         → NoneStopsButBehindEnd (down_route_of ways.directions) (down_lost numbers v h)) }
     ensures up { (m : Makers K InProxy OutProxy) (w : World K ClientRole Server InProxy OutProxy)
@@ -69,7 +67,7 @@ pub fn what_is_lost_in_time_had_passed<K>()
         → IsPort ours.config.port → (v : World K ClientRole Server InProxy OutProxy)
         (ends : EndsInTime rules m deeds w v)
         → (let h = all_noted rules m deeds w nothing ends.lines.leads.changes in
-        let numbers = numbers_of ours in CountsFit h → AllGoOn numbers h
+        let numbers = numbers_of ours in AllGoOn numbers h
         → (ways : AreOnTheirWay numbers v h)
         → NoneStopsButBehindEnd (up_route_of ways.directions) (up_lost numbers v h)) }
 {
@@ -118,7 +116,7 @@ pub fn what_was_given_is_taken_or_on_its_way<K>()
         → IsPort ours.config.port → (v : World K ClientRole Server InProxy OutProxy)
         (ends : EndsInTime rules m deeds w v)
         → (let h = all_noted rules m deeds w nothing ends.lines.leads.changes in
-        let numbers = numbers_of ours in CountsFit h → AllGoOn numbers h
+        let numbers = numbers_of ours in AllGoOn numbers h
         → (ways : AreOnTheirWay numbers v h) → IsExact numbers v h ways) }
 {
     what_is_lost_in_time_had_passed::<K>();

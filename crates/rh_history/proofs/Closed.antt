@@ -1,6 +1,6 @@
 -- nodes that closed stay closed, with their first cause
 use Rattle.std.proofs.Common.{◌≡◌, ℕ, List, [], ◌∷◌, Bool, true, false, ◌||◌, cond, if◌then◌else◌, get_or, take, drop, Some, None, Err, refl, sym, ap, ◌∙◌, subst, ◌⊎◌, inl, inr}
-use Rattle.std.specs.Prelude.{nat_lt, ◌-◌}
+use Rattle.std.specs.Prelude.{nat_lt}
 use Rattle.std.specs.declared.result.Result.{Result}
 use Rattle.std.proofs.lemmas.Bool.{cases_eq}
 use Rattle.rh_rts.specs.declared.command.Cookie.{Cookie}
@@ -42,7 +42,7 @@ use Rattle.rh_nodes.specs.Legs as legs
 use Rattle.rh_nodes.specs.Numbered.{change, put_at}
 use Rattle.rh_nodes.specs.Opening.{Makers, reader_before}
 use Rattle.rh_nodes.specs.Places as places
-use Rattle.rh_nodes.specs.Places.{is_absent, is_working}
+use Rattle.rh_nodes.specs.Places.{is_absent, is_working, one_fewer}
 use Rattle.rh_nodes.specs.Settling.{leg_at}
 use Rattle.rh_nodes.specs.Steps.{last_with}
 use Rattle.rh_nodes.specs.Telling as telling
@@ -153,7 +153,7 @@ module _ {S : Type 0} (rules : Rules S) (why : Cause) where
   leave_stays Absent h = absurd h
   leave_stays (Here node legs) h = by (nat_lt 1 legs || is_working rules node)
     where
-      by : (t : Bool) → ClosedPlace why (if t then Here node (places.one_fewer legs) else Gone node.now)
+      by : (t : Bool) → ClosedPlace why (if t then Here node (one_fewer legs) else Gone node.now)
       by true = h
       by false = tt
   leave_stays (Gone now) h = tt

@@ -1,6 +1,6 @@
 -- a node that is there heard all that it was fed
 use Rattle.std.proofs.Common.{◌≡◌, ℕ, List, [], ◌∷◌, ◌++◌, Bool, true, false, ◌&&◌, ◌||◌, if◌then◌else◌, get_or, refl, sym, ap, ap₂, ◌∙◌, subst, ◌⊎◌, inl, inr, append_assoc}
-use Rattle.std.specs.Prelude.{nat_lt, ◌==◌, ◌-◌}
+use Rattle.std.specs.Prelude.{nat_lt, ◌==◌}
 use mathlib.Core.List.{IsPrefix}
 use Rattle.std.proofs.lemmas.Bool.{true≢false, cases_eq, ne_eqb}
 use Rattle.std.proofs.lemmas.List.{append-nil}
@@ -12,7 +12,7 @@ use Rattle.rh_nodes.specs.declared.place.Place.{Place}
 use Rattle.rh_nodes.specs.declared.place.Place.TheVariants.{Absent, Here, Gone}
 use Rattle.rh_nodes.specs.Numbered.{change, put_at}
 use Rattle.rh_nodes.specs.Places as places
-use Rattle.rh_nodes.specs.Places.{is_working}
+use Rattle.rh_nodes.specs.Places.{is_working, one_fewer}
 use Rattle.rh_history.specs.Histories.{at_place, IsRun}
 use Rattle.rh_history.specs.Carried.{heard_on, IsHeard}
 use Rattle.rh_history.proofs.Appended.{heard_append}
@@ -87,7 +87,7 @@ module _ {S : Type 0} (rules : Rules S) (leg : Leg) where
   hear_left Absent heard fed h = h
   hear_left (Here node legs) heard fed h = by (nat_lt 1 legs || is_working rules node)
     where
-      by : (t : Bool) → IsHeard (if t then Here node (places.one_fewer legs) else Gone node.now) heard fed
+      by : (t : Bool) → IsHeard (if t then Here node (one_fewer legs) else Gone node.now) heard fed
       by true = h
       by false = prefix_of_same heard fed h
   hear_left (Gone now) heard fed h = h

@@ -1,6 +1,6 @@
 -- each node is what its history made of it
 use Rattle.std.proofs.Common.{◌≡◌, ℕ, List, [], ◌∷◌, ◌++◌, Bool, true, false, ◌||◌, if◌then◌else◌, IsTrue, get_or, map, refl, sym, ap, ◌∙◌, subst, ◌⊎◌, inl, inr}
-use Rattle.std.specs.Prelude.{◌==◌, nat_lt, ◌-◌}
+use Rattle.std.specs.Prelude.{◌==◌, nat_lt}
 use Rattle.std.proofs.lemmas.Bool.{cases_eq, eq-eqb, ne_eqb, false≢true}
 use Rattle.rh_rts.specs.declared.command.Cookie.{Cookie}
 use Rattle.rh_text.specs.declared.ends.Side.{Side}
@@ -26,7 +26,7 @@ use Rattle.rh_nodes.specs.Legs as legs
 use Rattle.rh_nodes.specs.Numbered.{ask, put_at, change}
 use Rattle.rh_nodes.specs.Opening.{Makers, reader_before}
 use Rattle.rh_nodes.specs.Places as places
-use Rattle.rh_nodes.specs.Places.{is_absent, is_working}
+use Rattle.rh_nodes.specs.Places.{is_absent, is_working, one_fewer}
 use Rattle.rh_nodes.specs.Settling.{leg_at}
 use Rattle.rh_nodes.specs.Wires.{sender, receiver}
 use Rattle.rh_nodes.specs.World.{World, at}
@@ -61,7 +61,7 @@ module _ {S : Type 0} (rules : Rules S) where
 
       by : (a b : Bool) → is_working rules node ≡ b
           → IsRun rules made (events ++ [])
-          (if a || b then Here node (places.one_fewer legs) else Gone node.now)
+          (if a || b then Here node (one_fewer legs) else Gone node.now)
       by true b e = run
       by false true e = run
       by false false e = record {

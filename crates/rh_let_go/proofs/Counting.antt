@@ -1,7 +1,7 @@
 -- every change counts the legs of each proxy: no more are up for it than its place says
-use Rattle.std.proofs.Common.{◌≡◌, ◌⊎◌, ◌≤◌, ℕ, ◌+◌, ◌-◌, List, [], ◌∷◌, true, false, if◌then◌else◌, min, IsTrue, refl, sym, ap, ◌∙◌, subst, inl, inr, ⊎_elim, arith}
+use Rattle.std.proofs.Common.{◌≡◌, ◌⊎◌, ℕ, ◌+◌, List, true, false, min, IsTrue, refl, sym, ap, ◌∙◌, subst, inl, inr, ⊎_elim, arith}
 use Rattle.std.specs.Prelude.{◌≢◌}
-use Rattle.std.proofs.lemmas.Bool.{true≢false, false≢true, cases_eq, cases_Bool}
+use Rattle.std.proofs.lemmas.Bool.{true≢false, false≢true, cases_eq, cases_lt, cases_Bool}
 use Rattle.rh_rts.specs.declared.command.Cookie.{Cookie}
 use Rattle.rh_text.specs.declared.ends.Dir.TheVariants.{U}
 use Rattle.rh_text.specs.declared.ends.Side.{Side}
@@ -11,7 +11,6 @@ use Rattle.rh_line.specs.declared.leg.LegKind.{LegKind}
 use Rattle.rh_line.specs.declared.leg.LegKind.TheVariants.{ClientOut, OutServer, ClientIn, InServer}
 use Rattle.rh_record.specs.declared.answer.Who.{Who}
 use Rattle.rh_record.specs.declared.answer.Who.TheVariants.{Client, In, Out}
-use Rattle.rh_shell.specs.Moving as moving
 use Rattle.rh_shell.specs.Shells as shell
 use Rattle.rh_shell.specs.Shells.{Shell}
 use Rattle.rh_nodes.specs.declared.event.Event.TheVariants.{Comes}
@@ -23,14 +22,14 @@ use Rattle.rh_nodes.specs.Giving.{Deeds}
 use Rattle.rh_nodes.specs.Halves.{is_same}
 use Rattle.rh_nodes.specs.Legs as legs
 use Rattle.rh_nodes.specs.Opening.{Makers, at_moment, reader_before}
-use Rattle.rh_nodes.specs.Places.{is_absent}
+use Rattle.rh_nodes.specs.Places.{is_absent, most_legs, one_fewer}
 use Rattle.rh_nodes.specs.Readers.{reader_of, with_reader}
 use Rattle.rh_nodes.specs.Settling.{leg_at}
 use Rattle.rh_nodes.specs.Wires as wires
 use Rattle.rh_nodes.specs.Wires.{sender, receiver}
 use Rattle.rh_nodes.specs.World.{World, at}
 use Rattle.rh_history.specs.Changes.{Change, IsTold, IsFed, IsDrawn, GoesUp, RaisesAlone, GoesDown, OpensIn, OpensOut, OpensSame, Gives, Takes, Closes, MayChange, StandsAt, changed, may_have}
-use Rattle.rh_history.specs.Histories.{History, told_to, in_place, out_place, noted}
+use Rattle.rh_history.specs.Histories.{History, in_place, out_place, noted}
 use Rattle.rh_history.specs.Carried.{wire_at, end_node, came_up, events_of, is_of_client, IsTraced, LegsComeUpOnce}
 use Rattle.rh_history.proofs.Ledgers.{who_itself}
 use Rattle.rh_history.proofs.Lines.{same_who}
@@ -40,21 +39,18 @@ use Rattle.rh_history.proofs.Numbers.{asked}
 use Rattle.rh_history.proofs.Wired.{is_up_at}
 use Rattle.rh_let_go.proofs.Lists.{AtMost, at_most_still, at_most_more, at_most_less}
 use Rattle.rh_let_go.proofs.Standing.{IsUp, raised, lowered, put_is_up, taken_is_up, reader_here, read_is_up}
-use Rattle.rh_let_go.proofs.Counts.{is_proxy, count_at, same_count, made_count, told_count, drawn_count, up_count, up_elsewhere, left_count, left_elsewhere}
-use Rattle.rh_let_go.proofs.CameUp.{came, came_grows, came_rises}
+use Rattle.rh_let_go.proofs.Counts.{fewer_is, is_proxy, count_at, same_count, made_count, told_count, drawn_count, up_count, up_elsewhere, left_count, left_elsewhere}
 
 -- the legs that are up for a node
 abbrev pub AreUp : {K C S I O : Type 0} → World K C S I O → Who → Leg → Type 0
 AreUp w x leg = IsUp w.legs w.readers x leg
 
 -- no more are up for a proxy than it counts, while its count doesn't stand still
-pub record IsCounted {K C S I O : Type 0} (w : World K C S I O) (h : History) (x : Who)
-    : Type 0 where
-  pub below : count_at w.company x ≤ came h x
-  pub counted : came h x ≤ 4294967295 → AtMost (AreUp w x) (count_at w.company x)
+pub record IsCounted {K C S I O : Type 0} (w : World K C S I O) (x : Who) : Type 0 where
+  pub counted : count_at w.company x ≢ most_legs → AtMost (AreUp w x) (count_at w.company x)
 
 abbrev pub AreCounted : {K C S I O : Type 0} → World K C S I O → History → Type 0
-AreCounted w h = (x : Who) → is_proxy x ≡ true → IsCounted w h x
+AreCounted w h = (x : Who) → is_proxy x ≡ true → IsCounted w x
 
 -- the client has its own end of its legs
 client_end : (readers : List ℕ) (leg : Leg) → is_of_client leg.kind ≡ true
@@ -80,50 +76,43 @@ module _ {K C S I O : Type 0} (r : Rulebook C S I O) (m : Makers K I O) (d : Dee
 
   -- ---- what becomes of the count of one proxy
 
-  module _ (change : Change) (v : World K C S I O) (x : Who) (k : IsCounted w h x) where
+  module _ (v : World K C S I O) (x : Who) (k : IsCounted w x) where
     -- nothing
     stays : count_at v.company x ≡ count_at w.company x
-        → ((leg : Leg) → AreUp v x leg → AreUp w x leg) → IsCounted v (noted w h change) x
-    stays same was =
-        let below = k.below in
-        let grows = came_grows r w h change x in
-        record {
-          below = omega (arith, same, below, grows);
-          counted = λ fits. subst (AtMost (AreUp v x)) (sym same)
-              (at_most_still (AreUp w x) (AreUp v x) (count_at w.company x)
-              (k.counted (omega (arith, grows, fits))) was);
-        }
+        → ((leg : Leg) → AreUp v x leg → AreUp w x leg) → IsCounted v x
+    stays same was = record {
+      counted = λ moves. subst (AtMost (AreUp v x)) (sym same)
+          (at_most_still (AreUp w x) (AreUp v x) (count_at w.company x)
+          (k.counted (λ end. moves (same ∙ end))) was);
+    }
 
     -- a leg comes up for it
-    rises : (new : Leg) → count_at v.company x ≡ min (count_at w.company x + 1) 4294967295
-        → came h x + 1 ≤ came (noted w h change) x
-        → ((leg : Leg) → AreUp v x leg → (leg ≡ new) ⊎ AreUp w x leg)
-        → IsCounted v (noted w h change) x
-    rises new one more was =
-        let below = k.below in
-        record {
-          below = omega (arith, one, below, more);
-          counted = λ fits.
-              let whole : count_at w.company x + 1 ≡ count_at v.company x =
-              omega (arith, one, below, more, fits) in
-              subst (AtMost (AreUp v x)) whole
-              (at_most_more (AreUp w x) (AreUp v x) (count_at w.company x)
-              (k.counted (omega (arith, more, fits))) new was);
-        }
+    rises : (new : Leg) → count_at v.company x ≡ min (count_at w.company x + 1) most_legs
+        → ((leg : Leg) → AreUp v x leg → (leg ≡ new) ⊎ AreUp w x leg) → IsCounted v x
+    rises new one was = record {
+      counted = λ moves.
+          ⊎_elim
+          (λ below.
+          let whole : count_at w.company x + 1 ≡ count_at v.company x = omega (arith, one, below) in
+          subst (AtMost (AreUp v x)) whole
+          (at_most_more (AreUp w x) (AreUp v x) (count_at w.company x)
+          (k.counted (λ end. omega (arith, below, end))) new was))
+          (λ at_end. absurd (moves (omega (arith, one, at_end))))
+          (cases_lt (count_at w.company x + 1) most_legs);
+    }
 
     -- one goes down
-    falls : (left : Leg) → AreUp w x left → count_at v.company x ≡ count_at w.company x - 1
-        → ((leg : Leg) → AreUp v x leg → AreUp w x leg × (leg ≢ left))
-        → IsCounted v (noted w h change) x
-    falls left up one was =
-        let below = k.below in
-        let grows = came_grows r w h change x in
-        record {
-          below = omega (arith, one, below, grows);
-          counted = λ fits. subst (AtMost (AreUp v x)) (sym one)
-              (at_most_less (AreUp w x) (AreUp v x) (count_at w.company x)
-              (k.counted (omega (arith, grows, fits))) left up was);
-        }
+    falls : (left : Leg) → AreUp w x left
+        → count_at v.company x ≡ one_fewer (count_at w.company x)
+        → ((leg : Leg) → AreUp v x leg → AreUp w x leg × (leg ≢ left)) → IsCounted v x
+    falls left up one was = record {
+      counted = λ moves.
+          let moved : count_at w.company x ≢ most_legs =
+          λ end. moves (one ∙ ap one_fewer end) in
+          subst (AtMost (AreUp v x)) (sym (one ∙ fewer_is (count_at w.company x) moved))
+          (at_most_less (AreUp w x) (AreUp v x) (count_at w.company x) (k.counted moved) left up
+          was);
+    }
 
   -- ---- where a leg comes up
 
@@ -144,47 +133,39 @@ module _ {K C S I O : Type 0} (r : Rulebook C S I O) (m : Makers K I O) (d : Dee
 
   module _ (node : Who) (leg : Leg) (end : Side) (cookie : Cookie)
       (may : company.may_up r w.company node leg ≡ true)
-      (stands : end_node w.readers leg end ≡ node) (change : Change)
-      (told : (x : Who) → told_to w change x
-      ≡ (if is_same node x then moving.ComesUp leg cookie ∷ [] else []))
-      (x : Who) (is : is_proxy x ≡ true) (k : IsCounted w h x) where
+      (stands : end_node w.readers leg end ≡ node) (x : Who) (is : is_proxy x ≡ true)
+      (k : IsCounted w x) where
     abbrev up_now : World K C S I O
     up_now = record w {
       company = company.up r w.company node leg cookie;
       legs = legs.raise leg end w.legs;
     }
 
-    up_here : is_same node x ≡ true → IsCounted up_now (noted w h change) x
+    up_here : is_same node x ≡ true → IsCounted up_now x
     up_here same =
         let it : node ≡ x = same_who node x same in
         let may_here : company.may_up r w.company x leg ≡ true =
         subst (λ (y : Who). company.may_up r w.company y leg ≡ true) it may in
-        rises change up_now x k leg
+        rises up_now x k leg
         (ap (λ (y : Who). count_at (company.up r w.company y leg cookie) x) it
         ∙ up_count r w.company x leg cookie is may_here)
-        (came_rises r w h change x leg cookie w.readers end is may_here (up_once x leg may_here)
-        (stands ∙ it)
-        (told x ∙ ap (λ b. if b then moving.ComesUp leg cookie ∷ [] else []) same))
         (λ other up. ⊎_elim (λ new. inl new.0) (λ old. inr old)
         (raised w.legs w.readers x leg end other up))
 
-    up_beside : is_same node x ≡ false → IsCounted up_now (noted w h change) x
+    up_beside : is_same node x ≡ false → IsCounted up_now x
     up_beside apart =
-        stays change up_now x k (up_elsewhere r w.company node leg cookie x apart)
+        stays up_now x k (up_elsewhere r w.company node leg cookie x apart)
         (λ other up. ⊎_elim
         (λ new. absurd (true≢false
         (sym (ap (λ y. is_same y x) (sym stands ∙ new.1) ∙ who_itself x) ∙ apart)))
         (λ old. old) (raised w.legs w.readers x leg end other up))
 
-    up_counted : IsCounted up_now (noted w h change) x
+    up_counted : IsCounted up_now x
     up_counted = ⊎_elim up_here up_beside (cases_Bool (is_same node x))
 
   change_up : (node : Who) (leg : Leg) (end : Side) (cookie : Cookie)
-      → MayChange r w (RaisesAlone node leg end cookie) → (change : Change)
-      → ((x : Who) → told_to w change x
-      ≡ (if is_same node x then moving.ComesUp leg cookie ∷ [] else []))
-      → (x : Who) → is_proxy x ≡ true → IsCounted w h x
-      → IsCounted (after (RaisesAlone node leg end cookie)) (noted w h change) x
+      → MayChange r w (RaisesAlone node leg end cookie) → (x : Who) → is_proxy x ≡ true
+      → IsCounted w x → IsCounted (after (RaisesAlone node leg end cookie)) x
   change_up node leg end cookie may =
       let up = may_come r m d first w h t.runs t.accepted once node leg may.0 in
       up_counted node leg end cookie up (stands_there node leg end up may.1)
@@ -192,27 +173,27 @@ module _ {K C S I O : Type 0} (r : Rulebook C S I O) (m : Makers K I O) (d : Dee
   -- ---- where one goes down
 
   module _ (node : Who) (leg : Leg) (end : Side) (may : MayChange r w (GoesDown node leg end))
-      (x : Who) (k : IsCounted w h x) where
+      (x : Who) (k : IsCounted w x) where
     abbrev down : Change
     down = GoesDown node leg end
 
-    down_here : is_same node x ≡ true → IsCounted (after down) (noted w h down) x
+    down_here : is_same node x ≡ true → IsCounted (after down) x
     down_here same =
         let it : node ≡ x = same_who node x same in
         let stands : end_node w.readers leg end ≡ x = may.stands ∙ it in
-        falls down (after down) x k leg
+        falls (after down) x k leg
         (record { end = end; stands = stands; up = sym (is_up_at w.legs leg end) ∙ may.up })
         (ap (λ (y : Who). count_at (company.leave r w.company y) x) it
         ∙ left_count r w.company x)
         (λ other up. let was = lowered w.legs w.readers x leg end other up in
         (was.0, was.1 stands))
 
-    down_beside : is_same node x ≡ false → IsCounted (after down) (noted w h down) x
+    down_beside : is_same node x ≡ false → IsCounted (after down) x
     down_beside apart =
-        stays down (after down) x k (left_elsewhere r w.company node x apart)
+        stays (after down) x k (left_elsewhere r w.company node x apart)
         (λ other up. (lowered w.legs w.readers x leg end other up).0)
 
-    down_counted : IsCounted (after down) (noted w h down) x
+    down_counted : IsCounted (after down) x
     down_counted = ⊎_elim down_here down_beside (cases_Bool (is_same node x))
 
   -- ---- where a leg of the client comes up
@@ -250,11 +231,9 @@ module _ {K C S I O : Type 0} (r : Rulebook C S I O) (m : Makers K I O) (d : Dee
   in_made n cookie may x = refl
 
   opens_in : (n : ℕ) (cookie : Cookie) → MayChange r w (OpensIn n cookie) → (x : Who)
-      → is_proxy x ≡ true → IsCounted w h x
-      → IsCounted (after (OpensIn n cookie)) (noted w h (OpensIn n cookie)) x
+      → is_proxy x ≡ true → IsCounted w x → IsCounted (after (OpensIn n cookie)) x
   opens_in n cookie may x is k =
-      let change = OpensIn n cookie in
-      stays change (after change) x k (in_made n cookie may x)
+      stays (after (OpensIn n cookie)) x k (in_made n cookie may x)
       (λ other up. read_is_up w.legs w.readers n n (low n may.2) x other
       (opened_up (leg_at ClientIn n) (with_reader w.readers n n) refl x is other up))
 
@@ -267,11 +246,9 @@ module _ {K C S I O : Type 0} (r : Rulebook C S I O) (m : Makers K I O) (d : Dee
   out_made n cookie may x = refl
 
   opens_out : (n : ℕ) (cookie : Cookie) → MayChange r w (OpensOut n cookie) → (x : Who)
-      → is_proxy x ≡ true → IsCounted w h x
-      → IsCounted (after (OpensOut n cookie)) (noted w h (OpensOut n cookie)) x
+      → is_proxy x ≡ true → IsCounted w x → IsCounted (after (OpensOut n cookie)) x
   opens_out n cookie may x is k =
-      let change = OpensOut n cookie in
-      stays change (after change) x k (out_made n cookie may x)
+      stays (after (OpensOut n cookie)) x k (out_made n cookie may x)
       (opened_up (leg_at ClientOut n) w.readers refl x is)
 
   -- or to the in proxy that reads the channel before, for which it is up as well
@@ -306,88 +283,79 @@ module _ {K C S I O : Type 0} (r : Rulebook C S I O) (m : Makers K I O) (d : Dee
     client_count : (x : Who) → count_at with_client x ≡ count_at w.company x
     client_count = same_count r w.company with_client refl refl
 
-    same_here : IsCounted w h reader → IsCounted (after opens) (noted w h opens) reader
+    same_here : IsCounted w reader → IsCounted (after opens) reader
     same_here k =
         let up : company.may_up r w.company reader in_leg ≡ true =
         may_come r m d first w h t.runs t.accepted once reader in_leg may.1 in
-        rises opens (after opens) reader k in_leg
+        rises (after opens) reader k in_leg
         (up_count r with_client reader in_leg cookie refl up)
-        (came_rises r w h opens reader in_leg cookie readers side.Server refl up
-        (up_once reader in_leg up) reader_stands
-        (ap (λ b. if b then moving.ComesUp in_leg cookie ∷ [] else []) (who_itself reader)))
         (λ other now. ⊎_elim (λ new. inl new.0) (λ old. inr old) (same_up reader refl other now))
 
-    same_beside : (x : Who) → is_proxy x ≡ true → is_same reader x ≡ false → IsCounted w h x
-        → IsCounted (after opens) (noted w h opens) x
+    same_beside : (x : Who) → is_proxy x ≡ true → is_same reader x ≡ false → IsCounted w x
+        → IsCounted (after opens) x
     same_beside x is apart k =
-        stays opens (after opens) x k
+        stays (after opens) x k
         (up_elsewhere r with_client reader in_leg cookie x apart ∙ client_count x)
         (λ other up. ⊎_elim
         (λ new. absurd (true≢false
         (sym (ap (λ y. is_same y x) new.1 ∙ who_itself x) ∙ apart)))
         (λ old. old) (same_up x is other up))
 
-    opens_same : (x : Who) → is_proxy x ≡ true → IsCounted w h x
-        → IsCounted (after opens) (noted w h opens) x
+    opens_same : (x : Who) → is_proxy x ≡ true → IsCounted w x → IsCounted (after opens) x
     opens_same x is k =
         ⊎_elim
         (λ it. let it_is = same_who reader x it in
-        subst (λ y. IsCounted (after opens) (noted w h opens) y) it_is
-        (same_here (subst (λ y. IsCounted w h y) (sym it_is) k)))
+        subst (λ y. IsCounted (after opens) y) it_is
+        (same_here (subst (λ y. IsCounted w y) (sym it_is) k)))
         (λ apart. same_beside x is apart k) (cases_Bool (is_same reader x))
 
   -- ---- all changes
 
   module _ (k : AreCounted w h) where
     -- the proxies and the legs stay
-    quiet : (change : Change) (v : World K C S I O) → v.company.ins ≡ w.company.ins
+    quiet : (v : World K C S I O) → v.company.ins ≡ w.company.ins
         → v.company.outs ≡ w.company.outs → v.legs ≡ w.legs → v.readers ≡ w.readers
-        → AreCounted v (noted w h change)
-    quiet change v ins outs legs_stay readers_stay x is =
-        stays change v x (k x is) (same_count r w.company v.company ins outs x)
+        → (x : Who) → is_proxy x ≡ true → IsCounted v x
+    quiet v ins outs legs_stay readers_stay x is =
+        stays v x (k x is) (same_count r w.company v.company ins outs x)
         (λ leg up. subst (λ (all : Legs). IsUp all w.readers x leg) legs_stay
         (subst (λ (readers : List ℕ). IsUp v.legs readers x leg) readers_stay up))
 
     pub change_counted : (change : Change) → MayChange r w change
         → AreCounted (after change) (noted w h change)
     change_counted (IsTold node event) may x is =
-        let change = IsTold node event in
-        stays change (after change) x (k x is) (told_count r w.company node event x)
+        stays (after (IsTold node event)) x (k x is) (told_count r w.company node event x)
         (λ leg up. up)
     change_counted (IsFed leg dir count) may x is =
-        let change = IsFed leg dir count in
-        stays change (after change) x (k x is)
+        stays (after (IsFed leg dir count)) x (k x is)
         (told_count r w.company (at w leg (receiver dir))
         (Comes leg (legs.take_out leg dir count w.legs).1) x)
         (taken_is_up w.legs w.readers x leg (receiver dir) dir count
         (sym (is_up_at w.legs leg (receiver dir)) ∙ may))
     change_counted (IsDrawn leg dir count) may x is =
-        let change = IsDrawn leg dir count in
         let node = at w leg (sender dir) in
-        stays change (after change) x (k x is) (drawn_count r w.company node leg count x)
+        stays (after (IsDrawn leg dir count)) x (k x is) (drawn_count r w.company node leg count x)
         (put_is_up w.legs w.readers x leg (sender dir) dir
         (company.draw r w.company node leg count).1
         (sym (is_up_at w.legs leg (sender dir)) ∙ may))
     change_counted (GoesUp node leg end cookie) may x is =
-        change_up node leg end cookie (may.0, may.1) (GoesUp node leg end cookie) (λ y. refl) x is
-        (k x is)
+        change_up node leg end cookie (may.0, may.1) x is (k x is)
     change_counted (RaisesAlone node leg end cookie) may x is =
-        change_up node leg end cookie may (RaisesAlone node leg end cookie) (λ y. refl) x is
-        (k x is)
+        change_up node leg end cookie may x is (k x is)
     change_counted (GoesDown node leg end) may x is = down_counted node leg end may x (k x is)
     change_counted (OpensIn n cookie) may x is = opens_in n cookie may x is (k x is)
     change_counted (OpensOut n cookie) may x is = opens_out n cookie may x is (k x is)
     change_counted (OpensSame n cookie) may x is = opens_same n cookie may x is (k x is)
     change_counted (Gives side.Client pdu) may x is =
-        quiet (Gives side.Client pdu) (after (Gives side.Client pdu)) refl refl refl refl x is
+        quiet (after (Gives side.Client pdu)) refl refl refl refl x is
     change_counted (Gives side.Server pdu) may x is =
-        quiet (Gives side.Server pdu) (after (Gives side.Server pdu)) refl refl refl refl x is
+        quiet (after (Gives side.Server pdu)) refl refl refl refl x is
     change_counted (Takes side.Client) may x is =
-        quiet (Takes side.Client) (after (Takes side.Client)) refl refl refl refl x is
+        quiet (after (Takes side.Client)) refl refl refl refl x is
     change_counted (Takes side.Server) may x is =
-        quiet (Takes side.Server) (after (Takes side.Server)) refl refl refl refl x is
+        quiet (after (Takes side.Server)) refl refl refl refl x is
     change_counted (Closes side.Client) may x is =
-        quiet (Closes side.Client) (after (Closes side.Client)) refl refl refl refl x is
+        quiet (after (Closes side.Client)) refl refl refl refl x is
     change_counted (Closes side.Server) may x is =
-        quiet (Closes side.Server) (after (Closes side.Server)) refl refl refl refl x is
-    change_counted change may x is = quiet change (after change) refl refl refl refl x is
+        quiet (after (Closes side.Server)) refl refl refl refl x is
+    change_counted change may x is = quiet (after change) refl refl refl refl x is

@@ -1,7 +1,7 @@
 -- the count of the legs of a proxy, whatever happens to the nodes
 use Rattle.std.proofs.Common.{◌≡◌, ℕ, ◌+◌, ◌-◌, List, [], Bool, true, false, ◌||◌, if◌then◌else◌, get_or, min, None, refl, sym, ap, ◌∙◌, ⊎_elim, arith}
-use Rattle.std.specs.Prelude.{◌==◌, nat_lt}
-use Rattle.std.proofs.lemmas.Bool.{false≢true, cases_eq, eqb-false, ltb-false}
+use Rattle.std.specs.Prelude.{◌==◌, ◌≢◌, nat_lt}
+use Rattle.std.proofs.lemmas.Bool.{false≢true, cases_eq, eqb-false, ltb-false, ne_eqb}
 use Rattle.rh_rts.specs.declared.command.Cookie.{Cookie}
 use Rattle.rh_line.specs.declared.leg.Leg.{Leg}
 use Rattle.rh_record.specs.declared.answer.Who.{Who}
@@ -16,11 +16,17 @@ use Rattle.rh_nodes.specs.Company.{Company, Rulebook}
 use Rattle.rh_nodes.specs.Halves.{is_same}
 use Rattle.rh_nodes.specs.Numbered.{act, change, put_at}
 use Rattle.rh_nodes.specs.Places as places
-use Rattle.rh_nodes.specs.Places.{is_working}
+use Rattle.rh_nodes.specs.Places.{is_working, most_legs, one_fewer}
 use Rattle.rh_history.specs.Histories.{in_place, out_place}
 use Rattle.rh_history.proofs.NodeTraces.{in_may, out_may}
 use Rattle.rh_history.proofs.Numbers.{acted, acts_elsewhere, changed_here, changes_elsewhere, put_here, put_elsewhere}
 use Rattle.rh_let_go.specs.LetGo.{is_gone, was_let_go}
+
+-- ---- a count that does not stand still
+
+pub fewer_is : (legs : ℕ) → legs ≢ most_legs → one_fewer legs ≡ legs - 1
+fewer_is legs moves =
+    ap (λ b. if b then legs else legs - 1) (ne_eqb legs most_legs moves)
 
 -- ---- one place
 
@@ -48,21 +54,25 @@ module _ {S : Type 0} (rules : Rules S) where
   drawn_place leg room (Gone now) = refl
 
   up_place : (leg : Leg) (cookie : Cookie) (p : Place S) → places.may_up rules leg p ≡ true
-      → legs_at (places.up rules leg cookie p) ≡ min (legs_at p + 1) 4294967295
+      → legs_at (places.up rules leg cookie p) ≡ min (legs_at p + 1) most_legs
   up_place leg cookie Absent may = absurd (false≢true may)
   up_place leg cookie (Here node legs) may = refl
   up_place leg cookie (Gone now) may = absurd (false≢true may)
 
   -- a proxy that goes had one leg at most
-  left_place : (p : Place S) → legs_at (places.leave rules p) ≡ legs_at p - 1
+  left_place : (p : Place S) → legs_at (places.leave rules p) ≡ one_fewer (legs_at p)
   left_place Absent = refl
   left_place (Here node legs) = by (nat_lt 1 legs) (is_working rules node) refl
     where
       by : (more working : Bool) → nat_lt 1 legs ≡ more
-          → legs_at (if more || working then Here node (legs - 1) else Gone node.now) ≡ legs - 1
+          → legs_at (if more || working then Here node (one_fewer legs) else Gone node.now)
+          ≡ one_fewer legs
       by true working is = refl
       by false true is = refl
-      by false false is = let few = ltb-false 1 legs is in omega (arith, few)
+      by false false is =
+          let few = ltb-false 1 legs is in
+          let none : legs - 1 ≡ 0 = omega (arith, few) in
+          sym (fewer_is legs (λ end. omega (arith, few, end)) ∙ none)
   left_place (Gone now) = refl
 
 -- ---- the places of all numbers
@@ -160,7 +170,7 @@ module _ {C S I O : Type 0} (r : Rulebook C S I O) (c : Company C S I O) where
 
   pub up_count : (x : Who) (leg : Leg) (cookie : Cookie) → is_proxy x ≡ true
       → company.may_up r c x leg ≡ true
-      → count_at (company.up r c x leg cookie) x ≡ min (count_at c x + 1) 4294967295
+      → count_at (company.up r c x leg cookie) x ≡ min (count_at c x + 1) most_legs
   up_count Client leg cookie is may = absurd (false≢true is)
   up_count Server leg cookie is may = absurd (false≢true is)
   up_count (In n) leg cookie is may =
@@ -182,7 +192,7 @@ module _ {C S I O : Type 0} (r : Rulebook C S I O) (c : Company C S I O) where
 
   -- ---- a leg goes down
 
-  pub left_count : (x : Who) → count_at (company.leave r c x) x ≡ count_at c x - 1
+  pub left_count : (x : Who) → count_at (company.leave r c x) x ≡ one_fewer (count_at c x)
   left_count Client = refl
   left_count Server = refl
   left_count (In n) =

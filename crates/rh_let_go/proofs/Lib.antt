@@ -1,6 +1,5 @@
 mod Lists
 mod Standing
 mod Counts
-mod CameUp
 mod Counting
 mod NoneUp

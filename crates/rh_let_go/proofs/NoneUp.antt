@@ -1,72 +1,56 @@
 -- in all worlds that changes lead to, no leg is up for a proxy that was let go
-use Rattle.std.proofs.Common.{◌≡◌, List, [], true, false, get_or, refl, sym, ap, ◌∙◌, subst, ⊎_elim, arith}
+use Rattle.std.proofs.Common.{◌≡◌, [], true, false, refl, sym, ◌∙◌, subst, ⊎_elim, arith}
 use Rattle.std.proofs.lemmas.Bool.{cases_Bool}
 use Rattle.rh_text.specs.declared.ends.Side.{Side}
 use Rattle.rh_line.specs.declared.leg.Leg.{Leg}
 use Rattle.rh_record.specs.declared.answer.Who.{Who}
-use Rattle.rh_record.specs.declared.answer.Who.TheVariants.{Client, Server, In, Out}
+use Rattle.rh_record.specs.declared.answer.Who.TheVariants.{Client}
 use Rattle.rh_nodes.specs.declared.legs.Legs.{Legs}
-use Rattle.rh_nodes.specs.declared.place.Place.{Place}
-use Rattle.rh_nodes.specs.declared.place.Place.TheVariants.{Absent}
 use Rattle.rh_nodes.specs.Company.{Rulebook}
 use Rattle.rh_nodes.specs.Giving.{Deeds}
 use Rattle.rh_nodes.specs.Legs as legs
 use Rattle.rh_nodes.specs.Opening.{Makers}
 use Rattle.rh_nodes.specs.World.{World, at}
 use Rattle.rh_history.specs.Changes.{Leads}
-use Rattle.rh_history.specs.Histories.{History, all_noted, nothing, IsNew}
+use Rattle.rh_history.specs.Histories.{nothing, IsNew}
 use Rattle.rh_history.specs.Carried.{LegsComeUpOnce}
 use Rattle.rh_history.proofs.Recordings.{traced_first}
 use Rattle.rh_history.proofs.Wired.{is_up_at}
 use Rattle.rh_traced.proofs.Along.{kept_along}
-use Rattle.rh_let_go.specs.LetGo.{CountsFit, was_let_go}
+use Rattle.rh_let_go.specs.LetGo.{was_let_go}
 use Rattle.rh_let_go.proofs.Lists.{AtMost, at_most_none}
 use Rattle.rh_let_go.proofs.Standing.{IsUp, none_is_up}
-use Rattle.rh_let_go.proofs.Counts.{legs_at, count_at, let_go_has_none, let_go_is_proxy}
-use Rattle.rh_let_go.proofs.CameUp.{came_fit}
+use Rattle.rh_let_go.proofs.Counts.{count_at, let_go_has_none, let_go_is_proxy}
 use Rattle.rh_let_go.proofs.Counting.{AreUp, IsCounted, AreCounted, change_counted}
 
 module _ {K C S I O : Type 0} (r : Rulebook C S I O) (m : Makers K I O) (d : Deeds C S) where
   counted_first : (w : World K C S I O) → IsNew w → AreCounted w nothing
-  counted_first w new x is =
-      let none = no_places x in
-      record {
-        below = omega (arith, none);
-        counted = λ fits. record {
-          list = [];
-          has = λ leg up. absurd (none_is_up w.readers x leg
-              (subst (λ (all : Legs). IsUp all w.readers x leg) new.low up));
-          short = omega arith;
-        };
-      }
-    where
-      no_places : (x : Who) → count_at w.company x ≡ 0
-      no_places Client = refl
-      no_places Server = refl
-      no_places (In n) =
-          ap (λ (list : List (Place I)). legs_at (get_or list n Absent)) new.ins
-      no_places (Out n) =
-          ap (λ (list : List (Place O)). legs_at (get_or list n Absent)) new.outs
+  counted_first w new x is = record {
+    counted = λ moves. record {
+      list = [];
+      has = λ leg up. absurd (none_is_up w.readers x leg
+          (subst (λ (all : Legs). IsUp all w.readers x leg) new.low up));
+      short = omega arith;
+    };
+  }
 
   pub none_up : (w v : World K C S I O) → IsNew w → LegsComeUpOnce r m d w.company w.cast
-      → (leads : Leads r m d w v) → CountsFit (all_noted r m d w nothing leads.changes)
-      → (leg : Leg) (end : Side) → was_let_go v.company (at v leg end) ≡ true
+      → Leads r m d w v → (leg : Leg) (end : Side) → was_let_go v.company (at v leg end) ≡ true
       → legs.is_up leg end v.legs ≡ false
-  none_up w v new once leads fit leg end gone =
+  none_up w v new once leads leg end gone =
       ⊎_elim
       (λ up. absurd (at_most_none (AreUp v x)
-      (subst (AtMost (AreUp v x)) (let_go_has_none r v.company x gone)
-      (k.counted (came_fit h fit x)))
+      (subst (AtMost (AreUp v x)) none (k.counted (λ end. absurd (omega (arith, none, end)))))
       leg (record { end = end; stands = refl; up = sym (is_up_at v.legs leg end) ∙ up })))
       (λ down. down) (cases_Bool (legs.is_up leg end v.legs))
     where
       x : Who
       x = at v leg end
 
-      h : History
-      h = all_noted r m d w nothing leads.changes
+      none : count_at v.company x ≡ 0
+      none = let_go_has_none r v.company x gone
 
-      k : IsCounted v h x
+      k : IsCounted v x
       k =
           kept_along r m d w.company AreCounted
           (λ u g t once k change may. change_counted r m d w.company u g t once k change may) w v

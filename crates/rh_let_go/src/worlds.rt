@@ -10,15 +10,14 @@ ghost use Rattle.rh_nodes.specs.Opening.{Makers};
 ghost use Rattle.rh_nodes.specs.World.{World, at};
 ghost use Rattle.rh_history.specs.Carried.{LegsComeUpOnce};
 ghost use Rattle.rh_history.specs.Changes.{Leads};
-ghost use Rattle.rh_history.specs.Histories.{IsNew, all_noted, nothing};
-ghost use Rattle.rh_let_go.specs.LetGo.{CountsFit, was_let_go};
+ghost use Rattle.rh_history.specs.Histories.{IsNew};
+ghost use Rattle.rh_let_go.specs.LetGo.{was_let_go};
 
 /// In each world that changes lead to from a new one, whose roles have each leg up at most once: no
-/// leg is up for a proxy that was let go, as long as the counts of legs fit their type. A count
-/// that stood still at the end of its type would come to nothing while legs are up.
+/// leg is up for a proxy that was let go.
 pub fn a_proxy_that_was_let_go_has_no_leg_up<K, C, S, I, O>()
     ensures { (r : Rulebook C S I O) (m : Makers K I O) (d : Deeds C S) (w v : World K C S I O)
-        → IsNew w → LegsComeUpOnce r m d w.company w.cast → (leads : Leads r m d w v)
-        → CountsFit (all_noted r m d w nothing leads.changes) → (leg : Leg) (end : Side)
+        → IsNew w → LegsComeUpOnce r m d w.company w.cast → Leads r m d w v
+        → (leg : Leg) (end : Side)
         → was_let_go v.company (at v leg end) ≡ true → legs.is_up leg end v.legs ≡ false }
 {}

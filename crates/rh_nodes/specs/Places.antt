@@ -53,11 +53,15 @@ finished rules leg Absent = false
 finished rules leg (Here node legs) = shell.finished rules node leg
 finished rules leg (Gone now) = true
 
+-- the end of the type of a count of legs
+abbrev pub most_legs : ℕ
+most_legs = 4294967295
+
 -- one leg more; their count stands still at the end of its type
 abbrev pub up : {S : Type 0} → Rules S → Leg → Cookie → Place S → Place S
 up rules leg cookie Absent = Absent
 up rules leg cookie (Here node legs) =
-    Here (shell.up rules node leg cookie) (min (legs + 1) 4294967295)
+    Here (shell.up rules node leg cookie) (min (legs + 1) most_legs)
 up rules leg cookie (Gone now) = Gone now
 
 abbrev pub still_here : {S : Type 0} → ℕ → Shell S × Option Cause → Place S × Option Cause
@@ -78,7 +82,7 @@ draw rules leg room (Gone now) = (Gone now, [])
 
 -- one leg fewer; a count that stood still does not tell any more how many there are, and stays
 abbrev pub one_fewer : ℕ → ℕ
-one_fewer legs = if legs == 4294967295 then legs else legs - 1
+one_fewer legs = if legs == most_legs then legs else legs - 1
 
 -- a leg is not up any more: the proxy goes with the last one, where it ended or closed
 abbrev pub leave : {S : Type 0} → Rules S → Place S → Place S

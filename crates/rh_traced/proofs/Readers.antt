@@ -18,7 +18,7 @@ use Rattle.rh_nodes.specs.Legs as legs
 use Rattle.rh_nodes.specs.Numbered.{change, put_at}
 use Rattle.rh_nodes.specs.Opening.{Makers, at_moment, reader_before}
 use Rattle.rh_nodes.specs.Places as places
-use Rattle.rh_nodes.specs.Places.{is_absent, is_working}
+use Rattle.rh_nodes.specs.Places.{is_absent, is_working, one_fewer}
 use Rattle.rh_nodes.specs.Readers.{reader_of, with_reader}
 use Rattle.rh_nodes.specs.Settling.{leg_at}
 use Rattle.rh_nodes.specs.Wires.{sender, receiver}
@@ -134,7 +134,8 @@ leave_made : {S : Type 0} (rules : Rules S) (p : Place S)
 leave_made rules Absent = refl
 leave_made {S} rules (Here node legs) = by (nat_lt 1 legs || is_working rules node)
   where
-    by : (t : Bool) → not (is_absent (if t then Here node (places.one_fewer legs) else Gone node.now)) ≡ true
+    by : (t : Bool)
+        → not (is_absent (if t then Here node (one_fewer legs) else Gone node.now)) ≡ true
     by true = refl
     by false = refl
 leave_made rules (Gone now) = refl

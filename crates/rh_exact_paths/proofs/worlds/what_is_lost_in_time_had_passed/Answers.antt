@@ -20,7 +20,7 @@ use Rattle.rh_exact_paths.proofs.worlds.what_is_lost_in_time_had_passed.Goals as
 
 pub returns : goal.returns
 returns g c = record {
-  down = λ m w new ours ranges port v ends fit going.
+  down = λ m w new ours ranges port v ends going.
       let changes = ends.lines.leads.changes in
       let h = all_noted rules m deeds w nothing changes in
       let numbers = numbers_of ours in
@@ -29,8 +29,8 @@ returns g c = record {
       → NoneStopsButBehindEnd (down_route_of ways.directions) (down_lost numbers x h))
       ends.lines.leads.reached
       (none_stops_down m w new ours nodes (world m w new ours ranges port) changes
-      ends.lines.leads.allowed ends.lines.work ends.in_time going fit);
-  up = λ m w new ours ranges port v ends fit going.
+      ends.lines.leads.allowed ends.lines.work ends.in_time going);
+  up = λ m w new ours ranges port v ends going.
       let changes = ends.lines.leads.changes in
       let h = all_noted rules m deeds w nothing changes in
       let numbers = numbers_of ours in
@@ -39,7 +39,7 @@ returns g c = record {
       → NoneStopsButBehindEnd (up_route_of ways.directions) (up_lost numbers x h))
       ends.lines.leads.reached
       (none_stops_up m w new ours nodes (world m w new ours ranges port) changes
-      ends.lines.leads.allowed ends.lines.work ends.in_time going fit);
+      ends.lines.leads.allowed ends.lines.work ends.in_time going);
 }
   where
     nodes : NodeLaws
