@@ -12,8 +12,8 @@ use rh_http::lengths::PING_ROOM;
 use rh_http::{write_echo, write_out_response};
 use rh_line::{Leg, Which};
 use rh_shell::{Begun, Due, Gate};
-use rh_sig::lengths::PING_LEN;
 use rh_sig::Named;
+use rh_sig::lengths::PING_LEN;
 
 /// The most bytes of a response, with the Echo packet behind it.
 pub const RESPONSE_ROOM: usize = 128;
