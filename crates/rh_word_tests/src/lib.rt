@@ -5,10 +5,14 @@
 #[cfg(test)]
 mod answering;
 #[cfg(test)]
+mod forms;
+#[cfg(test)]
 mod make;
 #[cfg(test)]
 mod replay;
 #[cfg(test)]
 mod show;
+#[cfg(test)]
+mod texts;
 #[cfg(test)]
 mod world;

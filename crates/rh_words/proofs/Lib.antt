@@ -3,3 +3,5 @@ pub mod Coming
 mod Gathering
 mod Settling
 mod Writing
+mod FormLaws
+mod Memory

@@ -6,3 +6,4 @@ pub mod Replays
 pub mod Show
 pub mod Shows
 pub mod Forms
+pub mod Memory

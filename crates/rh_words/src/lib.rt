@@ -1,19 +1,27 @@
 //! The words of the program, without the program: what asks for each, what it reads and writes, and
-//! how it ends.
+//! how it ends; and the top call, which may carry what is claimed of all recordings.
 #![tactic(auto)]
 
+pub mod claims;
 pub mod form;
 pub mod help;
+pub mod in_memory;
 pub mod output;
+pub mod program;
 pub mod replay;
+pub mod running;
 pub mod show;
 pub mod status;
 pub mod telling;
 pub mod word;
 
+pub use claims::{Claims, Plain};
 pub use form::{Form, form_of};
 pub use help::HELP;
+pub use in_memory::run_in_memory;
+pub use program::run_program;
 pub use replay::Replay;
+pub use running::{VERSION, run};
 pub use show::Show;
 pub use status::Status;
 pub use telling::{tell, tell_summary};

@@ -1,9 +1,8 @@
 //! The forms of the words, and what needs no text.
 
-use super::ROOM;
-use crate::run::run;
+use crate::answering::ROOM;
 use rh_io::{MemSink, MemSource};
-use rh_words::{HELP, Status};
+use rh_words::{HELP, Plain, Status, run};
 use std::test::Fail;
 
 #[test]
@@ -28,7 +27,7 @@ fn words_in_no_form_are_usage(rt: HostRuntime) -> Result<(), Fail> {
         }
         let mut input = MemSource::new(Vec::new(rt.alloc()), Vec::new(rt.alloc()));
         let mut output = MemSink::new(rt.alloc(), ROOM, Vec::new(rt.alloc()))?;
-        let status = run(rt.alloc(), &given, &mut input, &mut output);
+        let status = run::<Plain, _, _>(rt.alloc(), &given, &mut input, &mut output);
         assert_eq!(rt; status, Status::Usage);
         assert_eq!(rt; status.number(), 1);
     }
@@ -46,7 +45,10 @@ fn the_program_tells_of_itself(rt: HostRuntime) -> Result<(), Fail> {
             let words = vec![in rt.alloc(); String::from_str(rt.alloc(), word)?]?;
             let mut input = MemSource::new(Vec::new(rt.alloc()), Vec::new(rt.alloc()));
             let mut output = MemSink::new(rt.alloc(), ROOM, vec![in rt.alloc(); fails]?)?;
-            assert_eq!(rt; run(rt.alloc(), &words, &mut input, &mut output), status);
+            assert_eq!(rt;
+                run::<Plain, _, _>(rt.alloc(), &words, &mut input, &mut output),
+                status
+            );
             let whole = output.written() == text.as_bytes();
             assert_eq!(rt; whole, status == Status::Done, "{word}");
         }
@@ -65,7 +67,7 @@ fn a_generated_recording_is_summed_up(rt: HostRuntime) -> Result<(), Fail> {
     let mut input = MemSource::new(Vec::new(rt.alloc()), Vec::new(rt.alloc()));
     let mut output = MemSink::new(rt.alloc(), ROOM, Vec::new(rt.alloc()))?;
     assert_eq!(rt;
-        run(rt.alloc(), &words, &mut input, &mut output),
+        run::<Plain, _, _>(rt.alloc(), &words, &mut input, &mut output),
         Status::Done
     );
     assert!(rt; output.written() == THREE.as_bytes());

@@ -3,9 +3,9 @@ use Rattle.std.proofs.Common.{sym, ap, subst}
 use Rattle.rh_words.specs.declared.form.Form.{Form}
 use Rattle.rh_words.specs.Forms.{Ran, outside}
 use Rattle.rh_words.specs.declared.help.TheConstants.{HELP}
-use Rattle.rh_cli.specs.declared.run.TheConstants.{VERSION}
-use Rattle.rh_cli.proofs.FormLaws.{only_make, by_memory}
-use Rattle.rh_cli.proofs.run.run.Goals as goal
+use Rattle.rh_words.specs.declared.running.TheConstants.{VERSION}
+use Rattle.rh_words.proofs.FormLaws.{only_make, by_memory}
+use Rattle.rh_words.proofs.running.run.Goals as goal
 
 pub returns-in-Some-Make-clause-ran : goal.returns-in-Some-Make-clause-ran
 returns-in-Some-Make-clause-ran g c = λ form is.

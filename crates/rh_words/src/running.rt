@@ -4,13 +4,18 @@ ghost use Rattle.std.specs.Prelude.{◌≡◌, ℕ, List};
 ghost use Rattle.rh_record.specs.declared.line.Line.{Line};
 ghost use Rattle.rh_words.specs.declared.form.Form.{Form};
 ghost use Rattle.rh_words.specs.Forms.{IsForm, Ran, outside};
-ghost use Rattle.rh_cli.specs.Claims.{Claims};
 
-use crate::claims::recordings_keep_to_their_claims;
+use crate::claims::Claims;
+use crate::form::{Form, form_of};
+use crate::help::HELP;
+use crate::replay::Replay;
+use crate::show::Show;
+use crate::status::Status;
+use crate::telling::{tell, tell_summary};
+use crate::word::answer;
 use rh_io::{Sink, Source};
 use rh_record::Recording;
 use rh_show::Packets;
-use rh_words::{Form, HELP, Replay, Show, Status, answer, form_of, tell, tell_summary};
 use std::alloc::Global;
 
 /// What `--version` tells.
@@ -24,12 +29,8 @@ pub const VERSION: &str = "rh_cli 0.1.0\n";
 /// what its report comes to. `--help` and `--version` alone write a text. These three read nothing.
 /// Other words are `Usage`.
 ///
-/// Of every recording, whatever the words are: at every line of its report the PDUs that an end
-/// took are a front of those that the other end gave, each once and in order. An end takes none
-/// after it closed, and has taken all of them where it reports a clean end. No more is held for a
-/// channel than its window, and each node is reported as closed once at most, by a line whose
-/// answers show why; each later answer of that end names the same cause.
-pub fn run<R: Source, W: Sink>(
+/// Of every recording, whatever the words are, what `C` claims holds.
+pub fn run<C: Claims, R: Source, W: Sink>(
     alloc: Global,
     words: &[String],
     input: &mut R,
@@ -45,9 +46,9 @@ pub fn run<R: Source, W: Sink>(
         (form : Form) → IsForm form words.now
         → Ran HELP.now VERSION.now (R.unfailing input.old) form result
         (seen input.old output.old) (seen input.new output.new) }
-    ensures claims { (lines : List Line) → Claims lines }
+    ensures claims { (lines : List Line) → C.claim lines }
 {
-    recordings_keep_to_their_claims();
+    C::hold();
     match form_of(words) {
         Some(Form::Replay) => Status::from(answer::<Recording, Replay, R, W>(alloc, input, output)),
         Some(Form::Show) => Status::from(answer::<Packets, Show, R, W>(alloc, input, output)),

@@ -1,10 +1,8 @@
 //! Texts that are replayed or shown.
 
-use super::ROOM;
-use crate::laws::run_in_memory;
-use crate::run::run;
+use crate::answering::ROOM;
 use rh_io::{MemSink, MemSource};
-use rh_words::Status;
+use rh_words::{Plain, Status, run, run_in_memory};
 use std::test::Fail;
 
 // The recording of a PDU that is moved in two pieces, and its report.
@@ -52,7 +50,7 @@ fn a_replay_and_a_show_tell_what_their_input_is(rt: HostRuntime) -> Result<(), F
             let mut input = MemSource::new(bytes, vec![in rt.alloc(); fails]?);
             let mut output = MemSink::new(rt.alloc(), ROOM, Vec::new(rt.alloc()))?;
             assert_eq!(rt;
-                run(rt.alloc(), &words, &mut input, &mut output),
+                run::<Plain, _, _>(rt.alloc(), &words, &mut input, &mut output),
                 status,
                 "{word}"
             );

@@ -1,13 +1,15 @@
-//! What holds of runs in memory of which no call is to fail.
+//! Runs in memory of which no call is to fail.
 
 ghost use Rattle.std.specs.Prelude.{◌≡◌, IfOk};
 ghost use Rattle.rh_words.specs.declared.form.Form.{Form};
 ghost use Rattle.rh_words.specs.Forms.{IsForm};
-ghost use Rattle.rh_cli.specs.Memory.{IsRoomFor, RanInMemory};
+ghost use Rattle.rh_words.specs.Memory.{IsRoomFor, RanInMemory};
 
-use crate::run::{VERSION, run};
+use crate::claims::Plain;
+use crate::help::HELP;
+use crate::running::{VERSION, run};
+use crate::status::Status;
 use rh_io::{MemSink, MemSource, NoMemory, Sink};
-use rh_words::{HELP, Status};
 use std::alloc::Global;
 
 /// Does what the words say, from bytes in memory to at most `room` bytes in memory.
@@ -30,6 +32,6 @@ pub fn run_in_memory(
 {
     let mut input = MemSource::new(bytes, Vec::new(alloc));
     let mut output = MemSink::new(alloc, room, Vec::new(alloc))?;
-    let status = run(alloc, words, &mut input, &mut output);
+    let status = run::<Plain, MemSource, MemSink>(alloc, words, &mut input, &mut output);
     Ok((status, output))
 }

@@ -1,8 +1,8 @@
 -- neither end of the run fails
 use Rattle.rh_words.specs.declared.help.TheConstants.{HELP}
-use Rattle.rh_cli.specs.declared.run.TheConstants.{VERSION}
-use Rattle.rh_cli.proofs.Memory.{ran_in_memory}
-use Rattle.rh_cli.proofs.laws.run_in_memory.Goals as goal
+use Rattle.rh_words.specs.declared.running.TheConstants.{VERSION}
+use Rattle.rh_words.proofs.Memory.{ran_in_memory}
+use Rattle.rh_words.proofs.in_memory.run_in_memory.Goals as goal
 
 pub returns-clause-ran : goal.returns-clause-ran
 returns-clause-ran c = λ form is fits.

@@ -3,7 +3,7 @@
 
 ghost use Rattle.std.specs.Prelude.{List};
 ghost use Rattle.rh_record.specs.declared.line.Line.{Line};
-ghost use Rattle.rh_cli.specs.Claims.{Claims};
+ghost use Rattle.law_run.specs.Claims.{Claims};
 
 use rh_bodies::no_body_of_a_recording_is_too_long;
 use rh_bounds::windows_hold_in_every_recording;

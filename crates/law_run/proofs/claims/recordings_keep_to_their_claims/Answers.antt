@@ -5,8 +5,8 @@ use Rattle.rh_record.specs.declared.line.Line.{Line}
 use Rattle.rh_world.specs.declared.any_world.AnyWorld.TheVariants.{Before}
 use Rattle.rh_world.specs.Any.{after, run}
 use Rattle.rh_ordered.specs.Counted.{CountsCapped}
-use Rattle.rh_cli.specs.Claims.{RolesAreHonest}
-use Rattle.rh_cli.proofs.claims.recordings_keep_to_their_claims.Goals as goal
+use Rattle.law_run.specs.Claims.{RolesAreHonest}
+use Rattle.law_run.proofs.claims.recordings_keep_to_their_claims.Goals as goal
 
 pub returns : goal.returns
 returns c = λ lines. record {

@@ -19,7 +19,7 @@ use Rattle.rh_words.specs.Statuses.{status_of}
 use Rattle.rh_words.specs.Replay.{IsReplayed}
 use Rattle.rh_words.specs.Show.{IsShown}
 use Rattle.rh_words.specs.Forms.{Outside, Reads, Tells, Ran}
-use Rattle.rh_cli.specs.Memory.{IsRoomFor, NoneFailed, RanInMemory}
+use Rattle.rh_words.specs.Memory.{IsRoomFor, NoneFailed, RanInMemory}
 use Rattle.rh_words.proofs.Coming.{all_came}
 
 -- where nothing was written before, all is what was appended
