@@ -3,12 +3,20 @@
 import os
 import pathlib
 import pty
+import re
 import shutil
+import signal
 import subprocess
+import sys
 import tempfile
+import time
 import unittest
 
+import program_crates
+
 TOP = pathlib.Path(__file__).resolve().parent.parent
+SCRIPTS = ["run_program.py", "build_program.py", "prove_beside.py", "program_crates.py"]
+CRATES = "# crates\nlow: hex\nmiddle: low hex\naside:\nother: low\nrh_cli: middle aside low hex\n"
 PROGRAM = """#!/bin/sh
 case "$*" in
 replay | show) cat ;;
@@ -17,57 +25,141 @@ replay | show) cat ;;
 *) echo usage >&2; exit 1 ;;
 esac
 """
-# Proves two crates, of which one stands on the other, and builds the program.
-RT = """#!/bin/sh
-echo 'rt: chose --jobs 4 for low'
-echo 'so far: 1 of 2 functions checked'
-echo 'fn low::a: proved' >&2
-echo 'crate low: modules loaded=1 checked=1'
-echo 'rt: chose --jobs 4 for rh_cli'
-if [ -f ../../wrong ]; then
-    seq 22 | sed 's/.*/line & of the error/'
-    exit 1
-fi
-echo 'crate rh_cli: modules loaded=1 checked=1'
-mkdir -p out
-cp ../../program out/rh_cli
+# An rt of which each proof takes as long as the file 'slow' in the crate says, and fails at 'wrong'.
+RT = """#!/usr/bin/env python3
+import importlib.machinery
+import importlib.util
+import os
+import pathlib
+import shutil
+import subprocess
+import sys
+
+HERE = os.path.dirname(os.path.realpath(__file__))
+if os.path.isfile(f"{HERE}/rtlib.py"):
+    loader = importlib.machinery.SourceFileLoader("rtlib", f"{HERE}/rtlib.py")
+    rtlib = importlib.util.module_from_spec(importlib.util.spec_from_loader("rtlib", loader))
+    loader.exec_module(rtlib)
+
+def share_work(is_alone):
+    pass
+
+def prove(name):
+    print(f"rt: chose --jobs 4 for {name}", flush=True)
+    print("so far: 1 of 2 functions checked", flush=True)
+    print(f"fn {name}::a: proved", file=sys.stderr, flush=True)
+    crate = pathlib.Path(f"../{name}")
+    open(f"{os.environ['TMPDIR']}/proof-of-{name}", "w").close()
+    subprocess.run(["sleep", (crate / "slow").read_text() if (crate / "slow").exists() else "0"])
+    if (crate / "wrong").exists():
+        print((crate / "wrong").read_text(), end="", flush=True)
+        sys.exit(1)
+    os.remove(f"{os.environ['TMPDIR']}/proof-of-{name}")
+    print(f"crate {name}: modules loaded=1 checked=1", flush=True)
+
+if __name__ == "__main__":
+    if sys.argv[1] == "try":
+        print("run=ended status=0 proved=no", file=sys.stderr)
+        os.execv("../../program", ["program", *sys.argv[3:]])
+    for name in ["low", "middle", "aside"]:
+        if not os.path.exists(f"../{name}/out/rlib/stamp"):
+            prove(name)
+            os.makedirs(f"../{name}/out/rlib")
+            open(f"../{name}/out/rlib/stamp", "w").close()
+    prove("rh_cli")
+    shutil.copy("../../program", "out/rh_cli")
+    with open("../../proofs", "a") as file:
+        file.write("rh_cli\\n")
+"""
+# What tools/prove_beside.py uses of the kit's own code.
+RTLIB = """
+import os
+import pathlib
+import time
+
+def guarded():
+    return []
+
+def root_above(folder):
+    return os.path.dirname(os.path.dirname(folder))
+
+def lock(crates):
+    return []
+
+def fits(*needs):
+    return True
+
+class Crate:
+    def __init__(self, folder, root, known):
+        self.folder, self.name = folder, os.path.basename(folder)
+        lines = pathlib.Path(root, "crates.txt").read_text().splitlines()
+        listed = dict(line.split(":") for line in lines[1:])
+        own = [it for it in listed[self.name].split() if it in listed]
+        for it in own:
+            known[it] = known.get(it) or Crate(f"{root}/crates/{it}", root, known)
+        self.deps = [known[it] for it in own]
+        self.stamp = pathlib.Path(folder, "out/rlib/stamp")
+
+    def below(self):
+        found = []
+        for dep in self.deps:
+            found += [it for it in [*dep.below(), dep] if it not in found]
+        return found
+
+    def is_built(self):
+        return self.stamp.exists()
+
+    def need(self):
+        return 0
+
+    def build_rlib(self, flags, anew):
+        slow, wrong = pathlib.Path(self.folder, "slow"), pathlib.Path(self.folder, "wrong")
+        print("so far: 3 of 4 functions checked", file=self.out, flush=True)
+        pathlib.Path(os.environ["TMPDIR"], self.name).touch()
+        time.sleep(float(slow.read_text()) if slow.exists() else 0)
+        if wrong.exists():
+            print(wrong.read_text(), end="", file=self.out)
+            return 1
+        self.stamp.parent.mkdir(parents=True)
+        self.stamp.touch()
+        with open(os.path.join(self.folder, "../../proofs"), "a") as file:
+            file.write(self.name + "\\n")
+        return 0
 """
 
 
 class Commands(unittest.TestCase):
     def setUp(self):
         self.room = tempfile.TemporaryDirectory()
+        self.addCleanup(self.room.cleanup)
         self.top = pathlib.Path(self.room.name).resolve() / "a top"
-        for name in ("rh_cli", "replay", "tools/progress"):
+        for name in ("rh_cli", "replay", *[f"tools/{it}" for it in SCRIPTS]):
             (self.top / name).parent.mkdir(parents=True, exist_ok=True)
             shutil.copy(TOP / name, self.top / name)
-        (self.top / "crates.txt").write_text("# crates\nlow: hex\nother:\nrh_cli: low hex\n")
-        for name in ("src", "specs", "proofs"):
-            (self.top / "crates/rh_cli" / name).mkdir(parents=True)
-        (self.top / "crates/rh_cli/src/main.rt").write_text("")
+        (self.top / "crates.txt").write_text(CRATES)
+        for crate in ("low", "middle", "aside", "other", "rh_cli"):
+            for name in ("src", "specs", "proofs"):
+                (self.top / "crates" / crate / name).mkdir(parents=True)
+            (self.top / "crates" / crate / "src/lib.rt").write_text(f"// {crate}\n")
         (self.top / "recording").write_text("rh 1 direct\n")
-        for name, text in (("program", PROGRAM), ("bin/rt", RT)):
+        (self.top / "tmp").mkdir()
+        for name, text in (("program", PROGRAM), ("bin/rt", RT), ("bin/rtlib.py", RTLIB)):
             (self.top / name).parent.mkdir(exist_ok=True)
             (self.top / name).write_text(text)
             (self.top / name).chmod(0o755)
-
-        self.variables = os.environ | {
-            "PATH": f"{self.top / 'bin'}:{os.environ['PATH']}",
-            "TMPDIR": str(self.top),
-        }
-
-    def tearDown(self):
-        self.room.cleanup()
+        path = f"{self.top / 'bin'}:{os.environ['PATH']}"
+        self.variables = os.environ | {"PATH": path, "TMPDIR": str(self.top / "tmp")}
 
     def run_it(self, *words, text="", folder=None, **variables):
         how = {"input": text, "capture_output": True, "text": True, "check": False}
         return subprocess.run(words, **how, cwd=folder or self.top, env=self.variables | variables)
 
-    def age(self):
-        """Makes all files an hour older, so that a change of the test is newer."""
-        for path in self.top.rglob("*"):
-            seconds = path.stat().st_mtime - 3600
-            os.utime(path, (seconds, seconds))
+    def begin(self, *words, **how):
+        how = {"cwd": self.top, "env": self.variables, "stdin": subprocess.DEVNULL} | how
+        child = subprocess.Popen(words, **how)
+        self.addCleanup(child.wait)
+        self.addCleanup(child.kill)
+        return child
 
     def check(self, done, output, error, status):
         self.assertEqual((done.stdout, done.stderr, done.returncode), (output, error, status))
@@ -75,51 +167,226 @@ class Commands(unittest.TestCase):
     def build(self):
         self.assertEqual(self.run_it("./rh_cli", "--version").stdout, "rh_cli of a test\n")
 
-    def test_it_is_built_once_and_again_behind_a_change(self):
-        first = self.run_it("./rh_cli", "--version")
-        steps = ["rh_cli: 1 of 2 crates done", "rh_cli: 2 of 2 crates done", ""]
-        self.assertEqual(first.stderr.split("\n")[1:], steps)
+    def crate(self, name, file, text=""):
+        path = self.top / "crates" / name / file
+        path.write_text(text)
+        return path
+
+    def proofs(self):
+        """What was proved since the last call."""
+        path = self.top / "proofs"
+        found = path.read_text().split() if path.exists() else []
+        path.unlink(missing_ok=True)
+        return found
+
+    def left_behind(self):
+        """What a build left that is neither a library nor the program."""
+        kept = {"rlib", "stamp", "rh_cli", "rh_cli.sources"}
+        found = [*(self.top / "tmp").iterdir(), *self.top.glob("crates/*/out/**/*")]
+        return [it for it in found if it.name not in kept]
+
+
+class Build(Commands):
+    def test_it_tells_what_it_does_and_how_far_it_is(self):
+        done = self.run_it("./rh_cli", "--version")
+        lines = done.stderr.split("\n")
+        self.assertEqual(lines[0], "rh_cli: proving and building the program: 4 crates")
+        self.assertRegex(lines[1], r"^rh_cli: this takes about 1 minute where \d+ processors? ha")
+        steps = [re.sub(r" after .*", "", line) for line in lines[2:]]
+        wanted = [f"rh_cli: {number} of 4 crates done" for number in (1, 2, 3, 4)]
+        self.assertEqual(steps, [*wanted, ""])
         self.assertEqual(self.run_it("./rh_cli", "--version").stderr, "")
-        self.age()
-        (self.top / "crates/rh_cli/specs/New.antt").write_text("")
-        self.assertIn("2 of 2 crates done", self.run_it("./rh_cli", "--version").stderr)
-        self.age()
-        (self.top / "crates/rh_cli/specs/New.antt").unlink()
-        self.assertIn("2 of 2 crates done", self.run_it("./rh_cli", "--version").stderr)
-        self.assertEqual(list(self.top.glob("rh_cli-build*")), [])
+        self.assertEqual(self.left_behind(), [])
+
+    def test_a_kit_of_another_form_proves_one_after_the_other(self):
+        (self.top / "bin/rtlib.py").unlink()
+        lines = self.run_it("./rh_cli", "--version").stderr.split("\n")
+        self.assertEqual(lines[0], "rh_cli: proving and building the program: 4 crates")
+        self.assertIn("rh_cli: 4 of 4 crates done", lines[-2])
+        (self.top / "bin/rtlib.py").write_text(RTLIB.replace("def lock", "def locked"))
+        self.crate("low", "src/lib.rt", "// changed\n")
+        self.assertIn("4 of 4", self.run_it("./rh_cli", "--version").stderr)
+        self.assertEqual(self.left_behind(), [])
+
+    def test_independent_crates_are_proved_side_by_side(self):
+        if program_crates.processors() < 2:
+            self.skipTest("there is one processor")
+        self.crate("low", "slow", "1")
+        self.crate("aside", "slow", "1")
+        self.build()
+        made = [self.top / f"crates/{it}/out/rlib/stamp" for it in ("low", "aside")]
+        one, two = (it.stat().st_mtime for it in made)
+        self.assertLess(abs(one - two), 0.9)
+        self.assertEqual(sorted(self.proofs()[:2]), ["aside", "low"])
 
     def test_progress_on_a_terminal_is_one_line_that_moves(self):
         main, side = pty.openpty()
-        how = {"cwd": self.top, "env": self.variables, "stdout": subprocess.DEVNULL}
-        subprocess.run(["./rh_cli", "--version"], **how, stderr=side, check=True)
+        self.crate("middle", "slow", "1.5")
+        child = self.begin("./rh_cli", "--version", stdout=subprocess.DEVNULL, stderr=side)
         os.close(side)
+        self.assertEqual(child.wait(), 0)
         lines = os.read(main, 65_536).decode().replace("\r\n", "\n").rstrip("\n").split("\n")
         os.close(main)
-        self.assertEqual(len(lines), 2)
-        self.assertEqual([step.removesuffix("\x1b[K") for step in lines[1].split("\r")[1:]], [
-            "rh_cli: 0 of 2 crates done", "rh_cli: 0 of 2 crates done, low",
-            "rh_cli: 0 of 2 crates done, low: 1 of 2 functions", "rh_cli: 1 of 2 crates done",
-            "rh_cli: 1 of 2 crates done, rh_cli", "rh_cli: 2 of 2 crates done"])
+        self.assertEqual(len(lines), 3)
+        steps = [step.removesuffix("\x1b[K") for step in lines[2].split("\r")[1:]]
+        self.assertTrue(any(it.endswith(": middle (3 of 4 functions)") for it in steps), steps)
+        self.assertRegex(steps[-1], r"^rh_cli: 4 of 4 crates done after 0:\d\d$")
 
-    def test_a_build_that_fails_shows_the_end_of_the_log_and_where_it_lies(self):
-        (self.top / "wrong").touch()
-        done = self.run_it("./rh_cli", "--version")
-        self.check(done, "", done.stderr, 1)
-        lines = done.stderr.split("\n")
-        self.assertEqual(lines[2:22], [f"line {number} of the error" for number in range(3, 23)])
+    def test_the_first_line_comes_at_once_and_others_follow(self):
+        self.crate("low", "slow", "11")
+        begun = time.monotonic()
+        how = {"stderr": subprocess.PIPE, "stdout": subprocess.DEVNULL, "text": True}
+        child = self.begin("./rh_cli", "--version", **how)
+        with child.stderr:
+            child.stderr.readline()
+            self.assertLess(time.monotonic() - begun, 5)
+            times = [begun]
+            for line in child.stderr:
+                times.append(time.monotonic())
+        waits = [two - one for one, two in zip(times, times[1:])]
+        self.assertLess(max(waits), 10.5)
+        self.assertIn("4 of 4", line)
+
+    def stop_and_go_on(self, number):
+        self.crate("middle", "slow", "60")
+        how = {"stderr": subprocess.PIPE, "text": True, "start_new_session": True}
+        child = self.begin("./rh_cli", "--version", **how)
+        with child.stderr:
+            for line in child.stderr:
+                if "2 of 4" in line:
+                    break
+            # From the keyboard it comes to all that runs, else to the command alone.
+            (os.killpg if number == signal.SIGINT else os.kill)(child.pid, number)
+            last = child.stderr.read().split("\n")[-2]
+        self.assertEqual(child.wait(), -number)
+        self.assertEqual(last, "rh_cli: stopped; the next call goes on from here")
+        self.assertEqual(self.left_behind(), [])
+        self.assertEqual(sorted(self.proofs()), ["aside", "low"])
+        self.crate("middle", "slow", "0")
+        first = self.run_it("./rh_cli", "--version").stderr.split("\n")[0]
+        self.assertTrue(first.endswith(": 4 crates, of which 2 are proved"), first)
+        self.assertEqual(self.proofs(), ["middle", "rh_cli"])
+
+    def test_an_interrupt_leaves_no_file_and_the_next_call_goes_on(self):
+        self.stop_and_go_on(signal.SIGINT)
+
+    def test_so_does_the_end_by_another_signal(self):
+        self.stop_and_go_on(signal.SIGTERM)
+
+    def test_two_calls_build_it_once(self):
+        self.crate("low", "slow", "1")
+        one = self.begin("./rh_cli", "--version", stdout=subprocess.PIPE, stderr=subprocess.PIPE)
+        two = self.run_it("./rh_cli", "--version")
+        told = one.communicate()
+        self.assertEqual((two.stdout, told[0]), ("rh_cli of a test\n", b"rh_cli of a test\n"))
+        self.assertEqual(self.proofs().count("rh_cli"), 1)
+
+
+class Sources(Commands):
+    def is_built_anew(self):
+        self.proofs()
+        self.build()
+        return self.proofs() != []
+
+    def test_a_touched_file_is_not_newer_and_a_changed_one_is(self):
+        self.build()
+        source = self.top / "crates/low/src/lib.rt"
+        os.utime(source, (time.time() + 3600,) * 2)
+        self.assertFalse(self.is_built_anew())
+        before = source.stat()
+        source.write_text("// LOW\n")
+        os.utime(source, ns=(before.st_atime_ns, before.st_mtime_ns))
+        self.assertTrue(self.is_built_anew())
+
+    def test_files_that_come_and_go_count(self):
+        self.build()
+        new = self.crate("aside", "specs/New.antt")
+        self.assertTrue(self.is_built_anew())
+        new.rename(new.with_name("Other.antt"))
+        self.assertTrue(self.is_built_anew())
+        new.with_name("Other.antt").unlink()
+        self.assertTrue(self.is_built_anew())
+        self.assertFalse(self.is_built_anew())
+
+    def test_what_is_not_below_the_program_does_not_count(self):
+        self.build()
+        self.crate("other", "src/lib.rt", "// changed\n")
+        self.crate("low", "note.md", "beside the sources\n")
+        (self.top / "crates.txt").write_text(CRATES.replace("other: low", "other: low hex"))
+        self.assertFalse(self.is_built_anew())
+        (self.top / "crates.txt").write_text(CRATES.replace("aside:", "aside: hex"))
+        self.assertTrue(self.is_built_anew())
+
+    def test_a_program_that_is_gone_is_built(self):
+        self.build()
+        (self.top / "crates/rh_cli/out/rh_cli").unlink()
+        self.assertTrue(self.is_built_anew())
+
+    def test_what_the_gate_built_is_taken_where_the_sources_are_the_same(self):
+        total = self.run_it("tools/build_program.py", "--sources").stdout.strip()
+        out = self.top / "crates/rh_cli/out"
+        out.mkdir()
+        shutil.copy(self.top / "program", out / "rh_cli")
+        self.run_it("tools/build_program.py", "--built-from", total)
+        self.assertFalse(self.is_built_anew())
+        self.crate("low", "src/lib.rt", "// changed\n")
+        self.run_it("tools/build_program.py", "--built-from", total)
+        self.assertTrue(self.is_built_anew())
+
+
+class Failures(Commands):
+    def fails(self, crate, text="", **variables):
+        if crate:
+            errors = [f"line {number} of the error\n" for number in range(1, 23)]
+            self.crate(crate, "wrong", "".join(errors) + text)
+        done = self.run_it("./rh_cli", "--version", **variables)
+        self.assertEqual((done.stdout, done.returncode), ("", 1))
+        return done.stderr.split("\n")
+
+    def log_in(self, line, where):
+        self.assertTrue(line.startswith(where), line)
+        return pathlib.Path(line.removeprefix(where)).read_text()
+
+    def test_a_proof_that_fails_is_named_with_the_end_of_its_log(self):
+        lines = self.fails("middle")
+        wanted = [f"line {number} of the error" for number in range(3, 23)]
+        self.assertEqual(lines[-22:-2], wanted)
+        where = "rh_cli: middle was not proved, so the program was not built; the whole log is "
+        self.assertIn("so far: 3 of 4", self.log_in(lines[-2], where))
+
+    def test_a_program_that_fails_is_told_with_the_end_of_the_log(self):
+        lines = self.fails("rh_cli")
+        self.assertEqual(lines[-3], "line 22 of the error")
         where = "rh_cli: the program was not built; the whole log is "
-        log = pathlib.Path(lines[22].removeprefix(where)).read_text()
-        self.assertTrue(log.startswith("rt: chose --jobs 4 for low\nso far: 1 of 2"))
-        self.assertIn("line 1 of the error", log)
+        self.assertIn("line 1 of the error", self.log_in(lines[-2], where))
+
+    def test_a_full_disk_is_told(self):
+        lines = self.fails("low", "error: No space left on device (os error 28)\n")
+        self.assertIn("was not built: the disk is full; the whole log is ", lines[-2])
 
     def test_no_rt_is_told(self):
         bare = self.top / "bare"
         bare.mkdir()
-        for name in ("bash", "dirname", "readlink", "find"):
+        for name in ("bash", "dirname", "readlink"):
             (bare / name).symlink_to(shutil.which(name))
-        done = self.run_it("./rh_cli", "--version", PATH=str(bare))
+        (bare / "python3").symlink_to(sys.executable)
+        self.assertIn("rh_cli: no command rt", self.fails("", PATH=str(bare))[-2])
+        done = self.run_it("./rh_cli", "--unproved", "show", PATH=str(bare))
         self.assertEqual((done.stdout, done.returncode), ("", 1))
         self.assertIn("no command rt", done.stderr)
+        (bare / "python3").unlink()
+        self.assertIn("no command python3", self.fails("", PATH=str(bare))[0])
+
+
+class Words(Commands):
+    def test_unproved(self):
+        for words in (("./rh_cli", "--unproved", "replay"), ("./replay", "--unproved", "recording")):
+            done = self.run_it(*words, text="rh 1 direct\n")
+            self.assertEqual((done.stdout, done.returncode), ("rh 1 direct\n", 0))
+            told, end = done.stderr.splitlines()
+            self.assertTrue(told.startswith("rh_cli: nothing of this is proved"))
+            self.assertEqual(end, "run=ended status=0 proved=no")
+        self.assertEqual([*self.top.glob("crates/*/out")], [])
 
     def test_links_and_cdpath(self):
         self.build()
@@ -140,7 +407,7 @@ class Commands(unittest.TestCase):
 
     def test_help(self):
         done = self.run_it("./replay", "--help")
-        self.assertTrue(done.stdout.startswith("usage: ./replay FILE\n"))
+        self.assertTrue(done.stdout.startswith("usage: ./replay [--unproved] FILE\n"))
         self.assertEqual((done.stderr, done.returncode), ("", 0))
         self.build()
         done = self.run_it("./rh_cli", "--help")
@@ -161,10 +428,35 @@ class Commands(unittest.TestCase):
             self.check(done, "", f"usage\nrh_cli: {told}\n", 1)
 
     def test_replay_wants_one_file(self):
-        for words in ((), ("a", "b"), ("nowhere",), (".",)):
+        for words in ((), ("a", "b"), ("nowhere",), (".",), ("--unproved",)):
             done = self.run_it("./replay", *words)
             self.check(done, "", done.stderr, 1)
             self.assertIn("replay: ", done.stderr)
+
+
+class Durations(unittest.TestCase):
+    BELOW = {"a": [], "b": [], "c": ["a"], "d": ["a", "b", "c"]}
+
+    def order(self, processors, **seconds):
+        return program_crates.Order(self.BELOW, seconds, processors)
+
+    def test_more_processors_take_less(self):
+        seconds = {"a": 10, "b": 40, "c": 20, "d": 5}
+        self.assertEqual(self.order(1, **seconds).duration(), 75)
+        self.assertEqual(self.order(2, **seconds).duration(), 45)
+        self.assertEqual(self.order(2, **seconds).duration(["a", "b"]), 25)
+        self.assertEqual(self.order(8, **seconds).duration(self.BELOW), 0)
+
+    def test_the_longest_chain_goes_first(self):
+        seconds = {"a": 10, "b": 15, "c": 20, "d": 5}
+        self.assertEqual([*self.order(1, **seconds).next(set(), {})], [("a", 1)])
+        seconds["b"] = 50
+        self.assertEqual([*self.order(1, **seconds).next(set(), {})], [("b", 1)])
+
+    def test_a_large_crate_gets_the_processors_that_are_idle(self):
+        order = self.order(4, a=100, b=20, c=300, d=5)
+        self.assertEqual([*order.next({"a"}, {"b": 1})], [("c", 3)])
+        self.assertEqual([*order.next({"a", "b"}, {})], [("c", 4)])
 
 
 if __name__ == "__main__":
