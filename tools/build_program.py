@@ -26,7 +26,7 @@ from prove_beside import EVENT
 PROGRAM = "rh_cli"
 BESIDE = pathlib.Path(__file__).with_name("prove_beside.py")
 # Seconds between two lines where standard error is no terminal, and until the first.
-BETWEEN, FIRST = 9, 3
+BETWEEN, FIRST = 9, 2
 # The MB of disk that a crate's library and what its proof keeps are likely to take.
 A_CRATE = 200
 TAIL = 20
@@ -44,6 +44,14 @@ class Stopped(Exception):
 def minutes(seconds):
     whole = max(1, round(seconds / 60))
     return f"{whole} minute{'s' * (whole != 1)}"
+
+
+def width():
+    """The columns of the terminal that standard error is."""
+    try:
+        return os.get_terminal_size(2).columns or 80
+    except OSError:
+        return 80
 
 
 class Progress:
@@ -112,6 +120,8 @@ class Progress:
         running = ", ".join(name + self.functions(name) for name in self.running)
         if self.is_waiting:
             return f"{told}; waiting for another rt in this checkout"
+        if len(self.done) == len(self.below):
+            return f"{told}; linking"
         return f"{told}{': ' if running else ''}{running}"
 
     def show(self, is_new=False):
@@ -121,7 +131,7 @@ class Progress:
             return
         self.announce()
         if self.is_terminal:
-            text = f"{self.program}: {self.text()}"
+            text = f"{self.program}: {self.text()}"[: width() - 1]
             if text != self.last:
                 print(f"\r{text}\033[K", end="", file=sys.stderr, flush=True)
                 self.last = text
@@ -166,8 +176,11 @@ def note_line(progress, line):
     """Takes a line of rt, and returns whether something new is to be told."""
     if line.startswith(EVENT):
         return note_event(progress, line)
+    elsewhere = re.match(r"rt: (\w+): another copy of the repository is building", line)
     if line.startswith("rt: waiting for another rt"):
         progress.is_waiting = True
+    elif elsewhere and elsewhere[1] in progress.running:
+        progress.running[elsewhere[1]] = "another checkout builds it"
     elif line.startswith("rt: chose --jobs "):
         # What stands below this crate is done, in this run or before it.
         name = line.rpartition(" for ")[2]

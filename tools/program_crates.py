@@ -9,7 +9,7 @@ TOP = pathlib.Path(__file__).resolve().parent.parent
 # Seconds of one processor that a proof took, as tools/gate_cost --proofs lists them.
 SECONDS = pathlib.Path(__file__).with_name("proof_seconds.txt")
 # What a crate takes that isn't listed there: at least so much, and more for each line.
-LEAST, A_LINE = 10, 0.1
+LEAST, A_LINE = 10, 0.03
 # More jobs shorten this part of a large crate's proof; the rest is loading what stands below.
 DIVIDED, MOST_JOBS, LARGE = 0.7, 4, 60
 PARTS = ("src", "specs", "proofs")

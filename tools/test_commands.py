@@ -116,6 +116,10 @@ class Crate:
         slow, wrong = pathlib.Path(self.folder, "slow"), pathlib.Path(self.folder, "wrong")
         print("so far: 3 of 4 functions checked", file=self.out, flush=True)
         pathlib.Path(os.environ["TMPDIR"], self.name).touch()
+        if pathlib.Path(self.folder, "beside").exists():
+            other = pathlib.Path(self.folder, "beside").read_text()
+            while not pathlib.Path(os.environ["TMPDIR"], other).exists():
+                time.sleep(0.05)
         time.sleep(float(slow.read_text()) if slow.exists() else 0)
         if wrong.exists():
             print(wrong.read_text(), end="", file=self.out)
@@ -211,13 +215,11 @@ class Build(Commands):
     def test_independent_crates_are_proved_side_by_side(self):
         if program_crates.processors() < 2:
             self.skipTest("there is one processor")
-        self.crate("low", "slow", "1")
-        self.crate("aside", "slow", "1")
+        # Each ends only once the other has begun.
+        self.crate("low", "beside", "aside")
+        self.crate("aside", "beside", "low")
         self.build()
-        made = [self.top / f"crates/{it}/out/rlib/stamp" for it in ("low", "aside")]
-        one, two = (it.stat().st_mtime for it in made)
-        self.assertLess(abs(one - two), 0.9)
-        self.assertEqual(sorted(self.proofs()[:2]), ["aside", "low"])
+        self.assertEqual(sorted(self.proofs()), ["aside", "low", "middle", "rh_cli"])
 
     def test_progress_on_a_terminal_is_one_line_that_moves(self):
         main, side = pty.openpty()
@@ -230,7 +232,7 @@ class Build(Commands):
         self.assertEqual(len(lines), 3)
         steps = [step.removesuffix("\x1b[K") for step in lines[2].split("\r")[1:]]
         self.assertTrue(any(it.endswith(": middle (3 of 4 functions)") for it in steps), steps)
-        self.assertRegex(steps[-1], r"^rh_cli: 4 of 4 crates done after 0:\d\d$")
+        self.assertRegex(steps[-1], r"^rh_cli: 4 of 4 crates done after 0:\d\d; linking$")
 
     def test_the_first_line_comes_at_once_and_others_follow(self):
         self.crate("low", "slow", "11")
