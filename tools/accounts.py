@@ -145,7 +145,7 @@ class Accounts:
         return self.runs.get(process.key)
 
     def walk(self, process, below, run, is_inside=False):
-        """The seconds of this process and all below it; each unit among them is noted in its run."""
+        """The seconds of this process and all below it. Each unit among them is noted."""
         unit = None if is_inside else self.unit_of(process)
         seconds = process.seconds
         for child in below.get(process.number, []):

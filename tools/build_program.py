@@ -1,6 +1,6 @@
 #!/usr/bin/env python3
-"""Proves and builds a program: tells how long that takes here, shows how far it is, and goes on where
-an earlier call was stopped. Nothing that it makes lies outside the crates' folders out/.
+"""Proves and builds a program: tells how long that takes here, shows how far it is, and goes on
+where an earlier call was stopped. Nothing that it makes lies outside the crates' folders out/.
 
     tools/build_program.py                     builds rh_cli where it isn't up to date
     tools/build_program.py --sources           prints a checksum of what it is made from
@@ -115,8 +115,8 @@ class Progress:
         return ""
 
     def text(self):
-        took = int(time.monotonic() - self.begun)
-        told = f"{len(self.done)} of {len(self.below)} crates done after {took // 60}:{took % 60:02}"
+        took, seconds = divmod(int(time.monotonic() - self.begun), 60)
+        told = f"{len(self.done)} of {len(self.below)} crates done after {took}:{seconds:02}"
         running = ", ".join(name + self.functions(name) for name in self.running)
         if self.is_waiting:
             return f"{told}; waiting for another rt in this checkout"
@@ -236,7 +236,7 @@ def sweep(progress, number):
 
 
 def prove_and_link(progress, log):
-    """Builds what is below side by side, and then all by rt itself, which proves what still isn't."""
+    """Builds what is below side by side, and then by rt itself what still isn't built."""
     words = [sys.executable, "-B", str(BESIDE), progress.program, str(progress.folder)]
     status = follow(words, progress, log)
     if progress.failed:

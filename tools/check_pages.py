@@ -10,8 +10,8 @@ On a page,
   in a block of code (words in capitals, as NAME, stand for any name, and out/ is not looked at);
 - a word in backticks that begins as crates do, with rh_, law_, test_ or bench_, is a crate, or a
   name in the sources; so is each other such word that has an underscore;
-- `CRATE::..::NAME` is declared in that crate, and so is each NAME or TYPE::NAME in a list behind it,
-  as in `CRATE`: `NAME`, `TYPE::NAME`.
+- `CRATE::..::NAME` is declared in that crate, and so is each NAME or TYPE::NAME in a list behind
+  it, as in `CRATE`: `NAME`, `TYPE::NAME`.
 
 Each that isn't so is told with its page and line, and the status is 1.
 """
@@ -83,7 +83,7 @@ def prose(text):
 
 
 def is_declared(crate, name):
-    """Whether the last part of a name is declared in the crate; parts before it are to stand there."""
+    """Whether the last part of a name is declared in the crate, where all its parts stand."""
     *outer, last = name.split("::")
     code, word = code_of(crate), re.escape(last)
     if last[0].isupper():
@@ -129,7 +129,7 @@ def wrong_name(text):
     is_ours = not inner and re.fullmatch(r"[a-z]\w*_\w*", first)
     if is_ours and first not in crates() and first not in all_words():
         is_crate = re.fullmatch(CRATE, first)
-        return "there is no such crate, nor such a name" if is_crate else "no source has such a name"
+        return "no such crate or name in the sources" if is_crate else "no source has such a name"
     return None
 
 
