@@ -1,5 +1,5 @@
-"""The crates that a program stands on: which they are, a checksum of what they are made from, and how
-long their proofs take side by side.
+"""The crates that a program stands on: which they are, a checksum of what they are made from, and
+how long their proofs take side by side.
 """
 import hashlib
 import os

@@ -3,8 +3,8 @@
 
     tools/prove_beside.py PROGRAM FOLDER
 
-rt itself builds them one after the other, and two rt in one checkout wait for each other. This holds
-the locks that they would take, and calls what rt calls to build one library. Whatever it finds
+rt itself builds them one after the other, and two rt in one checkout wait for each other. This
+holds the locks that they would take, and calls what rt calls to build one library. Whatever it finds
 otherwise in rt than it expects ends it with status DIFFERS: then rt does it, one after the other.
 
 Each line that begins with EVENT is a word and names of crates: 'built', which were built before;

@@ -38,7 +38,7 @@ def run_unproved(words):
     if not build_program.has_rt():
         say(build_program.NO_RT)
         return 1
-    say("nothing of this is proved: it runs the sources as they stand, which takes a minute to begin")
+    say("nothing of this is proved: it runs the sources as they are, which takes a minute to begin")
     return run(["rt", "try", "--"], words, TOP / "crates" / PROGRAM)
 
 

@@ -25,7 +25,7 @@ replay | show) cat ;;
 *) echo usage >&2; exit 1 ;;
 esac
 """
-# An rt of which each proof takes as long as the file 'slow' in the crate says, and fails at 'wrong'.
+# An rt of which each proof takes as long as the crate's file 'slow' says, and fails at 'wrong'.
 RT = """#!/usr/bin/env python3
 import importlib.machinery
 import importlib.util
@@ -382,7 +382,7 @@ class Failures(Commands):
 
 class Words(Commands):
     def test_unproved(self):
-        for words in (("./rh_cli", "--unproved", "replay"), ("./replay", "--unproved", "recording")):
+        for words in ("./rh_cli --unproved replay".split(), "./replay --unproved recording".split()):
             done = self.run_it(*words, text="rh 1 direct\n")
             self.assertEqual((done.stdout, done.returncode), ("rh 1 direct\n", 0))
             told, end = done.stderr.splitlines()

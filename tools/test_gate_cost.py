@@ -62,7 +62,8 @@ class GateCost(unittest.TestCase):
         self.assertIn(b"1 proofs of crates are kept", lines[3])
 
     def test_runs_are_kept_and_added_up(self):
-        lines = self.call("for word in '' low; do rt ci $word | gate_cost --every 0.05; done; true")[1]
+        both = "for word in '' low; do rt ci $word | gate_cost --every 0.05; done; true"
+        lines = self.call(both)[1]
         self.assertIn(b"1 of the 2 proofs and 1 of the 4 edits", b"\n".join(lines))
         one, two = map(json.loads, self.log.read_text().splitlines())
         self.assertEqual((one["words"][1:], two["words"][1:]), (["ci"], ["ci", "low"]))
