@@ -1,6 +1,7 @@
 -- the value of a name has the commands that it was read from
-use Rattle.std.proofs.Common.{◌≡◌, ◌≤◌, ℕ, List, [], ◌∷◌, length, refl, sym, ap, ◌∙◌, arith}
-use Rattle.std.specs.Prelude.{slice_get, Some, None}
+use Rattle.std.proofs.Common.{◌≡◌, ◌≤◌, ℕ, List, [], ◌∷◌, length, true, refl, sym, ap, ◌∙◌}
+use Rattle.std.specs.Prelude.{nat_le, slice_get, Some, None}
+use Rattle.std.proofs.lemmas.Bool.{leb-true}
 use Rattle.std.specs.declared.option.Option.{Option}
 use Rattle.rh_rts.specs.declared.command.Command.{Command}
 use Rattle.rh_rts.specs.declared.command.Command.TheVariants as commands
@@ -87,6 +88,9 @@ pub plain : (n : Named) → unpadded (commands_of n) ≡ commands_of n
 plain named.Ping = refl
 plain n = refl
 
+few_types : (name : Name) → nat_le (length (row_of name).types) 7 ≡ true
+few_types ConnA1 = refl
+few_types name = refl
+
 pub seven_types : (name : Name) → length (row_of name).types ≤ 7
-seven_types ConnA1 = omega arith
-seven_types name = omega arith
+seven_types name = leb-true _ _ (few_types name)

@@ -1,12 +1,14 @@
 -- the packets of a few commands that named packets have
-use Rattle.std.proofs.Common.{rules, ◌≡◌, ℕ, ◌+◌, ◌*◌, ◌≤◌, List, [], ◌∷◌, length, refl, arith}
-use Rattle.std.proofs.Common.{length-append}
-use Rattle.std.specs.Prelude.{None}
-use Rattle.std.proofs.lemmas.Bool.{le-ltb}
+use Rattle.std.proofs.Common.{◌≡◌, ℕ, ◌+◌, ◌*◌, ◌≤◌, List, [], ◌∷◌, length, Bool, true, false, refl}
+use Rattle.std.proofs.Common.{subst, arith, length-append}
+use Rattle.std.specs.Prelude.{◌&&◌, nat_le, Some, None, IfSome}
+use Rattle.std.specs.declared.option.Option.{Option}
+use Rattle.std.proofs.lemmas.Bool.{le-ltb, leb-true, and_parts}
 use Rattle.rh_rts.specs.declared.command.Address4or16.{Address4or16}
 use Rattle.rh_rts.specs.declared.command.Address4or16.TheVariants.{V4, V6}
 use Rattle.rh_rts.specs.declared.command.Command.{Command}
 use Rattle.rh_rts.specs.declared.command.Command.TheVariants as commands
+use Rattle.rh_rts.specs.declared.command.TheConstants.{GREATEST_DESTINATION}
 use Rattle.rh_rts.specs.declared.packet.TheConstants.{ALL_FLAGS, GREATEST_PACKET_LENGTH}
 use Rattle.rh_rts.specs.Commands.{spelling, spellings, IsAddress, address_bytes, HasSize, HaveSizes}
 use Rattle.rh_rts.specs.Commands.{IsCommand, AreCommands}
@@ -16,6 +18,7 @@ use Rattle.rh_rts.proofs.OneReading.{sized}
 use Rattle.rh_sig.specs.declared.named.Named.{Named}
 use Rattle.rh_sig.specs.declared.named.Named.TheVariants as named
 use Rattle.rh_sig.specs.Values.{IsPlain, ArePlain, MayBeWritten, commands_of, parts_of}
+use Rattle.rh_sig.specs.Values.{destination_of}
 use Rattle.rh_sig.specs.Naming.{named_bytes}
 
 address_short : (address : Address4or16) → IsAddress address → length (address_bytes address) ≤ 20
@@ -74,27 +77,76 @@ small_packet flags cs known few plain sizes =
 
 -- ---- named packets
 
-flags_known : (n : Named) → (parts_of n).flags ≤ ALL_FLAGS
-flags_known named.Ping = omega arith
-flags_known n = omega arith
+-- each fact computed once a packet, the last clause being that of all other packets
 
-at_most_seven : (n : Named) → length (commands_of n) ≤ 7
-at_most_seven named.Ping = omega arith
-at_most_seven n = omega arith
+flags_known : (n : Named) → nat_le (parts_of n).flags ALL_FLAGS ≡ true
+flags_known named.Ping = refl
+flags_known n = refl
+
+at_most_seven : (n : Named) → nat_le (length (commands_of n)) 7 ≡ true
+at_most_seven named.Ping = refl
+at_most_seven n = refl
+
+-- the destination of a first command, and the commands behind it
+abbrev first_told : List Command → Option ℕ
+first_told (commands.Destination n ∷ cs) = Some n
+first_told _ = None
+
+abbrev behind_told : List Command → List Command
+behind_told (commands.Destination n ∷ cs) = cs
+behind_told cs = cs
+
+-- no padding, and no destination
+abbrev is_simple : Command → Bool
+is_simple (commands.Padding bytes) = false
+is_simple (commands.Destination n) = false
+is_simple _ = true
+
+abbrev are_simple : List Command → Bool
+are_simple [] = true
+are_simple (c ∷ cs) = is_simple c && are_simple cs
+
+simple_plain : (c : Command) → is_simple c ≡ true → IsPlain c
+simple_plain (commands.Padding bytes) simple = absurd cc
+simple_plain (commands.Destination n) simple = absurd cc
+simple_plain c simple = tt
+
+all_simple : (cs : List Command) → are_simple cs ≡ true → ArePlain cs
+all_simple [] simple = tt
+all_simple (c ∷ cs) simple =
+    let h = and_parts (is_simple c) (are_simple cs) simple in
+    (simple_plain c h.0, all_simple cs h.1)
+
+plain_by : (cs : List Command) → are_simple (behind_told cs) ≡ true
+    → IfSome (first_told cs) (λ destination. destination ≤ GREATEST_DESTINATION) → ArePlain cs
+plain_by [] simple may = tt
+plain_by (commands.Destination n ∷ cs) simple may = (may, all_simple cs simple)
+plain_by (c ∷ cs) simple may = all_simple (c ∷ cs) simple
+
+simple_behind : (n : Named) → are_simple (behind_told (commands_of n)) ≡ true
+simple_behind named.Ping = refl
+simple_behind n = refl
+
+told_first : (n : Named) → destination_of n ≡ first_told (commands_of n)
+told_first named.Ping = refl
+told_first n = refl
 
 all_plain : (n : Named) → MayBeWritten n → ArePlain (commands_of n)
-all_plain n may = search rules
+all_plain n may =
+    plain_by (commands_of n) (simple_behind n)
+    (subst (λ (told : Option ℕ). IfSome told (λ destination. destination ≤ GREATEST_DESTINATION))
+    (told_first n) may)
 
 -- with fields of their size and a destination that is one, they can be sent
 pub sound : (n : Named) → MayBeWritten n → HaveSizes (commands_of n) → IsPacket (parts_of n)
 sound n may sizes =
-    small_packet (parts_of n).flags (commands_of n) (flags_known n) (at_most_seven n)
-    (all_plain n may) sizes
+    small_packet (parts_of n).flags (commands_of n) (leb-true _ _ (flags_known n))
+    (leb-true _ _ (at_most_seven n)) (all_plain n may) sizes
 
 -- the longest is CONN/B2 with an address of 16 bytes
-longest : (n : Named) → 20 + mosts (commands_of n) ≤ 140
-longest named.Ping = omega arith
-longest n = omega arith
+longest : (n : Named) → nat_le (mosts (commands_of n)) 120 ≡ true
+longest named.Ping = refl
+longest n = refl
 
 size_of : (c : Command) → IsCommand c → HasSize c
 size_of commands.Empty h = h.0
@@ -111,5 +163,5 @@ at_most_140 n is =
       arith,
       sized (packet_bytes (parts_of n)) (parts_of n) refl,
       all_short (commands_of n) (sizes_of (commands_of n) is.commands),
-      longest n,
+      leb-true _ _ (longest n),
     )

@@ -3,38 +3,50 @@
 ghost use Rattle.std.specs.Prelude.{◌≡◌};
 ghost use Rattle.rh_sig.specs.Reading.{all_shown, value};
 
-use crate::fields::Fields;
+use crate::fields::{ack_at, address_at, cookie_at, number_at};
 use crate::name::Name;
 use crate::named::Named;
 use crate::rows::named_packets;
 use rh_rts::CommandRef;
 
-/// Reads the fields of a command into variables of these names.
+/// Reads the fields of the commands, each in its place, into variables of these names.
 macro_rules! read {
-    ($fields:ident Empty) => { $fields.nothing(); };
-    ($fields:ident Ance) => { $fields.nothing(); };
-    ($fields:ident Cookie $cookie:ident) => { let $cookie = $fields.cookie(); };
-    ($fields:ident AssociationGroupId $cookie:ident) => { let $cookie = $fields.cookie(); };
-    ($fields:ident FlowControlAck $received:ident $window:ident $cookie:ident) => {
-        let ($received, $window, $cookie) = $fields.ack();
+    ($commands:ident [$($at:tt)*]) => {};
+    ($commands:ident [$at:tt $($later:tt)*] { $($command:tt)* } $($behind:tt)*) => {
+        read_one!($commands $at $($command)*);
+        read!($commands [$($later)*] $($behind)*);
     };
-    ($fields:ident ClientAddress $address:ident $padding:ident) => {
-        let ($address, $padding) = $fields.address();
+}
+
+/// Reads the fields of the command in that place into variables of these names.
+macro_rules! read_one {
+    ($commands:ident $at:tt Empty) => {};
+    ($commands:ident $at:tt Ance) => {};
+    ($commands:ident $at:tt Cookie $cookie:ident) => { let $cookie = cookie_at($commands, $at); };
+    ($commands:ident $at:tt AssociationGroupId $cookie:ident) => {
+        let $cookie = cookie_at($commands, $at);
     };
-    ($fields:ident $command:ident $number:ident) => { let $number = $fields.number(); };
+    ($commands:ident $at:tt FlowControlAck $received:ident $window:ident $cookie:ident) => {
+        let ($received, $window, $cookie) = ack_at($commands, $at);
+    };
+    ($commands:ident $at:tt ClientAddress $address:ident $padding:ident) => {
+        let ($address, $padding) = address_at($commands, $at);
+    };
+    ($commands:ident $at:tt $command:ident $number:ident) => {
+        let $number = number_at($commands, $at);
+    };
 }
 
 /// The named packet of this name, with the fields of these commands.
 pub fn value_by(name: Name, commands: &[CommandRef<'_>]) -> Named
     ensures { result ≡ value name (all_shown commands.now) }
 {
-    let mut fields = Fields::new(commands);
     macro_rules! rows {
         ($($name:ident $(($($field:ident),+))? on $($pipe:ident)|+ is $($flag:ident)|+
             [$($command:ident $(($of:ident))? $({ $($with:ident),+ })?),*];)*) => {
             match name {
                 $(Name::$name => {
-                    $(read!(fields $command $($of)? $($($with)+)?);)*
+                    read!(commands [0 1 2 3 4 5 6] $({ $command $($of)? $($($with)+)? })*);
                     Named::$name $(($($field),+))?
                 })*
             }
