@@ -68,7 +68,7 @@ no_bad [] plain = refl
 no_bad (commands.Destination n ∷ cs) plain = rw (le-ltb 3 n plain.0) (no_bad cs plain.1)
 no_bad (c ∷ cs) plain = no_bad cs plain.1
 
-pub small_packet : (flags : ℕ) (cs : List Command) → flags ≤ ALL_FLAGS → length cs ≤ 7 → ArePlain cs
+small_packet : (flags : ℕ) (cs : List Command) → flags ≤ ALL_FLAGS → length cs ≤ 7 → ArePlain cs
     → HaveSizes cs → IsPacket (parts flags cs)
 small_packet flags cs known few plain sizes =
     let fits : packet_length (parts flags cs) ≤ GREATEST_PACKET_LENGTH =

@@ -4,3 +4,4 @@ pub mod Values
 pub mod Reading
 pub mod Looking
 pub mod Naming
+pub mod Written

@@ -1,15 +1,14 @@
 //! Writes named packets.
 
-ghost use Rattle.std.specs.Prelude.{◌≡◌, ◌≤◌, length};
+ghost use Rattle.std.specs.Prelude.{◌≡◌};
 ghost use Rattle.rh_rts.specs.Packets.{parts, IsPacket};
-ghost use Rattle.rh_rts.specs.declared.packet.TheConstants.{ALL_FLAGS};
 ghost use Rattle.rh_rts.specs.Writing.{Writes};
-ghost use Rattle.rh_sig.specs.declared.few_commands.TheConstants.{MOST};
 ghost use Rattle.rh_sig.specs.declared.name.Name.{Name};
 ghost use Rattle.rh_sig.specs.declared.name.Pipe.{Pipe};
 ghost use Rattle.rh_sig.specs.declared.named.Named.{Named};
 ghost use Rattle.rh_sig.specs.Names.{IsCarried, IsNamed};
-ghost use Rattle.rh_sig.specs.Values.{name_of_named, parts_of, ReadsAs, MayBeWritten, ArePlain};
+ghost use Rattle.rh_sig.specs.Written.{IsWritten};
+ghost use Rattle.rh_sig.specs.Values.{name_of_named, parts_of, ReadsAs, MayBeWritten};
 
 use crate::named::Named;
 use crate::rows::named_packets;
@@ -39,8 +38,7 @@ pub fn write_named(named: &Named, room: &mut [u8]) -> Result<usize, NoRoom>
 /// Writes the flags and the commands of the packet's row.
 fn write_row(named: &Named, room: &mut [u8]) -> Result<usize, NoRoom>
     requires { MayBeWritten named.now }
-    ensures writes { Writes (parts_of named.now) room.old room.new result }
-    ensures packet { IsPacket (parts_of named.now) }
+    ensures { IsWritten named.now room.old room.new result }
 {
     macro_rules! rows {
         ($($name:ident $(($($field:ident),+))? on $($pipe:ident)|+ is $($flag:ident)|+
@@ -48,7 +46,7 @@ fn write_row(named: &Named, room: &mut [u8]) -> Result<usize, NoRoom>
             match *named {
                 $(Named::$name $(($($field),+))? => {
                     let commands = [$(Command::$command $(($of))? $({ $($with),+ })?),*];
-                    write_commands($($flag)|+, &commands, room)
+                    write_its_parts(named, $($flag)|+, commands, room)
                 })*
             }
         };
@@ -56,14 +54,17 @@ fn write_row(named: &Named, room: &mut [u8]) -> Result<usize, NoRoom>
     named_packets!(rows)
 }
 
-/// Writes a packet of these flags and of at most seven commands.
-fn write_commands(flags: u16, commands: &[Command], room: &mut [u8]) -> Result<usize, NoRoom>
-    requires flags { flags ≤ ALL_FLAGS }
-    requires few { length commands.now ≤ MOST }
-    requires plain { ArePlain commands.now }
-    ensures writes { Writes (parts flags commands.now) room.old room.new result }
-    ensures packet { IsPacket (parts flags commands.now) }
+/// Writes the packet, whose flags and commands these are.
+fn write_its_parts<const N: usize>(
+    named: &Named,
+    flags: u16,
+    commands: [Command; N],
+    room: &mut [u8],
+) -> Result<usize, NoRoom>
+    requires written { MayBeWritten named.now }
+    requires parts { parts flags commands ≡ parts_of named.now }
+    ensures { IsWritten named.now room.old room.new result }
 {
-    prove!(length_of(commands) > 0);
-    encode_parts(flags, commands, room)
+    prove!(length_of(&commands) > 0);
+    encode_parts(flags, &commands, room)
 }
