@@ -27,7 +27,7 @@
 
 ghost use Rattle.std.specs.Prelude.{◌≡◌, ◌≤◌, ◌<◌, IfSome, None};
 ghost use Rattle.rh_http.specs.Texts.{refusal_text};
-ghost use Rattle.rh_shell.specs.Shells.{kind_number, is_of, same_leg, is_before, is_at, place};
+ghost use Rattle.rh_shell.specs.Shells.{kind_number, is_before, is_at, place};
 ghost use Rattle.rh_shell.specs.Shells.{is_free, free_place, one_if, is_unfinished, unfinished};
 ghost use Rattle.rh_shell.specs.Shells.{room, room_of, is_silent_by, is_silent, earlier};
 ghost use Rattle.rh_shell.specs.Shells.{first_silent, is_quiet_by, is_quiet, pinged};
@@ -78,6 +78,7 @@ impl<R> Model for Shell<R> {
     ghost invariant = { λ s. seen.room s.rooms ≤ vec_capacity s.legs };
 }
 
+/// The place of a kind in the order of legs.
 fn kind_number(kind: LegKind) -> u8
     ensures { result ≡ kind_number kind }
 {
@@ -89,24 +90,11 @@ fn kind_number(kind: LegKind) -> u8
     }
 }
 
-/// Whether a leg is of this kind.
-fn is_of(kind: LegKind, leg: Leg) -> bool
-    ensures { result ≡ is_of kind leg }
-{
-    kind_number(kind) == kind_number(leg.kind)
-}
-
-fn same_leg(a: Leg, b: Leg) -> bool
-    ensures { result ≡ same_leg a b }
-{
-    is_of(a.kind, b) && a.number == b.number
-}
-
 /// Whether a leg is before another one in the order of legs.
 fn is_before(a: Leg, b: Leg) -> bool
     ensures { result ≡ is_before a b }
 {
-    kind_number(a.kind) < kind_number(b.kind) || (is_of(a.kind, b) && a.number < b.number)
+    kind_number(a.kind) < kind_number(b.kind) || (a.kind == b.kind && a.number < b.number)
 }
 
 /// How many legs of a kind may be unfinished.
@@ -135,7 +123,7 @@ fn room(rooms: Rooms) -> usize
 fn is_at(leg: Leg, end: &NearEnd) -> bool
     ensures { result ≡ is_at leg end.now }
 {
-    same_leg(end.leg(), leg)
+    end.leg() == leg
 }
 
 /// The place of a leg, or how many there are.
@@ -155,7 +143,7 @@ fn unfinished_one<R: Role>(role: &R, kind: LegKind, end: &NearEnd) -> usize
     ensures count { result ≡ one_if (is_unfinished R.rules role.now kind end.now) }
     ensures most { result ≤ 1 }
 {
-    if is_of(kind, end.leg()) && !end.is_finished(role) {
+    if kind == end.leg().kind && !end.is_finished(role) {
         1
     } else {
         0
@@ -166,7 +154,7 @@ fn unfinished_one<R: Role>(role: &R, kind: LegKind, end: &NearEnd) -> usize
 fn is_free<R: Role>(role: &R, kind: LegKind, end: &NearEnd) -> bool
     ensures { result ≡ is_free R.rules role.now kind end.now }
 {
-    is_of(kind, end.leg()) && end.is_finished(role)
+    kind == end.leg().kind && end.is_finished(role)
 }
 
 /// The place of the first finished leg of a kind, or how many legs there are.
@@ -551,13 +539,7 @@ impl<R: Role> Shell<R> {
                 leg: client,
                 rest,
                 ..
-            } => {
-                if same_leg(*client, leg) {
-                    rest.draw(room)
-                } else {
-                    0
-                }
-            }
+            } => { if *client == leg { rest.draw(room) } else { 0 } }
             Course::Going | Course::Closed(_) => 0,
         }
     }
@@ -573,7 +555,7 @@ impl<R: Role> Shell<R> {
                 leg: client,
                 rest,
                 ..
-            } => !same_leg(*client, leg) || rest.is_empty(),
+            } => *client != leg || rest.is_empty(),
             Course::Going => {
                 let at = place(leg, &self.legs);
                 if at < self.legs.len() {
