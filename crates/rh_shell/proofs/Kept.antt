@@ -1,5 +1,5 @@
 -- the rooms are never passed, and each packet may be written
-use Rattle.std.proofs.Common.{◌≡◌, ℕ, ◌+◌, ◌<◌, ◌≤◌, List, [], ◌∷◌, ◌++◌, length, get_or, cond, nat_lt, Bool, true, false, Some, None, sym, ap, ◌∙◌, refl, arith}
+use Rattle.std.proofs.Common.{◌≡◌, ℕ, ◌+◌, ◌<◌, ◌≤◌, List, [], ◌∷◌, ◌++◌, length, get_or, cond, nat_lt, nat_le, Bool, true, false, Some, None, sym, ap, ◌∙◌, refl, arith}
 use Rattle.std.specs.Prelude.{slice_set, position, count_by, All}
 use Rattle.std.proofs.lemmas.Bool.Decides.{nat_tests}
 use Rattle.std.proofs.lemmas.List.Sums.{sum_by-cons, sum_by_push}
@@ -188,13 +188,13 @@ forward_merged w packet i due is at =
     ∙ rw (sym (any_at (takes packet) w.due i due is)) refl
 
 pub forward_full : (w : Waiting) (packet : Named) → position (takes packet) w.due ≡ None
-    → w.room ≤ count Forwarded w.due → (w, false) ≡ forwarded w packet
+    → nat_le w.room (count Forwarded w.due) ≡ true → (w, false) ≡ forwarded w packet
 forward_full w packet is full =
     let test : nat_lt (count Forwarded w.due) w.room ≡ false = grind (arith, nat_tests, full) in
     rw (sym (any_none (takes packet) w.due is), test) refl
 
 pub forward_more : (w : Waiting) (packet : Named) → position (takes packet) w.due ≡ None
-    → count Forwarded w.due < w.room
+    → nat_le w.room (count Forwarded w.due) ≡ false
     → (pushed w (to_forward packet), true) ≡ forwarded w packet
 forward_more w packet is room =
     let test : nat_lt (count Forwarded w.due) w.room ≡ true = grind (arith, nat_tests, room) in

@@ -1,5 +1,5 @@
 -- what a leg's end makes of the bytes up to what they first make whole
-use Rattle.std.proofs.Common.{◌≡◌, ℕ, List, [], ◌∷◌, drop, Some, None, Ok, Err, sym, ◌∙◌, ap, refl}
+use Rattle.std.proofs.Common.{◌≡◌, ℕ, List, [], ◌∷◌, drop, Bool, true, false, Some, None, Ok, Err, sym, ◌∙◌, ap, refl}
 use Rattle.std.specs.declared.option.Option.{Option}
 use Rattle.std.specs.declared.result.Result.{Result}
 use Rattle.rh_pdu.specs.declared.fault.HeadFault.{HeadFault}
@@ -13,9 +13,10 @@ use Rattle.rh_shell.specs.declared.stop.Stop.{Stop}
 use Rattle.rh_shell.specs.Intakes.{Intake, Frame, Fault, behind, is_whole_head, is_whole_greeting, scan}
 use Rattle.rh_shell.specs.Texts.{Adds}
 use Rattle.rh_shell.specs.Keeping.{overrun, overran, after_row}
+use Rattle.rh_shell.specs.Closing.{after_head, after_greeting}
 use Rattle.rh_shell.specs.NearEnds.{NearEnd}
 use Rattle.rh_shell.specs.Rules.{Rules}
-use Rattle.rh_shell.specs.Hearing.{Turn, goes, stops, stop, behind_head, behind_frame, take_greeting, take_head, take_frame, heading, take, with_intake, take_scanned, hear_next}
+use Rattle.rh_shell.specs.Hearing.{Turn, goes, stops, stop, behind_head, behind_frame, take_greeting, take_head, take_frame, heading, take, with_intake, take_scanned, hear_next, is_greeting}
 use Rattle.rh_shell.proofs.Scans.{holding, head_scanned, greeting_scanned, shut_scanned, scanned}
 
 -- the end of a leg by its fields, and as it is
@@ -36,7 +37,7 @@ module _ {S : Type 0} (rules : Rules S) {end now : NearEnd} (is : end ≡ now) (
       as_now (goes (with_intake end (holding end.intake new)) role, [])
       (ap (take_scanned rules end role) (head_scanned end.intake piece new None st adds))
 
-  pub head_whole : (new : List ℕ) (used : ℕ) (next : S) (taken : Result HeadTaken Stop)
+  head_whole : (new : List ℕ) (used : ℕ) (next : S) (taken : Result HeadTaken Stop)
       → end.intake.stage ≡ stage.Head → Adds is_whole_head end.intake.held piece new (Some used)
       → (next, taken) ≡ take_head rules end.leg role new
       → (behind_head (with_intake end (behind end.intake new)) (next, taken), drop used piece)
@@ -47,6 +48,28 @@ module _ {S : Type 0} (rules : Rules S) {end now : NearEnd} (is : end ≡ now) (
       (ap (λ x. (behind_head (with_intake end (behind end.intake new)) x, drop used piece)) e
       ∙ ap (take_scanned rules end role) (head_scanned end.intake piece new (Some used) st adds))
 
+  head_turn : (e : NearEnd) (next : S) (taken : Result HeadTaken Stop)
+      → record {
+        end = (after_head e taken).0;
+        role = next;
+        stop = (after_head e taken).1;
+      } ≡ behind_head e (next, taken)
+  head_turn e next (Ok taken) = refl
+  head_turn e next (Err why) = refl
+
+  pub head_taken : (new : List ℕ) (used : ℕ) (next : S) (taken : Result HeadTaken Stop)
+      (x : NearEnd × Option Stop) → x ≡ after_head (with_intake end (behind end.intake new)) taken
+      → end.intake.stage ≡ stage.Head → Adds is_whole_head end.intake.held piece new (Some used)
+      → (next, taken) ≡ take_head rules end.leg role new
+      → (record { end = x.0; role = next; stop = x.1 }, drop used piece)
+      ≡ hear_next rules now role piece
+  head_taken new used next taken x row st adds e =
+      ap (λ (y : NearEnd × Option Stop).
+      (record { end = y.0; role = next; stop = y.1 }, drop used piece)) row
+      ∙ ap (λ (t : Turn S). (t, drop used piece))
+      (head_turn (with_intake end (behind end.intake new)) next taken)
+      ∙ head_whole new used next taken st adds e
+
   pub greeting_goes_on : (new : List ℕ) → end.intake.stage ≡ stage.Greeting
       → Adds is_whole_greeting end.intake.held piece new None
       → (goes (with_intake end (holding end.intake new)) role, []) ≡ hear_next rules now role piece
@@ -55,7 +78,7 @@ module _ {S : Type 0} (rules : Rules S) {end now : NearEnd} (is : end ≡ now) (
       as_now (goes (with_intake end (holding end.intake new)) role, [])
       (ap (take_scanned rules end role) (greeting_scanned end.intake piece new None st adds))
 
-  pub greeting_whole : (new : List ℕ) (used : ℕ) → end.intake.stage ≡ stage.Greeting
+  greeting_whole : (new : List ℕ) (used : ℕ) → end.intake.stage ≡ stage.Greeting
       → Adds is_whole_greeting end.intake.held piece new (Some used)
       → (take_greeting (with_intake end (behind end.intake new)) role new, drop used piece)
       ≡ hear_next rules now role piece
@@ -63,6 +86,28 @@ module _ {S : Type 0} (rules : Rules S) {end now : NearEnd} (is : end ≡ now) (
   greeting_whole new used st adds =
       as_now (take_greeting (with_intake end (behind end.intake new)) role new, drop used piece)
       (ap (take_scanned rules end role) (greeting_scanned end.intake piece new (Some used) st adds))
+
+  greeting_turn : (e : NearEnd) (new : List ℕ) (is_right : Bool) → is_greeting new ≡ is_right
+      → record {
+        end = (after_greeting e is_right).0;
+        role = role;
+        stop = (after_greeting e is_right).1;
+      } ≡ take_greeting e role new
+  greeting_turn e new true is = rw is refl
+  greeting_turn e new false is = rw is refl
+
+  pub greeting_taken : (new : List ℕ) (used : ℕ) (is_right : Bool) (x : NearEnd × Option Stop)
+      → x ≡ after_greeting (with_intake end (behind end.intake new)) is_right
+      → is_greeting new ≡ is_right → end.intake.stage ≡ stage.Greeting
+      → Adds is_whole_greeting end.intake.held piece new (Some used)
+      → (record { end = x.0; role = role; stop = x.1 }, drop used piece)
+      ≡ hear_next rules now role piece
+  greeting_taken new used is_right x row is st adds =
+      ap (λ (y : NearEnd × Option Stop).
+      (record { end = y.0; role = role; stop = y.1 }, drop used piece)) row
+      ∙ ap (λ (t : Turn S). (t, drop used piece))
+      (greeting_turn (with_intake end (behind end.intake new)) new is_right is)
+      ∙ greeting_whole new used st adds
 
   pub shut_goes_on : end.intake.stage ≡ stage.Shut → (goes end role, []) ≡ hear_next rules now role
       piece

@@ -5,6 +5,7 @@ pub mod Rules
 pub mod NearEnds
 pub mod Moves
 pub mod Hearing
+pub mod Closing
 pub mod Keeping
 pub mod Drawing
 pub mod Shells

@@ -6,6 +6,7 @@ ghost use Rattle.rh_pdu.specs.Frames.{IsFrame};
 ghost use Rattle.rh_shell.specs.Intakes.{counted, length_told};
 ghost use Rattle.rh_shell.specs.Texts.{IsWithin};
 ghost use Rattle.rh_shell.specs.Keeping.{ReadsBody, room, overran, after_row};
+ghost use Rattle.rh_shell.specs.Closing.{after_head, after_greeting};
 ghost use Rattle.rh_shell.specs.Hearing as seen;
 ghost use Rattle.rh_shell.specs.Readings.{packet_of};
 ghost use Rattle.rh_shell.specs.declared.stage.Stage.TheVariants as stage;
@@ -251,6 +252,20 @@ impl NearEnd {
         self.body = length.map(|length| Body { came: 0, length });
     }
 
+    /// A head was taken, or refused: then the node stops.
+    fn close_head(&mut self, taken: Result<HeadTaken, Stop>) -> Option<Stop>
+        requires { self.old.intake.held ≡ [] }
+        ensures { (self.new, result) ≡ after_head self.old taken }
+    {
+        match taken {
+            Ok(taken) => {
+                self.begin_body(taken.behind, Some(taken.length));
+                None
+            }
+            Err(why) => Some(why),
+        }
+    }
+
     /// Adds bytes to a head, and takes it where it is whole.
     #[tactic(auto, unfolding(crate::specs::Hearing::take))]
     fn hear_head<'p, R: Role>(&mut self, role: &mut R, piece: &'p [u8]) -> (Option<Stop>, &'p [u8])
@@ -268,13 +283,7 @@ impl NearEnd {
         let len = self.head.bytes().len() as u64;
         self.place = self.place.saturating_add(len);
         self.head.clear();
-        match taken {
-            Ok(taken) => {
-                self.begin_body(taken.behind, Some(taken.length));
-                (None, behind)
-            }
-            Err(why) => (Some(why), behind),
-        }
+        (self.close_head(taken), behind)
     }
 
     /// The first byte behind a body is one too many.
@@ -390,6 +399,21 @@ impl NearEnd {
         self.feed(role, piece)
     }
 
+    /// A greeting was right, or it wasn't: then the node stops.
+    fn close_greeting(&mut self, is_right: bool) -> Option<Stop>
+        requires { self.old.intake.held ≡ [] }
+        ensures { (self.new, result) ≡ after_greeting self.old is_right }
+    {
+        if is_right {
+            self.begin_body(Behind::Frames, None);
+            return None;
+        }
+        Some(stop(Cause::Unexpected {
+            leg: self.leg,
+            place: 0,
+        }))
+    }
+
     /// Adds bytes to a greeting, and takes it where it is whole. No role is asked for that.
     #[tactic(auto, unfolding(crate::specs::Hearing::take))]
     fn hear_greeting<'p, R: Role>(&mut self, _role: &R, piece: &'p [u8]) -> (Option<Stop>, &'p [u8])
@@ -407,15 +431,7 @@ impl NearEnd {
         let len = self.greeting.bytes().len() as u64;
         self.place = self.place.saturating_add(len);
         self.greeting.clear();
-        if right {
-            self.begin_body(Behind::Frames, None);
-            return (None, behind);
-        }
-        let why = Cause::Unexpected {
-            leg: self.leg,
-            place: 0,
-        };
-        (Some(stop(why)), behind)
+        (self.close_greeting(right), behind)
     }
 
     /// Counts the bytes of a body that nobody reads.

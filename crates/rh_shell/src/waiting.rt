@@ -49,9 +49,9 @@ impl Model for Waiting {
 }
 
 impl Waiting {
-    ghost use Rattle.std.specs.Prelude.{◌≡◌, ◌<◌, IfOk, IfSome, [], ◌==◌, length};
+    ghost use Rattle.std.specs.Prelude.{◌≡◌, ◌<◌, IfOk, IfSome, [], ◌==◌, length, nat_le};
     ghost use Rattle.rh_sig.specs.Values.{MayBeWritten};
-    ghost use Rattle.rh_shell.specs.declared.due.Origin.TheVariants.{Own};
+    ghost use Rattle.rh_shell.specs.declared.due.Origin.TheVariants.{Own, Forwarded};
     ghost use Rattle.rh_shell.specs.Waiting.{empty, room_of, pushed, added, forwarded};
     ghost use Rattle.rh_shell.specs.Waiting.{taken, with_due};
 
@@ -117,7 +117,7 @@ impl Waiting {
             self.due[place] = self.due[place].better(packet);
             return true;
         }
-        if count(&self.due, Origin::Forwarded) >= usize::from(self.room) {
+        if self.is_full() {
             return false;
         }
         self.push(Due {
@@ -125,6 +125,13 @@ impl Waiting {
             origin: Origin::Forwarded,
         });
         true
+    }
+
+    /// Whether no more may wait that are to be forwarded.
+    fn is_full(&self) -> bool
+        ensures { result ≡ nat_le self.now.room (count Forwarded self.now.due) }
+    {
+        count(&self.due, Origin::Forwarded) >= usize::from(self.room)
     }
 
     /// Takes the first packet that may go now; `None` where none may. Those that it passes by go on
