@@ -152,12 +152,13 @@ fault_scanned i s t piece most at f st h was w e fed =
       fits = fits;
       some = some;
       scans =
-          ap (λ (x : List ℕ). record {
+          ◌∙◌ {b = record { intake = j; came = Fault i.place f; left = drop n piece }}
+          (ap (λ (x : List ℕ). record {
             intake = record i { stage = stage.Shut; held = x; body = counted n i.body };
             came = Fault i.place f;
             left = drop n piece;
-          }) rest
-          ∙ stops_at i piece n j (Fault i.place f) st some (omega (arith, fits, within)) r
+          }) rest)
+          (stops_at i piece n j (Fault i.place f) st some (omega (arith, fits, within)) r
           (λ m one. λ enough. absurd (omega (
             arith,
             enough,
@@ -166,7 +167,7 @@ fault_scanned i s t piece most at f st h was w e fed =
             held,
             length-append i.held (take m piece),
             length-take-le m piece (omega (arith, one, fits, within)),
-          ))) on refl;
+          ))) on refl);
     }
 
 -- ---- a frame that stands whole at the front

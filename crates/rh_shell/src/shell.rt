@@ -534,14 +534,17 @@ impl<R: Role> Shell<R> {
         ensures rest { drop result room.new ≡ drop result room.old }
         ensures fits { result ≤ length room.old }
     {
-        match &mut self.course {
-            Course::Refusing {
-                leg: client,
-                rest,
-                ..
-            } => { if *client == leg { rest.draw(room) } else { 0 } }
-            Course::Going | Course::Closed(_) => 0,
+        if let Course::Refusing {
+            leg: client,
+            rest,
+            ..
+        } = &mut self.course
+        {
+            if *client == leg {
+                return rest.draw(room);
+            }
         }
+        0
     }
 
     /// Whether there is no use for the leg any more and nothing is left to draw. False of a leg
