@@ -498,13 +498,14 @@ impl<R: Role> Shell<R> {
         if self.legs[at].is_finished(&self.role) {
             return;
         }
-        if self.role.phase() == Phase::Ended {
-            self.legs[at].mark();
-        } else if self.role.only_marks(leg) {
-            self.legs[at].mark();
-            self.role.mark(leg);
-        } else {
+        let is_ended = self.role.phase() == Phase::Ended;
+        if !is_ended && !self.role.only_marks(leg) {
             self.course = Course::Closed(cause);
+            return;
+        }
+        self.legs[at].mark();
+        if !is_ended {
+            self.role.mark(leg);
         }
     }
 
