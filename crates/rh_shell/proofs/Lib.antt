@@ -1,3 +1,4 @@
+mod PutPieces
 mod HeadTexts
 mod Scans
 mod Framed
