@@ -35,6 +35,23 @@ abbrev pub ended_if : Bool → Line → Line
 ended_if false line = line
 ended_if true line = after_end line Next
 
+-- a leg whose channel is open: IN_R1/B2 is to tell its window
+abbrev pub opened_leg : InLeg → InLeg
+opened_leg leg = record leg { stage = Opened; tells = tells.InR1B2 }
+
+-- the channel of the leg is the next one, with a shut window
+abbrev pub next_begun : Server → InLeg → Bool → Server
+next_begun s leg ended = record s {
+  line = ended_if ended (after_open_next s.line true);
+  next = record { leg = leg.number; number = leg.number; cookie = leg.cookie };
+}
+
+-- and IN_R1/A3 is due
+abbrev pub next_told : Server → ℕ → ℕ → Server
+next_told s window timeout = record s {
+  waiting = added s.waiting (named.InR1A3 TO_CLIENT PROTOCOL_VERSION window timeout);
+}
+
 -- the channel of the leg is the next one, with a shut window; IN_R1/A3 is due, and IN_R1/B2 once it
 -- is the current one
 abbrev pub opens_next : Server → InLeg → InStage → Server
@@ -90,6 +107,9 @@ is_fresh_below number leg = nat_lt leg.number number && is_fresh leg.stage
 abbrev pub has_fresh_below : ℕ → List InLeg → Bool
 has_fresh_below number legs = list_any (is_fresh_below number) legs
 
+abbrev pub with_newest : Server → ℕ → Cookie → Server
+with_newest s leg cookie = record s { newest = record { leg = leg; cookie = cookie } }
+
 abbrev pub announced : Server → InLeg → Cookie → ℕ → ℕ → Server
 announced s leg successor window timeout = next_opened (with_in
     (record s { newest = record { leg = leg.number; cookie = successor } })
@@ -132,6 +152,12 @@ abbrev pub hands_over : Server → ℕ → Server
 hands_over s number =
     moved_if true (record (leaves s number) { line = after_finish s.line })
 
+-- the leg carries the current channel, and IN_R1/A3 for the next one was put
+abbrev pub may_hand_over : Server → ℕ → Bool
+may_hand_over s number =
+    (number == s.current.leg)
+    && (not s.line.finished && (s.line.has_next && not (waits kind.InR1A3 s.waiting)))
+
 -- IN_R1/A6 comes on the current leg, where IN_R1/A3 for the next channel was put, whose cookie it
 -- has
 abbrev pub on_in_r1_a6 : Server → ℕ → Cookie → Done
@@ -156,6 +182,11 @@ carried_on s Next number = record s { next = carries s.next number }
 abbrev pub newest_by : Newest → ℕ → Cookie → Newest
 newest_by newest number successor =
     if number == newest.leg then record newest { cookie = successor } else newest
+
+-- each IN_R2/A3 before was put, and a number is left
+abbrev pub may_carry : Server → Bool
+may_carry s =
+    is_open s.stage && (not (waits kind.InR2A3 s.waiting) && nat_lt s.newest_in LAST_NUMBER)
 
 -- the leg carries the channel with the next number; IN_R2/A3 is due
 abbrev pub carries_next : Server → ℕ → Cookie → Which → Server

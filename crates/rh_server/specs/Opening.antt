@@ -153,6 +153,13 @@ on_conn_a2 s number count connection cookie lifetime window =
     then conn_a2_at s s.stage connection cookie lifetime window
     else unexpected s
 
+-- the channel of is 1 is the current one
+abbrev pub first_current : Server → Cookie → Server
+first_current s cookie = record s {
+  current = record { leg = 1; number = 1; cookie = cookie };
+  newest = record { leg = 1; cookie = cookie };
+}
+
 -- the first IN channel is that of is 1; CONN/B3 is due there once the server is open
 abbrev pub first_in : Server → Cookie → Option InLeg → Server
 first_in s cookie None = s

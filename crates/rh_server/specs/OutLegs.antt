@@ -1,13 +1,22 @@
 -- an os leg by itself: what is put there, and acknowledged (MS-RPCH 3.2.1)
-use Rattle.std.specs.Prelude.{ℕ, ◌==◌, ◌&&◌, Bool, Ok, Err}
+use Rattle.std.specs.Prelude.{ℕ, ◌==◌, ◌&&◌, Bool, Some, Ok, Err}
 use Rattle.std.specs.declared.result.Result.{Result}
+use Rattle.rh_rts.specs.declared.command.Cookie.{Cookie}
 use Rattle.rh_sig.specs.declared.lengths.TheConstants.{END_B1_LEN}
-use Rattle.rh_window.specs.Sending.{may_send, after_sent, ack_verdict, after_acked}
+use Rattle.rh_window.specs.Sending.{unsent, may_send, after_sent, ack_verdict, after_acked}
 use Rattle.rh_window.specs.declared.fault.BadAck.{BadAck}
-use Rattle.rh_keep.specs.Meters.{may_put, fits, after_put}
+use Rattle.rh_keep.specs.Meters.{Meter, may_put, fits, after_put}
 use Rattle.rh_shell.specs.Rules.{Row}
 use Rattle.rh_shell.specs.declared.answers.Refused.TheVariants as refused
 use Rattle.rh_server.specs.declared.state.OutLeg.{OutLeg}
+
+-- its channel begins
+abbrev pub begun : OutLeg → Cookie → ℕ → Meter → OutLeg
+begun leg cookie window meter = record leg {
+  cookie = Some cookie;
+  window = unsent window;
+  meter = meter;
+}
 
 -- the meter counts what is put
 abbrev pub counted : OutLeg → ℕ → OutLeg

@@ -145,6 +145,10 @@ abbrev pub cookie_or_none : Option Cookie → Cookie
 cookie_or_none None = no_cookie
 cookie_or_none (Some cookie) = cookie
 
+-- OUT_R1/A8 came, and there is a number for the successor
+abbrev pub may_succeed : Server → Bool
+may_succeed s = is_confirmed s.replacement && nat_lt s.writing last_number
+
 -- OUT_R1/A9 goes once OUT_R1/A8 came, and there is a number for the successor
 abbrev pub gate : Server → OutLeg → Gate
 gate s leg = record {
@@ -221,6 +225,10 @@ may_end_at s (Some leg) = may_end leg s.writing
 
 abbrev pub is_end_due : Server → Bool
 is_end_due s = is_closing s.giving && (not (is_put s.end_mark) && is_nil s.queue)
+
+-- the leg's meter counts it
+abbrev pub with_end_put : Server → ℕ → Server
+with_end_put s place = record (counts s place END_B1_LEN) { end_mark = end_mark.Put }
 
 abbrev pub put_end : Server → ℕ → Pick
 put_end s place =

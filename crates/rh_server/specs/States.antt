@@ -147,6 +147,9 @@ abbrev pub IsEdge : Edge → Line → Type 0
 IsEdge edge.Told line = Unit {0}
 IsEdge edge.Shut line = line.current.window.told ≡ 0
 
+abbrev pub with_stage : Server → Stage → Server
+with_stage s stage = record s { stage = stage }
+
 -- ---- legs
 
 abbrev pub in_place : ℕ → List InLeg → Option ℕ

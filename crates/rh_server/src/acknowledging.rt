@@ -49,10 +49,12 @@ impl OutLeg {
 }
 
 impl ServerRole {
-    ghost use Rattle.std.specs.Prelude.{◌<◌, true, length, slice_get};
+    ghost use Rattle.std.specs.Prelude.{◌<◌, true, length, slice_get, Some};
     ghost use Rattle.rh_pdu.specs.Frames.{IsPdu};
+    ghost use Rattle.rh_line.specs.Lines.{IsThere};
     ghost use Rattle.rh_sig.specs.Values.{MayBeWritten};
-    ghost use Rattle.rh_server.specs.OutLines.{is_ack};
+    ghost use Rattle.rh_shell.specs.Waiting.{takes};
+    ghost use Rattle.rh_server.specs.OutLines.{has, is_ack};
     ghost use Rattle.rh_server.specs.Acknowledging as seen;
 
     /// The channel of the line on which a leg's PDUs come; `None` once IN_R1/A6 came there.
@@ -78,6 +80,15 @@ impl ServerRole {
         let Some(which) = self.channel_at(number) else {
             return Err(Refused::Unexpected);
         };
+        self.admits(which, pdu)
+    }
+
+    /// The channel takes a PDU.
+    fn admits(&mut self, which: Which, pdu: &[u8]) -> Row
+        requires there { IsThere self.old.line which }
+        requires pdu { IsPdu pdu.now }
+        ensures { (self.new, result) ≡ seen.admitted_on self.old pdu.now (Some which) }
+    {
         match self.line.admit(which, pdu) {
             Ok(()) => Ok(()),
             Err(LineFault::Window(exceeded)) => Err(Refused::Window(exceeded)),
@@ -128,18 +139,26 @@ impl ServerRole {
         }
     }
 
+    /// Whether an acknowledgement waits with which this packet is merged.
+    fn merges(&self, packet: Named) -> bool
+        ensures { result ≡ has (takes packet) self.now.waiting }
+    {
+        self.out_line.has(&Taking(packet))
+    }
+
     /// On the writing leg, where there is room or the packet is merged.
     fn forwards_writing(&mut self, packet: Named) -> Row
         requires writable { MayBeWritten packet }
         requires ack { is_ack packet ≡ true }
         ensures { (self.new, result) ≡ seen.forwards_writing self.old packet }
     {
-        if self.is_full() && !self.out_line.has(&Taking(packet)) {
+        let writing = self.writing_now();
+        if self.is_full() && !self.merges(packet) {
             return Err(Refused::Full {
-                leg: out_server(self.writing),
+                leg: out_server(writing),
             });
         }
-        self.forwards(self.writing, packet)
+        self.forwards(writing, packet)
     }
 
     /// The place of the os leg of this channel.
@@ -190,7 +209,7 @@ impl ServerRole {
         let Some(number) = self.channel_leg(cookie) else {
             return Ok(());
         };
-        if number == self.writing {
+        if number == self.writing_now() {
             return self.forwards_writing(packet);
         }
         self.forwards(number, packet)

@@ -45,7 +45,9 @@ fn are_lost(legs: &[InLeg]) -> bool
 }
 
 impl ServerRole {
-    ghost use Rattle.std.specs.Prelude.{true, None};
+    ghost use Rattle.std.specs.Prelude.{true, None, Some};
+    ghost use Rattle.rh_pdu.specs.Frames.{IsPdu};
+    ghost use Rattle.rh_line.specs.Lines.{IsThere};
     ghost use Rattle.rh_server.specs.Acknowledging.{channel_at};
     ghost use Rattle.rh_server.specs.States.{in_leg};
     ghost use Rattle.rh_server.specs.Ending as seen;
@@ -54,12 +56,20 @@ impl ServerRole {
     pub(crate) fn give_pdu(&mut self, pdu: &[u8]) -> Result<(), GiveRefused>
         ensures { (self.new, result) ≡ seen.give self.old pdu.now }
     {
-        if self.giving == Giving::Closing {
+        if self.is_closing() {
             return Err(GiveRefused::Closing);
         }
         if let Err(fault) = check(pdu) {
             return Err(GiveRefused::BadPdu(fault));
         }
+        self.queues(pdu)
+    }
+
+    /// The PDU is queued, where there is room for it.
+    fn queues(&mut self, pdu: &[u8]) -> Result<(), GiveRefused>
+        requires { IsPdu pdu.now }
+        ensures { (self.new, result) ≡ seen.give_by self.old pdu.now None }
+    {
         let held = self.queue.held();
         if !self.queue.push(pdu) {
             return Err(GiveRefused::Full {
@@ -68,6 +78,13 @@ impl ServerRole {
             });
         }
         Ok(())
+    }
+
+    /// No PDU will be given any more.
+    pub(crate) fn close_now(&mut self)
+        ensures { self.new ≡ seen.close self.old }
+    {
+        self.giving = Giving::Closing;
     }
 
     pub(crate) fn on_end_a2(&mut self, number: u32, count: Count) -> Row
@@ -79,6 +96,14 @@ impl ServerRole {
         let Some(which) = self.channel_at(number) else {
             return self.end_a2_waiting(number);
         };
+        self.ends(which)
+    }
+
+    /// END came on the channel.
+    fn ends(&mut self, which: Which) -> Row
+        requires { IsThere self.old.line which }
+        ensures { (self.new, result) ≡ seen.end_a2_at self.old 0 (Some which) }
+    {
         if self.line.is_over(which) {
             return Err(Refused::Unexpected);
         }
@@ -112,13 +137,19 @@ impl ServerRole {
         Ok(())
     }
 
-    /// The work is done where END/B1 was put on the writing channel, and every is leg is ended or
-    /// finished.
+    /// Whether END/B1 was put on the writing channel, and every is leg is ended or finished.
+    fn is_complete(&self) -> bool
+        ensures { result ≡ seen.is_complete self.now }
+    {
+        self.is_open() && self.end_mark == EndMark::Put && are_lost(&self.ins)
+    }
+
+    /// The work is done where it is complete.
     fn complete(&mut self)
         ensures { self.new ≡ seen.completed self.old }
     {
-        if self.is_open() && self.end_mark == EndMark::Put && are_lost(&self.ins) {
-            self.stage = Stage::Ended;
+        if self.is_complete() {
+            self.set_stage(Stage::Ended);
         }
     }
 

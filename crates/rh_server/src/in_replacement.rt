@@ -7,7 +7,7 @@ ghost use Rattle.rh_server.specs.InReplacement.{is_fresh_below};
 use crate::opening::{Row, is_first};
 use crate::out_line::Kind;
 use crate::state::{
-    Edge, InChannel, InLeg, InStage, Leaving, Newest, ServerRole, Stage, Tells, same_cookie,
+    Edge, InChannel, InLeg, InStage, Leaving, Newest, ServerRole, Stage, same_cookie,
 };
 use rh_line::{LAST_NUMBER, LineTake, Which};
 use rh_pdu::header::GREATEST_FRAG;
@@ -20,7 +20,7 @@ use rh_sig::ranges::PROTOCOL_VERSION;
 fn is_fresh_below(number: u32, leg: &InLeg) -> bool
     ensures { result ≡ is_fresh_below number leg.now }
 {
-    leg.number < number && leg.stage == InStage::Fresh
+    leg.number < number && matches!(leg.stage, InStage::Fresh)
 }
 
 /// Whether IN_R1/A2 came, and the channel is not open yet.
@@ -45,6 +45,16 @@ impl ServerRole {
         requires once { waits InR1A3 self.old.waiting ≡ false }
         ensures { self.new ≡ seen.opens_next self.old leg (Waits window timeout ended) }
     {
+        self.next_begins(leg, ended);
+        self.tells_next(window, timeout);
+        self.set_in(leg.opened());
+    }
+
+    /// There is a next channel, with a shut window.
+    fn next_begins(&mut self, leg: InLeg, ended: bool)
+        requires { self.old.line.has_next ≡ false }
+        ensures { self.new ≡ seen.next_begun self.old leg ended }
+    {
         self.line.open_next(true);
         if ended {
             self.line.end(Which::Next);
@@ -54,15 +64,17 @@ impl ServerRole {
             number: leg.number,
             cookie: leg.cookie,
         };
+    }
+
+    /// IN_R1/A3 is due.
+    fn tells_next(&mut self, window: u32, timeout: u32)
+        requires { waits InR1A3 self.old.waiting ≡ false }
+        ensures { self.new ≡ seen.next_told self.old window timeout }
+    {
         self.out_line.add(
             Kind::InR1A3,
             Named::InR1A3(TO_CLIENT, PROTOCOL_VERSION, window, timeout),
         );
-        self.set_in(InLeg {
-            stage: InStage::Opened,
-            tells: Tells::InR1B2,
-            ..leg
-        });
     }
 
     /// The place of the first leg whose channel waits.
@@ -80,11 +92,18 @@ impl ServerRole {
         Some(self.ins[place])
     }
 
+    /// Whether there is a next channel.
+    fn has_next(&self) -> bool
+        ensures { result ≡ self.now.line.has_next }
+    {
+        self.line.has_next()
+    }
+
     /// The first channel that waits is opened where there is no next one.
     fn open_waiting(&mut self)
         ensures { self.new ≡ seen.next_opened self.old }
     {
-        if self.line.has_next() || self.out_line.waits(Kind::InR1A3) {
+        if self.has_next() || self.waits(Kind::InR1A3) {
             return;
         }
         let Some(leg) = self.first_waiting() else {
@@ -157,7 +176,7 @@ impl ServerRole {
         ensures { (self.new, result) ≡ seen.in_r1_a2_at self.old self.old.stage number connection
             predecessor successor window timeout }
     {
-        let Stage::Open(first) = self.stage else {
+        let Stage::Open(first) = self.stage_now() else {
             return Err(Refused::Unexpected);
         };
         let Some(leg) = self.in_leg(number) else {
@@ -172,9 +191,10 @@ impl ServerRole {
                 got: connection,
             });
         }
-        if !same_cookie(self.newest.cookie, predecessor) {
+        let newest = self.newest_cookie();
+        if !same_cookie(newest, predecessor) {
             return Err(Refused::Cookie {
-                expected: self.newest.cookie,
+                expected: newest,
                 got: predecessor,
             });
         }
@@ -182,14 +202,25 @@ impl ServerRole {
         Ok(())
     }
 
+    /// The cookie of the newest channel.
+    fn newest_cookie(&self) -> Cookie
+        ensures { result ≡ self.now.newest.cookie }
+    {
+        self.newest.cookie
+    }
+
+    /// The newest channel is that of the leg.
+    fn set_newest(&mut self, leg: u32, cookie: Cookie)
+        ensures { self.new ≡ seen.with_newest self.old leg cookie }
+    {
+        self.newest = Newest { leg, cookie };
+    }
+
     /// IN_R1/A2 came: the channel of the leg waits, or is the next one.
     fn announced(&mut self, leg: InLeg, successor: Cookie, window: u32, timeout: u32)
         ensures { self.new ≡ seen.announced self.old leg successor window timeout }
     {
-        self.newest = Newest {
-            leg: leg.number,
-            cookie: successor,
-        };
+        self.set_newest(leg.number, successor);
         self.set_in(InLeg {
             cookie: successor,
             stage: InStage::Waits {
@@ -230,16 +261,33 @@ impl ServerRole {
         }
     }
 
+    /// Whether the leg carries the current channel, and the next one was told.
+    fn may_hand_over(&self, number: u32) -> bool
+        ensures { result ≡ seen.may_hand_over self.now number }
+    {
+        number == self.current.leg
+            && !self.is_left
+            && self.line.has_next()
+            && !self.out_line.waits(Kind::InR1A3)
+    }
+
+    /// The cookie of the next channel.
+    fn next_cookie(&self) -> Cookie
+        ensures { result ≡ self.now.next.cookie }
+    {
+        self.next.cookie
+    }
+
     pub(crate) fn on_in_r1_a6(&mut self, number: u32, successor: Cookie) -> Row
         ensures { (self.new, result) ≡ seen.on_in_r1_a6 self.old number successor }
     {
-        let is_current = number == self.current.leg && !self.is_left;
-        if !is_current || !self.line.has_next() || self.out_line.waits(Kind::InR1A3) {
+        if !self.may_hand_over(number) {
             return Err(Refused::Unexpected);
         }
-        if !same_cookie(self.next.cookie, successor) {
+        let next = self.next_cookie();
+        if !same_cookie(next, successor) {
             return Err(Refused::Cookie {
-                expected: self.next.cookie,
+                expected: next,
                 got: successor,
             });
         }
@@ -250,24 +298,34 @@ impl ServerRole {
     pub(crate) fn on_in_r2_a2(&mut self, number: u32, count: Count, successor: Cookie) -> Row
         ensures { (self.new, result) ≡ seen.on_in_r2_a2 self.old number count successor }
     {
-        if is_first(count) || !self.is_open() {
-            return Err(Refused::Unexpected);
-        }
-        if self.out_line.waits(Kind::InR2A3) || self.newest_in == LAST_NUMBER {
+        if is_first(count) || !self.may_carry() {
             return Err(Refused::Unexpected);
         }
         let Some(which) = self.channel_at(number) else {
             return Err(Refused::Unexpected);
         };
+        self.carries_next(number, successor, which);
+        Ok(())
+    }
+
+    /// Whether a leg may carry one more channel: each IN_R2/A3 before was put, and a number is left.
+    fn may_carry(&self) -> bool
+        ensures { result ≡ seen.may_carry self.now }
+    {
+        self.is_open() && !self.out_line.waits(Kind::InR2A3) && self.newest_in < LAST_NUMBER
+    }
+
+    /// The leg carries the channel with the next number, and IN_R2/A3 is due.
+    fn carries_next(&mut self, number: u32, successor: Cookie, which: Which)
+        requires { seen.may_carry self.old ≡ true }
+        ensures { self.new ≡ seen.carries_next self.old number successor which }
+    {
         self.newest_in += 1;
         match which {
             Which::Current => self.current.number = self.newest_in,
             Which::Next => self.next.number = self.newest_in,
         }
-        if number == self.newest.leg {
-            self.newest.cookie = successor;
-        }
+        self.newest.carries(number, successor);
         self.out_line.add(Kind::InR2A3, Named::InR2A3(TO_CLIENT));
-        Ok(())
     }
 }

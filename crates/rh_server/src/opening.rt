@@ -139,10 +139,7 @@ impl ServerRole {
         ensures { self.new ≡ seen.with_first_out self.old cookie lifetime window }
     {
         if let Some(place) = self.out_place(1) {
-            let leg = &mut self.outs[place];
-            leg.cookie = Some(cookie);
-            leg.window = SendWindow::new(window);
-            leg.meter = Meter::new(lifetime, BEFORE_FIRST);
+            self.outs[place].begins(cookie, window, Meter::new(lifetime, BEFORE_FIRST));
         }
     }
 
@@ -158,13 +155,30 @@ impl ServerRole {
         ensures { (self.new, result)
             ≡ seen.on_conn_a2 self.old number count connection cookie lifetime window }
     {
-        if !is_first(count) || number != 1 || self.out_line.waits(Kind::ConnC1) {
+        if !is_first(count) || number != 1 || self.waits(Kind::ConnC1) {
             return Err(Refused::Unexpected);
         }
-        match self.stage {
+        let stage = self.stage_now();
+        self.conn_a2_at(stage, connection, cookie, lifetime, window)
+    }
+
+    /// CONN/A2 came where it may come.
+    fn conn_a2_at(
+        &mut self,
+        stage: Stage,
+        connection: Cookie,
+        cookie: Cookie,
+        lifetime: u32,
+        window: u32,
+    ) -> Row
+        requires { waits ConnC1 self.old.waiting ≡ false }
+        ensures { (self.new, result)
+            ≡ seen.conn_a2_at self.old stage connection cookie lifetime window }
+    {
+        match stage {
             Stage::Waits => {
                 self.with_first_out(cookie, lifetime, window);
-                self.stage = Stage::OutCame(connection);
+                self.set_stage(Stage::OutCame(connection));
                 Ok(())
             }
             Stage::InCame {
@@ -186,6 +200,18 @@ impl ServerRole {
         }
     }
 
+    /// The channel of is 1 is the current one.
+    fn first_current(&mut self, cookie: Cookie)
+        ensures { self.new ≡ seen.first_current self.old cookie }
+    {
+        self.current = InChannel {
+            leg: 1,
+            number: 1,
+            cookie,
+        };
+        self.newest = Newest { leg: 1, cookie };
+    }
+
     /// The first IN channel is that of is 1.
     fn with_first_in(&mut self, cookie: Cookie)
         ensures { self.new ≡ seen.with_first_in self.old cookie }
@@ -193,12 +219,7 @@ impl ServerRole {
         let Some(leg) = self.in_leg(1) else {
             return;
         };
-        self.current = InChannel {
-            leg: 1,
-            number: 1,
-            cookie,
-        };
-        self.newest = Newest { leg: 1, cookie };
+        self.first_current(cookie);
         self.set_in(InLeg {
             cookie,
             stage: InStage::Opened,
@@ -219,17 +240,34 @@ impl ServerRole {
         ensures { (self.new, result)
             ≡ seen.on_conn_b2 self.old number count connection cookie window timeout }
     {
-        if !is_first(count) || number != 1 || self.out_line.waits(Kind::ConnC1) {
+        if !is_first(count) || number != 1 || self.waits(Kind::ConnC1) {
             return Err(Refused::Unexpected);
         }
-        match self.stage {
+        let stage = self.stage_now();
+        self.conn_b2_at(stage, connection, cookie, window, timeout)
+    }
+
+    /// CONN/B2 came where it may come.
+    fn conn_b2_at(
+        &mut self,
+        stage: Stage,
+        connection: Cookie,
+        cookie: Cookie,
+        window: u32,
+        timeout: u32,
+    ) -> Row
+        requires { waits ConnC1 self.old.waiting ≡ false }
+        ensures { (self.new, result)
+            ≡ seen.conn_b2_at self.old stage connection cookie window timeout }
+    {
+        match stage {
             Stage::Waits => {
                 self.with_first_in(cookie);
-                self.stage = Stage::InCame {
+                self.set_stage(Stage::InCame {
                     connection,
                     window,
                     timeout,
-                };
+                });
                 Ok(())
             }
             Stage::OutCame(first) => {

@@ -12,19 +12,19 @@ use rh_rts::{Cookie, TO_CLIENT, TO_SERVER};
 use rh_shell::{Count, RecycleRefused, Refused};
 use rh_sig::Named;
 use rh_sig::ranges::PROTOCOL_VERSION;
-use rh_window::SendWindow;
 
 impl ServerRole {
     ghost use Rattle.std.specs.Prelude.{false};
     ghost use Rattle.rh_server.specs.declared.out_line.Kind.TheVariants.{OutR1};
     ghost use Rattle.rh_server.specs.OutLines.{waits};
+    ghost use Rattle.rh_server.specs.States.{out_cookie};
     ghost use Rattle.rh_server.specs.OutReplacement as seen;
 
     /// Whether a replacement is under way, or a packet of it still waits.
     fn is_under_way(&self) -> bool
         ensures { result ≡ seen.is_under_way self.now }
     {
-        self.replacement != Replacement::Steady || self.out_line.waits(Kind::OutR1)
+        !matches!(self.replacement, Replacement::Steady) || self.out_line.waits(Kind::OutR1)
     }
 
     /// OUT_R1/A1 is due.
@@ -40,12 +40,13 @@ impl ServerRole {
     pub(crate) fn recycle_out(&mut self) -> Result<(), RecycleRefused>
         ensures { (self.new, result) ≡ seen.recycle self.old }
     {
-        if self.writing == LAST_NUMBER {
+        let writing = self.writing_now();
+        if writing == LAST_NUMBER {
             return Err(RecycleRefused::Last);
         }
         if self.is_under_way() {
             return Err(RecycleRefused::Busy {
-                under_way: out_server(self.writing + 1),
+                under_way: out_server(writing + 1),
             });
         }
         self.asks();
@@ -80,8 +81,15 @@ impl ServerRole {
     {
         is_first(count)
             && u64::from(number) == u64::from(self.writing) + 1
-            && self.replacement == Replacement::Asked
+            && matches!(self.replacement, Replacement::Asked)
             && !self.out_line.waits(Kind::OutR1)
+    }
+
+    /// The cookie of the writing channel.
+    fn writing_cookie(&self) -> Option<Cookie>
+        ensures { result ≡ out_cookie self.now.writing self.now.outs }
+    {
+        self.out_cookie(self.writing)
     }
 
     pub(crate) fn on_out_r1_a4(
@@ -101,10 +109,10 @@ impl ServerRole {
         if !self.is_asked(number, count) {
             return Err(Refused::Unexpected);
         }
-        let Stage::Open(first) = self.stage else {
+        let Stage::Open(first) = self.stage_now() else {
             return Err(Refused::Unexpected);
         };
-        let Some(writing) = self.out_cookie(self.writing) else {
+        let Some(writing) = self.writing_cookie() else {
             return Err(Refused::Unexpected);
         };
         if !same_cookie(first, connection) {
@@ -138,10 +146,7 @@ impl ServerRole {
         let Some(place) = self.out_place(number) else {
             return Err(Refused::Unexpected);
         };
-        let leg = &mut self.outs[place];
-        leg.cookie = Some(successor);
-        leg.window = SendWindow::new(window);
-        leg.meter = Meter::new(lifetime, 0);
+        self.outs[place].begins(successor, window, Meter::new(lifetime, 0));
         self.replacement = Replacement::Answered(successor);
         self.out_line.add(
             Kind::OutR1,
@@ -153,10 +158,10 @@ impl ServerRole {
     pub(crate) fn on_out_r1_a8(&mut self, count: Count, destination: u32, successor: Cookie) -> Row
         ensures { (self.new, result) ≡ seen.on_out_r1_a8 self.old count destination successor }
     {
-        if is_first(count) || destination != TO_SERVER || self.out_line.waits(Kind::OutR1) {
+        if is_first(count) || destination != TO_SERVER || self.waits(Kind::OutR1) {
             return Err(Refused::Unexpected);
         }
-        let Replacement::Answered(cookie) = self.replacement else {
+        let Replacement::Answered(cookie) = self.replacement_now() else {
             return Err(Refused::Unexpected);
         };
         if !same_cookie(cookie, successor) {
@@ -165,8 +170,22 @@ impl ServerRole {
                 got: successor,
             });
         }
+        self.confirms();
+        Ok(())
+    }
+
+    fn replacement_now(&self) -> Replacement
+        ensures { result ≡ self.now.replacement }
+    {
+        self.replacement
+    }
+
+    /// OUT_R1/A9 is due.
+    fn confirms(&mut self)
+        requires { waits OutR1 self.old.waiting ≡ false }
+        ensures { self.new ≡ seen.confirms self.old }
+    {
         self.replacement = Replacement::Confirmed;
         self.out_line.add(Kind::OutR1, Named::OutR1A9);
-        Ok(())
     }
 }

@@ -2,7 +2,7 @@
 
 use crate::out_line::{LegGate, length_of};
 use crate::state::{
-    Edge, EndMark, Giving, Greeting, InLeg, Leaving, OutLeg, Replacement, ServerRole, Tells,
+    Edge, EndMark, Greeting, InLeg, Leaving, OutLeg, Replacement, ServerRole, Tells,
 };
 use rh_line::{LAST_NUMBER, Leg, LegKind, Which};
 use rh_rts::NO_COOKIE;
@@ -61,9 +61,10 @@ impl OutLeg {
 impl ServerRole {
     ghost use Rattle.std.specs.Prelude.{◌≡◌, ◌<◌, [], IfSome, Some, true, slice_get, length};
     ghost use Rattle.rh_keep.specs.Meters.{fits};
-    ghost use Rattle.rh_sig.specs.declared.lengths.TheConstants.{END_B1_LEN};
     ghost use Rattle.rh_shell.specs.Rules.{put_into};
+    ghost use Rattle.rh_server.specs.declared.state.Tells.TheVariants.{ConnB3, InR1B2};
     ghost use Rattle.rh_server.specs.States.{is_some};
+    ghost use Rattle.rh_server.specs.OutReplacement.{last_number, handed};
     ghost use Rattle.rh_server.specs.Putting as seen;
 
     // Each of these answers whether it put something.
@@ -103,28 +104,55 @@ impl ServerRole {
         ensures put { (self.new, begun.new) ≡ put_into self.old (seen.put_tells self.old leg) }
         ensures told { result ≡ is_some (seen.put_tells self.old leg) }
     {
-        let packet = match leg.tells {
-            Tells::Nothing => return false,
-            Tells::ConnB3 => {
-                if !self.is_open() {
-                    return false;
-                }
-                Named::ConnB3(self.window, PROTOCOL_VERSION)
-            }
-            Tells::InR1B2 => {
-                if leg.number != self.current.leg && leg.leaving.stays() {
-                    return false;
-                }
-                self.tell(leg.number);
-                Named::InR1B2(self.window)
-            }
-        };
+        match leg.tells {
+            Tells::Nothing => false,
+            Tells::ConnB3 => self.put_conn_b3(leg, begun),
+            Tells::InR1B2 => self.put_in_r1_b2(leg, begun),
+        }
+    }
+
+    fn put_conn_b3(&mut self, leg: InLeg, begun: &mut Begun) -> bool
+        requires { begun.old ≡ [] }
+        ensures put { (self.new, begun.new)
+            ≡ put_into self.old (seen.put_tells_by self.old leg ConnB3) }
+        ensures told { result ≡ is_some (seen.put_tells_by self.old leg ConnB3) }
+    {
+        if !self.is_open() {
+            return false;
+        }
+        let window = self.window_size();
         self.set_in(InLeg {
             tells: Tells::Nothing,
             ..leg
         });
-        begun.begin_packet(&packet);
+        begun.begin_packet(&Named::ConnB3(window, PROTOCOL_VERSION));
         true
+    }
+
+    fn put_in_r1_b2(&mut self, leg: InLeg, begun: &mut Begun) -> bool
+        requires { begun.old ≡ [] }
+        ensures put { (self.new, begun.new)
+            ≡ put_into self.old (seen.put_tells_by self.old leg InR1B2) }
+        ensures told { result ≡ is_some (seen.put_tells_by self.old leg InR1B2) }
+    {
+        if !self.was_current(leg) {
+            return false;
+        }
+        let window = self.window_size();
+        self.tell(leg.number);
+        self.set_in(InLeg {
+            tells: Tells::Nothing,
+            ..leg
+        });
+        begun.begin_packet(&Named::InR1B2(window));
+        true
+    }
+
+    /// Whether the leg carries the current channel, or carried it.
+    fn was_current(&self, leg: InLeg) -> bool
+        ensures { result ≡ seen.was_current self.now leg }
+    {
+        leg.number == self.current.leg || !leg.leaving.stays()
     }
 
     /// IN_R1/B1, behind which the leg is left.
@@ -219,8 +247,15 @@ impl ServerRole {
             },
             meter: leg.meter,
             is_writing: leg.number == self.writing,
-            hands_over: self.replacement == Replacement::Confirmed && self.writing < LAST_NUMBER,
+            hands_over: self.may_succeed(),
         }
+    }
+
+    /// Whether the successor may take the writing channel's place.
+    fn may_succeed(&self) -> bool
+        ensures { result ≡ seen.may_succeed self.now }
+    {
+        matches!(self.replacement, Replacement::Confirmed) && self.writing < LAST_NUMBER
     }
 
     /// The meter of the leg counts what is put.
@@ -243,12 +278,20 @@ impl ServerRole {
             Named::AckTo(3, ..) => {}
             Named::OutR1A9 => {
                 self.counts(place, OUT_R1_A9_LEN);
-                self.writing += 1;
-                self.end_mark = EndMark::Unput;
-                self.replacement = Replacement::Steady;
+                self.succeeds();
             }
             packet => self.counts(place, length_of(packet)),
         }
+    }
+
+    /// The successor is the writing channel, and END was not put on it.
+    fn succeeds(&mut self)
+        requires { self.old.writing < last_number }
+        ensures { self.new ≡ handed self.old }
+    {
+        self.writing += 1;
+        self.end_mark = EndMark::Unput;
+        self.replacement = Replacement::Steady;
     }
 
     /// A packet that waits.
@@ -307,9 +350,7 @@ impl ServerRole {
     fn is_end_due(&self) -> bool
         ensures { result ≡ seen.is_end_due self.now }
     {
-        self.giving == Giving::Closing
-            && self.end_mark == EndMark::Unput
-            && self.queue.front().is_none()
+        self.is_closing() && self.end_mark == EndMark::Unput && self.queue.front().is_none()
     }
 
     /// Whether END/B1 may go on the leg.
@@ -320,13 +361,14 @@ impl ServerRole {
         self.outs[place].may_end(self.writing)
     }
 
-    /// The leg's meter counts END/B1, which may go.
+    /// END/B1, which may go, is put: the leg's meter counts it.
     fn ended(&mut self, place: usize)
         requires there { place < length self.old.outs }
         requires may_end { seen.may_end_at self.old (slice_get self.old.outs place) ≡ true }
-        ensures { self.new ≡ seen.counts self.old place END_B1_LEN }
+        ensures { self.new ≡ seen.with_end_put self.old place }
     {
         self.outs[place].counts(END_B1_LEN);
+        self.end_mark = EndMark::Put;
     }
 
     /// END/B1, once on the writing channel, where no PDU is left.
@@ -340,7 +382,6 @@ impl ServerRole {
             return false;
         }
         self.ended(place);
-        self.end_mark = EndMark::Put;
         begun.begin_packet(&Named::EndB1);
         true
     }

@@ -456,7 +456,7 @@ impl EndRole for ServerRole {
     }
 
     fn close(&mut self) {
-        self.giving = Giving::Closing;
+        self.close_now();
     }
 
     fn recycle(&mut self) -> Result<(), RecycleRefused> {

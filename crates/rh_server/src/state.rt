@@ -3,7 +3,7 @@
 ghost use Rattle.std.specs.Prelude.{◌≡◌};
 ghost use Rattle.rh_server.specs.States.{same_cookie};
 
-use crate::out_line::OutLine;
+use crate::out_line::{Kind, OutLine};
 use rh_keep::Meter;
 use rh_line::{RecvLine, SendLine};
 use rh_rts::Cookie;
@@ -12,7 +12,7 @@ use rh_window::SendWindow;
 use std::marker::Model;
 
 /// How far a server has come.
-#[derive(Clone, Copy, Debug, PartialEq, Eq)]
+#[derive(Clone, Copy)]
 pub enum Stage {
     /// Neither CONN/A2 nor CONN/B2 came.
     Waits,
@@ -32,7 +32,7 @@ pub enum Stage {
 }
 
 /// Whether PDUs may still be given.
-#[derive(Clone, Copy, Debug, PartialEq, Eq)]
+#[derive(Clone, Copy, PartialEq, Eq)]
 pub enum Giving {
     Going,
     /// It was told that none will be given any more.
@@ -40,21 +40,21 @@ pub enum Giving {
 }
 
 /// Whether END/B1 was put on the writing channel.
-#[derive(Clone, Copy, Debug, PartialEq, Eq)]
+#[derive(Clone, Copy, PartialEq, Eq)]
 pub enum EndMark {
     Unput,
     Put,
 }
 
 /// Whether the greeting was put on a leg.
-#[derive(Clone, Copy, Debug, PartialEq, Eq)]
+#[derive(Clone, Copy, PartialEq, Eq)]
 pub enum Greeting {
     Due,
     Put,
 }
 
 /// Whether the in proxy was told the window of the current IN channel.
-#[derive(Clone, Copy, Debug, PartialEq, Eq)]
+#[derive(Clone, Copy, PartialEq, Eq)]
 pub enum Edge {
     Told,
     /// IN_R1/B2 is still to be put.
@@ -62,7 +62,7 @@ pub enum Edge {
 }
 
 /// What came first on an is leg.
-#[derive(Clone, Copy, Debug, PartialEq, Eq)]
+#[derive(Clone, Copy)]
 pub enum InStage {
     /// Nothing came.
     Fresh,
@@ -78,7 +78,7 @@ pub enum InStage {
 }
 
 /// What tells the in proxy the window of an is leg's channel, until it is put.
-#[derive(Clone, Copy, Debug, PartialEq, Eq)]
+#[derive(Clone, Copy)]
 pub enum Tells {
     Nothing,
     ConnB3,
@@ -86,7 +86,7 @@ pub enum Tells {
 }
 
 /// How far an is leg is from its end.
-#[derive(Clone, Copy, Debug, PartialEq, Eq)]
+#[derive(Clone, Copy, PartialEq, Eq)]
 pub enum Leaving {
     Stays,
     /// IN_R1/A6 came, and IN_R1/B1 is due.
@@ -110,7 +110,7 @@ impl Leaving {
 }
 
 /// What a server keeps of an is leg until the leg is finished.
-#[derive(Clone, Copy, Debug, PartialEq, Eq)]
+#[derive(Clone, Copy)]
 pub struct InLeg {
     pub number: u32,
     pub greeting: Greeting,
@@ -122,7 +122,7 @@ pub struct InLeg {
 }
 
 /// The channel that an is leg carries.
-#[derive(Clone, Copy, Debug, PartialEq, Eq)]
+#[derive(Clone, Copy)]
 pub struct InChannel {
     /// The number of the leg.
     pub leg: u32,
@@ -133,7 +133,7 @@ pub struct InChannel {
 }
 
 /// The newest is leg on which a packet came, and the cookie of the newest channel there.
-#[derive(Clone, Copy, Debug, PartialEq, Eq)]
+#[derive(Clone, Copy)]
 pub struct Newest {
     pub leg: u32,
     pub cookie: Cookie,
@@ -151,7 +151,7 @@ pub struct OutLeg {
 }
 
 /// A replacement of the writing OUT channel.
-#[derive(Clone, Copy, Debug, PartialEq, Eq)]
+#[derive(Clone, Copy)]
 pub enum Replacement {
     Steady,
     /// OUT_R1/A1 is due, or was put.
@@ -160,6 +160,50 @@ pub enum Replacement {
     Answered(Cookie),
     /// OUT_R1/A8 came; OUT_R1/A9 is due.
     Confirmed,
+}
+
+impl InLeg {
+    ghost use Rattle.std.specs.Prelude.{◌≡◌};
+    ghost use Rattle.rh_server.specs.InReplacement.{opened_leg};
+
+    /// The leg with its channel open, whose window IN_R1/B2 is to tell.
+    pub(crate) fn opened(self) -> InLeg
+        ensures { result ≡ opened_leg self }
+    {
+        InLeg {
+            stage: InStage::Opened,
+            tells: Tells::InR1B2,
+            ..self
+        }
+    }
+}
+
+impl Newest {
+    ghost use Rattle.std.specs.Prelude.{◌≡◌};
+    ghost use Rattle.rh_server.specs.InReplacement.{newest_by};
+
+    /// A leg carries a channel with a new cookie.
+    pub(crate) fn carries(&mut self, number: u32, successor: Cookie)
+        ensures { self.new ≡ newest_by self.old number successor }
+    {
+        if number == self.leg {
+            self.cookie = successor;
+        }
+    }
+}
+
+impl OutLeg {
+    ghost use Rattle.std.specs.Prelude.{◌≡◌};
+    ghost use Rattle.rh_server.specs.OutLegs.{begun};
+
+    /// Its channel begins.
+    pub(crate) fn begins(&mut self, cookie: Cookie, window: u32, meter: Meter)
+        ensures { self.new ≡ begun self.old cookie window meter }
+    {
+        self.cookie = Some(cookie);
+        self.window = SendWindow::new(window);
+        self.meter = meter;
+    }
 }
 
 /// The server's role: its state without the bytes of its legs.
@@ -228,9 +272,52 @@ impl Model for ServerRole {
         × (LEGS ≤ vec_capacity s.outs) };
 }
 
+// What reads or changes one part alone: the rows are made of these, so that few of them look at all
+// that the role keeps.
 impl ServerRole {
     ghost use Rattle.std.specs.Prelude.{◌≡◌};
+    ghost use Rattle.rh_server.specs.OutLines.{waits};
     ghost use Rattle.rh_server.specs.States as seen;
+
+    pub(crate) fn stage_now(&self) -> Stage
+        ensures { result ≡ self.now.stage }
+    {
+        self.stage
+    }
+
+    pub(crate) fn set_stage(&mut self, stage: Stage)
+        ensures { self.new ≡ seen.with_stage self.old stage }
+    {
+        self.stage = stage;
+    }
+
+    /// Whether a packet of the server's own of this kind waits.
+    pub(crate) fn waits(&self, kind: Kind) -> bool
+        ensures { result ≡ waits kind self.now.waiting }
+    {
+        self.out_line.waits(kind)
+    }
+
+    /// The number of the writing OUT channel.
+    pub(crate) fn writing_now(&self) -> u32
+        ensures { result ≡ self.now.writing }
+    {
+        self.writing
+    }
+
+    /// The size of each IN channel's window, in bytes.
+    pub(crate) fn window_size(&self) -> u32
+        ensures { result ≡ self.now.line.size }
+    {
+        self.window
+    }
+
+    /// Whether no PDU will be given any more.
+    pub(crate) fn is_closing(&self) -> bool
+        ensures { result ≡ seen.is_closing self.now.giving }
+    {
+        self.giving == Giving::Closing
+    }
 
     /// Whether both first packets came, and the work is not done.
     pub(crate) fn is_open(&self) -> bool
