@@ -16,7 +16,7 @@ pub const LAST_NUMBER: u32 = rh_line::LAST_NUMBER;
 pub const UNTOLD_TIMEOUT: u32 = LEAST_TIMEOUT;
 
 /// How much was put of what a leg begins with.
-#[derive(Clone, Copy, Debug, PartialEq, Eq)]
+#[derive(Clone, Copy)]
 pub enum Opening {
     /// Nothing, since the leg is not up.
     NotUp,

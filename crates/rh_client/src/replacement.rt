@@ -4,7 +4,7 @@ ghost use Rattle.std.specs.Prelude.{◌≡◌};
 
 /// The replacement that is under way, and what waits behind it. An IN channel is not wanted twice,
 /// and an OUT channel waits at most once.
-#[derive(Clone, Copy, Debug, PartialEq, Eq)]
+#[derive(Clone, Copy)]
 pub enum Replacement {
     /// None, and so none waits.
     NoneUnderWay,
@@ -15,7 +15,7 @@ pub enum Replacement {
 }
 
 /// How far the replacement of an IN channel has come.
-#[derive(Clone, Copy, Debug, PartialEq, Eq)]
+#[derive(Clone, Copy)]
 pub enum InStage {
     /// The successor's leg is wanted, or up; no answer came.
     Asked,
@@ -24,7 +24,7 @@ pub enum InStage {
 }
 
 /// How far the replacement of an OUT channel has come.
-#[derive(Clone, Copy, Debug, PartialEq, Eq)]
+#[derive(Clone, Copy)]
 pub enum OutStage {
     /// OUT_R1/A2 came: the successor's leg is wanted, or up; no answer came.
     Asked,
@@ -38,7 +38,7 @@ pub enum OutStage {
 
 /// The replacements that wait behind that of an OUT channel, in the order in which they were
 /// wanted.
-#[derive(Clone, Copy, Debug, PartialEq, Eq)]
+#[derive(Clone, Copy)]
 pub enum Waits {
     Nothing,
     In,
