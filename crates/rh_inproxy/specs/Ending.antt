@@ -33,6 +33,10 @@ on_end_a1 s which =
 
 -- 5. END/A2 is a mark where END came on the current channel and no PDU is left there; it is put
 -- once. Where a successor by IN_R2 became current before, END that comes again there is its cause
+abbrev pub is_end_due : InProxy → Bool
+is_end_due s =
+    s.line.current.ended && not s.end_put && line.is_empty s.line.current.pdus
+
 abbrev pub put_end : InProxy → Pick
 put_end s =
     if s.line.current.ended && not s.end_put && line.is_empty s.line.current.pdus

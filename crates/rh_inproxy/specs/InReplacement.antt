@@ -110,6 +110,10 @@ abbrev pub mark_by : InProxy → Handover → Pick
 mark_by s (Came cookie) = Some (record s { handover = Passed }, Packet (InR1A6 cookie))
 mark_by s handover = None
 
+-- the newest channel is the current one, and its list is empty
+abbrev pub is_last_empty : InProxy → Bool
+is_last_empty s = is_absent s.successor && line.is_empty s.line.current.pdus
+
 -- 5. the mark, where the newest channel is the current one and its list is empty
 abbrev pub put_in_r1_a6 : InProxy → Pick
 put_in_r1_a6 s =

@@ -36,14 +36,21 @@ impl InProxyRole {
         Ok(())
     }
 
-    /// Puts END/A2 once, where END came on the current channel and no PDU is left there.
+    /// Whether END/A2 is due: END came on the current channel and no PDU is left there. It is put
+    /// once.
+    fn is_end_due(&self) -> bool
+        ensures { result ≡ seen.is_end_due self.now }
+    {
+        self.line.is_over(Which::Current) && !self.end_put && self.line.is_empty(Which::Current)
+    }
+
+    /// Puts END/A2 where it is due.
     pub(crate) fn put_end(&mut self, begun: &mut Begun) -> bool
         requires { begun.old ≡ [] }
         ensures put { (self.new, begun.new) ≡ put_into self.old (seen.put_end self.old) }
         ensures told { result ≡ is_some (seen.put_end self.old) }
     {
-        let due = self.line.is_over(Which::Current) && self.line.is_empty(Which::Current);
-        if !due || self.end_put {
+        if !self.is_end_due() {
             return false;
         }
         self.end_put = true;
@@ -104,25 +111,37 @@ impl InProxyRole {
         }
     }
 
-    /// The work is done where the newest ci leg ended behind END/A1, without IN_R1/A5, and nothing
-    /// is left to put.
-    pub(crate) fn settle(&mut self)
-        ensures { self.new ≡ seen.settled self.old }
+    /// Whether the newest ci leg ended behind END/A1, without IN_R1/A5, and nothing is left to put.
+    fn is_over(&self) -> bool
+        ensures { result ≡ seen.is_over self.now }
     {
-        if self.newest_lost
+        self.newest_lost
             && self.newest_ended()
             && matches!(self.handover, Handover::Before)
             && self.is_drained()
-        {
+    }
+
+    /// The work is done where it is over.
+    pub(crate) fn settle(&mut self)
+        ensures { self.new ≡ seen.settled self.old }
+    {
+        if self.is_over() {
             self.work = Work::Done;
         }
+    }
+
+    /// Whether this is the newest ci leg.
+    fn is_newest(&self, leg: Leg) -> bool
+        ensures { result ≡ seen.is_newest self.now leg }
+    {
+        is_client_leg(leg) && leg.number == self.newest()
     }
 
     /// The leg ended or broke, and the proxy goes on.
     pub(crate) fn lose(&mut self, leg: Leg)
         ensures { self.new ≡ seen.mark self.old leg }
     {
-        if is_client_leg(leg) && leg.number == self.newest() {
+        if self.is_newest(leg) {
             self.newest_lost = true;
         }
         self.settle();

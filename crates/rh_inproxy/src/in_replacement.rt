@@ -155,13 +155,20 @@ impl InProxyRole {
 
     // ---- IN_R1/A6
 
+    /// Whether the newest channel is the current one and no PDU is left.
+    fn is_last_empty(&self) -> bool
+        ensures { result ≡ seen.is_last_empty self.now }
+    {
+        matches!(self.successor, Successor::Absent) && self.line.is_empty(Which::Current)
+    }
+
     /// Puts IN_R1/A6, where the newest channel is the current one and no PDU is left.
     pub(crate) fn put_in_r1_a6(&mut self, begun: &mut Begun) -> bool
         requires { begun.old ≡ [] }
         ensures put { (self.new, begun.new) ≡ put_into self.old (seen.put_in_r1_a6 self.old) }
         ensures told { result ≡ is_some (seen.put_in_r1_a6 self.old) }
     {
-        if !matches!(self.successor, Successor::Absent) || !self.line.is_empty(Which::Current) {
+        if !self.is_last_empty() {
             return false;
         }
         let Handover::Came(cookie) = self.handover else {

@@ -25,14 +25,14 @@ pub struct InProxyConfig {
 }
 
 /// The server that the first request names.
-#[derive(Clone, Copy, Debug, PartialEq, Eq)]
+#[derive(Clone, Copy)]
 pub struct Target {
     pub host: Host,
     pub port: u16,
 }
 
 /// The first packet on the first ci leg.
-#[derive(Clone, Copy, Debug, PartialEq, Eq)]
+#[derive(Clone, Copy)]
 pub enum Entry {
     /// CONN/B1 (MS-RPCH 3.2), with the association group.
     Connects { group: Cookie },
@@ -41,7 +41,7 @@ pub enum Entry {
 }
 
 /// What the first packet on the first ci leg tells.
-#[derive(Clone, Copy, Debug, PartialEq, Eq)]
+#[derive(Clone, Copy)]
 pub struct Opener {
     pub connection: Cookie,
     /// The channel with which the is leg is opened.
@@ -50,7 +50,7 @@ pub struct Opener {
 }
 
 /// How far the first legs are.
-#[derive(Clone, Copy, Debug, PartialEq, Eq)]
+#[derive(Clone, Copy)]
 pub enum Opening {
     /// No leg was up.
     AwaitsClient,
@@ -65,7 +65,7 @@ pub enum Opening {
 }
 
 /// Whether the proxy has work.
-#[derive(Clone, Copy, Debug, PartialEq, Eq)]
+#[derive(Clone, Copy)]
 pub enum Work {
     Underway,
     /// An echo request came on the ci leg of this number, and its answer is due.
@@ -77,14 +77,14 @@ pub enum Work {
 }
 
 /// A ci leg, and the cookie of its channel once its first packet came.
-#[derive(Clone, Copy, Debug, PartialEq, Eq)]
+#[derive(Clone, Copy)]
 pub struct ClientLeg {
     pub number: u32,
     pub cookie: Cookie,
 }
 
 /// How far a channel is that is to follow the current one.
-#[derive(Clone, Copy, Debug, PartialEq, Eq)]
+#[derive(Clone, Copy)]
 pub enum Joining {
     /// IN_R2/A2 is due, behind so many of the packets that wait.
     TellsServer { behind: usize },
@@ -95,7 +95,7 @@ pub enum Joining {
 }
 
 /// The ci leg behind that of the current channel.
-#[derive(Clone, Copy, Debug, PartialEq, Eq)]
+#[derive(Clone, Copy)]
 pub enum Successor {
     /// There is none.
     Absent,
@@ -106,7 +106,7 @@ pub enum Successor {
 }
 
 /// IN_R1/A5 on the newest ci leg, and IN_R1/A6 with its cookie.
-#[derive(Clone, Copy, Debug, PartialEq, Eq)]
+#[derive(Clone, Copy)]
 pub enum Handover {
     /// IN_R1/A5 did not come.
     Before,
@@ -117,7 +117,7 @@ pub enum Handover {
 }
 
 /// Whether the server told its window.
-#[derive(Clone, Copy, Debug, PartialEq, Eq)]
+#[derive(Clone, Copy)]
 pub enum Edge {
     Unknown,
     Known,
