@@ -25,7 +25,9 @@ impl OutProxyRole {
     pub(crate) fn wants_leg(&self, leg: Leg) -> bool
         ensures { result ≡ seen.wants self.now leg }
     {
-        self.is_os(leg) && self.channel != Channel::Unknown && self.server == ServerLeg::Down
+        self.is_os(leg)
+            && !matches!(self.channel, Channel::Unknown)
+            && self.server == ServerLeg::Down
     }
 
     /// The client's leg is accepted once.
