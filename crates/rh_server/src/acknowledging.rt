@@ -1,7 +1,7 @@
 //! RPC PDUs and acknowledgements (MS-RPCH 3.2.1, 3.2.5).
 
 ghost use Rattle.std.specs.Prelude.{◌≡◌};
-ghost use Rattle.rh_server.specs.Acknowledging.{is_of_channel, out_server};
+ghost use Rattle.rh_server.specs.Acknowledging.{is_of_channel, channel_place, out_server};
 
 use crate::opening::{Row, is_first};
 use crate::out_line::Taking;
@@ -19,6 +19,14 @@ fn is_of_channel(cookie: Cookie, channel: Option<Cookie>) -> bool
         None => false,
         Some(channel) => same_cookie(channel, cookie),
     }
+}
+
+/// The place of the os leg of this channel among legs.
+fn channel_place(cookie: Cookie, legs: &[OutLeg]) -> Option<usize>
+    ensures { result ≡ channel_place cookie legs.now }
+{
+    legs.iter()
+        .position(|leg| is_of_channel(cookie, leg.cookie))
 }
 
 pub(crate) fn out_server(number: u32) -> Leg
@@ -165,9 +173,7 @@ impl ServerRole {
     fn channel_place(&self, cookie: Cookie) -> Option<usize>
         ensures { result ≡ seen.channel_place cookie self.now.outs }
     {
-        self.outs
-            .iter()
-            .position(|leg| is_of_channel(cookie, leg.cookie))
+        channel_place(cookie, &self.outs)
     }
 
     /// The number of the os leg of this channel.

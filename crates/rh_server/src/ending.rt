@@ -5,7 +5,7 @@ ghost use Rattle.rh_server.specs.Ending.{are_lost, in_is_done, in_is_drawn, is_l
 
 use crate::in_replacement::is_waiting;
 use crate::opening::{Row, is_first};
-use crate::state::{EndMark, Giving, InLeg, InStage, Leaving, ServerRole, Stage};
+use crate::state::{Giving, InLeg, InStage, Leaving, ServerRole, Stage};
 use rh_line::{Leg, LegKind, Which};
 use rh_pdu::check;
 use rh_shell::{Count, GiveRefused, Refused};
@@ -26,7 +26,7 @@ fn in_is_drawn(leg: Option<InLeg>) -> bool
 {
     match leg {
         None => true,
-        Some(leg) => leg.leaving == Leaving::Left,
+        Some(leg) => matches!(leg.leaving, Leaving::Left),
     }
 }
 
@@ -34,7 +34,7 @@ fn in_is_drawn(leg: Option<InLeg>) -> bool
 fn is_lost_leg(leg: &InLeg) -> bool
     ensures { result ≡ is_lost_leg leg.now }
 {
-    leg.leaving == Leaving::Lost
+    matches!(leg.leaving, Leaving::Lost)
 }
 
 /// Whether each is leg that is kept is lost.
@@ -141,7 +141,7 @@ impl ServerRole {
     fn is_complete(&self) -> bool
         ensures { result ≡ seen.is_complete self.now }
     {
-        self.is_open() && self.end_mark == EndMark::Put && are_lost(&self.ins)
+        self.is_open() && self.end_mark.is_put() && are_lost(&self.ins)
     }
 
     /// The work is done where it is complete.
@@ -198,7 +198,7 @@ impl ServerRole {
             LegKind::InServer => match self.in_leg(leg.number) {
                 None => false,
                 Some(leg) => {
-                    !leg.leaving.stays() || (self.end_mark == EndMark::Put && self.ended_on(leg))
+                    !leg.leaving.stays() || (self.end_mark.is_put() && self.ended_on(leg))
                 }
             },
             LegKind::OutServer => leg.number < self.writing,

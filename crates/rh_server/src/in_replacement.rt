@@ -2,7 +2,7 @@
 
 ghost use Rattle.std.specs.Prelude.{◌≡◌};
 ghost use Rattle.rh_server.specs.States.{is_waiting};
-ghost use Rattle.rh_server.specs.InReplacement.{is_fresh_below};
+ghost use Rattle.rh_server.specs.InReplacement.{is_fresh_below, has_fresh_below, waiting_place};
 
 use crate::opening::{Row, is_first};
 use crate::out_line::Kind;
@@ -28,6 +28,20 @@ pub(crate) fn is_waiting(stage: InStage) -> bool
     ensures { result ≡ is_waiting stage }
 {
     matches!(stage, InStage::Waits { .. })
+}
+
+/// The place of the first leg whose channel waits.
+fn waiting_place(legs: &[InLeg]) -> Option<usize>
+    ensures { result ≡ waiting_place legs.now }
+{
+    legs.iter().position(|leg| is_waiting(leg.stage))
+}
+
+/// Whether no packet came on a leg below this one.
+fn has_fresh_below(number: u32, legs: &[InLeg]) -> bool
+    ensures { result ≡ has_fresh_below number legs.now }
+{
+    legs.iter().any(|leg| is_fresh_below(number, leg))
 }
 
 impl ServerRole {
@@ -81,7 +95,7 @@ impl ServerRole {
     fn waiting_place(&self) -> Option<usize>
         ensures { result ≡ seen.waiting_place self.now.ins }
     {
-        self.ins.iter().position(|leg| is_waiting(leg.stage))
+        waiting_place(&self.ins)
     }
 
     /// The first leg whose channel waits.
@@ -140,7 +154,7 @@ impl ServerRole {
     fn has_fresh_below(&self, number: u32) -> bool
         ensures { result ≡ seen.has_fresh_below number self.now.ins }
     {
-        self.ins.iter().any(|leg| is_fresh_below(number, leg))
+        has_fresh_below(number, &self.ins)
     }
 
     pub(crate) fn on_in_r1_a2(

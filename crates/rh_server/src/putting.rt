@@ -23,7 +23,7 @@ impl OutLeg {
     fn is_greeting_due(&self) -> bool
         ensures { result ≡ is_due self.now.greeting }
     {
-        self.greeting == Greeting::Due
+        matches!(self.greeting, Greeting::Due)
     }
 
     /// The meter counts what is put.
@@ -77,7 +77,7 @@ impl ServerRole {
             ≡ put_into self.old (seen.put_in_greeting self.old leg) }
         ensures told { result ≡ is_some (seen.put_in_greeting self.old leg) }
     {
-        if leg.greeting == Greeting::Put {
+        if matches!(leg.greeting, Greeting::Put) {
             return false;
         }
         self.set_in(InLeg {
@@ -92,7 +92,7 @@ impl ServerRole {
     fn tell(&mut self, number: u32)
         ensures { self.new ≡ seen.told_by self.old number }
     {
-        if number == self.current.leg && self.edge == Edge::Shut {
+        if number == self.current.leg && matches!(self.edge, Edge::Shut) {
             self.line.tell(Which::Current);
             self.edge = Edge::Told;
         }
@@ -161,7 +161,7 @@ impl ServerRole {
         ensures put { (self.new, begun.new) ≡ put_into self.old (seen.put_b1 self.old leg) }
         ensures told { result ≡ is_some (seen.put_b1 self.old leg) }
     {
-        if leg.leaving != Leaving::InR1B1 {
+        if !matches!(leg.leaving, Leaving::InR1B1) {
             return false;
         }
         self.set_in(InLeg {
@@ -350,7 +350,7 @@ impl ServerRole {
     fn is_end_due(&self) -> bool
         ensures { result ≡ seen.is_end_due self.now }
     {
-        self.is_closing() && self.end_mark == EndMark::Unput && self.queue.front().is_none()
+        self.is_closing() && !self.end_mark.is_put() && self.queue.front().is_none()
     }
 
     /// Whether END/B1 may go on the leg.

@@ -43,10 +43,17 @@
 //! A third one, whether the channel that waits first may be opened, is looked at when one is
 //! announced and when one becomes current.
 
+ghost use Rattle.std.specs.Prelude.{◌≡◌, ◌≤◌, IfOk, [], vec_capacity};
+ghost use Rattle.rh_window.specs.Sides.{IsWindow};
+ghost use Rattle.rh_line.specs.Lines.{first_line};
+ghost use Rattle.rh_shell.specs.Waiting.{empty};
+ghost use Rattle.rh_server.specs.declared.out_line.TheConstants.{LINE_ROOM};
+ghost use Rattle.rh_server.specs.declared.state.TheConstants.{LEGS};
+
 use crate::opening::Row;
 use crate::out_line::OutLine;
 use crate::state::{
-    Edge, EndMark, Giving, InChannel, LEGS, Newest, Replacement, ServerRole, Stage,
+    Edge, EndMark, Giving, InChannel, InLeg, LEGS, Newest, OutLeg, Replacement, ServerRole, Stage,
 };
 use rh_line::{
     GiveFault, Leg, LegKind, LineTake, RecvLine, RecycleFault, SendLine, State, Take, Verdict,
@@ -248,6 +255,30 @@ impl Server {
     }
 }
 
+/// What comes, what goes and the packets that wait: nothing yet.
+fn first_lines(alloc: Global, window: u32) -> Result<(RecvLine, SendLine, OutLine), AllocError>
+    requires { IsWindow window }
+    ensures { IfOk result (λ lines. (lines.0 ≡ first_line window)
+        × ((lines.1 ≡ []) × (lines.2 ≡ empty LINE_ROOM))) }
+{
+    Ok((
+        RecvLine::new(alloc, window)?,
+        SendLine::new(alloc)?,
+        OutLine::new(alloc)?,
+    ))
+}
+
+/// No leg, with room for those of each kind.
+fn first_legs(alloc: Global) -> Result<(Vec<InLeg>, Vec<OutLeg>), AllocError>
+    ensures ins { IfOk result (λ legs. (legs.0.items ≡ []) × (LEGS ≤ vec_capacity legs.0)) }
+    ensures outs { IfOk result (λ legs. (legs.1.items ≡ []) × (LEGS ≤ vec_capacity legs.1)) }
+{
+    Ok((
+        Vec::with_capacity(alloc, usize::from(LEGS))?,
+        Vec::with_capacity(alloc, usize::from(LEGS))?,
+    ))
+}
+
 impl ServerRole {
     ghost use Rattle.std.specs.Prelude.{◌≡◌, IfOk};
     ghost use Rattle.rh_window.specs.Sides.{IsWindow};
@@ -264,10 +295,12 @@ impl ServerRole {
             number: 0,
             cookie: NO_COOKIE,
         };
+        let (line, queue, out_line) = first_lines(alloc, window)?;
+        let (ins, outs) = first_legs(alloc)?;
         Ok(ServerRole {
             window,
             stage: Stage::Waits,
-            line: RecvLine::new(alloc, window)?,
+            line,
             current: InChannel {
                 leg: 1,
                 number: 1,
@@ -281,15 +314,15 @@ impl ServerRole {
                 cookie: NO_COOKIE,
             },
             newest_in: 0,
-            ins: Vec::with_capacity(alloc, usize::from(LEGS))?,
-            queue: SendLine::new(alloc)?,
+            ins,
+            queue,
             giving: Giving::Going,
             writing: 1,
             end_mark: EndMark::Unput,
             replacement: Replacement::Steady,
-            out_line: OutLine::new(alloc)?,
+            out_line,
             newest_out: 0,
-            outs: Vec::with_capacity(alloc, usize::from(LEGS))?,
+            outs,
         })
     }
 

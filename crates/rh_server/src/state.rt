@@ -1,7 +1,7 @@
 //! What a server keeps.
 
 ghost use Rattle.std.specs.Prelude.{◌≡◌};
-ghost use Rattle.rh_server.specs.States.{same_cookie};
+ghost use Rattle.rh_server.specs.States.{same_cookie, in_place, out_place};
 
 use crate::out_line::{Kind, OutLine};
 use rh_keep::Meter;
@@ -32,7 +32,7 @@ pub enum Stage {
 }
 
 /// Whether PDUs may still be given.
-#[derive(Clone, Copy, PartialEq, Eq)]
+#[derive(Clone, Copy)]
 pub enum Giving {
     Going,
     /// It was told that none will be given any more.
@@ -40,21 +40,32 @@ pub enum Giving {
 }
 
 /// Whether END/B1 was put on the writing channel.
-#[derive(Clone, Copy, PartialEq, Eq)]
+#[derive(Clone, Copy)]
 pub enum EndMark {
     Unput,
     Put,
 }
 
+impl EndMark {
+    ghost use Rattle.std.specs.Prelude.{◌≡◌};
+    ghost use Rattle.rh_server.specs.States.{is_put};
+
+    pub(crate) fn is_put(self) -> bool
+        ensures { result ≡ is_put self }
+    {
+        matches!(self, EndMark::Put)
+    }
+}
+
 /// Whether the greeting was put on a leg.
-#[derive(Clone, Copy, PartialEq, Eq)]
+#[derive(Clone, Copy)]
 pub enum Greeting {
     Due,
     Put,
 }
 
 /// Whether the in proxy was told the window of the current IN channel.
-#[derive(Clone, Copy, PartialEq, Eq)]
+#[derive(Clone, Copy)]
 pub enum Edge {
     Told,
     /// IN_R1/B2 is still to be put.
@@ -86,7 +97,7 @@ pub enum Tells {
 }
 
 /// How far an is leg is from its end.
-#[derive(Clone, Copy, PartialEq, Eq)]
+#[derive(Clone, Copy)]
 pub enum Leaving {
     Stays,
     /// IN_R1/A6 came, and IN_R1/B1 is due.
@@ -316,7 +327,7 @@ impl ServerRole {
     pub(crate) fn is_closing(&self) -> bool
         ensures { result ≡ seen.is_closing self.now.giving }
     {
-        self.giving == Giving::Closing
+        matches!(self.giving, Giving::Closing)
     }
 
     /// Whether both first packets came, and the work is not done.
@@ -340,7 +351,7 @@ impl ServerRole {
     pub(crate) fn in_place(&self, number: u32) -> Option<usize>
         ensures { result ≡ seen.in_place number self.now.ins }
     {
-        self.ins.iter().position(|leg| leg.number == number)
+        in_place(number, &self.ins)
     }
 
     /// An is leg that is kept.
@@ -373,7 +384,7 @@ impl ServerRole {
     pub(crate) fn out_place(&self, number: u32) -> Option<usize>
         ensures { result ≡ seen.out_place number self.now.outs }
     {
-        self.outs.iter().position(|leg| leg.number == number)
+        out_place(number, &self.outs)
     }
 
     /// The cookie of an os leg's channel.
@@ -392,6 +403,20 @@ impl ServerRole {
             self.outs.remove(place);
         }
     }
+}
+
+/// The place of an is leg among legs.
+fn in_place(number: u32, legs: &[InLeg]) -> Option<usize>
+    ensures { result ≡ in_place number legs.now }
+{
+    legs.iter().position(|leg| leg.number == number)
+}
+
+/// The place of an os leg among legs.
+fn out_place(number: u32, legs: &[OutLeg]) -> Option<usize>
+    ensures { result ≡ out_place number legs.now }
+{
+    legs.iter().position(|leg| leg.number == number)
 }
 
 /// Whether two cookies are the same.
