@@ -74,9 +74,11 @@ impl<R: Role> Places<R> {
     pub(crate) fn is_absent(&self, number: u32) -> bool
         ensures { result ≡ ask seen.is_absent true self.entry.now number }
     {
-        match self.list.get(number as usize) {
-            Some(place) => place.is_absent(),
-            None => true,
+        let at = number as usize;
+        if at < self.list.len() {
+            self.list[at].is_absent()
+        } else {
+            true
         }
     }
 
@@ -84,9 +86,11 @@ impl<R: Role> Places<R> {
     pub(crate) fn now(&self, number: u32) -> Option<u64>
         ensures { result ≡ ask seen.last_moment None self.entry.now number }
     {
-        match self.list.get(number as usize) {
-            Some(place) => place.now(),
-            None => None,
+        let at = number as usize;
+        if at < self.list.len() {
+            self.list[at].now()
+        } else {
+            None
         }
     }
 
@@ -94,9 +98,11 @@ impl<R: Role> Places<R> {
     pub(crate) fn wants(&self, number: u32, leg: Leg) -> bool
         ensures { result ≡ ask (seen.wants R.rules leg) false self.entry.now number }
     {
-        match self.list.get(number as usize) {
-            Some(place) => place.wants(leg),
-            None => false,
+        let at = number as usize;
+        if at < self.list.len() {
+            self.list[at].wants(leg)
+        } else {
+            false
         }
     }
 
@@ -104,9 +110,11 @@ impl<R: Role> Places<R> {
     pub(crate) fn may_up(&self, number: u32, leg: Leg) -> bool
         ensures { result ≡ ask (seen.may_up R.rules leg) false self.entry.now number }
     {
-        match self.list.get(number as usize) {
-            Some(place) => place.may_up(leg),
-            None => false,
+        let at = number as usize;
+        if at < self.list.len() {
+            self.list[at].may_up(leg)
+        } else {
+            false
         }
     }
 
@@ -114,9 +122,11 @@ impl<R: Role> Places<R> {
     pub(crate) fn finished(&self, number: u32, leg: Leg) -> bool
         ensures { result ≡ ask (seen.finished R.rules leg) false self.entry.now number }
     {
-        match self.list.get(number as usize) {
-            Some(place) => place.finished(leg),
-            None => false,
+        let at = number as usize;
+        if at < self.list.len() {
+            self.list[at].finished(leg)
+        } else {
+            false
         }
     }
 

@@ -35,9 +35,11 @@ impl Readers {
     pub(crate) fn of(&self, number: u32) -> u32
         ensures { result ≡ seen.reader_of self.now number }
     {
-        match self.proxies.get(number as usize) {
-            Some(proxy) => *proxy,
-            None => 0,
+        let at = number as usize;
+        if at < self.proxies.len() {
+            self.proxies[at]
+        } else {
+            0
         }
     }
 

@@ -68,9 +68,11 @@ impl Wires {
     pub(crate) fn is_up(&self, number: u32, side: Side) -> bool
         ensures { result ≡ ask (seen.is_up side) false self.now number }
     {
-        match self.list.get(number as usize) {
-            Some(wire) => wire.is_up(side),
-            None => false,
+        let at = number as usize;
+        if at < self.list.len() {
+            self.list[at].is_up(side)
+        } else {
+            false
         }
     }
 
@@ -78,9 +80,11 @@ impl Wires {
     pub(crate) fn is_clear(&self, number: u32, dir: Dir) -> bool
         ensures { result ≡ ask (seen.is_clear dir) true self.now number }
     {
-        match self.list.get(number as usize) {
-            Some(wire) => wire.is_clear(dir),
-            None => true,
+        let at = number as usize;
+        if at < self.list.len() {
+            self.list[at].is_clear(dir)
+        } else {
+            true
         }
     }
 
