@@ -11,22 +11,22 @@ use Rattle.rh_record.specs.declared.answer.Answer.TheVariants.{NodeClosed}
 use Rattle.rh_record.specs.declared.answer.Who.{Who}
 use Rattle.rh_record.specs.declared.line.Line.{Line}
 use Rattle.rh_record.specs.declared.line.Line.TheVariants.{First}
-use Rattle.rh_history.specs.Closes.{IsOneOf, closings_of}
+use Rattle.law_node_history.specs.Closes.{IsOneOf, closings_of}
 use Rattle.rh_world.specs.declared.any_world.AnyWorld.{AnyWorld}
 use Rattle.rh_world.specs.declared.any_world.AnyWorld.TheVariants.{Before}
 use Rattle.rh_world.specs.Any.{after, prepared, run, step}
-use Rattle.rh_bounds.specs.Bounds.{WindowsHold}
-use Rattle.rh_closes.specs.Recordings.{IsLicensedIn, IsRefusedIn}
-use Rattle.rh_closes.specs.Reports.{ShowsIn}
-use Rattle.rh_closes.specs.Silences.{IsSilentIn}
-use Rattle.rh_ends_in_time.specs.Losses.{AllLoseInTime, loses_no_leg}
-use Rattle.rh_events.specs.Order.{IsOrdered}
-use Rattle.rh_exact_paths.specs.Exact.{KeepsAll}
-use Rattle.rh_named.specs.Named.{NamesIt}
-use Rattle.rh_ordered.specs.Counted.{CountsCapped}
-use Rattle.rh_ordered.specs.Recordings.{OffersBehindFirst}
-use Rattle.rh_paths.specs.Recordings.{KeepsWays}
-use Rattle.rh_refused.specs.Reported.{ReportsBreak}
+use Rattle.law_world_reports.specs.Bounded.{WindowsHold}
+use Rattle.law_world_reports.specs.Closed.Recordings.{IsLicensedIn, IsRefusedIn}
+use Rattle.law_world_reports.specs.Closed.Reports.{ShowsIn}
+use Rattle.law_world_reports.specs.Closed.Silences.{IsSilentIn}
+use Rattle.law_world_ways.specs.EndsInTime.Losses.{AllLoseInTime, loses_no_leg}
+use Rattle.rh_record.specs.Events.Order.{IsOrdered}
+use Rattle.law_world_ways.specs.ExactPaths.Exact.{KeepsAll}
+use Rattle.law_world_reports.specs.Naming.{NamesIt}
+use Rattle.law_world_reports.specs.Ordering.Counted.{CountsCapped}
+use Rattle.law_world_reports.specs.Ordering.Recordings.{OffersBehindFirst}
+use Rattle.law_world_ways.specs.OnPaths.Recordings.{KeepsWays}
+use Rattle.law_world_honest.specs.Refusals.Reported.{ReportsBreak}
 
 -- a line reports a node as closed only for what it told that node, and its answers show that
 pub record ClosesForReason (world : AnyWorld) (line : Line) : Type 0 where

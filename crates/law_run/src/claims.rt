@@ -5,23 +5,22 @@ ghost use Rattle.std.specs.Prelude.{List};
 ghost use Rattle.rh_record.specs.declared.line.Line.{Line};
 ghost use Rattle.law_run.specs.Claims.{Claims};
 
-use rh_bodies::no_body_of_a_recording_is_too_long;
-use rh_bounds::windows_hold_in_every_recording;
-use rh_closes::{
-    a_node_of_a_recording_falls_silent, a_recording_reports_a_node_closed_once,
-    each_cause_of_a_recording_shows, each_close_of_a_recording_shows,
-    only_a_client_of_a_recording_is_refused,
+use law_world_bodies::no_body_of_a_recording_is_too_long;
+use law_world_expected::{
+    no_node_of_a_recording_lacks_room, no_node_of_a_recording_refuses_what_comes,
 };
-use rh_exact_paths::recordings_lose_nothing;
-use rh_expected::no_node_of_a_recording_refuses_what_comes;
-use rh_fifo::every_recording_is_ordered;
-use rh_honest::no_node_of_a_recording_closes_for_bad_bytes;
-use rh_named::an_end_of_a_recording_names_its_cause;
-use rh_ordered::a_recording_counts;
-use rh_paths::every_recording_keeps_what_is_on_its_way;
-use rh_refused::a_refused_client_of_a_recording_lost_its_server;
-use rh_room::no_node_of_a_recording_lacks_room;
-use rh_windows::no_window_closes_a_node_of_a_recording;
+use law_world_honest::{
+    a_refused_client_of_a_recording_lost_its_server, no_node_of_a_recording_closes_for_bad_bytes,
+};
+use law_world_order::every_recording_is_ordered;
+use law_world_reports::{
+    a_node_of_a_recording_falls_silent, a_recording_counts, a_recording_reports_a_node_closed_once,
+    an_end_of_a_recording_names_its_cause, each_cause_of_a_recording_shows,
+    each_close_of_a_recording_shows, only_a_client_of_a_recording_is_refused,
+    windows_hold_in_every_recording,
+};
+use law_world_ways::{every_recording_keeps_what_is_on_its_way, recordings_lose_nothing};
+use law_world_windows::no_window_closes_a_node_of_a_recording;
 
 /// In every recording what each end takes is what the other end gave, each PDU once and in order,
 /// whatever its lines cut, delay, break and replace; what was given and not taken is on its way,

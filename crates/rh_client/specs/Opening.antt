@@ -7,7 +7,7 @@ use Rattle.rh_rts.specs.declared.command.Cookie.{Cookie}
 use Rattle.rh_http.specs.declared.lengths.TheConstants.{SUCCESS}
 use Rattle.rh_http.specs.declared.fault.HttpFault.{HttpFault}
 use Rattle.rh_http.specs.declared.response.Response.{Response}
-use Rattle.rh_heads.specs.Verdicts.{response_verdict}
+use Rattle.rh_http.specs.Heads.Verdicts.{response_verdict}
 use Rattle.rh_sig.specs.declared.name.Pipe.{Pipe}
 use Rattle.rh_sig.specs.declared.name.Pipe.TheVariants.{CoD}
 use Rattle.rh_line.specs.Lines.{Line, after_open_next}

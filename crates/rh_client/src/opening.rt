@@ -1,12 +1,12 @@
 //! The opening of channels.
 
 ghost use Rattle.std.specs.Prelude.{◌≡◌, ◌≤◌, length};
-ghost use Rattle.rh_heads.specs.Verdicts.{response_verdict};
+ghost use Rattle.rh_http.specs.Heads.Verdicts.{response_verdict};
 ghost use Rattle.rh_http.specs.Reading.{greatest_head};
 ghost use Rattle.rh_client.specs.Opening.{head_by, pipe_by};
 
 use crate::state::ClientRole;
-use rh_heads::judge_response;
+use rh_http::judge_response;
 use rh_http::lengths::SUCCESS;
 use rh_line::LegKind;
 use rh_rts::Cookie;

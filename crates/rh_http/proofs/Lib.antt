@@ -14,3 +14,4 @@ pub mod Lines
 pub mod Printable
 pub mod Written
 pub mod WrittenResponses
+pub mod Heads

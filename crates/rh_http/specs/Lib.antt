@@ -10,3 +10,4 @@ pub mod Extents
 pub mod Refusals
 pub mod Texts
 pub mod Names
+pub mod Heads

@@ -9,5 +9,3 @@ pub mod Ending
 pub mod Time
 pub mod Putting
 pub mod Machine
-pub mod Order
-pub mod Legible

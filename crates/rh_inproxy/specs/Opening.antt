@@ -9,7 +9,7 @@ use Rattle.rh_rts.specs.declared.packet.TheConstants.{ECHO}
 use Rattle.rh_rts.specs.Packets.{packet_bytes, parts}
 use Rattle.rh_http.specs.declared.fault.HttpFault.{HttpFault}
 use Rattle.rh_http.specs.Texts.{head_of, status_line, field_line}
-use Rattle.rh_heads.specs.Verdicts.{Asked, request_verdict}
+use Rattle.rh_http.specs.Heads.Verdicts.{Asked, request_verdict}
 use Rattle.rh_window.specs.Sending.{unsent}
 use Rattle.rh_sig.specs.declared.name.Pipe.{Pipe}
 use Rattle.rh_sig.specs.declared.name.Pipe.TheVariants.{CiU, IsD}

@@ -9,9 +9,8 @@ use crate::state::{
     ClientLeg, Edge, Entry, Handover, InProxyRole, Opener, Opening, Successor, Target, Work,
     is_client_leg,
 };
-use rh_heads::judge_request;
 use rh_http::lengths::GREATEST_ECHO;
-use rh_http::{Host, Request};
+use rh_http::{Host, Request, judge_request};
 use rh_line::{Leg, LegKind};
 use rh_rts::{Address4or16, Cookie};
 use rh_shell::{Begun, Behind, HeadRefused, HeadTaken, Phase, Refused};
@@ -54,7 +53,7 @@ pub(crate) fn kept_for(keepalive: u32) -> u32
 impl InProxyRole {
     ghost use Rattle.std.specs.Prelude.{◌≡◌, ◌≤◌, [], Some, length};
     ghost use Rattle.rh_sig.specs.Values.{MayBeWritten};
-    ghost use Rattle.rh_heads.specs.Verdicts.{asked};
+    ghost use Rattle.rh_http.specs.Heads.Verdicts.{asked};
     ghost use Rattle.rh_http.specs.Reading.{greatest_head};
     ghost use Rattle.rh_shell.specs.Rules.{put_into};
     ghost use Rattle.rh_inproxy.specs.Answers.{is_some};

@@ -20,6 +20,3 @@ pub use source::{Source, SourceFailed};
 pub use std::alloc::AllocError as NoMemory;
 pub use whole::{READ_ROOM, read_whole, write_whole};
 pub use writer::WriterSink;
-
-#[cfg(test)]
-mod tests;

@@ -13,6 +13,3 @@ pub use count_spawner::CountSpawner;
 pub use job::Job;
 pub use spawner::{CallRefused, SpawnRefused, Spawner};
 pub use thread_spawner::ThreadSpawner;
-
-#[cfg(test)]
-mod tests;

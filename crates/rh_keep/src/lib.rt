@@ -5,8 +5,6 @@ pub mod idle;
 pub mod laws;
 pub mod meter;
 pub mod range;
-#[cfg(test)]
-mod tests;
 
 pub use idle::Idle;
 pub use laws::meter_adds_up;

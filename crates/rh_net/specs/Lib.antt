@@ -4,3 +4,4 @@ pub mod Backs
 pub mod Calls
 pub mod Answered
 pub mod Script
+pub mod Memory

@@ -7,6 +7,7 @@ pub mod clock;
 pub mod cookies;
 pub mod counts;
 pub mod failing;
+pub mod in_memory;
 pub mod net;
 pub mod script;
 pub mod shut;
@@ -16,9 +17,10 @@ pub use clock::{Clock, MemClock};
 pub use cookies::{CookieFailed, Cookies, CountCookies};
 pub use counts::NetCounts;
 pub use failing::FailingCalls;
+pub use in_memory::{
+    Board, Caller, Callers, Calling, Found, LegFails, MemNet, PIPE_ROOM, Pipe, PipeSink,
+    PipeSource, Put, Side,
+};
 pub use net::{Net, NetFailed};
 pub use script::{ScriptNet, ScriptSink, ScriptSource, TakenBack};
 pub use shut::{ShutSink, ShutSource};
-
-#[cfg(test)]
-mod tests;

@@ -1,13 +1,1 @@
 pub mod ResponseTexts
-pub mod Conditions
-pub mod ItemLogs
-pub mod ProxyLaw
-pub mod OtherRows
-pub mod OrderRows
-pub mod OrderPuts
-pub mod OrderKept
-pub mod FinePackets
-pub mod LegibleKept
-pub mod LegibleRows
-pub mod LegiblePuts
-pub mod LegibleMoves

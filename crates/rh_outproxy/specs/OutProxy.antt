@@ -5,7 +5,7 @@ use Rattle.rh_rts.specs.declared.command.Cookie.{Cookie}
 use Rattle.rh_http.specs.declared.request.Request.{Request}
 use Rattle.rh_http.specs.declared.host.Host.{Host}
 use Rattle.rh_http.specs.Requests.{host_text}
-use Rattle.rh_heads.specs.Verdicts.{Asked, asked}
+use Rattle.rh_http.specs.Heads.Verdicts.{Asked, asked}
 use Rattle.rh_window.specs.Sides.{Sender}
 use Rattle.rh_window.specs.Sending.{unsent}
 use Rattle.rh_line.specs.Lines.{Line, first_line}

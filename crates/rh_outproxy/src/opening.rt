@@ -2,9 +2,8 @@
 
 use crate::rows::{Row, is_first, is_second};
 use crate::state::{Answer, Channel, ClientLeg, OutProxyRole, ServerLeg};
-use rh_heads::judge_request;
-use rh_http::Request;
 use rh_http::lengths::{GREATEST_ECHO, OPENS_OUT, REPLACES_OUT};
+use rh_http::{Request, judge_request};
 use rh_line::Leg;
 use rh_rts::Cookie;
 use rh_shell::{Behind, Count, HeadRefused, HeadTaken, Refused};
@@ -14,7 +13,7 @@ use rh_window::SendWindow;
 
 impl OutProxyRole {
     ghost use Rattle.std.specs.Prelude.{◌≡◌, ◌≤◌, length, IfSome, Ok};
-    ghost use Rattle.rh_heads.specs.Verdicts.{asked};
+    ghost use Rattle.rh_http.specs.Heads.Verdicts.{asked};
     ghost use Rattle.rh_http.specs.Reading.{greatest_head};
     ghost use Rattle.rh_sig.specs.Values.{MayBeWritten};
     ghost use Rattle.rh_outproxy.specs.Opening as seen;

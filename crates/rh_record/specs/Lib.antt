@@ -6,3 +6,4 @@ pub mod Places
 pub mod Report
 pub mod WordLaws
 pub mod Readings
+pub mod Events

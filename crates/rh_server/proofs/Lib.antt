@@ -1,18 +1,2 @@
-pub mod Numbered
-mod Onces
+pub mod Onces
 mod Picks
-mod Gives
-mod InSpots
-mod TakesKept
-mod TakesQuiet
-mod TakesRows
-mod TakesLegs
-mod TakesOpens
-mod Takes
-mod Each
-mod Putable
-mod Telling
-mod Sounds
-mod SoundRows
-mod SoundPuts
-mod PutsReadBack

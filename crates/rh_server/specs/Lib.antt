@@ -10,5 +10,3 @@ pub mod Time
 pub mod Putting
 pub mod Servers
 pub mod FirstKinds
-pub mod Order
-pub mod Legible

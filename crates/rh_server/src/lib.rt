@@ -5,9 +5,7 @@ mod acknowledging;
 mod ending;
 pub mod first_frame;
 mod in_replacement;
-pub mod legible;
 mod opening;
-pub mod order;
 pub mod out_line;
 mod out_replacement;
 mod putting;
@@ -16,7 +14,5 @@ pub mod state;
 mod time;
 
 pub use first_frame::{FirstKind, first_kind};
-pub use legible::what_a_server_puts_reads_back;
-pub use order::{a_server_gives_in_order, a_server_takes_in_order};
 pub use server::{ROOMS, Server, ServerConfig};
 pub use state::ServerRole;

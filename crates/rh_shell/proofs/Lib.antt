@@ -3,21 +3,9 @@ mod HeadTexts
 mod Scans
 mod Framed
 mod Steps
-mod Hearings
+pub mod Hearings
 mod FilledRooms
-mod Draws
+pub mod Draws
 mod Places
-mod ClosedNodes
 mod Passed
-mod Kept
-mod Merges
-pub mod Leading
-mod Takings
-mod TakenPieces
-mod Puttings
-mod Following
-mod EndFollowing
-mod Cuttings
-mod RoomCuts
-mod Rooming
-mod OnWires
+pub mod Kept

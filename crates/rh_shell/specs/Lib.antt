@@ -3,7 +3,6 @@ pub mod Texts
 pub mod Readings
 pub mod Rules
 pub mod NearEnds
-pub mod Moves
 pub mod Hearing
 pub mod Closing
 pub mod Keeping
@@ -11,9 +10,4 @@ pub mod Drawing
 pub mod Shells
 pub mod Ends
 pub mod SmallEnds
-pub mod Moving
-pub mod Carrying
-pub mod Wires
-pub mod Laws
 pub mod Waiting
-pub mod Merging

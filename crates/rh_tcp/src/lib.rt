@@ -13,6 +13,3 @@ pub use clock::SystemClock;
 pub use cookies::RandomCookies;
 pub use leg::{TcpSink, TcpSource};
 pub use net::TcpNet;
-
-#[cfg(test)]
-mod tests;

@@ -8,8 +8,6 @@ mod machine;
 mod plays;
 mod rule;
 mod seat;
-#[cfg(test)]
-mod tests;
 mod turn;
 mod view;
 

@@ -5,3 +5,4 @@ mod Settling
 mod Writing
 mod FormLaws
 mod Memory
+pub mod Generated

@@ -7,3 +7,4 @@ pub mod Show
 pub mod Shows
 pub mod Forms
 pub mod Memory
+pub mod Generated

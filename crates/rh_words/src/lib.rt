@@ -4,6 +4,7 @@
 
 pub mod claims;
 pub mod form;
+pub mod generating;
 pub mod help;
 pub mod in_memory;
 pub mod output;
@@ -17,6 +18,10 @@ pub mod word;
 
 pub use claims::{Claims, Plain};
 pub use form::{Form, form_of};
+pub use generating::{
+    MakeCount, Summary, a_pdu_is_made, a_recording_is_made, a_summary_is_of_the_report, make, pdu,
+    write_summary,
+};
 pub use help::HELP;
 pub use in_memory::run_in_memory;
 pub use program::run_program;

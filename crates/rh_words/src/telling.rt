@@ -1,13 +1,13 @@
 //! The words that read nothing write a text whole.
 
 ghost use Rattle.std.specs.Prelude.{◌≡◌, ◌≢◌, IfOk, string_bytes};
-ghost use Rattle.rh_make.specs.Making.{IsCount};
-ghost use Rattle.rh_make.specs.Summaries.{summary, summary_text};
+ghost use Rattle.rh_words.specs.Generated.Making.{IsCount};
+ghost use Rattle.rh_words.specs.Generated.Summaries.{summary, summary_text};
 ghost use Rattle.rh_words.specs.Forms.{Tells};
 
+use crate::generating::{MakeCount, make, write_summary};
 use crate::status::Status;
 use rh_io::{Sink, SinkFailed, write_whole};
-use rh_make::{MakeCount, make, write_summary};
 use std::alloc::{AllocError, Global};
 
 /// Generates a recording of so many PDUs, runs it, and writes what its report comes to.

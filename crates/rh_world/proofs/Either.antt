@@ -6,7 +6,7 @@ use Rattle.rh_record.specs.declared.line.Line.TheVariants.{First}
 use Rattle.rh_world.specs.declared.any_world.AnyWorld.TheVariants.{Direct}
 use Rattle.rh_world.specs.Any as either
 use Rattle.rh_world.specs.Direct.{World, empty, step, told, run}
-use Rattle.rh_events.specs.Order.{InOrder}
+use Rattle.rh_record.specs.Events.Order.{InOrder}
 use Rattle.rh_world.proofs.Runs.{run_in_order}
 
 pub told_direct : (world : World) (lines : List Line)

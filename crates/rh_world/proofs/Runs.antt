@@ -25,9 +25,9 @@ use Rattle.rh_world.specs.Direct.{deed, act, giving, taking}
 use Rattle.rh_world.specs.Direct.{empty, step, last, after, told, run}
 use Rattle.rh_world.specs.Direct.{refusal, refusal_by, give, give_by, take_pdu, take_from}
 use Rattle.rh_world.specs.Direct.{send, move, way_of, with_way}
-use Rattle.rh_events.specs.Events.{Event, Gives, Refuses, Takes, Ends, Closes, Stops, Silent}
-use Rattle.rh_events.specs.Events.{event, events, other, of_end, offer, offered, given, taken}
-use Rattle.rh_events.specs.Order.{IsPrefix, Counts, InOrder}
+use Rattle.rh_record.specs.Events.Events.{Event, Gives, Refuses, Takes, Ends, Closes, Stops, Silent}
+use Rattle.rh_record.specs.Events.Events.{event, events, other, of_end, offer, offered, given, taken}
+use Rattle.rh_record.specs.Events.Order.{IsPrefix, Counts, InOrder}
 use Rattle.rh_world.proofs.Ways.{Carries, give_carries, send_carries, move_carries}
 use Rattle.rh_world.proofs.Ways.{take_carries, empty_carries}
 

@@ -4,7 +4,7 @@ use Rattle.rh_line.specs.declared.cause.Cause.TheVariants.{BadFrame, BadHead, Ba
 use Rattle.rh_record.specs.declared.line.Line.{Line}
 use Rattle.rh_world.specs.declared.any_world.AnyWorld.TheVariants.{Before}
 use Rattle.rh_world.specs.Any.{after, run}
-use Rattle.rh_ordered.specs.Counted.{CountsCapped}
+use Rattle.law_world_reports.specs.Ordering.Counted.{CountsCapped}
 use Rattle.law_run.specs.Claims.{RolesAreHonest}
 use Rattle.law_run.proofs.claims.recordings_keep_to_their_claims.Goals as goal
 

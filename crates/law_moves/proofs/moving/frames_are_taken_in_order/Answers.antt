@@ -1,0 +1,8 @@
+use Rattle.std.proofs.Common.{refl}
+use Rattle.rh_shell.specs.Hearing.{goes}
+use Rattle.law_moves.proofs.TakenPieces.{piece_takes}
+use Rattle.law_moves.proofs.moving.frames_are_taken_in_order.Goals as goal
+
+pub returns : goal.returns
+returns g c = λ now passage end piece held.
+    piece_takes g.R.Role.rules now passage (goes end passage.role) piece refl held

@@ -1,0 +1,10 @@
+use Rattle.std.proofs.Common.{ap, ◌∙◌}
+use Rattle.law_order.specs.Logs.{seen}
+use Rattle.law_order.proofs.ItemLists.{nil_front}
+use Rattle.law_order.proofs.Prefixes.{prefix_trans}
+use Rattle.law_moves.proofs.reading.coming.of_a_refusal_nothing_comes.Goals as goal
+
+pub returns : goal.returns
+returns c = λ came_view pipe came text drawn heard nothing p q r.
+    ap (seen came_view)
+    (nil_front came r.0 (r.1 ∙ nothing heard (prefix_trans heard drawn text q p)))

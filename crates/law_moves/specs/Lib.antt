@@ -1,0 +1,12 @@
+pub mod Moves
+pub mod Moving
+pub mod Carrying
+pub mod Wires
+pub mod Laws
+pub mod Merging
+pub mod Legible
+pub mod Passages
+pub mod Chains
+pub mod PacketKinds
+pub mod ReadBack
+pub mod Turns

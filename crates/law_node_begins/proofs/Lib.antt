@@ -1,0 +1,2 @@
+mod EndsBegin
+mod ProxiesBegin

@@ -1,0 +1,2 @@
+pub mod EndsBegin
+pub mod ProxiesBegin

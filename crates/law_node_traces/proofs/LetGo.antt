@@ -1,0 +1,5 @@
+mod Lists
+mod Standing
+mod Counts
+mod Counting
+pub mod NoneUp

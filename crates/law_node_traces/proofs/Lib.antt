@@ -1,0 +1,3 @@
+pub mod Traced
+mod LetGo
+pub mod OwnLegs

@@ -1,0 +1,10 @@
+pub mod Along
+pub mod InTurn
+pub mod HeardBefore
+pub mod Readers
+pub mod Openings
+pub mod Led
+pub mod ByChanges
+pub mod Remembering
+pub mod LostLegs
+pub mod RefusedDraws

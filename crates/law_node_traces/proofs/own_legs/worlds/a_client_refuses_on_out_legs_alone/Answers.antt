@@ -1,0 +1,51 @@
+use Rattle.std.proofs.Common.{◌≡◌, inl, inr, refl, ap, ◌∙◌, subst}
+use Rattle.rh_line.specs.declared.cause.Cause.{Cause}
+use Rattle.rh_line.specs.declared.cause.Cause.TheVariants.{CookieMismatch, Unexpected}
+use Rattle.rh_line.specs.declared.leg.Leg.{Leg}
+use Rattle.rh_line.specs.declared.leg.LegKind.TheVariants.{ClientOut}
+use Rattle.rh_record.specs.declared.answer.Who.TheVariants.{Client as AtClient}
+use Rattle.law_moves.specs.Moving.{after_end_events}
+use Rattle.rh_shell.specs.Shells.{Shell}
+use Rattle.rh_nodes.specs.Opening.{Makers}
+use Rattle.rh_nodes.specs.World.{World}
+use Rattle.rh_client.specs.declared.state.ClientRole.{ClientRole}
+use Rattle.rh_client.specs.Client as client
+use Rattle.rh_inproxy.specs.State.{InProxy}
+use Rattle.rh_outproxy.specs.OutProxy.{OutProxy}
+use Rattle.rh_server.specs.States.{Server}
+use Rattle.law_node_causes.specs.Closings.{ClosesWith}
+use Rattle.law_node_history.specs.Changes.{Change, Leads}
+use Rattle.law_node_history.specs.Closes.{ClosesNode}
+use Rattle.law_node_history.specs.Histories.{IsNew, all_noted, nothing}
+use Rattle.law_node_traces.specs.Traced.Ours.{AreOurs, deeds, rules}
+use Rattle.law_node_traces.specs.OwnLegs.{IsAmissOn}
+use Rattle.law_node_traces.proofs.own_legs.worlds.a_client_refuses_on_out_legs_alone.Goals as goal
+
+pub returns : goal.returns
+returns g c = record {
+  unexpected = λ m w new ours v leads change leg place closes.
+      by m w new ours v leads change leg (Unexpected leg place) (inl (place, refl)) closes;
+  cookie = λ m w new ours v leads change leg expected got closes.
+      by m w new ours v leads change leg (CookieMismatch leg expected got)
+      (inr (expected, got, refl)) closes;
+}
+  where
+    by : (m : Makers g.row.K.Denot InProxy OutProxy)
+        (w : World g.row.K.Denot ClientRole Server InProxy OutProxy) → IsNew w
+        → AreOurs m w.company w.cast
+        → (v : World g.row.K.Denot ClientRole Server InProxy OutProxy) → Leads rules m deeds w v
+        → (change : Change) (leg : Leg) (why : Cause) → IsAmissOn leg why
+        → ClosesNode rules v change AtClient why → leg.kind ≡ ClientOut
+    by m w new ours v leads change leg why amiss is =
+        let history = all_noted rules m deeds w nothing leads.changes in
+        let runs = c.each_node_is_what_its_history_made.ensures.changes rules m deeds w.company w v
+        nothing leads (c.each_node_is_what_its_history_made.ensures.begins rules m deeds w new) in
+        let same : v.company.client
+        ≡ after_end_events client.rules client.acts (client.first_client ours.config)
+        history.client =
+        runs.client
+        ∙ ap (λ (s : Shell ClientRole). after_end_events client.rules client.acts s history.client)
+        ours.client in
+        c.each_node_refuses_on_its_own_legs.ensures.client ours.config history.client is.event leg
+        why amiss
+        (subst (λ (s : Shell ClientRole). ClosesWith client.rules s is.event why) same is.closes)

@@ -1,0 +1,4 @@
+mod InProxyExpects
+pub mod ClientExpects
+mod OutProxyExpects
+pub mod Asked

@@ -1,0 +1,39 @@
+-- no acknowledgement to an out proxy has the cookie that stands for none, where no OUT channel of
+-- the client has it
+use Rattle.std.proofs.Common.{ℕ, refl}
+use Rattle.rh_rts.specs.declared.command.Cookie.{Cookie}
+use Rattle.rh_sig.specs.declared.named.Named.TheVariants.{AckTo}
+use Rattle.rh_line.specs.declared.leg.LegKind.TheVariants.{OutServer, ClientIn, InServer}
+use Rattle.law_moves.specs.Wires.{of_leg}
+use Rattle.rh_nodes.specs.Settling.{leg_at}
+use Rattle.law_moves.specs.Passages.Passing.{Has}
+use Rattle.law_role_windows.specs.Acknowledging.Acks.{IsPassedOn, PassesOn}
+use Rattle.law_role_windows.proofs.Acknowledging.Found.{has_found}
+use Rattle.law_peers_moments.specs.Moments.{AreJoined, Passages}
+use Rattle.law_peers_moments.proofs.Joining.{in_front, is_front}
+use Rattle.law_peers_moments.proofs.Read.{front_has}
+
+module _ (reader : ℕ → ℕ) (all : Passages) (joined : AreJoined reader all)
+    (server : PassesOn InServer 3 all.server) (ins : (m : ℕ) → PassesOn ClientIn 3 (all.ins m))
+    (n received available : ℕ) (cookie : Cookie) where
+  -- one that the server put for an out proxy was put by the client
+  pub from_client :
+      Has (AckTo 3 received available cookie) (of_leg (leg_at OutServer n) all.server.put)
+      → (k : ℕ)
+      × Has (AckTo 3 received available cookie) (of_leg (leg_at ClientIn k) all.client.put)
+  from_client has =
+      let came = has_found (IsPassedOn InServer 3 all.server.came)
+      (AckTo 3 received available cookie) (leg_at OutServer n) all.server.put server has refl in
+      let put = front_has (AckTo 3 received available cookie)
+      (of_leg (leg_at InServer came.0) all.server.came)
+      (of_leg (leg_at InServer came.0) (all.ins came.0).put) (is_front reader all joined came.0)
+      came.1 in
+      let asked = has_found (IsPassedOn ClientIn 3 (all.ins came.0).came)
+      (AckTo 3 received available cookie) (leg_at InServer came.0) (all.ins came.0).put
+      (ins came.0) put refl in (
+        asked.0,
+        front_has (AckTo 3 received available cookie)
+            (of_leg (leg_at ClientIn asked.0) (all.ins came.0).came)
+            (of_leg (leg_at ClientIn asked.0) all.client.put)
+            (in_front reader all joined came.0 asked.0) asked.1,
+      )

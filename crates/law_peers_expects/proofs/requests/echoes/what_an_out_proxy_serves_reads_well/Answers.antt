@@ -1,0 +1,21 @@
+use Rattle.std.proofs.Common.{refl}
+use Rattle.std.specs.Prelude.{Some}
+use Rattle.rh_http.specs.Texts.{response_text}
+use Rattle.rh_sig.specs.declared.name.Pipe.TheVariants.{CoD}
+use Rattle.law_moves.specs.Moves.{all_moved, started}
+use Rattle.law_moves.specs.Wires.{of_leg}
+use Rattle.rh_outproxy.specs.Machine.{rules}
+use Rattle.rh_outproxy.specs.OutProxy.{new_proxy}
+use Rattle.law_role_outproxy.specs.Counted.{co_leg, os_leg}
+use Rattle.law_peers_expects.proofs.Asked.Served.{served_well}
+use Rattle.law_peers_expects.proofs.requests.echoes.what_an_out_proxy_serves_reads_well.Goals as goal
+
+pub returns : goal.returns
+returns c = λ well config moves may counted turn asks.
+    let p = all_moved rules (started (new_proxy config)) moves in
+    served_well config well
+    (λ n. c.texts_read_well.ensures.head well (Some CoD) (response_text n) refl
+    (c.texts_are_whole.ensures.response n))
+    (of_leg (co_leg config.number) p.came) (of_leg (os_leg config.number) p.came)
+    (of_leg (co_leg config.number) p.put)
+    (c.an_out_proxy_answers_echoes_alone.ensures config moves may counted turn asks)

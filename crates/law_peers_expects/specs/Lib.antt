@@ -1,0 +1,3 @@
+pub mod InProxyExpects
+pub mod OutProxyExpects
+pub mod Asked

@@ -1,0 +1,137 @@
+-- whatever moves a server makes, its os legs are in order and the writing one has room where no
+-- replacement is under way
+use Rattle.std.proofs.Common.{◌≡◌, ℕ, ◌≤◌, List, [], ◌∷◌, ◌++◌, Some, None, Ok, Err, refl, sym, ap, subst}
+use Rattle.std.specs.Prelude.{IfSome}
+use Rattle.rh_sig.specs.declared.named.Named.{Named}
+use Rattle.rh_line.specs.declared.leg.Leg.{Leg}
+use Rattle.rh_line.specs.declared.leg.LegKind.{LegKind}
+use Rattle.rh_line.specs.declared.leg.LegKind.TheVariants.{ClientOut, OutServer, ClientIn, InServer}
+use Rattle.law_moves.proofs.Passages.Logs.{ActsKeep, PutKeeps, RowKeeps, StepsKeep, end_moves_keep}
+use Rattle.rh_server.specs.Ending.{close, drawn_by, give, mark_by}
+use Rattle.rh_server.specs.InReplacement.{take}
+use Rattle.rh_server.specs.Opening.{Done, up}
+use Rattle.rh_server.specs.OutReplacement.{recycle}
+use Rattle.rh_server.specs.Putting.{Pick, put_in, put_out_at, put_by as put_by_kind}
+use Rattle.rh_server.specs.Servers.{acts, first, packet_by, pdu}
+use Rattle.rh_server.specs.Servers.{rules as server_rules}
+use Rattle.rh_server.specs.States.{Server, out_place}
+use Rattle.law_role_server.specs.Counted.Counting.{leg_at}
+use Rattle.law_role_server_in.specs.Handovers.{passed}
+use Rattle.law_peers_room.specs.ServerRoom.Overtaking.{AreLong, IsLong, IsLongOn}
+use Rattle.law_peers_room.proofs.ServerRoom.Overtaken.{Core, core, core_same}
+use Rattle.law_peers_room.proofs.ServerRoom.ViewPuts.{os_goes}
+use Rattle.law_peers_room.proofs.ServerRoom.ViewRows.{LongServes, drawn_serves, give_serves, mark_serves, packet_row, pdu_row, recycles, take_serves, up_serves}
+use Rattle.law_peers_room.proofs.ServerRoom.Views.{AreKept, View, view}
+use Rattle.law_moves.specs.Moves.{EndMove, OnLeg, end_started}
+use Rattle.rh_shell.specs.Rules.{Message, Pdu, Packet}
+use Rattle.law_peers_forwarding.proofs.Ready.{IsFit, IsSettling, fit_kept, fit_put}
+
+pub long_before : (least : ℕ) (came : List OnLeg) (one : OnLeg)
+    → AreLong least (came ++ one ∷ []) → AreLong least came × IsLongOn least one
+long_before least [] one h = (tt, h.0)
+long_before least (first ∷ came) one h =
+    let rest = long_before least came one h.1 in ((h.0, rest.0), rest.1)
+
+-- what is put on is legs leaves the view alone
+abbrev of_core : Core → View
+of_core c = record {
+  at = c.at;
+  how = c.how;
+  writing = c.writing;
+  newest = c.newest;
+  legs = c.legs;
+  dues = c.waits.due;
+}
+
+pub in_same : (s : Server) (n : ℕ)
+    → IfSome (put_in s n) (λ (one : Server × Message). view one.0 ≡ view s)
+in_same s n = by (put_in s n) (core_same s n)
+  where
+    by : (pick : Pick) → IfSome pick (λ (one : Server × Message). core one.0 ≡ core s)
+        → IfSome pick (λ (one : Server × Message). view one.0 ≡ view s)
+    by None same = tt
+    by (Some one) same = ap of_core same
+
+module _ (least : ℕ) (enough : 340 ≤ least) where
+  abbrev Holds : Server → List OnLeg → List OnLeg → Type 0
+  Holds s came put = AreLong least came → IsFit (view s)
+
+  keeps : AreKept least IsFit
+  keeps = fit_kept least enough
+
+  goes_on : (s t : Server) (came put : List OnLeg) → (IsFit (view s) → IsFit (view t))
+      → Holds s came put → Holds t came put
+  goes_on s t came put so h = λ long. so (h long)
+
+  row_keeps : (s : Server) (leg : Leg) (m : Named) (came put : List OnLeg) (x : Done)
+      → (IsFit (view s) → LongServes least IsFit keeps (IsLong least m) x)
+      → Holds s came put → RowKeeps Holds (leg, Packet m) came put x
+  row_keeps s leg m came put (t, Err why) so h = λ long. so (h long)
+  row_keeps s leg m came put (t, Ok taken) so h = λ long.
+      let parts = long_before least came (leg, Packet m) long in so (h parts.0) parts.1
+
+  pdu_keeps : (s : Server) (leg : Leg) (bytes : List ℕ) (came put : List OnLeg) (x : Done)
+      → (IsFit (view s) → IsFit (view x.0)) → Holds s came put
+      → RowKeeps Holds (leg, Pdu bytes) came put x
+  pdu_keeps s leg bytes came put (t, Err why) so h = λ long. so (h long)
+  pdu_keeps s leg bytes came put (t, Ok taken) so h = λ long.
+      so (h (long_before least came (leg, Pdu bytes) long).0)
+
+  in_keeps : (s : Server) (n : ℕ) (came put : List OnLeg) (pick : Pick)
+      → IfSome pick (λ (one : Server × Message). view one.0 ≡ view s)
+      → Holds s came put → PutKeeps Holds (leg_at InServer n) came put pick
+  in_keeps s n came put None same h = tt
+  in_keeps s n came put (Some one) same h = λ long. subst IsFit (sym same) (h long)
+
+  out_keeps : (s : Server) (n : ℕ) (came put : List OnLeg) (pick : Pick)
+      → (IsFit (view s) → IfSome pick (λ (one : Server × Message). IsFit (view one.0)))
+      → Holds s came put → PutKeeps Holds (leg_at OutServer n) came put pick
+  out_keeps s n came put None goes h = tt
+  out_keeps s n came put (Some one) goes h = λ long. goes (h long)
+
+  put_keeps : (s : Server) (n : ℕ) (k : LegKind) (came put : List OnLeg) → Holds s came put
+      → PutKeeps Holds (leg_at k n) came put (put_by_kind s n k)
+  put_keeps s n InServer came put h = in_keeps s n came put (put_in s n) (in_same s n) h
+  put_keeps s n OutServer came put h =
+      out_keeps s n came put (put_out_at s (out_place n s.outs))
+      (λ fit. os_goes n s IsSettling (λ m x. IsFit x) (fit_put n s least enough fit)
+      (out_place n s.outs) refl) h
+  put_keeps s n ClientIn came put h = tt
+  put_keeps s n ClientOut came put h = tt
+
+  steps : StepsKeep server_rules Holds
+  steps = record {
+    up = λ s leg cookie came put h.
+        goes_on s (up s leg cookie) came put (up_serves least IsFit keeps s leg cookie) h;
+    head = λ s leg text came put h. h;
+    pdu = λ s leg count bytes came put h.
+        pdu_keeps s leg bytes came put (pdu s leg count bytes)
+        (pdu_row least IsFit keeps s leg count bytes) h;
+    packet = λ s leg count m came put h.
+        row_keeps s leg m came put (packet_by s leg.number count m leg.kind)
+        (packet_row least IsFit keeps s leg.number count m leg.kind) h;
+    put = λ s leg came put h. put_keeps s leg.number leg.kind came put h;
+    drawn = λ s leg came put h.
+        goes_on s (drawn_by s leg.number leg.kind) came put
+        (drawn_serves least IsFit keeps s leg.number leg.kind) h;
+    mark = λ s leg came put h.
+        goes_on s (mark_by s leg.number leg.kind) came put
+        (mark_serves least IsFit keeps s leg.number leg.kind) h;
+    ping = λ s leg came put h. h;
+  }
+
+  calls : ActsKeep acts Holds
+  calls = record {
+    give = λ s bytes came put h.
+        goes_on s (give s bytes).0 came put (give_serves least IsFit keeps s bytes) h;
+    take = λ s came put h. goes_on s (take s) came put (take_serves least IsFit keeps s) h;
+    close = λ s came put h. goes_on s (close s) came put (λ fit. fit) h;
+    recycle = λ s came put h.
+        goes_on s (recycle s).0 came put (recycles least IsFit keeps s) h;
+  }
+
+  pub are_fit : (window : ℕ) (moves : List EndMove) → AreLong least (passed window moves).came
+      → IsFit (view (passed window moves).role)
+  are_fit window moves =
+      end_moves_keep server_rules Holds steps acts calls (end_started (first window)) moves
+      (λ long. ((tt, tt), tt))

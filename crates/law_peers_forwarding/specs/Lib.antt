@@ -1,0 +1,5 @@
+pub mod Passing
+pub mod Late
+pub mod Fits
+pub mod Answering
+pub mod ServerFull

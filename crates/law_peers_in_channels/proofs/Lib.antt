@@ -1,0 +1,5 @@
+pub mod ServerExpects
+pub mod InChannels
+pub mod InSuccessors
+pub mod InHandovers
+pub mod PdusInTurn

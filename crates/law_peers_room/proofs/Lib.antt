@@ -1,0 +1,3 @@
+pub mod OutRoom
+pub mod InRoom
+pub mod ServerRoom

@@ -1,0 +1,4 @@
+pub mod Sides
+mod ClientNumbers
+mod ClientLegs
+pub mod Routing

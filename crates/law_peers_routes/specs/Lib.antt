@@ -1,0 +1,2 @@
+pub mod Downwards
+pub mod Upwards

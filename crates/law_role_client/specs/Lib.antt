@@ -1,0 +1,5 @@
+pub mod Order
+pub mod Legible
+pub mod Sending
+pub mod Receiving
+pub mod Counted

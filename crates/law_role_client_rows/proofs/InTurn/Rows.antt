@@ -1,0 +1,234 @@
+-- what comes leaves a client's turn alone
+use Rattle.std.proofs.Common.{◌≡◌, ℕ, ◌==◌, nat_lt, Bool, true, false, ◌&&◌, ◌||◌, not, if◌then◌else◌, List, Some, None, Ok, Err, refl, ap, ◌∙◌}
+use Rattle.std.specs.Option.{is_some}
+use Rattle.std.specs.declared.option.Option.{Option}
+use Rattle.rh_rts.specs.declared.command.Cookie.{Cookie}
+use Rattle.rh_sig.specs.declared.named.Named.{Named}
+use Rattle.rh_sig.specs.declared.named.Named.TheVariants as named
+use Rattle.rh_line.specs.Lines.{channel_of, after_end, after_finish}
+use Rattle.rh_line.specs.declared.leg.LegKind.{LegKind}
+use Rattle.rh_line.specs.declared.leg.LegKind.TheVariants.{ClientOut, OutServer, ClientIn, InServer}
+use Rattle.rh_line.specs.declared.which.Which.{Which}
+use Rattle.law_order.proofs.ByNumber.{by_test}
+use Rattle.rh_shell.specs.declared.answers.Count.{Count}
+use Rattle.rh_shell.specs.declared.answers.Phase.TheVariants as phase
+use Rattle.rh_shell.specs.Hearing.{is_zero}
+use Rattle.law_moves.specs.Moves.{OnLeg}
+use Rattle.law_moves.proofs.Passages.Logs.{RowKeeps}
+use Rattle.rh_client.specs.declared.channels.TheConstants.{LAST_NUMBER}
+use Rattle.rh_client.specs.declared.replacement.Replacement.{Replacement}
+use Rattle.rh_client.specs.declared.replacement.Replacement.TheVariants.{NoneUnderWay, In, Out}
+use Rattle.rh_client.specs.declared.replacement.InStage.{InStage}
+use Rattle.rh_client.specs.declared.replacement.InStage.TheVariants as in_stage
+use Rattle.rh_client.specs.declared.replacement.OutStage.{OutStage}
+use Rattle.rh_client.specs.declared.replacement.OutStage.TheVariants as out_stage
+use Rattle.rh_client.specs.declared.replacement.Waits.{Waits}
+use Rattle.rh_client.specs.declared.replacement.Waits.TheVariants as waits
+use Rattle.rh_client.specs.declared.state.ClientRole.{ClientRole}
+use Rattle.rh_client.specs.Channels.{is_put, is_asked, is_named, told_in}
+use Rattle.rh_client.specs.Replacements.{is_in, has_out, with_out}
+use Rattle.rh_client.specs.State.{Done, taken, unexpected, is_open, is_opening, is_over, is_current, is_out_successor, settled}
+use Rattle.rh_client.specs.Opening.{on_conn_a3, on_conn_c2}
+use Rattle.rh_client.specs.Acknowledging.{pdu_channel, pdu_on, acked, ack_row, ack_named, on_ack_to}
+use Rattle.rh_client.specs.InReplacement.{answer_at, answer_by, answered, on_in_r1_a4, on_in_r2_a4}
+use Rattle.rh_client.specs.OutReplacement.{a2_by, on_out_r1_a2, a6_at, a6_by, on_out_r1_a6, passed, a10_at, a10_by, on_out_r1_a10}
+use Rattle.rh_client.specs.Ending.{end_channel, end_on, on_end_b2}
+use Rattle.rh_client.specs.Client.{pdu_by, on_packet, packet_by}
+use Rattle.law_role_client_rows.proofs.InTurn.Facts.{Holds, idles}
+use Rattle.law_role_client_rows.proofs.InTurn.Changes.{So, begin_out_so, passed_so}
+
+-- whether the row takes it or not
+pub row_so : (one : OnLeg) (came put : List OnLeg) (x : Done) → So put x.0
+    → RowKeeps Holds one came put x
+row_so one came put (t, Ok done) h = h
+row_so one came put (t, Err refused) h = h
+
+module _ (put : List OnLeg) (s : ClientRole) (h : So put s) where
+  abbrev pub Keeps : Done → Type 0
+  Keeps x = So put x.0
+
+  taken_or : (b : Bool) (t : ClientRole) → So put t
+      → Keeps (if b then taken t else unexpected s)
+  taken_or b t so = by_test Keeps b (taken t) (unexpected s) (λ e. so) (λ e. h)
+
+  -- ---- rows that leave the replacement alone
+
+  pub pdu_so : (n : ℕ) (bytes : List ℕ) (kind : LegKind) → Keeps (pdu_by s n bytes kind)
+  pdu_so n bytes ClientOut = by (pdu_channel s n)
+    where
+      by : (o : Option Which) → Keeps (pdu_on s bytes o)
+      by None = h
+      by (Some which) = h
+  pdu_so n bytes OutServer = h
+  pdu_so n bytes ClientIn = h
+  pdu_so n bytes InServer = h
+
+  timeout_so : (n : ℕ) (count : Count) (timeout : ℕ) → Keeps (on_conn_a3 s n count timeout)
+  timeout_so n count timeout =
+      taken_or (n == 1 && (is_current s n && is_zero count))
+      (record s { current = record (s.current) { timeout = Some timeout } }) h
+
+  opened_so : (n window timeout : ℕ) → Keeps (on_conn_c2 s n window timeout)
+  opened_so n window timeout =
+      taken_or ((n == 1 && is_current s n) && (is_opening s.phase && is_some s.current.timeout))
+      (record s { phase = phase.Open; writing = told_in s.writing window timeout }) h
+
+  end_so : (n : ℕ) → Keeps (on_end_b2 s n)
+  end_so n =
+      by_test Keeps (is_open s.phase) (end_on s (end_channel s n)) (unexpected s)
+      (λ e. by (end_channel s n)) (λ e. h)
+    where
+      by : (o : Option Which) → Keeps (end_on s o)
+      by None = h
+      by (Some which) =
+          let t : ClientRole = record s { line = after_end s.line which } in
+          by_test Keeps (channel_of s.line which).ended (unexpected s) (taken (settled t))
+          (λ e. h)
+          (λ e. by_test (So put) (is_over t) (record t { phase = phase.Ended }) t (λ f. h)
+          (λ f. h))
+
+  ack_so : (to received available : ℕ) (of : Cookie) → Keeps (on_ack_to s to received available of)
+  ack_so to received available of =
+      by_test Keeps (is_open s.phase && to == 0) (ack_named s received available of)
+      (unexpected s) (λ e. named_so) (λ e. h)
+    where
+      named_so : Keeps (ack_named s received available of)
+      named_so =
+          by_test Keeps (is_named s.writing of) (
+            record s { writing = acked s.writing received available },
+            ack_row s.writing received available,
+          ) _
+          (λ e. h)
+          (λ e. by_test Keeps (is_named s.in_successor of) (
+            record s { in_successor = acked s.in_successor received available },
+            ack_row s.in_successor received available,
+          ) _
+          (λ f. h)
+          (λ f. by_test Keeps (is_named s.leaving of) (
+            record s { leaving = acked s.leaving received available },
+            ack_row s.leaving received available,
+          ) (taken s)
+          (λ g. h) (λ g. h)))
+
+  -- ---- the replacement of an IN channel
+
+  -- it goes on
+  still : (r : Replacement) (stage : InStage) (out_waits : Bool) → s.replacement ≡ r
+      → is_in r ≡ true → So put (record s { replacement = In stage out_waits })
+  still r stage out_waits e replaces =
+      let is : is_in s.replacement ≡ true = ap is_in e ∙ replaces in record {
+        stand = h.stand;
+        writing = h.writing;
+        ended = h.ended;
+        over = h.over;
+        next = λ f. h.next is;
+        fresh = λ f. h.fresh is;
+      }
+
+  answered_so : (window timeout : ℕ) → Keeps (answered s window timeout)
+  answered_so window timeout = by s.replacement refl
+    where
+      stands : (stage : InStage) (out_waits : Bool) → s.replacement ≡ In stage out_waits
+          → Keeps (answer_at s out_waits window timeout stage)
+      stands in_stage.Asked out_waits e =
+          taken_or (is_put s.in_successor.opening)
+          (record s {
+            in_successor = told_in s.in_successor window timeout;
+            replacement = In in_stage.Answered out_waits;
+          })
+          (still (In in_stage.Asked out_waits) in_stage.Answered out_waits e refl)
+      stands in_stage.Answered out_waits e = h
+
+      by : (r : Replacement) → s.replacement ≡ r → Keeps (answer_by s window timeout r)
+      by NoneUnderWay e = h
+      by (In stage out_waits) e = stands stage out_waits e
+      by (Out stage waiting) e = h
+
+  in_told_so : (to window timeout : ℕ) → Keeps (on_in_r1_a4 s to window timeout)
+  in_told_so to window timeout =
+      by_test Keeps (to == 0) (answered s window timeout) (unexpected s)
+      (λ e. answered_so window timeout) (λ e. h)
+
+  in_told_before_so : (to : ℕ) → Keeps (on_in_r2_a4 s to)
+  in_told_before_so to =
+      by_test Keeps (to == 0) (answered s s.writing.told s.writing.timeout) (unexpected s)
+      (λ e. answered_so s.writing.told s.writing.timeout) (λ e. h)
+
+  -- ---- the replacement of an OUT channel
+
+  out_asked_so : (n to : ℕ) → Keeps (on_out_r1_a2 s n to)
+  out_asked_so n to =
+      by_test Keeps (is_open s.phase && (to == 0 && nat_lt n LAST_NUMBER))
+      (a2_by s n s.replacement) (unexpected s) (λ e. by s.replacement refl) (λ e. h)
+    where
+      by : (r : Replacement) → s.replacement ≡ r → Keeps (a2_by s n r)
+      by NoneUnderWay e = begin_out_so put s waits.Nothing (idles h)
+      by (In stage false) e = still (In stage false) stage true e refl
+      by (In stage true) e = h
+      by (Out stage waiting) e =
+          taken_or (is_out_successor s n && not (has_out waiting))
+          (record s { replacement = Out stage (with_out waiting) }) (idles h)
+
+  out_answered_so : (n to timeout : ℕ) → Keeps (on_out_r1_a6 s n to timeout)
+  out_answered_so n to timeout =
+      by_test Keeps (to == 0 && is_current s n) (a6_by s timeout s.replacement) (unexpected s)
+      (λ e. by s.replacement) (λ e. h)
+    where
+      stands : (waiting : Waits) (stage : OutStage) → Keeps (a6_at s waiting timeout stage)
+      stands waiting out_stage.Asked =
+          taken_or (is_asked s.out_successor.opening)
+          (record s {
+            out_successor = record (s.out_successor) { timeout = Some timeout };
+            replacement = Out out_stage.Answered waiting;
+          })
+          (idles h)
+      stands waiting out_stage.Answered = h
+      stands waiting out_stage.Switched = h
+      stands waiting out_stage.Finished = h
+
+      by : (r : Replacement) → Keeps (a6_by s timeout r)
+      by NoneUnderWay = h
+      by (In stage out_waits) = h
+      by (Out stage waiting) = stands waiting stage
+
+  out_finished_so : (n : ℕ) → Keeps (on_out_r1_a10 s n)
+  out_finished_so n = by s.replacement
+    where
+      stands : (waiting : Waits) (stage : OutStage) → Keeps (a10_at s n waiting stage)
+      stands waiting out_stage.Asked = h
+      stands waiting out_stage.Answered = h
+      stands waiting out_stage.Switched =
+          let t : ClientRole = record s {
+            line = after_finish s.line;
+            replacement = Out out_stage.Finished waiting;
+          } in
+          taken_or (s.line.has_next && is_current s n) (passed t) (passed_so put t (idles h))
+      stands waiting out_stage.Finished = h
+
+      by : (r : Replacement) → Keeps (a10_by s n r)
+      by NoneUnderWay = h
+      by (In stage out_waits) = h
+      by (Out stage waiting) = stands waiting stage
+
+  -- ---- the rows of a client
+
+  on_so : (n : ℕ) (count : Count) (packet : Named) → Keeps (on_packet s n count packet)
+  on_so n count (named.ConnA3 timeout) = timeout_so n count timeout
+  on_so n count (named.ConnC2 version window timeout) = opened_so n window timeout
+  on_so n count (named.AckTo to received available of) = ack_so to received available of
+  on_so n count (named.InR1A4 to version window timeout) = in_told_so to window timeout
+  on_so n count (named.InR2A4 to) = in_told_before_so to
+  on_so n count (named.OutR1A2 to) = out_asked_so n to
+  on_so n count (named.OutR1A6 to version timeout) = out_answered_so n to timeout
+  on_so n count named.OutR1A10 = out_finished_so n
+  on_so n count named.EndB2 = end_so n
+  on_so n count packet = h
+
+  pub packet_so : (n : ℕ) (count : Count) (packet : Named) (kind : LegKind)
+      → Keeps (packet_by s n count packet kind)
+  packet_so n count packet ClientOut =
+      by_test Keeps (is_current s n || is_out_successor s n) (on_packet s n count packet)
+      (unexpected s) (λ e. on_so n count packet) (λ e. h)
+  packet_so n count packet OutServer = h
+  packet_so n count packet ClientIn = h
+  packet_so n count packet InServer = h

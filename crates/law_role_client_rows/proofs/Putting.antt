@@ -1,0 +1,9 @@
+mod Fronts
+mod Channels
+mod Openings
+mod Facts
+mod Changes
+mod Writing
+mod Beginning
+mod Rows
+pub mod Laws

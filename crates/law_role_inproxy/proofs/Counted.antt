@@ -1,0 +1,6 @@
+pub mod InProxyOwes
+pub mod InProxyPays
+mod InProxyOnce
+mod InProxyFollows
+pub mod InProxyLeaves
+pub mod InProxyLaws

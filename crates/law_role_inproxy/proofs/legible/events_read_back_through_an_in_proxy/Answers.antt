@@ -1,0 +1,17 @@
+use Rattle.std.proofs.Common.{subst}
+use Rattle.law_moves.specs.Legible.Legible.{IsLegible}
+use Rattle.law_role_inproxy.specs.Legible.{pipe_put}
+use Rattle.rh_inproxy.specs.Machine.{rooms}
+use Rattle.rh_inproxy.specs.State.{first}
+use Rattle.law_role_inproxy.proofs.LegibleMoves.{all_reads_back}
+use Rattle.law_role_inproxy.proofs.legible.events_read_back_through_an_in_proxy.Goals as goal
+
+pub returns : goal.returns
+returns c = λ config events ranges sizes.
+    let follows = c.roles_move_by_their_rules.ensures.run (first config) rooms events in
+    record {
+      follows = follows;
+      keeps = subst (IsLegible pipe_put) follows.leads.reached
+          (all_reads_back c.what_may_go_reads_back.ensures.log config ranges sizes
+          follows.leads.moves);
+    }

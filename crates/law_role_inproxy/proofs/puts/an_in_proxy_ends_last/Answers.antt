@@ -1,0 +1,10 @@
+use Rattle.law_moves.specs.Moves.{all_moved, started}
+use Rattle.rh_inproxy.specs.Machine.{rules}
+use Rattle.rh_inproxy.specs.State.{first}
+use Rattle.law_role_inproxy.proofs.Putting.Ends.{ends_last}
+use Rattle.law_role_inproxy.proofs.puts.an_in_proxy_ends_last.Goals as goal
+
+pub returns : goal.returns
+returns c = λ config moves allowed.
+    ends_last config.number (all_moved rules (started (first config)) moves).put
+    (c.an_in_proxy_keeps_order.ensures config moves allowed).channel

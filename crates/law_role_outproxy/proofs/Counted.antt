@@ -1,0 +1,6 @@
+pub mod OutProxyOwes
+mod OutProxyGains
+pub mod OutProxyPays
+pub mod OutProxyOnce
+pub mod OutProxyNames
+pub mod OutProxyLaws

@@ -1,0 +1,5 @@
+pub mod Legs
+mod Windows
+mod Sent
+pub mod OutProxySends
+pub mod Opening

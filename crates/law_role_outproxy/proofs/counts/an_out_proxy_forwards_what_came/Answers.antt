@@ -1,0 +1,5 @@
+use Rattle.law_role_outproxy.proofs.Counted.OutProxyLaws.{out_proxy_forwards}
+use Rattle.law_role_outproxy.proofs.counts.an_out_proxy_forwards_what_came.Goals as goal
+
+pub returns : goal.returns
+returns c = out_proxy_forwards

@@ -1,0 +1,6 @@
+pub mod Order
+pub mod Legible
+pub mod Sending
+pub mod Counted
+pub mod Refusing
+pub mod Putting

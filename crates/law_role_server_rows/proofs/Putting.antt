@@ -1,0 +1,10 @@
+mod Turns
+pub mod Writing
+pub mod Each
+mod Copied
+mod CopiedRows
+pub mod CopiedPuts
+mod Greets
+mod GreetsOut
+pub mod GreetsIn
+pub mod OnFirst

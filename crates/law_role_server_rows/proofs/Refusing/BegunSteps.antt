@@ -1,0 +1,263 @@
+-- a server's other steps keep that none began on an os leg whose channel has no cookie
+use Rattle.std.proofs.Common.{◌≡◌, ℕ, ◌+◌, ◌==◌, List, Bool, true, false, ◌&&◌, Some, None, arith, refl, ap, rules}
+use Rattle.std.proofs.lemmas.Bool.{and_parts}
+use Rattle.std.specs.Prelude.{slice_get, IfSome}
+use Rattle.std.specs.declared.option.Option.{Option}
+use Rattle.rh_rts.specs.declared.command.Cookie.{Cookie}
+use Rattle.rh_sig.specs.declared.named.Named.{Named}
+use Rattle.rh_sig.specs.declared.named.Named.TheVariants as named
+use Rattle.rh_line.proofs.Queues.{each_push}
+use Rattle.rh_line.specs.Queue.{front_length}
+use Rattle.rh_line.specs.declared.leg.Leg.{Leg}
+use Rattle.rh_line.specs.declared.leg.LegKind.{LegKind}
+use Rattle.rh_line.specs.declared.leg.LegKind.TheVariants.{ClientOut, OutServer, ClientIn, InServer}
+use Rattle.law_order.proofs.ByNumber.{by_test, same_number}
+use Rattle.law_moves.proofs.Passages.Logs.{PutKeeps, ActsKeep}
+use Rattle.rh_shell.specs.declared.due.Due.{Due}
+use Rattle.rh_shell.specs.Rules.{Message, Pdu}
+use Rattle.law_moves.specs.Moves.{OnLeg, EndMove, AreAllowedAtEnd, end_started, all_end_moved}
+use Rattle.rh_shell.specs.Waiting.{Waiting, taken}
+use Rattle.rh_server.specs.declared.state.Greeting.TheVariants as greetings
+use Rattle.rh_server.specs.declared.state.OutLeg.{OutLeg}
+use Rattle.rh_server.specs.OutLines.{Gate, lets, length_of}
+use Rattle.rh_server.specs.OutLegs.{counted, went}
+use Rattle.rh_server.specs.States.{Server, is_open, is_due, in_leg, out_place, removed_at, without_in, without_out}
+use Rattle.rh_server.specs.Opening.{may_up_by, has_room, out_leg_up, up, up_by}
+use Rattle.rh_server.specs.InReplacement.{take}
+use Rattle.rh_server.specs.OutReplacement.{recycle}
+use Rattle.rh_server.specs.Ending.{give, settled, in_is_drawn, drawn_by, with_ack_dropped, lost_in, mark_by}
+use Rattle.rh_server.specs.Putting.{Pick, or_else, put_in, out_greeting_at, put_out_greeting, gate_at, counts, counts_at, was_put, waiting_by, waiting_at, put_waiting, may_go_at, went_at, pdu_by as put_pdu_by, put_pdu, is_end_due, may_end_at, put_end, put_pdu_or_end, next_out, settled_pick, put_open, put_out_at, put_by as put_by_kind}
+use Rattle.rh_server.specs.Servers.{pdu_by, first, acts}
+use Rattle.rh_server.specs.Servers.{rules as server_rules}
+use Rattle.law_role_server_rows.proofs.Refusing.Ascending.{ascends_push, ascends_removed}
+use Rattle.law_role_server_rows.proofs.Refusing.Places.{all_removed}
+use Rattle.law_role_server_rows.proofs.Refusing.Allowed.{MayKeep, allowed_keep}
+use Rattle.law_role_server_rows.proofs.Refusing.Told.{Seen}
+use Rattle.law_role_server_rows.proofs.Refusing.Steps.{PickSame, in_same, lost_same, pdu_same, give_same, take_same}
+use Rattle.law_role_server_rows.proofs.Refusing.Begun.{View, view, number_of, Bare, Begun, Holds, none_by, row_holds, same_holds, set_holds, bare_at, packet_holds}
+
+abbrev view_of : Seen → View
+view_of x = record { outs = x.outs; newest = x.newest }
+
+settled_same : (s : Server) → view (settled s) ≡ view s
+settled_same s = search rules
+
+recycle_same : (s : Server) → view (recycle s).0 ≡ view s
+recycle_same s = search rules
+
+module _ (test : Named → Bool) where
+  abbrev Fine : Server → List OnLeg → Type 0
+  Fine s came = Begun test (view s) came
+
+  settles : (s : Server) (came : List OnLeg) → Fine s came → Fine (settled s) came
+  settles s came h = same_holds test s (settled s) came (settled_same s) h
+
+  -- ---- what is put
+
+  abbrev PickFine : List OnLeg → Pick → Type 0
+  PickFine came pick = IfSome pick (λ (one : Server × Message). Fine one.0 came)
+
+  or_fine : (came : List OnLeg) (a b : Pick) → PickFine came a → PickFine came b
+      → PickFine came (or_else a b)
+  or_fine came None b p q = q
+  or_fine came (Some pick) b p q = p
+
+  module _ (s : Server) (came : List OnLeg) (h : Fine s came) where
+    greeting_fine : (place : ℕ) (o : Option OutLeg) → slice_get s.outs place ≡ o
+        → PickFine came (out_greeting_at s place o)
+    greeting_fine place None at = tt
+    greeting_fine place (Some x) at =
+        by_test (PickFine came) (is_due x.greeting) _ None
+        (λ e. set_holds test s place x (record x { greeting = greetings.Put }) came at refl
+        (bare_at test s place x came at h) h)
+        (λ e. tt)
+
+    counts_fine : (place len : ℕ) → Fine (counts s place len) came
+    counts_fine place len = by (slice_get s.outs place) refl
+      where
+        by : (o : Option OutLeg) → slice_get s.outs place ≡ o
+            → Fine (counts_at s place len o) came
+        by None at = h
+        by (Some x) at =
+            set_holds test s place x (counted x len) came at refl
+            (bare_at test s place x came at h) h
+
+    was_put_fine : (place : ℕ) (packet : Named) → Fine (was_put s place packet) came
+    was_put_fine place (named.AckTo to received available cookie) =
+        by_test (λ (t : Server). Fine t came) (to == 3) s (counts s place 56) (λ e. h)
+        (λ e. counts_fine place 56)
+    was_put_fine place named.OutR1A9 =
+        let k = counts_fine place 24 in
+        record { ascends = k.ascends; each = k.each; later = k.later }
+    was_put_fine place packet = counts_fine place (length_of packet)
+
+    end_fine : (place : ℕ) → PickFine came (put_end s place)
+    end_fine place =
+        by_test (PickFine came) (is_end_due s && may_end_at s (slice_get s.outs place)) _ None
+        (λ e.
+        let k = counts_fine place 24 in
+        record { ascends = k.ascends; each = k.each; later = k.later })
+        (λ e. tt)
+
+    pdu_fine : (place : ℕ) (len : Option ℕ) → PickFine came (put_pdu_by s place len)
+    pdu_fine place None = tt
+    pdu_fine place (Some len) =
+        by_test (PickFine came) (may_go_at s len (slice_get s.outs place)) _ None
+        (λ e.
+        let k = by (slice_get s.outs place) refl in
+        record { ascends = k.ascends; each = k.each; later = k.later }) (λ e. tt)
+      where
+        by : (o : Option OutLeg) → slice_get s.outs place ≡ o
+            → Begun test (record { outs = went_at s place len o; newest = s.newest_out }) came
+        by None at = h
+        by (Some x) at =
+            set_holds test s place x (went x len) came at refl (bare_at test s place x came at h) h
+
+  waiting_fine : (s : Server) (came : List OnLeg) (place : ℕ) (x : Waiting × Option Due)
+      → Fine s came → PickFine came (waiting_by s place x)
+  waiting_fine s came place (w, None) h = tt
+  waiting_fine s came place (w, Some due) h =
+      was_put_fine (record s { waiting = w }) came
+      (record { ascends = h.ascends; each = h.each; later = h.later }) place due.packet
+
+  gate_fine : (s : Server) (came : List OnLeg) (place : ℕ) (o : Option Gate) → Fine s came
+      → PickFine came (waiting_at s place o)
+  gate_fine s came place None h = tt
+  gate_fine s came place (Some gate) h =
+      waiting_fine s came place (taken (lets gate) s.waiting) h
+
+  settled_fine : (came : List OnLeg) (pick : Pick) → PickFine came pick
+      → PickFine came (settled_pick pick)
+  settled_fine came None h = tt
+  settled_fine came (Some pick) h = settles pick.0 came h
+
+  out_fine : (s : Server) (came : List OnLeg) (place : Option ℕ) → Fine s came
+      → PickFine came (put_out_at s place)
+  out_fine s came None h = tt
+  out_fine s came (Some place) h =
+      or_fine came (put_out_greeting s place) (put_open s place)
+      (greeting_fine s came h place (slice_get s.outs place) refl)
+      (by_test (PickFine came) (is_open s.stage) (settled_pick (next_out s place)) None
+      (λ e. settled_fine came (next_out s place)
+      (or_fine came (put_waiting s place) (put_pdu_or_end s place)
+      (gate_fine s came place (gate_at s (slice_get s.outs place)) h)
+      (or_fine came (put_pdu s place) (put_end s place)
+      (pdu_fine s came h place (front_length s.queue)) (end_fine s came h place))))
+      (λ e. tt))
+
+  put_kept : (s : Server) (n : ℕ) (k : LegKind) (came put : List OnLeg) → Fine s came
+      → PutKeeps (Holds test) (record { kind = k; number = n }) came put (put_by_kind s n k)
+  put_kept s n InServer came put h = by (put_in s n) (in_same s n)
+    where
+      by : (pick : Pick) → PickSame s pick
+          → PutKeeps (Holds test) (record { kind = InServer; number = n }) came put pick
+      by None same = tt
+      by (Some one) same = same_holds test s one.0 came (ap view_of same) h
+  put_kept s n OutServer came put h =
+      by (put_out_at s (out_place n s.outs)) (out_fine s came (out_place n s.outs) h)
+    where
+      by : (pick : Pick) → PickFine came pick
+          → PutKeeps (Holds test) (record { kind = OutServer; number = n }) came put pick
+      by None fine = tt
+      by (Some one) fine = fine
+  put_kept s n ClientIn came put h = tt
+  put_kept s n ClientOut came put h = tt
+
+  -- ---- legs come up, and are lost
+
+  up_kept : (s : Server) (leg : Leg) (cookie : Cookie) (came : List OnLeg) → Fine s came
+      → Fine (up s leg cookie) came
+  up_kept s leg cookie came h =
+      by_test (λ (t : Server). Fine t came) (may_up_by s leg.number leg.kind)
+      (up_by s leg.number leg.kind) s (λ e. by leg.kind e) (λ e. h)
+    where
+      n : ℕ
+      n = leg.number
+
+      by : (k : LegKind) → may_up_by s n k ≡ true → Fine (up_by s n k) came
+      by InServer e = record { ascends = h.ascends; each = h.each; later = h.later }
+      by OutServer e =
+          let next = same_number n (s.newest_out + 1)
+          (and_parts (n == s.newest_out + 1) (has_room s.outs) e).0 in record {
+            ascends = ascends_push number_of 0 s.newest_out (out_leg_up n) s.outs
+                (omega (arith, next)) h.ascends;
+            each = each_push (Bare test came) s.outs (out_leg_up n) h.each
+                (λ f. h.later n (omega (arith, next)));
+            later = λ i above. h.later i (omega (arith, next, above));
+          }
+      by ClientIn e = h
+      by ClientOut e = h
+
+  drawn_kept : (s : Server) (n : ℕ) (k : LegKind) (came : List OnLeg) → Fine s came
+      → Fine (drawn_by s n k) came
+  drawn_kept s n InServer came h =
+      by_test (λ (t : Server). Fine t came) (in_is_drawn (in_leg n s.ins))
+      (settled (without_in s n)) s
+      (λ e. settles (without_in s n) came
+      (record { ascends = h.ascends; each = h.each; later = h.later })) (λ e. h)
+  drawn_kept s n OutServer came h = h
+  drawn_kept s n ClientIn came h = h
+  drawn_kept s n ClientOut came h = h
+
+  gone_kept : (s : Server) (place : Option ℕ) (came : List OnLeg) → Fine s came
+      → Fine (record s { outs = removed_at s.outs place }) came
+  gone_kept s None came h = record { ascends = h.ascends; each = h.each; later = h.later }
+  gone_kept s (Some place) came h = record {
+    ascends = ascends_removed number_of 0 s.newest_out s.outs place h.ascends;
+    each = all_removed (Bare test came) s.outs place h.each;
+    later = h.later;
+  }
+
+  mark_kept : (s : Server) (n : ℕ) (k : LegKind) (came : List OnLeg) → Fine s came
+      → Fine (mark_by s n k) came
+  mark_kept s n InServer came h =
+      settles (lost_in s n (in_leg n s.ins)) came
+      (same_holds test s (lost_in s n (in_leg n s.ins)) came
+      (ap view_of (lost_same s n (in_leg n s.ins))) h)
+  mark_kept s n OutServer came h =
+      let t : Server = with_ack_dropped s n in
+      settles (without_out t n) came
+      (gone_kept t (out_place n t.outs) came
+      (record { ascends = h.ascends; each = h.each; later = h.later }))
+  mark_kept s n ClientIn came h = h
+  mark_kept s n ClientOut came h = h
+
+  -- ---- the server
+
+  module _ (acks : (received window : ℕ) (cookie : Cookie)
+      → test (named.Ack received window cookie) ≡ false)
+      (pings : (bytes : ℕ) → test (named.PingTraffic bytes) ≡ false) where
+    steps : MayKeep server_rules (Holds test)
+    steps = record {
+      up = λ s leg cookie came put h. up_kept s leg cookie came h;
+      head = λ s leg text came put h. h;
+      pdu = λ s leg count bytes came put h.
+          row_holds test (leg, Pdu bytes) came put (pdu_by s leg.number bytes leg.kind)
+          (λ n. none_by test leg (Pdu bytes) n refl)
+          (same_holds test s (pdu_by s leg.number bytes leg.kind).0 came
+          (ap view_of (pdu_same s leg.number bytes leg.kind)) h);
+      packet = λ s leg count packet came put used h.
+          packet_holds test acks pings s leg.number count packet leg.kind came put used h;
+      put = λ s leg came put h. put_kept s leg.number leg.kind came put h;
+      drawn = λ s leg came put h. drawn_kept s leg.number leg.kind came h;
+      mark = λ s leg came put only h. mark_kept s leg.number leg.kind came h;
+      ping = λ s leg came put h. h;
+    }
+
+    calls : ActsKeep acts (Holds test)
+    calls = record {
+      give = λ s bytes came put h.
+          same_holds test s (give s bytes).0 came (ap view_of (give_same s bytes)) h;
+      take = λ s came put h. same_holds test s (take s) came (ap view_of (take_same s)) h;
+      close = λ s came put h.
+          record { ascends = h.ascends; each = h.each; later = h.later };
+      recycle = λ s came put h. same_holds test s (recycle s).0 came (recycle_same s) h;
+    }
+
+    pub begun_so : (window : ℕ) (moves : List EndMove)
+        → AreAllowedAtEnd server_rules acts (end_started (first window)) moves
+        → let p = (all_end_moved server_rules acts (end_started (first window)) moves).passage in
+        Begun test (view p.role) p.came
+    begun_so window moves may =
+        allowed_keep server_rules (Holds test) steps acts calls (end_started (first window)) moves
+        may (record { ascends = omega arith; each = tt; later = λ n above. refl })

@@ -1,0 +1,2 @@
+pub mod Acknowledging
+mod Held

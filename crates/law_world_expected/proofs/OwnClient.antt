@@ -1,0 +1,121 @@
+-- whatever a change of a world is, it closes its client for nothing that was not to come on an OUT
+-- channel, where the client expects what comes there and each packet has a name
+use Rattle.std.proofs.Common.{◌≡◌, ℕ, refl, sym, subst}
+use Rattle.std.specs.Prelude.{Some}
+use Rattle.rh_text.specs.declared.ends.Dir.{Dir}
+use Rattle.rh_text.specs.declared.ends.Dir.TheVariants.{U, D}
+use Rattle.rh_sig.specs.declared.name.Pipe.TheVariants.{CoD}
+use Rattle.rh_line.specs.declared.cause.Cause.{Cause}
+use Rattle.rh_line.specs.declared.cause.Cause.TheVariants as cause
+use Rattle.rh_line.specs.declared.leg.Leg.{Leg}
+use Rattle.rh_record.specs.declared.answer.Who.TheVariants as who
+use Rattle.rh_shell.specs.declared.answers.Refused.TheVariants as refused
+use Rattle.law_moves.specs.Moves.{EndPassage, Passage}
+use Rattle.law_moves.specs.Wires.{of_leg}
+use Rattle.rh_nodes.specs.declared.event.Event.{Event}
+use Rattle.rh_nodes.specs.declared.event.Event.TheVariants.{Comes}
+use Rattle.rh_nodes.specs.Company as company
+use Rattle.rh_nodes.specs.Legs as legs
+use Rattle.rh_nodes.specs.Opening.{Makers}
+use Rattle.rh_nodes.specs.Wires.{receiver}
+use Rattle.rh_nodes.specs.World.{World, at}
+use Rattle.rh_client.specs.declared.state.ClientRole.{ClientRole}
+use Rattle.rh_client.specs.Client as client
+use Rattle.rh_client.specs.State.{co}
+use Rattle.rh_inproxy.specs.State.{InProxy}
+use Rattle.rh_outproxy.specs.OutProxy.{OutProxy}
+use Rattle.rh_server.specs.States.{Server}
+use Rattle.law_node_causes.specs.Closings.{ClosesWith}
+use Rattle.law_node_causes.specs.Reasons.{ComesAmiss}
+use Rattle.law_node_history.specs.Carried.{end_node, events_of, happened, heard_on}
+use Rattle.law_node_history.specs.Changes.{Change, IsFed, MayChange, changed}
+use Rattle.law_node_history.specs.Closes.{ClosesNode}
+use Rattle.law_node_history.specs.Histories.{noted}
+use Rattle.law_moves.specs.ReadBack.Reading.{all_read_of}
+use Rattle.law_moves.specs.ReadBack.Well.{ReadsWell, is_named}
+use Rattle.law_node_traces.specs.Traced.Cookies.{ByChanges}
+use Rattle.law_node_traces.specs.Traced.Ours.{AreOurs, deeds, rules}
+use Rattle.law_node_traces.specs.Traced.Recordings.{history_at}
+use Rattle.law_world_honest.proofs.Honesty.Closing.{by_fed}
+use Rattle.law_world_honest.proofs.Honesty.Fed.{told_what, told_who}
+use Rattle.law_world_windows.proofs.Moment.{Laws, known}
+use Rattle.law_world_windows.proofs.Stopping.{Readings}
+use Rattle.law_world_order.proofs.Legs.{Reads}
+use Rattle.law_world_order.specs.Premises.{AreDistinct}
+use Rattle.law_peers_moments.specs.Expecting.{Expects}
+use Rattle.law_peers_moments.specs.Moments.{Moves, client_behind}
+use Rattle.law_world_expected.proofs.Amiss.AtNodes.{ClientKnows, RolesKnow, client_next}
+use Rattle.law_world_expected.proofs.Amiss.Moments.{AllFlow, flowing}
+use Rattle.law_world_expected.proofs.Amiss.Next.{never_amiss}
+use Rattle.law_world_order.specs.Pasts.{moves_of, numbers}
+use Rattle.law_world_expected.specs.Roles.{ClientExpects, OfClient}
+use Rattle.law_world_expected.proofs.Closing.{AtMoment, NodesLaws}
+use Rattle.law_world_expected.proofs.Facts.{came_before, distinct_of_cookies}
+
+module _ {K : Type 0} (roles : RolesKnow) (client_roles : ClientKnows) (nodes : NodesLaws)
+    (reads : Reads) (readings : Readings) (m : Makers K InProxy OutProxy)
+    (w : World K ClientRole Server InProxy OutProxy) (ours : AreOurs m w.company w.cast)
+    (law : Laws m w ours)
+    (flow : AllFlow m w ours (AtMoment (OfClient AreDistinct) (ClientExpects (numbers ours)) ours))
+    (v : World K ClientRole Server InProxy OutProxy) (by : ByChanges rules m deeds w v)
+    (named : (change : Change) → MayChange rules v change → (n : ℕ)
+    → ReadsWell is_named (Some CoD) (heard_on (co n)
+    (events_of (noted v (history_at m w v by.leads) change)
+    (end_node (changed rules m deeds v change).readers (co n) (receiver D)))))
+    (distinct : AreDistinct (happened (history_at m w v by.leads).client)) (n place : ℕ) where
+  abbrev why : Cause
+  why = cause.Unexpected (co n) place
+
+  abbrev May : Leg → Dir → Type 0
+  May leg dir = MayChange rules v (IsFed leg dir 0)
+
+  abbrev event : Leg → Dir → ℕ → Event
+  event leg dir count = Comes leg (legs.take_out leg dir count v.legs).1
+
+  abbrev ClientAt : Leg → Type 0
+  ClientAt leg =
+      (dir : Dir) (count : ℕ) → May leg dir → at v leg (receiver dir) ≡ who.Client
+      → ClosesWith client.rules v.company.client (event leg dir count) why → ⊥
+
+  client_at : ClientAt (co n)
+  client_at U count may here closes = absurd cc
+  client_at D count may here closes =
+      let next = client_next roles reads readings m w v ours law
+      (AtMoment (OfClient AreDistinct) (ClientExpects (numbers ours)) ours) flow by (co n) D
+      (λ j. may) refused.Unexpected is_named (λ e. refl) (λ k. named (IsFed (co n) D k) may n)
+      why refl count who.Client here client_roles nodes.client refl closes in
+      let then_flowing = flowing reads readings m w v ours law
+      (AtMoment (OfClient AreDistinct) (ClientExpects (numbers ours)) ours) flow by (co n) D
+      (λ j. may) next.0 in
+      let f = then_flowing.flows.flows in
+      let moves : Moves = moves_of then_flowing.flows in
+      let now = then_flowing.holds
+      (distinct_of_cookies (happened (history_at m w v by.leads).client) _
+      (came_before w.company.client v (history_at m w v by.leads) (co n) D next.0
+      (known m w v ours law by (co n) D (λ k. may)).traced.runs.client) distinct) in
+      let put = of_leg (co n) (f.outs n).passage.put in
+      never_amiss client.rules f.client.passage.passage (co n) (Some CoD) put
+      refused.Unexpected tt
+      (subst (λ (p : EndPassage ClientRole).
+      Expects client.rules p.passage (co n) (all_read_of put)) f.client.leads.reached
+      (subst (λ (p : Passage OutProxy).
+      Expects client.rules (client_behind (numbers ours) moves).passage (co n)
+      (all_read_of (of_leg (co n) p.put))) (f.outs n).leads.reached (now.next n)))
+      (λ upward. absurd cc) next.1
+
+  -- a piece on the one leg that the cause names
+  fed : (leg : Leg) (dir : Dir) (count : ℕ) → MayChange rules v (IsFed leg dir count)
+      → ClosesNode rules v (IsFed leg dir count) who.Client why → ⊥
+  fed leg dir count may is =
+      let closes = subst (λ (e : Event).
+      (company.tell rules v.company who.Client e).1 ≡ Some why) (sym (told_what _ _ _ _ is.told))
+      is.closes in
+      let comes : ComesAmiss client.rules v.company.client leg
+      (legs.take_out leg dir count v.legs).1 why =
+      nodes.client_amiss v.company.client (event leg dir count) why closes in
+      subst ClientAt comes.cause client_at dir count may (told_who _ _ _ _ is.told) closes
+
+  pub no_client_amiss : (change : Change) → MayChange rules v change
+      → ClosesNode rules v change who.Client why → ⊥
+  no_client_amiss change may is =
+      by_fed v who.Client why ⊥ fed nodes.comes change may is (λ S its shell comes. comes)

@@ -1,0 +1,13 @@
+-- rows that find no leg full
+use Rattle.std.proofs.Common.{Bool, true, false, if◌then◌else◌}
+use Rattle.rh_shell.specs.Rules.{Row}
+use Rattle.law_world_expected.specs.Roomy.{FindsRoom}
+
+-- what a row answers
+pub record RowFits {S : Type 0} (done : S × Row) : Type 0 where
+  pub is : FindsRoom done.1
+
+pub either : {S : Type 0} (b : Bool) (x y : S × Row) → RowFits x → RowFits y
+    → RowFits (if b then x else y)
+either true x y a b = a
+either false x y a b = b

@@ -1,0 +1,28 @@
+use Rattle.rh_nodes.specs.Readers.{reader_of}
+use Rattle.rh_client.specs.State.{co}
+use Rattle.rh_server.specs.States.{no_cookie}
+use Rattle.law_world_order.specs.Pasts.{moves_of, numbers}
+use Rattle.law_world_expected.specs.Roles.{HaveCookies, OfClient, OutExpectsServer, WorldsExpect}
+use Rattle.law_world_expected.proofs.roles.no_out_proxy_refuses_its_server.Goals as goal
+
+pub returns : goal.returns
+returns g c = record {
+  unexpected = c.no_node_refuses_what_it_expects.ensures.out_server_unexpected worlds;
+  cookie = c.no_node_refuses_what_it_expects.ensures.out_server_cookie worlds;
+}
+  where
+    worlds : WorldsExpect g.row.K.Denot (OfClient HaveCookies) OutExpectsServer
+    worlds m w new ours ranges v by =
+        let here = c.a_world_of_roles_is_at_a_moment.ensures m w new ours ranges v by in
+        record {
+          flowing = here.flowing;
+          expects = λ have. record {
+            next = c.an_out_proxy_expects_its_server.ensures (numbers ours) (reader_of v.readers)
+                (moves_of here.flowing) (here.moment have.distinct) (record {
+                  window = ranges.client.window;
+                  lifetimes = λ n. (ranges.outs n).lifetime;
+                  cookies = λ n rose.
+                      have.some n (here.flowing.flows.client.raised (co n) no_cookie rose);
+                });
+          };
+        }

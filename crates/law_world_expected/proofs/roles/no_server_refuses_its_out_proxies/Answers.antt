@@ -1,0 +1,26 @@
+use Rattle.rh_nodes.specs.Readers.{reader_of}
+use Rattle.law_world_order.specs.Pasts.{moves_of, numbers}
+use Rattle.law_world_order.specs.Premises.{AreDistinct}
+use Rattle.law_world_expected.specs.Roles.{OfClient, ServerExpectsOut, WorldsExpect}
+use Rattle.law_world_expected.proofs.roles.no_server_refuses_its_out_proxies.Goals as goal
+
+pub returns : goal.returns
+returns g c = record {
+  unexpected = c.no_node_refuses_what_it_expects.ensures.server_out_unexpected worlds;
+  cookie = c.no_node_refuses_what_it_expects.ensures.server_out_cookie worlds;
+}
+  where
+    worlds : WorldsExpect g.row.K.Denot (OfClient AreDistinct) ServerExpectsOut
+    worlds m w new ours ranges v by =
+        let here = c.a_world_of_roles_is_at_a_moment.ensures m w new ours ranges v by in
+        record {
+          flowing = here.flowing;
+          expects = λ distinct.
+              let now = here.moment distinct in
+              let moves = moves_of here.flowing in record {
+                next = c.a_server_expects_its_out_proxies.ensures (numbers ours)
+                    (reader_of v.readers) moves now;
+                first = c.no_ping_goes_first_to_a_server.ensures.outs (numbers ours) moves
+                    now.now.made;
+              };
+        }

@@ -1,0 +1,4 @@
+pub mod Roles
+pub mod PdusInWorlds
+pub mod Amiss
+pub mod Roomy

@@ -1,0 +1,99 @@
+//! What comes at the client of a world of roles. These functions do nothing: their contracts are
+//! the laws.
+
+ghost use Rattle.std.specs.Prelude.{ℕ};
+ghost use Rattle.rh_rts.specs.declared.command.Cookie.{Cookie};
+ghost use Rattle.rh_line.specs.declared.cause.Cause.TheVariants.{CookieMismatch, Unexpected};
+ghost use Rattle.rh_line.specs.declared.leg.Leg.{Leg};
+ghost use Rattle.rh_record.specs.declared.answer.Who.TheVariants.{Client as AtClient};
+ghost use Rattle.rh_nodes.specs.Opening.{Makers};
+ghost use Rattle.rh_nodes.specs.World.{World};
+ghost use Rattle.rh_client.specs.declared.state.ClientRole.{ClientRole};
+ghost use Rattle.rh_client.specs.State.{co};
+ghost use Rattle.rh_inproxy.specs.State.{InProxy};
+ghost use Rattle.rh_outproxy.specs.OutProxy.{OutProxy};
+ghost use Rattle.rh_server.specs.States.{Server};
+ghost use Rattle.law_node_history.specs.Carried.{happened};
+ghost use Rattle.law_node_history.specs.Changes.{Change, MayChange};
+ghost use Rattle.law_node_history.specs.Closes.{ClosesNode};
+ghost use Rattle.law_node_history.specs.Histories.{IsNew};
+ghost use Rattle.law_node_traces.specs.Traced.Cookies.{ByChanges};
+ghost use Rattle.law_node_traces.specs.Traced.Ours.{AreOurs, deeds, rules};
+ghost use Rattle.law_node_traces.specs.Traced.Recordings.{history_at};
+ghost use Rattle.law_world_order.specs.Flows.{numbers_of};
+ghost use Rattle.law_world_order.specs.Premises.{AreDistinct, AreInRange};
+ghost use Rattle.law_world_order.specs.FirstTexts.{IsPort};
+
+use crate::expecting::no_node_refuses_what_it_expects;
+use law_moves::{
+    a_piece_reads_well, all_that_was_put_is_read, cuts_change_nothing, first_cause_is_kept,
+    what_is_read_is_fine, what_was_put_is_read,
+};
+use law_node_causes::{a_node_closes_once, causes_come_from_their_events};
+use law_node_history::what_is_heard_was_drawn;
+use law_node_traces::{a_recording_of_roles_is_known, what_is_heard_was_drawn_before};
+use law_peers_expects::a_client_expects_what_comes;
+use law_role_client_rows::what_a_client_refuses;
+use law_world_honest::what_is_heard_reads_well;
+use law_world_order::{a_world_of_roles_is_at_a_moment, what_is_put_is_legible};
+use rh_client::ClientRole;
+use rh_inproxy::InProxyRole;
+use rh_outproxy::OutProxyRole;
+use rh_server::ServerRole;
+
+/// In each world of new roles whose numbers are in their ranges, at every moment that changes of
+/// lines and half steps reach: no further change closes the client with `CookieMismatch`, on any
+/// leg. No row of its role refuses a packet or an RPC PDU for its cookie (MS-RPCH 2.2.4).
+pub fn a_client_refuses_no_cookie<K>()
+    ensures { (m : Makers K InProxy OutProxy)
+        (w : World K ClientRole Server InProxy OutProxy) → IsNew w
+        → (ours : AreOurs m w.company w.cast) → AreInRange (numbers_of ours)
+        → (v : World K ClientRole Server InProxy OutProxy) (by : ByChanges rules m deeds w v)
+        → (change : Change) → MayChange rules v change → (leg : Leg) (expected got : Cookie)
+        → ClosesNode rules v change AtClient (CookieMismatch leg expected got) → ⊥ }
+{
+    what_a_client_refuses();
+    what_is_put_is_legible::<K>();
+    a_recording_of_roles_is_known::<K>();
+    what_is_heard_reads_well::<K>();
+    what_is_heard_was_drawn_before::<K, ClientRole, ServerRole, InProxyRole, OutProxyRole>();
+    what_is_heard_was_drawn::<K, ClientRole, ServerRole, InProxyRole, OutProxyRole>();
+    what_was_put_is_read();
+    all_that_was_put_is_read();
+    what_is_read_is_fine();
+    a_piece_reads_well();
+    cuts_change_nothing::<ClientRole>();
+    first_cause_is_kept::<ClientRole>();
+    a_node_closes_once::<ClientRole>();
+    causes_come_from_their_events::<ClientRole>();
+    causes_come_from_their_events::<ServerRole>();
+    causes_come_from_their_events::<InProxyRole>();
+    causes_come_from_their_events::<OutProxyRole>();
+}
+
+/// And where the port of its server is one, and no two legs of the client of one kind came up under
+/// one cookie by that moment: none closes it with `Unexpected` for what an out proxy put (MS-RPCH
+/// 3.2.2.5; successors are this profile's).
+pub fn no_client_refuses_what_comes<K>()
+    ensures unexpected { (m : Makers K InProxy OutProxy)
+        (w : World K ClientRole Server InProxy OutProxy) → IsNew w
+        → (ours : AreOurs m w.company w.cast) → AreInRange (numbers_of ours)
+        → IsPort ours.config.port
+        → (v : World K ClientRole Server InProxy OutProxy) (by : ByChanges rules m deeds w v)
+        → AreDistinct (happened (history_at m w v by.leads).client)
+        → (change : Change) → MayChange rules v change → (n place : ℕ)
+        → ClosesNode rules v change AtClient (Unexpected (co n) place) → ⊥ }
+    ensures cookie { (m : Makers K InProxy OutProxy)
+        (w : World K ClientRole Server InProxy OutProxy) → IsNew w
+        → (ours : AreOurs m w.company w.cast) → AreInRange (numbers_of ours)
+        → IsPort ours.config.port
+        → (v : World K ClientRole Server InProxy OutProxy) (by : ByChanges rules m deeds w v)
+        → AreDistinct (happened (history_at m w v by.leads).client)
+        → (change : Change) → MayChange rules v change → (n : ℕ) (expected got : Cookie)
+        → ClosesNode rules v change AtClient (CookieMismatch (co n) expected got) → ⊥ }
+{
+    a_client_refuses_no_cookie::<K>();
+    no_node_refuses_what_it_expects::<K>();
+    a_client_expects_what_comes();
+    a_world_of_roles_is_at_a_moment::<K>();
+}

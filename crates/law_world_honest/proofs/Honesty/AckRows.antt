@@ -1,0 +1,38 @@
+-- rows that refuse a value out of range in an acknowledgement alone
+use Rattle.std.proofs.Common.{◌≡◌, ℕ, Bool, true, false, if◌then◌else◌, refl}
+use Rattle.std.specs.Prelude.{Ok, Err, nat_lt}
+use Rattle.std.specs.declared.result.Result.{Result}
+use Rattle.rh_window.specs.declared.fault.BadAck.{BadAck}
+use Rattle.rh_window.specs.declared.fault.TheConstants.{FLOW_CONTROL_ACK}
+use Rattle.rh_window.specs.declared.range.TheConstants.{GREATEST_WINDOW}
+use Rattle.rh_window.specs.Sides.{Sender}
+use Rattle.rh_window.specs.Sending.{ack_verdict, bad_ack}
+use Rattle.rh_shell.specs.Rules.{Row}
+use Rattle.law_world_honest.specs.Honesty.Rows.{IsOfAck}
+
+-- what a row answers
+pub record RowFits {S : Type 0} (done : S × Row) : Type 0 where
+  pub is : IsOfAck done.1
+
+pub either : {S : Type 0} (b : Bool) (x y : S × Row) → RowFits x → RowFits y
+    → RowFits (if b then x else y)
+either true x y a b = a
+either false x y a b = b
+
+-- ---- acknowledgements
+
+abbrev pub IsBadAck : Result (Unit {0}) BadAck → Type 0
+IsBadAck (Ok acked) = Unit {0}
+IsBadAck (Err bad) = bad.command ≡ FLOW_CONTROL_ACK
+
+pub verdict_is : (s : Sender) (received available : ℕ) → IsBadAck (ack_verdict s received available)
+verdict_is s received available = by (nat_lt s.sent received)
+  where
+    window : (t : Bool) → IsBadAck (if t then Err (bad_ack available) else Ok tt)
+    window true = refl
+    window false = tt
+
+    by : (t : Bool) → IsBadAck (if t then Err (bad_ack received)
+        else (if nat_lt GREATEST_WINDOW available then Err (bad_ack available) else Ok tt))
+    by true = refl
+    by false = window (nat_lt GREATEST_WINDOW available)

@@ -1,0 +1,11 @@
+pub mod Heard
+pub mod ClosedClients
+pub mod Drawn
+pub mod Refusals
+mod Unreached
+mod Unavailables
+mod Fronts
+pub mod Lost
+pub mod Moments
+pub mod Losses
+pub mod Reporting

@@ -1,0 +1,4 @@
+pub mod OwnHeads
+pub mod Named
+pub mod Framed
+pub mod Expecting

@@ -1,0 +1,142 @@
+-- proxies take the requests of a client whose numbers are in their ranges, and no such request is
+-- one for an echo
+use Rattle.std.proofs.Common.{◌≡◌, inl, inr, ℕ, ◌≤◌, List, [], ◌∷◌, true, false, nat_le, Ok, Err, arith, refl, sym, ap, ◌∙◌}
+use Rattle.std.specs.Prelude.{IsTrue}
+use Rattle.std.specs.List.{AllByRecursion}
+use Rattle.std.specs.declared.result.Result.{Result}
+use Rattle.std.proofs.lemmas.Bool.Decides.{nat_tests}
+use Rattle.rh_http.specs.declared.config.ClientConfig.{ClientConfig}
+use Rattle.rh_http.specs.declared.fault.HttpFault.{HttpFault}
+use Rattle.rh_http.specs.Lengths.{greatest_echo, may_ask}
+use Rattle.rh_http.specs.Heads.Verdicts.{Asked, request_verdict}
+use Rattle.rh_http.specs.Requests.{host_text}
+use Rattle.rh_line.specs.declared.leg.Leg.{Leg}
+use Rattle.rh_line.specs.declared.leg.LegKind.TheVariants.{ClientIn, ClientOut}
+use Rattle.law_order.proofs.ByNumber.{by_test}
+use Rattle.rh_shell.specs.declared.answers.HeadRefused.{HeadRefused}
+use Rattle.rh_shell.specs.declared.answers.HeadRefused.TheVariants as head
+use Rattle.rh_shell.specs.declared.answers.HeadTaken.{HeadTaken}
+use Rattle.law_moves.specs.Moves.{Move, Up, HeadCame, PduCame, PacketCame, Puts, IsDrawn, Marks, Pings}
+use Rattle.rh_nodes.specs.Cookies.{cookie_of}
+use Rattle.rh_world.specs.declared.config.WorldConfig.{WorldConfig}
+use Rattle.rh_world.specs.Roles as roles
+use Rattle.law_role_client.specs.Legible.{IsConfig}
+use Rattle.rh_inproxy.specs.declared.opening.TheConstants.{ECHO_LENGTH}
+use Rattle.rh_inproxy.specs.Machine as in_proxy
+use Rattle.rh_inproxy.specs.Opening as in_opening
+use Rattle.rh_inproxy.specs.State.{InProxy}
+use Rattle.rh_outproxy.specs.Machine as out_proxy
+use Rattle.rh_outproxy.specs.Opening as out_opening
+use Rattle.rh_outproxy.specs.OutProxy.{OutProxy}
+use Rattle.law_node_streams.specs.Streams.{IsFirstHead, IsHeadOf}
+use Rattle.law_node_begins.specs.EndsBegin.{IsRequestOf}
+use Rattle.law_node_begins.specs.ProxiesBegin.Echoes.{AsksNoEcho}
+use Rattle.law_world_order.specs.FirstTexts.{IsPort}
+use Rattle.law_world_order.proofs.FirstTexts.Requests.{request_asks}
+
+-- the server of a recording has a port
+pub recorded_port : (config : WorldConfig)
+    → IsPort (roles.client_config config (cookie_of 1) (cookie_of 2)).port
+recorded_port config = record { least = omega arith; most = omega arith }
+
+abbrev pub asked_for : ClientConfig → ℕ → Asked
+asked_for config n = record { host = host_text config.host; port = config.port; length = n }
+
+-- ---- OUT channels
+
+out_takes : (s : OutProxy) (request : Asked) (fault : HttpFault)
+    → (out_opening.asked s request).1 ≡ Err (head.Request fault) → ⊥
+out_takes s request fault =
+    by_test (λ (x : OutProxy × Result HeadTaken HeadRefused).
+    x.1 ≡ Err (head.Request fault) → ⊥) (nat_le request.length greatest_echo) _ _
+    (λ t e. absurd cc) (λ t e. absurd cc)
+
+out_judged : (s : OutProxy) (verdict : Result Asked HttpFault) (request : Asked)
+    (fault : HttpFault) → verdict ≡ Ok request
+    → (out_opening.head_by s verdict).1 ≡ Err (head.Request fault) → ⊥
+out_judged s (Ok other) request fault is = out_takes s other fault
+out_judged s (Err wrong) request fault is = absurd cc
+
+pub out_asks : (config : ClientConfig) (text : List ℕ) → IsPort config.port
+    → IsRequestOf config ClientOut text
+    → (request : Asked) × (request_verdict false text ≡ Ok request)
+out_asks config text port (inl is) = (
+  asked_for config 76,
+  ap (request_verdict false) is ∙ request_asks false config 76 port refl,
+)
+out_asks config text port (inr is) = (
+  asked_for config 120,
+  ap (request_verdict false) is ∙ request_asks false config 120 port refl,
+)
+
+pub out_taken : (config : ClientConfig) (s : OutProxy) (leg : Leg) (text : List ℕ)
+    (fault : HttpFault) → IsPort config.port → IsRequestOf config ClientOut text
+    → (out_proxy.rules.head s leg text).1 ≡ Err (head.Request fault) → ⊥
+out_taken config s leg text fault port is =
+    let asks = out_asks config text port is in
+    out_judged s (request_verdict false text) asks.0 fault asks.1
+
+-- ---- IN channels
+
+in_takes : (s : InProxy) (number : ℕ) (request : Asked) (fault : HttpFault)
+    → (in_opening.head_by s number (Ok request)).1 ≡ Err (head.Request fault) → ⊥
+in_takes s number request fault =
+    by_test (λ (x : InProxy × Result HeadTaken HeadRefused).
+    x.1 ≡ Err (head.Request fault) → ⊥) (nat_le request.length ECHO_LENGTH) _ _
+    (λ t e. absurd cc) (λ t e. absurd cc)
+
+in_judged : (s : InProxy) (number : ℕ) (verdict : Result Asked HttpFault) (request : Asked)
+    (fault : HttpFault) → verdict ≡ Ok request
+    → (in_opening.head_by s number verdict).1 ≡ Err (head.Request fault) → ⊥
+in_judged s number (Ok other) request fault is = in_takes s number other fault
+in_judged s number (Err wrong) request fault is = absurd cc
+
+may_open : (n : ℕ) → 131072 ≤ n → n ≤ 2147483648 → IsTrue (may_ask true n)
+may_open n least most = grind (arith, nat_tests)
+
+pub in_asks : (config : ClientConfig) (text : List ℕ) → IsConfig config → IsPort config.port
+    → IsRequestOf config ClientIn text
+    → request_verdict true text ≡ Ok (asked_for config config.lifetime)
+in_asks config text range port is =
+    ap (request_verdict true) is
+    ∙ request_asks true config config.lifetime port
+    (may_open config.lifetime range.lifetime.0 range.lifetime.1)
+
+pub in_taken : (config : ClientConfig) (s : InProxy) (leg : Leg) (text : List ℕ)
+    (fault : HttpFault) → IsConfig config → IsPort config.port
+    → IsRequestOf config ClientIn text
+    → (in_proxy.rules.head s leg text).1 ≡ Err (head.Request fault) → ⊥
+in_taken config s leg text fault range port is =
+    in_judged s leg.number (request_verdict true text) (asked_for config config.lifetime) fault
+    (in_asks config text range port is)
+
+no_echo : (n : ℕ) → 131072 ≤ n → nat_le n ECHO_LENGTH ≡ false
+no_echo n least = grind (arith, nat_tests)
+
+-- where each head is the request
+pub none_echoes : (config : ClientConfig) (leg : Leg) (heard : List ℕ) (moves : List Move)
+    → IsConfig config → IsPort config.port
+    → ((text : List ℕ) → IsFirstHead text heard → IsRequestOf config ClientIn text)
+    → AllByRecursion (IsHeadOf leg heard) moves → AllByRecursion (AsksNoEcho leg) moves
+none_echoes config leg heard [] range port honest all = tt
+none_echoes config leg heard (move ∷ moves) range port honest all =
+    (one move all.0, none_echoes config leg heard moves range port honest all.1)
+  where
+    long : (request : Asked) → request ≡ asked_for config config.lifetime
+        → nat_le request.length ECHO_LENGTH ≡ false
+    long request is =
+        ap (λ (x : Asked). nat_le x.length ECHO_LENGTH) is
+        ∙ no_echo config.lifetime range.lifetime.0
+
+    one : (m : Move) → IsHeadOf leg heard m → AsksNoEcho leg m
+    one (HeadCame other text) h = λ same request read.
+        let both : Ok request ≡ Ok (asked_for config config.lifetime) =
+        sym read ∙ in_asks config text range port (honest text (h same)) in
+        long request cc
+    one (Up other cookie) h = tt
+    one (PduCame other count pdu) h = tt
+    one (PacketCame other count named) h = tt
+    one (Puts other) h = tt
+    one (IsDrawn other) h = tt
+    one (Marks other) h = tt
+    one (Pings other) h = tt

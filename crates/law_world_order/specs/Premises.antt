@@ -1,0 +1,40 @@
+-- what laws ask of a world of roles: numbers with which those may be made, and cookies
+use Rattle.std.specs.Prelude.{◌≡◌, ℕ, suc, List}
+use Rattle.rh_rts.specs.declared.command.Cookie.{Cookie}
+use Rattle.rh_line.specs.declared.leg.LegKind.{LegKind}
+use Rattle.rh_window.specs.Sides.{IsWindow}
+use Rattle.law_moves.specs.Moving.{Event}
+use Rattle.law_moves.specs.Passages.Rising.{CameUpWith}
+use Rattle.rh_nodes.specs.Settling.{leg_at}
+use Rattle.law_node_history.specs.Drawn.{AreLeft}
+use Rattle.rh_world.specs.declared.any_world.AnyWorld.{AnyWorld}
+use Rattle.rh_world.specs.declared.any_world.AnyWorld.TheVariants.{Before, Direct, Settings, Roles}
+use Rattle.law_role_client.specs.Legible as client_legible
+use Rattle.law_role_inproxy.specs.Legible as in_legible
+use Rattle.rh_inproxy.specs.State as in_state
+use Rattle.law_role_outproxy.specs.Legible as out_legible
+use Rattle.law_world_order.specs.Flows.{Numbers}
+
+-- each is in its range, and has its size
+pub record AreInRange (numbers : Numbers) : Type 0 where
+  pub client : client_legible.IsConfig numbers.client
+  pub cookies : client_legible.HasCookies numbers.client
+  pub window : IsWindow numbers.window
+  -- in proxies are numbered from 1
+  pub ins : (n : ℕ) → in_state.IsConfig (numbers.ins (suc n))
+  pub sizes : (n : ℕ) → in_legible.HasSizes (numbers.ins n)
+  pub outs : (n : ℕ) → out_legible.IsConfig (numbers.outs n)
+
+-- no two legs of one kind came up under one cookie (MS-RPCH 2.2.3.1)
+abbrev pub AreDistinct : List Event → Type 0
+AreDistinct events =
+    (kind : LegKind) (l n : ℕ) (cookie : Cookie) → CameUpWith events (leg_at kind l) cookie
+    → CameUpWith events (leg_at kind n) cookie → l ≡ n
+
+-- a world of roles has cookies left for the channels of its client until their count comes to
+-- 2^64 - 1, the end of its type (MS-RPCH 2.2.3.1; profile)
+abbrev pub AreLeftIn : AnyWorld → Type 0
+AreLeftIn Before = Unit {0}
+AreLeftIn (Direct world) = Unit {0}
+AreLeftIn (Settings config) = Unit {0}
+AreLeftIn (Roles world) = AreLeft world.cookies

@@ -1,0 +1,5 @@
+pub mod Telling
+pub mod Bounded
+pub mod Closed
+mod Naming
+pub mod Ordering

@@ -1,0 +1,5 @@
+mod Naming
+mod Speaking
+pub mod Standing
+pub mod Telling
+pub mod Recorded

@@ -1,0 +1,6 @@
+mod MarksPut
+pub mod EndsInTime
+mod LiveIntakes
+pub mod OnPaths
+pub mod ExactWays
+mod ExactPaths

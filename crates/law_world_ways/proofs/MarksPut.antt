@@ -1,0 +1,5 @@
+pub mod ClientMarks
+mod ServerMarksRows
+mod ServerMarksLegs
+mod ServerMarksEnds
+pub mod ServerMarks

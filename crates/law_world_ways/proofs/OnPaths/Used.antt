@@ -1,0 +1,93 @@
+-- a leg that is in use at both its ends
+use Rattle.std.proofs.Common.{◌≡◌, ap, ℕ, Bool, true, false, List, ◌++◌, Some, None, refl}
+use Rattle.std.specs.Prelude.{◌&&◌, ◌||◌, not}
+use Rattle.std.specs.declared.option.Option.{Option}
+use Rattle.rh_sig.specs.declared.name.Pipe.{Pipe}
+use Rattle.rh_line.specs.declared.leg.Leg.{Leg}
+use Rattle.rh_shell.specs.declared.course.Course.{Course}
+use Rattle.rh_shell.specs.declared.course.Course.TheVariants.{Going, Closed, Refusing}
+use Rattle.rh_text.specs.declared.ends.Dir.{Dir}
+use Rattle.law_order.specs.Items.{Item}
+use Rattle.law_order.specs.Paths.{stops_at}
+use Rattle.rh_shell.specs.NearEnds.{NearEnd, is_empty, is_over}
+use Rattle.rh_shell.specs.Rules.{Message, Rules}
+use Rattle.rh_shell.specs.Shells.{Shell, end_at, is_going}
+use Rattle.law_moves.specs.ReadBack.Reading.{Reading, messages_from, reading}
+use Rattle.rh_nodes.specs.Wires.{in_flight, is_up, receiver, sender}
+use Rattle.rh_nodes.specs.World.{World}
+use Rattle.law_node_history.specs.Carried.{wire_at}
+use Rattle.law_node_history.specs.Histories.{History}
+use Rattle.law_node_streams.specs.Streams.{is_live}
+use Rattle.law_world_ways.specs.OnPaths.Legs.{IsInUse, has_passed, is_cut, on_leg, was_told, was_up}
+use Rattle.law_world_ways.specs.OnPaths.OnWay.{is_lost, left_on, on_way, read_by, read_on}
+
+pub both_up : (a b x y z : Bool) → x ≡ true → y ≡ true
+    → (a && not x) || ((b && not y) && z) ≡ false
+both_up true true true true z e f = refl
+both_up true false true true z e f = refl
+both_up false true true true z e f = refl
+both_up false false true true z e f = refl
+both_up a b false y z e f = absurd (cc)
+both_up a b true false z e f = absurd (cc)
+
+pub left_told : {S : Type 0} (s : Shell S) (leg : Leg) (up lost : Bool) (end : NearEnd)
+    → s.course ≡ Going → end_at s leg ≡ Some end → left_on s leg up lost ≡ Some end.begun
+left_told s leg up lost end going at = rw (going, at) refl
+
+pub read_told : {S : Type 0} (rules : Rules S) (s : Shell S) (pipe : Option Pipe) (leg : Leg)
+    (up : Bool) (end : NearEnd) → s.course ≡ Going → end_at s leg ≡ Some end
+    → is_over rules end s.role ≡ false → is_live end.intake.stage ≡ true
+    → read_on rules s pipe leg up ≡ Some (reading end.intake.stage end.intake.held)
+read_told rules s pipe leg up end going at over live = rw (going, at, over, live) refl
+
+pub way_told : (pipe : Option Pipe) (cut : Bool) (read : Option Reading) (flight : List ℕ)
+    (left : Option (List ℕ)) (r : Reading) (begun : List ℕ) → cut ≡ false → read ≡ Some r
+    → left ≡ Some begun
+    → on_way pipe cut read flight left ≡ Some (messages_from pipe r (flight ++ begun))
+way_told pipe cut read flight left r begun c d e = rw (c, d, e) refl
+
+-- nothing is told where the end that takes closed
+pub closed_read : {S : Type 0} (rules : Rules S) (role : S) (pipe : Option Pipe) (up : Bool)
+    (end : Option NearEnd) (c : Course) → is_going c ≡ false
+    → read_by rules role pipe up end c ≡ None
+closed_read rules role pipe up end Going e = absurd (cc)
+closed_read rules role pipe up end (Closed why) e = refl
+closed_read rules role pipe up end (Refusing why leg rest) e = refl
+
+pub unread_way : (pipe : Option Pipe) (cut : Bool) (read : Option Reading) (flight : List ℕ)
+    (left : Option (List ℕ)) → read ≡ None → on_way pipe cut read flight left ≡ None
+unread_way pipe true read flight left e = refl
+unread_way pipe false None flight left e = refl
+unread_way pipe false (Some r) flight left e = absurd (cc)
+
+-- ---- and so its messages are told
+
+module _ {K C S I O P T : Type 0} (v : World K C S I O) (h : History) (leg : Leg) (dir : Dir)
+    (pipe : Option Pipe) (puts : Shell P) (rules : Rules T) (takes : Shell T)
+    (used : IsInUse v leg dir puts rules takes) where
+  pub used_leg : on_leg v h leg dir pipe puts rules takes
+      ≡ Some (messages_from pipe (reading used.far.intake.stage used.far.intake.held)
+      (in_flight dir (wire_at v.legs leg) ++ used.near.begun))
+  used_leg =
+      let wire = wire_at v.legs leg in
+      let put_up = was_up v h leg (sender dir) in
+      let put_lost = was_told v h leg (sender dir) in
+      let take_up = was_up v h leg (receiver dir) in
+      way_told pipe (is_cut v h leg dir) (read_on rules takes pipe leg take_up)
+      (in_flight dir wire) (left_on puts leg put_up put_lost)
+      (reading used.far.intake.stage used.far.intake.held) used.near.begun
+      (both_up take_up put_up (is_up (receiver dir) wire) (is_up (sender dir) wire)
+      (is_empty (in_flight dir wire)) used.up_there used.up_here)
+      (read_told rules takes pipe leg take_up used.far used.takes_on used.kept_there used.of_use
+      used.live)
+      (left_told puts leg put_up put_lost used.near used.puts_on used.kept_here)
+
+  pub used_goes : (came : List Item)
+      → stops_at (is_lost (on_leg v h leg dir pipe puts rules takes)) came ≡ false
+  used_goes came = ap (λ (o : Option (List Message)). stops_at (is_lost o) came) used_leg
+
+-- no way stops where the mark or END passed
+pub passed_goes : (lost : Bool) (came : List Item) → has_passed came ≡ true
+    → stops_at lost came ≡ false
+passed_goes true came e = ap not e
+passed_goes false came e = refl

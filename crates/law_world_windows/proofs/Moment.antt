@@ -1,0 +1,153 @@
+-- the moment before the byte of a fed piece that closes a node
+use Rattle.std.proofs.Common.{◌≡◌, ℕ, List, [], ◌∷◌, ◌++◌, refl, sym, ap, ◌∙◌, subst, append_assoc}
+use Rattle.std.specs.Prelude.{None}
+use mathlib.Core.List.{IsPrefix}
+use Rattle.rh_text.specs.declared.ends.Dir.{Dir}
+use Rattle.rh_line.specs.declared.cause.Cause.{Cause}
+use Rattle.rh_line.specs.declared.leg.Leg.{Leg}
+use Rattle.law_moves.specs.Laws.{ClosedWith, Stays}
+use Rattle.rh_shell.specs.Rules.{Rules}
+use Rattle.rh_shell.specs.Shells.{Shell, bytes}
+use Rattle.rh_nodes.specs.declared.event.Event.{Event}
+use Rattle.rh_nodes.specs.declared.event.Event.TheVariants.{Comes}
+use Rattle.rh_nodes.specs.Company.{Rulebook}
+use Rattle.rh_nodes.specs.Giving.{Deeds}
+use Rattle.rh_nodes.specs.Opening.{Makers}
+use Rattle.rh_nodes.specs.Telling.{tell}
+use Rattle.rh_nodes.specs.Wires.{receiver, sender}
+use Rattle.rh_nodes.specs.World.{World, at}
+use Rattle.rh_client.specs.declared.state.ClientRole.{ClientRole}
+use Rattle.rh_inproxy.specs.State.{InProxy}
+use Rattle.rh_outproxy.specs.OutProxy.{OutProxy}
+use Rattle.rh_server.specs.States.{Server}
+use Rattle.law_node_causes.specs.Closings.{ClosesWith}
+use Rattle.law_node_history.specs.Carried.{IsTraced, LegsComeUpOnce, drawn_by, end_node, events_of, heard_on}
+use Rattle.law_node_history.specs.Changes.{Change, IsFed, Leads, MayChange, all_changed, changed}
+use Rattle.law_node_history.specs.Histories.{History, all_noted, noted, nothing}
+use Rattle.law_node_history.proofs.Working.{works_more}
+use Rattle.law_moves.specs.ReadBack.Well.{ReadsWell}
+use Rattle.law_node_traces.specs.Traced.Cookies.{ByChanges}
+use Rattle.law_node_traces.specs.Traced.Ours.{AreOurs, deeds, rules}
+use Rattle.law_node_traces.specs.Traced.Recordings.{IsKnown, history_at}
+use Rattle.law_world_order.specs.Flows.{IsFlowing, numbers_of, read_on}
+use Rattle.law_world_honest.specs.Honesty.Honest.{well_on}
+use Rattle.law_world_honest.proofs.Honesty.HeardWell.{going_is}
+use Rattle.law_world_windows.proofs.OneByte.{AtByte, at_byte}
+
+-- ---- the laws that this stands on
+
+-- of a world and all that changes lead to from it
+pub record Laws {K : Type 0} (m : Makers K InProxy OutProxy)
+    (w : World K ClientRole Server InProxy OutProxy) (ours : AreOurs m w.company w.cast)
+    : Type 0 where
+  pub known : (v : World K ClientRole Server InProxy OutProxy) (leads : Leads rules m deeds w v)
+      → IsKnown m w v leads
+  pub flowing : (v : World K ClientRole Server InProxy OutProxy) (by : ByChanges rules m deeds w v)
+      → IsFlowing (numbers_of ours) w v (history_at m w v by.leads)
+  pub well : (v : World K ClientRole Server InProxy OutProxy) (by : ByChanges rules m deeds w v)
+      → (change : Change) → MayChange rules v change → (leg : Leg) (dir : Dir)
+      → ReadsWell (well_on leg.kind dir) (read_on leg.kind dir)
+      (heard_on leg (events_of (noted v (history_at m w v by.leads) change)
+      (end_node (changed rules m deeds v change).readers leg (receiver dir))))
+  pub before : (v : World K ClientRole Server InProxy OutProxy) (h : History)
+      → IsTraced rules m deeds w.company v h → LegsComeUpOnce rules m deeds w.company v.cast
+      → (change : Change) → MayChange rules v change → (leg : Leg) (dir : Dir)
+      → IsPrefix (heard_on leg (events_of (noted v h change)
+      (end_node (changed rules m deeds v change).readers leg (receiver dir))))
+      (drawn_by rules m deeds w.company v.cast h (end_node v.readers leg (sender dir)) leg)
+  pub drawn : (v : World K ClientRole Server InProxy OutProxy) (h : History)
+      → IsTraced rules m deeds w.company v h → (leg : Leg) (dir : Dir)
+      → IsPrefix (heard_on leg (events_of h (end_node v.readers leg (receiver dir))))
+      (drawn_by rules m deeds w.company v.cast h (end_node v.readers leg (sender dir)) leg)
+
+-- of a node, whatever its role is
+pub record NodeLaws {S : Type 0} (rules : Rules S) : Type 0 where
+  pub cuts : (s : Shell S) (leg : Leg) (a b : List ℕ)
+      → bytes rules s leg (a ++ b) ≡ bytes rules (bytes rules s leg a).0 leg b
+  pub stays : (s : Shell S) (why : Cause) → ClosedWith why s.course → Stays rules s why
+  pub closed : (s : Shell S) (event : Event) (why : Cause) → ClosesWith rules s event why
+      → ClosedWith why (tell rules s event).0.course
+  pub again : (s : Shell S) (why : Cause) (event : Event) → ClosedWith why s.course
+      → (tell rules s event).1 ≡ None
+
+-- ---- a node
+
+-- a piece that closes it closes it by a byte
+pub closes_at : {S : Type 0} (rules : Rules S) → NodeLaws rules → (s : Shell S) (leg : Leg)
+    (piece : List ℕ) (why : Cause) → ClosesWith rules s (Comes leg piece) why
+    → AtByte rules leg s piece why
+closes_at rules law s leg piece why closes =
+    at_byte rules leg (λ t. law.cuts t leg) law.stays s piece why
+    (going_is s (tell rules s (Comes leg piece)).1 why
+    (λ first h. law.again s first (Comes leg piece) h) closes)
+    (law.closed s (Comes leg piece) why closes)
+
+-- ---- histories
+
+pub noted_append : {K C S I O : Type 0} (r : Rulebook C S I O) (m : Makers K I O) (d : Deeds C S)
+    (w : World K C S I O) (h : History) (changes : List Change) (change : Change)
+    → all_noted r m d w h (changes ++ change ∷ [])
+    ≡ noted (all_changed r m d w changes) (all_noted r m d w h changes) change
+noted_append r m d w h [] change = refl
+noted_append r m d w h (first ∷ changes) change =
+    noted_append r m d (changed r m d w first) (noted w h first) changes change
+
+-- ---- the moment
+
+module _ {K : Type 0} (m : Makers K InProxy OutProxy)
+    (w v : World K ClientRole Server InProxy OutProxy) (ours : AreOurs m w.company w.cast)
+    (law : Laws m w ours) (by : ByChanges rules m deeds w v) (leg : Leg) (dir : Dir)
+    (may : (count : ℕ) → MayChange rules v (IsFed leg dir count)) where
+  abbrev pub now : History
+  now = history_at m w v by.leads
+
+  abbrev pub known : IsKnown m w v by.leads
+  known = law.known v by.leads
+
+  abbrev pub flowing : IsFlowing (numbers_of ours) w v now
+  flowing = law.flowing v by
+
+  -- so many bytes more were fed
+  abbrev pub behind : ℕ → History
+  behind count = noted v now (IsFed leg dir count)
+
+  abbrev fed : ℕ → World K ClientRole Server InProxy OutProxy
+  fed count = changed rules m deeds v (IsFed leg dir count)
+
+  pub flowing_behind : (count : ℕ) → IsFlowing (numbers_of ours) w (fed count) (behind count)
+  flowing_behind count =
+      subst (IsFlowing (numbers_of ours) w (fed count))
+      (noted_append rules m deeds w nothing by.leads.changes (IsFed leg dir count)
+      ∙ ap (λ (x : World K ClientRole Server InProxy OutProxy).
+      noted x now (IsFed leg dir count)) by.leads.reached)
+      (law.flowing (fed count)
+      (works_more rules m deeds w v (IsFed leg dir count) by (may count) refl))
+
+  -- what was heard there reads well, and was drawn before
+  pub well_behind : (count : ℕ) → ReadsWell (well_on leg.kind dir) (read_on leg.kind dir)
+      (heard_on leg (events_of (behind count) (at v leg (receiver dir))))
+  well_behind count = law.well v by (IsFed leg dir count) (may count) leg dir
+
+  pub drawn_before : (count : ℕ)
+      → IsPrefix (heard_on leg (events_of (behind count) (at v leg (receiver dir))))
+      (drawn_by rules m deeds w.company w.cast now (end_node v.readers leg (sender dir)) leg)
+  drawn_before count =
+      subst (λ (k : K). IsPrefix (heard_on leg (events_of (behind count) (at v leg (receiver dir))))
+      (drawn_by rules m deeds w.company k now (end_node v.readers leg (sender dir)) leg))
+      flowing.cast
+      (law.before v now known.traced known.once (IsFed leg dir count) (may count) leg dir)
+
+  pub drawn_now : (way : Dir)
+      → IsPrefix (heard_on leg (events_of now (at v leg (receiver way))))
+      (drawn_by rules m deeds w.company w.cast now (end_node v.readers leg (sender way)) leg)
+  drawn_now way =
+      subst (λ (k : K). IsPrefix (heard_on leg (events_of now (at v leg (receiver way))))
+      (drawn_by rules m deeds w.company k now (end_node v.readers leg (sender way)) leg))
+      flowing.cast (law.drawn v now known.traced leg way)
+
+-- the byte behind what was heard
+pub one_behind : (heard front next : List ℕ) (b : ℕ) (all : List ℕ) → all ≡ heard ++ front
+    → next ≡ front ++ b ∷ [] → all ++ b ∷ [] ≡ heard ++ next
+one_behind heard front next b all e f =
+    ap (λ (xs : List ℕ). xs ++ b ∷ []) e ∙ append_assoc heard front (b ∷ [])
+    ∙ ap (λ (xs : List ℕ). heard ++ xs) (sym f)

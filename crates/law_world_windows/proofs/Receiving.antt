@@ -1,0 +1,113 @@
+-- a receive window, and the messages of its leg
+use Rattle.std.proofs.Common.{◌≡◌, ℕ, ◌+◌, ◌≤◌, ◌<◌, nat_le, Bool, true, false, if◌then◌else◌, List, [], ◌∷◌, ◌++◌, length, Some, Ok, Err, arith, refl, ap, rules}
+use Rattle.std.specs.Prelude.{is_ok}
+use Rattle.std.specs.declared.result.Result.{Result}
+use Rattle.std.proofs.lemmas.Bool.Decides.{nat_tests}
+use Rattle.rh_window.specs.Sides.{Receiver}
+use Rattle.rh_window.specs.Receiving as windows
+use Rattle.rh_window.specs.declared.recv_window.Ack.{Ack}
+use Rattle.rh_line.specs.Lines.{Incoming, admitted, channel_verdict, by_window}
+use Rattle.rh_line.specs.Histories.{IsWithin}
+use Rattle.rh_line.specs.declared.line_fault.LineFault.{LineFault}
+use Rattle.rh_line.specs.declared.line_fault.LineFault.TheVariants.{Window, Over}
+use Rattle.rh_shell.specs.Rules.{Message, Pdu}
+use Rattle.law_world_windows.specs.Hops.{pdu_bytes, greatest_edge}
+use Rattle.law_world_windows.proofs.Counts.{bytes_append, bytes_rise, edges_within}
+
+-- it counted no more than came, and told all that was put
+pub record Receives (r : Receiver) (came put : List Message) : Type 0 where
+  pub received : r.received ≤ pdu_bytes came
+  pub told : greatest_edge put ≤ r.told
+
+pub came_more : (r : Receiver) (came put more : List Message) → Receives r came put
+    → Receives r (came ++ more) put
+came_more r came put more h = record {
+  received = let rise = bytes_rise came more in let before = h.received in
+      omega (arith, rise, before);
+  told = h.told;
+}
+
+-- what is put that tells no more
+pub put_within : (r : Receiver) (came put more : List Message) → greatest_edge more ≤ r.told
+    → Receives r came put → Receives r came (put ++ more)
+put_within r came put more within h = record {
+  received = h.received;
+  told = edges_within r.told put more h.told within;
+}
+
+-- ---- a PDU comes
+
+pub admitted_told : (c : Incoming) (pdu : List ℕ)
+    → (admitted c pdu).window.told ≡ c.window.told
+admitted_told c pdu = search rules
+
+pub admitted_size : (c : Incoming) (pdu : List ℕ)
+    → (admitted c pdu).window.size ≡ c.window.size
+admitted_size c pdu = search rules
+
+pub admitted_received : (c : Incoming) (pdu : List ℕ)
+    → (admitted c pdu).window.received ≤ c.window.received + length pdu
+admitted_received c pdu = search rules
+
+pub received_more : (c : Incoming) (came : List Message) (pdu : List ℕ)
+    → c.window.received ≤ pdu_bytes came
+    → (admitted c pdu).window.received ≤ pdu_bytes (came ++ Pdu pdu ∷ [])
+received_more c came pdu before =
+    let one = admitted_received c pdu in
+    let all = bytes_append came (Pdu pdu ∷ []) in omega (arith, one, all, before)
+
+-- one that is refused changes nothing
+pub refused_same : (c : Incoming) (pdu : List ℕ) (fault : LineFault)
+    → channel_verdict c pdu ≡ Err fault → admitted c pdu ≡ c
+refused_same c pdu fault e =
+    ap (λ (v : Result (Unit {0}) LineFault).
+    if is_ok v then record c {
+      pdus = c.pdus ++ pdu ∷ [];
+      window = windows.after_admit c.window (length pdu);
+    } else c) e
+
+-- one that the window refuses ends behind what was told
+abbrev pub IsBehind : ℕ → ℕ → Result (Unit {0}) LineFault → Type 0
+IsBehind edge reached (Err (Window exceeded)) = edge < reached
+IsBehind edge reached verdict = Unit {0}
+
+pub refused_behind : (c : Incoming) (came put : List Message) (pdu : List ℕ)
+    → Receives c.window came put
+    → IsBehind (greatest_edge put) (pdu_bytes came + length pdu) (channel_verdict c pdu)
+refused_behind c came put pdu h = by c.ended
+  where
+    within : (b : Bool) → nat_le (c.window.received + length pdu) c.window.told ≡ b
+        → IsBehind (greatest_edge put) (pdu_bytes came + length pdu)
+        (by_window (if b then Ok tt else Err (record {
+          reached = c.window.received + length pdu;
+          edge = c.window.told;
+        })))
+    within true e = tt
+    within false e =
+        let received = h.received in let told = h.told in
+        grind (arith, nat_tests, e, received, told)
+
+    by : (b : Bool) → IsBehind (greatest_edge put) (pdu_bytes came + length pdu)
+        (if b then Err Over else by_window (windows.admit_verdict c.window (length pdu)))
+    by true = tt
+    by false = within (nat_le (c.window.received + length pdu) c.window.told) refl
+
+-- ---- an acknowledgement is due
+
+-- it tells the truth, and more than was told
+pub record IsDueAck (r : Receiver) (ack : Ack) : Type 0 where
+  pub opened : 0 < r.told
+  pub received : ack.received ≡ r.received
+  pub more : r.told ≤ ack.received + ack.available
+  pub size : ack.available ≤ r.size
+
+pub due_is : (c : Incoming) (size : ℕ) (ack : Ack) → IsWithin c size
+    → windows.due c.window ≡ Some ack → IsDueAck c.window ack
+due_is c size ack within e =
+    let held = within.held in let told = within.told in
+    record {
+      opened = grind (arith, nat_tests, e);
+      received = grind (arith, nat_tests, e);
+      more = grind (arith, nat_tests, e, held, told);
+      size = grind (arith, nat_tests, e, held, told);
+    }

@@ -1,0 +1,148 @@
+use Rattle.rh_nodes.specs.Opening.{Makers}
+use Rattle.rh_nodes.specs.World.{World}
+use Rattle.rh_client.specs.declared.state.ClientRole.{ClientRole}
+use Rattle.law_role_client.specs.Order.{client_moved}
+use Rattle.rh_inproxy.specs.Machine as in_proxy
+use Rattle.rh_inproxy.specs.State.{InProxy}
+use Rattle.rh_inproxy.specs.State as in_state
+use Rattle.rh_outproxy.specs.Machine as out_proxy
+use Rattle.rh_outproxy.specs.OutProxy.{OutProxy, new_proxy}
+use Rattle.rh_server.specs.Servers as server
+use Rattle.rh_server.specs.States.{Server}
+use Rattle.law_moves.specs.Moves.{all_end_moved, all_moved, end_started, started}
+use Rattle.law_node_history.specs.Histories.{IsNew}
+use Rattle.law_peers_routes.proofs.Upwards.Unread.{refusal_unread}
+use Rattle.law_node_traces.specs.Traced.Ours.{AreOurs, deeds, rules}
+use Rattle.law_world_order.specs.Flows.{numbers_of}
+use Rattle.law_world_order.specs.Premises.{AreInRange}
+use Rattle.law_world_windows.proofs.Moment.{Laws}
+use Rattle.law_world_windows.proofs.Stopping.{Readings}
+use Rattle.law_world_windows.proofs.ClientHops.Closing.{NodesLaws, no_client_range, no_client_window, no_in_range, no_in_window, no_out_range, no_out_window}
+use Rattle.law_world_windows.proofs.ClientHops.Honest.{RoleLaws}
+use Rattle.law_world_order.proofs.Joined.{AreAlone}
+use Rattle.law_world_order.proofs.Legs.{Reads}
+use Rattle.law_world_windows.proofs.ClientHops.Joining.{client_begins, client_opens_once, client_receives, client_sends, in_proxy_sees, out_proxy_sees, server_sees}
+use Rattle.law_world_windows.proofs.client_hops.no_hop_of_a_client_closes_a_node.Goals as goal
+
+pub returns : goal.returns
+returns g c = record {
+  in_window = λ m w new ours ranges one v by distinct change may k n reached edge closes.
+      no_in_window roles nodes reads readings m w ours ranges one (law m w new ours ranges)
+      (alone m w) v by distinct change may k n reached edge closes;
+  in_range = λ m w new ours ranges one v by distinct change may k n command value closes.
+      no_in_range roles nodes reads readings m w ours ranges one (law m w new ours ranges)
+      (alone m w) v by distinct change may k n command value closes;
+  client_window = λ m w new ours ranges one v by distinct change may n reached edge closes.
+      no_client_window roles nodes reads readings m w ours ranges one (law m w new ours ranges)
+      (alone m w) v by distinct change may n reached edge closes;
+  client_range = λ m w new ours ranges one v by distinct change may n command value closes.
+      no_client_range roles nodes reads readings m w ours ranges one (law m w new ours ranges)
+      (alone m w) v by distinct change may n command value closes;
+  out_window = λ m w new ours ranges one v by distinct change may k n reached edge closes.
+      no_out_window roles nodes reads readings m w ours ranges one (law m w new ours ranges)
+      (alone m w) v by distinct change may k n reached edge closes;
+  out_range = λ m w new ours ranges one v by distinct change may k leg command value closes.
+      no_out_range roles nodes reads readings m w ours ranges one (law m w new ours ranges)
+      (alone m w) v by distinct change may k leg command value closes;
+}
+  where
+    roles : RoleLaws
+    roles = record {
+      sends = λ config moves allowed.
+          client_sends moves (client_moved config moves).passage
+          (c.a_client_sends_as_it_was_told.ensures config moves allowed);
+      receives = λ config moves ranged allowed first.
+          client_receives moves (client_moved config moves).passage
+          (c.a_client_receives_within_its_window.ensures.windows config moves ranged allowed)
+          (c.a_client_receives_within_its_window.ensures.acks config moves ranged allowed first)
+          (c.a_client_receives_within_its_window.ensures.packets config moves)
+          (c.a_client_acknowledges_what_came.ensures.acks config moves ranged allowed first);
+      begins = λ config moves allowed.
+          client_begins moves (client_moved config moves).passage
+          (c.a_client_begins_each_channel_once.ensures config moves allowed);
+      opens_once = λ config moves allowed.
+          client_opens_once config moves
+          (c.a_client_opens_out_channels_in_order.ensures config moves allowed);
+      servers = λ window moves allowed.
+          server_sees
+          (all_end_moved server.rules server.acts (end_started (server.first window)) moves).passage
+          (c.a_server_passes_acknowledgements_on.ensures window moves)
+          (c.a_server_tells_what_it_was_told.ensures.connected window moves)
+          (c.a_server_tells_what_it_was_told.ensures.replaced window moves);
+      ins = λ config moves ranged allowed.
+          in_proxy_sees config.window config.number
+          (all_moved in_proxy.rules (started (in_state.first config)) moves)
+          (λ n. c.an_in_proxy_receives_within_its_window.ensures config moves n ranged)
+          (c.an_in_proxy_acknowledges_what_came.ensures config moves ranged)
+          (c.an_in_proxy_passes_acknowledgements_on.ensures config moves)
+          (c.an_in_proxy_tells_its_window.ensures.connected config moves)
+          (c.an_in_proxy_tells_its_window.ensures.replaced config moves);
+      outs = λ config moves allowed once.
+          out_proxy_sees config.number
+          (all_moved out_proxy.rules (started (new_proxy config)) moves) once
+          (c.an_out_proxy_sends_within_the_clients_window.ensures config moves)
+          (c.an_out_proxy_passes_acknowledgements_on.ensures config moves)
+          (c.an_out_proxy_tells_what_it_was_told.ensures.connected config moves)
+          (c.an_out_proxy_tells_what_it_was_told.ensures.replaced config moves);
+    }
+
+    nodes : NodesLaws
+    nodes = record {
+      comes = record {
+        client = c.causes_come_from_their_events.ensures;
+        server = c.causes_come_from_their_events-2.ensures;
+        ins = c.causes_come_from_their_events-3.ensures;
+        outs = c.causes_come_from_their_events-4.ensures;
+      };
+      client_amiss = c.events_close_with_their_causes.ensures;
+      ins_amiss = c.events_close_with_their_causes-2.ensures;
+      outs_amiss = c.events_close_with_their_causes-3.ensures;
+      client = record {
+        cuts = c.cuts_change_nothing.ensures.bytes;
+        stays = c.first_cause_is_kept.ensures;
+        closed = c.a_node_closes_once.ensures.closed;
+        again = c.a_node_closes_once.ensures.again;
+      };
+      ins = record {
+        cuts = c.cuts_change_nothing-2.ensures.bytes;
+        stays = c.first_cause_is_kept-2.ensures;
+        closed = c.a_node_closes_once-2.ensures.closed;
+        again = c.a_node_closes_once-2.ensures.again;
+      };
+      outs = record {
+        cuts = c.cuts_change_nothing-3.ensures.bytes;
+        stays = c.first_cause_is_kept-3.ensures;
+        closed = c.a_node_closes_once-3.ensures.closed;
+        again = c.a_node_closes_once-3.ensures.again;
+      };
+    }
+
+    reads : Reads
+    reads = record {
+      put = c.what_was_put_is_read.ensures;
+      fine = c.what_is_read_is_fine.ensures;
+      refusal = refusal_unread;
+    }
+
+    readings : Readings
+    readings = record {
+      put = c.what_was_put_is_read.ensures;
+      parts = c.all_that_was_put_is_read.ensures.parts;
+      piece = c.a_piece_reads_well.ensures;
+    }
+
+    law : (m : Makers g.row.K.Denot InProxy OutProxy)
+        (w : World g.row.K.Denot ClientRole Server InProxy OutProxy) → IsNew w
+        → (ours : AreOurs m w.company w.cast) → AreInRange (numbers_of ours) → Laws m w ours
+    law m w new ours ranges = record {
+      known = λ u leads. c.a_recording_of_roles_is_known.ensures.changes m w u new ours leads;
+      flowing = c.what_is_put_is_legible.ensures m w new ours ranges;
+      well = c.what_is_heard_reads_well.ensures m w new ours ranges;
+      before = c.what_is_heard_was_drawn_before.ensures rules m deeds w.company;
+      drawn = c.what_is_heard_was_drawn.ensures rules m deeds w.company;
+    }
+
+    alone : (m : Makers g.row.K.Denot InProxy OutProxy)
+        (w : World g.row.K.Denot ClientRole Server InProxy OutProxy) → AreAlone m w
+    alone m w u h traced node leg away =
+        (c.a_leg_is_read_at_its_ends.ensures rules m deeds w.company u h traced node leg away).1

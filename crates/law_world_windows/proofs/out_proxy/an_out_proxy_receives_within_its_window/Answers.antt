@@ -1,0 +1,7 @@
+use Rattle.law_world_windows.proofs.OutProxyReceives.{out_proxy_receives}
+use Rattle.law_world_windows.proofs.out_proxy.an_out_proxy_receives_within_its_window.Goals as goal
+
+pub returns : goal.returns
+returns c = λ config moves is allowed.
+    out_proxy_receives config moves is
+    (λ front may. c.what_an_out_proxy_holds.ensures.moves config front is may) allowed

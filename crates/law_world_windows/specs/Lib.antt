@@ -1,0 +1,4 @@
+pub mod Hops
+pub mod Refusing
+pub mod ClientHops
+pub mod Windowed

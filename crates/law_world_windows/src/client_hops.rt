@@ -1,0 +1,150 @@
+//! The hops of a client in a world of roles. This function does nothing: its contract is the law.
+
+ghost use Rattle.std.specs.Prelude.{ℕ};
+ghost use Rattle.rh_line.specs.declared.cause.Cause.TheVariants.{OutOfRange, WindowExceeded};
+ghost use Rattle.rh_line.specs.declared.leg.Leg.{Leg};
+ghost use Rattle.rh_record.specs.declared.answer.Who.TheVariants.{Client as AtClient, In, Out};
+ghost use Rattle.rh_nodes.specs.Opening.{Makers};
+ghost use Rattle.rh_nodes.specs.World.{World};
+ghost use Rattle.rh_client.specs.declared.state.ClientRole.{ClientRole};
+ghost use Rattle.rh_client.specs.State.{ci, co};
+ghost use Rattle.rh_inproxy.specs.State.{InProxy};
+ghost use Rattle.rh_outproxy.specs.OutProxy.{OutProxy};
+ghost use Rattle.rh_server.specs.States.{Server};
+ghost use Rattle.law_node_history.specs.Carried.{happened};
+ghost use Rattle.law_node_history.specs.Changes.{Change, MayChange};
+ghost use Rattle.law_node_history.specs.Closes.{ClosesNode};
+ghost use Rattle.law_node_history.specs.Histories.{IsNew};
+ghost use Rattle.law_node_traces.specs.Traced.Cookies.{ByChanges};
+ghost use Rattle.law_node_traces.specs.Traced.Ours.{AreOurs, deeds, rules};
+ghost use Rattle.law_node_traces.specs.Traced.Recordings.{history_at};
+ghost use Rattle.law_world_order.specs.Flows.{numbers_of};
+ghost use Rattle.law_world_order.specs.Premises.{AreDistinct, AreInRange};
+ghost use Rattle.law_world_windows.specs.ClientHops.{HasOneWindow};
+
+use law_moves::{
+    a_piece_reads_well, all_that_was_put_is_read, cuts_change_nothing, first_cause_is_kept,
+    what_is_read_is_fine, what_was_put_is_read,
+};
+use law_node_causes::{
+    a_node_closes_once, causes_come_from_their_events, events_close_with_their_causes,
+};
+use law_node_history::{a_leg_is_read_at_its_ends, what_is_heard_was_drawn};
+use law_node_traces::{a_recording_of_roles_is_known, what_is_heard_was_drawn_before};
+use law_role_client::{
+    a_client_acknowledges_what_came, a_client_begins_each_channel_once,
+    a_client_receives_within_its_window, a_client_sends_as_it_was_told,
+};
+use law_role_client_rows::a_client_opens_out_channels_in_order;
+use law_role_outproxy::an_out_proxy_sends_within_the_clients_window;
+use law_role_windows::{
+    a_server_passes_acknowledgements_on, a_server_tells_what_it_was_told,
+    an_in_proxy_acknowledges_what_came, an_in_proxy_passes_acknowledgements_on,
+    an_in_proxy_receives_within_its_window, an_in_proxy_tells_its_window,
+    an_out_proxy_passes_acknowledgements_on, an_out_proxy_tells_what_it_was_told,
+};
+use law_world_honest::what_is_heard_reads_well;
+use law_world_order::what_is_put_is_legible;
+use rh_client::ClientRole;
+use rh_inproxy::InProxyRole;
+use rh_outproxy::OutProxyRole;
+use rh_server::ServerRole;
+
+/// In each world of new roles whose numbers are in their ranges, and whose in proxies have one
+/// window, at every moment that changes of lines and half steps reach, and by which no two legs of
+/// the client of one kind came up under one cookie: no further change closes a node for a hop
+/// between the client and its proxies. No in proxy and no out proxy closes with `WindowExceeded` or
+/// `OutOfRange` for what the client sent, nor the client for what an out proxy sent; and no out
+/// proxy closes with `OutOfRange` at all (MS-RPCH 3.2, 3.2.1).
+pub fn no_hop_of_a_client_closes_a_node<K>()
+    ensures in_window { (m : Makers K InProxy OutProxy)
+        (w : World K ClientRole Server InProxy OutProxy) → IsNew w
+        → (ours : AreOurs m w.company w.cast) → AreInRange (numbers_of ours)
+        → HasOneWindow (numbers_of ours)
+        → (v : World K ClientRole Server InProxy OutProxy) (by : ByChanges rules m deeds w v)
+        → AreDistinct (happened (history_at m w v by.leads).client)
+        → (change : Change) → MayChange rules v change → (k n reached edge : ℕ)
+        → ClosesNode rules v change (In k) (WindowExceeded (ci n) reached edge) → ⊥ }
+    ensures in_range { (m : Makers K InProxy OutProxy)
+        (w : World K ClientRole Server InProxy OutProxy) → IsNew w
+        → (ours : AreOurs m w.company w.cast) → AreInRange (numbers_of ours)
+        → HasOneWindow (numbers_of ours)
+        → (v : World K ClientRole Server InProxy OutProxy) (by : ByChanges rules m deeds w v)
+        → AreDistinct (happened (history_at m w v by.leads).client)
+        → (change : Change) → MayChange rules v change → (k n command value : ℕ)
+        → ClosesNode rules v change (In k) (OutOfRange (ci n) command value) → ⊥ }
+    ensures client_window { (m : Makers K InProxy OutProxy)
+        (w : World K ClientRole Server InProxy OutProxy) → IsNew w
+        → (ours : AreOurs m w.company w.cast) → AreInRange (numbers_of ours)
+        → HasOneWindow (numbers_of ours)
+        → (v : World K ClientRole Server InProxy OutProxy) (by : ByChanges rules m deeds w v)
+        → AreDistinct (happened (history_at m w v by.leads).client)
+        → (change : Change) → MayChange rules v change → (n reached edge : ℕ)
+        → ClosesNode rules v change AtClient (WindowExceeded (co n) reached edge) → ⊥ }
+    ensures client_range { (m : Makers K InProxy OutProxy)
+        (w : World K ClientRole Server InProxy OutProxy) → IsNew w
+        → (ours : AreOurs m w.company w.cast) → AreInRange (numbers_of ours)
+        → HasOneWindow (numbers_of ours)
+        → (v : World K ClientRole Server InProxy OutProxy) (by : ByChanges rules m deeds w v)
+        → AreDistinct (happened (history_at m w v by.leads).client)
+        → (change : Change) → MayChange rules v change → (n command value : ℕ)
+        → ClosesNode rules v change AtClient (OutOfRange (co n) command value) → ⊥ }
+    ensures out_window { (m : Makers K InProxy OutProxy)
+        (w : World K ClientRole Server InProxy OutProxy) → IsNew w
+        → (ours : AreOurs m w.company w.cast) → AreInRange (numbers_of ours)
+        → HasOneWindow (numbers_of ours)
+        → (v : World K ClientRole Server InProxy OutProxy) (by : ByChanges rules m deeds w v)
+        → AreDistinct (happened (history_at m w v by.leads).client)
+        → (change : Change) → MayChange rules v change → (k n reached edge : ℕ)
+        → ClosesNode rules v change (Out k) (WindowExceeded (co n) reached edge) → ⊥ }
+    ensures out_range { (m : Makers K InProxy OutProxy)
+        (w : World K ClientRole Server InProxy OutProxy) → IsNew w
+        → (ours : AreOurs m w.company w.cast) → AreInRange (numbers_of ours)
+        → HasOneWindow (numbers_of ours)
+        → (v : World K ClientRole Server InProxy OutProxy) (by : ByChanges rules m deeds w v)
+        → AreDistinct (happened (history_at m w v by.leads).client)
+        → (change : Change) → MayChange rules v change → (k : ℕ) (leg : Leg)
+        (command value : ℕ)
+        → ClosesNode rules v change (Out k) (OutOfRange leg command value) → ⊥ }
+{
+    a_client_sends_as_it_was_told();
+    a_client_begins_each_channel_once();
+    a_client_opens_out_channels_in_order();
+    a_client_receives_within_its_window();
+    a_client_acknowledges_what_came();
+    an_in_proxy_receives_within_its_window();
+    an_in_proxy_acknowledges_what_came();
+    an_in_proxy_passes_acknowledgements_on();
+    an_in_proxy_tells_its_window();
+    a_server_passes_acknowledgements_on();
+    a_server_tells_what_it_was_told();
+    an_out_proxy_sends_within_the_clients_window();
+    an_out_proxy_passes_acknowledgements_on();
+    an_out_proxy_tells_what_it_was_told();
+    what_is_put_is_legible::<K>();
+    a_recording_of_roles_is_known::<K>();
+    what_is_heard_reads_well::<K>();
+    what_is_heard_was_drawn_before::<K, ClientRole, ServerRole, InProxyRole, OutProxyRole>();
+    what_is_heard_was_drawn::<K, ClientRole, ServerRole, InProxyRole, OutProxyRole>();
+    a_leg_is_read_at_its_ends::<K, ClientRole, ServerRole, InProxyRole, OutProxyRole>();
+    what_was_put_is_read();
+    all_that_was_put_is_read();
+    what_is_read_is_fine();
+    a_piece_reads_well();
+    cuts_change_nothing::<ClientRole>();
+    cuts_change_nothing::<InProxyRole>();
+    cuts_change_nothing::<OutProxyRole>();
+    first_cause_is_kept::<ClientRole>();
+    first_cause_is_kept::<InProxyRole>();
+    first_cause_is_kept::<OutProxyRole>();
+    a_node_closes_once::<ClientRole>();
+    a_node_closes_once::<InProxyRole>();
+    a_node_closes_once::<OutProxyRole>();
+    events_close_with_their_causes::<ClientRole>();
+    events_close_with_their_causes::<InProxyRole>();
+    events_close_with_their_causes::<OutProxyRole>();
+    causes_come_from_their_events::<ClientRole>();
+    causes_come_from_their_events::<ServerRole>();
+    causes_come_from_their_events::<InProxyRole>();
+    causes_come_from_their_events::<OutProxyRole>();
+}

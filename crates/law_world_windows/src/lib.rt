@@ -1,0 +1,20 @@
+//! The hops that lie on one leg: from an in proxy to the server, and from the server to an out
+//! proxy. Its functions do nothing: their contracts are the laws.
+#![tactic(auto)]
+
+pub mod client_hops;
+pub mod in_proxy;
+pub mod out_proxy;
+pub mod server;
+pub mod windows;
+pub mod worlds;
+
+pub use client_hops::no_hop_of_a_client_closes_a_node;
+pub use in_proxy::an_in_proxy_sends_within_the_servers_window;
+pub use out_proxy::an_out_proxy_receives_within_its_window;
+pub use server::{a_server_receives_within_its_window, a_server_sends_within_the_proxys_window};
+pub use windows::{
+    a_window_is_exceeded_for_a_row, no_window_closes_a_node,
+    no_window_closes_a_node_of_a_recording, rows_refuse_on_their_legs,
+};
+pub use worlds::no_hop_on_one_leg_closes_a_node;

@@ -1,7 +1,0 @@
-mod EchoTexts
-pub mod Standing
-mod Serving
-mod Served
-pub mod Requests
-mod Ahead
-pub mod Expecting

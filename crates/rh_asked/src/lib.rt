@@ -1,9 +1,0 @@
-//! What a client asks of an out proxy by its request, and what the proxy does then: it answers no
-//! echo, and expects what the client puts. The contracts of its functions are the laws.
-#![tactic(auto)]
-
-pub mod echoes;
-pub mod expects;
-
-pub use echoes::{an_out_proxy_answers_echoes_alone, what_an_out_proxy_serves_reads_well};
-pub use expects::an_out_proxy_expects_its_client;

@@ -1,8 +1,0 @@
--- the caller found is the one that is written over
-use Rattle.rh_board.proofs.Marked.{set_taken}
-use Rattle.rh_board.proofs.callers.Callers.answer.Goals as goal
-
-pub returns-clause-taken : goal.returns-clause-taken
-returns-clause-taken c =
-    set_taken c.in_ok-place.place c.args.self.now.callers.items c.index_mut.result.now
-    c.index_mut.ensures.value

@@ -1,5 +1,0 @@
-use Rattle.rh_causes.proofs.ClosedBy.{from_event}
-use Rattle.rh_causes.proofs.closings.causes_come_from_their_events.Goals as goal
-
-pub returns : goal.returns
-returns g c = from_event g.R.Role.rules

@@ -1,5 +1,0 @@
-use Rattle.rh_causes.proofs.ClosedBy.{closes}
-use Rattle.rh_causes.proofs.closings.events_close_with_their_causes.Goals as goal
-
-pub returns : goal.returns
-returns g c = closes g.R.Role.rules

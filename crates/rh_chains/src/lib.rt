@@ -1,2 +1,0 @@
-//! The packets of a replacement, counted along the way that they go.
-#![tactic(auto)]

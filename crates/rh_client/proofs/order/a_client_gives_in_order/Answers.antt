@@ -1,5 +1,0 @@
-use Rattle.rh_client.proofs.GivesInOrder.{gives_in_order}
-use Rattle.rh_client.proofs.order.a_client_gives_in_order.Goals as goal
-
-pub returns : goal.returns
-returns c = λ config moves allowed. gives_in_order config moves

@@ -1,9 +1,0 @@
-mod Fronts
-mod Channels
-mod Openings
-mod Facts
-mod Changes
-mod Writing
-mod Beginning
-mod Rows
-mod Laws

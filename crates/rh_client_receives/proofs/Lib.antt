@@ -1,8 +1,0 @@
-mod Along
-mod Windows
-mod Facts
-mod Replaced
-mod Rows
-mod Ups
-mod Puts
-mod Receives

@@ -1,8 +1,0 @@
-use Rattle.rh_client_receives.proofs.Receives.{to_out_proxies, acks_are_true}
-use Rattle.rh_client_receives.proofs.receiver.a_client_acknowledges_what_came.Goals as goal
-
-pub returns-clause-destinations : goal.returns-clause-destinations
-returns-clause-destinations c = to_out_proxies
-
-pub returns-clause-acks : goal.returns-clause-acks
-returns-clause-acks c = acks_are_true

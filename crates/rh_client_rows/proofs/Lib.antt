@@ -1,6 +1,0 @@
-mod Channels
-mod Keeping
-mod Putting
-mod Rows
-mod Ends
-mod Why

@@ -1,9 +1,0 @@
-pub mod Steps
-mod Logs
-mod Facts
-mod Channels
-mod Changes
-mod Rows
-mod Puts
-mod Next
-mod Laws

@@ -1,9 +1,0 @@
-mod Lists
-mod Standing
-mod Facts
-mod Changes
-mod Rows
-mod Putting
-mod Laws
-mod Begun
-mod NoPing

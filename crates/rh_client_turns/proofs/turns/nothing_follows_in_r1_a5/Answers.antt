@@ -1,8 +1,0 @@
-use Rattle.rh_client.specs.Order.{client_moved}
-use Rattle.rh_client_turns.proofs.Standing.{ends_by_in_r1_a5}
-use Rattle.rh_client_turns.proofs.turns.nothing_follows_in_r1_a5.Goals as goal
-
-pub returns : goal.returns
-returns c = λ config moves.
-    ends_by_in_r1_a5 (client_moved config moves).passage.put
-    (c.a_client_writes_in_turn.ensures config moves)

@@ -1,9 +1,0 @@
-use Rattle.rh_world.specs.declared.any_world.AnyWorld.TheVariants.{Before}
-use Rattle.rh_world.specs.Any.{after, prepared}
-use Rattle.rh_closes.proofs.Reported.{report_shows}
-use Rattle.rh_closes.proofs.recordings.each_cause_of_a_recording_shows.Goals as goal
-
-pub returns : goal.returns
-returns c = λ before line node why h.
-    report_shows (prepared (after Before before) line) line node why
-    (c.each_close_of_a_recording_shows.ensures before line node why h)

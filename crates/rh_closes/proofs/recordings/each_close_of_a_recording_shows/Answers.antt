@@ -1,9 +1,0 @@
-use Rattle.rh_world.specs.Roles as roles
-use Rattle.rh_closes.proofs.Recorded.{recording_licenses}
-use Rattle.rh_closes.proofs.recordings.each_close_of_a_recording_shows.Goals as goal
-
-pub returns : goal.returns
-returns c = λ before line node why.
-    recording_licenses node why
-    (λ one w none h. c.each_close_shows.ensures roles.makers roles.deeds one w node why none h)
-    before line

@@ -1,4 +1,0 @@
-pub mod Sides
-mod ClientNumbers
-mod ClientLegs
-mod Routing

@@ -1,6 +1,0 @@
-use Rattle.rh_ends_begin.proofs.ClientMoves.{client_begins}
-use Rattle.rh_ends_begin.proofs.client.a_client_begins_with_a_request.Goals as goal
-
-pub returns : goal.returns
-returns c =
-    client_begins c.texts_are_whole.ensures.in_request c.texts_are_whole.ensures.out_request

@@ -1,7 +1,0 @@
-use Rattle.rh_ends_begin.proofs.ServerMoves.{server_well}
-use Rattle.rh_ends_begin.proofs.server.what_a_server_puts_first_reads_well.Goals as goal
-
-pub returns : goal.returns
-returns c = λ well window moves allowed leg.
-    server_well well (λ pipe first. c.texts_read_well.ensures.greeting well pipe first) window
-    moves allowed leg

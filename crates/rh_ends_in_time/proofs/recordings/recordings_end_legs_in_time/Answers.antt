@@ -1,9 +1,0 @@
-use Rattle.rh_world.specs.declared.any_world.AnyWorld.TheVariants.{Before}
-use Rattle.rh_ends_in_time.proofs.Recorded.{none_lose, recording_in_time}
-use Rattle.rh_ends_in_time.proofs.recordings.recordings_end_legs_in_time.Goals as goal
-
-pub returns : goal.returns
-returns c = record {
-  losses = recording_in_time;
-  none = λ before is. recording_in_time before (none_lose Before before is);
-}

@@ -1,4 +1,0 @@
-pub mod Flows
-pub mod Premises
-pub mod Directions
-pub mod Turns

@@ -1,5 +1,0 @@
-use Rattle.rh_forwarding.proofs.Passed.{few_pass}
-use Rattle.rh_forwarding.proofs.passing.few_answers_pass_an_acknowledgement.Goals as goal
-
-pub returns : goal.returns
-returns c = few_pass

@@ -1,3 +1,0 @@
-pub mod Passing
-pub mod Late
-pub mod Fits

@@ -1,7 +1,0 @@
-use Rattle.rh_growing.proofs.Ends.{end_grows}
-use Rattle.rh_growing.proofs.growing.an_ends_stream_grows.Goals as goal
-
-pub returns : goal.returns
-returns g c first rooms pipe events piped never unused once accepted turn =
-    end_grows g.R.Role.rules g.R.EndRole.acts first rooms pipe piped never unused once events
-    accepted turn

@@ -1,8 +1,0 @@
-use Rattle.rh_heads.proofs.Judged.{whole_request, other_request}
-use Rattle.rh_heads.proofs.laws.requests_are_judged.Goals as goal
-
-pub returns-clause-whole : goal.returns-clause-whole
-returns-clause-whole c = whole_request
-
-pub returns-clause-other : goal.returns-clause-other
-returns-clause-other c = other_request

@@ -1,6 +1,0 @@
-mod Lines
-mod Roles
-mod ClientLine
-mod InProxyLine
-mod OutProxyLine
-mod ServerLine

@@ -1,5 +1,0 @@
-use Rattle.rh_history.proofs.Halves.{leads_half}
-use Rattle.rh_history.proofs.changing.a_half_step_is_changes.Goals as goal
-
-pub returns : goal.returns
-returns g c = leads_half

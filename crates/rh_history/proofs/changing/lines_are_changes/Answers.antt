@@ -1,5 +1,0 @@
-use Rattle.rh_history.proofs.Halves.{leads_turns}
-use Rattle.rh_history.proofs.changing.lines_are_changes.Goals as goal
-
-pub returns : goal.returns
-returns g c = leads_turns

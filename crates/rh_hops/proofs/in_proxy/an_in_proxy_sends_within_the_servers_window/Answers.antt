@@ -1,5 +1,0 @@
-use Rattle.rh_hops.proofs.InProxySends.{in_proxy_sends}
-use Rattle.rh_hops.proofs.in_proxy.an_in_proxy_sends_within_the_servers_window.Goals as goal
-
-pub returns : goal.returns
-returns c = in_proxy_sends

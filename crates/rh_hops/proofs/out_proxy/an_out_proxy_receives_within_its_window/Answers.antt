@@ -1,7 +1,0 @@
-use Rattle.rh_hops.proofs.OutProxyReceives.{out_proxy_receives}
-use Rattle.rh_hops.proofs.out_proxy.an_out_proxy_receives_within_its_window.Goals as goal
-
-pub returns : goal.returns
-returns c = λ config moves is allowed.
-    out_proxy_receives config moves is
-    (λ front may. c.what_an_out_proxy_holds.ensures.moves config front is may) allowed

@@ -1,5 +1,0 @@
-use Rattle.rh_inproxy.proofs.OrderMoves.{order_is_kept}
-use Rattle.rh_inproxy.proofs.order.an_in_proxy_keeps_order.Goals as goal
-
-pub returns : goal.returns
-returns c = λ config moves allowed. order_is_kept config moves

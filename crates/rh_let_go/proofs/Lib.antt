@@ -1,5 +1,0 @@
-mod Lists
-mod Standing
-mod Counts
-mod Counting
-mod NoneUp

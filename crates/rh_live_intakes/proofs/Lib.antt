@@ -1,6 +1,0 @@
-mod LiveBytes
-mod LiveEnds
-mod LiveNodes
-mod TakenHeads
-mod UpOnce
-mod FirstTexts

@@ -1,4 +1,0 @@
-pub mod Pdus
-pub mod Steps
-mod Recordings
-mod Standing

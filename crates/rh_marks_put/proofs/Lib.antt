@@ -1,5 +1,0 @@
-mod ClientMarks
-mod ServerMarksRows
-mod ServerMarksLegs
-mod ServerMarksEnds
-mod ServerMarks

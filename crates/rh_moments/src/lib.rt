@@ -1,3 +1,0 @@
-//! Moments of a virtual connection: what the moves of its four roles have in common. It has
-//! definitions and lemmas alone.
-#![tactic(auto)]

@@ -1,5 +1,0 @@
-mod Naming
-mod Speaking
-mod Standing
-mod Telling
-mod Recorded

@@ -1,5 +1,0 @@
-use Rattle.rh_order.proofs.Reaching.{reached_front}
-use Rattle.rh_order.proofs.route.what_can_be_taken_was_given.Goals as goal
-
-pub returns : goal.returns
-returns c = reached_front

@@ -1,5 +1,0 @@
-pub mod Legs
-mod Windows
-mod Sent
-mod OutProxySends
-pub mod Opening

@@ -1,5 +1,0 @@
-use Rattle.rh_outproxy.proofs.OrderKept.{order_kept}
-use Rattle.rh_outproxy.proofs.order.an_out_proxy_keeps_order.Goals as goal
-
-pub returns : goal.returns
-returns c = order_kept

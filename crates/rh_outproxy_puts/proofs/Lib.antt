@@ -1,9 +1,0 @@
-mod Goes
-mod Turns
-mod ServerRows
-mod ToServer
-mod Forms
-mod Standing
-mod ClientRows
-mod ClientPuts
-mod ToClient

@@ -1,7 +1,0 @@
-mod Told
-mod RowsKeep
-mod MovesKeep
-mod Refusals
-mod OneCookie
-mod Cookies
-mod Law

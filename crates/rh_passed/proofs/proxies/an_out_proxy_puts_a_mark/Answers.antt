@@ -1,6 +1,0 @@
-use Rattle.rh_passed.proofs.OutProxyPassed.{out_proxy_put}
-use Rattle.rh_passed.proofs.proxies.an_out_proxy_puts_a_mark.Goals as goal
-
-pub returns : goal.returns
-returns c = λ config moves allowed.
-    out_proxy_put config moves (c.an_out_proxy_keeps_order.ensures config moves allowed) allowed

@@ -1,8 +1,0 @@
-mod Lists
-mod Legal
-mod Once
-mod Family
-mod Made
-mod Joins
-mod Pasts
-mod Moments

@@ -1,7 +1,0 @@
-use Rattle.rh_shell.specs.Moves.{end_started}
-use Rattle.rh_server.specs.Servers.{first}
-use Rattle.rh_server.proofs.Gives.{all_gives, gives_first}
-use Rattle.rh_server.proofs.order.a_server_gives_in_order.Goals as goal
-
-pub returns : goal.returns
-returns c = λ window moves. all_gives moves (end_started (first window)) (gives_first window)

@@ -1,5 +1,0 @@
-use Rattle.rh_server.proofs.Takes.{takes_in_order}
-use Rattle.rh_server.proofs.order.a_server_takes_in_order.Goals as goal
-
-pub returns : goal.returns
-returns c = takes_in_order

@@ -1,6 +1,0 @@
-use Rattle.rh_server_full.proofs.Answers.{few_taken}
-use Rattle.rh_server_full.proofs.taken.few_channels_are_answered_before_an_acknowledgement.Goals as goal
-
-pub returns : goal.returns
-returns c window moves =
-    few_taken window moves (c.few_answers_overtake_an_acknowledgement.ensures window)

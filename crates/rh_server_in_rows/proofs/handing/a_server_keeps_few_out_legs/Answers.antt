@@ -1,8 +1,0 @@
-use Rattle.std.proofs.Common.{arith}
-use Rattle.rh_shell.specs.Moves.{end_started}
-use Rattle.rh_server.specs.Servers.{first}
-use Rattle.rh_server_in_rows.proofs.OutLegs.{moves_few}
-use Rattle.rh_server_in_rows.proofs.handing.a_server_keeps_few_out_legs.Goals as goal
-
-pub returns : goal.returns
-returns c = λ window moves. moves_few (end_started (first window)) moves (omega arith)

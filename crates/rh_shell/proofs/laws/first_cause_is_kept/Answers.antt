@@ -1,5 +1,0 @@
-use Rattle.rh_shell.proofs.ClosedNodes.{stays}
-use Rattle.rh_shell.proofs.laws.first_cause_is_kept.Goals as goal
-
-pub returns : goal.returns
-returns g c = λ node why h. stays g.R.Role.rules node why h

@@ -1,6 +1,0 @@
-use Rattle.rh_shell.specs.Waiting.{empty}
-use Rattle.rh_shell.proofs.Merges.{all_merged, none_waits}
-use Rattle.rh_shell.proofs.merging.one_waits_of_each.Goals as goal
-
-pub returns : goal.returns
-returns c = λ room events. all_merged events (empty room) (none_waits room)

@@ -1,8 +1,0 @@
-use Rattle.rh_shell.proofs.Rooming.{room_is_place, run_roomy}
-use Rattle.rh_shell.proofs.moving.a_leg_has_its_place.Goals as goal
-
-pub returns : goal.returns
-returns g c = record {
-  kept = run_roomy g.R.Role.rules;
-  place = room_is_place g.R.Role.rules;
-}

@@ -1,8 +1,0 @@
-use Rattle.rh_shell.proofs.EndFollowing.{end_event_follows, end_run_follows}
-use Rattle.rh_shell.proofs.moving.ends_move_by_their_rules.Goals as goal
-
-pub returns : goal.returns
-returns g c = record {
-  event = end_event_follows g.R.Role.rules g.R.EndRole.acts;
-  run = end_run_follows g.R.Role.rules g.R.EndRole.acts;
-}

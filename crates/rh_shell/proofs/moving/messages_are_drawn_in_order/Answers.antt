@@ -1,7 +1,0 @@
-use Rattle.std.proofs.Common.{refl}
-use Rattle.rh_shell.proofs.Puttings.{draw_puts}
-use Rattle.rh_shell.proofs.moving.messages_are_drawn_in_order.Goals as goal
-
-pub returns : goal.returns
-returns g c = λ now passage end room.
-    draw_puts g.R.Role.rules now room passage end passage.role refl

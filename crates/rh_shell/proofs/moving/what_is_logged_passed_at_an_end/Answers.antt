@@ -1,5 +1,0 @@
-use Rattle.rh_shell.proofs.EndFollowing.{end_event_passes}
-use Rattle.rh_shell.proofs.moving.what_is_logged_passed_at_an_end.Goals as goal
-
-pub returns : goal.returns
-returns g c = end_event_passes g.R.Role.rules g.R.EndRole.acts

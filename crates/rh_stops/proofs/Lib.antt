@@ -1,4 +1,0 @@
-mod Silent
-mod Stays
-mod ClientStays
-mod ServerStays

@@ -1,5 +1,0 @@
-use Rattle.rh_told.proofs.GoingOn.{goes_on, goes_on_closed}
-use Rattle.rh_told.proofs.reports.the_history_of_an_end_goes_on.Goals as goal
-
-pub returns : goal.returns
-returns g c = record { ever = goes_on; closes = goes_on_closed }

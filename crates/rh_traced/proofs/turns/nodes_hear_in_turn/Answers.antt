@@ -1,5 +1,0 @@
-use Rattle.rh_traced.proofs.InTurn.{new_in_turn, change_in_turn, changes_in_turn}
-use Rattle.rh_traced.proofs.turns.nodes_hear_in_turn.Goals as goal
-
-pub returns : goal.returns
-returns g c = record { new = new_in_turn; change = change_in_turn; changes = changes_in_turn }

@@ -1,3 +1,0 @@
-mod Uses
-mod Receivers
-mod Ways

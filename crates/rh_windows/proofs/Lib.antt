@@ -1,6 +1,0 @@
-mod ServerRows
-mod InRows
-mod OutRows
-mod ClientRows
-mod Exceeded
-mod Closing

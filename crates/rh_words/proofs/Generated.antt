@@ -1,0 +1,4 @@
+pub mod Pdus
+pub mod Steps
+pub mod Recordings
+pub mod Standing

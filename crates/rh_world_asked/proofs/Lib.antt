@@ -1,4 +1,0 @@
-mod OwnHeads
-mod Named
-mod Framed
-mod Expecting

@@ -1,0 +1,38 @@
+//! Clocks, cookies and addresses.
+
+use rh_net::*;
+use std::test::*;
+
+#[test]
+fn a_memory_clock_goes_on_by_its_step_and_stays_at_its_end(rt: HostRuntime) {
+    let mut clock = MemClock::new(u64::MAX - 15, 10);
+    assert_eq!(rt; clock.now(), u64::MAX - 15);
+    assert_eq!(rt; clock.now(), u64::MAX - 5);
+    assert_eq!(rt; clock.now(), u64::MAX);
+    assert_eq!(rt; clock.now(), u64::MAX);
+}
+
+#[test]
+fn cookies_count_and_a_call_that_fails_uses_up_none(rt: HostRuntime) -> Result<(), Fail> {
+    let mut cookies = CountCookies::new(Vec::from_slice(rt.alloc(), &[2, 3])?);
+    let first = [0, 0, 0, 0, 0, 0, 0, 0, 0, 0, 0, 0, 0, 0, 0, 1];
+    assert_eq!(rt; cookies.next(), Ok(first));
+    assert_eq!(rt; cookies.next(), Err(CookieFailed));
+    assert_eq!(rt; cookies.next(), Err(CookieFailed));
+    assert_eq!(rt; cookies.faults(), 2);
+    let second = [0, 0, 0, 0, 0, 0, 0, 0, 0, 0, 0, 0, 0, 0, 0, 2];
+    assert_eq!(rt; cookies.next(), Ok(second));
+    assert_eq!(rt; cookies.faults(), 2);
+    Ok(())
+}
+
+#[test]
+fn an_address_has_a_host_of_1_to_255_bytes(rt: HostRuntime) {
+    let address = Address::new(b"server", 593);
+    assert_eq!(rt; address.map(|a| a.port), Some(593));
+    let Some(address) = address else { return };
+    assert_eq!(rt; address.host(), b"server".as_slice());
+    assert_eq!(rt; Address::new(b"", 593), None);
+    assert!(rt; Address::new(&[b'a'; 255], 593).is_some());
+    assert_eq!(rt; Address::new(&[b'a'; 256], 593), None);
+}

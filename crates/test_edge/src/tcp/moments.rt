@@ -1,0 +1,26 @@
+//! The clock and the cookies of the system.
+
+use rh_net::{Clock, Cookies};
+use rh_tcp::*;
+use std::test::*;
+use std::thread;
+use std::time::Duration;
+
+#[test]
+fn the_clock_begins_near_0_and_goes_on(rt: HostRuntime) -> Result<(), Fail> {
+    let mut clock = SystemClock::new(rt)?;
+    let first = clock.now();
+    thread::sleep(&rt, Duration::from_millis(30));
+    let second = clock.now();
+    assert!(rt; first < 10_000, "{first}");
+    assert!(rt; first + 30 <= second, "{first} {second}");
+    Ok(())
+}
+
+#[test]
+fn cookies_differ(rt: HostRuntime) {
+    let mut cookies = RandomCookies::new(rt);
+    let first = cookies.next();
+    assert!(rt; first.is_ok());
+    assert_ne!(rt; first, cookies.next());
+}
