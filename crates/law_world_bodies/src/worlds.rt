@@ -5,20 +5,12 @@ ghost use Rattle.std.specs.Prelude.{◌≡◌, ℕ};
 ghost use Rattle.rh_line.specs.declared.cause.Cause.TheVariants.{BodyOver};
 ghost use Rattle.rh_line.specs.declared.leg.Leg.{Leg};
 ghost use Rattle.rh_record.specs.declared.answer.Who.{Who};
-ghost use Rattle.rh_nodes.specs.Opening.{Makers};
-ghost use Rattle.rh_nodes.specs.World.{World};
 ghost use Rattle.rh_client.specs.declared.state.ClientRole.{ClientRole};
-ghost use Rattle.rh_inproxy.specs.State.{InProxy};
-ghost use Rattle.rh_outproxy.specs.OutProxy.{OutProxy};
-ghost use Rattle.rh_server.specs.States.{Server};
 ghost use Rattle.law_node_history.specs.Changes.{Change, MayChange};
 ghost use Rattle.law_node_history.specs.Closes.{ClosesNode};
-ghost use Rattle.law_node_history.specs.Histories.{IsNew};
-ghost use Rattle.law_node_traces.specs.Traced.Cookies.{ByChanges};
-ghost use Rattle.law_node_traces.specs.Traced.Ours.{AreOurs, deeds, rules};
-ghost use Rattle.law_world_order.specs.Flows.{numbers_of};
-ghost use Rattle.law_world_order.specs.Premises.{AreInRange};
+ghost use Rattle.law_node_traces.specs.Traced.Ours.{rules};
 ghost use Rattle.law_world_order.specs.FirstTexts.{IsPort};
+ghost use Rattle.law_world_order.specs.Premises.{AtEachMoment, InNewWorlds};
 
 use crate::clients::what_a_client_puts_keeps_its_lengths;
 use crate::heads::heads_are_taken_by_their_lengths;
@@ -45,12 +37,10 @@ use rh_server::ServerRole;
 /// server, within the lifetime that the proxy told there, but for CONN/A3 and Pings, for which the
 /// response leaves room. Where no head comes no body is counted.
 pub fn no_change_closes_a_node_for_a_long_body<K>()
-    ensures { (m : Makers K InProxy OutProxy) (w : World K ClientRole Server InProxy OutProxy)
-        → IsNew w → (ours : AreOurs m w.company w.cast) → AreInRange (numbers_of ours)
-        → IsPort ours.config.port
-        → (v : World K ClientRole Server InProxy OutProxy) (by : ByChanges rules m deeds w v)
-        → (change : Change) (node : Who) (leg : Leg) (count told : ℕ) → MayChange rules v change
-        → ClosesNode rules v change node (BodyOver leg count told) → ⊥ }
+    ensures { InNewWorlds K (λ m w ours. IsPort ours.config.port
+        → AtEachMoment m w (λ v by.
+        (change : Change) (node : Who) (leg : Leg) (count told : ℕ) → MayChange rules v change
+        → ClosesNode rules v change node (BodyOver leg count told) → ⊥)) }
 {
     what_a_client_puts_keeps_its_lengths();
     heads_are_taken_by_their_lengths();

@@ -8,22 +8,14 @@ ghost use Rattle.rh_line.specs.declared.cause.Cause.TheVariants.{CookieMismatch,
 ghost use Rattle.rh_line.specs.declared.leg.Leg.{Leg};
 ghost use Rattle.rh_record.specs.declared.answer.Who.TheVariants.{Client as AtClient, In, Out};
 ghost use Rattle.rh_record.specs.declared.answer.Who.TheVariants.{Server as AtServer};
-ghost use Rattle.rh_nodes.specs.Opening.{Makers};
-ghost use Rattle.rh_nodes.specs.World.{World};
 ghost use Rattle.rh_client.specs.declared.state.ClientRole.{ClientRole};
 ghost use Rattle.rh_client.specs.State.{co};
-ghost use Rattle.rh_inproxy.specs.State.{InProxy};
-ghost use Rattle.rh_outproxy.specs.OutProxy.{OutProxy};
-ghost use Rattle.rh_server.specs.States.{Server};
 ghost use Rattle.law_node_history.specs.Carried.{happened};
 ghost use Rattle.law_node_history.specs.Changes.{Change, MayChange, of_line};
 ghost use Rattle.law_node_history.specs.Closes.{ClosesNode};
-ghost use Rattle.law_node_history.specs.Histories.{IsNew};
-ghost use Rattle.law_node_traces.specs.Traced.Cookies.{ByChanges};
-ghost use Rattle.law_node_traces.specs.Traced.Ours.{AreOurs, deeds, rules};
+ghost use Rattle.law_node_traces.specs.Traced.Ours.{rules};
 ghost use Rattle.law_node_traces.specs.Traced.Recordings.{history_at};
-ghost use Rattle.law_world_order.specs.Flows.{numbers_of};
-ghost use Rattle.law_world_order.specs.Premises.{AreDistinct, AreInRange};
+ghost use Rattle.law_world_order.specs.Premises.{AreDistinct, AtEachMoment, InNewWorlds};
 ghost use Rattle.law_world_windows.specs.Hops.{is_leg, os_leg};
 ghost use Rattle.law_world_order.specs.FirstTexts.{IsPort};
 ghost use Rattle.law_world_expected.specs.Roles.{ClientExpects, HaveCookies, InExpects, IsByLines};
@@ -69,118 +61,79 @@ use rh_server::ServerRole;
 /// goes on and reads frames there, whatever the cookies (MS-RPCH 3.2; profile).
 pub fn no_node_refuses_what_it_expects<K>()
     ensures in_unexpected { WorldsExpect K (OfClient AreDistinct) InExpects
-        → (m : Makers K InProxy OutProxy)
-        (w : World K ClientRole Server InProxy OutProxy) → IsNew w
-        → (ours : AreOurs m w.company w.cast) → AreInRange (numbers_of ours)
-        → (v : World K ClientRole Server InProxy OutProxy) (by : ByChanges rules m deeds w v)
-        → AreDistinct (happened (history_at m w v by.leads).client)
+        → InNewWorlds K (λ m w ours. AtEachMoment m w (λ v by.
+        AreDistinct (happened (history_at m w v by.leads).client)
         → (change : Change) → MayChange rules v change → (k : ℕ) (leg : Leg) (place : ℕ)
-        → ClosesNode rules v change (In k) (Unexpected leg place) → ⊥ }
+        → ClosesNode rules v change (In k) (Unexpected leg place) → ⊥)) }
     ensures in_cookie { WorldsExpect K (OfClient AreDistinct) InExpects
-        → (m : Makers K InProxy OutProxy)
-        (w : World K ClientRole Server InProxy OutProxy) → IsNew w
-        → (ours : AreOurs m w.company w.cast) → AreInRange (numbers_of ours)
-        → (v : World K ClientRole Server InProxy OutProxy) (by : ByChanges rules m deeds w v)
-        → AreDistinct (happened (history_at m w v by.leads).client)
+        → InNewWorlds K (λ m w ours. AtEachMoment m w (λ v by.
+        AreDistinct (happened (history_at m w v by.leads).client)
         → (change : Change) → MayChange rules v change → (k : ℕ) (leg : Leg)
         (expected got : Cookie)
-        → ClosesNode rules v change (In k) (CookieMismatch leg expected got) → ⊥ }
+        → ClosesNode rules v change (In k) (CookieMismatch leg expected got) → ⊥)) }
     ensures out_client_unexpected { WorldsExpect K (OfClient AreDistinct) OutExpectsClient
-        → (m : Makers K InProxy OutProxy)
-        (w : World K ClientRole Server InProxy OutProxy) → IsNew w
-        → (ours : AreOurs m w.company w.cast) → AreInRange (numbers_of ours)
-        → (v : World K ClientRole Server InProxy OutProxy) (by : ByChanges rules m deeds w v)
-        → AreDistinct (happened (history_at m w v by.leads).client)
+        → InNewWorlds K (λ m w ours. AtEachMoment m w (λ v by.
+        AreDistinct (happened (history_at m w v by.leads).client)
         → (change : Change) → MayChange rules v change → (k n place : ℕ)
-        → ClosesNode rules v change (Out k) (Unexpected (co n) place) → ⊥ }
+        → ClosesNode rules v change (Out k) (Unexpected (co n) place) → ⊥)) }
     ensures out_client_cookie { WorldsExpect K (OfClient AreDistinct) OutExpectsClient
-        → (m : Makers K InProxy OutProxy)
-        (w : World K ClientRole Server InProxy OutProxy) → IsNew w
-        → (ours : AreOurs m w.company w.cast) → AreInRange (numbers_of ours)
-        → (v : World K ClientRole Server InProxy OutProxy) (by : ByChanges rules m deeds w v)
-        → AreDistinct (happened (history_at m w v by.leads).client)
+        → InNewWorlds K (λ m w ours. AtEachMoment m w (λ v by.
+        AreDistinct (happened (history_at m w v by.leads).client)
         → (change : Change) → MayChange rules v change → (k n : ℕ)
         (expected got : Cookie)
-        → ClosesNode rules v change (Out k) (CookieMismatch (co n) expected got) → ⊥ }
+        → ClosesNode rules v change (Out k) (CookieMismatch (co n) expected got) → ⊥)) }
     ensures out_server_unexpected { WorldsExpect K (OfClient HaveCookies) OutExpectsServer
-        → (m : Makers K InProxy OutProxy)
-        (w : World K ClientRole Server InProxy OutProxy) → IsNew w
-        → (ours : AreOurs m w.company w.cast) → AreInRange (numbers_of ours)
-        → (v : World K ClientRole Server InProxy OutProxy) (by : ByChanges rules m deeds w v)
-        → HaveCookies (happened (history_at m w v by.leads).client)
+        → InNewWorlds K (λ m w ours. AtEachMoment m w (λ v by.
+        HaveCookies (happened (history_at m w v by.leads).client)
         → (change : Change) → MayChange rules v change → (k n place : ℕ)
-        → ClosesNode rules v change (Out k) (Unexpected (os_leg n) place) → ⊥ }
+        → ClosesNode rules v change (Out k) (Unexpected (os_leg n) place) → ⊥)) }
     ensures out_server_cookie { WorldsExpect K (OfClient HaveCookies) OutExpectsServer
-        → (m : Makers K InProxy OutProxy)
-        (w : World K ClientRole Server InProxy OutProxy) → IsNew w
-        → (ours : AreOurs m w.company w.cast) → AreInRange (numbers_of ours)
-        → (v : World K ClientRole Server InProxy OutProxy) (by : ByChanges rules m deeds w v)
-        → HaveCookies (happened (history_at m w v by.leads).client)
+        → InNewWorlds K (λ m w ours. AtEachMoment m w (λ v by.
+        HaveCookies (happened (history_at m w v by.leads).client)
         → (change : Change) → MayChange rules v change → (k n : ℕ)
         (expected got : Cookie)
-        → ClosesNode rules v change (Out k) (CookieMismatch (os_leg n) expected got) → ⊥ }
+        → ClosesNode rules v change (Out k) (CookieMismatch (os_leg n) expected got) → ⊥)) }
     ensures server_in_unexpected { WorldsExpect K IsByLines ServerExpectsIn
-        → (m : Makers K InProxy OutProxy)
-        (w : World K ClientRole Server InProxy OutProxy) → IsNew w
-        → (ours : AreOurs m w.company w.cast) → AreInRange (numbers_of ours)
-        → (v : World K ClientRole Server InProxy OutProxy) (by : ByChanges rules m deeds w v)
-        → list_all of_line by.leads.changes ≡ true
+        → InNewWorlds K (λ m w ours. AtEachMoment m w (λ v by.
+        list_all of_line by.leads.changes ≡ true
         → AreDistinct (happened (history_at m w v by.leads).client)
         → (change : Change) → MayChange rules v change → (n place : ℕ)
-        → ClosesNode rules v change AtServer (Unexpected (is_leg n) place) → ⊥ }
+        → ClosesNode rules v change AtServer (Unexpected (is_leg n) place) → ⊥)) }
     ensures server_in_cookie { WorldsExpect K IsByLines ServerExpectsIn
-        → (m : Makers K InProxy OutProxy)
-        (w : World K ClientRole Server InProxy OutProxy) → IsNew w
-        → (ours : AreOurs m w.company w.cast) → AreInRange (numbers_of ours)
-        → (v : World K ClientRole Server InProxy OutProxy) (by : ByChanges rules m deeds w v)
-        → list_all of_line by.leads.changes ≡ true
+        → InNewWorlds K (λ m w ours. AtEachMoment m w (λ v by.
+        list_all of_line by.leads.changes ≡ true
         → AreDistinct (happened (history_at m w v by.leads).client)
         → (change : Change) → MayChange rules v change → (n : ℕ)
         (expected got : Cookie)
-        → ClosesNode rules v change AtServer (CookieMismatch (is_leg n) expected got) → ⊥ }
+        → ClosesNode rules v change AtServer (CookieMismatch (is_leg n) expected got) → ⊥)) }
     ensures server_out_unexpected { WorldsExpect K (OfClient AreDistinct) ServerExpectsOut
-        → (m : Makers K InProxy OutProxy)
-        (w : World K ClientRole Server InProxy OutProxy) → IsNew w
-        → (ours : AreOurs m w.company w.cast) → AreInRange (numbers_of ours)
-        → (v : World K ClientRole Server InProxy OutProxy) (by : ByChanges rules m deeds w v)
-        → AreDistinct (happened (history_at m w v by.leads).client)
+        → InNewWorlds K (λ m w ours. AtEachMoment m w (λ v by.
+        AreDistinct (happened (history_at m w v by.leads).client)
         → (change : Change) → MayChange rules v change → (n place : ℕ)
-        → ClosesNode rules v change AtServer (Unexpected (os_leg n) place) → ⊥ }
+        → ClosesNode rules v change AtServer (Unexpected (os_leg n) place) → ⊥)) }
     ensures server_out_cookie { WorldsExpect K (OfClient AreDistinct) ServerExpectsOut
-        → (m : Makers K InProxy OutProxy)
-        (w : World K ClientRole Server InProxy OutProxy) → IsNew w
-        → (ours : AreOurs m w.company w.cast) → AreInRange (numbers_of ours)
-        → (v : World K ClientRole Server InProxy OutProxy) (by : ByChanges rules m deeds w v)
-        → AreDistinct (happened (history_at m w v by.leads).client)
+        → InNewWorlds K (λ m w ours. AtEachMoment m w (λ v by.
+        AreDistinct (happened (history_at m w v by.leads).client)
         → (change : Change) → MayChange rules v change → (n : ℕ)
         (expected got : Cookie)
-        → ClosesNode rules v change AtServer (CookieMismatch (os_leg n) expected got) → ⊥ }
+        → ClosesNode rules v change AtServer (CookieMismatch (os_leg n) expected got) → ⊥)) }
     ensures client_unexpected { WorldsExpect K (OfClient AreDistinct) ClientExpects
-        → (m : Makers K InProxy OutProxy)
-        (w : World K ClientRole Server InProxy OutProxy) → IsNew w
-        → (ours : AreOurs m w.company w.cast) → AreInRange (numbers_of ours)
-        → IsPort ours.config.port
-        → (v : World K ClientRole Server InProxy OutProxy) (by : ByChanges rules m deeds w v)
-        → AreDistinct (happened (history_at m w v by.leads).client)
+        → InNewWorlds K (λ m w ours. IsPort ours.config.port
+        → AtEachMoment m w (λ v by.
+        AreDistinct (happened (history_at m w v by.leads).client)
         → (change : Change) → MayChange rules v change → (n place : ℕ)
-        → ClosesNode rules v change AtClient (Unexpected (co n) place) → ⊥ }
+        → ClosesNode rules v change AtClient (Unexpected (co n) place) → ⊥)) }
     ensures out_serving_unexpected { WorldsServe K
-        → (m : Makers K InProxy OutProxy)
-        (w : World K ClientRole Server InProxy OutProxy) → IsNew w
-        → (ours : AreOurs m w.company w.cast) → AreInRange (numbers_of ours)
-        → IsPort ours.config.port
-        → (v : World K ClientRole Server InProxy OutProxy) (by : ByChanges rules m deeds w v)
-        → (change : Change) → MayChange rules v change → (k n place : ℕ)
-        → ClosesNode rules v change (Out k) (Unexpected (co n) place) → ⊥ }
+        → InNewWorlds K (λ m w ours. IsPort ours.config.port
+        → AtEachMoment m w (λ v by.
+        (change : Change) → MayChange rules v change → (k n place : ℕ)
+        → ClosesNode rules v change (Out k) (Unexpected (co n) place) → ⊥)) }
     ensures out_serving_cookie { WorldsServe K
-        → (m : Makers K InProxy OutProxy)
-        (w : World K ClientRole Server InProxy OutProxy) → IsNew w
-        → (ours : AreOurs m w.company w.cast) → AreInRange (numbers_of ours)
-        → IsPort ours.config.port
-        → (v : World K ClientRole Server InProxy OutProxy) (by : ByChanges rules m deeds w v)
-        → (change : Change) → MayChange rules v change → (k n : ℕ)
+        → InNewWorlds K (λ m w ours. IsPort ours.config.port
+        → AtEachMoment m w (λ v by.
+        (change : Change) → MayChange rules v change → (k n : ℕ)
         (expected got : Cookie)
-        → ClosesNode rules v change (Out k) (CookieMismatch (co n) expected got) → ⊥ }
+        → ClosesNode rules v change (Out k) (CookieMismatch (co n) expected got) → ⊥)) }
 {
     what_comes_to_a_client_has_a_name::<K>();
     a_client_puts_no_ping_first();

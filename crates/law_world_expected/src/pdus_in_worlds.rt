@@ -1,18 +1,8 @@
 //! The RPC PDUs that in proxies put in a world of roles. This function calls the laws that it
 //! stands on: its contract is the law.
 
-ghost use Rattle.rh_nodes.specs.Opening.{Makers};
-ghost use Rattle.rh_nodes.specs.World.{World};
-ghost use Rattle.rh_client.specs.declared.state.ClientRole.{ClientRole};
-ghost use Rattle.rh_inproxy.specs.State.{InProxy};
-ghost use Rattle.rh_outproxy.specs.OutProxy.{OutProxy};
-ghost use Rattle.rh_server.specs.States.{Server};
-ghost use Rattle.law_node_history.specs.Histories.{IsNew};
-ghost use Rattle.law_node_traces.specs.Traced.Cookies.{ByChanges};
-ghost use Rattle.law_node_traces.specs.Traced.Ours.{AreOurs, deeds, rules};
-ghost use Rattle.law_world_order.specs.Flows.{numbers_of};
-ghost use Rattle.law_world_order.specs.Premises.{AreInRange};
 ghost use Rattle.law_world_expected.specs.PdusInWorlds.{PassInTurn};
+ghost use Rattle.law_world_order.specs.Premises.{AtEachMoment, InNewWorlds};
 
 use law_peers_in_channels::{
     an_in_proxy_holds_back_pdus_of_a_successor, pdus_of_a_successor_come_behind_its_handover,
@@ -25,10 +15,8 @@ use law_world_order::a_world_of_roles_is_at_a_moment;
 /// leg of each IN channel before the one with which that leg begins (MS-RPCH 3.2.1, 3.2.3;
 /// successors are this profile's).
 pub fn rpc_pdus_pass_in_turn<K>()
-    ensures { (m : Makers K InProxy OutProxy) (w : World K ClientRole Server InProxy OutProxy)
-        → IsNew w → (ours : AreOurs m w.company w.cast) → AreInRange (numbers_of ours)
-        → (v : World K ClientRole Server InProxy OutProxy) (by : ByChanges rules m deeds w v)
-        → PassInTurn m w ours v by }
+    ensures { InNewWorlds K (λ m w ours. AtEachMoment m w (λ v by.
+        PassInTurn m w ours v by)) }
 {
     a_world_of_roles_is_at_a_moment::<K>();
     an_in_proxy_holds_back_pdus_of_a_successor();

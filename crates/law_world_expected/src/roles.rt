@@ -7,22 +7,13 @@ ghost use Rattle.rh_rts.specs.declared.command.Cookie.{Cookie};
 ghost use Rattle.rh_line.specs.declared.cause.Cause.TheVariants.{CookieMismatch, Unexpected};
 ghost use Rattle.rh_line.specs.declared.leg.Leg.{Leg};
 ghost use Rattle.rh_record.specs.declared.answer.Who.TheVariants.{In, Out, Server as AtServer};
-ghost use Rattle.rh_nodes.specs.Opening.{Makers};
-ghost use Rattle.rh_nodes.specs.World.{World};
-ghost use Rattle.rh_client.specs.declared.state.ClientRole.{ClientRole};
 ghost use Rattle.rh_client.specs.State.{co};
-ghost use Rattle.rh_inproxy.specs.State.{InProxy};
-ghost use Rattle.rh_outproxy.specs.OutProxy.{OutProxy};
-ghost use Rattle.rh_server.specs.States.{Server};
 ghost use Rattle.law_node_history.specs.Carried.{happened};
 ghost use Rattle.law_node_history.specs.Changes.{Change, MayChange, of_line};
 ghost use Rattle.law_node_history.specs.Closes.{ClosesNode};
-ghost use Rattle.law_node_history.specs.Histories.{IsNew};
-ghost use Rattle.law_node_traces.specs.Traced.Cookies.{ByChanges};
-ghost use Rattle.law_node_traces.specs.Traced.Ours.{AreOurs, deeds, rules};
+ghost use Rattle.law_node_traces.specs.Traced.Ours.{rules};
 ghost use Rattle.law_node_traces.specs.Traced.Recordings.{history_at};
-ghost use Rattle.law_world_order.specs.Flows.{numbers_of};
-ghost use Rattle.law_world_order.specs.Premises.{AreDistinct, AreInRange};
+ghost use Rattle.law_world_order.specs.Premises.{AreDistinct, AtEachMoment, InNewWorlds};
 ghost use Rattle.law_world_windows.specs.Hops.{is_leg, os_leg};
 ghost use Rattle.law_world_order.specs.FirstTexts.{IsPort};
 ghost use Rattle.law_world_expected.specs.Roles.{HaveCookies};
@@ -45,21 +36,15 @@ use law_world_order::a_world_of_roles_is_at_a_moment;
 /// What the client and the server put for it comes in its turn, and names the cookies that it
 /// knows (MS-RPCH 3.2.3; successors are this profile's).
 pub fn no_in_proxy_refuses_what_comes<K>()
-    ensures unexpected { (m : Makers K InProxy OutProxy)
-        (w : World K ClientRole Server InProxy OutProxy) → IsNew w
-        → (ours : AreOurs m w.company w.cast) → AreInRange (numbers_of ours)
-        → (v : World K ClientRole Server InProxy OutProxy) (by : ByChanges rules m deeds w v)
-        → AreDistinct (happened (history_at m w v by.leads).client)
+    ensures unexpected { InNewWorlds K (λ m w ours. AtEachMoment m w (λ v by.
+        AreDistinct (happened (history_at m w v by.leads).client)
         → (change : Change) → MayChange rules v change → (k : ℕ) (leg : Leg) (place : ℕ)
-        → ClosesNode rules v change (In k) (Unexpected leg place) → ⊥ }
-    ensures cookie { (m : Makers K InProxy OutProxy)
-        (w : World K ClientRole Server InProxy OutProxy) → IsNew w
-        → (ours : AreOurs m w.company w.cast) → AreInRange (numbers_of ours)
-        → (v : World K ClientRole Server InProxy OutProxy) (by : ByChanges rules m deeds w v)
-        → AreDistinct (happened (history_at m w v by.leads).client)
+        → ClosesNode rules v change (In k) (Unexpected leg place) → ⊥)) }
+    ensures cookie { InNewWorlds K (λ m w ours. AtEachMoment m w (λ v by.
+        AreDistinct (happened (history_at m w v by.leads).client)
         → (change : Change) → MayChange rules v change → (k : ℕ) (leg : Leg)
         (expected got : Cookie)
-        → ClosesNode rules v change (In k) (CookieMismatch leg expected got) → ⊥ }
+        → ClosesNode rules v change (In k) (CookieMismatch leg expected got) → ⊥)) }
 {
     no_node_refuses_what_it_expects::<K>();
     a_world_of_roles_is_at_a_moment::<K>();
@@ -71,21 +56,15 @@ pub fn no_in_proxy_refuses_what_comes<K>()
 /// And none closes the server with these causes for what an out proxy put (MS-RPCH 3.2.5;
 /// successors are this profile's).
 pub fn no_server_refuses_its_out_proxies<K>()
-    ensures unexpected { (m : Makers K InProxy OutProxy)
-        (w : World K ClientRole Server InProxy OutProxy) → IsNew w
-        → (ours : AreOurs m w.company w.cast) → AreInRange (numbers_of ours)
-        → (v : World K ClientRole Server InProxy OutProxy) (by : ByChanges rules m deeds w v)
-        → AreDistinct (happened (history_at m w v by.leads).client)
+    ensures unexpected { InNewWorlds K (λ m w ours. AtEachMoment m w (λ v by.
+        AreDistinct (happened (history_at m w v by.leads).client)
         → (change : Change) → MayChange rules v change → (n place : ℕ)
-        → ClosesNode rules v change AtServer (Unexpected (os_leg n) place) → ⊥ }
-    ensures cookie { (m : Makers K InProxy OutProxy)
-        (w : World K ClientRole Server InProxy OutProxy) → IsNew w
-        → (ours : AreOurs m w.company w.cast) → AreInRange (numbers_of ours)
-        → (v : World K ClientRole Server InProxy OutProxy) (by : ByChanges rules m deeds w v)
-        → AreDistinct (happened (history_at m w v by.leads).client)
+        → ClosesNode rules v change AtServer (Unexpected (os_leg n) place) → ⊥)) }
+    ensures cookie { InNewWorlds K (λ m w ours. AtEachMoment m w (λ v by.
+        AreDistinct (happened (history_at m w v by.leads).client)
         → (change : Change) → MayChange rules v change → (n : ℕ)
         (expected got : Cookie)
-        → ClosesNode rules v change AtServer (CookieMismatch (os_leg n) expected got) → ⊥ }
+        → ClosesNode rules v change AtServer (CookieMismatch (os_leg n) expected got) → ⊥)) }
 {
     no_node_refuses_what_it_expects::<K>();
     a_world_of_roles_is_at_a_moment::<K>();
@@ -96,23 +75,17 @@ pub fn no_server_refuses_its_out_proxies<K>()
 /// And where changes of lines alone led to that moment, none closes it with these causes for what
 /// an in proxy put (MS-RPCH 3.2.5; successors are this profile's).
 pub fn no_server_refuses_its_in_proxies<K>()
-    ensures unexpected { (m : Makers K InProxy OutProxy)
-        (w : World K ClientRole Server InProxy OutProxy) → IsNew w
-        → (ours : AreOurs m w.company w.cast) → AreInRange (numbers_of ours)
-        → (v : World K ClientRole Server InProxy OutProxy) (by : ByChanges rules m deeds w v)
-        → list_all of_line by.leads.changes ≡ true
+    ensures unexpected { InNewWorlds K (λ m w ours. AtEachMoment m w (λ v by.
+        list_all of_line by.leads.changes ≡ true
         → AreDistinct (happened (history_at m w v by.leads).client)
         → (change : Change) → MayChange rules v change → (n place : ℕ)
-        → ClosesNode rules v change AtServer (Unexpected (is_leg n) place) → ⊥ }
-    ensures cookie { (m : Makers K InProxy OutProxy)
-        (w : World K ClientRole Server InProxy OutProxy) → IsNew w
-        → (ours : AreOurs m w.company w.cast) → AreInRange (numbers_of ours)
-        → (v : World K ClientRole Server InProxy OutProxy) (by : ByChanges rules m deeds w v)
-        → list_all of_line by.leads.changes ≡ true
+        → ClosesNode rules v change AtServer (Unexpected (is_leg n) place) → ⊥)) }
+    ensures cookie { InNewWorlds K (λ m w ours. AtEachMoment m w (λ v by.
+        list_all of_line by.leads.changes ≡ true
         → AreDistinct (happened (history_at m w v by.leads).client)
         → (change : Change) → MayChange rules v change → (n : ℕ)
         (expected got : Cookie)
-        → ClosesNode rules v change AtServer (CookieMismatch (is_leg n) expected got) → ⊥ }
+        → ClosesNode rules v change AtServer (CookieMismatch (is_leg n) expected got) → ⊥)) }
 {
     no_node_refuses_what_it_expects::<K>();
     is_legs_of_lines_are_connected::<K>();
@@ -125,21 +98,15 @@ pub fn no_server_refuses_its_in_proxies<K>()
 /// client came up under the cookie of zeros, which a server takes for none (MS-RPCH 3.2.4, 3.2.5;
 /// successors are this profile's).
 pub fn no_out_proxy_refuses_its_server<K>()
-    ensures unexpected { (m : Makers K InProxy OutProxy)
-        (w : World K ClientRole Server InProxy OutProxy) → IsNew w
-        → (ours : AreOurs m w.company w.cast) → AreInRange (numbers_of ours)
-        → (v : World K ClientRole Server InProxy OutProxy) (by : ByChanges rules m deeds w v)
-        → HaveCookies (happened (history_at m w v by.leads).client)
+    ensures unexpected { InNewWorlds K (λ m w ours. AtEachMoment m w (λ v by.
+        HaveCookies (happened (history_at m w v by.leads).client)
         → (change : Change) → MayChange rules v change → (k n place : ℕ)
-        → ClosesNode rules v change (Out k) (Unexpected (os_leg n) place) → ⊥ }
-    ensures cookie { (m : Makers K InProxy OutProxy)
-        (w : World K ClientRole Server InProxy OutProxy) → IsNew w
-        → (ours : AreOurs m w.company w.cast) → AreInRange (numbers_of ours)
-        → (v : World K ClientRole Server InProxy OutProxy) (by : ByChanges rules m deeds w v)
-        → HaveCookies (happened (history_at m w v by.leads).client)
+        → ClosesNode rules v change (Out k) (Unexpected (os_leg n) place) → ⊥)) }
+    ensures cookie { InNewWorlds K (λ m w ours. AtEachMoment m w (λ v by.
+        HaveCookies (happened (history_at m w v by.leads).client)
         → (change : Change) → MayChange rules v change → (k n : ℕ)
         (expected got : Cookie)
-        → ClosesNode rules v change (Out k) (CookieMismatch (os_leg n) expected got) → ⊥ }
+        → ClosesNode rules v change (Out k) (CookieMismatch (os_leg n) expected got) → ⊥)) }
 {
     no_node_refuses_what_it_expects::<K>();
     a_world_of_roles_is_at_a_moment::<K>();
@@ -151,21 +118,15 @@ pub fn no_out_proxy_refuses_its_server<K>()
 /// proxy with `Unexpected` or `CookieMismatch` for what the client put (MS-RPCH 3.2.4; successors
 /// are this profile's).
 pub fn no_out_proxy_refuses_its_client<K>()
-    ensures unexpected { (m : Makers K InProxy OutProxy)
-        (w : World K ClientRole Server InProxy OutProxy) → IsNew w
-        → (ours : AreOurs m w.company w.cast) → AreInRange (numbers_of ours)
-        → IsPort ours.config.port
-        → (v : World K ClientRole Server InProxy OutProxy) (by : ByChanges rules m deeds w v)
-        → (change : Change) → MayChange rules v change → (k n place : ℕ)
-        → ClosesNode rules v change (Out k) (Unexpected (co n) place) → ⊥ }
-    ensures cookie { (m : Makers K InProxy OutProxy)
-        (w : World K ClientRole Server InProxy OutProxy) → IsNew w
-        → (ours : AreOurs m w.company w.cast) → AreInRange (numbers_of ours)
-        → IsPort ours.config.port
-        → (v : World K ClientRole Server InProxy OutProxy) (by : ByChanges rules m deeds w v)
-        → (change : Change) → MayChange rules v change → (k n : ℕ)
+    ensures unexpected { InNewWorlds K (λ m w ours. IsPort ours.config.port
+        → AtEachMoment m w (λ v by.
+        (change : Change) → MayChange rules v change → (k n place : ℕ)
+        → ClosesNode rules v change (Out k) (Unexpected (co n) place) → ⊥)) }
+    ensures cookie { InNewWorlds K (λ m w ours. IsPort ours.config.port
+        → AtEachMoment m w (λ v by.
+        (change : Change) → MayChange rules v change → (k n : ℕ)
         (expected got : Cookie)
-        → ClosesNode rules v change (Out k) (CookieMismatch (co n) expected got) → ⊥ }
+        → ClosesNode rules v change (Out k) (CookieMismatch (co n) expected got) → ⊥)) }
 {
     no_node_refuses_what_it_expects::<K>();
     an_out_proxy_of_a_world_expects_its_client::<K>();

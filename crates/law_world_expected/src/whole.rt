@@ -7,22 +7,13 @@ ghost use Rattle.rh_rts.specs.declared.command.Cookie.{Cookie};
 ghost use Rattle.rh_line.specs.declared.cause.Cause.TheVariants.{CookieMismatch, Unexpected};
 ghost use Rattle.rh_line.specs.declared.leg.Leg.{Leg};
 ghost use Rattle.rh_record.specs.declared.answer.Who.{Who};
-ghost use Rattle.rh_nodes.specs.Opening.{Makers};
-ghost use Rattle.rh_nodes.specs.World.{World};
-ghost use Rattle.rh_client.specs.declared.state.ClientRole.{ClientRole};
-ghost use Rattle.rh_inproxy.specs.State.{InProxy};
-ghost use Rattle.rh_outproxy.specs.OutProxy.{OutProxy};
-ghost use Rattle.rh_server.specs.States.{Server};
 ghost use Rattle.law_node_history.specs.Carried.{happened};
 ghost use Rattle.law_node_history.specs.Changes.{Change, MayChange, of_line};
 ghost use Rattle.law_node_history.specs.Closes.{ClosesNode};
-ghost use Rattle.law_node_history.specs.Histories.{IsNew};
-ghost use Rattle.law_node_traces.specs.Traced.Cookies.{ByChanges};
-ghost use Rattle.law_node_traces.specs.Traced.Ours.{AreOurs, deeds, rules};
+ghost use Rattle.law_node_traces.specs.Traced.Ours.{rules};
 ghost use Rattle.law_node_traces.specs.Traced.Recordings.{history_at};
-ghost use Rattle.law_world_order.specs.Flows.{numbers_of};
-ghost use Rattle.law_world_order.specs.Premises.{AreInRange};
 ghost use Rattle.law_world_order.specs.FirstTexts.{IsPort};
+ghost use Rattle.law_world_order.specs.Premises.{AtEachMoment, InNewWorlds};
 ghost use Rattle.law_world_expected.specs.Roles.{HaveCookies};
 
 use crate::roles::{
@@ -42,25 +33,19 @@ use law_node_traces::own_legs::worlds::{
 /// closes any node with `Unexpected` or `CookieMismatch`, on any leg (MS-RPCH 3.2; successors and
 /// the end are this profile's).
 pub fn no_node_refuses_what_comes<K>()
-    ensures unexpected { (m : Makers K InProxy OutProxy)
-        (w : World K ClientRole Server InProxy OutProxy) → IsNew w
-        → (ours : AreOurs m w.company w.cast) → AreInRange (numbers_of ours)
-        → IsPort ours.config.port
-        → (v : World K ClientRole Server InProxy OutProxy) (by : ByChanges rules m deeds w v)
-        → list_all of_line by.leads.changes ≡ true
+    ensures unexpected { InNewWorlds K (λ m w ours. IsPort ours.config.port
+        → AtEachMoment m w (λ v by.
+        list_all of_line by.leads.changes ≡ true
         → HaveCookies (happened (history_at m w v by.leads).client)
         → (change : Change) → MayChange rules v change → (node : Who) (leg : Leg) (place : ℕ)
-        → ClosesNode rules v change node (Unexpected leg place) → ⊥ }
-    ensures cookie { (m : Makers K InProxy OutProxy)
-        (w : World K ClientRole Server InProxy OutProxy) → IsNew w
-        → (ours : AreOurs m w.company w.cast) → AreInRange (numbers_of ours)
-        → IsPort ours.config.port
-        → (v : World K ClientRole Server InProxy OutProxy) (by : ByChanges rules m deeds w v)
-        → list_all of_line by.leads.changes ≡ true
+        → ClosesNode rules v change node (Unexpected leg place) → ⊥)) }
+    ensures cookie { InNewWorlds K (λ m w ours. IsPort ours.config.port
+        → AtEachMoment m w (λ v by.
+        list_all of_line by.leads.changes ≡ true
         → HaveCookies (happened (history_at m w v by.leads).client)
         → (change : Change) → MayChange rules v change → (node : Who) (leg : Leg)
         (expected got : Cookie)
-        → ClosesNode rules v change node (CookieMismatch leg expected got) → ⊥ }
+        → ClosesNode rules v change node (CookieMismatch leg expected got) → ⊥)) }
 {
     a_client_refuses_on_out_legs_alone::<K>();
     an_out_proxy_refuses_on_its_own_legs_alone::<K>();

@@ -6,22 +6,14 @@ ghost use Rattle.rh_rts.specs.declared.command.Cookie.{Cookie};
 ghost use Rattle.rh_line.specs.declared.cause.Cause.TheVariants.{CookieMismatch, Unexpected};
 ghost use Rattle.rh_line.specs.declared.leg.Leg.{Leg};
 ghost use Rattle.rh_record.specs.declared.answer.Who.TheVariants.{Client as AtClient};
-ghost use Rattle.rh_nodes.specs.Opening.{Makers};
-ghost use Rattle.rh_nodes.specs.World.{World};
 ghost use Rattle.rh_client.specs.declared.state.ClientRole.{ClientRole};
 ghost use Rattle.rh_client.specs.State.{co};
-ghost use Rattle.rh_inproxy.specs.State.{InProxy};
-ghost use Rattle.rh_outproxy.specs.OutProxy.{OutProxy};
-ghost use Rattle.rh_server.specs.States.{Server};
 ghost use Rattle.law_node_history.specs.Carried.{happened};
 ghost use Rattle.law_node_history.specs.Changes.{Change, MayChange};
 ghost use Rattle.law_node_history.specs.Closes.{ClosesNode};
-ghost use Rattle.law_node_history.specs.Histories.{IsNew};
-ghost use Rattle.law_node_traces.specs.Traced.Cookies.{ByChanges};
-ghost use Rattle.law_node_traces.specs.Traced.Ours.{AreOurs, deeds, rules};
+ghost use Rattle.law_node_traces.specs.Traced.Ours.{rules};
 ghost use Rattle.law_node_traces.specs.Traced.Recordings.{history_at};
-ghost use Rattle.law_world_order.specs.Flows.{numbers_of};
-ghost use Rattle.law_world_order.specs.Premises.{AreDistinct, AreInRange};
+ghost use Rattle.law_world_order.specs.Premises.{AreDistinct, AtEachMoment, InNewWorlds};
 ghost use Rattle.law_world_order.specs.FirstTexts.{IsPort};
 
 use crate::expecting::no_node_refuses_what_it_expects;
@@ -45,12 +37,9 @@ use rh_server::ServerRole;
 /// lines and half steps reach: no further change closes the client with `CookieMismatch`, on any
 /// leg. No row of its role refuses a packet or an RPC PDU for its cookie (MS-RPCH 2.2.4).
 pub fn a_client_refuses_no_cookie<K>()
-    ensures { (m : Makers K InProxy OutProxy)
-        (w : World K ClientRole Server InProxy OutProxy) → IsNew w
-        → (ours : AreOurs m w.company w.cast) → AreInRange (numbers_of ours)
-        → (v : World K ClientRole Server InProxy OutProxy) (by : ByChanges rules m deeds w v)
-        → (change : Change) → MayChange rules v change → (leg : Leg) (expected got : Cookie)
-        → ClosesNode rules v change AtClient (CookieMismatch leg expected got) → ⊥ }
+    ensures { InNewWorlds K (λ m w ours. AtEachMoment m w (λ v by.
+        (change : Change) → MayChange rules v change → (leg : Leg) (expected got : Cookie)
+        → ClosesNode rules v change AtClient (CookieMismatch leg expected got) → ⊥)) }
 {
     what_a_client_refuses();
     what_is_put_is_legible::<K>();
@@ -75,22 +64,16 @@ pub fn a_client_refuses_no_cookie<K>()
 /// one cookie by that moment: none closes it with `Unexpected` for what an out proxy put (MS-RPCH
 /// 3.2.2.5; successors are this profile's).
 pub fn no_client_refuses_what_comes<K>()
-    ensures unexpected { (m : Makers K InProxy OutProxy)
-        (w : World K ClientRole Server InProxy OutProxy) → IsNew w
-        → (ours : AreOurs m w.company w.cast) → AreInRange (numbers_of ours)
-        → IsPort ours.config.port
-        → (v : World K ClientRole Server InProxy OutProxy) (by : ByChanges rules m deeds w v)
-        → AreDistinct (happened (history_at m w v by.leads).client)
+    ensures unexpected { InNewWorlds K (λ m w ours. IsPort ours.config.port
+        → AtEachMoment m w (λ v by.
+        AreDistinct (happened (history_at m w v by.leads).client)
         → (change : Change) → MayChange rules v change → (n place : ℕ)
-        → ClosesNode rules v change AtClient (Unexpected (co n) place) → ⊥ }
-    ensures cookie { (m : Makers K InProxy OutProxy)
-        (w : World K ClientRole Server InProxy OutProxy) → IsNew w
-        → (ours : AreOurs m w.company w.cast) → AreInRange (numbers_of ours)
-        → IsPort ours.config.port
-        → (v : World K ClientRole Server InProxy OutProxy) (by : ByChanges rules m deeds w v)
-        → AreDistinct (happened (history_at m w v by.leads).client)
+        → ClosesNode rules v change AtClient (Unexpected (co n) place) → ⊥)) }
+    ensures cookie { InNewWorlds K (λ m w ours. IsPort ours.config.port
+        → AtEachMoment m w (λ v by.
+        AreDistinct (happened (history_at m w v by.leads).client)
         → (change : Change) → MayChange rules v change → (n : ℕ) (expected got : Cookie)
-        → ClosesNode rules v change AtClient (CookieMismatch (co n) expected got) → ⊥ }
+        → ClosesNode rules v change AtClient (CookieMismatch (co n) expected got) → ⊥)) }
 {
     a_client_refuses_no_cookie::<K>();
     no_node_refuses_what_it_expects::<K>();

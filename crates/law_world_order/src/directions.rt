@@ -1,18 +1,10 @@
 //! Both directions of a world of roles. These functions do nothing: their contracts are the laws.
 
-ghost use Rattle.rh_nodes.specs.Opening.{Makers};
-ghost use Rattle.rh_nodes.specs.World.{World};
 ghost use Rattle.rh_client.specs.declared.state.ClientRole.{ClientRole};
-ghost use Rattle.rh_inproxy.specs.State.{InProxy};
-ghost use Rattle.rh_outproxy.specs.OutProxy.{OutProxy};
-ghost use Rattle.rh_server.specs.States.{Server};
-ghost use Rattle.law_node_history.specs.Histories.{IsNew};
-ghost use Rattle.law_node_traces.specs.Traced.Cookies.{ByChanges};
-ghost use Rattle.law_node_traces.specs.Traced.Ours.{AreOurs, deeds, rules};
 ghost use Rattle.law_node_traces.specs.Traced.Recordings.{history_at};
 ghost use Rattle.law_world_order.specs.Directions.{BothMark, Directions};
 ghost use Rattle.law_world_order.specs.Flows.{IsFlowing, numbers_of};
-ghost use Rattle.law_world_order.specs.Premises.{AreInRange};
+ghost use Rattle.law_world_order.specs.Premises.{AtEachMoment, InNewWorlds};
 
 use law_moves::{what_is_read_is_fine, what_was_put_is_read};
 use law_node_begins::{
@@ -45,10 +37,8 @@ use rh_server::ServerRole;
 /// lines and half steps reach, each node has its stream: what it put on a leg begins as it is read
 /// at the other end, may go on the pipe that is read there, and spells what was drawn.
 pub fn what_is_put_is_legible<K>()
-    ensures { (m : Makers K InProxy OutProxy) (w : World K ClientRole Server InProxy OutProxy)
-        → IsNew w → (ours : AreOurs m w.company w.cast) → AreInRange (numbers_of ours)
-        → (v : World K ClientRole Server InProxy OutProxy) (by : ByChanges rules m deeds w v)
-        → IsFlowing (numbers_of ours) w v (history_at m w v by.leads) }
+    ensures { InNewWorlds K (λ m w ours. AtEachMoment m w (λ v by.
+        IsFlowing (numbers_of ours) w v (history_at m w v by.leads))) }
 {
     what_was_put_is_read();
     what_is_read_is_fine();
@@ -84,10 +74,8 @@ pub fn what_is_put_is_legible<K>()
 /// lines and half steps reach, the streams of the nodes are joined in both directions: on each leg
 /// what was read is of what was put at its other end.
 pub fn directions_are_joined<K>()
-    ensures { (m : Makers K InProxy OutProxy) (w : World K ClientRole Server InProxy OutProxy)
-        → IsNew w → (ours : AreOurs m w.company w.cast) → AreInRange (numbers_of ours)
-        → (v : World K ClientRole Server InProxy OutProxy) (by : ByChanges rules m deeds w v)
-        → Directions (numbers_of ours) v (history_at m w v by.leads) }
+    ensures { InNewWorlds K (λ m w ours. AtEachMoment m w (λ v by.
+        Directions (numbers_of ours) v (history_at m w v by.leads))) }
 {
     what_is_put_is_legible::<K>();
     a_leg_is_read_at_its_ends::<K, ClientRole, ServerRole, InProxyRole, OutProxyRole>();
@@ -100,10 +88,8 @@ pub fn directions_are_joined<K>()
 /// So on no leg of either direction stands anything behind a handover mark (IN_R1/A5 and A6,
 /// OUT_R1/A9 and A10), nor an RPC PDU or END behind END.
 pub fn marks_are_last<K>()
-    ensures { (m : Makers K InProxy OutProxy) (w : World K ClientRole Server InProxy OutProxy)
-        → IsNew w → (ours : AreOurs m w.company w.cast) → AreInRange (numbers_of ours)
-        → (v : World K ClientRole Server InProxy OutProxy) (by : ByChanges rules m deeds w v)
-        → BothMark (numbers_of ours) v (history_at m w v by.leads) }
+    ensures { InNewWorlds K (λ m w ours. AtEachMoment m w (λ v by.
+        BothMark (numbers_of ours) v (history_at m w v by.leads))) }
 {
     directions_are_joined::<K>();
     what_goes_down_is_a_route();

@@ -2,18 +2,12 @@
 //! laws.
 
 ghost use Rattle.std.specs.Prelude.{◌≡◌, List, true};
-ghost use Rattle.rh_nodes.specs.Opening.{Makers};
-ghost use Rattle.rh_nodes.specs.World.{World};
 ghost use Rattle.rh_client.specs.declared.state.ClientRole.{ClientRole};
-ghost use Rattle.rh_inproxy.specs.State.{InProxy};
-ghost use Rattle.rh_outproxy.specs.OutProxy.{OutProxy};
-ghost use Rattle.rh_server.specs.States.{Server};
 ghost use Rattle.law_node_history.specs.Changes.{Turn, after_turns};
-ghost use Rattle.law_node_history.specs.Histories.{IsNew};
 ghost use Rattle.law_node_traces.specs.Traced.Cookies.{AreWhole, is_whole_half};
-ghost use Rattle.law_node_traces.specs.Traced.Ours.{AreOurs, deeds, rules};
+ghost use Rattle.law_node_traces.specs.Traced.Ours.{deeds, rules};
 ghost use Rattle.law_world_order.specs.Flows.{numbers_of};
-ghost use Rattle.law_world_order.specs.Premises.{AreInRange};
+ghost use Rattle.law_world_order.specs.Premises.{InNewWorlds};
 ghost use Rattle.law_world_order.specs.Turns.{IsInOrder};
 
 use crate::directions::marks_are_last;
@@ -36,10 +30,9 @@ pub fn a_half_step_is_whole(half: Half)
 /// half steps, in any order: where a node alone is told that its leg is up, failed or ended, or the
 /// moment, whatever the node at the other end is told.
 pub fn turns_keep_order<K>()
-    ensures { (m : Makers K InProxy OutProxy) (w : World K ClientRole Server InProxy OutProxy)
-        → IsNew w → (ours : AreOurs m w.company w.cast) → AreInRange (numbers_of ours)
-        → (turns : List Turn) → AreWhole turns
-        → IsInOrder (numbers_of ours) m w (after_turns rules m deeds w turns) }
+    ensures { InNewWorlds K (λ m w ours.
+        (turns : List Turn) → AreWhole turns
+        → IsInOrder (numbers_of ours) m w (after_turns rules m deeds w turns)) }
 {
     turns_are_changes::<K, ClientRole, ServerRole, InProxyRole, OutProxyRole>();
     roles_keep_order::<K>();

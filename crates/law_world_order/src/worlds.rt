@@ -1,17 +1,8 @@
 //! The order law of a world of roles. This function does nothing: its contract is the law.
 
-ghost use Rattle.rh_nodes.specs.Opening.{Makers};
-ghost use Rattle.rh_nodes.specs.World.{World};
-ghost use Rattle.rh_client.specs.declared.state.ClientRole.{ClientRole};
-ghost use Rattle.rh_inproxy.specs.State.{InProxy};
-ghost use Rattle.rh_outproxy.specs.OutProxy.{OutProxy};
-ghost use Rattle.rh_server.specs.States.{Server};
-ghost use Rattle.law_node_history.specs.Histories.{IsNew};
 ghost use Rattle.law_node_traces.specs.Traced.Cookies.{has_whole_cookie};
-ghost use Rattle.law_node_traces.specs.Traced.Ours.{AreOurs};
 ghost use Rattle.law_world_reports.specs.Ordering.Premises.{KeepsOrder};
-ghost use Rattle.law_world_order.specs.Flows.{numbers_of};
-ghost use Rattle.law_world_order.specs.Premises.{AreInRange};
+ghost use Rattle.law_world_order.specs.Premises.{InNewWorlds};
 
 use crate::directions::directions_are_joined;
 use law_node_ends::takes_that_end_report_the_end;
@@ -22,9 +13,8 @@ use law_peers_routes::{callers_take_what_was_given, what_came_up_was_given};
 /// changes of lines and half steps reach: what an end took is a front of what the other one gave,
 /// and where it is told that no more comes it took all of it, and the other was told to close.
 pub fn roles_keep_order<K>()
-    ensures { (m : Makers K InProxy OutProxy) (w : World K ClientRole Server InProxy OutProxy)
-        → IsNew w → (ours : AreOurs m w.company w.cast) → AreInRange (numbers_of ours)
-        → KeepsOrder has_whole_cookie m w }
+    ensures { InNewWorlds K (λ m w ours.
+        KeepsOrder has_whole_cookie m w) }
 {
     directions_are_joined::<K>();
     a_recording_of_roles_is_known::<K>();

@@ -4,22 +4,15 @@ ghost use Rattle.std.specs.Prelude.{ℕ};
 ghost use Rattle.rh_line.specs.declared.cause.Cause.TheVariants.{OutOfRange, WindowExceeded};
 ghost use Rattle.rh_line.specs.declared.leg.Leg.{Leg};
 ghost use Rattle.rh_record.specs.declared.answer.Who.TheVariants.{Client as AtClient, In, Out};
-ghost use Rattle.rh_nodes.specs.Opening.{Makers};
-ghost use Rattle.rh_nodes.specs.World.{World};
 ghost use Rattle.rh_client.specs.declared.state.ClientRole.{ClientRole};
 ghost use Rattle.rh_client.specs.State.{ci, co};
-ghost use Rattle.rh_inproxy.specs.State.{InProxy};
-ghost use Rattle.rh_outproxy.specs.OutProxy.{OutProxy};
-ghost use Rattle.rh_server.specs.States.{Server};
 ghost use Rattle.law_node_history.specs.Carried.{happened};
 ghost use Rattle.law_node_history.specs.Changes.{Change, MayChange};
 ghost use Rattle.law_node_history.specs.Closes.{ClosesNode};
-ghost use Rattle.law_node_history.specs.Histories.{IsNew};
-ghost use Rattle.law_node_traces.specs.Traced.Cookies.{ByChanges};
-ghost use Rattle.law_node_traces.specs.Traced.Ours.{AreOurs, deeds, rules};
+ghost use Rattle.law_node_traces.specs.Traced.Ours.{rules};
 ghost use Rattle.law_node_traces.specs.Traced.Recordings.{history_at};
 ghost use Rattle.law_world_order.specs.Flows.{numbers_of};
-ghost use Rattle.law_world_order.specs.Premises.{AreDistinct, AreInRange};
+ghost use Rattle.law_world_order.specs.Premises.{AreDistinct, AtEachMoment, InNewWorlds};
 ghost use Rattle.law_world_windows.specs.ClientHops.{HasOneWindow};
 
 use law_moves::{
@@ -57,55 +50,37 @@ use rh_server::ServerRole;
 /// `OutOfRange` for what the client sent, nor the client for what an out proxy sent; and no out
 /// proxy closes with `OutOfRange` at all (MS-RPCH 3.2, 3.2.1).
 pub fn no_hop_of_a_client_closes_a_node<K>()
-    ensures in_window { (m : Makers K InProxy OutProxy)
-        (w : World K ClientRole Server InProxy OutProxy) → IsNew w
-        → (ours : AreOurs m w.company w.cast) → AreInRange (numbers_of ours)
-        → HasOneWindow (numbers_of ours)
-        → (v : World K ClientRole Server InProxy OutProxy) (by : ByChanges rules m deeds w v)
-        → AreDistinct (happened (history_at m w v by.leads).client)
+    ensures in_window { InNewWorlds K (λ m w ours. HasOneWindow (numbers_of ours)
+        → AtEachMoment m w (λ v by.
+        AreDistinct (happened (history_at m w v by.leads).client)
         → (change : Change) → MayChange rules v change → (k n reached edge : ℕ)
-        → ClosesNode rules v change (In k) (WindowExceeded (ci n) reached edge) → ⊥ }
-    ensures in_range { (m : Makers K InProxy OutProxy)
-        (w : World K ClientRole Server InProxy OutProxy) → IsNew w
-        → (ours : AreOurs m w.company w.cast) → AreInRange (numbers_of ours)
-        → HasOneWindow (numbers_of ours)
-        → (v : World K ClientRole Server InProxy OutProxy) (by : ByChanges rules m deeds w v)
-        → AreDistinct (happened (history_at m w v by.leads).client)
+        → ClosesNode rules v change (In k) (WindowExceeded (ci n) reached edge) → ⊥)) }
+    ensures in_range { InNewWorlds K (λ m w ours. HasOneWindow (numbers_of ours)
+        → AtEachMoment m w (λ v by.
+        AreDistinct (happened (history_at m w v by.leads).client)
         → (change : Change) → MayChange rules v change → (k n command value : ℕ)
-        → ClosesNode rules v change (In k) (OutOfRange (ci n) command value) → ⊥ }
-    ensures client_window { (m : Makers K InProxy OutProxy)
-        (w : World K ClientRole Server InProxy OutProxy) → IsNew w
-        → (ours : AreOurs m w.company w.cast) → AreInRange (numbers_of ours)
-        → HasOneWindow (numbers_of ours)
-        → (v : World K ClientRole Server InProxy OutProxy) (by : ByChanges rules m deeds w v)
-        → AreDistinct (happened (history_at m w v by.leads).client)
+        → ClosesNode rules v change (In k) (OutOfRange (ci n) command value) → ⊥)) }
+    ensures client_window { InNewWorlds K (λ m w ours. HasOneWindow (numbers_of ours)
+        → AtEachMoment m w (λ v by.
+        AreDistinct (happened (history_at m w v by.leads).client)
         → (change : Change) → MayChange rules v change → (n reached edge : ℕ)
-        → ClosesNode rules v change AtClient (WindowExceeded (co n) reached edge) → ⊥ }
-    ensures client_range { (m : Makers K InProxy OutProxy)
-        (w : World K ClientRole Server InProxy OutProxy) → IsNew w
-        → (ours : AreOurs m w.company w.cast) → AreInRange (numbers_of ours)
-        → HasOneWindow (numbers_of ours)
-        → (v : World K ClientRole Server InProxy OutProxy) (by : ByChanges rules m deeds w v)
-        → AreDistinct (happened (history_at m w v by.leads).client)
+        → ClosesNode rules v change AtClient (WindowExceeded (co n) reached edge) → ⊥)) }
+    ensures client_range { InNewWorlds K (λ m w ours. HasOneWindow (numbers_of ours)
+        → AtEachMoment m w (λ v by.
+        AreDistinct (happened (history_at m w v by.leads).client)
         → (change : Change) → MayChange rules v change → (n command value : ℕ)
-        → ClosesNode rules v change AtClient (OutOfRange (co n) command value) → ⊥ }
-    ensures out_window { (m : Makers K InProxy OutProxy)
-        (w : World K ClientRole Server InProxy OutProxy) → IsNew w
-        → (ours : AreOurs m w.company w.cast) → AreInRange (numbers_of ours)
-        → HasOneWindow (numbers_of ours)
-        → (v : World K ClientRole Server InProxy OutProxy) (by : ByChanges rules m deeds w v)
-        → AreDistinct (happened (history_at m w v by.leads).client)
+        → ClosesNode rules v change AtClient (OutOfRange (co n) command value) → ⊥)) }
+    ensures out_window { InNewWorlds K (λ m w ours. HasOneWindow (numbers_of ours)
+        → AtEachMoment m w (λ v by.
+        AreDistinct (happened (history_at m w v by.leads).client)
         → (change : Change) → MayChange rules v change → (k n reached edge : ℕ)
-        → ClosesNode rules v change (Out k) (WindowExceeded (co n) reached edge) → ⊥ }
-    ensures out_range { (m : Makers K InProxy OutProxy)
-        (w : World K ClientRole Server InProxy OutProxy) → IsNew w
-        → (ours : AreOurs m w.company w.cast) → AreInRange (numbers_of ours)
-        → HasOneWindow (numbers_of ours)
-        → (v : World K ClientRole Server InProxy OutProxy) (by : ByChanges rules m deeds w v)
-        → AreDistinct (happened (history_at m w v by.leads).client)
+        → ClosesNode rules v change (Out k) (WindowExceeded (co n) reached edge) → ⊥)) }
+    ensures out_range { InNewWorlds K (λ m w ours. HasOneWindow (numbers_of ours)
+        → AtEachMoment m w (λ v by.
+        AreDistinct (happened (history_at m w v by.leads).client)
         → (change : Change) → MayChange rules v change → (k : ℕ) (leg : Leg)
         (command value : ℕ)
-        → ClosesNode rules v change (Out k) (OutOfRange leg command value) → ⊥ }
+        → ClosesNode rules v change (Out k) (OutOfRange leg command value) → ⊥)) }
 {
     a_client_sends_as_it_was_told();
     a_client_begins_each_channel_once();

@@ -3,20 +3,12 @@
 ghost use Rattle.std.specs.Prelude.{ℕ};
 ghost use Rattle.rh_line.specs.declared.cause.Cause.TheVariants.{OutOfRange, WindowExceeded};
 ghost use Rattle.rh_record.specs.declared.answer.Who.TheVariants.{In, Out, Server as AtServer};
-ghost use Rattle.rh_nodes.specs.Opening.{Makers};
-ghost use Rattle.rh_nodes.specs.World.{World};
 ghost use Rattle.rh_client.specs.declared.state.ClientRole.{ClientRole};
-ghost use Rattle.rh_inproxy.specs.State.{InProxy};
-ghost use Rattle.rh_outproxy.specs.OutProxy.{OutProxy};
-ghost use Rattle.rh_server.specs.States.{Server};
 ghost use Rattle.law_node_history.specs.Changes.{Change, MayChange};
 ghost use Rattle.law_node_history.specs.Closes.{ClosesNode};
-ghost use Rattle.law_node_history.specs.Histories.{IsNew};
-ghost use Rattle.law_node_traces.specs.Traced.Cookies.{ByChanges};
-ghost use Rattle.law_node_traces.specs.Traced.Ours.{AreOurs, deeds, rules};
-ghost use Rattle.law_world_order.specs.Flows.{numbers_of};
-ghost use Rattle.law_world_order.specs.Premises.{AreInRange};
+ghost use Rattle.law_node_traces.specs.Traced.Ours.{rules};
 ghost use Rattle.law_world_windows.specs.Hops.{is_leg, os_leg};
+ghost use Rattle.law_world_order.specs.Premises.{AtEachMoment, InNewWorlds};
 
 use crate::in_proxy::an_in_proxy_sends_within_the_servers_window;
 use crate::out_proxy::an_out_proxy_receives_within_its_window;
@@ -44,30 +36,18 @@ use rh_server::ServerRole;
 /// for what the server sent; and no in proxy and no server closes with `OutOfRange` for what the
 /// other end of such a hop acknowledged (MS-RPCH 3.2).
 pub fn no_hop_on_one_leg_closes_a_node<K>()
-    ensures server_window { (m : Makers K InProxy OutProxy)
-        (w : World K ClientRole Server InProxy OutProxy) → IsNew w
-        → (ours : AreOurs m w.company w.cast) → AreInRange (numbers_of ours)
-        → (v : World K ClientRole Server InProxy OutProxy) (by : ByChanges rules m deeds w v)
-        → (change : Change) → MayChange rules v change → (n reached edge : ℕ)
-        → ClosesNode rules v change AtServer (WindowExceeded (is_leg n) reached edge) → ⊥ }
-    ensures server_range { (m : Makers K InProxy OutProxy)
-        (w : World K ClientRole Server InProxy OutProxy) → IsNew w
-        → (ours : AreOurs m w.company w.cast) → AreInRange (numbers_of ours)
-        → (v : World K ClientRole Server InProxy OutProxy) (by : ByChanges rules m deeds w v)
-        → (change : Change) → MayChange rules v change → (n command value : ℕ)
-        → ClosesNode rules v change AtServer (OutOfRange (os_leg n) command value) → ⊥ }
-    ensures in_range { (m : Makers K InProxy OutProxy)
-        (w : World K ClientRole Server InProxy OutProxy) → IsNew w
-        → (ours : AreOurs m w.company w.cast) → AreInRange (numbers_of ours)
-        → (v : World K ClientRole Server InProxy OutProxy) (by : ByChanges rules m deeds w v)
-        → (change : Change) → MayChange rules v change → (k n command value : ℕ)
-        → ClosesNode rules v change (In k) (OutOfRange (is_leg n) command value) → ⊥ }
-    ensures out_window { (m : Makers K InProxy OutProxy)
-        (w : World K ClientRole Server InProxy OutProxy) → IsNew w
-        → (ours : AreOurs m w.company w.cast) → AreInRange (numbers_of ours)
-        → (v : World K ClientRole Server InProxy OutProxy) (by : ByChanges rules m deeds w v)
-        → (change : Change) → MayChange rules v change → (k n reached edge : ℕ)
-        → ClosesNode rules v change (Out k) (WindowExceeded (os_leg n) reached edge) → ⊥ }
+    ensures server_window { InNewWorlds K (λ m w ours. AtEachMoment m w (λ v by.
+        (change : Change) → MayChange rules v change → (n reached edge : ℕ)
+        → ClosesNode rules v change AtServer (WindowExceeded (is_leg n) reached edge) → ⊥)) }
+    ensures server_range { InNewWorlds K (λ m w ours. AtEachMoment m w (λ v by.
+        (change : Change) → MayChange rules v change → (n command value : ℕ)
+        → ClosesNode rules v change AtServer (OutOfRange (os_leg n) command value) → ⊥)) }
+    ensures in_range { InNewWorlds K (λ m w ours. AtEachMoment m w (λ v by.
+        (change : Change) → MayChange rules v change → (k n command value : ℕ)
+        → ClosesNode rules v change (In k) (OutOfRange (is_leg n) command value) → ⊥)) }
+    ensures out_window { InNewWorlds K (λ m w ours. AtEachMoment m w (λ v by.
+        (change : Change) → MayChange rules v change → (k n reached edge : ℕ)
+        → ClosesNode rules v change (Out k) (WindowExceeded (os_leg n) reached edge) → ⊥)) }
 {
     a_server_receives_within_its_window();
     a_server_sends_within_the_proxys_window();

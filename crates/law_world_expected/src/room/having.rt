@@ -6,7 +6,6 @@ ghost use Rattle.rh_line.specs.declared.cause.Cause.TheVariants.{ControlFull};
 ghost use Rattle.rh_line.specs.declared.leg.Leg.{Leg};
 ghost use Rattle.rh_record.specs.declared.answer.Who.TheVariants.{Client as AtClient, In, Out};
 ghost use Rattle.rh_record.specs.declared.answer.Who.TheVariants.{Server as AtServer};
-ghost use Rattle.rh_nodes.specs.Opening.{Makers};
 ghost use Rattle.rh_nodes.specs.World.{World};
 ghost use Rattle.rh_client.specs.declared.state.ClientRole.{ClientRole};
 ghost use Rattle.rh_inproxy.specs.State.{InProxy};
@@ -15,12 +14,10 @@ ghost use Rattle.rh_server.specs.States.{Server};
 ghost use Rattle.law_node_history.specs.Carried.{happened};
 ghost use Rattle.law_node_history.specs.Changes.{Change, MayChange};
 ghost use Rattle.law_node_history.specs.Closes.{ClosesNode};
-ghost use Rattle.law_node_history.specs.Histories.{IsNew};
 ghost use Rattle.law_node_traces.specs.Traced.Cookies.{ByChanges};
-ghost use Rattle.law_node_traces.specs.Traced.Ours.{AreOurs, deeds, rules};
+ghost use Rattle.law_node_traces.specs.Traced.Ours.{deeds, rules};
 ghost use Rattle.law_node_traces.specs.Traced.Recordings.{history_at};
-ghost use Rattle.law_world_order.specs.Flows.{numbers_of};
-ghost use Rattle.law_world_order.specs.Premises.{AreDistinct, AreInRange};
+ghost use Rattle.law_world_order.specs.Premises.{AreDistinct, AtEachMoment, InNewWorlds};
 ghost use Rattle.law_world_expected.specs.Roles.{OfClient, WorldsExpect};
 ghost use Rattle.law_world_expected.specs.Roomy.{InHasRoom, OutHasRoom, ServerHasRoom};
 
@@ -55,36 +52,25 @@ use rh_server::ServerRole;
 /// what the client put next on the legs that they read, out proxies for what the server put next,
 /// and the server for what in proxies did (MS-RPCH 3.2; profile).
 pub fn no_node_that_has_room_closes_for_a_full_leg<K>()
-    ensures client { (m : Makers K InProxy OutProxy)
-        (w : World K ClientRole Server InProxy OutProxy) → IsNew w
-        → (ours : AreOurs m w.company w.cast) → AreInRange (numbers_of ours)
-        → (v : World K ClientRole Server InProxy OutProxy) → ByChanges rules m deeds w v
+    ensures client { InNewWorlds K (λ m w ours.
+        (v : World K ClientRole Server InProxy OutProxy) → ByChanges rules m deeds w v
         → (change : Change) → MayChange rules v change → (full : Leg)
-        → ClosesNode rules v change AtClient (ControlFull full) → ⊥ }
+        → ClosesNode rules v change AtClient (ControlFull full) → ⊥) }
     ensures in_proxies { WorldsExpect K (OfClient AreDistinct) InHasRoom
-        → (m : Makers K InProxy OutProxy)
-        (w : World K ClientRole Server InProxy OutProxy) → IsNew w
-        → (ours : AreOurs m w.company w.cast) → AreInRange (numbers_of ours)
-        → (v : World K ClientRole Server InProxy OutProxy) (by : ByChanges rules m deeds w v)
-        → AreDistinct (happened (history_at m w v by.leads).client)
+        → InNewWorlds K (λ m w ours. AtEachMoment m w (λ v by.
+        AreDistinct (happened (history_at m w v by.leads).client)
         → (change : Change) → MayChange rules v change → (k : ℕ) (full : Leg)
-        → ClosesNode rules v change (In k) (ControlFull full) → ⊥ }
+        → ClosesNode rules v change (In k) (ControlFull full) → ⊥)) }
     ensures out_proxies { WorldsExpect K (OfClient AreDistinct) OutHasRoom
-        → (m : Makers K InProxy OutProxy)
-        (w : World K ClientRole Server InProxy OutProxy) → IsNew w
-        → (ours : AreOurs m w.company w.cast) → AreInRange (numbers_of ours)
-        → (v : World K ClientRole Server InProxy OutProxy) (by : ByChanges rules m deeds w v)
-        → AreDistinct (happened (history_at m w v by.leads).client)
+        → InNewWorlds K (λ m w ours. AtEachMoment m w (λ v by.
+        AreDistinct (happened (history_at m w v by.leads).client)
         → (change : Change) → MayChange rules v change → (k : ℕ) (full : Leg)
-        → ClosesNode rules v change (Out k) (ControlFull full) → ⊥ }
+        → ClosesNode rules v change (Out k) (ControlFull full) → ⊥)) }
     ensures server { WorldsExpect K (OfClient AreDistinct) ServerHasRoom
-        → (m : Makers K InProxy OutProxy)
-        (w : World K ClientRole Server InProxy OutProxy) → IsNew w
-        → (ours : AreOurs m w.company w.cast) → AreInRange (numbers_of ours)
-        → (v : World K ClientRole Server InProxy OutProxy) (by : ByChanges rules m deeds w v)
-        → AreDistinct (happened (history_at m w v by.leads).client)
+        → InNewWorlds K (λ m w ours. AtEachMoment m w (λ v by.
+        AreDistinct (happened (history_at m w v by.leads).client)
         → (change : Change) → MayChange rules v change → (full : Leg)
-        → ClosesNode rules v change AtServer (ControlFull full) → ⊥ }
+        → ClosesNode rules v change AtServer (ControlFull full) → ⊥)) }
 {
     proxies_keep_their_pipes();
     a_leg_that_a_client_left_stays_unused();

@@ -8,27 +8,23 @@ ghost use Rattle.rh_rts.specs.declared.fault.RtsFault.{RtsFault};
 ghost use Rattle.rh_window.specs.declared.fault.TheConstants.{FLOW_CONTROL_ACK};
 ghost use Rattle.rh_text.specs.declared.ends.Dir.{Dir};
 ghost use Rattle.rh_line.specs.declared.cause.Cause.{Cause};
-ghost use Rattle.rh_line.specs.declared.cause.Cause.TheVariants.{BadFrame, BadHead, BadPacket, OutOfRange};
+ghost use Rattle.rh_line.specs.declared.cause.Cause.TheVariants.{BadFrame, BadHead, BadPacket};
+ghost use Rattle.rh_line.specs.declared.cause.Cause.TheVariants.{OutOfRange};
 ghost use Rattle.rh_line.specs.declared.leg.Leg.{Leg};
 ghost use Rattle.rh_record.specs.declared.answer.Who.{Who};
-ghost use Rattle.rh_nodes.specs.Opening.{Makers};
-ghost use Rattle.rh_nodes.specs.World.{World, at};
+ghost use Rattle.rh_nodes.specs.World.{at};
 ghost use Rattle.rh_client.specs.declared.state.ClientRole.{ClientRole};
-ghost use Rattle.rh_inproxy.specs.State.{InProxy};
-ghost use Rattle.rh_outproxy.specs.OutProxy.{OutProxy};
-ghost use Rattle.rh_server.specs.States.{Server};
 ghost use Rattle.law_node_history.specs.Carried.{end_node, events_of, heard_on};
 ghost use Rattle.law_node_history.specs.Changes.{Change, IsFed, MayChange, changed};
-ghost use Rattle.law_node_traces.specs.Traced.Cookies.{ByChanges};
 ghost use Rattle.law_node_history.specs.Closes.{ClosesNode};
-ghost use Rattle.law_node_history.specs.Histories.{IsNew, noted};
+ghost use Rattle.law_node_history.specs.Histories.{noted};
 ghost use Rattle.rh_nodes.specs.Wires.{receiver};
 ghost use Rattle.law_moves.specs.ReadBack.Well.{ReadsWell};
-ghost use Rattle.law_node_traces.specs.Traced.Ours.{AreOurs, deeds, rules};
+ghost use Rattle.law_node_traces.specs.Traced.Ours.{deeds, rules};
 ghost use Rattle.law_node_traces.specs.Traced.Recordings.{history_at};
-ghost use Rattle.law_world_order.specs.Flows.{numbers_of, read_on};
-ghost use Rattle.law_world_order.specs.Premises.{AreInRange};
+ghost use Rattle.law_world_order.specs.Flows.{read_on};
 ghost use Rattle.law_world_order.specs.FirstTexts.{IsPort};
+ghost use Rattle.law_world_order.specs.Premises.{AtEachMoment, InNewWorlds};
 ghost use Rattle.law_node_streams.specs.Streams.{IsFirstHead};
 ghost use Rattle.law_world_honest.specs.Honesty.Heads.{HeadIsRead};
 ghost use Rattle.law_world_honest.specs.Honesty.Honest.{IsOfNode, well_on};
@@ -55,14 +51,12 @@ use rh_server::ServerRole;
 /// range, and a greeting is the greeting. To a client an answer to an echo request may come, and
 /// the packet in that has no name.
 pub fn what_is_heard_reads_well<K>()
-    ensures { (m : Makers K InProxy OutProxy) (w : World K ClientRole Server InProxy OutProxy)
-        → IsNew w → (ours : AreOurs m w.company w.cast) → AreInRange (numbers_of ours)
-        → (v : World K ClientRole Server InProxy OutProxy) (by : ByChanges rules m deeds w v)
-        → (change : Change) → MayChange rules v change → (leg : Leg) (dir : Dir)
+    ensures { InNewWorlds K (λ m w ours. AtEachMoment m w (λ v by.
+        (change : Change) → MayChange rules v change → (leg : Leg) (dir : Dir)
         → (let next = noted v (history_at m w v by.leads) change in
         ReadsWell (well_on leg.kind dir) (read_on leg.kind dir)
         (heard_on leg (events_of next
-        (end_node (changed rules m deeds v change).readers leg (receiver dir))))) }
+        (end_node (changed rules m deeds v change).readers leg (receiver dir))))))) }
 {
     what_is_put_is_legible::<K>();
     a_recording_of_roles_is_known::<K>();
@@ -81,15 +75,13 @@ pub fn what_is_heard_reads_well<K>()
 /// heard on a leg breaks no rule for the node there: to a proxy it is a request for such a channel
 /// as the proxy is for, and to the client a response.
 pub fn heads_that_are_heard_break_no_rule<K>()
-    ensures { (m : Makers K InProxy OutProxy) (w : World K ClientRole Server InProxy OutProxy)
-        → IsNew w → (ours : AreOurs m w.company w.cast) → AreInRange (numbers_of ours)
-        → IsPort ours.config.port
-        → (v : World K ClientRole Server InProxy OutProxy) (by : ByChanges rules m deeds w v)
-        → (change : Change) → MayChange rules v change → (leg : Leg) (dir : Dir) (text : List ℕ)
+    ensures { InNewWorlds K (λ m w ours. IsPort ours.config.port
+        → AtEachMoment m w (λ v by.
+        (change : Change) → MayChange rules v change → (leg : Leg) (dir : Dir) (text : List ℕ)
         → (let next = noted v (history_at m w v by.leads) change in
         IsFirstHead text (heard_on leg (events_of next
         (end_node (changed rules m deeds v change).readers leg (receiver dir))))
-        → HeadIsRead leg.kind dir text) }
+        → HeadIsRead leg.kind dir text))) }
 {
     what_is_put_is_legible::<K>();
     a_recording_of_roles_is_known::<K>();
@@ -103,14 +95,12 @@ pub fn heads_that_are_heard_break_no_rule<K>()
 /// range only where a row of its role refuses one, and with a bad head only where its role refuses
 /// the one with which all bytes begin that it heard on the leg.
 pub fn what_is_fed_closes_for_the_role<K>()
-    ensures { (m : Makers K InProxy OutProxy) (w : World K ClientRole Server InProxy OutProxy)
-        → IsNew w → (ours : AreOurs m w.company w.cast) → AreInRange (numbers_of ours)
-        → (v : World K ClientRole Server InProxy OutProxy) (by : ByChanges rules m deeds w v)
-        → (leg : Leg) (dir : Dir) (count : ℕ) (node : Who) (why : Cause)
+    ensures { InNewWorlds K (λ m w ours. AtEachMoment m w (λ v by.
+        (leg : Leg) (dir : Dir) (count : ℕ) (node : Who) (why : Cause)
         → MayChange rules v (IsFed leg dir count)
         → ClosesNode rules v (IsFed leg dir count) node why
         → (let next = noted v (history_at m w v by.leads) (IsFed leg dir count) in
-        IsOfNode node leg dir (heard_on leg (events_of next (at v leg (receiver dir)))) why) }
+        IsOfNode node leg dir (heard_on leg (events_of next (at v leg (receiver dir)))) why))) }
 {
     what_is_heard_reads_well::<K>();
     what_is_put_is_legible::<K>();
@@ -125,36 +115,24 @@ pub fn what_is_fed_closes_for_the_role<K>()
 /// `OutOfRange` but for the value of an acknowledgement; and where the port of the client's server
 /// is one, none closes a node with `BadHead`.
 pub fn no_change_closes_a_node_for_bad_bytes<K>()
-    ensures frame { (m : Makers K InProxy OutProxy)
-        (w : World K ClientRole Server InProxy OutProxy) → IsNew w
-        → (ours : AreOurs m w.company w.cast) → AreInRange (numbers_of ours)
-        → (v : World K ClientRole Server InProxy OutProxy) (by : ByChanges rules m deeds w v)
-        → (change : Change) (node : Who) (leg : Leg) (place : ℕ) (fault : HeadFault)
+    ensures frame { InNewWorlds K (λ m w ours. AtEachMoment m w (λ v by.
+        (change : Change) (node : Who) (leg : Leg) (place : ℕ) (fault : HeadFault)
         → MayChange rules v change
-        → ClosesNode rules v change node (BadFrame leg place fault) → ⊥ }
-    ensures packet { (m : Makers K InProxy OutProxy)
-        (w : World K ClientRole Server InProxy OutProxy) → IsNew w
-        → (ours : AreOurs m w.company w.cast) → AreInRange (numbers_of ours)
-        → (v : World K ClientRole Server InProxy OutProxy) (by : ByChanges rules m deeds w v)
-        → (change : Change) (node : Who) (leg : Leg) (place : ℕ) (fault : RtsFault)
+        → ClosesNode rules v change node (BadFrame leg place fault) → ⊥)) }
+    ensures packet { InNewWorlds K (λ m w ours. AtEachMoment m w (λ v by.
+        (change : Change) (node : Who) (leg : Leg) (place : ℕ) (fault : RtsFault)
         → MayChange rules v change
-        → ClosesNode rules v change node (BadPacket leg place fault) → ⊥ }
-    ensures range { (m : Makers K InProxy OutProxy)
-        (w : World K ClientRole Server InProxy OutProxy) → IsNew w
-        → (ours : AreOurs m w.company w.cast) → AreInRange (numbers_of ours)
-        → (v : World K ClientRole Server InProxy OutProxy) (by : ByChanges rules m deeds w v)
-        → (change : Change) (node : Who) (leg : Leg) (command value : ℕ)
+        → ClosesNode rules v change node (BadPacket leg place fault) → ⊥)) }
+    ensures range { InNewWorlds K (λ m w ours. AtEachMoment m w (λ v by.
+        (change : Change) (node : Who) (leg : Leg) (command value : ℕ)
         → MayChange rules v change
         → ClosesNode rules v change node (OutOfRange leg command value)
-        → command ≡ FLOW_CONTROL_ACK }
-    ensures head { (m : Makers K InProxy OutProxy)
-        (w : World K ClientRole Server InProxy OutProxy) → IsNew w
-        → (ours : AreOurs m w.company w.cast) → AreInRange (numbers_of ours)
-        → IsPort ours.config.port
-        → (v : World K ClientRole Server InProxy OutProxy) (by : ByChanges rules m deeds w v)
-        → (change : Change) (node : Who) (leg : Leg) (place : ℕ) (fault : HttpFault)
+        → command ≡ FLOW_CONTROL_ACK)) }
+    ensures head { InNewWorlds K (λ m w ours. IsPort ours.config.port
+        → AtEachMoment m w (λ v by.
+        (change : Change) (node : Who) (leg : Leg) (place : ℕ) (fault : HttpFault)
         → MayChange rules v change
-        → ClosesNode rules v change node (BadHead leg place fault) → ⊥ }
+        → ClosesNode rules v change node (BadHead leg place fault) → ⊥)) }
 {
     what_is_fed_closes_for_the_role::<K>();
     heads_that_are_heard_break_no_rule::<K>();

@@ -23,13 +23,11 @@ ghost use Rattle.rh_outproxy.specs.OutProxy.{OutProxy, new_proxy};
 ghost use Rattle.rh_server.specs.States.{Server};
 ghost use Rattle.law_node_history.specs.Carried.{drawn_by, drawn_on};
 ghost use Rattle.law_node_history.specs.Changes.{Leads};
-ghost use Rattle.law_node_traces.specs.Traced.Cookies.{ByChanges};
 ghost use Rattle.law_node_history.specs.Histories.{IsNew, all_noted, nothing};
 ghost use Rattle.law_node_traces.specs.Traced.Ours.{AreOurs, deeds, rules};
 ghost use Rattle.law_node_traces.specs.Traced.Recordings.{history_at};
-ghost use Rattle.law_world_order.specs.Flows.{numbers_of};
-ghost use Rattle.law_world_order.specs.Premises.{AreInRange};
 ghost use Rattle.law_world_order.specs.FirstTexts.{IsPort};
+ghost use Rattle.law_world_order.specs.Premises.{AtEachMoment, InNewWorlds};
 ghost use Rattle.law_world_honest.specs.Refusals.Refused.{BeginsRefused, DrewRefusal, IsUnreached};
 
 use crate::refused::clients::what_a_client_holds_of_a_head;
@@ -83,13 +81,11 @@ pub fn a_refused_client_heard_what_was_drawn<K>()
 /// lines and half steps reach: where the client is closed with `HttpRefused` of an OUT channel, all
 /// that the out proxy of its number drew there is one refusal, which has that status.
 pub fn a_refused_out_channel_was_refused_by_its_proxy<K>()
-    ensures { (m : Makers K InProxy OutProxy) (w : World K ClientRole Server InProxy OutProxy)
-        → IsNew w → (ours : AreOurs m w.company w.cast) → AreInRange (numbers_of ours)
-        → (v : World K ClientRole Server InProxy OutProxy) (by : ByChanges rules m deeds w v)
+    ensures { InNewWorlds K (λ m w ours. AtEachMoment m w (λ v by.
         (n status : ℕ)
         → ClosedWith (cause.HttpRefused (leg_at ClientOut n) status) v.company.client.course
         → DrewRefusal (drawn_on out_proxy.rules (begun (new_proxy (ours.out_config n)) ROOMS)
-        (leg_at ClientOut n) ((history_at m w v by.leads).outs n)) status }
+        (leg_at ClientOut n) ((history_at m w v by.leads).outs n)) status)) }
 {
     what_a_client_holds_of_a_head();
     a_recording_of_roles_is_known::<K>();
@@ -100,15 +96,13 @@ pub fn a_refused_out_channel_was_refused_by_its_proxy<K>()
 /// The same of an IN channel: all that the in proxy that reads it drew there is one refusal of that
 /// status; or the status is 200, of the answer to an echo request.
 pub fn a_refused_in_channel_was_refused_by_its_proxy<K>()
-    ensures { (m : Makers K InProxy OutProxy) (w : World K ClientRole Server InProxy OutProxy)
-        → IsNew w → (ours : AreOurs m w.company w.cast) → AreInRange (numbers_of ours)
-        → (v : World K ClientRole Server InProxy OutProxy) (by : ByChanges rules m deeds w v)
+    ensures { InNewWorlds K (λ m w ours. AtEachMoment m w (λ v by.
         (n status : ℕ)
         → ClosedWith (cause.HttpRefused (leg_at ClientIn n) status) v.company.client.course
         → (let reader = reader_of v.readers n in
         (status ≡ success)
         ⊎ DrewRefusal (drawn_on in_proxy.rules (in_proxy.first_node (ours.in_config reader))
-        (leg_at ClientIn n) ((history_at m w v by.leads).ins reader)) status) }
+        (leg_at ClientIn n) ((history_at m w v by.leads).ins reader)) status))) }
 {
     a_refused_client_heard_what_was_drawn::<K>();
     directions_are_joined::<K>();
@@ -120,23 +114,17 @@ pub fn a_refused_in_channel_was_refused_by_its_proxy<K>()
 /// status 503, the proxy that reads that channel is the one of its number, and was told that its
 /// leg to the server broke, which has that number too and had never come up there.
 pub fn a_client_refused_with_503_lost_its_server<K>()
-    ensures out_channel { (m : Makers K InProxy OutProxy)
-        (w : World K ClientRole Server InProxy OutProxy) → IsNew w
-        → (ours : AreOurs m w.company w.cast) → AreInRange (numbers_of ours)
-        → (v : World K ClientRole Server InProxy OutProxy) (by : ByChanges rules m deeds w v)
+    ensures out_channel { InNewWorlds K (λ m w ours. AtEachMoment m w (λ v by.
         (n : ℕ)
         → ClosedWith (cause.HttpRefused (leg_at ClientOut n) SERVICE_UNAVAILABLE)
         v.company.client.course
-        → IsUnreached (leg_at OutServer n) ((history_at m w v by.leads).outs n) }
-    ensures in_channel { (m : Makers K InProxy OutProxy)
-        (w : World K ClientRole Server InProxy OutProxy) → IsNew w
-        → (ours : AreOurs m w.company w.cast) → AreInRange (numbers_of ours)
-        → (v : World K ClientRole Server InProxy OutProxy) (by : ByChanges rules m deeds w v)
+        → IsUnreached (leg_at OutServer n) ((history_at m w v by.leads).outs n))) }
+    ensures in_channel { InNewWorlds K (λ m w ours. AtEachMoment m w (λ v by.
         (n : ℕ)
         → ClosedWith (cause.HttpRefused (leg_at ClientIn n) SERVICE_UNAVAILABLE)
         v.company.client.course
         → (reader_of v.readers n ≡ n)
-        × IsUnreached (leg_at InServer n) ((history_at m w v by.leads).ins n) }
+        × IsUnreached (leg_at InServer n) ((history_at m w v by.leads).ins n))) }
 {
     a_refused_out_channel_was_refused_by_its_proxy::<K>();
     a_refused_in_channel_was_refused_by_its_proxy::<K>();
@@ -157,24 +145,18 @@ pub fn a_client_refused_with_503_lost_its_server<K>()
 /// number, was told that its leg to the server broke, which had never come up there. Proxies refuse
 /// no request of such a client, and take none for that of an echo.
 pub fn a_refused_client_lost_its_server<K>()
-    ensures out_channel { (m : Makers K InProxy OutProxy)
-        (w : World K ClientRole Server InProxy OutProxy) → IsNew w
-        → (ours : AreOurs m w.company w.cast) → AreInRange (numbers_of ours)
-        → IsPort ours.config.port
-        → (v : World K ClientRole Server InProxy OutProxy) (by : ByChanges rules m deeds w v)
+    ensures out_channel { InNewWorlds K (λ m w ours. IsPort ours.config.port
+        → AtEachMoment m w (λ v by.
         (n status : ℕ)
         → ClosedWith (cause.HttpRefused (leg_at ClientOut n) status) v.company.client.course
         → (status ≡ SERVICE_UNAVAILABLE)
-        × IsUnreached (leg_at OutServer n) ((history_at m w v by.leads).outs n) }
-    ensures in_channel { (m : Makers K InProxy OutProxy)
-        (w : World K ClientRole Server InProxy OutProxy) → IsNew w
-        → (ours : AreOurs m w.company w.cast) → AreInRange (numbers_of ours)
-        → IsPort ours.config.port
-        → (v : World K ClientRole Server InProxy OutProxy) (by : ByChanges rules m deeds w v)
+        × IsUnreached (leg_at OutServer n) ((history_at m w v by.leads).outs n))) }
+    ensures in_channel { InNewWorlds K (λ m w ours. IsPort ours.config.port
+        → AtEachMoment m w (λ v by.
         (n status : ℕ)
         → ClosedWith (cause.HttpRefused (leg_at ClientIn n) status) v.company.client.course
         → (status ≡ SERVICE_UNAVAILABLE) × (reader_of v.readers n ≡ n)
-        × IsUnreached (leg_at InServer n) ((history_at m w v by.leads).ins n) }
+        × IsUnreached (leg_at InServer n) ((history_at m w v by.leads).ins n))) }
 {
     a_refused_client_heard_what_was_drawn::<K>();
     a_client_refused_with_503_lost_its_server::<K>();

@@ -1,17 +1,8 @@
 //! The moment of a world of roles. This function does nothing: its contract is the law.
 
-ghost use Rattle.rh_nodes.specs.Opening.{Makers};
-ghost use Rattle.rh_nodes.specs.World.{World};
 ghost use Rattle.rh_client.specs.declared.state.ClientRole.{ClientRole};
-ghost use Rattle.rh_inproxy.specs.State.{InProxy};
-ghost use Rattle.rh_outproxy.specs.OutProxy.{OutProxy};
-ghost use Rattle.rh_server.specs.States.{Server};
-ghost use Rattle.law_node_history.specs.Histories.{IsNew};
-ghost use Rattle.law_node_traces.specs.Traced.Cookies.{ByChanges};
-ghost use Rattle.law_node_traces.specs.Traced.Ours.{AreOurs, deeds, rules};
-ghost use Rattle.law_world_order.specs.Flows.{numbers_of};
-ghost use Rattle.law_world_order.specs.Premises.{AreInRange};
 ghost use Rattle.law_world_order.specs.Pasts.{HasMoment};
+ghost use Rattle.law_world_order.specs.Premises.{AtEachMoment, InNewWorlds};
 
 use law_moves::{what_is_read_is_fine, what_was_put_is_read};
 use law_node_begins::{
@@ -46,10 +37,8 @@ use rh_server::ServerRole;
 /// the client under one cookie, it is at a moment: each front of the moves of the client, or of the
 /// server, was all of them at a moment before, at which the others had made fronts of theirs.
 pub fn a_world_of_roles_is_at_a_moment<K>()
-    ensures { (m : Makers K InProxy OutProxy) (w : World K ClientRole Server InProxy OutProxy)
-        → IsNew w → (ours : AreOurs m w.company w.cast) → AreInRange (numbers_of ours)
-        → (v : World K ClientRole Server InProxy OutProxy) (by : ByChanges rules m deeds w v)
-        → HasMoment m w ours v by }
+    ensures { InNewWorlds K (λ m w ours. AtEachMoment m w (λ v by.
+        HasMoment m w ours v by)) }
 {
     what_was_put_is_read();
     what_is_read_is_fine();

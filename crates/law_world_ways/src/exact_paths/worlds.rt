@@ -1,19 +1,18 @@
 //! What is on its way in a world whose legs end only where they are over. These functions do
 //! nothing: their contracts are the laws.
 
-ghost use Rattle.rh_nodes.specs.Opening.{Makers};
 ghost use Rattle.rh_nodes.specs.World.{World};
 ghost use Rattle.rh_client.specs.declared.state.ClientRole.{ClientRole};
 ghost use Rattle.rh_inproxy.specs.State.{InProxy};
 ghost use Rattle.rh_outproxy.specs.OutProxy.{OutProxy};
 ghost use Rattle.rh_server.specs.States.{Server};
-ghost use Rattle.law_node_history.specs.Histories.{IsNew, all_noted, nothing};
-ghost use Rattle.law_node_traces.specs.Traced.Ours.{AreOurs, deeds, rules};
+ghost use Rattle.law_node_history.specs.Histories.{all_noted, nothing};
+ghost use Rattle.law_node_traces.specs.Traced.Ours.{deeds, rules};
 ghost use Rattle.law_world_ways.specs.EndsInTime.InTime.{EndsInTime};
 ghost use Rattle.law_world_order.specs.Directions.{down_route_of, up_route_of};
 ghost use Rattle.law_world_order.specs.Flows.{numbers_of};
-ghost use Rattle.law_world_order.specs.Premises.{AreInRange};
 ghost use Rattle.law_world_order.specs.FirstTexts.{IsPort};
+ghost use Rattle.law_world_order.specs.Premises.{InNewWorlds};
 ghost use Rattle.law_world_ways.specs.OnPaths.Ways.{AreOnTheirWay, down_lost, up_lost};
 ghost use Rattle.law_world_ways.specs.ExactWays.Pdus.{NoneStopsButBehindEnd};
 ghost use Rattle.law_world_ways.specs.ExactPaths.Exact.{IsExact};
@@ -54,22 +53,20 @@ use rh_server::ServerRole;
 /// to that on which the giver writes each gives all that was put there, or its handover mark or END
 /// passed, or END came before on a channel that the same proxy reads.
 pub fn what_is_lost_in_time_had_passed<K>()
-    ensures down { (m : Makers K InProxy OutProxy) (w : World K ClientRole Server InProxy OutProxy)
-        → IsNew w → (ours : AreOurs m w.company w.cast) → AreInRange (numbers_of ours)
-        → IsPort ours.config.port → (v : World K ClientRole Server InProxy OutProxy)
+    ensures down { InNewWorlds K (λ m w ours.
+        IsPort ours.config.port → (v : World K ClientRole Server InProxy OutProxy)
         (ends : EndsInTime rules m deeds w v)
         → (let h = all_noted rules m deeds w nothing ends.lines.leads.changes in
         let numbers = numbers_of ours in AllGoOn numbers h
         → (ways : AreOnTheirWay numbers v h)
-        → NoneStopsButBehindEnd (down_route_of ways.directions) (down_lost numbers v h)) }
-    ensures up { (m : Makers K InProxy OutProxy) (w : World K ClientRole Server InProxy OutProxy)
-        → IsNew w → (ours : AreOurs m w.company w.cast) → AreInRange (numbers_of ours)
-        → IsPort ours.config.port → (v : World K ClientRole Server InProxy OutProxy)
+        → NoneStopsButBehindEnd (down_route_of ways.directions) (down_lost numbers v h))) }
+    ensures up { InNewWorlds K (λ m w ours.
+        IsPort ours.config.port → (v : World K ClientRole Server InProxy OutProxy)
         (ends : EndsInTime rules m deeds w v)
         → (let h = all_noted rules m deeds w nothing ends.lines.leads.changes in
         let numbers = numbers_of ours in AllGoOn numbers h
         → (ways : AreOnTheirWay numbers v h)
-        → NoneStopsButBehindEnd (up_route_of ways.directions) (up_lost numbers v h)) }
+        → NoneStopsButBehindEnd (up_route_of ways.directions) (up_lost numbers v h))) }
 {
     nothing_on_its_way_is_lost::<K>();
     what_goes_down_is_a_route();
@@ -111,13 +108,12 @@ pub fn what_is_lost_in_time_had_passed<K>()
 
 /// So what was given is exactly what was taken and what is on its way.
 pub fn what_was_given_is_taken_or_on_its_way<K>()
-    ensures { (m : Makers K InProxy OutProxy) (w : World K ClientRole Server InProxy OutProxy)
-        → IsNew w → (ours : AreOurs m w.company w.cast) → AreInRange (numbers_of ours)
-        → IsPort ours.config.port → (v : World K ClientRole Server InProxy OutProxy)
+    ensures { InNewWorlds K (λ m w ours.
+        IsPort ours.config.port → (v : World K ClientRole Server InProxy OutProxy)
         (ends : EndsInTime rules m deeds w v)
         → (let h = all_noted rules m deeds w nothing ends.lines.leads.changes in
         let numbers = numbers_of ours in AllGoOn numbers h
-        → (ways : AreOnTheirWay numbers v h) → IsExact numbers v h ways) }
+        → (ways : AreOnTheirWay numbers v h) → IsExact numbers v h ways)) }
 {
     what_is_lost_in_time_had_passed::<K>();
     legs_that_go_on_lose_nothing::<K>();

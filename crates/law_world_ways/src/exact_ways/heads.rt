@@ -2,26 +2,18 @@
 
 ghost use Rattle.std.specs.Prelude.{ℕ, false, true};
 ghost use Rattle.std.specs.List.{AllByRecursion};
-ghost use Rattle.rh_nodes.specs.Opening.{Makers};
-ghost use Rattle.rh_nodes.specs.World.{World};
-ghost use Rattle.rh_client.specs.declared.state.ClientRole.{ClientRole};
 ghost use Rattle.rh_inproxy.specs.Machine as in_proxy;
 ghost use Rattle.rh_inproxy.specs.State as in_state;
-ghost use Rattle.rh_inproxy.specs.State.{InProxy};
 ghost use Rattle.rh_outproxy.specs.declared.out_proxy.TheConstants.{ROOMS};
 ghost use Rattle.rh_outproxy.specs.Machine as out_proxy;
-ghost use Rattle.rh_outproxy.specs.OutProxy.{OutProxy, new_proxy};
-ghost use Rattle.rh_server.specs.States.{Server};
-ghost use Rattle.law_node_history.specs.Histories.{IsNew};
+ghost use Rattle.rh_outproxy.specs.OutProxy.{new_proxy};
 ghost use Rattle.law_node_streams.specs.Streams.{Stream};
 ghost use Rattle.law_node_begins.specs.ProxiesBegin.Pipes.{in_pipe};
 ghost use Rattle.law_peers_routes.specs.Downwards.{proxy_reads};
-ghost use Rattle.law_node_traces.specs.Traced.Cookies.{ByChanges};
-ghost use Rattle.law_node_traces.specs.Traced.Ours.{AreOurs, deeds, rules};
+ghost use Rattle.law_node_traces.specs.Traced.Ours.{rules};
 ghost use Rattle.law_node_traces.specs.Traced.Recordings.{history_at};
-ghost use Rattle.law_world_order.specs.Flows.{numbers_of};
-ghost use Rattle.law_world_order.specs.Premises.{AreInRange};
 ghost use Rattle.law_world_order.specs.FirstTexts.{IsPort};
+ghost use Rattle.law_world_order.specs.Premises.{AtEachMoment, InNewWorlds};
 ghost use Rattle.law_node_ends.specs.Passed.{AsksNoEcho, HeadsAre};
 
 use crate::live_intakes::no_bytes_that_come_ask_for_an_echo;
@@ -32,20 +24,16 @@ use law_node_begins::proxies_keep_their_pipes;
 /// lead to the roles: no head that comes to an in proxy, as a request for an IN channel, or to an
 /// out proxy, as one for an OUT channel, asks for an echo (MS-RPCH 2.1.2).
 pub fn no_head_that_comes_asks_for_an_echo<K>()
-    ensures ins { (m : Makers K InProxy OutProxy) (w : World K ClientRole Server InProxy OutProxy)
-        → IsNew w → (ours : AreOurs m w.company w.cast) → AreInRange (numbers_of ours)
-        → IsPort ours.config.port
-        → (v : World K ClientRole Server InProxy OutProxy) (by : ByChanges rules m deeds w v)
+    ensures ins { InNewWorlds K (λ m w ours. IsPort ours.config.port
+        → AtEachMoment m w (λ v by.
         (n : ℕ) (stream : Stream in_proxy.rules (in_state.first (ours.in_config n))
         in_proxy.rooms (in_pipe (ours.in_config n)) ((history_at m w v by.leads).ins n))
-        → AllByRecursion (HeadsAre (AsksNoEcho true)) stream.leads.moves }
-    ensures outs { (m : Makers K InProxy OutProxy) (w : World K ClientRole Server InProxy OutProxy)
-        → IsNew w → (ours : AreOurs m w.company w.cast) → AreInRange (numbers_of ours)
-        → IsPort ours.config.port
-        → (v : World K ClientRole Server InProxy OutProxy) (by : ByChanges rules m deeds w v)
+        → AllByRecursion (HeadsAre (AsksNoEcho true)) stream.leads.moves)) }
+    ensures outs { InNewWorlds K (λ m w ours. IsPort ours.config.port
+        → AtEachMoment m w (λ v by.
         (n : ℕ) (stream : Stream out_proxy.rules (new_proxy (ours.out_config n)) ROOMS
         (proxy_reads (ours.out_config n)) ((history_at m w v by.leads).outs n))
-        → AllByRecursion (HeadsAre (AsksNoEcho false)) stream.leads.moves }
+        → AllByRecursion (HeadsAre (AsksNoEcho false)) stream.leads.moves)) }
 {
     no_bytes_that_come_ask_for_an_echo::<K>();
     proxies_keep_their_pipes();

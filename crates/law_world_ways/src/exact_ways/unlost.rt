@@ -3,23 +3,15 @@
 
 ghost use Rattle.std.specs.Prelude.{◌≡◌, ◌++◌};
 ghost use Rattle.law_order.specs.Paths.{path};
-ghost use Rattle.rh_nodes.specs.Opening.{Makers};
-ghost use Rattle.rh_nodes.specs.World.{World};
-ghost use Rattle.rh_client.specs.declared.state.ClientRole.{ClientRole};
 ghost use Rattle.rh_client.specs.Client as client;
-ghost use Rattle.rh_inproxy.specs.State.{InProxy};
-ghost use Rattle.rh_outproxy.specs.OutProxy.{OutProxy};
-ghost use Rattle.rh_server.specs.States.{Server};
 ghost use Rattle.rh_server.specs.Servers as server;
-ghost use Rattle.law_node_history.specs.Histories.{IsNew};
 ghost use Rattle.law_node_streams.specs.Streams.{all_given, all_taken};
-ghost use Rattle.law_node_traces.specs.Traced.Cookies.{ByChanges};
-ghost use Rattle.law_node_traces.specs.Traced.Ours.{AreOurs, deeds, rules};
+ghost use Rattle.law_node_traces.specs.Traced.Ours.{rules};
 ghost use Rattle.law_node_traces.specs.Traced.Recordings.{history_at};
 ghost use Rattle.law_world_order.specs.Directions.{down_route_of, up_route_of};
 ghost use Rattle.law_world_order.specs.Flows.{numbers_of};
-ghost use Rattle.law_world_order.specs.Premises.{AreInRange};
 ghost use Rattle.law_world_order.specs.FirstTexts.{IsPort};
+ghost use Rattle.law_world_order.specs.Premises.{AtEachMoment, InNewWorlds};
 ghost use Rattle.law_world_ways.specs.OnPaths.Ways.{AreOnTheirWay, down_on, up_on};
 ghost use Rattle.law_world_ways.specs.ExactWays.Unlost.{NoneIsLost};
 
@@ -39,26 +31,22 @@ use law_role_client::a_client_takes_in_order;
 /// on, no node was told that a leg ended or broke, and each leg that came up for a node is up for
 /// it, what was given is exactly what was taken and what is on its way.
 pub fn what_no_leg_lost_is_on_its_way<K>()
-    ensures down { (m : Makers K InProxy OutProxy) (w : World K ClientRole Server InProxy OutProxy)
-        → IsNew w → (ours : AreOurs m w.company w.cast) → AreInRange (numbers_of ours)
-        → IsPort ours.config.port
-        → (v : World K ClientRole Server InProxy OutProxy) (by : ByChanges rules m deeds w v)
-        → (let h = history_at m w v by.leads in
+    ensures down { InNewWorlds K (λ m w ours. IsPort ours.config.port
+        → AtEachMoment m w (λ v by.
+        (let h = history_at m w v by.leads in
         let numbers = numbers_of ours in
         (ways : AreOnTheirWay numbers v h) → NoneIsLost numbers v h
         → all_given server.rules server.acts (server.new_server numbers.window) h.server
         ≡ all_taken client.rules client.acts (client.first_client numbers.client) h.client
-        ++ path (down_route_of ways.directions) (down_on numbers v h)) }
-    ensures up { (m : Makers K InProxy OutProxy) (w : World K ClientRole Server InProxy OutProxy)
-        → IsNew w → (ours : AreOurs m w.company w.cast) → AreInRange (numbers_of ours)
-        → IsPort ours.config.port
-        → (v : World K ClientRole Server InProxy OutProxy) (by : ByChanges rules m deeds w v)
-        → (let h = history_at m w v by.leads in
+        ++ path (down_route_of ways.directions) (down_on numbers v h)))) }
+    ensures up { InNewWorlds K (λ m w ours. IsPort ours.config.port
+        → AtEachMoment m w (λ v by.
+        (let h = history_at m w v by.leads in
         let numbers = numbers_of ours in
         (ways : AreOnTheirWay numbers v h) → NoneIsLost numbers v h
         → all_given client.rules client.acts (client.first_client numbers.client) h.client
         ≡ all_taken server.rules server.acts (server.new_server numbers.window) h.server
-        ++ path (up_route_of ways.directions) (up_on numbers v h)) }
+        ++ path (up_route_of ways.directions) (up_on numbers v h)))) }
 {
     legs_that_go_on_lose_nothing::<K>();
     no_head_that_comes_asks_for_an_echo::<K>();

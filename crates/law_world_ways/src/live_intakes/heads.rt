@@ -3,21 +3,12 @@
 
 ghost use Rattle.std.specs.Prelude.{ℕ, false, true};
 ghost use Rattle.rh_line.specs.declared.leg.Leg.{Leg};
-ghost use Rattle.rh_nodes.specs.Opening.{Makers};
-ghost use Rattle.rh_nodes.specs.World.{World};
 ghost use Rattle.rh_client.specs.declared.state.ClientRole.{ClientRole};
-ghost use Rattle.rh_inproxy.specs.State.{InProxy};
-ghost use Rattle.rh_outproxy.specs.OutProxy.{OutProxy};
-ghost use Rattle.rh_server.specs.States.{Server};
 ghost use Rattle.law_node_history.specs.Carried.{heard_on};
-ghost use Rattle.law_node_history.specs.Histories.{IsNew};
 ghost use Rattle.law_node_begins.specs.ProxiesBegin.Pipes.{in_pipe, out_pipe};
-ghost use Rattle.law_node_traces.specs.Traced.Cookies.{ByChanges};
-ghost use Rattle.law_node_traces.specs.Traced.Ours.{AreOurs, deeds, rules};
 ghost use Rattle.law_node_traces.specs.Traced.Recordings.{history_at};
-ghost use Rattle.law_world_order.specs.Flows.{numbers_of};
-ghost use Rattle.law_world_order.specs.Premises.{AreInRange};
 ghost use Rattle.law_world_order.specs.FirstTexts.{IsPort};
+ghost use Rattle.law_world_order.specs.Premises.{AtEachMoment, InNewWorlds};
 ghost use Rattle.law_world_ways.specs.LiveIntakes.{BeginsNoEcho};
 
 use law_moves::texts_are_whole;
@@ -35,18 +26,14 @@ use rh_server::ServerRole;
 /// to a proxy on a leg where a head comes first begin with none that asks for an echo
 /// (MS-RPCH 2.1.2).
 pub fn no_bytes_that_come_ask_for_an_echo<K>()
-    ensures ins { (m : Makers K InProxy OutProxy) (w : World K ClientRole Server InProxy OutProxy)
-        → IsNew w → (ours : AreOurs m w.company w.cast) → AreInRange (numbers_of ours)
-        → IsPort ours.config.port
-        → (v : World K ClientRole Server InProxy OutProxy) (by : ByChanges rules m deeds w v)
+    ensures ins { InNewWorlds K (λ m w ours. IsPort ours.config.port
+        → AtEachMoment m w (λ v by.
         (n : ℕ) (leg : Leg) → BeginsNoEcho true (in_pipe (ours.in_config n) leg)
-        (heard_on leg ((history_at m w v by.leads).ins n)) }
-    ensures outs { (m : Makers K InProxy OutProxy) (w : World K ClientRole Server InProxy OutProxy)
-        → IsNew w → (ours : AreOurs m w.company w.cast) → AreInRange (numbers_of ours)
-        → IsPort ours.config.port
-        → (v : World K ClientRole Server InProxy OutProxy) (by : ByChanges rules m deeds w v)
+        (heard_on leg ((history_at m w v by.leads).ins n)))) }
+    ensures outs { InNewWorlds K (λ m w ours. IsPort ours.config.port
+        → AtEachMoment m w (λ v by.
         (n : ℕ) (leg : Leg) → BeginsNoEcho false (out_pipe (ours.out_config n) leg)
-        (heard_on leg ((history_at m w v by.leads).outs n)) }
+        (heard_on leg ((history_at m w v by.leads).outs n)))) }
 {
     directions_are_joined::<K>();
     what_is_heard_was_drawn::<K, ClientRole, ServerRole, InProxyRole, OutProxyRole>();

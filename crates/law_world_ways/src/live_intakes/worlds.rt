@@ -19,9 +19,8 @@ ghost use Rattle.law_node_history.specs.Histories.{IsNew};
 ghost use Rattle.law_node_traces.specs.Traced.Cookies.{ByChanges};
 ghost use Rattle.law_node_traces.specs.Traced.Ours.{AreOurs, deeds, rules};
 ghost use Rattle.law_node_traces.specs.Traced.Recordings.{history_at};
-ghost use Rattle.law_world_order.specs.Flows.{numbers_of};
-ghost use Rattle.law_world_order.specs.Premises.{AreInRange};
 ghost use Rattle.law_world_order.specs.FirstTexts.{IsPort};
+ghost use Rattle.law_world_order.specs.Premises.{AtEachMoment, InNewWorlds};
 ghost use Rattle.law_world_ways.specs.LiveIntakes.{ReadsLeg};
 
 use crate::live_intakes::heads::no_bytes_that_come_ask_for_an_echo;
@@ -48,20 +47,16 @@ pub fn what_comes_is_read<K>()
         (leg : Leg)
         → ReadsLeg (after_end_events server.rules server.acts (server.new_server ours.window)
         (history_at m w v by.leads).server) leg }
-    ensures ins { (m : Makers K InProxy OutProxy) (w : World K ClientRole Server InProxy OutProxy)
-        → IsNew w → (ours : AreOurs m w.company w.cast) → AreInRange (numbers_of ours)
-        → IsPort ours.config.port
-        → (v : World K ClientRole Server InProxy OutProxy) (by : ByChanges rules m deeds w v)
+    ensures ins { InNewWorlds K (λ m w ours. IsPort ours.config.port
+        → AtEachMoment m w (λ v by.
         (n : ℕ) (leg : Leg)
         → ReadsLeg (after_events in_proxy.rules (in_proxy.first_node (ours.in_config n))
-        ((history_at m w v by.leads).ins n)) leg }
-    ensures outs { (m : Makers K InProxy OutProxy) (w : World K ClientRole Server InProxy OutProxy)
-        → IsNew w → (ours : AreOurs m w.company w.cast) → AreInRange (numbers_of ours)
-        → IsPort ours.config.port
-        → (v : World K ClientRole Server InProxy OutProxy) (by : ByChanges rules m deeds w v)
+        ((history_at m w v by.leads).ins n)) leg)) }
+    ensures outs { InNewWorlds K (λ m w ours. IsPort ours.config.port
+        → AtEachMoment m w (λ v by.
         (n : ℕ) (leg : Leg)
         → ReadsLeg (after_events out_proxy.rules (begun (new_proxy (ours.out_config n)) ROOMS)
-        ((history_at m w v by.leads).outs n)) leg }
+        ((history_at m w v by.leads).outs n)) leg)) }
 {
     no_bytes_that_come_ask_for_an_echo::<K>();
     what_a_node_keeps_is_read();

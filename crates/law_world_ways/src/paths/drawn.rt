@@ -1,17 +1,9 @@
 //! Legs that nodes forget. This function does nothing: its contract is the law.
 
-ghost use Rattle.rh_nodes.specs.Opening.{Makers};
-ghost use Rattle.rh_nodes.specs.World.{World};
 ghost use Rattle.rh_client.specs.declared.state.ClientRole.{ClientRole};
-ghost use Rattle.rh_inproxy.specs.State.{InProxy};
-ghost use Rattle.rh_outproxy.specs.OutProxy.{OutProxy};
-ghost use Rattle.rh_server.specs.States.{Server};
-ghost use Rattle.law_node_history.specs.Histories.{IsNew};
-ghost use Rattle.law_node_traces.specs.Traced.Cookies.{ByChanges};
-ghost use Rattle.law_node_traces.specs.Traced.Ours.{AreOurs, deeds, rules};
 ghost use Rattle.law_node_traces.specs.Traced.Recordings.{history_at};
 ghost use Rattle.law_world_order.specs.Flows.{numbers_of};
-ghost use Rattle.law_world_order.specs.Premises.{AreInRange};
+ghost use Rattle.law_world_order.specs.Premises.{AtEachMoment, InNewWorlds};
 ghost use Rattle.law_world_ways.specs.OnPaths.Forgotten.{DrawnDirections};
 
 use law_moves::{
@@ -52,10 +44,8 @@ use rh_server::ServerRole;
 /// which this holds: where a node goes on, was not told that a leg ended or broke, and keeps no end
 /// of it any more, all that it put there was drawn.
 pub fn what_was_forgotten_was_drawn<K>()
-    ensures { (m : Makers K InProxy OutProxy) (w : World K ClientRole Server InProxy OutProxy)
-        → IsNew w → (ours : AreOurs m w.company w.cast) → AreInRange (numbers_of ours)
-        → (v : World K ClientRole Server InProxy OutProxy) (by : ByChanges rules m deeds w v)
-        → DrawnDirections (numbers_of ours) v (history_at m w v by.leads) }
+    ensures { InNewWorlds K (λ m w ours. AtEachMoment m w (λ v by.
+        DrawnDirections (numbers_of ours) v (history_at m w v by.leads))) }
 {
     directions_are_joined::<K>();
     what_is_put_is_legible::<K>();

@@ -3,7 +3,6 @@
 
 ghost use Rattle.std.specs.Prelude.{◌≡◌, ◌++◌};
 ghost use Rattle.law_order.specs.Paths.{path};
-ghost use Rattle.rh_nodes.specs.Opening.{Makers};
 ghost use Rattle.rh_nodes.specs.World.{World};
 ghost use Rattle.rh_client.specs.declared.state.ClientRole.{ClientRole};
 ghost use Rattle.rh_client.specs.Client as client;
@@ -11,15 +10,15 @@ ghost use Rattle.rh_inproxy.specs.State.{InProxy};
 ghost use Rattle.rh_outproxy.specs.OutProxy.{OutProxy};
 ghost use Rattle.rh_server.specs.States.{Server};
 ghost use Rattle.rh_server.specs.Servers as server;
-ghost use Rattle.law_node_traces.specs.Traced.Cookies.{ByChanges};
-ghost use Rattle.law_node_history.specs.Histories.{History, IsNew};
+ghost use Rattle.law_node_history.specs.Histories.{History};
 ghost use Rattle.law_node_streams.specs.Streams.{all_given, all_taken};
-ghost use Rattle.law_node_traces.specs.Traced.Ours.{AreOurs, deeds, rules};
+ghost use Rattle.law_node_traces.specs.Traced.Ours.{rules};
 ghost use Rattle.law_node_traces.specs.Traced.Recordings.{history_at};
 ghost use Rattle.law_world_order.specs.Directions.{down_route_of, up_route_of};
 ghost use Rattle.law_world_order.specs.Flows.{Numbers, numbers_of};
-ghost use Rattle.law_world_order.specs.Premises.{AreInRange};
-ghost use Rattle.law_world_ways.specs.OnPaths.Ways.{AreInUseDown, AreInUseUp, AreOnTheirWay, down_on, up_on};
+ghost use Rattle.law_world_order.specs.Premises.{AtEachMoment, InNewWorlds};
+ghost use Rattle.law_world_ways.specs.OnPaths.Ways.{AreInUseDown, AreInUseUp, AreOnTheirWay};
+ghost use Rattle.law_world_ways.specs.OnPaths.Ways.{down_on, up_on};
 
 use crate::paths::drawn::what_was_forgotten_was_drawn;
 use law_moves::all_that_was_put_is_read;
@@ -35,10 +34,8 @@ use law_peers_routes::{what_goes_down_is_a_route, what_goes_up_is_a_route};
 /// taken to the one that is written on is lost before its handover mark or END passed. Whatever is
 /// lost, what was given begins with what was taken and what can still be taken.
 pub fn nothing_on_its_way_is_lost<K>()
-    ensures { (m : Makers K InProxy OutProxy) (w : World K ClientRole Server InProxy OutProxy)
-        → IsNew w → (ours : AreOurs m w.company w.cast) → AreInRange (numbers_of ours)
-        → (v : World K ClientRole Server InProxy OutProxy) (by : ByChanges rules m deeds w v)
-        → AreOnTheirWay (numbers_of ours) v (history_at m w v by.leads) }
+    ensures { InNewWorlds K (λ m w ours. AtEachMoment m w (λ v by.
+        AreOnTheirWay (numbers_of ours) v (history_at m w v by.leads))) }
 {
     what_was_forgotten_was_drawn::<K>();
     what_goes_down_is_a_route();

@@ -4,21 +4,14 @@ ghost use Rattle.std.specs.Prelude.{ℕ};
 ghost use Rattle.rh_line.specs.declared.cause.Cause.TheVariants.{OutOfRange, WindowExceeded};
 ghost use Rattle.rh_line.specs.declared.leg.Leg.{Leg};
 ghost use Rattle.rh_record.specs.declared.answer.Who.{Who};
-ghost use Rattle.rh_nodes.specs.Opening.{Makers};
-ghost use Rattle.rh_nodes.specs.World.{World};
 ghost use Rattle.rh_client.specs.declared.state.ClientRole.{ClientRole};
-ghost use Rattle.rh_inproxy.specs.State.{InProxy};
-ghost use Rattle.rh_outproxy.specs.OutProxy.{OutProxy};
-ghost use Rattle.rh_server.specs.States.{Server};
 ghost use Rattle.law_node_history.specs.Carried.{happened};
 ghost use Rattle.law_node_history.specs.Changes.{Change, MayChange};
 ghost use Rattle.law_node_history.specs.Closes.{ClosesNode};
-ghost use Rattle.law_node_history.specs.Histories.{IsNew};
-ghost use Rattle.law_node_traces.specs.Traced.Cookies.{ByChanges};
-ghost use Rattle.law_node_traces.specs.Traced.Ours.{AreOurs, deeds, rules};
+ghost use Rattle.law_node_traces.specs.Traced.Ours.{rules};
 ghost use Rattle.law_node_traces.specs.Traced.Recordings.{history_at};
 ghost use Rattle.law_world_order.specs.Flows.{numbers_of};
-ghost use Rattle.law_world_order.specs.Premises.{AreDistinct, AreInRange};
+ghost use Rattle.law_world_order.specs.Premises.{AreDistinct, AtEachMoment, InNewWorlds};
 ghost use Rattle.law_world_windows.specs.ClientHops.{HasOneWindow};
 
 use crate::client_hops::no_hop_of_a_client_closes_a_node;
@@ -37,24 +30,18 @@ use rh_server::ServerRole;
 /// `WindowExceeded` of any leg, and none closes any node with `OutOfRange` of any leg (MS-RPCH 3.2,
 /// 3.2.1).
 pub fn no_window_closes_a_node<K>()
-    ensures windows { (m : Makers K InProxy OutProxy)
-        (w : World K ClientRole Server InProxy OutProxy) → IsNew w
-        → (ours : AreOurs m w.company w.cast) → AreInRange (numbers_of ours)
-        → HasOneWindow (numbers_of ours)
-        → (v : World K ClientRole Server InProxy OutProxy) (by : ByChanges rules m deeds w v)
-        → AreDistinct (happened (history_at m w v by.leads).client)
+    ensures windows { InNewWorlds K (λ m w ours. HasOneWindow (numbers_of ours)
+        → AtEachMoment m w (λ v by.
+        AreDistinct (happened (history_at m w v by.leads).client)
         → (change : Change) → MayChange rules v change → (node : Who) (leg : Leg)
         (reached edge : ℕ)
-        → ClosesNode rules v change node (WindowExceeded leg reached edge) → ⊥ }
-    ensures ranges { (m : Makers K InProxy OutProxy)
-        (w : World K ClientRole Server InProxy OutProxy) → IsNew w
-        → (ours : AreOurs m w.company w.cast) → AreInRange (numbers_of ours)
-        → HasOneWindow (numbers_of ours)
-        → (v : World K ClientRole Server InProxy OutProxy) (by : ByChanges rules m deeds w v)
-        → AreDistinct (happened (history_at m w v by.leads).client)
+        → ClosesNode rules v change node (WindowExceeded leg reached edge) → ⊥)) }
+    ensures ranges { InNewWorlds K (λ m w ours. HasOneWindow (numbers_of ours)
+        → AtEachMoment m w (λ v by.
+        AreDistinct (happened (history_at m w v by.leads).client)
         → (change : Change) → MayChange rules v change → (node : Who) (leg : Leg)
         (command value : ℕ)
-        → ClosesNode rules v change node (OutOfRange leg command value) → ⊥ }
+        → ClosesNode rules v change node (OutOfRange leg command value) → ⊥)) }
 {
     rows_refuse_on_their_legs();
     what_is_fed_closes_for_the_role::<K>();
