@@ -20,8 +20,8 @@ use Rattle.rh_shell.specs.NearEnds.{NearEnd}
 use Rattle.rh_shell.specs.Hearing.{Turn, goes, touched, with_intake, heading, head_row, behind_head, behind_frame, take_frame, is_greeting, hear, hear_byte}
 use Rattle.rh_shell.specs.Hearing.{take as taken}
 use Rattle.rh_shell.specs.Shells.{Shell, first_where, is_at, same_leg, place, end_at, with_end, turned, stopped, stop_by, bytes_at, bytes_by, bytes, with_verdict}
-use Rattle.law_moves.specs.Carrying.{is_deaf}
 use Rattle.rh_shell.proofs.Hearings.{hear_stopped}
+use Rattle.law_moves.specs.Carrying.{is_deaf}
 use Rattle.law_moves.proofs.ClosedNodes.{hear_cut}
 
 -- ---- the leg of an end stays

@@ -14,9 +14,9 @@ use Rattle.rh_shell.specs.declared.course.Course.TheVariants.{Going, Closed, Ref
 use Rattle.rh_shell.specs.declared.end_role.GiveRefused.{GiveRefused}
 use Rattle.rh_shell.specs.declared.rooms.Rooms.{Rooms}
 use Rattle.rh_shell.specs.Rules.{Rules, Acts}
-use Rattle.law_moves.specs.Moves.{Move, EndMove, Passage, EndPassage, Moves, Gives, Takes, Closes, Recycles, MayEndMove, AreAllowed, AreAllowedAtEnd, given_by, with_first, all_moved, end_now_at, end_moved, all_end_moved, end_started}
 use Rattle.rh_shell.specs.Shells.{Shell, begun, state_by, state_of}
 use Rattle.rh_shell.specs.Ends.{given_by as give_answer, cause_of, give_where, give, take_where, after_take, close_where, close, recycle_where, recycle}
+use Rattle.law_moves.specs.Moves.{Move, EndMove, Passage, EndPassage, Moves, Gives, Takes, Closes, Recycles, MayEndMove, AreAllowed, AreAllowedAtEnd, given_by, with_first, all_moved, end_now_at, end_moved, all_end_moved, end_started}
 use Rattle.law_moves.specs.Moving.{Event, after_event, EndEvent, Happens, IsGiven, IsTaken, IsClosed, IsRecycled, after_end_event, after_end_events, IsHeld, AreHeld, EndLeads, EndFollows}
 use Rattle.law_moves.specs.Carrying.{IsQuiet, LogsAtEnd, EndLogs, EndPasses, Passes, accepted, first_in, handed_by}
 use Rattle.law_moves.proofs.Following.{event_passes}

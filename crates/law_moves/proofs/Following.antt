@@ -4,8 +4,8 @@ use Rattle.std.specs.Prelude.{All, slice_get, slice_set, ◌&&◌, not, nat_lt, 
 use Rattle.std.specs.declared.option.Option.{Option}
 use Rattle.std.proofs.lemmas.List.Elements.{All-nil, All-set, All-push}
 use Rattle.std.proofs.lemmas.Option.{slice_get_within, get_or_from_slice_get}
-use Rattle.rh_rts.specs.declared.command.Cookie.{Cookie}
 use Rattle.rh_pdu.specs.Frames.{IsUnfinished}
+use Rattle.rh_rts.specs.declared.command.Cookie.{Cookie}
 use Rattle.rh_http.specs.Texts.{refusal_text}
 use Rattle.rh_http.specs.declared.refusal.Refusal.{Refusal}
 use Rattle.rh_http.specs.declared.refusal.Refusal.TheVariants.{Unavailable}
@@ -23,8 +23,8 @@ use Rattle.rh_shell.specs.Rules.{Rules}
 use Rattle.rh_shell.specs.NearEnds.{NearEnd, new_end, marked, is_marked, is_ended, is_finished}
 use Rattle.rh_shell.specs.Hearing.{goes, hear}
 use Rattle.rh_shell.specs.Drawing.{draw}
-use Rattle.law_moves.specs.Moves.{Passage, Up, Marks, Pings, MayMove, moved, started}
 use Rattle.rh_shell.specs.Shells.{Shell, begun, end_at, with_end, place, close, refuse, stop_by, stopped, bytes_at, bytes_by, bytes, may_up, has_room, with_leg, seated_at, free_place, up, lose, lost, ended_at, ended_by, ended, wants, is_heard, unreached_by, unreached, broken_at, broken_by, broken, put_back, drawn_at, drawn_by, drawn, same_leg, is_quiet, pinged, first_silent, passed_by, passed, tick, is_working, is_working_by, state_by}
+use Rattle.law_moves.specs.Moves.{Passage, Up, Marks, Pings, MayMove, moved, started}
 use Rattle.law_moves.specs.Moving.{Event, ComesUp, Hears, Ends, Breaks, Draws, Ticks, after_event, after_events, IsHeld, AreHeld, Leads, Follows}
 use Rattle.law_moves.specs.Carrying.{IsQuiet, PutsTo, TakesTo, LogsUnmarked, LogsDrawn, LogsHeard, Logs, Passes}
 use Rattle.law_moves.proofs.Leading.{leads_none, leads_one, leads_then}

@@ -13,8 +13,8 @@ use Rattle.rh_shell.specs.declared.due.Due.{Due}
 use Rattle.rh_shell.specs.declared.due.Origin.{Origin}
 use Rattle.rh_shell.specs.declared.due.Origin.TheVariants.{Forwarded}
 use Rattle.rh_shell.specs.Waiting.{Waiting, Key, is_of, are_same, own, to_forward, count, key_of, are_one, takes, edge_of, better, merged, empty, with_due}
-use Rattle.law_moves.specs.Merging.{Event, Adds, Forwards, Takes, Clears, after, after_all, acknowledges, forwards, IsMerged, told, greatest, Raises}
 use Rattle.rh_shell.proofs.Kept.{better_origin, same_count, fewer}
+use Rattle.law_moves.specs.Merging.{Event, Adds, Forwards, Takes, Clears, after, after_all, acknowledges, forwards, IsMerged, told, greatest, Raises}
 
 -- ---- keys
 

@@ -8,13 +8,13 @@ use Rattle.rh_line.specs.declared.leg.Leg.{Leg}
 use Rattle.rh_shell.specs.NearEnds.{NearEnd, is_empty, is_over}
 use Rattle.rh_shell.specs.Rules.{Rules, Message, put_into, spell}
 use Rattle.rh_shell.specs.Drawing.{Drawn, drawn, put_on, filled, left_by, next_byte, draw}
+use Rattle.rh_shell.proofs.Draws.{behind}
 use Rattle.law_moves.specs.Moves.{Passage, OnLeg, IsDrawn, put_by, moved}
 use Rattle.law_moves.specs.Moves.{Puts as Putting}
 use Rattle.law_moves.specs.Moving.{Leads}
 use Rattle.law_moves.specs.Carrying.{on_leg, spelled, Puts}
 use Rattle.law_moves.proofs.Leading.{leads_none, leads_one, leads_then}
 use Rattle.law_moves.proofs.TakenPieces.{on_leg_append, in_use}
-use Rattle.rh_shell.proofs.Draws.{behind}
 
 empty_is : (xs : List ℕ) → is_empty xs ≡ true → xs ≡ []
 empty_is [] h = refl

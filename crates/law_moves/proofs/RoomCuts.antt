@@ -13,8 +13,8 @@ use Rattle.rh_shell.specs.NearEnds.{NearEnd, is_empty, is_over, is_marked}
 use Rattle.rh_shell.specs.Drawing.{Drawn, drawn, put_on, begun_now, filled, left_by, next_byte, draw}
 use Rattle.rh_shell.specs.Shells.{Shell, end_at, with_end, put_back, same_leg, drawn_at, drawn_by}
 use Rattle.rh_shell.specs.Shells.{drawn as drawn_from}
-use Rattle.law_moves.specs.Laws.{then_drawn}
 use Rattle.rh_shell.proofs.Draws.{behind}
+use Rattle.law_moves.specs.Laws.{then_drawn}
 use Rattle.law_moves.proofs.Puttings.{no_bytes}
 use Rattle.law_moves.proofs.Cuttings.{end_is, end_again}
 

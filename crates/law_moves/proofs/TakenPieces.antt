@@ -11,10 +11,10 @@ use Rattle.rh_line.specs.declared.leg.Leg.{Leg}
 use Rattle.rh_shell.specs.NearEnds.{NearEnd, is_over, is_ended, is_marked}
 use Rattle.rh_shell.specs.Rules.{Rules, Message}
 use Rattle.rh_shell.specs.Hearing.{Turn, hear, hear_byte, heard, is_stopped}
+use Rattle.rh_shell.proofs.Hearings.{hear_none}
 use Rattle.law_moves.specs.Moves.{Passage, OnLeg, is_in_use}
 use Rattle.law_moves.specs.Moving.{IsHeld}
 use Rattle.law_moves.specs.Carrying.{on_leg, messages_in, message_in, is_deaf, Takes}
-use Rattle.rh_shell.proofs.Hearings.{hear_none}
 use Rattle.law_moves.proofs.Leading.{leads_none, leads_then}
 use Rattle.law_moves.proofs.Takings.{byte_takes}
 

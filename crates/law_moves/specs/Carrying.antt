@@ -21,11 +21,11 @@ use Rattle.rh_shell.specs.Readings.{packet_of}
 use Rattle.rh_shell.specs.NearEnds.{NearEnd, is_over, is_marked}
 use Rattle.rh_shell.specs.Hearing.{Turn, goes, hear, is_ping, is_stopped}
 use Rattle.rh_shell.specs.Drawing.{Drawn, draw}
-use Rattle.law_moves.specs.Moves.{Passage, EndPassage, OnLeg}
 use Rattle.rh_shell.specs.Shells.{Shell, end_at}
+use Rattle.rh_shell.specs.Ends.{cause_of, give}
+use Rattle.law_moves.specs.Moves.{Passage, EndPassage, OnLeg}
 use Rattle.law_moves.specs.Moving.{Event, ComesUp, Hears, Ends, Breaks, Draws, Ticks, after_event, Leads, Follows, IsHeld}
 use Rattle.law_moves.specs.Moving.{EndEvent, Happens, IsGiven, IsTaken, IsClosed, IsRecycled, after_end_event, EndFollows}
-use Rattle.rh_shell.specs.Ends.{cause_of, give}
 
 abbrev pub on_leg : Leg → List Message → List OnLeg
 on_leg leg messages = map (λ message. (leg, message)) messages

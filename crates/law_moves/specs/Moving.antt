@@ -1,14 +1,14 @@
 -- what a node does to its role: moves that are allowed, and nothing else (profile)
 use Rattle.std.specs.Prelude.{ℕ, ◌≡◌, List, [], ◌∷◌, All}
-use Rattle.rh_rts.specs.declared.command.Cookie.{Cookie}
 use Rattle.rh_pdu.specs.Frames.{IsUnfinished}
+use Rattle.rh_rts.specs.declared.command.Cookie.{Cookie}
 use Rattle.rh_line.specs.declared.leg.Leg.{Leg}
 use Rattle.rh_shell.specs.declared.stage.Stage.TheVariants as stage
 use Rattle.rh_shell.specs.Rules.{Rules, Acts}
 use Rattle.rh_shell.specs.NearEnds.{NearEnd}
-use Rattle.law_moves.specs.Moves.{Move, EndMove, Passage, EndPassage, MayMove, AreAllowed, AreAllowedAtEnd, moved, all_moved, all_end_moved}
 use Rattle.rh_shell.specs.Shells.{Shell, up, bytes, ended, broken, drawn, tick}
 use Rattle.rh_shell.specs.Ends.{give, after_take, close, recycle}
+use Rattle.law_moves.specs.Moves.{Move, EndMove, Passage, EndPassage, MayMove, AreAllowed, AreAllowedAtEnd, moved, all_moved, all_end_moved}
 
 -- ---- what may happen at a node
 

@@ -8,8 +8,8 @@ ghost use Rattle.rh_pdu.specs.Frames.{IsPdu};
 ghost use Rattle.rh_sig.specs.declared.name.Pipe.{Pipe};
 ghost use Rattle.rh_sig.specs.declared.named.Named.{Named};
 ghost use Rattle.rh_line.specs.declared.leg.Leg.{Leg};
-ghost use Rattle.law_moves.specs.Moves.{OnLeg};
 ghost use Rattle.rh_shell.specs.Rules.{Message};
+ghost use Rattle.law_moves.specs.Moves.{OnLeg};
 ghost use Rattle.law_moves.specs.Legible.Legible.{AllMayGo, AllReadBack, IsFine, MayGoOn, ReadsBack};
 ghost use Rattle.law_moves.specs.Legible.Reading.{WasRead};
 

@@ -18,11 +18,11 @@ use Rattle.rh_shell.specs.declared.stop.Stop.{Stop}
 use Rattle.rh_shell.specs.Rules.{Rules}
 use Rattle.rh_shell.specs.NearEnds.{NearEnd, is_ended, is_finished, marked}
 use Rattle.rh_shell.specs.Hearing.{Turn, goes, hear}
-use Rattle.law_moves.specs.Laws.{ClosedWith}
 use Rattle.rh_shell.specs.Shells.{Shell, state_by, verdict_by, state_of, is_working, end_at, with_end, close, refuse, stop_by, stopped, bytes_at, bytes_by, lose, lost, ended_at, ended_by, wants, is_heard, unreached_by, unreached, broken_at, broken_by, first_silent, passed_by, passed, ticked}
 use Rattle.rh_nodes.specs.declared.event.Event.{Event}
 use Rattle.rh_nodes.specs.declared.event.Event.TheVariants.{Comes, Ends, Breaks, Passes}
 use Rattle.rh_nodes.specs.Telling.{cause_in, closing, happens}
+use Rattle.law_moves.specs.Laws.{ClosedWith}
 use Rattle.law_node_causes.specs.Reasons.{EndsPartly, FallsSilent, RefusesHead, IsOfPiece, ComesAmiss}
 use Rattle.law_node_causes.specs.Closings.{ClosesWith, MayClose, IsRefusal, ComesFrom}
 use Rattle.law_node_causes.proofs.Sorts.{both, end_leg}

@@ -4,26 +4,26 @@ use Rattle.std.specs.Prelude.{nat_le, if◌then◌else◌}
 use Rattle.std.specs.declared.option.Option.{Option}
 use Rattle.std.specs.declared.result.Result.{Result}
 use Rattle.std.proofs.lemmas.Bool.Decides.{nat_tests}
+use Rattle.rh_window.specs.Sending.{may_send}
+use Rattle.rh_window.specs.declared.recv_window.Ack as told
+use Rattle.law_order.proofs.ByNumber.{by_test, same_number}
 use Rattle.rh_rts.specs.declared.command.Cookie.{Cookie}
-use Rattle.rh_http.specs.declared.fault.HttpFault.{HttpFault}
-use Rattle.rh_http.specs.Heads.Verdicts.{Asked, request_verdict}
 use Rattle.rh_sig.specs.declared.named.Named.{Named}
 use Rattle.rh_sig.specs.declared.named.Named.TheVariants.{ConnB1, ConnB3, InR1A1, InR1A5, InR1B1, InR1B2, InR2A2, OutR1A7, EndA1, EndA2, Ack, AckTo, KeepAlive, Ping}
+use Rattle.rh_http.specs.declared.fault.HttpFault.{HttpFault}
+use Rattle.rh_http.specs.Heads.Verdicts.{Asked, request_verdict}
 use Rattle.rh_line.specs.declared.leg.Leg.{Leg}
 use Rattle.rh_line.specs.declared.leg.LegKind.{LegKind}
 use Rattle.rh_line.specs.declared.leg.LegKind.TheVariants.{ClientOut, OutServer, ClientIn, InServer}
 use Rattle.rh_line.specs.declared.which.Which.{Which}
 use Rattle.rh_line.specs.declared.which.Which.TheVariants.{Current, Next}
 use Rattle.rh_line.specs.Lines as line
-use Rattle.rh_window.specs.Sending.{may_send}
-use Rattle.rh_window.specs.declared.recv_window.Ack as told
-use Rattle.law_order.proofs.ByNumber.{by_test, same_number}
 use Rattle.rh_shell.specs.declared.answers.Count.{Count}
 use Rattle.rh_shell.specs.declared.due.Due.{Due}
 use Rattle.rh_shell.specs.Waiting.{with_due}
 use Rattle.rh_shell.specs.Rules.{Text, Pdu, Packet}
-use Rattle.law_moves.specs.Moves.{Move, Up, HeadCame, PduCame, PacketCame, Puts, IsDrawn, Marks, Pings, Passage, moved}
 use Rattle.rh_shell.specs.Shells.{kind_number}
+use Rattle.rh_shell.specs.declared.answers.Refused.TheVariants as refused
 use Rattle.rh_inproxy.specs.declared.state.InProxyConfig.{InProxyConfig}
 use Rattle.rh_inproxy.specs.declared.opening.TheConstants.{GREATEST_LENGTHS, KEEPALIVE}
 use Rattle.rh_inproxy.specs.declared.state.ClientLeg.{ClientLeg}
@@ -42,7 +42,6 @@ use Rattle.rh_inproxy.specs.declared.state.Successor.TheVariants as successors
 use Rattle.rh_inproxy.specs.declared.state.Work.{Work}
 use Rattle.rh_inproxy.specs.declared.state.Work.TheVariants as works
 use Rattle.rh_inproxy.specs.Answers.{Done, Pick, or_else, taken, refuse, unexpected}
-use Rattle.rh_shell.specs.declared.answers.Refused.TheVariants as refused
 use Rattle.rh_inproxy.specs.State.{InProxy, first, is_server_leg, is_client_leg, channel_of, has_come, has_a5, follows, same_cookie}
 use Rattle.rh_inproxy.specs.Opening.{echo_answer, wants, may_up, was_up, up, wants_server, had_client, has_server, newest, newest_by, is_absent, accepts, accepts_later, may_accept, accepted, connected, head, head_by, drawn, is_first, opener_of, awaits_packet, opener, opened, kept_for, on_first_in_r1_a1, on_conn_b1, on_conn_b3, put_first, first_by, put_echo, echo_by}
 use Rattle.rh_inproxy.specs.Acknowledging.{on_ack_to, on_ack, put_acks, current_ack, next_ack, ack_by, ack_due}
@@ -54,6 +53,7 @@ use Rattle.rh_inproxy.specs.Putting.{put, next, put_waiting, waiting_by, put_con
 use Rattle.rh_inproxy.specs.Time.{on_keep_alive, ping, put_ping}
 use Rattle.rh_inproxy.specs.Machine.{packet, pdu, on_ci, on_is, on_channel, on_channel_by}
 use Rattle.rh_inproxy.specs.Machine.{rules as proxy_rules}
+use Rattle.law_moves.specs.Moves.{Move, Up, HeadCame, PduCame, PacketCame, Puts, IsDrawn, Marks, Pings, Passage, moved}
 use Rattle.law_node_causes.specs.Numbers.{AreNumbered, IsAbove}
 use Rattle.law_node_causes.specs.Once.{ComesUpOnce}
 use Rattle.law_node_causes.proofs.MoveRoles.{by_row, behind_put, by_put}

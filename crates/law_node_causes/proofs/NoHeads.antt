@@ -7,8 +7,8 @@ use Rattle.rh_shell.specs.declared.stage.Stage.TheVariants as stage
 use Rattle.rh_shell.specs.Ends.{cause_of}
 use Rattle.rh_shell.specs.NearEnds.{NearEnd, first_stage, new_end}
 use Rattle.rh_shell.specs.Rules.{Rules, Acts}
-use Rattle.law_moves.specs.Moving.{Event, after_event, EndEvent, Happens, IsGiven, IsTaken, IsClosed, IsRecycled, after_end_event, after_end_events}
 use Rattle.rh_shell.specs.Shells.{Shell, begun, state_of, is_working, has_room, place, free_place}
+use Rattle.law_moves.specs.Moving.{Event, after_event, EndEvent, Happens, IsGiven, IsTaken, IsClosed, IsRecycled, after_end_event, after_end_events}
 use Rattle.law_node_causes.specs.Reasons.{StandsIn}
 use Rattle.law_node_causes.proofs.Sorts.{both}
 use Rattle.law_node_causes.proofs.Places.{IsSet, WasThere, set_cases, seat_cases, seat}

@@ -13,9 +13,9 @@ use Rattle.rh_shell.specs.declared.rooms.Rooms.{Rooms}
 use Rattle.rh_shell.specs.Ends.{cause_of}
 use Rattle.rh_shell.specs.NearEnds.{NearEnd, is_ended, new_end}
 use Rattle.rh_shell.specs.Rules.{Rules, Acts}
+use Rattle.rh_shell.specs.Shells.{Shell, begun, state_by, state_of, is_working, is_working_by, has_room, end_at, may_up, place, free_place}
 use Rattle.law_moves.specs.Moves.{Move, Up, Passage, EndMove, EndPassage, MayMove, AreAllowedAtEnd, moved, started, end_moved, end_started, all_end_moved}
 use Rattle.law_moves.specs.Moving.{Event, ComesUp, Hears, Ends, Breaks, Draws, Ticks, after_event, after_events, EndEvent, Happens, IsGiven, IsTaken, IsClosed, IsRecycled, after_end_event, after_end_events, IsHeld, AreHeld, Follows, EndFollows}
-use Rattle.rh_shell.specs.Shells.{Shell, begun, state_by, state_of, is_working, is_working_by, has_room, end_at, may_up, place, free_place}
 use Rattle.law_moves.proofs.Leading.{leads_keep}
 use Rattle.law_node_causes.specs.Reasons.{StandsIn}
 use Rattle.law_node_causes.specs.Once.{ComesUpOnce, KeepsUp, AreUpOnce, WasUp, IsNewLeg, AreNewLegs, IsNewLegAtEnd, AreNewLegsAtEnd}

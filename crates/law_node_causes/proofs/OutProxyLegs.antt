@@ -2,23 +2,22 @@
 use Rattle.std.proofs.Common.{◌≡◌, ℕ, ◌+◌, ◌==◌, ◌&&◌, ◌||◌, List, [], ◌∷◌, length, Bool, true, false, not, Some, None, Ok, Err, refl, sym, ap, ◌∙◌, subst, rules}
 use Rattle.std.specs.Prelude.{nat_le, if◌then◌else◌}
 use Rattle.std.specs.declared.option.Option.{Option}
+use Rattle.std.specs.declared.result.Result.{Result}
+use Rattle.rh_window.specs.Sending.{may_send, after_sent}
+use Rattle.rh_window.specs.declared.recv_window.Ack.{Ack}
+use Rattle.law_order.proofs.ByNumber.{by_test}
 use Rattle.rh_rts.specs.declared.command.Cookie.{Cookie}
 use Rattle.rh_sig.specs.declared.named.Named.{Named}
 use Rattle.rh_sig.specs.declared.named.Named.TheVariants.{ConnA1, ConnC1, OutR1A3, OutR2C1, InR1A3, InR2A3, OutR1A1, OutR1A5, OutR1A9, OutR1A10, EndB1, EndB2, AckTo, Ping}
+use Rattle.rh_http.specs.Heads.Verdicts.{Asked, request_verdict}
+use Rattle.rh_http.specs.declared.fault.HttpFault.{HttpFault}
 use Rattle.rh_line.specs.declared.leg.Leg.{Leg}
 use Rattle.rh_line.specs.declared.leg.LegKind.{LegKind}
 use Rattle.rh_line.specs.declared.leg.LegKind.TheVariants.{ClientOut, OutServer, ClientIn, InServer}
-use Rattle.rh_window.specs.Sending.{may_send, after_sent}
 use Rattle.rh_line.specs.Lines.{after_take, is_empty}
-use Rattle.rh_window.specs.declared.recv_window.Ack.{Ack}
-use Rattle.rh_http.specs.Heads.Verdicts.{Asked, request_verdict}
-use Rattle.rh_http.specs.declared.fault.HttpFault.{HttpFault}
-use Rattle.std.specs.declared.result.Result.{Result}
-use Rattle.law_order.proofs.ByNumber.{by_test}
 use Rattle.rh_shell.specs.declared.answers.Count.{Count}
 use Rattle.rh_shell.specs.declared.due.Due.{Due}
 use Rattle.rh_shell.specs.Rules.{Pdu, Packet}
-use Rattle.law_moves.specs.Moves.{Move, Up, HeadCame, PduCame, PacketCame, Puts, IsDrawn, Marks, Pings, Passage, moved}
 use Rattle.rh_shell.specs.Shells.{kind_number, same_leg}
 use Rattle.rh_outproxy.specs.declared.state.OutProxyConfig.{OutProxyConfig}
 use Rattle.rh_outproxy.specs.declared.state.Answer.{Answer}
@@ -39,6 +38,7 @@ use Rattle.rh_outproxy.specs.Ending.{on_end_b1, drawn, mark}
 use Rattle.rh_outproxy.specs.Putting.{Pick, ping_room, or_else, answer_by, put_answer, put_waiting, waiting_by, pdu_by, put_pdu, put_end, put_handover, put_ping, put_mark, next_co, first_by, put_first, ack_by, put_ack, next_os, put}
 use Rattle.rh_outproxy.specs.Machine.{packet, pdu, on_co, on_os}
 use Rattle.rh_outproxy.specs.Machine.{rules as proxy_rules}
+use Rattle.law_moves.specs.Moves.{Move, Up, HeadCame, PduCame, PacketCame, Puts, IsDrawn, Marks, Pings, Passage, moved}
 use Rattle.law_node_causes.specs.Once.{ComesUpOnce}
 use Rattle.law_node_causes.proofs.Sorts.{and_false}
 use Rattle.law_node_causes.proofs.MoveRoles.{by_row, behind_put, by_put}

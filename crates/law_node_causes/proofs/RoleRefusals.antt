@@ -3,16 +3,15 @@ use Rattle.std.proofs.Common.{◌≡◌, inl, inr, ℕ, List, ◌++◌, cond, Bo
 use Rattle.std.specs.Prelude.{◌==◌, ◌&&◌, ◌||◌, nat_le}
 use Rattle.std.specs.declared.result.Result.{Result}
 use Rattle.std.proofs.lemmas.Bool.{eq-eqb}
+use Rattle.rh_sig.specs.declared.name.Pipe.TheVariants.{CiU, IsD, CoU, OsD}
 use Rattle.rh_http.specs.declared.fault.HttpFault.{HttpFault}
 use Rattle.rh_http.specs.declared.response.Response.{Response}
 use Rattle.rh_http.specs.Heads.Verdicts.{Asked, request_verdict, response_verdict}
+use Rattle.rh_http.specs.Lengths.{greatest_echo}
 use Rattle.rh_line.specs.declared.cause.Cause.TheVariants as cause
 use Rattle.rh_line.specs.declared.leg.Leg.{Leg}
 use Rattle.rh_line.specs.declared.leg.LegKind.{LegKind}
 use Rattle.rh_line.specs.declared.leg.LegKind.TheVariants.{ClientOut, OutServer, ClientIn, InServer}
-use Rattle.rh_http.specs.Lengths.{greatest_echo}
-use Rattle.rh_inproxy.specs.declared.opening.TheConstants.{ECHO_LENGTH}
-use Rattle.rh_outproxy.specs.declared.state.Answer.TheVariants as answers
 use Rattle.rh_shell.specs.declared.answers.Behind.TheVariants as behinds
 use Rattle.rh_shell.specs.declared.answers.HeadRefused.{HeadRefused}
 use Rattle.rh_shell.specs.declared.answers.HeadRefused.TheVariants.{Status}
@@ -20,30 +19,31 @@ use Rattle.rh_shell.specs.declared.answers.HeadTaken.{HeadTaken}
 use Rattle.rh_shell.specs.declared.course.Course.{Course}
 use Rattle.rh_shell.specs.declared.course.Course.TheVariants.{Going, Closed, Refusing}
 use Rattle.rh_shell.specs.declared.stage.Stage.TheVariants as stage
-use Rattle.law_moves.specs.Moves.{Move, Passage, MayMove, moved, started}
-use Rattle.law_moves.specs.Moving.{EndEvent, after_end_events, Follows}
 use Rattle.rh_shell.specs.NearEnds.{first_stage}
 use Rattle.rh_shell.specs.Rules.{Rules}
-use Rattle.rh_sig.specs.declared.name.Pipe.TheVariants.{CiU, IsD, CoU, OsD}
 use Rattle.rh_shell.specs.Shells.{Shell, place}
-use Rattle.law_moves.proofs.Leading.{leads_keep}
-use Rattle.rh_nodes.specs.declared.event.Event.{Event}
-use Rattle.rh_client.specs.declared.state.ClientRole.{ClientRole}
-use Rattle.rh_client.specs.Client as client
-use Rattle.rh_client.specs.Opening as opens
-use Rattle.rh_client.specs.Opening.{success}
+use Rattle.rh_inproxy.specs.declared.opening.TheConstants.{ECHO_LENGTH}
 use Rattle.rh_inproxy.specs.declared.state.InProxyConfig.{InProxyConfig}
 use Rattle.rh_inproxy.specs.State.{InProxy, first, is_client_leg, is_server_leg}
 use Rattle.rh_inproxy.specs.Opening.{head_by, echo_asked, channel_asked, wants_server, accepts}
 use Rattle.rh_inproxy.specs.Machine as in_proxy
+use Rattle.rh_outproxy.specs.declared.state.Answer.TheVariants as answers
 use Rattle.rh_outproxy.specs.declared.state.OutProxyConfig.{OutProxyConfig}
 use Rattle.rh_outproxy.specs.OutProxy.{OutProxy, new_proxy, is_client_up, is_known, is_server_down}
 use Rattle.rh_outproxy.specs.Opening as opening
 use Rattle.rh_outproxy.specs.Rows.{is_co, is_os, co}
 use Rattle.rh_outproxy.specs.Machine as out_proxy
+use Rattle.rh_client.specs.declared.state.ClientRole.{ClientRole}
+use Rattle.rh_client.specs.Client as client
+use Rattle.rh_client.specs.Opening as opens
+use Rattle.rh_client.specs.Opening.{success}
 use Rattle.rh_server.specs.States.{Server}
 use Rattle.rh_server.specs.Opening.{may_up_by}
 use Rattle.rh_server.specs.Servers as server
+use Rattle.rh_nodes.specs.declared.event.Event.{Event}
+use Rattle.law_moves.specs.Moves.{Move, Passage, MayMove, moved, started}
+use Rattle.law_moves.specs.Moving.{EndEvent, after_end_events, Follows}
+use Rattle.law_moves.proofs.Leading.{leads_keep}
 use Rattle.law_node_causes.specs.Closings.{ClosesWith, IsResponse}
 use Rattle.law_node_causes.specs.Numbers.{AreNumbered}
 use Rattle.law_node_causes.specs.Refusals.{MayRefuseOn, RefusesNoStatus, IsRefusedBy}

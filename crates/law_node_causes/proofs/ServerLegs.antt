@@ -3,6 +3,11 @@ use Rattle.std.proofs.Common.{◌≡◌, ℕ, ◌+◌, ◌==◌, ◌≤◌, ◌&
 use Rattle.std.specs.declared.option.Option.{Option}
 use Rattle.std.specs.declared.result.Result.{Result}
 use Rattle.std.proofs.lemmas.Bool.Decides.{nat_tests}
+use Rattle.std.specs.Prelude.{slice_get, length, nat_le, ◌++◌}
+use Rattle.rh_window.specs.declared.recv_window.Ack.{Ack}
+use Rattle.law_order.proofs.ByNumber.{by_test}
+use Rattle.rh_pdu.specs.Checking.{pdu_fault}
+use Rattle.rh_pdu.specs.declared.fault.PduFault.{PduFault}
 use Rattle.rh_rts.specs.declared.command.Cookie.{Cookie}
 use Rattle.rh_sig.specs.declared.named.Named.{Named}
 use Rattle.rh_sig.specs.declared.named.Named.TheVariants as named
@@ -11,19 +16,13 @@ use Rattle.rh_line.specs.declared.leg.LegKind.{LegKind}
 use Rattle.rh_line.specs.declared.leg.LegKind.TheVariants.{ClientOut, OutServer, ClientIn, InServer}
 use Rattle.rh_line.specs.declared.which.Which.{Which}
 use Rattle.rh_line.specs.declared.which.Which.TheVariants.{Current, Next}
-use Rattle.rh_pdu.specs.Checking.{pdu_fault}
-use Rattle.rh_pdu.specs.declared.fault.PduFault.{PduFault}
-use Rattle.rh_window.specs.declared.recv_window.Ack.{Ack}
-use Rattle.law_order.proofs.ByNumber.{by_test}
+use Rattle.rh_line.specs.Queue.{front_length, total, queue_bytes}
 use Rattle.rh_shell.specs.declared.answers.Count.{Count}
 use Rattle.rh_shell.specs.declared.due.Due.{Due}
 use Rattle.rh_shell.specs.Rules.{Text, Pdu, Packet}
-use Rattle.law_moves.specs.Moves.{Move, Up, HeadCame, PduCame, PacketCame, Puts, IsDrawn, Marks, Pings, Passage, EndMove, EndPassage, Moves, Gives, Takes, Closes, Recycles, moved, end_moved, end_now_at}
 use Rattle.rh_shell.specs.Waiting.{Waiting, taken}
 use Rattle.rh_shell.specs.declared.end_role.GiveRefused.{GiveRefused}
-use Rattle.rh_line.specs.Queue.{front_length, total, queue_bytes}
 use Rattle.rh_shell.specs.declared.end_role.GiveRefused.TheVariants as give_refused
-use Rattle.std.specs.Prelude.{slice_get, length, nat_le, ◌++◌}
 use Rattle.rh_shell.specs.NearEnds.{first_of}
 use Rattle.rh_shell.specs.Hearing.{greeting as greeting_text}
 use Rattle.rh_server.specs.declared.state.EndMark.TheVariants as end_mark
@@ -44,6 +43,7 @@ use Rattle.rh_server.specs.OutReplacement.{recycle, on_out_r1_a4, on_out_r1_a8}
 use Rattle.rh_server.specs.Ending.{give, give_by, on_end_a2, drawn, drawn_by, in_is_drawn, mark, mark_by, lost_in, with_ack_dropped, settled}
 use Rattle.rh_server.specs.Putting.{Pick, or_else, put, put_by, put_in_by, put_in_greeting, put_tells, put_tells_by, put_b1, put_b1_by, put_ack, put_ack_by, ack_due, put_out, put_out_at, put_open, next_in, next_out, out_greeting_at, put_out_greeting, put_waiting, waiting_at, waiting_by, was_put, goes, with_out, counts, counts_at, may_go_at, may_end_at, is_end_due, gate, gate_at, put_pdu, pdu_by, put_end, put_pdu_or_end, settled_pick}
 use Rattle.rh_server.specs.Servers.{rules as server_rules, acts as server_acts, on_is, on_os, packet, packet_by, pdu}
+use Rattle.law_moves.specs.Moves.{Move, Up, HeadCame, PduCame, PacketCame, Puts, IsDrawn, Marks, Pings, Passage, EndMove, EndPassage, Moves, Gives, Takes, Closes, Recycles, moved, end_moved, end_now_at}
 use Rattle.law_node_causes.specs.Once.{ComesUpOnce, KeepsUp}
 use Rattle.law_node_causes.proofs.MoveRoles.{by_row, behind_put, by_put, by_given, by_first}
 use Rattle.law_node_causes.proofs.Sorts.{both}

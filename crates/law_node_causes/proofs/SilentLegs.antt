@@ -5,19 +5,19 @@ use Rattle.rh_http.specs.declared.config.ClientConfig.{ClientConfig}
 use Rattle.rh_line.specs.declared.cause.Cause.TheVariants as cause
 use Rattle.rh_line.specs.declared.leg.Leg.{Leg}
 use Rattle.rh_line.specs.declared.leg.LegKind.TheVariants.{ClientIn}
-use Rattle.law_moves.specs.Moving.{EndEvent, Event, after_end_events, after_events, Follows, EndFollows}
-use Rattle.law_moves.specs.Moves.{started, end_started}
 use Rattle.rh_shell.specs.NearEnds.{NearEnd}
 use Rattle.rh_shell.specs.Rules.{Rules}
 use Rattle.rh_shell.specs.Shells.{Shell}
-use Rattle.rh_nodes.specs.declared.event.Event as told
-use Rattle.rh_nodes.specs.declared.event.Event.TheVariants as happened
-use Rattle.rh_client.specs.Client as client
-use Rattle.rh_client.specs.State as clients
 use Rattle.rh_inproxy.specs.declared.state.InProxyConfig.{InProxyConfig}
 use Rattle.rh_inproxy.specs.State.{first, channel_of, is_client_leg}
 use Rattle.rh_inproxy.specs.Time.{a5_came}
 use Rattle.rh_inproxy.specs.Machine as in_proxy
+use Rattle.rh_client.specs.Client as client
+use Rattle.rh_client.specs.State as clients
+use Rattle.rh_nodes.specs.declared.event.Event as told
+use Rattle.rh_nodes.specs.declared.event.Event.TheVariants as happened
+use Rattle.law_moves.specs.Moving.{EndEvent, Event, after_end_events, after_events, Follows, EndFollows}
+use Rattle.law_moves.specs.Moves.{started, end_started}
 use Rattle.law_node_causes.specs.Closings.{ClosesWith}
 use Rattle.law_node_causes.specs.Moments.{last_touched, last_touched_at_end}
 use Rattle.law_node_causes.specs.Once.{AreNewLegs, AreNewLegsAtEnd}

@@ -10,13 +10,13 @@ use Rattle.rh_line.specs.declared.state.State.TheVariants as state
 use Rattle.rh_shell.specs.declared.course.Course.{Course}
 use Rattle.rh_shell.specs.declared.course.Course.TheVariants.{Going, Closed, Refusing}
 use Rattle.rh_shell.specs.Ends.{cause_of, give_where, take_where, close_where, recycle_where}
-use Rattle.law_moves.specs.Laws.{ClosedWith}
-use Rattle.law_moves.specs.Moving.{Event, ComesUp, Hears, Ends, Breaks, Draws, Ticks, after_event, after_events, EndEvent, Happens, IsGiven, IsTaken, IsClosed, IsRecycled, after_end_event, after_end_events}
 use Rattle.rh_shell.specs.Rules.{Rules, Acts}
 use Rattle.rh_shell.specs.Shells.{Shell, same_leg, has_room, may_up, with_leg, up, bytes_by, ended_by, broken_by, drawn_by, is_working, state_of, passed}
 use Rattle.rh_nodes.specs.declared.event.Event as told
 use Rattle.rh_nodes.specs.declared.event.Event.TheVariants as happened
 use Rattle.rh_nodes.specs.Telling.{tell, happens}
+use Rattle.law_moves.specs.Laws.{ClosedWith}
+use Rattle.law_moves.specs.Moving.{Event, ComesUp, Hears, Ends, Breaks, Draws, Ticks, after_event, after_events, EndEvent, Happens, IsGiven, IsTaken, IsClosed, IsRecycled, after_end_event, after_end_events}
 use Rattle.law_node_causes.proofs.Sorts.{both}
 use Rattle.law_node_causes.proofs.Refusing.{not_working}
 use Rattle.law_node_causes.proofs.ClosedBy.{told_is}

@@ -7,8 +7,8 @@ use Rattle.rh_shell.specs.declared.rooms.Rooms.{Rooms}
 use Rattle.rh_shell.specs.Ends.{cause_of}
 use Rattle.rh_shell.specs.NearEnds.{NearEnd, new_end}
 use Rattle.rh_shell.specs.Rules.{Rules, Acts}
-use Rattle.law_moves.specs.Moving.{Event, ComesUp, after_event, after_events, EndEvent, Happens, IsGiven, IsTaken, IsClosed, IsRecycled, after_end_event, after_end_events}
 use Rattle.rh_shell.specs.Shells.{Shell, begun, state_of, same_leg, is_at, place, free_place, end_at, may_up}
+use Rattle.law_moves.specs.Moving.{Event, ComesUp, after_event, after_events, EndEvent, Happens, IsGiven, IsTaken, IsClosed, IsRecycled, after_end_event, after_end_events}
 use Rattle.law_node_causes.specs.Reasons.{StandsIn}
 use Rattle.law_node_causes.specs.Once.{IsNewLeg, AreNewLegs, AreNewLegsAtEnd}
 use Rattle.law_node_causes.specs.Moments.{touches, moment_if, last_touched, last_touched_at_end}

@@ -1,11 +1,11 @@
 -- what holds of the numbers of a role's legs, where each is up once (profile)
 use Rattle.std.specs.Prelude.{ℕ, ◌≡◌, ◌≤◌, ◌<◌, Bool, true}
-use Rattle.rh_client.specs.declared.channels.TheConstants.{LAST_NUMBER}
-use Rattle.rh_client.specs.declared.state.ClientRole.{ClientRole}
-use Rattle.rh_client.specs.Replacements.{is_in, is_out}
 use Rattle.rh_inproxy.specs.declared.state.Successor.{Successor}
 use Rattle.rh_inproxy.specs.declared.state.Successor.TheVariants.{Absent, Up, Joined}
 use Rattle.rh_inproxy.specs.State.{InProxy}
+use Rattle.rh_client.specs.declared.channels.TheConstants.{LAST_NUMBER}
+use Rattle.rh_client.specs.declared.state.ClientRole.{ClientRole}
+use Rattle.rh_client.specs.Replacements.{is_in, is_out}
 
 -- the ci leg behind that of the current channel has a higher number
 abbrev pub IsAbove : ℕ → Successor → Type 0

@@ -3,11 +3,11 @@
 use Rattle.std.specs.Prelude.{◌≡◌, List, [], ◌∷◌, true, false, None}
 use Rattle.rh_rts.specs.declared.command.Cookie.{Cookie}
 use Rattle.rh_line.specs.declared.leg.Leg.{Leg}
-use Rattle.law_moves.specs.Moves.{Move, Up, Passage, EndMove, EndPassage, MayMove, MayEndMove, moved, end_moved}
-use Rattle.law_moves.specs.Moving.{Event, ComesUp, Hears, Ends, Breaks, Draws, Ticks, after_event, EndEvent, Happens, IsGiven, IsTaken, IsClosed, IsRecycled, after_end_event}
 use Rattle.rh_shell.specs.Rules.{Rules, Acts}
 use Rattle.rh_shell.specs.NearEnds.{NearEnd}
 use Rattle.rh_shell.specs.Shells.{Shell, end_at, may_up}
+use Rattle.law_moves.specs.Moves.{Move, Up, Passage, EndMove, EndPassage, MayMove, MayEndMove, moved, end_moved}
+use Rattle.law_moves.specs.Moving.{Event, ComesUp, Hears, Ends, Breaks, Draws, Ticks, after_event, EndEvent, Happens, IsGiven, IsTaken, IsClosed, IsRecycled, after_end_event}
 use Rattle.law_node_causes.specs.Reasons.{StandsIn}
 
 -- ---- by a role's rules

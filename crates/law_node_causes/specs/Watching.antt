@@ -3,16 +3,12 @@
 -- none
 use Rattle.std.specs.Prelude.{ℕ, ◌≡◌, ◌⊎◌, ◌<◌, ◌≤◌, ◌-◌, ◌&&◌, List, [], ◌∷◌, Bool, false, not, if◌then◌else◌, Some, None}
 use Rattle.std.specs.declared.option.Option.{Option}
-use Rattle.rh_http.specs.declared.config.ClientConfig.{ClientConfig}
 use Rattle.rh_sig.specs.declared.named.Named.{Named}
 use Rattle.rh_sig.specs.declared.named.Named.TheVariants.{ConnA3, OutR1A6}
+use Rattle.rh_http.specs.declared.config.ClientConfig.{ClientConfig}
 use Rattle.rh_line.specs.declared.leg.Leg.{Leg}
 use Rattle.rh_line.specs.declared.leg.LegKind.TheVariants.{ClientIn, ClientOut}
 use Rattle.rh_shell.specs.Rules.{Message, Text, Pdu, Packet}
-use Rattle.law_moves.specs.Moves.{OnLeg, EndPassage, end_started}
-use Rattle.law_moves.specs.Moving.{EndEvent, EndLeads, Event, after_end_events, after_events}
-use Rattle.rh_nodes.specs.declared.event.Event as told
-use Rattle.rh_nodes.specs.declared.event.Event.TheVariants as happened
 use Rattle.rh_shell.specs.Shells.{Shell}
 use Rattle.rh_inproxy.specs.declared.state.InProxyConfig.{InProxyConfig}
 use Rattle.rh_inproxy.specs.State.{InProxy, channel_of, is_client_leg}
@@ -21,6 +17,10 @@ use Rattle.rh_inproxy.specs.Machine as in_proxy
 use Rattle.rh_client.specs.declared.state.ClientRole.{ClientRole}
 use Rattle.rh_client.specs.Client.{rules, acts, first_client}
 use Rattle.rh_client.specs.State.{first}
+use Rattle.rh_nodes.specs.declared.event.Event as told
+use Rattle.rh_nodes.specs.declared.event.Event.TheVariants as happened
+use Rattle.law_moves.specs.Moves.{OnLeg, EndPassage, end_started}
+use Rattle.law_moves.specs.Moving.{EndEvent, EndLeads, Event, after_end_events, after_events}
 use Rattle.law_node_causes.specs.Moments.{last_touched, last_touched_at_end}
 
 -- ---- an in proxy

@@ -1,21 +1,21 @@
 //! Since when a leg was not heard. These functions do nothing: their contracts are the laws.
 
 ghost use Rattle.std.specs.Prelude.{◌≡◌, ◌≤◌, List, None, Some, false, ℕ};
+ghost use Rattle.rh_http.specs.declared.config.ClientConfig.{ClientConfig};
 ghost use Rattle.rh_line.specs.declared.leg.Leg.{Leg};
 ghost use Rattle.rh_shell.specs.declared.rooms.Rooms.{Rooms};
-ghost use Rattle.law_moves.specs.Moving.{EndEvent, Event, Hears};
-ghost use Rattle.law_moves.specs.Moving.{after_event, after_events, after_end_events};
 ghost use Rattle.rh_shell.specs.NearEnds.{NearEnd};
 ghost use Rattle.rh_shell.specs.Shells.{Shell, begun, end_at};
-ghost use Rattle.rh_http.specs.declared.config.ClientConfig.{ClientConfig};
-ghost use Rattle.rh_client.specs.Client as client;
 ghost use Rattle.rh_inproxy.specs.declared.state.InProxyConfig.{InProxyConfig};
 ghost use Rattle.rh_inproxy.specs.Machine as in_proxy;
 ghost use Rattle.rh_outproxy.specs.declared.out_proxy.TheConstants as out_proxies;
 ghost use Rattle.rh_outproxy.specs.declared.state.OutProxyConfig.{OutProxyConfig};
 ghost use Rattle.rh_outproxy.specs.OutProxy.{new_proxy};
 ghost use Rattle.rh_outproxy.specs.Machine as out_proxy;
+ghost use Rattle.rh_client.specs.Client as client;
 ghost use Rattle.rh_server.specs.Servers as server;
+ghost use Rattle.law_moves.specs.Moving.{EndEvent, Event, Hears};
+ghost use Rattle.law_moves.specs.Moving.{after_event, after_events, after_end_events};
 ghost use Rattle.law_node_causes.specs.Moments.{hears_bytes, last_touched, last_touched_at_end};
 ghost use Rattle.law_node_causes.specs.Moments.{moment_after};
 ghost use Rattle.law_node_causes.specs.Once.{AreNewLegs, AreNewLegsAtEnd};

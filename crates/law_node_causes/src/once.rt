@@ -4,10 +4,10 @@ ghost use Rattle.std.specs.Prelude.{◌≡◌, List, true};
 ghost use Rattle.rh_rts.specs.declared.command.Cookie.{Cookie};
 ghost use Rattle.rh_line.specs.declared.leg.Leg.{Leg};
 ghost use Rattle.rh_shell.specs.declared.rooms.Rooms.{Rooms};
+ghost use Rattle.rh_shell.specs.Shells.{begun, may_up};
 ghost use Rattle.law_moves.specs.Moving.{ComesUp, EndEvent, Event, Happens};
 ghost use Rattle.law_moves.specs.Moving.{after_event, after_events, after_end_event};
 ghost use Rattle.law_moves.specs.Moving.{after_end_events};
-ghost use Rattle.rh_shell.specs.Shells.{begun, may_up};
 ghost use Rattle.law_node_causes.specs.Once.{AreNewLegs, AreNewLegsAtEnd, ComesUpOnce, KeepsUp, WasUp};
 
 use law_moves::{ends_move_by_their_rules, roles_move_by_their_rules};

@@ -3,19 +3,19 @@
 
 ghost use Rattle.std.specs.Prelude.{◌≡◌, List, true, ℕ};
 ghost use Rattle.rh_rts.specs.declared.command.Cookie.{Cookie};
-ghost use Rattle.rh_line.specs.declared.leg.Leg.{Leg};
-ghost use Rattle.law_moves.specs.Moving.{ComesUp, EndEvent, Event, after_event, after_events};
-ghost use Rattle.law_moves.specs.Moving.{after_end_events};
-ghost use Rattle.rh_shell.specs.Shells.{begun, may_up};
 ghost use Rattle.rh_http.specs.declared.config.ClientConfig.{ClientConfig};
-ghost use Rattle.rh_client.specs.Client as client;
+ghost use Rattle.rh_line.specs.declared.leg.Leg.{Leg};
+ghost use Rattle.rh_shell.specs.Shells.{begun, may_up};
 ghost use Rattle.rh_inproxy.specs.declared.state.InProxyConfig.{InProxyConfig};
 ghost use Rattle.rh_inproxy.specs.Machine as in_proxy;
 ghost use Rattle.rh_outproxy.specs.declared.out_proxy.TheConstants as out_proxies;
 ghost use Rattle.rh_outproxy.specs.declared.state.OutProxyConfig.{OutProxyConfig};
 ghost use Rattle.rh_outproxy.specs.Machine as out_proxy;
 ghost use Rattle.rh_outproxy.specs.OutProxy.{new_proxy};
+ghost use Rattle.rh_client.specs.Client as client;
 ghost use Rattle.rh_server.specs.Servers as server;
+ghost use Rattle.law_moves.specs.Moving.{ComesUp, EndEvent, Event, after_event, after_events};
+ghost use Rattle.law_moves.specs.Moving.{after_end_events};
 ghost use Rattle.law_node_causes.specs.Numbers.{AreNumbered, ClientIsNumbered};
 ghost use Rattle.law_node_causes.specs.Once.{AreNewLegs, AreNewLegsAtEnd, ComesUpOnce};
 ghost use Rattle.law_node_causes.specs.Once.{KeepsUp, WasUp};

@@ -5,11 +5,7 @@ ghost use Rattle.rh_line.specs.declared.cause.Cause.TheVariants as cause;
 ghost use Rattle.rh_line.specs.declared.leg.Leg.{Leg};
 ghost use Rattle.rh_line.specs.declared.leg.LegKind.TheVariants as legs;
 ghost use Rattle.rh_shell.specs.declared.rooms.Rooms.{Rooms};
-ghost use Rattle.law_moves.specs.Moving.{EndEvent, Event, after_end_events, after_events};
 ghost use Rattle.rh_shell.specs.Shells.{Shell, begun};
-ghost use Rattle.rh_nodes.specs.declared.event.Event as told;
-ghost use Rattle.rh_client.specs.declared.state.ClientRole.{ClientRole};
-ghost use Rattle.rh_client.specs.Client as client;
 ghost use Rattle.rh_inproxy.specs.declared.state.InProxyConfig.{InProxyConfig};
 ghost use Rattle.rh_inproxy.specs.State.{InProxy};
 ghost use Rattle.rh_inproxy.specs.Machine as in_proxy;
@@ -17,7 +13,11 @@ ghost use Rattle.rh_outproxy.specs.declared.out_proxy.TheConstants as out_proxie
 ghost use Rattle.rh_outproxy.specs.declared.state.OutProxyConfig.{OutProxyConfig};
 ghost use Rattle.rh_outproxy.specs.OutProxy.{OutProxy, new_proxy};
 ghost use Rattle.rh_outproxy.specs.Machine as out_proxy;
+ghost use Rattle.rh_client.specs.declared.state.ClientRole.{ClientRole};
+ghost use Rattle.rh_client.specs.Client as client;
 ghost use Rattle.rh_server.specs.Servers as server;
+ghost use Rattle.rh_nodes.specs.declared.event.Event as told;
+ghost use Rattle.law_moves.specs.Moving.{EndEvent, Event, after_end_events, after_events};
 ghost use Rattle.law_node_causes.specs.Closings.{ClosesWith, IsResponse};
 ghost use Rattle.law_node_causes.specs.Refusals.{MayRefuse, MayRefuseOn, RefusesNoStatus};
 

@@ -1,13 +1,13 @@
 -- moves by which a node loses no leg, and the legs for which it has no more use (profile)
 use Rattle.std.specs.Prelude.{◌≡◌, ◌||◌, ℕ, List, Bool, true, false, nat_le, Ok}
+use Rattle.law_order.specs.Items.{Item, has_end, has_handover}
+use Rattle.law_order.specs.Logs.{Log, through}
 use Rattle.rh_http.specs.Lengths.{greatest_echo}
 use Rattle.rh_http.specs.Heads.Verdicts.{Asked, request_verdict}
 use Rattle.rh_line.specs.declared.leg.Leg.{Leg}
 use Rattle.rh_line.specs.declared.leg.LegKind.TheVariants.{ClientIn, InServer}
-use Rattle.law_order.specs.Items.{Item, has_end, has_handover}
-use Rattle.law_order.specs.Logs.{Log, through}
-use Rattle.law_moves.specs.Moves.{Move, HeadCame, Marks, is_in_use}
 use Rattle.rh_shell.specs.Rules.{Rules}
+use Rattle.law_moves.specs.Moves.{Move, HeadCame, Marks, is_in_use}
 
 -- the legs of an IN channel
 abbrev pub ci_leg : ℕ → Leg

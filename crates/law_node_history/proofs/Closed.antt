@@ -3,9 +3,9 @@ use Rattle.std.proofs.Common.{◌≡◌, ℕ, List, [], ◌∷◌, Bool, true, f
 use Rattle.std.specs.Prelude.{nat_lt}
 use Rattle.std.specs.declared.result.Result.{Result}
 use Rattle.std.proofs.lemmas.Bool.{cases_eq}
-use Rattle.rh_rts.specs.declared.command.Cookie.{Cookie}
 use Rattle.rh_text.specs.declared.ends.Side.{Side}
 use Rattle.rh_text.specs.declared.ends.Side.TheVariants as side
+use Rattle.rh_rts.specs.declared.command.Cookie.{Cookie}
 use Rattle.rh_line.specs.declared.cause.Cause.{Cause}
 use Rattle.rh_line.specs.declared.give_fault.GiveFault.{GiveFault}
 use Rattle.rh_line.specs.declared.give_fault.GiveFault.TheVariants as give_fault
@@ -16,8 +16,8 @@ use Rattle.rh_line.specs.declared.state.State.{State}
 use Rattle.rh_line.specs.declared.state.State.TheVariants as state
 use Rattle.rh_line.specs.declared.state.Take.TheVariants as taken
 use Rattle.rh_line.specs.declared.state.Verdict.{Verdict}
-use Rattle.rh_record.specs.declared.answer.Answer.TheVariants as answer
 use Rattle.rh_line.specs.declared.leg.Leg.{Leg}
+use Rattle.rh_record.specs.declared.answer.Answer.TheVariants as answer
 use Rattle.rh_record.specs.declared.answer.Who.{Who}
 use Rattle.rh_record.specs.declared.answer.Who.TheVariants.{Client, Server, In, Out}
 use Rattle.rh_shell.specs.declared.answers.Phase.{Phase}
@@ -25,9 +25,6 @@ use Rattle.rh_shell.specs.declared.answers.Phase.TheVariants as phase
 use Rattle.rh_shell.specs.declared.course.Course.{Course}
 use Rattle.rh_shell.specs.declared.course.Course.TheVariants.{Going, Closed, Refusing}
 use Rattle.rh_shell.specs.Ends as ends
-use Rattle.law_moves.specs.Laws.{ClosedWith}
-use Rattle.law_moves.specs.Moving as moving
-use Rattle.law_moves.specs.Moving.{after_event, after_events}
 use Rattle.rh_shell.specs.Rules.{Rules, Acts}
 use Rattle.rh_shell.specs.Shells as shell
 use Rattle.rh_shell.specs.Shells.{Shell, same_leg, state_by, verdict_by, state_of}
@@ -49,6 +46,9 @@ use Rattle.rh_nodes.specs.Telling as telling
 use Rattle.rh_nodes.specs.Telling.{closing, happens}
 use Rattle.rh_nodes.specs.Wires.{sender, receiver}
 use Rattle.rh_nodes.specs.World.{World, at}
+use Rattle.law_moves.specs.Laws.{ClosedWith}
+use Rattle.law_moves.specs.Moving as moving
+use Rattle.law_moves.specs.Moving.{after_event, after_events}
 use Rattle.law_node_history.specs.Changes.{Change, IsTold, IsFed, IsDrawn, GoesUp, RaisesAlone, GoesDown, OpensIn, OpensOut, OpensSame, Gives, Takes, Closes, RecyclesIn, RecyclesOut, MovesTo, Draws, Reports, MayChange, changed, Leads}
 use Rattle.law_node_history.specs.Closes.{ClosedPlace, HasClosed, ClientTells, ServerTells}
 use Rattle.law_node_history.specs.Histories.{heard, to_node, in_place, out_place}

@@ -5,6 +5,7 @@ use Rattle.std.proofs.lemmas.Bool.{true≢false, cases_eq, cases_Bool, or_cases,
 use Rattle.rh_text.specs.declared.ends.Dir.{Dir}
 use Rattle.rh_text.specs.declared.ends.Side.{Side}
 use Rattle.rh_text.specs.declared.ends.Side.TheVariants as side
+use Rattle.law_order.proofs.ItemLists.{neither}
 use Rattle.rh_line.specs.declared.leg.Leg.{Leg}
 use Rattle.rh_line.specs.declared.leg.LegKind.{LegKind}
 use Rattle.rh_line.specs.declared.leg.LegKind.TheVariants.{ClientOut, OutServer, ClientIn, InServer}
@@ -25,7 +26,6 @@ use Rattle.law_node_history.proofs.Numbers.{asked, put_here, put_elsewhere}
 use Rattle.law_node_history.proofs.Seen.{seen_as}
 use Rattle.law_node_history.proofs.Wired.{cases_leg}
 use Rattle.law_node_history.proofs.Ledgers.{Each, is_here, bytes_here, here_itself, not_other, none_added, or_false, or_true, same_on, each_drawn, each_fed, each_raised, each_lowered}
-use Rattle.law_order.proofs.ItemLists.{neither}
 
 -- ---- tests
 

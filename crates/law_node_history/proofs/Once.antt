@@ -3,10 +3,10 @@ use Rattle.std.proofs.Common.{◌≡◌, List, [], ◌∷◌, ◌++◌, true, fa
 use Rattle.std.proofs.lemmas.Bool.{true≢false, or_cases, and_parts, and_from}
 use Rattle.rh_rts.specs.declared.command.Cookie.{Cookie}
 use Rattle.rh_line.specs.declared.leg.Leg.{Leg}
-use Rattle.law_moves.specs.Moving as moving
-use Rattle.law_moves.specs.Moving.{EndEvent, Happens, IsGiven, IsTaken, IsClosed, IsRecycled, after_event, after_events, after_end_event, after_end_events}
 use Rattle.rh_shell.specs.Rules.{Rules, Acts}
 use Rattle.rh_shell.specs.Shells.{Shell, has_room, is_working, may_up, wants}
+use Rattle.law_moves.specs.Moving as moving
+use Rattle.law_moves.specs.Moving.{EndEvent, Happens, IsGiven, IsTaken, IsClosed, IsRecycled, after_event, after_events, after_end_event, after_end_events}
 use Rattle.law_node_history.specs.Carried.{is_up_of, came_up, happened, IsAccepted, AreAccepted, IsAcceptedAtEnd, AreAcceptedAtEnd, ComesUpOnce, ComesUpOnceAtEnd, RemembersLegs, RemembersLegsAtEnd}
 use Rattle.law_node_history.proofs.Ledgers.{and_false}
 use Rattle.law_node_history.proofs.Runs.{events_append, end_events_append}

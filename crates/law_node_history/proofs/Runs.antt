@@ -7,8 +7,6 @@ use Rattle.rh_rts.specs.declared.command.Cookie.{Cookie}
 use Rattle.rh_line.specs.declared.leg.Leg.{Leg}
 use Rattle.rh_record.specs.declared.answer.Who.{Who}
 use Rattle.rh_record.specs.declared.answer.Who.TheVariants.{Client, Server, In, Out}
-use Rattle.law_moves.specs.Moving as moving
-use Rattle.law_moves.specs.Moving.{EndEvent, Happens, after_event, after_events, after_end_event, after_end_events}
 use Rattle.rh_shell.specs.Rules.{Rules, Acts}
 use Rattle.rh_shell.specs.Shells.{Shell}
 use Rattle.rh_nodes.specs.declared.event.Event.{Event}
@@ -20,6 +18,8 @@ use Rattle.rh_nodes.specs.Company.{Company, Rulebook}
 use Rattle.rh_nodes.specs.Numbered.{act, change}
 use Rattle.rh_nodes.specs.Places as places
 use Rattle.rh_nodes.specs.Telling as telling
+use Rattle.law_moves.specs.Moving as moving
+use Rattle.law_moves.specs.Moving.{EndEvent, Happens, after_event, after_events, after_end_event, after_end_events}
 use Rattle.law_node_history.specs.Histories.{heard, to_node, at_place, in_place, out_place, IsRun, WasLetGo}
 use Rattle.law_node_history.proofs.Numbers.{acted, acts_elsewhere, changed_here, changes_elsewhere}
 

@@ -12,7 +12,6 @@ use Rattle.rh_record.specs.declared.answer.TakeAnswer.TheVariants as takes
 use Rattle.rh_record.specs.declared.answer.Who.{Who}
 use Rattle.rh_record.specs.declared.answer.Who.TheVariants as who
 use Rattle.rh_record.specs.declared.line.Line.{Line}
-use Rattle.law_moves.specs.Laws.{ClosedWith}
 use Rattle.rh_shell.specs.Shells.{state_of}
 use Rattle.rh_nodes.specs.declared.event.Event.{Event}
 use Rattle.rh_nodes.specs.declared.event.Event.TheVariants.{Comes}
@@ -27,6 +26,7 @@ use Rattle.rh_nodes.specs.Opening.{Makers}
 use Rattle.rh_nodes.specs.Steps.{last_with, last_of, step_line}
 use Rattle.rh_nodes.specs.Wires.{receiver}
 use Rattle.rh_nodes.specs.World.{World, at}
+use Rattle.law_moves.specs.Laws.{ClosedWith}
 use Rattle.law_node_history.specs.Changes.{Change, IsTold, IsFed, all_changed, Works}
 use Rattle.law_node_history.specs.Histories.{in_place, out_place}
 

@@ -3,9 +3,9 @@
 
 ghost use Rattle.std.specs.Prelude.{◌≡◌, ◌≤◌, ℕ, List, [], None, Some};
 ghost use Rattle.rh_line.specs.declared.cause.Cause.{Cause};
+ghost use Rattle.rh_line.specs.declared.state.State.TheVariants.{Closed};
 ghost use Rattle.rh_record.specs.declared.answer.Answer.TheVariants.{NodeClosed};
 ghost use Rattle.rh_record.specs.declared.answer.Who.{Who};
-ghost use Rattle.rh_line.specs.declared.state.State.TheVariants.{Closed};
 ghost use Rattle.rh_record.specs.declared.answer.Who.TheVariants.{Client, In, Out, Server};
 ghost use Rattle.rh_record.specs.declared.line.Line.{Line};
 ghost use Rattle.rh_shell.specs.Shells.{Shell, state_of};

@@ -4,13 +4,13 @@ ghost use Rattle.std.specs.Prelude.{◌≡◌, List, Option};
 ghost use Rattle.rh_sig.specs.declared.name.Pipe.{Pipe};
 ghost use Rattle.rh_line.specs.declared.leg.Leg.{Leg};
 ghost use Rattle.rh_shell.specs.declared.rooms.Rooms.{Rooms};
-ghost use Rattle.law_moves.specs.Moving.{EndEvent, Event};
 ghost use Rattle.rh_shell.specs.Shells.{begun};
+ghost use Rattle.law_moves.specs.Moving.{EndEvent, Event};
+ghost use Rattle.law_moves.specs.Turns.{RefusesInTurn};
 ghost use Rattle.law_node_history.specs.Carried.{AreAccepted, AreAcceptedAtEnd};
 ghost use Rattle.law_node_history.specs.Carried.{ComesUpOnce, ComesUpOnceAtEnd, happened};
 ghost use Rattle.law_node_streams.specs.Streams.{EndStream, HasPipes, HearsInTurn, NeverRefuses};
 ghost use Rattle.law_node_streams.specs.Streams.{RefusesFirst, StaysUnused, StaysUnusedAtEnd, Stream};
-ghost use Rattle.law_moves.specs.Turns.{RefusesInTurn};
 
 use rh_shell::{EndRole, Role};
 

@@ -6,15 +6,14 @@ use Rattle.std.proofs.lemmas.List.Quantifiers.{position-Some}
 use Rattle.std.specs.Prelude.{IfSome, find, slice_get}
 use Rattle.std.specs.declared.option.Option.{Option}
 use Rattle.rh_keep.specs.Meters.{may_put}
-use Rattle.rh_line.specs.Queue.{front_length}
 use Rattle.law_order.proofs.ByNumber.{by_test, same_number}
 use Rattle.rh_sig.specs.declared.named.Named.{Named}
 use Rattle.rh_sig.specs.declared.named.Named.TheVariants as named
+use Rattle.rh_line.specs.Queue.{front_length}
 use Rattle.rh_shell.specs.declared.due.Due.{Due}
 use Rattle.rh_shell.specs.NearEnds.{first_of}
 use Rattle.rh_shell.specs.Rules.{Message, Text, Pdu, Packet}
 use Rattle.rh_shell.specs.Waiting.{Waiting, taken}
-use Rattle.law_role_outproxy.specs.Counted.{os_leg}
 use Rattle.rh_server.specs.declared.state.EndMark.TheVariants as end_mark
 use Rattle.rh_server.specs.declared.state.OutLeg.{OutLeg}
 use Rattle.rh_server.specs.OutLines.{Gate, lets, lets_packet}
@@ -22,6 +21,7 @@ use Rattle.rh_server.specs.States.{Server, is_due, is_open, out_at, out_leg, out
 use Rattle.rh_server.specs.Putting.{Pick, or_else, counts, gate, gate_at, goes, is_end_due, may_end_at, may_go_at, next_out, out_greeting_at, pdu_by, put_end, put_open, put_out_at, put_out_greeting, put_pdu, put_pdu_or_end, put_waiting, settled_pick, waiting_at, waiting_by}
 use Rattle.rh_server.specs.Servers.{rules}
 use Rattle.law_role_server.specs.Counted.Counting.{is_ack_to, waiting_of, waits_for}
+use Rattle.law_role_outproxy.specs.Counted.{os_leg}
 
 -- one waits, and the writing channel has room for it
 pub record AckMayGo (s : Server) : Type 0 where

@@ -1,23 +1,23 @@
 -- what a server's log of puts tells: its answers to IN channels, and those behind OUT_R1/A1
 use Rattle.std.proofs.Common.{◌≡◌, ℕ, suc, ◌+◌, ◌≤◌, ◌==◌, Bool, true, false, if◌then◌else◌, List, [], ◌∷◌, ◌++◌, refl, sym, ap, ◌∙◌, subst, arith}
 use Rattle.std.proofs.lemmas.List.{append-nil}
+use Rattle.law_order.proofs.ByNumber.{test_same}
 use Rattle.rh_rts.specs.declared.command.Cookie.{Cookie}
 use Rattle.rh_sig.specs.declared.named.Named.{Named}
 use Rattle.rh_sig.specs.declared.named.Named.TheVariants as named
 use Rattle.rh_line.specs.declared.leg.LegKind.TheVariants.{OutServer, InServer}
-use Rattle.law_order.proofs.ByNumber.{test_same}
-use Rattle.law_peers_room.specs.OutRoom.Waits.{behind, is_in_a3}
+use Rattle.rh_shell.specs.Rules.{Message, Text, Pdu, Packet}
 use Rattle.law_moves.specs.Passages.Passing.{count_of, of_kind}
 use Rattle.law_moves.proofs.Passages.Messages.{count_append, count_rises, kind_more, leg_more}
 use Rattle.law_moves.specs.PacketKinds as kinds
-use Rattle.law_role_outproxy.specs.Counted.{os_leg}
+use Rattle.law_moves.specs.Moves.{OnLeg}
+use Rattle.law_moves.specs.Wires.{of_leg}
 use Rattle.law_role_server.specs.Counted.Counting.{is_in_r1_a3, is_in_r2_a3, is_out_r1_a1, leg_at, often, often_at}
 use Rattle.law_role_server.proofs.Counted.Logs.{at_here, often_at_more, often_more}
+use Rattle.law_role_outproxy.specs.Counted.{os_leg}
+use Rattle.law_peers_room.specs.OutRoom.Waits.{behind, is_in_a3}
 use Rattle.law_peers_room.specs.ServerRoom.Overtaking.{is_ack_for}
 use Rattle.law_peers_room.proofs.ServerRoom.ServerPuts.{is_acked}
-use Rattle.law_moves.specs.Moves.{OnLeg}
-use Rattle.rh_shell.specs.Rules.{Message, Text, Pdu, Packet}
-use Rattle.law_moves.specs.Wires.{of_leg}
 use Rattle.law_peers_forwarding.proofs.PhasePuts.{Rises, answers, is_wish_in}
 
 -- ---- counts

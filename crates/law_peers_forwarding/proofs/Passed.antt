@@ -4,16 +4,19 @@ use Rattle.std.proofs.lemmas.Bool.Decides.{nat_tests}
 use Rattle.std.proofs.lemmas.List.{append_assoc, append-nil}
 use Rattle.std.specs.Prelude.{IfSome, find, slice_get}
 use Rattle.std.specs.declared.option.Option.{Option}
+use Rattle.std.specs.declared.result.Result.{Result}
+use Rattle.rh_keep.specs.Meters.{Meter, may_put}
 use Rattle.rh_rts.specs.declared.command.Cookie.{Cookie}
 use Rattle.rh_sig.specs.declared.named.Named.{Named}
 use Rattle.rh_sig.specs.declared.named.Named.TheVariants as named
-use Rattle.rh_keep.specs.Meters.{Meter, may_put}
 use Rattle.rh_line.specs.declared.leg.Leg.{Leg}
 use Rattle.rh_line.specs.declared.leg.LegKind.{LegKind}
 use Rattle.rh_line.specs.declared.leg.LegKind.TheVariants.{ClientOut, OutServer, ClientIn, InServer}
-use Rattle.law_peers_room.specs.OutRoom.Waits.{is_in_a3}
-use Rattle.law_moves.specs.Passages.Passing.{count_of}
-use Rattle.law_peers_moments.specs.GoingRound.{taken_in}
+use Rattle.rh_shell.specs.declared.due.Due.{Due}
+use Rattle.rh_shell.specs.declared.due.Origin.TheVariants.{Own}
+use Rattle.rh_shell.specs.declared.end_role.GiveRefused.{GiveRefused}
+use Rattle.rh_shell.specs.Rules.{Message, Pdu, Packet}
+use Rattle.rh_shell.specs.Waiting.{is_of}
 use Rattle.rh_server.specs.declared.out_line.Kind.TheVariants as kind
 use Rattle.rh_server.specs.declared.state.OutLeg.{OutLeg}
 use Rattle.rh_server.specs.declared.state.Replacement.{Replacement}
@@ -27,12 +30,15 @@ use Rattle.rh_server.specs.Putting.{Pick, put_in, put_out_at, put_by as put_by_k
 use Rattle.rh_server.specs.Servers.{acts, first, packet_by, pdu}
 use Rattle.rh_server.specs.Servers.{rules as server_rules}
 use Rattle.rh_server.specs.States.{Server, is_some, is_steady, out_at, out_leg, out_place}
+use Rattle.law_moves.specs.Passages.Passing.{count_of}
+use Rattle.law_moves.specs.Moves.{OnLeg, Up, HeadCame, PduCame, PacketCame, Puts, IsDrawn, Marks, Pings, Passage, taken_by, put_by, EndMove, Moves, Gives, Takes, Closes, Recycles, EndPassage, end_moved, end_now_at, given_by, with_first, all_end_moved, end_started, now_at}
 use Rattle.law_role_server.specs.Counted.Counting.{is_out_r1_a1, is_out_r1_a5, is_out_r1_a9, leg_at, often, out_put, waiting_of, waits_for}
 use Rattle.law_role_server.specs.Counted.Replacing.{AreReplaced, since_answered, since_asked, since_confirmed}
 use Rattle.law_role_server.proofs.Counted.Replacing.{are_put_in_turn, are_replaced}
-use Rattle.law_peers_forwarding.specs.ServerFull.Taken.{due_in}
-use Rattle.law_peers_forwarding.proofs.ServerFull.Longest.{put_grows}
+use Rattle.law_node_streams.proofs.Streams.EndMoves.{all_end_moved_append}
+use Rattle.law_peers_moments.specs.GoingRound.{taken_in}
 use Rattle.law_role_server_in.specs.Handovers.{passed}
+use Rattle.law_peers_room.specs.OutRoom.Waits.{is_in_a3}
 use Rattle.law_peers_room.specs.ServerRoom.Overtaking.{AreLong, IsLong, is_ack_for}
 use Rattle.law_peers_room.proofs.ServerRoom.Ahead as ahead
 use Rattle.law_peers_room.proofs.ServerRoom.Legs.{each_got}
@@ -42,14 +48,8 @@ use Rattle.law_peers_room.proofs.ServerRoom.Serving.{number_found}
 use Rattle.law_peers_room.proofs.ServerRoom.ViewPuts.{os_goes}
 use Rattle.law_peers_room.proofs.ServerRoom.ViewRows.{LongServes, drawn_serves, give_serves, mark_serves, packet_row, pdu_row, recycles, take_serves, up_serves}
 use Rattle.law_peers_room.proofs.ServerRoom.Views.{AreKept, View, view}
-use Rattle.rh_shell.specs.declared.due.Due.{Due}
-use Rattle.rh_shell.specs.declared.due.Origin.TheVariants.{Own}
-use Rattle.rh_shell.specs.declared.end_role.GiveRefused.{GiveRefused}
-use Rattle.law_moves.specs.Moves.{OnLeg, Up, HeadCame, PduCame, PacketCame, Puts, IsDrawn, Marks, Pings, Passage, taken_by, put_by, EndMove, Moves, Gives, Takes, Closes, Recycles, EndPassage, end_moved, end_now_at, given_by, with_first, all_end_moved, end_started, now_at}
-use Rattle.rh_shell.specs.Rules.{Message, Pdu, Packet}
-use Rattle.rh_shell.specs.Waiting.{is_of}
-use Rattle.law_node_streams.proofs.Streams.EndMoves.{all_end_moved_append}
-use Rattle.std.specs.declared.result.Result.{Result}
+use Rattle.law_peers_forwarding.specs.ServerFull.Taken.{due_in}
+use Rattle.law_peers_forwarding.proofs.ServerFull.Longest.{put_grows}
 use Rattle.law_peers_forwarding.specs.Passing.{FewPass, MayGoOn, OneIsDue, behind_wish, lets_acks_on}
 use Rattle.law_peers_forwarding.proofs.Fits.{are_fit, in_same, long_before}
 use Rattle.law_peers_forwarding.proofs.Logs.{acks_more, asked_on, behind_first, in_leg_same, in_often, in_put_in, more_on, one_ack, put_in as answers_in, put_more, rises}

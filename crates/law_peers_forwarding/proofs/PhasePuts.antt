@@ -2,13 +2,11 @@
 use Rattle.std.proofs.Common.{◌≡◌, ◌⊎◌, inl, inr, ℕ, suc, ◌+◌, ◌*◌, ◌≤◌, ◌==◌, ◌&&◌, Bool, true, false, nat_lt, if◌then◌else◌, List, [], ◌∷◌, Some, None, refl, sym, ap, ◌∙◌, subst, arith}
 use Rattle.std.proofs.lemmas.Bool.Decides.{nat_tests}
 use Rattle.std.specs.Prelude.{IfSome, find, slice_set}
+use Rattle.rh_keep.specs.Meters.{Meter, after_put, fits, may_put}
+use Rattle.law_order.proofs.ByNumber.{same_number, test_same}
 use Rattle.rh_rts.specs.declared.command.Cookie.{Cookie}
 use Rattle.rh_sig.specs.declared.named.Named.{Named}
 use Rattle.rh_sig.specs.declared.named.Named.TheVariants as named
-use Rattle.rh_keep.specs.Meters.{Meter, after_put, fits, may_put}
-use Rattle.law_order.proofs.ByNumber.{same_number, test_same}
-use Rattle.law_peers_room.specs.OutRoom.Waits.{is_in_a3}
-use Rattle.law_moves.specs.Passages.Passing.{count_of}
 use Rattle.rh_shell.specs.declared.due.Due.{Due}
 use Rattle.rh_shell.specs.Rules.{Message, Text, Pdu, Packet}
 use Rattle.rh_server.specs.declared.state.OutLeg.{OutLeg}
@@ -19,7 +17,9 @@ use Rattle.rh_server.specs.OutLines.{length_of, lets, lets_packet}
 use Rattle.rh_server.specs.OutReplacement.{last_number}
 use Rattle.rh_server.specs.Putting.{gate}
 use Rattle.rh_server.specs.States.{Server, is_confirmed, is_open, is_steady}
+use Rattle.law_moves.specs.Passages.Passing.{count_of}
 use Rattle.law_role_server.specs.Counted.Counting.{is_out_r1_a1}
+use Rattle.law_peers_room.specs.OutRoom.Waits.{is_in_a3}
 use Rattle.law_peers_room.specs.ServerRoom.Overtaking.{is_ack_for}
 use Rattle.law_peers_room.proofs.ServerRoom.Ahead as ahead
 use Rattle.law_peers_room.proofs.ServerRoom.Legs.{each_got, others_so}

@@ -4,12 +4,10 @@ use Rattle.std.proofs.Common.{◌≡◌, ℕ, ◌+◌, ◌*◌, ◌≤◌, Bool,
 use Rattle.std.specs.Prelude.{IfSome, slice_get, slice_set, remove}
 use Rattle.std.specs.List.{AllByRecursion}
 use Rattle.std.specs.declared.option.Option.{Option}
+use Rattle.rh_keep.specs.Meters.{Meter}
 use Rattle.rh_rts.specs.declared.command.Cookie.{Cookie}
 use Rattle.rh_sig.specs.declared.named.Named.{Named}
 use Rattle.rh_sig.specs.declared.named.Named.TheVariants as named
-use Rattle.rh_keep.specs.Meters.{Meter}
-use Rattle.law_peers_room.specs.OutRoom.Waits.{is_in_a3}
-use Rattle.law_moves.proofs.Passages.Messages.{all_append}
 use Rattle.rh_shell.specs.declared.due.Due.{Due}
 use Rattle.rh_shell.specs.Waiting.{Key, are_one, key_of, merged, own, without_first}
 use Rattle.rh_server.specs.declared.state.OutLeg.{OutLeg}
@@ -20,8 +18,10 @@ use Rattle.rh_server.specs.declared.state.Stage.TheVariants as stage
 use Rattle.rh_server.specs.OutLines.{is_ack_of}
 use Rattle.rh_server.specs.OutReplacement.{last_number}
 use Rattle.rh_server.specs.States.{is_steady}
+use Rattle.law_moves.proofs.Passages.Messages.{all_append}
 use Rattle.law_role_server.specs.Counted.Counting.{waiting_of}
 use Rattle.law_role_server.proofs.Counted.Dues.{push_waits}
+use Rattle.law_peers_room.specs.OutRoom.Waits.{is_in_a3}
 use Rattle.law_peers_room.proofs.ServerRoom.Ahead.{same_keys}
 use Rattle.law_peers_room.proofs.ServerRoom.Ahead as ahead
 use Rattle.law_peers_room.proofs.ServerRoom.Legs.{each_got, each_removed, each_set}

@@ -5,11 +5,10 @@ use Rattle.std.proofs.lemmas.Bool.Decides.{nat_tests}
 use Rattle.std.specs.Prelude.{IfSome, find, slice_get, slice_set}
 use Rattle.std.specs.List.{AllByRecursion}
 use Rattle.std.specs.declared.option.Option.{Option}
-use Rattle.rh_sig.specs.declared.named.Named.{Named}
-use Rattle.rh_sig.specs.declared.named.Named.TheVariants as named
 use Rattle.rh_keep.specs.Meters.{Meter, started, wanted}
 use Rattle.law_order.proofs.ByNumber.{by_test, same_number, test_same}
-use Rattle.law_moves.proofs.Passages.Messages.{all_append, each_so}
+use Rattle.rh_sig.specs.declared.named.Named.{Named}
+use Rattle.rh_sig.specs.declared.named.Named.TheVariants as named
 use Rattle.rh_shell.specs.declared.due.Due.{Due}
 use Rattle.rh_shell.specs.declared.due.Origin.TheVariants.{Own}
 use Rattle.rh_shell.specs.Rules.{Message}
@@ -23,6 +22,7 @@ use Rattle.rh_server.specs.Ending.{completed, is_complete, settled}
 use Rattle.rh_server.specs.OutLines.{is_ack_of, is_kind, is_own}
 use Rattle.rh_server.specs.OutReplacement.{asks, is_under_way, last_number, wanted_by, wishes}
 use Rattle.rh_server.specs.States.{Server, is_open, is_some, is_steady, out_at, out_leg, out_place}
+use Rattle.law_moves.proofs.Passages.Messages.{all_append, each_so}
 use Rattle.law_role_server_rows.proofs.Refusing.Places.{next_place, place_step}
 use Rattle.law_peers_room.proofs.ServerRoom.Ahead.{same_keys}
 use Rattle.law_peers_room.proofs.ServerRoom.Legs.{Above, Sorted, each_got, each_removed, each_set, sorted_pushed, sorted_removed, sorted_set}

@@ -5,33 +5,33 @@
 use Rattle.std.proofs.Common.{◌≡◌, ◌⊎◌, inl, inr, ℕ, zero, suc, ◌+◌, ◌-◌, ◌*◌, ◌<◌, ◌≤◌, Bool, true, List, [], ◌∷◌, ◌++◌, append_assoc, length, Some, refl, sym, ap, ◌∙◌, subst, arith}
 use Rattle.std.proofs.lemmas.List.{length-append}
 use Rattle.std.specs.List.{AllByRecursion}
+use Rattle.rh_keep.specs.Meters.{may_put}
 use Rattle.rh_rts.specs.declared.command.Cookie.{Cookie}
 use Rattle.rh_sig.specs.declared.named.Named.{Named}
 use Rattle.rh_line.specs.declared.leg.LegKind.TheVariants.{InServer}
-use Rattle.rh_keep.specs.Meters.{may_put}
-use Rattle.law_moves.specs.Moves.{EndMove, EndPassage, OnLeg, Passage, all_end_moved, end_started}
 use Rattle.rh_shell.specs.Rules.{Message}
-use Rattle.law_moves.specs.Wires.{of_leg}
-use Rattle.law_moves.specs.Passages.Passing.{BeginsIn, count_of, of_kind, HasOne}
-use Rattle.law_moves.proofs.Passages.Messages.{count_append}
-use Rattle.law_node_streams.proofs.Streams.EndMoves.{all_end_moved_append}
 use Rattle.rh_client.specs.State.{ci}
-use Rattle.law_role_client.specs.Counted.Naming.{NamesIns}
-use Rattle.law_moves.specs.PacketKinds.{is_out_r1_a1}
-use Rattle.law_role_outproxy.specs.Counted.{os_leg}
-use Rattle.law_peers_room.specs.OutRoom.Room.{AcksFewBetween, AreAcked}
-use Rattle.law_peers_room.specs.OutRoom.Waits.{AcksFor, AreDifferent, behind, is_in_a3}
-use Rattle.law_peers_moments.specs.GoingRound.{taken_in}
 use Rattle.rh_server.specs.declared.state.OutLeg.{OutLeg}
 use Rattle.rh_server.specs.States.{Server, out_leg}
 use Rattle.rh_server.specs.Servers.{acts, first, rules}
+use Rattle.law_moves.specs.Moves.{EndMove, EndPassage, OnLeg, Passage, all_end_moved, end_started}
+use Rattle.law_moves.specs.Wires.{of_leg}
+use Rattle.law_moves.specs.Passages.Passing.{BeginsIn, count_of, of_kind, HasOne}
+use Rattle.law_moves.proofs.Passages.Messages.{count_append}
+use Rattle.law_moves.specs.PacketKinds.{is_out_r1_a1}
+use Rattle.law_role_client.specs.Counted.Naming.{NamesIns}
 use Rattle.law_role_server.specs.Counted.Counting.{in_came, is_ack_to, is_in_r1_a6, is_in_r2_a2, often, out_put, waits_for}
-use Rattle.law_role_server_in.specs.Handovers.{passed}
-use Rattle.law_role_server_in.specs.Refusing.{came_at}
+use Rattle.law_role_outproxy.specs.Counted.{os_leg}
 use Rattle.law_role_server_rows.specs.InTurn.Channels.{WritesOnBegun}
 use Rattle.law_role_server_rows.proofs.InTurn.Splits.{kind_append}
-use Rattle.law_peers_in_channels.specs.InChannels.{IsAnnouncedOn, channels}
+use Rattle.law_node_streams.proofs.Streams.EndMoves.{all_end_moved_append}
+use Rattle.law_peers_moments.specs.GoingRound.{taken_in}
 use Rattle.law_peers_moments.specs.Moments.{IsJoined, IsMoment, IsPast, Moves, Numbers, client_behind, server_behind}
+use Rattle.law_role_server_in.specs.Handovers.{passed}
+use Rattle.law_role_server_in.specs.Refusing.{came_at}
+use Rattle.law_peers_in_channels.specs.InChannels.{IsAnnouncedOn, channels}
+use Rattle.law_peers_room.specs.OutRoom.Room.{AcksFewBetween, AreAcked}
+use Rattle.law_peers_room.specs.OutRoom.Waits.{AcksFor, AreDifferent, behind, is_in_a3}
 use Rattle.law_peers_room.specs.ServerRoom.Overtaking.{AreLong, is_ack_for}
 use Rattle.law_peers_forwarding.specs.ServerFull.Few.{IsAmong}
 use Rattle.law_peers_forwarding.specs.ServerFull.Keeping.{ForwardsWhatCame}

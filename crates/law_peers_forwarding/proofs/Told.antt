@@ -4,26 +4,26 @@ use Rattle.std.proofs.lemmas.Bool.Decides.{nat_tests}
 use Rattle.std.specs.List.{AllByRecursion}
 use Rattle.rh_text.specs.declared.ends.Side.{Side}
 use Rattle.rh_text.specs.declared.ends.Side.TheVariants as side
+use Rattle.rh_keep.specs.declared.range.TheConstants.{LEAST_LIFETIME}
 use Rattle.rh_rts.specs.declared.command.Cookie.{Cookie}
 use Rattle.rh_sig.specs.declared.named.Named.{Named}
 use Rattle.rh_sig.specs.declared.named.Named.TheVariants.{ConnA2, ConnB2, InR1A2, InR1A6, InR2A2, OutR1A4}
-use Rattle.rh_keep.specs.declared.range.TheConstants.{LEAST_LIFETIME}
 use Rattle.rh_sig.specs.Values.{IsLifetime}
 use Rattle.rh_line.specs.declared.leg.Leg.{Leg}
 use Rattle.rh_line.specs.declared.leg.LegKind.{LegKind}
 use Rattle.rh_line.specs.declared.leg.LegKind.TheVariants.{ClientIn, ClientOut, InServer, OutServer}
 use Rattle.rh_record.specs.declared.answer.Who.TheVariants as who
-use Rattle.law_moves.specs.Moves.{OnLeg}
 use Rattle.rh_shell.specs.Rules.{Message, Text, Pdu, Packet}
 use Rattle.rh_shell.specs.Shells.{same_leg}
-use Rattle.law_moves.specs.Wires.{of_leg}
 use Rattle.rh_inproxy.specs.declared.state.InProxyConfig.{InProxyConfig}
 use Rattle.rh_outproxy.specs.declared.state.OutProxyConfig.{OutProxyConfig}
+use Rattle.law_moves.specs.Moves.{OnLeg}
+use Rattle.law_moves.specs.Wires.{of_leg}
 use Rattle.law_moves.specs.Passages.Passing.{Has}
 use Rattle.law_moves.proofs.Passages.Messages.{each_so}
 use Rattle.law_role_inproxy.specs.Putting.Puts.{IsPing, IsRest, IsStream, PutsInOrder}
-use Rattle.law_role_outproxy.specs.Putting.{IsAck, IsToServer, OpensServer, PutsToServer}
 use Rattle.law_role_server.specs.Counted.Counting.{leg_at}
+use Rattle.law_role_outproxy.specs.Putting.{IsAck, IsToServer, OpensServer, PutsToServer}
 use Rattle.law_peers_moments.specs.Moments.{IsJoined, Moves, Numbers, Passages, end_of, in_behind, out_behind, passages, server_behind}
 use Rattle.law_peers_moments.proofs.Joining.{is_front, os_front}
 use Rattle.law_peers_moments.proofs.Read.{front_has}

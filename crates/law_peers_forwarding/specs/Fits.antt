@@ -5,8 +5,8 @@ use Rattle.rh_line.specs.declared.leg.Leg.{Leg}
 use Rattle.rh_shell.specs.declared.answers.Count.{Count}
 use Rattle.rh_shell.specs.declared.answers.Refused.TheVariants as refused
 use Rattle.rh_shell.specs.Rules.{Packet}
-use Rattle.law_moves.specs.Wires.{of_leg}
 use Rattle.rh_server.specs.Servers.{rules}
+use Rattle.law_moves.specs.Wires.{of_leg}
 use Rattle.law_moves.specs.ReadBack.Reading.{all_read_of}
 use Rattle.law_role_inproxy.specs.Counted.{is_leg}
 use Rattle.law_peers_moments.specs.Expecting.{IsAhead}

@@ -1,13 +1,13 @@
 -- the IN channels of which acknowledgements may come at a server behind a front of its moves
 -- (MS-RPCH 3.2.1; successors are this profile's)
 use Rattle.std.specs.Prelude.{ℕ, suc, ◌≡◌, ◌⊎◌, ◌+◌, ◌<◌, ◌≤◌, ◌++◌, List, length}
-use Rattle.law_moves.specs.Moves.{EndMove, Passage}
 use Rattle.rh_server.specs.States.{Server}
+use Rattle.law_moves.specs.Moves.{EndMove, Passage}
 use Rattle.law_role_server.specs.Counted.Counting.{is_in_r1_a6, is_in_r2_a2}
-use Rattle.law_role_server_in.specs.Refusing.{came_at}
-use Rattle.law_peers_in_channels.specs.InChannels.{IsAnnouncedOn, channels, passed}
 use Rattle.law_peers_moments.specs.Moments.{Moves, Numbers}
 use Rattle.law_peers_moments.specs.GoingRound.{taken_in}
+use Rattle.law_role_server_in.specs.Refusing.{came_at}
+use Rattle.law_peers_in_channels.specs.InChannels.{IsAnnouncedOn, channels, passed}
 use Rattle.law_peers_forwarding.specs.ServerFull.Few.{IsAmong}
 use Rattle.law_peers_forwarding.specs.ServerFull.Taken.{due_in}
 

@@ -2,21 +2,21 @@
 -- successors of OUT channels (MS-RPCH 2.2.4, 3.2.1; when they go is this profile's)
 use Rattle.std.specs.Prelude.{ℕ, ◌≡◌, ◌⊎◌, ◌+◌, ◌*◌, ◌<◌, ◌≤◌, ◌++◌, Bool, true, false, List, length, Some, None}
 use Rattle.std.specs.declared.option.Option.{Option}
-use Rattle.rh_rts.specs.declared.command.Cookie.{Cookie}
 use Rattle.rh_keep.specs.Meters.{may_put}
+use Rattle.rh_rts.specs.declared.command.Cookie.{Cookie}
 use Rattle.rh_sig.specs.declared.lengths.TheConstants.{ACK_TO_LEN}
-use Rattle.law_moves.specs.Moves.{EndMove, Passage}
-use Rattle.law_moves.specs.Wires.{of_leg}
 use Rattle.rh_server.specs.declared.state.OutLeg.{OutLeg}
 use Rattle.rh_server.specs.OutReplacement.{last_number}
 use Rattle.rh_server.specs.States.{Server, out_leg}
+use Rattle.law_moves.specs.Moves.{EndMove, Passage}
+use Rattle.law_moves.specs.Wires.{of_leg}
 use Rattle.law_moves.specs.Passages.Passing.{count_of}
 use Rattle.law_moves.specs.PacketKinds.{is_out_r1_a1}
-use Rattle.law_role_outproxy.specs.Counted.{os_leg}
-use Rattle.law_peers_room.specs.OutRoom.Waits.{behind, is_in_a3}
-use Rattle.law_peers_moments.specs.GoingRound.{taken_in}
 use Rattle.law_role_server.specs.Counted.Counting.{out_put, waits_for}
+use Rattle.law_role_outproxy.specs.Counted.{os_leg}
+use Rattle.law_peers_moments.specs.GoingRound.{taken_in}
 use Rattle.law_role_server_in.specs.Handovers.{passed}
+use Rattle.law_peers_room.specs.OutRoom.Waits.{behind, is_in_a3}
 use Rattle.law_peers_room.specs.ServerRoom.Overtaking.{AreLong, ack_room, is_ack_for}
 use Rattle.law_peers_forwarding.specs.ServerFull.Taken.{due_in}
 

@@ -5,8 +5,8 @@ ghost use Rattle.std.specs.Prelude.{ℕ};
 ghost use Rattle.law_moves.specs.Wires.{of_leg};
 ghost use Rattle.law_role_outproxy.specs.Counted.{os_leg};
 ghost use Rattle.law_peers_moments.specs.Moments.{IsMoment, Moves, Numbers, out_behind, server_behind};
-ghost use Rattle.law_peers_room.specs.OutRoom.Room.{AcksFewBetween, HasRoom};
 ghost use Rattle.law_peers_expects.specs.OutProxyExpects.Early.{HaveLifetimes};
+ghost use Rattle.law_peers_room.specs.OutRoom.Room.{AcksFewBetween, HasRoom};
 
 use crate::answers::one_answer_follows_a_wish;
 use crate::due::one_answer_is_due;

@@ -4,18 +4,18 @@
 use Rattle.std.specs.Prelude.{ℕ, suc, ◌≡◌, ◌+◌, ◌≤◌, ◌++◌, List}
 use Rattle.rh_rts.specs.declared.command.Cookie.{Cookie}
 use Rattle.rh_sig.specs.declared.named.Named.TheVariants.{InR1A2, InR2A2}
-use Rattle.law_moves.specs.Moves.{EndMove, Passage, all_end_moved, end_started}
 use Rattle.rh_shell.specs.Rules.{Packet}
-use Rattle.law_moves.specs.Wires.{of_leg}
 use Rattle.rh_server.specs.Servers.{acts, first, rules}
 use Rattle.rh_server.specs.States.{Server}
-use Rattle.law_role_server.specs.Counted.Counting.{in_came, is_conn_b2, is_in_r1_a2, is_in_r1_a3, is_in_r2_a2, out_put}
-use Rattle.law_role_server_in.specs.Refusing.{came_at, first_at}
-use Rattle.law_role_inproxy.specs.Counted.{is_leg}
+use Rattle.law_moves.specs.Moves.{EndMove, Passage, all_end_moved, end_started}
+use Rattle.law_moves.specs.Wires.{of_leg}
 use Rattle.law_moves.specs.ReadBack.Reading.{all_read_of}
+use Rattle.law_role_inproxy.specs.Counted.{is_leg}
+use Rattle.law_role_server.specs.Counted.Counting.{in_came, is_conn_b2, is_in_r1_a2, is_in_r1_a3, is_in_r2_a2, out_put}
 use Rattle.law_peers_moments.specs.GoingRound.{announced, taken_in}
 use Rattle.law_peers_moments.specs.Expecting.{IsAhead}
 use Rattle.law_peers_moments.specs.Moments.{Moves, Numbers, in_behind, server_behind}
+use Rattle.law_role_server_in.specs.Refusing.{came_at, first_at}
 
 -- how many channels were announced
 abbrev pub channels : Passage Server → ℕ

@@ -1,9 +1,9 @@
 -- the packets of replacements between the ends: of each as many pass as of the one before it, or
 -- one less (the replacement of channels is this profile's)
 use Rattle.std.specs.Prelude.{ℕ, ◌+◌, ◌≤◌}
-use Rattle.law_moves.specs.Moves.{Passage}
 use Rattle.rh_client.specs.declared.state.ClientRole.{ClientRole}
 use Rattle.rh_server.specs.States.{Server}
+use Rattle.law_moves.specs.Moves.{Passage}
 use Rattle.law_role_client.specs.Counted.Replacing.{in_asked, in_answered}
 use Rattle.law_role_client.specs.Counted.Replacing.{out_wanted, out_asked, out_answered, out_switched, out_finished}
 use Rattle.law_role_server.specs.Counted.Counting.{is_in_r1_a2, is_in_r1_a3, is_in_r2_a2, is_in_r2_a3, is_out_r1_a1, is_out_r1_a4, is_out_r1_a5, is_out_r1_a8, is_out_r1_a9, in_came, out_came, out_put}

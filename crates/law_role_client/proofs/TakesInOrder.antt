@@ -2,13 +2,20 @@
 use Rattle.std.proofs.Common.{◌≡◌, ℕ, suc, ◌==◌, Bool, true, false, not, ◌&&◌, ◌||◌, nat_lt, if◌then◌else◌, List, [], ◌∷◌, ◌++◌, length, is_ok, IsTrue, Some, None, Ok, Err, rules, refl, sym, ap, ◌∙◌, subst}
 use Rattle.std.specs.declared.option.Option.{Option}
 use Rattle.std.specs.declared.result.Result.{Result}
-use Rattle.rh_rts.specs.declared.command.Cookie.{Cookie}
-use Rattle.rh_http.specs.declared.config.ClientConfig.{ClientConfig}
-use Rattle.rh_sig.specs.declared.named.Named.{Named}
-use Rattle.rh_sig.specs.declared.named.Named.TheVariants as named
-use Rattle.rh_keep.specs.Meters.{may_put, fits}
 use Rattle.rh_window.specs.Receiving as windows
 use Rattle.rh_window.specs.declared.recv_window.Ack.{Ack}
+use Rattle.rh_keep.specs.Meters.{may_put, fits}
+use Rattle.law_order.specs.Items.{Item, Piece, Stop, Handover}
+use Rattle.law_order.specs.Logs.{Log, more}
+use Rattle.law_order.specs.Shelves.{PduNow, PduNext, EndNow, EndNext, HandoverNow}
+use Rattle.law_order.specs.Taking.{TakerLaw, Hears}
+use Rattle.law_order.proofs.ByNumber.{by_test, same_number, more_none}
+use Rattle.law_order.proofs.TakerKeeps.{taker_step, taker_starts}
+use Rattle.rh_rts.specs.declared.command.Cookie.{Cookie}
+use Rattle.rh_sig.specs.declared.named.Named.{Named}
+use Rattle.rh_sig.specs.declared.named.Named.TheVariants as named
+use Rattle.rh_sig.specs.declared.lengths.TheConstants.{CONN_B1_LEN, IN_R1_A1_LEN, IN_R1_A5_LEN, OUT_R1_A7_LEN, END_A1_LEN, ACK_TO_LEN, PING_LEN}
+use Rattle.rh_http.specs.declared.config.ClientConfig.{ClientConfig}
 use Rattle.rh_line.specs.Lines.{Line, Incoming, is_empty, channel_of, with_channel, with_end, admitted, channel_verdict, released, settled as settled_line, moved_on, after_finish, after_take, after_end, after_told, after_open_next}
 use Rattle.rh_line.specs.Lines as lines
 use Rattle.rh_line.specs.Queue.{front_length}
@@ -19,17 +26,9 @@ use Rattle.rh_line.specs.declared.leg.LegKind.{LegKind}
 use Rattle.rh_line.specs.declared.leg.LegKind.TheVariants.{ClientOut, OutServer, ClientIn, InServer}
 use Rattle.rh_line.specs.declared.which.Which.{Which}
 use Rattle.rh_line.specs.declared.which.Which.TheVariants.{Current, Next}
-use Rattle.law_order.specs.Items.{Item, Piece, Stop, Handover}
-use Rattle.law_order.specs.Logs.{Log, more}
-use Rattle.law_order.specs.Shelves.{PduNow, PduNext, EndNow, EndNext, HandoverNow}
-use Rattle.law_order.specs.Taking.{TakerLaw, Hears}
-use Rattle.law_order.proofs.ByNumber.{by_test, same_number, more_none}
-use Rattle.law_order.proofs.TakerKeeps.{taker_step, taker_starts}
 use Rattle.rh_shell.specs.Rules.{Message, Pdu, Packet}
 use Rattle.rh_shell.specs.declared.answers.Count.{Count}
 use Rattle.rh_shell.specs.declared.answers.Phase.TheVariants as phase
-use Rattle.law_moves.specs.Moves as moves
-use Rattle.law_moves.specs.Moves.{Passage, EndPassage, EndMove, Up, HeadCame, PduCame, PacketCame, Puts, IsDrawn, Marks, Pings, Moves, Gives, Takes, Recycles, taken_by, given_by, with_first, end_moved, all_end_moved}
 use Rattle.rh_client.specs.declared.channels.Opening.{Opening}
 use Rattle.rh_client.specs.declared.channels.Opening.TheVariants.{NotUp, Request, First, Second, Put}
 use Rattle.rh_client.specs.declared.channels.TheConstants.{LAST_NUMBER}
@@ -40,7 +39,6 @@ use Rattle.rh_client.specs.declared.replacement.OutStage.TheVariants as out_stag
 use Rattle.rh_client.specs.declared.replacement.Waits.{Waits}
 use Rattle.rh_client.specs.declared.replacement.Waits.TheVariants as waits
 use Rattle.rh_client.specs.declared.state.ClientRole.{ClientRole}
-use Rattle.rh_sig.specs.declared.lengths.TheConstants.{CONN_B1_LEN, IN_R1_A1_LEN, IN_R1_A5_LEN, OUT_R1_A7_LEN, END_A1_LEN, ACK_TO_LEN, PING_LEN}
 use Rattle.rh_client.specs.Channels.{unopened_in, metered, is_named, out_up}
 use Rattle.rh_client.specs.Replacements.{is_out, is_finished, has_out, with_out}
 use Rattle.rh_client.specs.State.{Done, taken, unexpected, is_open, is_writing, is_in_successor, is_current, is_out_successor, is_over, settled}
@@ -54,6 +52,8 @@ use Rattle.rh_client.specs.Putting as putting
 use Rattle.rh_client.specs.Putting.{Pick, or_else, put_conn_b1, put_in_r1_a1, put_current, put_out_successor, put_out, put_in_r1_a5, put_out_r1_a7, due_by, put_due, ack_by, put_ack_of, put_ack, put_pdu, put_end, put_ping, put_successor_ping, put_next, put_writing, put_in_successor, put_in, put_by, settled_or_wished, settled_pick}
 use Rattle.rh_client.specs.Client as client
 use Rattle.rh_client.specs.Client.{rules as client_rules, acts, on_packet, packet_by, packet, pdu}
+use Rattle.law_moves.specs.Moves as moves
+use Rattle.law_moves.specs.Moves.{Passage, EndPassage, EndMove, Up, HeadCame, PduCame, PacketCame, Puts, IsDrawn, Marks, Pings, Moves, Gives, Takes, Recycles, taken_by, given_by, with_first, end_moved, all_end_moved}
 use Rattle.law_role_client.specs.Order.{down_items, down_mark, came_log, shelf_of, has_leg, TakesInOrder, AreAllowedMoves, client_started, client_moved}
 use Rattle.law_role_client.proofs.ClientLogs.{log_here, of_kind}
 use Rattle.law_role_client.proofs.TakesKept.{reads_by, reads, taker_by, LawBy, IsNext, Took, same, by_replacement}

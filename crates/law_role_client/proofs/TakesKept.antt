@@ -1,18 +1,16 @@
 -- what a client keeps of the law of an end that takes, while its OUT channels are replaced
 use Rattle.std.proofs.Common.{◌≡◌, ℕ, suc, ◌+◌, Bool, true, false, ◌&&◌, nat_lt, List, [], ◌∷◌, ◌++◌, Ok, Err, arith, refl, sym, ap, ◌∙◌, subst}
 use Rattle.std.specs.declared.result.Result.{Result}
-use Rattle.rh_line.specs.Lines.{Line, Incoming, is_empty, channel_of, with_channel, with_end, admitted, channel_verdict, released, settled as settled_line, moved_on, after_finish, after_take, after_end, after_told, after_open_next}
-use Rattle.rh_line.specs.Lines as lines
 use Rattle.law_order.specs.Logs.{Log}
 use Rattle.law_order.specs.Shelves.{MovesOn}
 use Rattle.law_order.specs.Taking.{Taker, TakerLaw, Hears, TakesPdu}
 use Rattle.law_order.proofs.ByNumber.{by_test, more_none}
 use Rattle.law_order.proofs.TakerKeeps.{taker_step}
+use Rattle.rh_line.specs.Lines.{Line, Incoming, is_empty, channel_of, with_channel, with_end, admitted, channel_verdict, released, settled as settled_line, moved_on, after_finish, after_take, after_end, after_told, after_open_next}
+use Rattle.rh_line.specs.Lines as lines
 use Rattle.rh_shell.specs.declared.answers.Phase.TheVariants as phase
 use Rattle.rh_shell.specs.declared.end_role.RecycleRefused.{RecycleRefused}
 use Rattle.rh_shell.specs.declared.end_role.RecycleRefused.TheVariants.{Last}
-use Rattle.law_moves.specs.Moves as moves
-use Rattle.law_moves.specs.Moves.{Passage, EndPassage, EndMove, Up, HeadCame, PduCame, PacketCame, Puts, IsDrawn, Marks, Pings, Moves, Gives, Takes, Recycles, taken_by, given_by, with_first, end_moved, all_end_moved}
 use Rattle.rh_client.specs.declared.channels.TheConstants.{LAST_NUMBER}
 use Rattle.rh_client.specs.declared.replacement.Replacement.{Replacement}
 use Rattle.rh_client.specs.declared.replacement.Replacement.TheVariants.{NoneUnderWay, In, Out}
@@ -27,6 +25,8 @@ use Rattle.rh_client.specs.State.{is_over, begin_in, begin_out, after_in, after_
 use Rattle.rh_client.specs.InReplacement.{recycle_by, wish_by, wished, wants_successor}
 use Rattle.rh_client.specs.OutReplacement.{succeeded, ended_or, pass_by, passed}
 use Rattle.rh_client.specs.Putting.{settled_or_wished}
+use Rattle.law_moves.specs.Moves as moves
+use Rattle.law_moves.specs.Moves.{Passage, EndPassage, EndMove, Up, HeadCame, PduCame, PacketCame, Puts, IsDrawn, Marks, Pings, Moves, Gives, Takes, Recycles, taken_by, given_by, with_first, end_moved, all_end_moved}
 use Rattle.law_role_client.specs.Order.{shelf_of, has_leg}
 
 -- ---- what the law reads

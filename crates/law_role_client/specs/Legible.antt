@@ -3,13 +3,13 @@
 use Rattle.std.specs.Prelude.{◌≡◌, List, length, Some, None}
 use Rattle.std.specs.List.{AllByRecursion}
 use Rattle.std.specs.declared.option.Option.{Option}
+use Rattle.rh_window.specs.Sides.{IsWindow}
 use Rattle.rh_rts.specs.declared.command.Cookie.{Cookie}
 use Rattle.rh_rts.specs.declared.command.TheConstants.{COOKIE_LEN}
-use Rattle.rh_window.specs.Sides.{IsWindow}
-use Rattle.rh_http.specs.declared.config.ClientConfig.{ClientConfig}
 use Rattle.rh_sig.specs.declared.name.Pipe.{Pipe}
 use Rattle.rh_sig.specs.declared.name.Pipe.TheVariants.{CiU, CoU}
 use Rattle.rh_sig.specs.Values.{IsLifetime, IsKeepalive}
+use Rattle.rh_http.specs.declared.config.ClientConfig.{ClientConfig}
 use Rattle.rh_line.specs.declared.leg.Leg.{Leg}
 use Rattle.rh_line.specs.declared.leg.LegKind.{LegKind}
 use Rattle.rh_line.specs.declared.leg.LegKind.TheVariants.{ClientOut, OutServer, ClientIn, InServer}

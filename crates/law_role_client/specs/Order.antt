@@ -1,24 +1,24 @@
 -- what order sees of a client: it gives towards the server, and takes what the server gives
 -- (profile)
 use Rattle.std.specs.Prelude.{ℕ, suc, ◌&&◌, ◌++◌, List, [], ◌∷◌, Bool, false, if◌then◌else◌, nat_eq, nat_lt}
-use Rattle.rh_http.specs.declared.config.ClientConfig.{ClientConfig}
-use Rattle.rh_sig.specs.declared.named.Named.{Named}
-use Rattle.rh_sig.specs.declared.named.Named.TheVariants as named
-use Rattle.rh_line.specs.Lines.{Incoming}
-use Rattle.rh_line.specs.declared.leg.LegKind.{LegKind}
-use Rattle.rh_line.specs.declared.leg.LegKind.TheVariants.{ClientIn, ClientOut}
 use Rattle.law_order.specs.Items.{Item, Piece, Stop, Handover}
 use Rattle.law_order.specs.Logs.{Log}
 use Rattle.law_order.specs.Giving.{Giver, GiverLaw}
 use Rattle.law_order.specs.Shelves.{Shelf, Shelves}
 use Rattle.law_order.specs.Taking.{Taker, TakerLaw}
+use Rattle.rh_sig.specs.declared.named.Named.{Named}
+use Rattle.rh_sig.specs.declared.named.Named.TheVariants as named
+use Rattle.rh_http.specs.declared.config.ClientConfig.{ClientConfig}
+use Rattle.rh_line.specs.Lines.{Incoming}
+use Rattle.rh_line.specs.declared.leg.LegKind.{LegKind}
+use Rattle.rh_line.specs.declared.leg.LegKind.TheVariants.{ClientIn, ClientOut}
 use Rattle.rh_shell.specs.Rules.{Message, Text, Pdu, Packet}
 use Rattle.rh_shell.specs.Shells.{is_of}
-use Rattle.law_moves.specs.Moves.{OnLeg, EndMove, EndPassage, end_started, all_end_moved, AreAllowedAtEnd}
 use Rattle.rh_client.specs.declared.state.ClientRole.{ClientRole}
 use Rattle.rh_client.specs.Replacements.{is_finished}
 use Rattle.rh_client.specs.State.{first}
 use Rattle.rh_client.specs.Client.{rules, acts}
+use Rattle.law_moves.specs.Moves.{OnLeg, EndMove, EndPassage, end_started, all_end_moved, AreAllowedAtEnd}
 
 -- ---- messages
 

@@ -1,18 +1,18 @@
 -- a client as the receiver of RPC PDUs on its OUT channels: up to where it tells that may be sent,
 -- what it refuses for its window, and what it acknowledges (MS-RPCH 3.2)
 use Rattle.std.specs.Prelude.{◌≡◌, ℕ, ◌+◌, ◌<◌, ◌≤◌, List, Err}
+use Rattle.rh_window.specs.declared.range.TheConstants.{GREATEST_WINDOW}
 use Rattle.rh_rts.specs.declared.command.Cookie.{Cookie}
 use Rattle.rh_rts.specs.declared.command.TheConstants.{TO_OUT_PROXY}
-use Rattle.rh_window.specs.declared.range.TheConstants.{GREATEST_WINDOW}
 use Rattle.rh_sig.specs.declared.named.Named.TheVariants.{ConnA1, OutR1A3, AckTo}
 use Rattle.rh_line.specs.declared.leg.Leg.{Leg}
 use Rattle.rh_shell.specs.declared.answers.Refused.TheVariants as refused
 use Rattle.rh_shell.specs.Rules.{Row}
+use Rattle.rh_client.specs.State.{co}
 use Rattle.law_moves.specs.Moves.{OnLeg, EndMove}
 use Rattle.law_moves.specs.Wires.{of_leg}
 use Rattle.law_moves.specs.Passages.Passing.{pdu_bytes, Has}
 use Rattle.law_moves.specs.Passages.Rising.{HasComeUp}
-use Rattle.rh_client.specs.State.{co}
 
 -- ---- what is refused
 

@@ -1,22 +1,22 @@
 //! How a client receives on its OUT channels, whatever comes from any peer.
 
 ghost use Rattle.std.specs.Prelude.{◌≡◌, ◌+◌, List, [], false, length, ℕ};
+ghost use Rattle.rh_window.specs.Sides.{IsWindow};
 ghost use Rattle.rh_rts.specs.declared.command.Cookie.{Cookie};
 ghost use Rattle.rh_rts.specs.declared.command.TheConstants.{TO_OUT_PROXY};
-ghost use Rattle.rh_window.specs.Sides.{IsWindow};
-ghost use Rattle.rh_http.specs.declared.config.ClientConfig.{ClientConfig};
 ghost use Rattle.rh_sig.specs.declared.named.Named.{Named};
 ghost use Rattle.rh_sig.specs.declared.named.Named.TheVariants.{AckTo};
+ghost use Rattle.rh_http.specs.declared.config.ClientConfig.{ClientConfig};
 ghost use Rattle.rh_line.specs.declared.leg.Leg.{Leg};
 ghost use Rattle.rh_line.specs.declared.leg.LegKind.TheVariants.{ClientOut};
 ghost use Rattle.rh_shell.specs.declared.answers.Count.{Count};
 ghost use Rattle.rh_shell.specs.Shells.{is_of};
+ghost use Rattle.rh_client.specs.State.{co};
+ghost use Rattle.rh_client.specs.Client.{rules};
 ghost use Rattle.law_moves.specs.Moves.{EndMove};
 ghost use Rattle.law_moves.specs.Wires.{of_leg};
 ghost use Rattle.law_moves.specs.Passages.Passing.{pdu_bytes, Has};
 ghost use Rattle.law_moves.specs.Passages.Rising.{AreUpFirst};
-ghost use Rattle.rh_client.specs.State.{co};
-ghost use Rattle.rh_client.specs.Client.{rules};
 ghost use Rattle.law_role_client.specs.Order.{AreAllowedMoves, client_moved};
 ghost use Rattle.law_role_client.specs.Receiving.{IsBehindAcks, IsBehindWindow};
 ghost use Rattle.law_role_client.specs.Receiving.{IsNoWindow, IsTrueAck, RefusesBehind};

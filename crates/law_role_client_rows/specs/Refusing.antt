@@ -11,15 +11,15 @@ use Rattle.rh_line.specs.declared.leg.LegKind.TheVariants.{ClientOut, OutServer,
 use Rattle.rh_shell.specs.declared.answers.Count.{Count}
 use Rattle.rh_shell.specs.declared.answers.Count.TheVariants as count
 use Rattle.rh_shell.specs.declared.answers.Refused.TheVariants as refused
-use Rattle.law_moves.specs.Moves.{Passage, is_in_use}
 use Rattle.rh_shell.specs.Rules.{Message}
-use Rattle.law_moves.specs.Wires.{of_leg}
-use Rattle.law_moves.specs.Passages.Counted.{Tells, packets}
-use Rattle.law_moves.specs.Passages.Passing.{Has, count_of}
 use Rattle.rh_client.specs.declared.channels.TheConstants.{LAST_NUMBER}
 use Rattle.rh_client.specs.declared.state.ClientRole.{ClientRole}
 use Rattle.rh_client.specs.State.{co}
 use Rattle.rh_client.specs.Client.{rules}
+use Rattle.law_moves.specs.Moves.{Passage, is_in_use}
+use Rattle.law_moves.specs.Wires.{of_leg}
+use Rattle.law_moves.specs.Passages.Counted.{Tells, packets}
+use Rattle.law_moves.specs.Passages.Passing.{Has, count_of}
 use Rattle.law_role_client.specs.Counted.Opening.{opened}
 use Rattle.law_role_client.specs.Counted.Replacing.{in_asked, in_answered, out_wanted, out_asked, out_answered, out_switched, out_finished}
 

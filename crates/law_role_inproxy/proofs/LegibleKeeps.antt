@@ -5,21 +5,20 @@ use Rattle.std.specs.Prelude.{Some, None, Ok, Err, IfSome, if◌then◌else◌, 
 use Rattle.std.specs.List.{AllByRecursion}
 use Rattle.std.specs.declared.option.Option.{Option}
 use Rattle.std.specs.declared.result.Result.{Result}
-use Rattle.rh_pdu.specs.Frames.{IsPdu}
-use Rattle.rh_rts.specs.declared.command.Cookie.{Cookie}
-use Rattle.rh_rts.specs.declared.command.TheConstants.{COOKIE_LEN}
 use Rattle.rh_window.specs.Sides.{Receiver}
 use Rattle.rh_window.specs.Receiving as windows
 use Rattle.rh_window.specs.declared.range.TheConstants.{LEAST_WINDOW}
 use Rattle.rh_window.specs.declared.fault.WindowExceeded.{WindowExceeded}
 use Rattle.rh_window.specs.declared.recv_window.Ack.{Ack}
+use Rattle.law_order.proofs.ByNumber.{by_test}
+use Rattle.rh_pdu.specs.Frames.{IsPdu}
+use Rattle.rh_rts.specs.declared.command.Cookie.{Cookie}
+use Rattle.rh_rts.specs.declared.command.TheConstants.{COOKIE_LEN}
 use Rattle.rh_sig.specs.declared.name.Pipe.TheVariants.{IsU}
 use Rattle.rh_line.specs.Lines as line
 use Rattle.rh_line.specs.Lines.{Incoming, Line}
 use Rattle.rh_line.specs.declared.which.Which.{Which}
 use Rattle.rh_line.specs.declared.which.Which.TheVariants.{Current, Next}
-use Rattle.law_moves.specs.Legible.Legible.{MayGo}
-use Rattle.law_order.proofs.ByNumber.{by_test}
 use Rattle.rh_shell.specs.declared.due.Due.{Due}
 use Rattle.rh_shell.specs.Waiting.{Waiting}
 use Rattle.rh_inproxy.specs.declared.state.ClientLeg.{ClientLeg}
@@ -33,8 +32,9 @@ use Rattle.rh_inproxy.specs.declared.state.Opening.{Opening}
 use Rattle.rh_inproxy.specs.declared.state.Opening.TheVariants.{WantsServer, Announces}
 use Rattle.rh_inproxy.specs.declared.state.Successor.{Successor}
 use Rattle.rh_inproxy.specs.declared.state.Successor.TheVariants.{Absent, Up, Joined}
-use Rattle.law_role_inproxy.specs.Legible.{HasSizes}
 use Rattle.rh_inproxy.specs.State.{InProxy, IsConfig, follows, followed}
+use Rattle.law_moves.specs.Legible.Legible.{MayGo}
+use Rattle.law_role_inproxy.specs.Legible.{HasSizes}
 
 -- ---- what may be put
 

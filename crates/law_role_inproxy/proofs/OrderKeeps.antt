@@ -4,15 +4,8 @@ use Rattle.std.proofs.lemmas.List.{append-nil}
 use Rattle.std.specs.Prelude.{Some, None, Ok, Err, if◌then◌else◌, is_ok, nat_eq}
 use Rattle.std.specs.declared.option.Option.{Option}
 use Rattle.std.specs.declared.result.Result.{Result}
-use Rattle.rh_rts.specs.declared.command.Cookie.{Cookie}
 use Rattle.rh_window.specs.Sides.{Receiver}
 use Rattle.rh_window.specs.Receiving as windows
-use Rattle.rh_line.specs.Lines as line
-use Rattle.rh_line.specs.Lines.{Incoming, Line}
-use Rattle.rh_line.specs.declared.line_fault.LineFault.{LineFault}
-use Rattle.rh_line.specs.declared.line_fault.LineFault.TheVariants.{Window, Over}
-use Rattle.rh_line.specs.declared.which.Which.{Which}
-use Rattle.rh_line.specs.declared.which.Which.TheVariants.{Current, Next}
 use Rattle.law_order.specs.Items.{Item, Piece, Stop}
 use Rattle.law_order.specs.Items as items
 use Rattle.law_order.specs.Logs.{Log, more}
@@ -21,6 +14,13 @@ use Rattle.law_order.specs.Shelves.{Coming, PduNow, PduNext, EndNow, EndNext, Ha
 use Rattle.law_order.proofs.ByNumber.{by_test, same_number, more_none}
 use Rattle.law_order.proofs.ItemLists.{neither}
 use Rattle.law_order.proofs.PasserKeeps.{passer_step}
+use Rattle.rh_rts.specs.declared.command.Cookie.{Cookie}
+use Rattle.rh_line.specs.Lines as line
+use Rattle.rh_line.specs.Lines.{Incoming, Line}
+use Rattle.rh_line.specs.declared.line_fault.LineFault.{LineFault}
+use Rattle.rh_line.specs.declared.line_fault.LineFault.TheVariants.{Window, Over}
+use Rattle.rh_line.specs.declared.which.Which.{Which}
+use Rattle.rh_line.specs.declared.which.Which.TheVariants.{Current, Next}
 use Rattle.rh_shell.specs.declared.answers.Refused.TheVariants as refused
 use Rattle.rh_shell.specs.declared.due.Due.{Due}
 use Rattle.rh_shell.specs.Rules.{Packet}
@@ -34,9 +34,9 @@ use Rattle.rh_inproxy.specs.declared.state.Successor.TheVariants.{Absent, Up, Jo
 use Rattle.rh_inproxy.specs.Answers.{Done, taken, refuse, unexpected}
 use Rattle.rh_inproxy.specs.Ending.{is_succeeded, has_later, on_end_a1}
 use Rattle.rh_inproxy.specs.InReplacement.{has_passed, finished, finish_by, on_in_r1_a5}
-use Rattle.law_role_inproxy.specs.Order.{item_put, next_shelf, passer_of}
 use Rattle.rh_inproxy.specs.Passing.{pdu_by, on_pdu}
 use Rattle.rh_inproxy.specs.State.{InProxy, channel_of, next_of, has_a5, has_come, has_opened, hands_over, is_joined, follows, followed, same_cookie}
+use Rattle.law_role_inproxy.specs.Order.{item_put, next_shelf, passer_of}
 
 -- ---- tests
 

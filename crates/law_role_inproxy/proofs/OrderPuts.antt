@@ -2,17 +2,17 @@
 use Rattle.std.proofs.Common.{◌≡◌, ℕ, Bool, true, false, not, ◌&&◌, List, [], ◌∷◌, ◌++◌, length, refl}
 use Rattle.std.specs.Prelude.{Some, None, nat_eq, ◌||◌}
 use Rattle.std.specs.declared.option.Option.{Option}
-use Rattle.rh_rts.specs.declared.command.Cookie.{Cookie}
-use Rattle.rh_sig.specs.declared.named.Named.TheVariants as named
 use Rattle.rh_window.specs.Sending as windows
 use Rattle.rh_window.specs.declared.recv_window.Ack.{Ack}
-use Rattle.rh_line.specs.Lines as line
-use Rattle.rh_line.specs.declared.which.Which.TheVariants.{Current, Next}
 use Rattle.law_order.specs.Items.{Item, Piece, Stop}
 use Rattle.law_order.specs.Logs.{Log}
 use Rattle.law_order.specs.Passing.{PassesPdu, PassesEnd, PassesHandover}
 use Rattle.law_order.proofs.ByNumber.{by_test}
 use Rattle.law_order.proofs.PasserKeeps.{passer_step}
+use Rattle.rh_rts.specs.declared.command.Cookie.{Cookie}
+use Rattle.rh_sig.specs.declared.named.Named.TheVariants as named
+use Rattle.rh_line.specs.Lines as line
+use Rattle.rh_line.specs.declared.which.Which.TheVariants.{Current, Next}
 use Rattle.rh_shell.specs.declared.due.Due.{Due}
 use Rattle.rh_shell.specs.Rules.{Pdu, Packet}
 use Rattle.rh_inproxy.specs.declared.state.Entry.{Entry}
@@ -33,11 +33,11 @@ use Rattle.rh_inproxy.specs.Answers.{Pick, or_else}
 use Rattle.rh_inproxy.specs.Ending.{is_over, settled, settled_pick}
 use Rattle.rh_inproxy.specs.InReplacement.{has_passed, mark_by, one_less, put_in_r1_a6, put_in_r2_a2, told_by}
 use Rattle.rh_inproxy.specs.Opening.{announcement, first_by, is_absent, put_first}
-use Rattle.law_role_inproxy.specs.Order.{item_put, passer_of}
 use Rattle.rh_inproxy.specs.Passing.{next_pdu, passed, put_pdu}
 use Rattle.rh_inproxy.specs.Putting.{next, put_behind, put_control, put_early, put_mark, put_stream, put_waiting, waiting_by}
 use Rattle.rh_inproxy.specs.State.{InProxy}
 use Rattle.rh_inproxy.specs.Time.{put_ping}
+use Rattle.law_role_inproxy.specs.Order.{item_put, passer_of}
 use Rattle.law_role_inproxy.proofs.OrderKeeps.{Kept, both, not_so, nothing_there, quiet_put, settles}
 
 -- what is put keeps the law, with the item that it is

@@ -4,10 +4,10 @@ use Rattle.std.specs.Prelude.{ℕ, ◌≡◌, ◌≤◌, true, Bool}
 use Rattle.rh_rts.specs.declared.command.Cookie.{Cookie}
 use Rattle.rh_line.specs.declared.leg.Leg.{Leg}
 use Rattle.rh_line.specs.declared.leg.LegKind.TheVariants.{ClientIn, InServer}
-use Rattle.law_moves.specs.Moves.{Passage}
-use Rattle.law_moves.specs.Wires.{of_leg}
 use Rattle.rh_inproxy.specs.State.{InProxy}
 use Rattle.rh_inproxy.specs.InReplacement.{has_passed}
+use Rattle.law_moves.specs.Moves.{Passage}
+use Rattle.law_moves.specs.Wires.{of_leg}
 use Rattle.law_moves.specs.Passages.Passing.{count_of, of_kind}
 use Rattle.law_moves.specs.PacketKinds.{is_conn_b1, is_conn_b2, is_in_r1_a1, is_in_a2, is_in_r1_a5, is_in_r1_a6, is_in_r1_b1, is_out_r1_a7, is_out_r1_a8, opens_server}
 

@@ -1,15 +1,14 @@
 -- order through an in proxy: what comes on its ci legs, what it puts on the is leg, and what it
 -- holds (profile)
 use Rattle.std.specs.Prelude.{ℕ, suc, ◌++◌, ◌&&◌, List, [], ◌∷◌, Bool, false, if◌then◌else◌, nat_eq}
-use Rattle.rh_sig.specs.declared.named.Named.TheVariants.{EndA1, EndA2, InR1A5, InR1A6}
-use Rattle.rh_line.specs.Lines.{Incoming}
-use Rattle.rh_line.specs.declared.leg.LegKind.TheVariants.{InServer}
 use Rattle.law_order.specs.Items.{Item, Piece, Stop}
 use Rattle.law_order.specs.Items as items
 use Rattle.law_order.specs.Logs.{Log}
 use Rattle.law_order.specs.Passing.{Passer, PasserLaw}
 use Rattle.law_order.specs.Shelves.{Shelf, Shelves, blank}
-use Rattle.law_moves.specs.Moves.{OnLeg, Passage}
+use Rattle.rh_sig.specs.declared.named.Named.TheVariants.{EndA1, EndA2, InR1A5, InR1A6}
+use Rattle.rh_line.specs.Lines.{Incoming}
+use Rattle.rh_line.specs.declared.leg.LegKind.TheVariants.{InServer}
 use Rattle.rh_shell.specs.Rules.{Message, Pdu, Packet}
 use Rattle.rh_shell.specs.Shells.{is_of}
 use Rattle.rh_inproxy.specs.declared.state.Handover.{Handover}
@@ -17,6 +16,7 @@ use Rattle.rh_inproxy.specs.declared.state.Successor.{Successor}
 use Rattle.rh_inproxy.specs.declared.state.Successor.TheVariants.{Joined}
 use Rattle.rh_inproxy.specs.InReplacement.{has_passed}
 use Rattle.rh_inproxy.specs.State.{InProxy, has_come, hands_over, is_client_leg}
+use Rattle.law_moves.specs.Moves.{OnLeg, Passage}
 
 -- ---- what order sees of messages
 

@@ -10,15 +10,15 @@ use Rattle.rh_line.specs.declared.leg.LegKind.{LegKind}
 use Rattle.rh_line.specs.declared.leg.LegKind.TheVariants.{ClientOut, OutServer, ClientIn, InServer}
 use Rattle.rh_shell.specs.declared.answers.Count.{Count}
 use Rattle.rh_shell.specs.declared.answers.Refused.TheVariants as refused
-use Rattle.law_moves.specs.Moves.{Passage, is_in_use}
 use Rattle.rh_shell.specs.Rules.{Message, Text, Pdu, Packet}
-use Rattle.law_moves.specs.Wires.{of_leg}
 use Rattle.rh_inproxy.specs.State.{InProxy}
 use Rattle.rh_inproxy.specs.Machine.{rules}
+use Rattle.law_moves.specs.Moves.{Passage, is_in_use}
+use Rattle.law_moves.specs.Wires.{of_leg}
 use Rattle.law_moves.specs.Passages.Passing.{Has, HasOne, HasBegunIn, count_of, of_kind}
 use Rattle.law_moves.specs.Passages.Counted.{packets}
-use Rattle.law_role_inproxy.specs.Counted.{is_leg}
 use Rattle.law_moves.specs.PacketKinds.{is_conn_b1, is_in_r1_a1, is_in_r1_a5, is_in_r1_a6, opens_server}
+use Rattle.law_role_inproxy.specs.Counted.{is_leg}
 
 abbrev pub ci_leg : ℕ → Leg
 ci_leg n = record { kind = ClientIn; number = n }

@@ -1,10 +1,10 @@
 //! What an in proxy puts for what came. Its functions do nothing: their contracts are the laws.
 
 ghost use Rattle.std.specs.Prelude.{List};
-ghost use Rattle.law_moves.specs.Moves.{AreAllowed, Move, all_moved, started};
 ghost use Rattle.rh_inproxy.specs.declared.state.InProxyConfig.{InProxyConfig};
 ghost use Rattle.rh_inproxy.specs.Machine.{rules};
 ghost use Rattle.rh_inproxy.specs.State.{first};
+ghost use Rattle.law_moves.specs.Moves.{AreAllowed, Move, all_moved, started};
 ghost use Rattle.law_role_inproxy.specs.Counted.{HappensOnce, IsLetGo, PutsForWhatCame};
 
 /// Whatever moves an in proxy makes, allowed or not: to the server it put no more CONN/B2 than

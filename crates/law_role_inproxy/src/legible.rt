@@ -2,12 +2,12 @@
 //! law.
 
 ghost use Rattle.std.specs.Prelude.{◌≡◌, List};
-ghost use Rattle.law_moves.specs.Legible.Legible.{IsLegible};
-ghost use Rattle.law_moves.specs.Moves.{Move, started, all_moved};
-ghost use Rattle.law_moves.specs.Moving.{Event, after_events, FollowsKeeping};
 ghost use Rattle.rh_inproxy.specs.declared.state.InProxyConfig.{InProxyConfig};
 ghost use Rattle.rh_inproxy.specs.State.{IsConfig, first};
 ghost use Rattle.rh_inproxy.specs.Machine.{rules, first_node};
+ghost use Rattle.law_moves.specs.Legible.Legible.{IsLegible};
+ghost use Rattle.law_moves.specs.Moves.{Move, started, all_moved};
+ghost use Rattle.law_moves.specs.Moving.{Event, after_events, FollowsKeeping};
 ghost use Rattle.law_role_inproxy.specs.Legible.{HasSizes, pipe_put};
 
 use law_moves::{roles_move_by_their_rules, what_may_go_reads_back};

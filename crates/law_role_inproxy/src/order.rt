@@ -1,11 +1,11 @@
 //! The law of streams through an in proxy. These functions do nothing: their contracts are the law.
 
 ghost use Rattle.std.specs.Prelude.{◌≡◌, List};
-ghost use Rattle.law_moves.specs.Moves.{Move, started, all_moved, AreAllowed};
-ghost use Rattle.law_moves.specs.Moving.{Event, after_events, FollowsKeeping};
 ghost use Rattle.rh_inproxy.specs.declared.state.InProxyConfig.{InProxyConfig};
 ghost use Rattle.rh_inproxy.specs.State.{first};
 ghost use Rattle.rh_inproxy.specs.Machine.{rules, first_node};
+ghost use Rattle.law_moves.specs.Moves.{Move, started, all_moved, AreAllowed};
+ghost use Rattle.law_moves.specs.Moving.{Event, after_events, FollowsKeeping};
 ghost use Rattle.law_role_inproxy.specs.Order.{KeepsOrder};
 
 use law_moves::roles_move_by_their_rules;

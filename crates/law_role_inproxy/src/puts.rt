@@ -2,11 +2,11 @@
 //! on: their contracts are the laws.
 
 ghost use Rattle.std.specs.Prelude.{List};
-ghost use Rattle.law_moves.specs.Moves.{AreAllowed, Move, all_moved, started};
-ghost use Rattle.law_moves.specs.Wires.{of_leg};
 ghost use Rattle.rh_inproxy.specs.declared.state.InProxyConfig.{InProxyConfig};
 ghost use Rattle.rh_inproxy.specs.Machine.{rules};
 ghost use Rattle.rh_inproxy.specs.State.{first};
+ghost use Rattle.law_moves.specs.Moves.{AreAllowed, Move, all_moved, started};
+ghost use Rattle.law_moves.specs.Wires.{of_leg};
 ghost use Rattle.law_role_inproxy.specs.Putting.Standing.{EndsLast, SendsWhereTold};
 ghost use Rattle.law_role_inproxy.specs.Putting.Puts.{ArePutUp, PutsInOrder, is_leg};
 

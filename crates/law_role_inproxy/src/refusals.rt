@@ -2,10 +2,10 @@
 //! the law.
 
 ghost use Rattle.std.specs.Prelude.{List};
-ghost use Rattle.law_moves.specs.Moves.{AreAllowed, Move, all_moved, started};
 ghost use Rattle.rh_inproxy.specs.declared.state.InProxyConfig.{InProxyConfig};
 ghost use Rattle.rh_inproxy.specs.Machine.{rules};
 ghost use Rattle.rh_inproxy.specs.State.{first};
+ghost use Rattle.law_moves.specs.Moves.{AreAllowed, Move, all_moved, started};
 ghost use Rattle.law_role_inproxy.specs.Refusing.{RefusesFor};
 
 /// Whatever moves an in proxy makes: where it refuses a packet or an RPC PDU as unexpected, or a

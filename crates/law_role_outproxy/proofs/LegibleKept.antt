@@ -8,18 +8,18 @@ use Rattle.rh_sig.specs.declared.name.Pipe.TheVariants.{CoD}
 use Rattle.rh_line.specs.declared.leg.Leg.{Leg}
 use Rattle.rh_line.specs.Lines.{Incoming}
 use Rattle.rh_line.proofs.Queues.{each_push}
-use Rattle.law_moves.specs.Legible.Legible.{MayGo, MayGoOn, AllMayGo, AllReadBack, IsFineMessage, AreFine, IsLegible}
 use Rattle.rh_shell.specs.declared.due.Due.{Due}
-use Rattle.law_moves.specs.Moves.{OnLeg, Passage, started, taken_by, put_by}
 use Rattle.rh_shell.specs.Rules.{Message, Row}
 use Rattle.rh_outproxy.specs.declared.state.OutProxyConfig.{OutProxyConfig}
 use Rattle.rh_outproxy.specs.declared.state.Channel.{Channel}
 use Rattle.rh_outproxy.specs.declared.state.Channel.TheVariants as channels
-use Rattle.law_role_outproxy.specs.Legible.{IsConfig, pipe_put}
 use Rattle.rh_outproxy.specs.OutProxy.{OutProxy, new_proxy}
 use Rattle.rh_outproxy.specs.Putting.{Pick}
 use Rattle.rh_outproxy.specs.Rows.{Done}
+use Rattle.law_moves.specs.Legible.Legible.{MayGo, MayGoOn, AllMayGo, AllReadBack, IsFineMessage, AreFine, IsLegible}
+use Rattle.law_moves.specs.Moves.{OnLeg, Passage, started, taken_by, put_by}
 use Rattle.law_moves.proofs.Legible.Each.{each_parted}
+use Rattle.law_role_outproxy.specs.Legible.{IsConfig, pipe_put}
 use Rattle.law_role_outproxy.proofs.FinePackets.{IsSized}
 
 -- ---- what is asked of a state

@@ -2,17 +2,15 @@
 use Rattle.std.proofs.Common.{false, ◌&&◌, nat_le, List, [], ◌∷◌, Some, Ok, Err}
 use Rattle.std.specs.declared.option.Option.{Option}
 use Rattle.std.specs.declared.result.Result.{Result}
+use Rattle.law_order.proofs.ByNumber.{by_test}
+use Rattle.rh_sig.specs.declared.name.Pipe.{Pipe}
 use Rattle.rh_http.specs.declared.fault.HttpFault.{HttpFault}
 use Rattle.rh_http.specs.Lengths.{greatest_echo}
 use Rattle.rh_http.specs.Heads.Verdicts.{Asked, request_verdict}
-use Rattle.rh_sig.specs.declared.name.Pipe.{Pipe}
 use Rattle.rh_line.specs.declared.leg.Leg.{Leg}
-use Rattle.law_moves.specs.Legible.Legible.{AllMayGo, AllReadBack, IsLegible}
-use Rattle.law_order.proofs.ByNumber.{by_test}
 use Rattle.rh_shell.specs.declared.answers.Behind.TheVariants.{Frames, PassedOver}
 use Rattle.rh_shell.specs.declared.answers.HeadRefused.{HeadRefused}
 use Rattle.rh_shell.specs.declared.answers.HeadTaken.{HeadTaken}
-use Rattle.law_moves.specs.Moves.{OnLeg, Passage, now_at, Move, Up, HeadCame, PduCame, PacketCame, Puts, IsDrawn, Marks, Pings, moved, started, all_moved}
 use Rattle.rh_shell.specs.Rules.{Pdu, Packet}
 use Rattle.rh_outproxy.specs.declared.state.OutProxyConfig.{OutProxyConfig}
 use Rattle.rh_outproxy.specs.declared.state.Answer.TheVariants as answers
@@ -23,6 +21,8 @@ use Rattle.rh_outproxy.specs.Rows.{is_co}
 use Rattle.rh_outproxy.specs.Opening.{head_by}
 use Rattle.rh_outproxy.specs.Putting as putting
 use Rattle.rh_outproxy.specs.Machine as machine
+use Rattle.law_moves.specs.Legible.Legible.{AllMayGo, AllReadBack, IsLegible}
+use Rattle.law_moves.specs.Moves.{OnLeg, Passage, now_at, Move, Up, HeadCame, PduCame, PacketCame, Puts, IsDrawn, Marks, Pings, moved, started, all_moved}
 use Rattle.law_role_outproxy.specs.Legible.{IsConfig, pipe_put}
 use Rattle.law_role_outproxy.proofs.LegibleKept.{Kept, kept_starts, kept_taken, kept_put, kept_reads}
 use Rattle.law_role_outproxy.proofs.LegibleRows.{pdu_keeps, packet_keeps}

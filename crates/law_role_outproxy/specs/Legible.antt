@@ -1,10 +1,10 @@
 -- where what an out proxy puts is read, and which numbers it is made with (MS-RPCH 2.2.4)
 use Rattle.std.specs.Prelude.{Some, None}
 use Rattle.std.specs.declared.option.Option.{Option}
+use Rattle.rh_window.specs.Sides.{IsWindow}
 use Rattle.rh_sig.specs.declared.name.Pipe.{Pipe}
 use Rattle.rh_sig.specs.declared.name.Pipe.TheVariants.{CoD, OsU}
 use Rattle.rh_sig.specs.Values.{IsLifetime, IsTimeout}
-use Rattle.rh_window.specs.Sides.{IsWindow}
 use Rattle.rh_line.specs.declared.leg.Leg.{Leg}
 use Rattle.rh_line.specs.declared.leg.LegKind.{LegKind}
 use Rattle.rh_line.specs.declared.leg.LegKind.TheVariants.{ClientOut, OutServer}

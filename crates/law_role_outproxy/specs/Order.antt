@@ -1,16 +1,16 @@
 -- what order sees of an out proxy: it is fed on the server's leg and puts on the client's (profile)
 use Rattle.std.specs.Prelude.{ℕ, suc, List, [], ◌∷◌, ◌++◌, false, if◌then◌else◌}
-use Rattle.rh_sig.specs.declared.named.Named.TheVariants.{EndB1, EndB2, OutR1A9, OutR1A10}
-use Rattle.rh_line.specs.declared.leg.Leg.{Leg}
-use Rattle.rh_line.specs.declared.leg.LegKind.TheVariants.{ClientOut, OutServer}
 use Rattle.law_order.specs.Items.{Item, Piece, Stop, Handover}
 use Rattle.law_order.specs.Logs.{Log}
 use Rattle.law_order.specs.Shelves.{Shelf, Shelves, blank}
 use Rattle.law_order.specs.Passing.{Passer, PasserLaw}
+use Rattle.rh_sig.specs.declared.named.Named.TheVariants.{EndB1, EndB2, OutR1A9, OutR1A10}
+use Rattle.rh_line.specs.declared.leg.Leg.{Leg}
+use Rattle.rh_line.specs.declared.leg.LegKind.TheVariants.{ClientOut, OutServer}
 use Rattle.rh_shell.specs.Rules.{Message, Pdu, Packet}
-use Rattle.law_moves.specs.Moves.{OnLeg, Passage}
 use Rattle.rh_shell.specs.Shells.{same_leg}
 use Rattle.rh_outproxy.specs.OutProxy.{OutProxy, has_come, is_put}
+use Rattle.law_moves.specs.Moves.{OnLeg, Passage}
 
 -- ---- the proxy as order sees it
 

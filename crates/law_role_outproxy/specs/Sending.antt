@@ -1,9 +1,9 @@
 -- how an out proxy sends RPC PDUs to its client: up to where it was told that it may, and which
 -- acknowledgements it refuses (MS-RPCH 3.2)
 use Rattle.std.specs.Prelude.{◌≡◌, ◌⊎◌, ◌+◌, ◌<◌, ◌≤◌, ℕ, List, Bool, true, false, Err}
+use Rattle.rh_window.specs.declared.range.TheConstants.{GREATEST_WINDOW}
 use Rattle.rh_rts.specs.declared.command.Cookie.{Cookie}
 use Rattle.rh_rts.specs.declared.command.TheConstants.{TO_OUT_PROXY}
-use Rattle.rh_window.specs.declared.range.TheConstants.{GREATEST_WINDOW}
 use Rattle.rh_sig.specs.declared.named.Named.{Named}
 use Rattle.rh_sig.specs.declared.named.Named.TheVariants.{ConnA1, OutR1A3, AckTo}
 use Rattle.rh_line.specs.declared.leg.Leg.{Leg}
@@ -11,11 +11,11 @@ use Rattle.rh_line.specs.declared.leg.LegKind.TheVariants.{ClientOut, OutServer}
 use Rattle.rh_shell.specs.declared.answers.Count.{Count}
 use Rattle.rh_shell.specs.declared.answers.Refused.TheVariants as refused
 use Rattle.rh_shell.specs.Rules.{Row}
-use Rattle.law_moves.specs.Moves.{OnLeg, Passage}
 use Rattle.rh_shell.specs.Shells.{same_leg}
-use Rattle.law_moves.specs.Wires.{of_leg}
 use Rattle.rh_outproxy.specs.Machine.{rules}
 use Rattle.rh_outproxy.specs.OutProxy.{OutProxy}
+use Rattle.law_moves.specs.Moves.{OnLeg, Passage}
+use Rattle.law_moves.specs.Wires.{of_leg}
 use Rattle.law_moves.specs.Passages.Passing.{pdu_bytes, count_of, Has, HasBegunOut}
 
 -- the legs of the out proxy with this number: from its client, and to the server

@@ -2,11 +2,11 @@
 
 ghost use Rattle.std.specs.Prelude.{List, ◌≤◌};
 ghost use Rattle.rh_line.specs.declared.leg.Leg.{Leg};
-ghost use Rattle.law_moves.specs.Moves.{AreAllowed, Move, all_moved, started};
-ghost use Rattle.law_moves.specs.Wires.{of_leg};
 ghost use Rattle.rh_outproxy.specs.declared.state.OutProxyConfig.{OutProxyConfig};
 ghost use Rattle.rh_outproxy.specs.Machine.{rules};
 ghost use Rattle.rh_outproxy.specs.OutProxy.{new_proxy};
+ghost use Rattle.law_moves.specs.Moves.{AreAllowed, Move, all_moved, started};
+ghost use Rattle.law_moves.specs.Wires.{of_leg};
 ghost use Rattle.law_moves.specs.Passages.Passing.{count_of};
 ghost use Rattle.law_moves.specs.Passages.Counted.{AreCounted};
 ghost use Rattle.law_moves.specs.PacketKinds.{opens_client};

@@ -1,15 +1,15 @@
 //! What an out proxy puts reads back. These functions do nothing: their contracts are the law.
 
 ghost use Rattle.std.specs.Prelude.{List};
-ghost use Rattle.law_moves.specs.Legible.Legible.{IsLegible};
-ghost use Rattle.law_moves.specs.Moves.{Move, started, all_moved};
-ghost use Rattle.law_moves.specs.Moving.{Event, after_events, FollowsKeeping};
 ghost use Rattle.rh_shell.specs.Shells.{begun};
 ghost use Rattle.rh_outproxy.specs.declared.out_proxy.TheConstants.{ROOMS};
 ghost use Rattle.rh_outproxy.specs.declared.state.OutProxyConfig.{OutProxyConfig};
-ghost use Rattle.law_role_outproxy.specs.Legible.{IsConfig, pipe_put};
 ghost use Rattle.rh_outproxy.specs.Machine.{rules};
 ghost use Rattle.rh_outproxy.specs.OutProxy.{new_proxy};
+ghost use Rattle.law_moves.specs.Legible.Legible.{IsLegible};
+ghost use Rattle.law_moves.specs.Moves.{Move, started, all_moved};
+ghost use Rattle.law_moves.specs.Moving.{Event, after_events, FollowsKeeping};
+ghost use Rattle.law_role_outproxy.specs.Legible.{IsConfig, pipe_put};
 
 use law_moves::{roles_move_by_their_rules, what_may_go_reads_back};
 use rh_outproxy::state::OutProxyRole;

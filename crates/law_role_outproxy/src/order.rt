@@ -1,13 +1,13 @@
 //! The law of streams of an out proxy. These functions do nothing: their contracts are the law.
 
 ghost use Rattle.std.specs.Prelude.{List};
-ghost use Rattle.law_moves.specs.Moves.{Move, started, all_moved, AreAllowed};
-ghost use Rattle.law_moves.specs.Moving.{Event, after_events, FollowsKeeping};
 ghost use Rattle.rh_shell.specs.Shells.{begun};
 ghost use Rattle.rh_outproxy.specs.declared.out_proxy.TheConstants.{ROOMS};
 ghost use Rattle.rh_outproxy.specs.declared.state.OutProxyConfig.{OutProxyConfig};
 ghost use Rattle.rh_outproxy.specs.OutProxy.{new_proxy};
 ghost use Rattle.rh_outproxy.specs.Machine.{rules};
+ghost use Rattle.law_moves.specs.Moves.{Move, started, all_moved, AreAllowed};
+ghost use Rattle.law_moves.specs.Moving.{Event, after_events, FollowsKeeping};
 ghost use Rattle.law_role_outproxy.specs.Order.{KeepsOrder};
 
 use law_moves::roles_move_by_their_rules;

@@ -2,10 +2,10 @@
 //! contract is the law.
 
 ghost use Rattle.std.specs.Prelude.{List};
-ghost use Rattle.law_moves.specs.Moves.{Move, all_moved, started};
 ghost use Rattle.rh_outproxy.specs.declared.state.OutProxyConfig.{OutProxyConfig};
 ghost use Rattle.rh_outproxy.specs.Machine.{rules};
 ghost use Rattle.rh_outproxy.specs.OutProxy.{new_proxy};
+ghost use Rattle.law_moves.specs.Moves.{Move, all_moved, started};
 ghost use Rattle.law_moves.specs.Passages.Counted.{AreCounted};
 ghost use Rattle.law_role_outproxy.specs.Refusing.{RefusesFor};
 

@@ -1,10 +1,10 @@
 //! How an out proxy sends to its client. Its function does nothing: its contract is the law.
 
 ghost use Rattle.std.specs.Prelude.{List};
-ghost use Rattle.law_moves.specs.Moves.{Move, all_moved, started};
 ghost use Rattle.rh_outproxy.specs.declared.state.OutProxyConfig.{OutProxyConfig};
 ghost use Rattle.rh_outproxy.specs.Machine.{rules};
 ghost use Rattle.rh_outproxy.specs.OutProxy.{new_proxy};
+ghost use Rattle.law_moves.specs.Moves.{Move, all_moved, started};
 ghost use Rattle.law_role_outproxy.specs.Sending.{SendsWithin};
 
 /// Whatever moves an out proxy makes, allowed or not: it put RPC PDUs to its client alone. Where at

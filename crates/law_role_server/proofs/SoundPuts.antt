@@ -4,6 +4,8 @@ use Rattle.std.specs.Prelude.{IfSome, slice_get, find, nat_le, length}
 use Rattle.std.specs.List.{AllByRecursion}
 use Rattle.std.specs.declared.option.Option.{Option}
 use Rattle.std.specs.declared.result.Result.{Result}
+use Rattle.rh_window.specs.declared.recv_window.Ack.{Ack}
+use Rattle.law_order.proofs.ByNumber.{by_test}
 use Rattle.rh_pdu.specs.Checking.{pdu_fault}
 use Rattle.rh_pdu.specs.Frames.{IsPdu}
 use Rattle.rh_pdu.specs.declared.fault.PduFault.{PduFault}
@@ -13,15 +15,12 @@ use Rattle.rh_sig.specs.declared.name.Pipe.{Pipe}
 use Rattle.rh_sig.specs.declared.name.Pipe.TheVariants.{IsD, OsD}
 use Rattle.rh_sig.specs.declared.named.Named.{Named}
 use Rattle.rh_sig.specs.declared.named.Named.TheVariants as named
-use Rattle.rh_window.specs.declared.recv_window.Ack.{Ack}
 use Rattle.rh_line.specs.Lines.{due}
 use Rattle.rh_line.specs.Queue.{queue_bytes, total, behind, front_length}
 use Rattle.rh_line.specs.declared.leg.LegKind.{LegKind}
 use Rattle.rh_line.specs.declared.leg.LegKind.TheVariants.{ClientOut, OutServer, ClientIn, InServer}
 use Rattle.rh_line.specs.declared.which.Which.TheVariants.{Current}
 use Rattle.rh_line.proofs.Queues.{each_push}
-use Rattle.law_moves.specs.Legible.Legible.{MayGoOn}
-use Rattle.law_order.proofs.ByNumber.{by_test}
 use Rattle.rh_shell.specs.declared.due.Due.{Due}
 use Rattle.rh_shell.specs.declared.end_role.GiveRefused.{GiveRefused}
 use Rattle.rh_shell.specs.declared.end_role.GiveRefused.TheVariants as give_refused
@@ -36,12 +35,13 @@ use Rattle.rh_server.specs.declared.state.Leaving.{Leaving}
 use Rattle.rh_server.specs.declared.state.Leaving.TheVariants as leaving
 use Rattle.rh_server.specs.declared.state.InLeg.{InLeg}
 use Rattle.rh_server.specs.declared.state.OutLeg.{OutLeg}
-use Rattle.law_role_server.specs.Legible.{pipe_to}
 use Rattle.rh_server.specs.OutLines.{Gate, lets, is_ack_of}
 use Rattle.rh_server.specs.States.{Server, is_open, is_due, is_shut, is_closing, is_waiting, stays, in_leg, with_in, without_in, without_out, out_place, out_cookie}
 use Rattle.rh_server.specs.Opening.{in_leg_up, up_by}
 use Rattle.rh_server.specs.Ending.{give, give_by, settled, in_is_drawn, drawn_by, lost_in, without_ack_of, with_ack_dropped, mark_by}
 use Rattle.rh_server.specs.Putting.{Pick, or_else, put_by, told_by, put_in_greeting, put_tells, put_tells_by, was_current, put_b1, put_b1_by, ack_due, put_ack, put_ack_by, put_in_by, out_greeting_at, put_out_greeting, gate_at, counts, counts_at, was_put, waiting_by, waiting_at, put_waiting, may_go_at, pdu_by, put_pdu, may_end_at, is_end_due, put_end, put_pdu_or_end, next_out, settled_pick, put_open, put_out_place, put_out_at}
+use Rattle.law_moves.specs.Legible.Legible.{MayGoOn}
+use Rattle.law_role_server.specs.Legible.{pipe_to}
 use Rattle.law_role_server.proofs.Each.{each_found, each_without}
 use Rattle.law_role_server.proofs.Putable.{end_b1, conn_b3, in_r1_b1, in_r1_b2, ack}
 use Rattle.law_role_server.proofs.TakesKept.{both}

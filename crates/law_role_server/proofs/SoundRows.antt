@@ -4,6 +4,7 @@ use Rattle.std.specs.Prelude.{if◌then◌else◌, IfSome, slice_get, nat_lt}
 use Rattle.std.specs.List.{AllByRecursion, list_any}
 use Rattle.std.specs.declared.option.Option.{Option}
 use Rattle.std.specs.declared.result.Result.{Result}
+use Rattle.law_order.proofs.ByNumber.{by_test}
 use Rattle.rh_rts.specs.declared.command.Cookie.{Cookie}
 use Rattle.rh_sig.specs.declared.name.Pipe.TheVariants.{OsD}
 use Rattle.rh_sig.specs.declared.named.Named.{Named}
@@ -15,8 +16,6 @@ use Rattle.rh_line.specs.declared.line_fault.LineFault.TheVariants.{Window, Over
 use Rattle.rh_line.specs.declared.which.Which.{Which}
 use Rattle.rh_line.specs.declared.which.Which.TheVariants.{Current, Next}
 use Rattle.rh_line.proofs.Queues.{each_push}
-use Rattle.law_moves.specs.Legible.Legible.{IsFine, MayGo}
-use Rattle.law_order.proofs.ByNumber.{by_test}
 use Rattle.rh_shell.specs.declared.answers.Count.{Count}
 use Rattle.rh_shell.specs.declared.answers.Refused.TheVariants as refused
 use Rattle.rh_shell.specs.declared.due.Due.{Due}
@@ -42,6 +41,7 @@ use Rattle.rh_server.specs.InReplacement.{moved_if, take, announced, in_r1_a2_by
 use Rattle.rh_server.specs.OutReplacement.{asks, recycle, is_under_way, last_number, answered_by, answered_on, out_r1_a4_by, out_r1_a4_at, may_answer, on_out_r1_a4, confirms, out_r1_a8_at, on_out_r1_a8}
 use Rattle.rh_server.specs.Ending.{is_over_on, end_a2_on_leg, end_a2_waiting, end_a2_at, on_end_a2}
 use Rattle.rh_server.specs.Servers.{on_is, on_os}
+use Rattle.law_moves.specs.Legible.Legible.{IsFine, MayGo}
 use Rattle.law_role_server.proofs.Each.{each_merged}
 use Rattle.law_role_server.proofs.Putable.{IsCookie, AreOfAck, conn_c1, in_r2_a3, out_r1_a5, out_r1_a9, ack_to}
 use Rattle.law_role_server.proofs.TakesKept.{both}

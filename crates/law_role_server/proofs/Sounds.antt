@@ -3,18 +3,17 @@ use Rattle.std.proofs.Common.{◌≡◌, ℕ, ◌&&◌, ◌||◌, List, Bool, tr
 use Rattle.std.specs.Prelude.{IfSome}
 use Rattle.std.specs.List.{AllByRecursion}
 use Rattle.std.specs.declared.option.Option.{Option}
+use Rattle.rh_window.specs.Sides.{Receiver, IsWindow}
+use Rattle.law_order.proofs.ByNumber.{by_test}
 use Rattle.rh_pdu.specs.Frames.{IsPdu}
 use Rattle.rh_rts.specs.declared.command.Cookie.{Cookie}
 use Rattle.rh_sig.specs.declared.name.Pipe.TheVariants.{OsD}
 use Rattle.rh_sig.specs.declared.named.Named.{Named}
 use Rattle.rh_sig.specs.declared.named.Named.TheVariants as named
 use Rattle.rh_sig.specs.Values.{IsTimeout}
-use Rattle.rh_window.specs.Sides.{Receiver, IsWindow}
 use Rattle.rh_line.specs.Lines.{Line, after_open_next, moved_on, is_empty}
 use Rattle.rh_line.specs.Lines.{settled as line_settled}
 use Rattle.rh_line.proofs.Queues.{each_push}
-use Rattle.law_moves.specs.Legible.Legible.{MayGo}
-use Rattle.law_order.proofs.ByNumber.{by_test}
 use Rattle.rh_shell.specs.declared.due.Due.{Due}
 use Rattle.rh_shell.specs.Waiting.{Waiting, added, own}
 use Rattle.rh_server.specs.declared.out_line.Kind.TheVariants as kind
@@ -31,6 +30,7 @@ use Rattle.rh_server.specs.States.{Server, in_at, in_leg, in_place, set_at, remo
 use Rattle.rh_server.specs.InReplacement.{ended_if, opens_next, opens_leg, first_waiting, waiting_place, next_opened, becomes_current, moved_if}
 use Rattle.rh_server.specs.OutReplacement.{asks, wishes, wished}
 use Rattle.rh_server.specs.Ending.{is_complete, completed, settled}
+use Rattle.law_moves.specs.Legible.Legible.{MayGo}
 use Rattle.law_role_server.proofs.Each.{each_got, each_set, each_removed}
 use Rattle.law_role_server.proofs.Putable.{IsCookie, in_r1_a3, out_r1_a1}
 use Rattle.law_role_server.proofs.Telling.{IsTelling, Tells, opened_tells, moved_tells}

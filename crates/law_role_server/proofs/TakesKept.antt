@@ -7,8 +7,8 @@ use Rattle.law_order.specs.Logs.{Log}
 use Rattle.law_order.specs.Shelves.{Shelf, blank}
 use Rattle.law_order.specs.Taking.{TakerLaw}
 use Rattle.law_order.proofs.ByNumber.{by_test}
-use Rattle.rh_shell.specs.Waiting.{Waiting}
 use Rattle.rh_sig.specs.declared.named.Named.TheVariants as named
+use Rattle.rh_shell.specs.Waiting.{Waiting}
 use Rattle.rh_shell.specs.Waiting.{added}
 use Rattle.rh_server.specs.declared.out_line.Kind.TheVariants as kind
 use Rattle.rh_server.specs.declared.state.Stage.{Stage}
@@ -20,9 +20,9 @@ use Rattle.rh_server.specs.declared.state.InLeg.{InLeg}
 use Rattle.rh_server.specs.OutLines.{is_own, waits}
 use Rattle.rh_server.specs.States.{Server, is_waiting, is_fresh, set_at, in_place}
 use Rattle.rh_server.specs.InReplacement.{opens_next, opens_leg, first_waiting, next_opened}
+use Rattle.rh_server.proofs.Onces.{none_found}
 use Rattle.law_role_server.specs.Order.{shelf, waits_ended}
 use Rattle.law_role_server.proofs.InSpots.{Spot, spot, spots, spot_by, at, put_at, first_spot, set_spot, IsSorted, sorted_put, in_range, waits_at, fresh_at, IsFirst, none_waits, first_waits, at_put}
-use Rattle.rh_server.proofs.Onces.{none_found}
 
 -- ---- what the law reads
 

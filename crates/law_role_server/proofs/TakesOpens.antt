@@ -2,12 +2,12 @@
 use Rattle.std.proofs.Common.{◌≡◌, ◌≢◌, ℕ, suc, ◌<◌, ◌≤◌, ◌&&◌, ◌||◌, nat_eq, nat_lt, List, [], Bool, true, false, not, Some, None, arith, refl, sym, ap, ◌∙◌, subst}
 use Rattle.std.specs.declared.option.Option.{Option}
 use Rattle.std.proofs.lemmas.Bool.Decides.{nat_tests}
-use Rattle.rh_rts.specs.declared.command.Cookie.{Cookie}
 use Rattle.law_order.specs.Logs.{Log}
 use Rattle.law_order.specs.Shelves.{blank, Follows}
 use Rattle.law_order.specs.Taking.{Hears}
 use Rattle.law_order.proofs.ByNumber.{by_test, same_number, other_number, more_none}
 use Rattle.law_order.proofs.TakerKeeps.{taker_step}
+use Rattle.rh_rts.specs.declared.command.Cookie.{Cookie}
 use Rattle.rh_shell.specs.declared.answers.Count.{Count}
 use Rattle.rh_shell.specs.Waiting.{Waiting}
 use Rattle.rh_server.specs.declared.state.Stage.{Stage}

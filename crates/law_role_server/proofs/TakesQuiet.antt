@@ -3,15 +3,16 @@ use Rattle.std.proofs.Common.{◌≡◌, ℕ, ◌+◌, ◌==◌, ◌&&◌, cond,
 use Rattle.std.specs.Prelude.{find, slice_get}
 use Rattle.std.specs.declared.option.Option.{Option}
 use Rattle.std.specs.declared.result.Result.{Result}
-use Rattle.rh_shell.specs.declared.end_role.RecycleRefused.{RecycleRefused}
 use Rattle.std.proofs.lemmas.List.Sums.{sum_by_push}
-use Rattle.rh_rts.specs.declared.command.Cookie.{Cookie}
-use Rattle.rh_sig.specs.declared.named.Named.{Named}
-use Rattle.rh_sig.specs.declared.named.Named.TheVariants as named
 use Rattle.rh_window.specs.declared.recv_window.Ack.{Ack}
 use Rattle.law_order.specs.Items.{Item}
 use Rattle.law_order.specs.Logs.{Log, more}
 use Rattle.law_order.proofs.ByNumber.{by_test, more_none}
+use Rattle.rh_rts.specs.declared.command.Cookie.{Cookie}
+use Rattle.rh_sig.specs.declared.named.Named.{Named}
+use Rattle.rh_sig.specs.declared.named.Named.TheVariants as named
+use Rattle.rh_line.specs.Queue.{front_length}
+use Rattle.rh_shell.specs.declared.end_role.RecycleRefused.{RecycleRefused}
 use Rattle.rh_shell.specs.declared.answers.Count.{Count}
 use Rattle.rh_shell.specs.declared.due.Due.{Due}
 use Rattle.rh_shell.specs.Rules.{Packet}
@@ -36,7 +37,6 @@ use Rattle.rh_server.specs.Acknowledging.{forward_by, forwards, forwards_writing
 use Rattle.rh_server.specs.OutReplacement.{asks, wishes, wished, recycle, is_under_way, last_number, answered_by, answered_on, out_r1_a4_by, out_r1_a4_at, may_answer, on_out_r1_a4, confirms, out_r1_a8_at, on_out_r1_a8, handed}
 use Rattle.rh_server.specs.Ending.{are_lost, is_complete, completed, settled, without_ack_of, with_ack_dropped}
 use Rattle.rh_server.specs.Putting.{Pick, or_else, counts, counts_at, was_put, was_current, told_by, put_in_greeting, put_tells, put_tells_by, put_b1, put_b1_by, put_ack, put_ack_by, ack_due, put_in, put_in_by, out_greeting_at, put_out_greeting, waiting_by, waiting_at, put_waiting, gate_at, may_go_at, pdu_by, put_pdu, may_end_at, is_end_due, put_end, put_pdu_or_end, next_out, settled_pick, put_open, put_out_place, put_out_at, put_out}
-use Rattle.rh_line.specs.Queue.{front_length}
 use Rattle.rh_server.proofs.Onces.{one_if, same_forwarded, none_taken}
 use Rattle.law_role_server.proofs.InSpots.{Spot, spot, spots, spot_by, at, put_at, leg_spot, set_spot, at_number, put_same}
 use Rattle.law_role_server.proofs.TakesKept.{has_begun, Read, reads, due_a3, Took, both}

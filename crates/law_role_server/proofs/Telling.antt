@@ -9,10 +9,10 @@ use Rattle.rh_window.specs.Sides.{Receiver, IsWindow}
 use Rattle.rh_window.specs.Receiving as windows
 use Rattle.rh_window.specs.declared.fault.WindowExceeded.{WindowExceeded}
 use Rattle.rh_window.specs.declared.recv_window.Ack.{Ack}
+use Rattle.law_order.proofs.ByNumber.{by_test}
 use Rattle.rh_line.specs.Lines.{Incoming, Line, admitted, channel_verdict, released, after_admit, after_end, after_open_next, after_tell, after_told, moved_on}
 use Rattle.rh_line.specs.declared.which.Which.{Which}
 use Rattle.rh_line.specs.declared.which.Which.TheVariants.{Current, Next}
-use Rattle.law_order.proofs.ByNumber.{by_test}
 use Rattle.rh_server.specs.declared.state.Edge.{Edge}
 use Rattle.rh_server.specs.declared.state.Edge.TheVariants as edge
 use Rattle.rh_server.specs.States.{is_shut}

@@ -2,22 +2,22 @@
 -- (profile)
 use Rattle.std.specs.Prelude.{ℕ, suc, ◌&&◌, ◌||◌, ◌++◌, List, [], ◌∷◌, Bool, true, false, if◌then◌else◌, nat_eq, nat_lt, Some, None}
 use Rattle.std.specs.declared.option.Option.{Option}
+use Rattle.law_order.specs.Items.{Item, Piece, Stop, Handover}
+use Rattle.law_order.specs.Logs.{Log}
+use Rattle.law_order.specs.Giving.{Giver}
+use Rattle.law_order.specs.Shelves.{Shelf, Shelves}
+use Rattle.law_order.specs.Taking.{Taker}
 use Rattle.rh_sig.specs.declared.named.Named.TheVariants as named
 use Rattle.rh_line.specs.Lines.{Incoming}
 use Rattle.rh_line.specs.declared.leg.LegKind.{LegKind}
 use Rattle.rh_line.specs.declared.leg.LegKind.TheVariants.{OutServer, InServer}
 use Rattle.rh_shell.specs.Rules.{Message, Text, Pdu, Packet}
 use Rattle.rh_shell.specs.Shells.{is_of}
-use Rattle.law_moves.specs.Moves.{OnLeg, Up, EndMove, Moves, EndPassage}
-use Rattle.law_order.specs.Items.{Item, Piece, Stop, Handover}
-use Rattle.law_order.specs.Logs.{Log}
-use Rattle.law_order.specs.Giving.{Giver}
-use Rattle.law_order.specs.Shelves.{Shelf, Shelves}
-use Rattle.law_order.specs.Taking.{Taker}
 use Rattle.rh_server.specs.declared.state.InLeg.{InLeg}
 use Rattle.rh_server.specs.declared.state.InStage.{InStage}
 use Rattle.rh_server.specs.declared.state.InStage.TheVariants.{Fresh, Waits, Opened}
 use Rattle.rh_server.specs.States.{Server, is_closing, is_put, in_leg}
+use Rattle.law_moves.specs.Moves.{OnLeg, Up, EndMove, Moves, EndPassage}
 
 -- ---- what passes on the legs
 

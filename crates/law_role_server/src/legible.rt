@@ -2,9 +2,9 @@
 
 ghost use Rattle.std.specs.Prelude.{ℕ, List};
 ghost use Rattle.rh_window.specs.Sides.{IsWindow};
+ghost use Rattle.rh_server.specs.Servers.{rules, acts, first};
 ghost use Rattle.law_moves.specs.Legible.Legible.{IsLegible};
 ghost use Rattle.law_moves.specs.Moves.{EndMove, all_end_moved, end_started};
-ghost use Rattle.rh_server.specs.Servers.{rules, acts, first};
 ghost use Rattle.law_role_server.specs.Legible.{pipe_put};
 
 use law_moves::what_may_go_reads_back;

@@ -3,8 +3,8 @@
 ghost use Rattle.std.specs.Prelude.{ℕ, List};
 ghost use Rattle.law_order.specs.Giving.{GiverLaw};
 ghost use Rattle.law_order.specs.Taking.{TakerLaw};
-ghost use Rattle.law_moves.specs.Moves.{AreAllowedAtEnd, EndMove, all_end_moved, end_started};
 ghost use Rattle.rh_server.specs.Servers.{rules, acts, first};
+ghost use Rattle.law_moves.specs.Moves.{AreAllowedAtEnd, EndMove, all_end_moved, end_started};
 ghost use Rattle.law_role_server.specs.Order.{giver_of, got, has_leg, sent, taker_of};
 
 /// Whatever happens to a server, what it was given is what it put on its os legs, in their order,

@@ -1,9 +1,9 @@
 -- how many IN_R1/A3 are due at most, by the IN_R1/A6 that came; and which channels are open
 use Rattle.std.proofs.Common.{◌≡◌, ◌⊎◌, inl, inr, ℕ, ◌+◌, ◌≤◌, ◌<◌, Bool, true, false, true≢false, if◌then◌else◌, List, [], arith, refl, sym, ap, ◌∙◌}
-use Rattle.law_moves.specs.Chains.Sums.{sum_below}
-use Rattle.law_moves.specs.Moves.{AreAllowedAtEnd, EndMove, Passage, end_started}
 use Rattle.rh_server.specs.Servers.{acts, first, rules}
 use Rattle.rh_server.specs.States.{Server}
+use Rattle.law_moves.specs.Chains.Sums.{sum_below}
+use Rattle.law_moves.specs.Moves.{AreAllowedAtEnd, EndMove, Passage, end_started}
 use Rattle.law_role_server.specs.Counted.Answering.{AreAnswered}
 use Rattle.law_role_server.specs.Counted.Counting.{is_in_r1_a6, in_came}
 use Rattle.law_role_server_in.specs.Refusing.{first_at}

@@ -1,16 +1,16 @@
 -- why a server refuses IN_R1/A6
 use Rattle.std.proofs.Common.{◌≡◌, ◌⊎◌, inl, inr, ℕ, ◌+◌, ◌≤◌, ◌==◌, ◌&&◌, Bool, true, false, not, if◌then◌else◌, List, Some, arith, refl, ap, ◌∙◌}
 use Rattle.std.proofs.lemmas.Bool.{and_parts}
-use Rattle.rh_rts.specs.declared.command.Cookie.{Cookie}
 use Rattle.law_order.proofs.ByNumber.{by_test, other_number, same_number}
+use Rattle.rh_rts.specs.declared.command.Cookie.{Cookie}
 use Rattle.rh_shell.specs.declared.answers.Refused.TheVariants as refused
-use Rattle.law_moves.specs.Moves.{AreAllowedAtEnd, EndMove, Passage, end_started}
 use Rattle.rh_server.specs.declared.out_line.Kind.TheVariants as kind
 use Rattle.rh_server.specs.InReplacement.{hands_over, on_in_r1_a6}
 use Rattle.rh_server.specs.Opening.{Done, took, refuse, unexpected}
 use Rattle.rh_server.specs.OutLines.{waits}
 use Rattle.rh_server.specs.Servers.{acts, first, rules}
 use Rattle.rh_server.specs.States.{Server, same_cookie}
+use Rattle.law_moves.specs.Moves.{AreAllowedAtEnd, EndMove, Passage, end_started}
 use Rattle.law_role_server.specs.Counted.Answering.{AreAnswered}
 use Rattle.law_role_server.specs.Counted.Counting.{is_in_r1_a3, is_in_r1_a6, out_put}
 use Rattle.law_role_server_rows.specs.Refusing.Refusing.{IsOther}

@@ -3,18 +3,18 @@ use Rattle.std.proofs.Common.{◌≡◌, ◌⊎◌, inl, inr, ℕ, zero, suc, �
 use Rattle.std.specs.Prelude.{IfSome, slice_get}
 use Rattle.std.specs.declared.option.Option.{Option}
 use Rattle.law_order.proofs.ByNumber.{other_number, same_number}
-use Rattle.law_moves.specs.Moves.{AreAllowedAtEnd, EndMove, EndPassage, Passage, all_end_moved, end_moved, end_started}
 use Rattle.rh_server.specs.declared.state.InLeg.{InLeg}
 use Rattle.rh_server.specs.declared.state.InStage.{InStage}
 use Rattle.rh_server.specs.declared.state.InStage.TheVariants as in_stage
 use Rattle.rh_server.specs.Servers.{acts, first}
 use Rattle.rh_server.specs.Servers.{rules as server_rules}
 use Rattle.rh_server.specs.States.{Server, is_fresh, is_waiting, in_at, in_leg, in_place}
+use Rattle.law_moves.specs.Moves.{AreAllowedAtEnd, EndMove, EndPassage, Passage, all_end_moved, end_moved, end_started}
 use Rattle.law_role_server.specs.Counted.Answering.{AreAnswered}
+use Rattle.law_role_server.proofs.Numbered.{Absent, absent_if}
 use Rattle.law_role_server_in.specs.Refusing.{first_at}
 use Rattle.law_role_server_in.specs.Handovers.{HadOpened, answers, passed}
 use Rattle.law_role_server_in.proofs.Kept.{IsOpen, is_begun, is_opened, leg_at_place, number_of, top_of}
-use Rattle.law_role_server.proofs.Numbered.{Absent, absent_if}
 use Rattle.law_role_server_in.proofs.Places.{Found, Placed, found_at, number_found, placed}
 use Rattle.law_role_server_in.proofs.Tallies.{Tally, tally}
 use Rattle.law_role_server_in.proofs.Tests.{some_waits}

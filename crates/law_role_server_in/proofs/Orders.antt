@@ -2,18 +2,18 @@
 use Rattle.std.proofs.Common.{◌≡◌, ℕ, ◌==◌, ◌&&◌, nat_eq, Bool, true, false, if◌then◌else◌, List, [], ◌∷◌, ◌++◌, arith, refl, sym, ◌∙◌, subst}
 use Rattle.std.proofs.lemmas.Bool.{true≢false}
 use Rattle.std.proofs.lemmas.Bool.Decides.{nat_tests}
+use Rattle.law_order.specs.Items.{Item, has_handover}
+use Rattle.law_order.specs.Taking.{TakerLaw}
 use Rattle.rh_sig.specs.declared.named.Named.TheVariants as named
 use Rattle.rh_line.specs.declared.leg.LegKind.{LegKind}
 use Rattle.rh_line.specs.declared.leg.LegKind.TheVariants.{ClientOut, OutServer, ClientIn, InServer}
-use Rattle.law_order.specs.Items.{Item, has_handover}
-use Rattle.law_order.specs.Taking.{TakerLaw}
-use Rattle.law_moves.specs.Passages.Passing.{count_of}
-use Rattle.law_moves.specs.Moves.{EndPassage, OnLeg}
 use Rattle.rh_shell.specs.Rules.{Message, Text, Pdu, Packet}
 use Rattle.rh_shell.specs.Shells.{is_of, same_leg}
+use Rattle.rh_server.specs.States.{Server}
+use Rattle.law_moves.specs.Passages.Passing.{count_of}
+use Rattle.law_moves.specs.Moves.{EndPassage, OnLeg}
 use Rattle.law_moves.specs.Wires.{of_leg}
 use Rattle.law_role_server.specs.Order.{got, in_items, items_if, items_on, taker_of}
-use Rattle.rh_server.specs.States.{Server}
 use Rattle.law_role_server.specs.Counted.Counting.{is_in_r1_a6, leg_at, often_at}
 
 same_bool : (kind : LegKind) (k n : ℕ)

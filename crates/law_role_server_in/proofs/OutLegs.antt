@@ -6,23 +6,23 @@ use Rattle.std.proofs.lemmas.List.{length-append, length-set}
 use Rattle.std.specs.Prelude.{IfSome, remove, slice_get}
 use Rattle.std.specs.declared.option.Option.{Option}
 use Rattle.std.specs.declared.result.Result.{Result}
+use Rattle.rh_window.specs.declared.recv_window.Ack.{Ack}
+use Rattle.law_order.proofs.ByNumber.{by_test}
 use Rattle.rh_rts.specs.declared.command.Cookie.{Cookie}
 use Rattle.rh_sig.specs.declared.named.Named.{Named}
 use Rattle.rh_sig.specs.declared.named.Named.TheVariants as named
 use Rattle.rh_line.specs.declared.leg.Leg.{Leg}
 use Rattle.rh_line.specs.declared.leg.LegKind.{LegKind}
 use Rattle.rh_line.specs.declared.leg.LegKind.TheVariants.{ClientOut, OutServer, ClientIn, InServer}
-use Rattle.law_order.proofs.ByNumber.{by_test}
+use Rattle.rh_line.specs.Lines.{after_tell}
+use Rattle.rh_line.specs.declared.which.Which.TheVariants.{Current}
+use Rattle.rh_line.specs.Queue.{front_length}
 use Rattle.rh_shell.specs.declared.answers.Count.{Count}
 use Rattle.rh_shell.specs.declared.end_role.GiveRefused.{GiveRefused}
 use Rattle.rh_shell.specs.Rules.{Message, Pdu, Packet}
-use Rattle.law_moves.specs.Moves.{Move, Up, HeadCame, PduCame, PacketCame, Puts, IsDrawn, Marks, Pings, Passage, EndMove, Moves, Gives, Takes, Closes, Recycles, EndPassage, moved, taken_by, put_by, end_moved, end_now_at, given_by, with_first, all_end_moved}
-use Rattle.rh_server.specs.declared.state.OutLeg.{OutLeg}
-use Rattle.rh_window.specs.declared.recv_window.Ack.{Ack}
-use Rattle.rh_line.specs.Lines.{after_tell}
-use Rattle.rh_line.specs.declared.which.Which.TheVariants.{Current}
 use Rattle.rh_shell.specs.declared.due.Due.{Due}
 use Rattle.rh_shell.specs.Waiting.{Waiting, taken}
+use Rattle.rh_server.specs.declared.state.OutLeg.{OutLeg}
 use Rattle.rh_server.specs.declared.state.Edge.TheVariants.{Told}
 use Rattle.rh_server.specs.declared.state.EndMark.TheVariants as end_mark
 use Rattle.rh_server.specs.declared.state.InLeg.{InLeg}
@@ -38,12 +38,12 @@ use Rattle.rh_server.specs.States.{Server, in_leg, is_due, is_open, is_shut, is_
 use Rattle.rh_server.specs.Opening.{Done, conn_a2_at, first_out_at, is_first, may_up_by, on_conn_a2, opens, out_leg_up, took, unexpected, up, up_by, with_first_out}
 use Rattle.rh_server.specs.Acknowledging.{acked_at, acked_cookie, acked_in, on_ack}
 use Rattle.rh_server.specs.OutReplacement.{answered_by, answered_on, may_answer, on_out_r1_a4, out_r1_a4_at, out_r1_a4_by, recycle}
-use Rattle.rh_line.specs.Queue.{front_length}
 use Rattle.rh_server.specs.Putting.{Pick, ack_due, counts, counts_at, gate_at, is_end_due, may_end_at, may_go_at, next_out, or_else, out_greeting_at, put_ack, put_ack_by, put_b1, put_b1_by, put_end, put_in_by, put_in_greeting, put_open, put_out_at, put_out_greeting, put_out_place, put_pdu, put_pdu_or_end, put_tells, put_tells_by, put_waiting, settled_pick, waiting_at, waiting_by, was_current, was_put, went_at, pdu_by as pdu_by_length, put_by as put_by_kind}
 use Rattle.rh_server.specs.Ending.{drawn_by, give, in_is_drawn, lost_in, mark_by, on_end_a2, settled, with_ack_dropped}
 use Rattle.rh_server.specs.InReplacement.{take, on_in_r1_a2, on_in_r1_a6}
 use Rattle.rh_server.specs.Servers.{acts, on_is, on_os, packet_by, pdu_by}
 use Rattle.rh_server.specs.Servers.{rules as server_rules}
+use Rattle.law_moves.specs.Moves.{Move, Up, HeadCame, PduCame, PacketCame, Puts, IsDrawn, Marks, Pings, Passage, EndMove, Moves, Gives, Takes, Closes, Recycles, EndPassage, moved, taken_by, put_by, end_moved, end_now_at, given_by, with_first, all_end_moved}
 
 -- ---- what leaves the legs alone
 

@@ -3,21 +3,18 @@ use Rattle.std.proofs.Common.{◌≡◌, ℕ, ◌==◌, ◌&&◌, Bool, true, tr
 use Rattle.std.proofs.lemmas.Bool.{and_parts, false≢true}
 use Rattle.std.specs.Prelude.{IfSome, slice_get}
 use Rattle.std.specs.declared.option.Option.{Option}
+use Rattle.rh_window.specs.declared.recv_window.Ack.{Ack}
+use Rattle.law_order.proofs.ByNumber.{by_test}
 use Rattle.rh_sig.specs.declared.named.Named.{Named}
 use Rattle.rh_sig.specs.declared.named.Named.TheVariants as named
-use Rattle.rh_window.specs.declared.recv_window.Ack.{Ack}
 use Rattle.rh_line.specs.Lines.{after_tell}
 use Rattle.rh_line.specs.Queue.{front_length}
 use Rattle.rh_line.specs.declared.leg.LegKind.{LegKind}
 use Rattle.rh_line.specs.declared.leg.LegKind.TheVariants.{ClientOut, OutServer, ClientIn, InServer}
 use Rattle.rh_line.specs.declared.which.Which.TheVariants.{Current}
-use Rattle.law_order.proofs.ByNumber.{by_test}
-use Rattle.law_moves.specs.Passages.Passing.{count_of}
-use Rattle.law_moves.proofs.Passages.Logs.{PutKeeps}
 use Rattle.rh_shell.specs.Hearing.{greeting as greeting_text}
 use Rattle.rh_shell.specs.declared.due.Due.{Due}
 use Rattle.rh_shell.specs.Rules.{Message, Text, Packet}
-use Rattle.law_moves.specs.Moves.{OnLeg}
 use Rattle.rh_shell.specs.Waiting.{Waiting, taken}
 use Rattle.rh_server.specs.declared.state.EndMark.TheVariants as end_mark
 use Rattle.rh_server.specs.declared.state.Edge.TheVariants.{Told}
@@ -35,6 +32,9 @@ use Rattle.rh_server.specs.States.{Server, is_due, is_open, is_shut, stays, in_l
 use Rattle.rh_server.specs.OutReplacement.{wished}
 use Rattle.rh_server.specs.Ending.{completed, is_complete, settled}
 use Rattle.rh_server.specs.Putting.{Pick, or_else, told_by, was_current, put_tells_by, put_tells, put_b1_by, put_b1, ack_due, put_ack_by, put_ack, put_in_by, with_out, out_greeting_at, put_out_greeting, gate_at, counts, was_put, waiting_by, waiting_at, put_waiting, may_go_at, pdu_by, put_pdu, is_end_due, may_end_at, put_end, put_pdu_or_end, next_out, settled_pick, put_open, put_out_at, put_by as put_by_kind}
+use Rattle.law_moves.specs.Passages.Passing.{count_of}
+use Rattle.law_moves.proofs.Passages.Logs.{PutKeeps}
+use Rattle.law_moves.specs.Moves.{OnLeg}
 use Rattle.law_role_server.specs.Counted.Counting.{is_conn_b3, leg_at}
 use Rattle.law_role_server_in.specs.Refusing.{is_in_r1_b2}
 use Rattle.law_role_server_in.proofs.Places.{Found, found_at, number_found}

@@ -5,18 +5,18 @@ use Rattle.std.proofs.lemmas.Bool.Decides.{not_from_Decides}
 use Rattle.std.proofs.lemmas.Slice.Eq.{bytes_eq-Decides}
 use Rattle.std.specs.Prelude.{bytes_eq}
 use Rattle.std.specs.declared.option.Option.{Option}
-use Rattle.rh_rts.specs.declared.command.Cookie.{Cookie}
 use Rattle.law_order.proofs.ByNumber.{by_test}
+use Rattle.rh_rts.specs.declared.command.Cookie.{Cookie}
 use Rattle.rh_shell.specs.declared.answers.Count.{Count}
 use Rattle.rh_shell.specs.declared.answers.Refused.TheVariants as refused
 use Rattle.rh_shell.specs.Rules.{Row}
-use Rattle.law_moves.specs.Moves.{Passage}
 use Rattle.rh_server.specs.declared.state.InLeg.{InLeg}
 use Rattle.rh_server.specs.declared.state.Stage.{Stage}
 use Rattle.rh_server.specs.declared.state.Stage.TheVariants as stage
 use Rattle.rh_server.specs.States.{Server, is_fresh, same_cookie, in_leg, no_cookie}
 use Rattle.rh_server.specs.Opening.{Done, took, refuse, unexpected, is_first}
 use Rattle.rh_server.specs.InReplacement.{announced, has_fresh_below, in_r1_a2_by, in_r1_a2_at, on_in_r1_a2}
+use Rattle.law_moves.specs.Moves.{Passage}
 use Rattle.law_role_server.specs.Counted.Answering.{AreAnswered}
 use Rattle.law_role_server.specs.Counted.Opening.{OpensOnce}
 use Rattle.law_role_server_rows.specs.Refusing.Refusing.{IsOther}

@@ -4,15 +4,13 @@ use Rattle.std.proofs.lemmas.Bool.{and_parts, false≢true, true≢false}
 use Rattle.std.specs.Prelude.{IfSome, IsTrue}
 use Rattle.std.specs.declared.option.Option.{Option}
 use Rattle.std.specs.declared.result.Result.{Result}
+use Rattle.law_order.proofs.ByNumber.{by_test, same_number}
 use Rattle.rh_rts.specs.declared.command.Cookie.{Cookie}
 use Rattle.rh_line.specs.declared.leg.Leg.{Leg}
 use Rattle.rh_line.specs.declared.leg.LegKind.{LegKind}
 use Rattle.rh_line.specs.declared.leg.LegKind.TheVariants.{ClientOut, OutServer, ClientIn, InServer}
-use Rattle.law_order.proofs.ByNumber.{by_test, same_number}
-use Rattle.law_moves.proofs.Passages.Logs.{RowKeeps, PutKeeps}
 use Rattle.rh_shell.specs.declared.end_role.GiveRefused.{GiveRefused}
 use Rattle.rh_shell.specs.Rules.{Message, Pdu, Packet, Row}
-use Rattle.law_moves.specs.Moves.{Move, Up, HeadCame, PduCame, PacketCame, Puts, IsDrawn, Marks, Pings, MayMove, Passage, EndMove, Moves, Gives, Takes, Closes, Recycles, EndPassage, MayEndMove, AreAllowedAtEnd, is_at_work, is_in_use, moved, taken_by, put_by, end_moved, end_now_at, end_started, given_by, with_first, all_end_moved}
 use Rattle.rh_server.specs.declared.state.InLeg.{InLeg}
 use Rattle.rh_server.specs.declared.state.InStage.{InStage}
 use Rattle.rh_server.specs.declared.state.InStage.TheVariants as in_stage
@@ -26,6 +24,8 @@ use Rattle.rh_server.specs.Ending.{give, in_is_done, settled, in_is_drawn, drawn
 use Rattle.rh_server.specs.Putting.{Pick}
 use Rattle.rh_server.specs.Servers.{acts, first}
 use Rattle.rh_server.specs.Servers.{rules as server_rules}
+use Rattle.law_moves.proofs.Passages.Logs.{RowKeeps, PutKeeps}
+use Rattle.law_moves.specs.Moves.{Move, Up, HeadCame, PduCame, PacketCame, Puts, IsDrawn, Marks, Pings, MayMove, Passage, EndMove, Moves, Gives, Takes, Closes, Recycles, EndPassage, MayEndMove, AreAllowedAtEnd, is_at_work, is_in_use, moved, taken_by, put_by, end_moved, end_now_at, end_started, given_by, with_first, all_end_moved}
 use Rattle.law_role_server.specs.Counted.Counting.{leg_at}
 use Rattle.law_role_server_in.proofs.Places.{Found, found_at}
 use Rattle.law_role_server_in.proofs.Tallies.{Tally, tally}

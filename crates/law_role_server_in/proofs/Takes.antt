@@ -5,6 +5,7 @@ use Rattle.std.proofs.lemmas.Bool.Decides.{nat_tests}
 use Rattle.std.specs.Prelude.{IfSome}
 use Rattle.std.specs.declared.option.Option.{Option}
 use Rattle.std.specs.declared.result.Result.{Result}
+use Rattle.law_order.proofs.ByNumber.{by_test, other_number, same_number, test_same}
 use Rattle.rh_rts.specs.declared.command.Cookie.{Cookie}
 use Rattle.rh_sig.specs.declared.named.Named.{Named}
 use Rattle.rh_sig.specs.declared.named.Named.TheVariants as named
@@ -16,13 +17,9 @@ use Rattle.rh_line.specs.declared.line_fault.LineFault.{LineFault}
 use Rattle.rh_line.specs.declared.line_fault.LineFault.TheVariants as line_fault
 use Rattle.rh_line.specs.declared.which.Which.{Which}
 use Rattle.rh_line.specs.declared.which.Which.TheVariants.{Current, Next}
-use Rattle.law_order.proofs.ByNumber.{by_test, other_number, same_number, test_same}
-use Rattle.law_moves.specs.Passages.Passing.{count_of}
-use Rattle.law_moves.proofs.Passages.Logs.{RowKeeps}
 use Rattle.rh_shell.specs.declared.answers.Count.{Count}
 use Rattle.rh_shell.specs.declared.answers.Refused.TheVariants as refused
 use Rattle.rh_shell.specs.Rules.{Message, Pdu, Packet}
-use Rattle.law_moves.specs.Moves.{OnLeg}
 use Rattle.rh_shell.specs.Waiting.{Waiting, forwarded, takes}
 use Rattle.rh_server.specs.declared.state.InLeg.{InLeg}
 use Rattle.rh_server.specs.declared.state.InStage.{InStage}
@@ -39,9 +36,12 @@ use Rattle.rh_server.specs.Acknowledging.{admitted_by, admitted_on, channel_at, 
 use Rattle.rh_server.specs.InReplacement.{announced, has_fresh_below, newest_by, in_r1_a2_by, in_r1_a2_at, on_in_r1_a2, leaves_by, leaves, hands_over, moved_if, on_in_r1_a6, in_r2_a2_on, on_in_r2_a2}
 use Rattle.rh_server.specs.Ending.{end_a2_on_leg, end_a2_waiting, is_over_on, end_a2_at, on_end_a2}
 use Rattle.rh_server.specs.Servers.{on_is, on_os, packet_by, pdu_by}
+use Rattle.law_moves.specs.Passages.Passing.{count_of}
+use Rattle.law_moves.proofs.Passages.Logs.{RowKeeps}
+use Rattle.law_moves.specs.Moves.{OnLeg}
 use Rattle.law_role_server.specs.Counted.Counting.{is_conn_b2, is_end_a2, is_in_r1_a2, is_in_r1_a6, leg_at, often_at}
-use Rattle.law_role_server_in.specs.Refusing.{named_by, successor_by}
 use Rattle.law_role_server.proofs.Numbered.{absent_at}
+use Rattle.law_role_server_in.specs.Refusing.{named_by, successor_by}
 use Rattle.law_role_server_in.proofs.Places.{Found, found_at, number_found}
 use Rattle.law_role_server_in.proofs.Tallies.{Grows, Still, Tally, began, carried_came, carried_names, carried_other, named_at, named_own, now_often, other_came, quiet_came, tally}
 use Rattle.law_role_server_in.proofs.Kept.{Kept, Look, Top, is_begun, is_opened, kept_more, leg_at_place, look, newer_kept, number_of, renamed_kept, set_kept, so_top, top_kept, top_of}

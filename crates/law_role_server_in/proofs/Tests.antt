@@ -5,9 +5,9 @@ use Rattle.std.proofs.lemmas.Bool.Decides.{nat_tests}
 use Rattle.std.specs.Prelude.{find, slice_get}
 use Rattle.std.specs.declared.option.Option.{Option}
 use Rattle.std.specs.declared.result.Result.{Result}
+use Rattle.rh_window.specs.declared.fault.WindowExceeded.{WindowExceeded}
 use Rattle.rh_sig.specs.declared.named.Named.{Named}
 use Rattle.rh_sig.specs.declared.named.Named.TheVariants as named
-use Rattle.rh_window.specs.declared.fault.WindowExceeded.{WindowExceeded}
 use Rattle.rh_line.specs.Lines.{by_window}
 use Rattle.rh_line.specs.declared.line_fault.LineFault.TheVariants as line_fault
 use Rattle.rh_line.specs.declared.which.Which.{Which}
@@ -19,6 +19,7 @@ use Rattle.rh_shell.specs.declared.due.Due.{Due}
 use Rattle.rh_shell.specs.declared.due.Origin.TheVariants.{Own}
 use Rattle.rh_shell.specs.NearEnds.{is_ended}
 use Rattle.rh_shell.specs.Waiting.{is_of}
+use Rattle.rh_shell.specs.Rules.{Message, Text, Pdu, Packet}
 use Rattle.rh_server.specs.declared.out_line.Kind.{Kind}
 use Rattle.rh_server.specs.declared.out_line.Kind.TheVariants as kind
 use Rattle.rh_server.specs.declared.state.InLeg.{InLeg}
@@ -27,12 +28,11 @@ use Rattle.rh_server.specs.declared.state.Stage.TheVariants as stage
 use Rattle.rh_server.specs.OutLines.{is_kind, is_own}
 use Rattle.rh_server.specs.States.{is_fresh, is_open, is_some, is_waiting, phase_of}
 use Rattle.rh_server.specs.Opening.{is_first}
-use Rattle.law_role_server.specs.Counted.Answering.{how_many, waits_on}
-use Rattle.law_role_server.specs.Counted.Counting.{is_conn_b2, is_in_r1_a2, is_in_r1_a3, is_in_r2_a3, waiting_of}
+use Rattle.rh_server.specs.InReplacement.{is_fresh_below, has_fresh_below}
 use Rattle.law_moves.specs.Passages.Counted.{packets, Tells}
 use Rattle.law_moves.specs.Passages.Passing.{count_of}
-use Rattle.rh_shell.specs.Rules.{Message, Text, Pdu, Packet}
-use Rattle.rh_server.specs.InReplacement.{is_fresh_below, has_fresh_below}
+use Rattle.law_role_server.specs.Counted.Answering.{how_many, waits_on}
+use Rattle.law_role_server.specs.Counted.Counting.{is_conn_b2, is_in_r1_a2, is_in_r1_a3, is_in_r2_a3, waiting_of}
 use Rattle.law_role_server_in.proofs.Places.{Found}
 
 pub one_fails : (a b : Bool) → a && b ≡ false → (a ≡ false) ⊎ (b ≡ false)

@@ -4,18 +4,16 @@ use Rattle.std.proofs.lemmas.Bool.{false≢true}
 use Rattle.std.specs.Prelude.{IfSome, IsTrue}
 use Rattle.std.specs.declared.option.Option.{Option}
 use Rattle.std.specs.declared.result.Result.{Result}
+use Rattle.law_order.proofs.ByNumber.{by_test, test_same}
 use Rattle.rh_rts.specs.declared.command.Cookie.{Cookie}
 use Rattle.rh_line.specs.Lines.{admit_verdict}
 use Rattle.rh_line.specs.declared.line_fault.LineFault.{LineFault}
 use Rattle.rh_line.specs.declared.line_fault.LineFault.TheVariants as line_fault
 use Rattle.rh_line.specs.declared.which.Which.{Which}
 use Rattle.rh_line.specs.declared.which.Which.TheVariants.{Current, Next}
-use Rattle.law_order.proofs.ByNumber.{by_test, test_same}
+use Rattle.rh_line.specs.declared.leg.LegKind.TheVariants.{InServer}
 use Rattle.rh_shell.specs.declared.answers.Count.{Count}
 use Rattle.rh_shell.specs.declared.answers.Refused.TheVariants as refused
-use Rattle.rh_line.specs.declared.leg.LegKind.TheVariants.{InServer}
-use Rattle.law_moves.specs.Moves.{Passage}
-use Rattle.law_moves.specs.Wires.{of_leg}
 use Rattle.rh_server.specs.declared.state.InLeg.{InLeg}
 use Rattle.rh_server.specs.declared.state.InStage.{InStage}
 use Rattle.rh_server.specs.declared.state.InStage.TheVariants as in_stage
@@ -28,10 +26,12 @@ use Rattle.rh_server.specs.Opening.{Done, unexpected, is_first}
 use Rattle.rh_server.specs.Acknowledging.{admitted_by, admitted_on, channel_at, on_pdu}
 use Rattle.rh_server.specs.InReplacement.{has_fresh_below, in_r1_a2_by, in_r1_a2_at, on_in_r1_a2, in_r2_a2_on, on_in_r2_a2}
 use Rattle.rh_server.specs.Ending.{end_a2_at, end_a2_on_leg, end_a2_waiting, is_over_on, on_end_a2, waits_ended}
+use Rattle.law_moves.specs.Moves.{Passage}
+use Rattle.law_moves.specs.Wires.{of_leg}
+use Rattle.law_moves.specs.Passages.Counted.{Tells}
 use Rattle.law_role_server.specs.Counted.Answering.{AreAnswered}
 use Rattle.law_role_server.specs.Counted.Opening.{OpensOnce}
 use Rattle.law_role_server.specs.Counted.Counting.{is_end_a2, is_in_r1_a6, leg_at}
-use Rattle.law_moves.specs.Passages.Counted.{Tells}
 use Rattle.law_role_server_in.specs.Refusing.{IsFreshBelow, IsShut, IsUnopened, IsUsed, IsOpening, UnexpectedEndA2, UnexpectedInR1A2, UnexpectedInR2A2, UnexpectedPdu, came_at, came_on}
 use Rattle.law_role_server_in.proofs.Places.{Found, Placed, found_at, number_found, placed}
 use Rattle.law_role_server_in.proofs.Tallies.{Tally, tally}

@@ -9,15 +9,15 @@ use Rattle.rh_line.specs.declared.leg.TheConstants.{LAST_NUMBER}
 use Rattle.rh_line.specs.declared.leg.LegKind.TheVariants.{InServer}
 use Rattle.rh_shell.specs.declared.answers.Count.{Count}
 use Rattle.rh_shell.specs.declared.answers.Refused.TheVariants as refused
-use Rattle.law_moves.specs.Moves.{EndMove, Moves, Passage, Up, is_in_use}
 use Rattle.rh_shell.specs.Shells.{is_of}
 use Rattle.rh_shell.specs.Rules.{Message, Text, Pdu, Packet}
-use Rattle.law_moves.specs.Wires.{of_leg}
 use Rattle.rh_server.specs.States.{Server, in_leg, is_some}
 use Rattle.rh_server.specs.Servers.{rules}
+use Rattle.law_moves.specs.Moves.{EndMove, Moves, Passage, Up, is_in_use}
+use Rattle.law_moves.specs.Wires.{of_leg}
+use Rattle.law_moves.specs.Passages.Counted.{packets, Tells}
 use Rattle.law_role_server.specs.Counted.Counting.{is_conn_a2, is_conn_b2, is_conn_b3, is_end_a2, is_in_r1_a2, is_in_r1_a3, is_in_r1_a6, is_in_r2_a2, is_in_r2_a3, in_came, leg_at, often_at, out_came, out_put, waits_for}
 use Rattle.law_role_server_rows.specs.Refusing.Refusing.{IsOther}
-use Rattle.law_moves.specs.Passages.Counted.{packets, Tells}
 
 abbrev pub is_in_r1_b2 : Named → Bool
 is_in_r1_b2 (InR1B2 size) = true

@@ -2,8 +2,8 @@
 //! Its functions do nothing: their contracts are the laws.
 
 ghost use Rattle.std.specs.Prelude.{List, length, ℕ, ◌+◌, ◌≤◌};
-ghost use Rattle.law_moves.specs.Moves.{AreAllowedAtEnd, EndMove, end_started};
 ghost use Rattle.rh_server.specs.Servers.{acts, first, rules};
+ghost use Rattle.law_moves.specs.Moves.{AreAllowedAtEnd, EndMove, end_started};
 ghost use Rattle.law_role_server.specs.Counted.Counting.{in_came, is_in_r1_a6};
 ghost use Rattle.law_role_server_in.specs.Handovers.{TwoAreOpen, answers, passed};
 

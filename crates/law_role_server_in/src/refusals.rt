@@ -2,10 +2,10 @@
 //! nothing: its contract is the law.
 
 ghost use Rattle.std.specs.Prelude.{IsTrue, List, ℕ, ◌+◌, ◌≤◌};
-ghost use Rattle.law_moves.specs.Moves.{AreAllowedAtEnd, EndMove, all_end_moved, end_started};
-ghost use Rattle.law_role_server.specs.Order.{came_up};
 ghost use Rattle.rh_server.specs.States.{in_leg, is_some};
 ghost use Rattle.rh_server.specs.Servers.{acts, first, rules};
+ghost use Rattle.law_moves.specs.Moves.{AreAllowedAtEnd, EndMove, all_end_moved, end_started};
+ghost use Rattle.law_role_server.specs.Order.{came_up};
 ghost use Rattle.law_role_server.specs.Counted.Counting.{in_came, is_in_r2_a2};
 ghost use Rattle.law_role_server_in.specs.Handovers.{RefusesInR1A6};
 ghost use Rattle.law_role_server_in.specs.Refusing.{RefusesInFor, in_ups};

@@ -2,8 +2,8 @@
 //! is the law.
 
 ghost use Rattle.std.specs.Prelude.{List, ℕ};
-ghost use Rattle.law_moves.specs.Moves.{AreAllowedAtEnd, EndMove, all_end_moved, end_started};
 ghost use Rattle.rh_server.specs.Servers.{acts, first, rules};
+ghost use Rattle.law_moves.specs.Moves.{AreAllowedAtEnd, EndMove, all_end_moved, end_started};
 ghost use Rattle.law_role_server_rows.specs.Refusing.Refusing.{RefusesFor};
 
 use law_role_server::{a_server_opens_once, a_server_replaces_out_channels_one_by_one};

@@ -6,11 +6,12 @@ use Rattle.rh_line.specs.declared.cause.Cause.{Cause}
 use Rattle.rh_line.specs.declared.cause.Cause.TheVariants.{HttpRefused, LegBroken, LegEnded, Silent}
 use Rattle.rh_line.specs.declared.leg.Leg.{Leg}
 use Rattle.rh_line.specs.declared.leg.LegKind.TheVariants.{ClientIn, ClientOut, InServer, OutServer}
-use Rattle.rh_nodes.specs.Settling.{leg_at}
 use Rattle.rh_record.specs.declared.answer.Answer.TheVariants.{NodeClosed}
 use Rattle.rh_record.specs.declared.answer.Who.{Who}
 use Rattle.rh_record.specs.declared.line.Line.{Line}
 use Rattle.rh_record.specs.declared.line.Line.TheVariants.{First}
+use Rattle.rh_record.specs.Events.Order.{IsOrdered}
+use Rattle.rh_nodes.specs.Settling.{leg_at}
 use Rattle.law_node_history.specs.Closes.{IsOneOf, closings_of}
 use Rattle.rh_world.specs.declared.any_world.AnyWorld.{AnyWorld}
 use Rattle.rh_world.specs.declared.any_world.AnyWorld.TheVariants.{Before}
@@ -19,12 +20,11 @@ use Rattle.law_world_reports.specs.Bounded.{WindowsHold}
 use Rattle.law_world_reports.specs.Closed.Recordings.{IsLicensedIn, IsRefusedIn}
 use Rattle.law_world_reports.specs.Closed.Reports.{ShowsIn}
 use Rattle.law_world_reports.specs.Closed.Silences.{IsSilentIn}
-use Rattle.law_world_ways.specs.EndsInTime.Losses.{AllLoseInTime, loses_no_leg}
-use Rattle.rh_record.specs.Events.Order.{IsOrdered}
-use Rattle.law_world_ways.specs.ExactPaths.Exact.{KeepsAll}
 use Rattle.law_world_reports.specs.Naming.{NamesIt}
 use Rattle.law_world_reports.specs.Ordering.Counted.{CountsCapped}
 use Rattle.law_world_reports.specs.Ordering.Recordings.{OffersBehindFirst}
+use Rattle.law_world_ways.specs.EndsInTime.Losses.{AllLoseInTime, loses_no_leg}
+use Rattle.law_world_ways.specs.ExactPaths.Exact.{KeepsAll}
 use Rattle.law_world_ways.specs.OnPaths.Recordings.{KeepsWays}
 use Rattle.law_world_honest.specs.Refusals.Reported.{ReportsBreak}
 

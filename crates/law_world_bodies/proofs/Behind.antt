@@ -27,12 +27,12 @@ use Rattle.rh_shell.specs.declared.stage.Body.{Body}
 use Rattle.rh_shell.specs.declared.stage.Stage.{Stage}
 use Rattle.rh_shell.specs.declared.stage.Stage.TheVariants as stage
 use Rattle.rh_shell.specs.declared.stop.Stop.{Stop}
-use Rattle.law_moves.specs.Carrying.{is_deaf}
 use Rattle.rh_shell.specs.Hearing.{Turn, goes, stops, stop, stop_head, head_row, stage_of, begun_body, behind_head, behind_frame, row_by, close_row, one_more, is_zero, is_upward, is_ping, take_ping, take_packet, take_frame, is_greeting, heading, touched, with_intake, take as taken, hear_byte, hear, heard}
 use Rattle.rh_shell.specs.Intakes.{Intake, Came, Nothing, Head, Greeting, Frame, Over, on_byte, byte_by, text_by, frame_by, frame_byte, holds, behind, is_whole_head, is_whole_greeting, is_full, length_told, counted}
 use Rattle.rh_shell.specs.NearEnds.{NearEnd, first_stage}
 use Rattle.rh_shell.specs.Readings.{packet_of}
 use Rattle.rh_shell.specs.Rules.{Rules, Row}
+use Rattle.law_moves.specs.Carrying.{is_deaf}
 use Rattle.law_moves.specs.ReadBack.Reading.{IsWholeText}
 use Rattle.law_world_bodies.specs.Behind.{BodyIs, HasBody}
 

@@ -2,6 +2,7 @@
 use Rattle.std.proofs.Common.{◌≡◌, ◌⊎◌, inl, inr, ℕ, List, false, nat_le, Ok, Err, refl, sym, ap, ◌∙◌, subst}
 use Rattle.std.specs.Prelude.{IsTrue}
 use Rattle.std.specs.declared.result.Result.{Result}
+use Rattle.law_order.proofs.ByNumber.{by_test}
 use Rattle.rh_http.specs.declared.config.ClientConfig.{ClientConfig}
 use Rattle.rh_http.specs.declared.fault.HttpFault.{HttpFault}
 use Rattle.rh_http.specs.declared.response.Response.{Response}
@@ -10,12 +11,8 @@ use Rattle.rh_http.specs.Heads.Verdicts.{Asked, request_verdict, response_verdic
 use Rattle.rh_line.specs.declared.leg.Leg.{Leg}
 use Rattle.rh_line.specs.declared.leg.LegKind.{LegKind}
 use Rattle.rh_line.specs.declared.leg.LegKind.TheVariants.{ClientOut, OutServer, ClientIn, InServer}
-use Rattle.law_order.proofs.ByNumber.{by_test}
 use Rattle.rh_shell.specs.declared.answers.HeadRefused.{HeadRefused}
 use Rattle.rh_shell.specs.declared.answers.HeadTaken.{HeadTaken}
-use Rattle.rh_client.specs.Client as client
-use Rattle.law_role_client.specs.Legible.{IsConfig}
-use Rattle.rh_client.specs.Opening as client_opening
 use Rattle.rh_inproxy.specs.declared.opening.TheConstants.{ECHO_LENGTH}
 use Rattle.rh_inproxy.specs.Machine as in_proxy
 use Rattle.rh_inproxy.specs.Opening as in_opening
@@ -23,7 +20,10 @@ use Rattle.rh_inproxy.specs.State.{InProxy}
 use Rattle.rh_outproxy.specs.Machine as out_proxy
 use Rattle.rh_outproxy.specs.Opening as out_opening
 use Rattle.rh_outproxy.specs.OutProxy.{OutProxy}
+use Rattle.rh_client.specs.Client as client
+use Rattle.rh_client.specs.Opening as client_opening
 use Rattle.rh_server.specs.Servers as server
+use Rattle.law_role_client.specs.Legible.{IsConfig}
 use Rattle.law_world_order.specs.FirstTexts.{IsPort}
 use Rattle.law_world_order.proofs.FirstTexts.Requests.{request_asks}
 use Rattle.law_world_order.proofs.FirstTexts.Taken.{asked_for, in_asks}

@@ -12,8 +12,8 @@ use Rattle.rh_sig.specs.declared.name.Pipe.{Pipe}
 use Rattle.rh_sig.specs.declared.named.Named.{Named}
 use Rattle.rh_sig.specs.Naming.{named_bytes}
 use Rattle.rh_sig.specs.Values.{commands_of, parts_of}
-use Rattle.law_moves.specs.Carrying.{spelled}
 use Rattle.rh_shell.specs.Rules.{Message, Text, Pdu, Packet, spell}
+use Rattle.law_moves.specs.Carrying.{spelled}
 use Rattle.law_moves.specs.Legible.Legible.{MayGo, MayGoOn}
 
 -- ---- of commands

@@ -6,13 +6,13 @@ use Rattle.rh_line.specs.declared.leg.Leg.{Leg}
 use Rattle.rh_shell.specs.declared.course.Course.TheVariants.{Going}
 use Rattle.rh_shell.specs.declared.rooms.Rooms.{Rooms}
 use Rattle.rh_shell.specs.declared.stage.Stage.{Stage}
-use Rattle.law_moves.specs.Moving as moving
-use Rattle.law_moves.specs.Moving.{Event, EndEvent, after_event, after_events, after_end_event, after_end_events}
 use Rattle.rh_shell.specs.NearEnds.{NearEnd, is_over}
 use Rattle.rh_shell.specs.Rules.{Rules, Acts}
 use Rattle.rh_shell.specs.Shells.{Shell, begun, end_at}
-use Rattle.law_node_history.specs.Carried.{AreAccepted, AreAcceptedAtEnd, ComesUpOnce, ComesUpOnceAtEnd, happened, heard_on}
+use Rattle.law_moves.specs.Moving as moving
+use Rattle.law_moves.specs.Moving.{Event, EndEvent, after_event, after_events, after_end_event, after_end_events}
 use Rattle.law_moves.specs.ReadBack.Reading.{begin, reading, reading_after}
+use Rattle.law_node_history.specs.Carried.{AreAccepted, AreAcceptedAtEnd, ComesUpOnce, ComesUpOnceAtEnd, happened, heard_on}
 use Rattle.law_node_streams.specs.Streams.{EndStream, HasPipes, HearsInTurn, NeverRefuses, StaysUnused, StaysUnusedAtEnd, Stream, is_live}
 use Rattle.law_node_streams.proofs.Streams.Heads.{waited}
 use Rattle.law_world_order.proofs.Flowing.{EndStreams, NodeStreams}

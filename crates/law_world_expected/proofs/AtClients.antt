@@ -4,14 +4,21 @@ use Rattle.std.proofs.Common.{◌≡◌, ℕ, List, refl, sym, ◌∙◌, subst}
 use Rattle.std.specs.Prelude.{Some, None}
 use Rattle.rh_text.specs.declared.ends.Dir.{Dir}
 use Rattle.rh_text.specs.declared.ends.Dir.TheVariants.{U, D}
+use Rattle.rh_sig.specs.declared.name.Pipe.TheVariants.{CoU}
+use Rattle.rh_http.specs.declared.config.ClientConfig.{ClientConfig}
 use Rattle.rh_line.specs.declared.cause.Cause.{Cause}
 use Rattle.rh_line.specs.declared.leg.Leg.{Leg}
 use Rattle.rh_line.specs.declared.leg.LegKind.TheVariants.{ClientOut}
 use Rattle.rh_record.specs.declared.answer.Who.TheVariants as who
 use Rattle.rh_shell.specs.declared.answers.Refused.{Refused}
-use Rattle.law_moves.specs.Moves.{EndPassage}
 use Rattle.rh_shell.specs.Shells.{Shell}
-use Rattle.law_moves.specs.Wires.{of_leg}
+use Rattle.rh_shell.specs.Shells.{end_at}
+use Rattle.rh_inproxy.specs.State.{InProxy}
+use Rattle.rh_outproxy.specs.Machine as out_proxy
+use Rattle.rh_outproxy.specs.OutProxy.{OutProxy}
+use Rattle.rh_client.specs.declared.state.ClientRole.{ClientRole}
+use Rattle.rh_client.specs.State.{co}
+use Rattle.rh_server.specs.States.{Server}
 use Rattle.rh_nodes.specs.declared.event.Event.{Event}
 use Rattle.rh_nodes.specs.declared.event.Event.TheVariants.{Comes}
 use Rattle.rh_nodes.specs.declared.place.Place.{Place}
@@ -22,35 +29,28 @@ use Rattle.rh_nodes.specs.Opening.{Makers}
 use Rattle.rh_nodes.specs.Places as places
 use Rattle.rh_nodes.specs.Wires.{receiver}
 use Rattle.rh_nodes.specs.World.{World, at}
-use Rattle.rh_client.specs.declared.state.ClientRole.{ClientRole}
-use Rattle.rh_client.specs.State.{co}
-use Rattle.rh_inproxy.specs.State.{InProxy}
-use Rattle.rh_outproxy.specs.Machine as out_proxy
-use Rattle.rh_outproxy.specs.OutProxy.{OutProxy}
-use Rattle.rh_server.specs.States.{Server}
-use Rattle.law_node_causes.specs.Closings.{ClosesWith}
+use Rattle.law_moves.specs.Moves.{EndPassage}
+use Rattle.law_moves.specs.Wires.{of_leg}
+use Rattle.law_moves.specs.ReadBack.Reading.{all_read_of}
+use Rattle.law_moves.specs.Moves.{EndMove}
+use Rattle.law_role_client.specs.Order.{AreAllowedMoves, client_moved}
 use Rattle.law_node_history.specs.Changes.{Change, IsFed, MayChange}
 use Rattle.law_node_history.specs.Closes.{ClosesNode}
 use Rattle.law_node_history.specs.Histories.{out_place}
 use Rattle.law_node_history.proofs.Numbers.{answered}
-use Rattle.law_moves.specs.ReadBack.Reading.{all_read_of}
+use Rattle.law_node_causes.specs.Closings.{ClosesWith}
+use Rattle.law_role_client_rows.specs.InTurn.Pings.{BeginsWithoutPing}
+use Rattle.law_peers_moments.specs.Expecting.{Expects, HasNoPingFirst, IsAmiss}
 use Rattle.law_node_traces.specs.Traced.Cookies.{ByChanges}
 use Rattle.law_node_traces.specs.Traced.Ours.{AreOurs, deeds, rules}
+use Rattle.law_world_order.proofs.Legs.{Reads}
 use Rattle.law_world_honest.specs.Honesty.Honest.{well_on}
 use Rattle.law_world_honest.proofs.Honesty.Closing.{IsOfPiece, by_fed}
 use Rattle.law_world_honest.proofs.Honesty.Fed.{told_what, told_who}
 use Rattle.law_world_windows.proofs.Moment.{Laws, well_behind}
 use Rattle.law_world_windows.proofs.Stopping.{Readings}
-use Rattle.law_world_order.proofs.Legs.{Reads}
-use Rattle.law_peers_moments.specs.Expecting.{Expects, HasNoPingFirst, IsAmiss}
 use Rattle.law_world_expected.specs.Amiss.{amiss_by}
 use Rattle.law_world_expected.proofs.Amiss.Next.{never_amiss}
-use Rattle.rh_http.specs.declared.config.ClientConfig.{ClientConfig}
-use Rattle.rh_sig.specs.declared.name.Pipe.TheVariants.{CoU}
-use Rattle.law_moves.specs.Moves.{EndMove}
-use Rattle.rh_shell.specs.Shells.{end_at}
-use Rattle.law_role_client.specs.Order.{AreAllowedMoves, client_moved}
-use Rattle.law_role_client_rows.specs.InTurn.Pings.{BeginsWithoutPing}
 use Rattle.law_world_expected.proofs.Amiss.AtNodes.{RolesKnow, out_amiss}
 use Rattle.law_world_expected.proofs.Amiss.Moments.{AllFlow, flowing, out_shell}
 use Rattle.law_world_expected.specs.Roles.{OutsServe}

@@ -12,10 +12,17 @@ use Rattle.rh_line.specs.declared.leg.LegKind.TheVariants.{ClientOut, OutServer,
 use Rattle.rh_record.specs.declared.answer.Who.{Who}
 use Rattle.rh_record.specs.declared.answer.Who.TheVariants as who
 use Rattle.rh_shell.specs.declared.answers.Refused.{Refused}
-use Rattle.law_moves.specs.Moves.{EndPassage, Passage}
 use Rattle.rh_shell.specs.Rules.{Rules}
 use Rattle.rh_shell.specs.Shells.{Shell}
-use Rattle.law_moves.specs.Wires.{of_leg}
+use Rattle.rh_inproxy.specs.Machine as in_proxy
+use Rattle.rh_inproxy.specs.State.{InProxy}
+use Rattle.rh_outproxy.specs.Machine as out_proxy
+use Rattle.rh_outproxy.specs.OutProxy.{OutProxy}
+use Rattle.rh_client.specs.declared.state.ClientRole.{ClientRole}
+use Rattle.rh_client.specs.Client as client
+use Rattle.rh_client.specs.State.{ci, co}
+use Rattle.rh_server.specs.Servers as server
+use Rattle.rh_server.specs.States.{Server}
 use Rattle.rh_nodes.specs.declared.event.Event.{Event}
 use Rattle.rh_nodes.specs.declared.event.Event.TheVariants.{Comes}
 use Rattle.rh_nodes.specs.declared.place.Place.{Place}
@@ -28,40 +35,33 @@ use Rattle.rh_nodes.specs.Readers.{reader_of}
 use Rattle.rh_nodes.specs.Settling.{leg_at}
 use Rattle.rh_nodes.specs.Wires.{receiver}
 use Rattle.rh_nodes.specs.World.{World, at}
-use Rattle.rh_client.specs.declared.state.ClientRole.{ClientRole}
-use Rattle.rh_client.specs.Client as client
-use Rattle.rh_client.specs.State.{ci, co}
-use Rattle.rh_inproxy.specs.Machine as in_proxy
-use Rattle.rh_inproxy.specs.State.{InProxy}
-use Rattle.rh_outproxy.specs.Machine as out_proxy
-use Rattle.rh_outproxy.specs.OutProxy.{OutProxy}
-use Rattle.rh_server.specs.Servers as server
-use Rattle.rh_server.specs.States.{Server}
-use Rattle.law_node_causes.specs.Closings.{ClosesWith, MayClose}
+use Rattle.law_moves.specs.Moves.{EndPassage, Passage}
+use Rattle.law_moves.specs.Wires.{of_leg}
+use Rattle.law_moves.specs.ReadBack.Reading.{all_read_of}
 use Rattle.law_node_history.specs.Changes.{Change, IsFed, MayChange}
 use Rattle.law_node_history.specs.Closes.{ClosesNode}
 use Rattle.law_node_history.specs.Histories.{in_place, out_place}
 use Rattle.law_node_history.proofs.Numbers.{answered}
-use Rattle.law_moves.specs.ReadBack.Reading.{all_read_of}
+use Rattle.law_node_causes.specs.Closings.{ClosesWith, MayClose}
+use Rattle.law_node_causes.specs.Reasons.{ComesAmiss}
+use Rattle.law_peers_moments.specs.Expecting.{Expects, HasNoPingFirst, IsAmiss}
+use Rattle.law_peers_moments.specs.Moments.{Moves, Numbers, in_behind, out_behind, server_behind}
 use Rattle.law_node_traces.specs.Traced.Cookies.{ByChanges}
 use Rattle.law_node_traces.specs.Traced.Ours.{AreOurs, deeds, rules}
 use Rattle.law_node_traces.specs.Traced.Recordings.{history_at}
 use Rattle.law_world_order.specs.Flows.{IsFlowing, numbers_of}
-use Rattle.law_node_causes.specs.Reasons.{ComesAmiss}
+use Rattle.law_world_order.proofs.Legs.{Reads}
+use Rattle.law_world_order.specs.Pasts.{moves_of, numbers}
 use Rattle.law_world_honest.specs.Honesty.Honest.{well_on}
 use Rattle.law_world_honest.proofs.Honesty.Closing.{EachComes, IsOfPiece, by_fed}
 use Rattle.law_world_honest.proofs.Honesty.Fed.{told_what, told_who}
 use Rattle.law_world_windows.specs.Hops.{is_leg, os_leg}
 use Rattle.law_world_windows.proofs.Moment.{Laws, NodeLaws, well_behind}
 use Rattle.law_world_windows.proofs.Stopping.{Readings}
-use Rattle.law_world_order.proofs.Legs.{Reads}
-use Rattle.law_peers_moments.specs.Expecting.{Expects, HasNoPingFirst, IsAmiss}
-use Rattle.law_peers_moments.specs.Moments.{Moves, Numbers, in_behind, out_behind, server_behind}
 use Rattle.law_world_expected.specs.Amiss.{amiss_by}
 use Rattle.law_world_expected.proofs.Amiss.AtNodes.{RolesKnow, in_next, out_next, server_next}
 use Rattle.law_world_expected.proofs.Amiss.Moments.{AllFlow, OfStreams, flowing, flows, story, world}
 use Rattle.law_world_expected.proofs.Amiss.Next.{never_amiss}
-use Rattle.law_world_order.specs.Pasts.{moves_of, numbers}
 use Rattle.law_world_expected.proofs.Facts.{IsKept}
 use Rattle.law_world_expected.specs.Roles.{Facts, InExpectsClient, InExpectsServer, OutExpectsClient, OutExpectsServer, Premise, ServerExpectsIn, ServerExpectsOut}
 

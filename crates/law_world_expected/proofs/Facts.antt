@@ -6,36 +6,36 @@ use Rattle.rh_text.specs.declared.ends.Side.TheVariants as side
 use Rattle.rh_rts.specs.declared.command.Cookie.{Cookie}
 use Rattle.rh_line.specs.declared.leg.Leg.{Leg}
 use Rattle.rh_record.specs.declared.answer.Who.TheVariants as who
-use Rattle.law_moves.specs.Moving.{Event, Hears, after_end_events}
 use Rattle.rh_shell.specs.Rules.{Message, Text, Pdu, Packet}
 use Rattle.rh_shell.specs.Shells.{Shell}
+use Rattle.rh_inproxy.specs.State.{InProxy}
+use Rattle.rh_outproxy.specs.OutProxy.{OutProxy}
+use Rattle.rh_client.specs.declared.state.ClientRole.{ClientRole}
+use Rattle.rh_client.specs.State.{ci}
+use Rattle.rh_server.specs.States.{Server, no_cookie}
 use Rattle.rh_nodes.specs.Halves.{is_same}
 use Rattle.rh_nodes.specs.Legs as legs
 use Rattle.rh_nodes.specs.Opening.{Makers}
 use Rattle.rh_nodes.specs.Readers.{reader_of}
 use Rattle.rh_nodes.specs.Wires.{receiver}
 use Rattle.rh_nodes.specs.World.{World, at}
-use Rattle.rh_client.specs.declared.state.ClientRole.{ClientRole}
-use Rattle.rh_client.specs.State.{ci}
-use Rattle.law_role_client_rows.specs.InTurn.Pings as client_turns
-use Rattle.rh_inproxy.specs.State.{InProxy}
-use Rattle.rh_outproxy.specs.OutProxy.{OutProxy}
-use Rattle.rh_server.specs.States.{Server, no_cookie}
+use Rattle.law_moves.specs.Moving.{Event, Hears, after_end_events}
+use Rattle.law_moves.specs.Passages.Rising.{CameUpWith}
 use Rattle.law_node_history.specs.Carried.{IsTraced, end_node, happened}
 use Rattle.law_node_history.specs.Changes.{IsFed, Leads, MayChange, changed}
 use Rattle.law_node_history.specs.Histories.{History, noted, nothing, told_to}
 use Rattle.law_node_history.proofs.Appended.{happened_more}
 use Rattle.law_node_history.proofs.Working.{works_more}
-use Rattle.law_moves.specs.Passages.Rising.{CameUpWith}
+use Rattle.law_role_client_rows.specs.InTurn.Pings as client_turns
+use Rattle.law_peers_moments.specs.Expecting.{HasNoPingFirst}
+use Rattle.law_peers_expects.specs.InProxyExpects.Expected.{AreReadWhereUp}
 use Rattle.law_node_traces.specs.Traced.Cookies.{ByChanges}
 use Rattle.law_node_traces.specs.Traced.Ours.{AreOurs, deeds, rules}
 use Rattle.law_node_traces.specs.Traced.Recordings.{IsKnown, history_at}
 use Rattle.law_world_order.specs.Flows.{IsFlowing, numbers_of}
-use Rattle.law_world_windows.proofs.Moment.{noted_append}
 use Rattle.law_world_order.specs.Premises.{AreDistinct}
-use Rattle.law_peers_expects.specs.InProxyExpects.Expected.{AreReadWhereUp}
-use Rattle.law_peers_moments.specs.Expecting.{HasNoPingFirst}
 use Rattle.law_world_order.specs.Pasts.{moves_of}
+use Rattle.law_world_windows.proofs.Moment.{noted_append}
 use Rattle.law_world_expected.specs.Roles.{HaveCookies, IsByLines, OfClient, Premise}
 
 -- no Ping goes first, as is said in either crate

@@ -6,20 +6,20 @@ use Rattle.std.proofs.lemmas.Bool.{true≢false, eqb-true}
 use Rattle.rh_line.specs.declared.leg.Leg.{Leg}
 use Rattle.rh_line.specs.declared.leg.LegKind.{LegKind}
 use Rattle.rh_line.specs.declared.leg.LegKind.TheVariants.{ClientIn, ClientOut, InServer, OutServer}
-use Rattle.law_moves.specs.Moves.{EndMove, Moves, Gives, Takes, Closes, Recycles, Up, HeadCame, PduCame, PacketCame, Puts, IsDrawn, Marks, Pings}
 use Rattle.rh_shell.specs.Shells.{is_of, same_leg}
+use Rattle.rh_inproxy.specs.State.{InProxy}
+use Rattle.rh_outproxy.specs.OutProxy.{OutProxy}
+use Rattle.rh_client.specs.declared.state.ClientRole.{ClientRole}
+use Rattle.rh_client.specs.State.{ci}
+use Rattle.rh_server.specs.States.{Server}
 use Rattle.rh_nodes.specs.Opening.{Makers}
 use Rattle.rh_nodes.specs.Places.{is_absent}
 use Rattle.rh_nodes.specs.Readers.{reader_of}
 use Rattle.rh_nodes.specs.Settling.{leg_at}
 use Rattle.rh_nodes.specs.World.{World}
-use Rattle.rh_client.specs.declared.state.ClientRole.{ClientRole}
-use Rattle.rh_client.specs.State.{ci}
-use Rattle.rh_inproxy.specs.State.{InProxy}
-use Rattle.rh_outproxy.specs.OutProxy.{OutProxy}
-use Rattle.law_role_server.specs.Order.{came_up, is_up}
-use Rattle.rh_server.specs.States.{Server}
+use Rattle.law_moves.specs.Moves.{EndMove, Moves, Gives, Takes, Closes, Recycles, Up, HeadCame, PduCame, PacketCame, Puts, IsDrawn, Marks, Pings}
 use Rattle.law_moves.specs.Passages.Rising.{WasUp}
+use Rattle.law_role_server.specs.Order.{came_up, is_up}
 use Rattle.law_node_history.specs.Changes.{Leads, of_line}
 use Rattle.law_node_history.specs.Histories.{History}
 use Rattle.law_node_history.proofs.Connecting.{or_right}
@@ -30,10 +30,10 @@ use Rattle.law_node_traces.specs.Traced.Numbers.{ComeUpByLines, is_made}
 use Rattle.law_node_traces.specs.Traced.Ours.{AreOurs, deeds, rules}
 use Rattle.law_node_traces.specs.Traced.Recordings.{IsKnown, history_at}
 use Rattle.law_node_traces.proofs.Traced.ByChanges.{lines_by_changes}
-use Rattle.law_world_order.specs.Flows.{IsFlowing, numbers_of}
-use Rattle.law_world_windows.specs.Hops.{is_leg}
 use Rattle.law_peers_in_channels.specs.InSuccessors.Connected.{AreConnected}
+use Rattle.law_world_order.specs.Flows.{IsFlowing, numbers_of}
 use Rattle.law_world_order.specs.Pasts.{moves_of}
+use Rattle.law_world_windows.specs.Hops.{is_leg}
 use Rattle.law_world_expected.specs.Roles.{IsByLines}
 
 -- ---- legs that come up by the moves of an end

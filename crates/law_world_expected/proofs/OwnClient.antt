@@ -10,8 +10,12 @@ use Rattle.rh_line.specs.declared.cause.Cause.TheVariants as cause
 use Rattle.rh_line.specs.declared.leg.Leg.{Leg}
 use Rattle.rh_record.specs.declared.answer.Who.TheVariants as who
 use Rattle.rh_shell.specs.declared.answers.Refused.TheVariants as refused
-use Rattle.law_moves.specs.Moves.{EndPassage, Passage}
-use Rattle.law_moves.specs.Wires.{of_leg}
+use Rattle.rh_inproxy.specs.State.{InProxy}
+use Rattle.rh_outproxy.specs.OutProxy.{OutProxy}
+use Rattle.rh_client.specs.declared.state.ClientRole.{ClientRole}
+use Rattle.rh_client.specs.Client as client
+use Rattle.rh_client.specs.State.{co}
+use Rattle.rh_server.specs.States.{Server}
 use Rattle.rh_nodes.specs.declared.event.Event.{Event}
 use Rattle.rh_nodes.specs.declared.event.Event.TheVariants.{Comes}
 use Rattle.rh_nodes.specs.Company as company
@@ -19,35 +23,31 @@ use Rattle.rh_nodes.specs.Legs as legs
 use Rattle.rh_nodes.specs.Opening.{Makers}
 use Rattle.rh_nodes.specs.Wires.{receiver}
 use Rattle.rh_nodes.specs.World.{World, at}
-use Rattle.rh_client.specs.declared.state.ClientRole.{ClientRole}
-use Rattle.rh_client.specs.Client as client
-use Rattle.rh_client.specs.State.{co}
-use Rattle.rh_inproxy.specs.State.{InProxy}
-use Rattle.rh_outproxy.specs.OutProxy.{OutProxy}
-use Rattle.rh_server.specs.States.{Server}
-use Rattle.law_node_causes.specs.Closings.{ClosesWith}
-use Rattle.law_node_causes.specs.Reasons.{ComesAmiss}
+use Rattle.law_moves.specs.Moves.{EndPassage, Passage}
+use Rattle.law_moves.specs.Wires.{of_leg}
+use Rattle.law_moves.specs.ReadBack.Reading.{all_read_of}
+use Rattle.law_moves.specs.ReadBack.Well.{ReadsWell, is_named}
 use Rattle.law_node_history.specs.Carried.{end_node, events_of, happened, heard_on}
 use Rattle.law_node_history.specs.Changes.{Change, IsFed, MayChange, changed}
 use Rattle.law_node_history.specs.Closes.{ClosesNode}
 use Rattle.law_node_history.specs.Histories.{noted}
-use Rattle.law_moves.specs.ReadBack.Reading.{all_read_of}
-use Rattle.law_moves.specs.ReadBack.Well.{ReadsWell, is_named}
+use Rattle.law_node_causes.specs.Closings.{ClosesWith}
+use Rattle.law_node_causes.specs.Reasons.{ComesAmiss}
+use Rattle.law_peers_moments.specs.Expecting.{Expects}
+use Rattle.law_peers_moments.specs.Moments.{Moves, client_behind}
 use Rattle.law_node_traces.specs.Traced.Cookies.{ByChanges}
 use Rattle.law_node_traces.specs.Traced.Ours.{AreOurs, deeds, rules}
 use Rattle.law_node_traces.specs.Traced.Recordings.{history_at}
+use Rattle.law_world_order.proofs.Legs.{Reads}
+use Rattle.law_world_order.specs.Premises.{AreDistinct}
+use Rattle.law_world_order.specs.Pasts.{moves_of, numbers}
 use Rattle.law_world_honest.proofs.Honesty.Closing.{by_fed}
 use Rattle.law_world_honest.proofs.Honesty.Fed.{told_what, told_who}
 use Rattle.law_world_windows.proofs.Moment.{Laws, known}
 use Rattle.law_world_windows.proofs.Stopping.{Readings}
-use Rattle.law_world_order.proofs.Legs.{Reads}
-use Rattle.law_world_order.specs.Premises.{AreDistinct}
-use Rattle.law_peers_moments.specs.Expecting.{Expects}
-use Rattle.law_peers_moments.specs.Moments.{Moves, client_behind}
 use Rattle.law_world_expected.proofs.Amiss.AtNodes.{ClientKnows, RolesKnow, client_next}
 use Rattle.law_world_expected.proofs.Amiss.Moments.{AllFlow, flowing}
 use Rattle.law_world_expected.proofs.Amiss.Next.{never_amiss}
-use Rattle.law_world_order.specs.Pasts.{moves_of, numbers}
 use Rattle.law_world_expected.specs.Roles.{ClientExpects, OfClient}
 use Rattle.law_world_expected.proofs.Closing.{AtMoment, NodesLaws}
 use Rattle.law_world_expected.proofs.Facts.{came_before, distinct_of_cookies}

@@ -4,20 +4,20 @@ use Rattle.std.proofs.Common.{◌≡◌, ◌<◌, inl, inr, arith, true, List, [
 use Rattle.std.specs.List.{list_all}
 use Rattle.std.proofs.lemmas.Bool.{and_parts}
 use Rattle.std.proofs.lemmas.List.Folds.{list_all-append}
-use Rattle.rh_line.specs.declared.cause.Cause.{Cause}
 use Rattle.rh_rts.specs.declared.command.Cookie.{Cookie}
+use Rattle.rh_line.specs.declared.cause.Cause.{Cause}
 use Rattle.rh_line.specs.declared.leg.Leg.{Leg}
-use Rattle.law_moves.specs.Moving.{Event}
-use Rattle.rh_client.specs.State.{co}
-use Rattle.rh_server.specs.States.{no_cookie}
-use Rattle.law_moves.specs.Passages.Rising.{CameUpWith}
 use Rattle.rh_record.specs.declared.answer.Who.{Who}
 use Rattle.rh_record.specs.declared.line.Line.{Line}
+use Rattle.rh_client.specs.State.{co}
+use Rattle.rh_server.specs.States.{no_cookie}
 use Rattle.rh_nodes.specs.Company.{Rulebook}
 use Rattle.rh_nodes.specs.Giving.{Deeds}
 use Rattle.rh_nodes.specs.Opening.{Makers}
 use Rattle.rh_nodes.specs.Steps.{step, step_line}
 use Rattle.rh_nodes.specs.World.{World}
+use Rattle.law_moves.specs.Moving.{Event}
+use Rattle.law_moves.specs.Passages.Rising.{CameUpWith}
 use Rattle.law_node_history.specs.Carried.{happened}
 use Rattle.law_node_history.specs.Changes.{AreAllowed, ByLines, Change, MayChange, all_changed, changed, is_work, of_line}
 use Rattle.law_node_history.specs.Closes.{ClosesNode}
@@ -32,13 +32,13 @@ use Rattle.rh_world.specs.Any.{act, after, prepared}
 use Rattle.rh_world.specs.declared.config.WorldConfig.{WorldConfig}
 use Rattle.rh_world.specs.Config as config_ranges
 use Rattle.rh_world.specs.Roles as roles
+use Rattle.law_node_traces.specs.Traced.Cookies.{ByChanges}
+use Rattle.law_node_traces.proofs.Traced.ByChanges.{lines_by_changes}
 use Rattle.law_world_reports.proofs.Bounded.Reached.{IsRecorded, behind_lines, prepared_is_recorded, reached_draws}
 use Rattle.law_world_reports.specs.Closed.Licences.{IsLicensed, midst}
 use Rattle.law_world_reports.specs.Closed.Recordings.{IsLicensedIn}
 use Rattle.law_world_reports.proofs.Closed.Refused.{leads_midst}
 use Rattle.law_world_reports.proofs.Closed.Showing.{shown_draws}
-use Rattle.law_node_traces.specs.Traced.Cookies.{ByChanges}
-use Rattle.law_node_traces.proofs.Traced.ByChanges.{lines_by_changes}
 use Rattle.law_world_order.specs.Flows.{numbers_of}
 use Rattle.law_world_order.specs.Premises.{AreInRange, AreLeftIn}
 use Rattle.law_world_order.proofs.Recorded.{in_range, ours}

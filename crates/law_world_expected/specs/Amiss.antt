@@ -11,8 +11,8 @@ use Rattle.rh_shell.specs.declared.answers.Count.{Count}
 use Rattle.rh_shell.specs.declared.answers.Refused.{Refused}
 use Rattle.rh_shell.specs.declared.answers.Refused.TheVariants as refused
 use Rattle.rh_shell.specs.Hearing.{is_upward}
-use Rattle.law_moves.specs.Moves.{Passage, is_in_use}
 use Rattle.rh_shell.specs.Rules.{Message, Text, Pdu, Packet, Rules}
+use Rattle.law_moves.specs.Moves.{Passage, is_in_use}
 use Rattle.law_moves.specs.Wires.{of_leg}
 use Rattle.law_moves.specs.ReadBack.Reading.{all_read_of}
 use Rattle.law_moves.specs.Passages.Counted.{Tells, packets}

@@ -2,28 +2,30 @@
 use Rattle.std.specs.Prelude.{◌≡◌, ◌≤◌, ℕ, List, Some}
 use Rattle.rh_shell.specs.declared.course.Course.TheVariants.{Going}
 use Rattle.rh_shell.specs.declared.stage.Stage.TheVariants as stage
-use Rattle.law_moves.specs.Moving.{Event, after_events}
 use Rattle.rh_shell.specs.NearEnds.{NearEnd}
 use Rattle.rh_shell.specs.Shells.{begun, end_at}
-use Rattle.law_moves.specs.Wires.{of_leg}
-use Rattle.rh_nodes.specs.Opening.{Makers}
-use Rattle.rh_nodes.specs.Readers.{reader_of}
-use Rattle.rh_nodes.specs.World.{World}
-use Rattle.rh_client.specs.declared.state.ClientRole.{ClientRole}
-use Rattle.rh_client.specs.Client as client
-use Rattle.rh_client.specs.State.{ci, co}
 use Rattle.rh_inproxy.specs.Machine as in_proxy
 use Rattle.rh_inproxy.specs.State.{InProxy}
 use Rattle.rh_outproxy.specs.declared.out_proxy.TheConstants.{ROOMS}
 use Rattle.rh_outproxy.specs.Machine as out_proxy
 use Rattle.rh_outproxy.specs.OutProxy.{OutProxy, new_proxy}
+use Rattle.rh_client.specs.declared.state.ClientRole.{ClientRole}
+use Rattle.rh_client.specs.Client as client
+use Rattle.rh_client.specs.State.{ci, co}
 use Rattle.rh_server.specs.Servers as server
 use Rattle.rh_server.specs.States.{Server, no_cookie}
+use Rattle.rh_nodes.specs.Opening.{Makers}
+use Rattle.rh_nodes.specs.Readers.{reader_of}
+use Rattle.rh_nodes.specs.World.{World}
+use Rattle.law_moves.specs.Moving.{Event, after_events}
+use Rattle.law_moves.specs.Wires.{of_leg}
+use Rattle.law_moves.specs.Passages.Rising.{CameUpWith}
+use Rattle.law_moves.specs.ReadBack.Reading.{all_read_of}
 use Rattle.law_node_history.specs.Carried.{happened}
 use Rattle.law_node_history.specs.Changes.{ByLines}
 use Rattle.law_node_history.specs.Histories.{History, IsNew}
-use Rattle.law_moves.specs.Passages.Rising.{CameUpWith}
-use Rattle.law_moves.specs.ReadBack.Reading.{all_read_of}
+use Rattle.law_peers_moments.specs.Expecting.{Expects, HasNoPingFirst}
+use Rattle.law_peers_moments.specs.Moments.{Moves, Numbers, client_behind, in_behind, out_behind, server_behind}
 use Rattle.law_node_traces.specs.Traced.Cookies.{ByChanges}
 use Rattle.law_node_traces.specs.Traced.Ours.{AreOurs, deeds, rules}
 use Rattle.law_node_traces.specs.Traced.Recordings.{history_at}
@@ -31,10 +33,8 @@ use Rattle.law_world_order.specs.Flows as fifo
 use Rattle.law_world_order.specs.Flows.{IsFlowing}
 use Rattle.law_world_order.specs.Premises.{AreDistinct, AreInRange}
 use Rattle.law_world_order.specs.FirstTexts.{IsPort}
-use Rattle.law_world_windows.specs.Hops.{is_leg, os_leg}
 use Rattle.law_world_order.specs.Pasts.{moves_of, numbers}
-use Rattle.law_peers_moments.specs.Expecting.{Expects, HasNoPingFirst}
-use Rattle.law_peers_moments.specs.Moments.{Moves, Numbers, client_behind, in_behind, out_behind, server_behind}
+use Rattle.law_world_windows.specs.Hops.{is_leg, os_leg}
 
 -- ---- what the roles expect at each
 

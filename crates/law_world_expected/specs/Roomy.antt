@@ -6,19 +6,19 @@ use Rattle.rh_line.specs.declared.leg.LegKind.{LegKind}
 use Rattle.rh_line.specs.declared.leg.Leg.{Leg}
 use Rattle.rh_shell.specs.declared.answers.Count.{Count}
 use Rattle.rh_shell.specs.declared.answers.Refused.TheVariants as refused
-use Rattle.law_moves.specs.Moves.{Passage, is_in_use}
 use Rattle.rh_shell.specs.Rules.{Message, Packet, Row, Rules}
-use Rattle.law_moves.specs.Wires.{of_leg}
-use Rattle.rh_nodes.specs.Settling.{leg_at}
-use Rattle.rh_client.specs.State.{ci}
 use Rattle.rh_inproxy.specs.Machine as in_proxy
 use Rattle.rh_outproxy.specs.Machine as out_proxy
+use Rattle.rh_client.specs.State.{ci}
 use Rattle.rh_server.specs.Servers as server
+use Rattle.rh_nodes.specs.Settling.{leg_at}
+use Rattle.law_moves.specs.Moves.{Passage, is_in_use}
+use Rattle.law_moves.specs.Wires.{of_leg}
 use Rattle.law_moves.specs.Passages.Counted.{Tells, packets}
 use Rattle.law_moves.specs.ReadBack.Reading.{all_read_of}
-use Rattle.law_world_windows.specs.Hops.{is_leg, os_leg}
 use Rattle.law_peers_moments.specs.Expecting.{IsAhead}
 use Rattle.law_peers_moments.specs.Moments.{Moves, Numbers, client_behind, in_behind, out_behind, server_behind}
+use Rattle.law_world_windows.specs.Hops.{is_leg, os_leg}
 
 -- ---- rows
 

@@ -3,20 +3,20 @@
 
 ghost use Rattle.std.specs.Prelude.{◌≡◌, true};
 ghost use Rattle.std.specs.List.{list_all};
+ghost use Rattle.rh_inproxy.specs.State.{InProxy};
+ghost use Rattle.rh_outproxy.specs.OutProxy.{OutProxy};
+ghost use Rattle.rh_client.specs.declared.state.ClientRole.{ClientRole};
+ghost use Rattle.rh_server.specs.States.{Server};
 ghost use Rattle.rh_nodes.specs.Opening.{Makers};
 ghost use Rattle.rh_nodes.specs.Readers.{reader_of};
 ghost use Rattle.rh_nodes.specs.World.{World};
-ghost use Rattle.rh_client.specs.declared.state.ClientRole.{ClientRole};
-ghost use Rattle.rh_inproxy.specs.State.{InProxy};
-ghost use Rattle.rh_outproxy.specs.OutProxy.{OutProxy};
-ghost use Rattle.rh_server.specs.States.{Server};
 ghost use Rattle.law_node_history.specs.Changes.{of_line};
 ghost use Rattle.law_node_history.specs.Histories.{IsNew};
 ghost use Rattle.law_node_traces.specs.Traced.Cookies.{ByChanges};
 ghost use Rattle.law_node_traces.specs.Traced.Ours.{AreOurs, deeds, rules};
 ghost use Rattle.law_node_traces.specs.Traced.Recordings.{history_at};
-ghost use Rattle.law_world_order.specs.Flows.{IsFlowing, numbers_of};
 ghost use Rattle.law_peers_in_channels.specs.InSuccessors.Connected.{AreConnected};
+ghost use Rattle.law_world_order.specs.Flows.{IsFlowing, numbers_of};
 ghost use Rattle.law_world_order.specs.Pasts.{moves_of};
 
 use law_node_traces::{

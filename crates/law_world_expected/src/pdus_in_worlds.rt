@@ -1,8 +1,8 @@
 //! The RPC PDUs that in proxies put in a world of roles. This function calls the laws that it
 //! stands on: its contract is the law.
 
-ghost use Rattle.law_world_expected.specs.PdusInWorlds.{PassInTurn};
 ghost use Rattle.law_world_order.specs.Premises.{AtEachMoment, InNewWorlds};
+ghost use Rattle.law_world_expected.specs.PdusInWorlds.{PassInTurn};
 
 use law_peers_in_channels::{
     an_in_proxy_holds_back_pdus_of_a_successor, pdus_of_a_successor_come_behind_its_handover,

@@ -14,8 +14,8 @@ ghost use Rattle.law_node_history.specs.Closes.{ClosesNode};
 ghost use Rattle.law_node_traces.specs.Traced.Ours.{rules};
 ghost use Rattle.law_node_traces.specs.Traced.Recordings.{history_at};
 ghost use Rattle.law_world_order.specs.Premises.{AreDistinct, AtEachMoment, InNewWorlds};
-ghost use Rattle.law_world_windows.specs.Hops.{is_leg, os_leg};
 ghost use Rattle.law_world_order.specs.FirstTexts.{IsPort};
+ghost use Rattle.law_world_windows.specs.Hops.{is_leg, os_leg};
 ghost use Rattle.law_world_expected.specs.Roles.{HaveCookies};
 
 use crate::connected::is_legs_of_lines_are_connected;

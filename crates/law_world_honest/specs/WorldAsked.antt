@@ -3,10 +3,10 @@
 use Rattle.std.specs.Prelude.{◌≡◌, ℕ, suc, List, true}
 use Rattle.rh_http.specs.declared.config.ClientConfig.{ClientConfig}
 use Rattle.rh_http.specs.Texts.{out_request}
-use Rattle.law_moves.specs.Moves.{Move, HeadCame}
 use Rattle.rh_shell.specs.Shells.{same_leg}
-use Rattle.law_role_client_rows.specs.Putting.{out_length}
+use Rattle.law_moves.specs.Moves.{Move, HeadCame}
 use Rattle.law_role_outproxy.specs.Counted.{co_leg}
+use Rattle.law_role_client_rows.specs.Putting.{out_length}
 
 -- the request with which a client of this configuration asks for the OUT channel of this number
 pub record IsOwn (config : ClientConfig) (n : ℕ) (text : List ℕ) : Type 0 where

@@ -2,9 +2,9 @@
 use Rattle.std.proofs.Common.{◌≡◌, ◌⊎◌, inl, inr, ℕ, List, [], ◌∷◌, ap}
 use Rattle.rh_rts.specs.declared.command.Cookie.{Cookie}
 use Rattle.rh_line.specs.declared.leg.Leg.{Leg}
+use Rattle.rh_nodes.specs.Settling.{leg_at}
 use Rattle.law_moves.specs.Moving.{Event}
 use Rattle.law_moves.specs.Passages.Rising.{CameUpWith}
-use Rattle.rh_nodes.specs.Settling.{leg_at}
 use Rattle.law_node_history.specs.Drawn.{HaveOwnCookies, RoseWith}
 use Rattle.law_world_order.specs.Premises.{AreDistinct}
 

@@ -1,17 +1,17 @@
 -- both directions are routes, on whose legs nothing stands behind a mark
 use Rattle.std.proofs.Common.{◌≡◌, ℕ, Bool, true, List}
-use Rattle.rh_http.specs.declared.config.ClientConfig.{ClientConfig}
 use Rattle.law_order.specs.Items.{IsChannel}
 use Rattle.law_order.specs.Routes.{IsRoute, Route}
-use Rattle.law_moves.specs.Moving.{EndEvent, Event}
-use Rattle.rh_client.specs.declared.state.ClientRole.{ClientRole}
+use Rattle.rh_http.specs.declared.config.ClientConfig.{ClientConfig}
 use Rattle.rh_inproxy.specs.declared.state.InProxyConfig.{InProxyConfig}
 use Rattle.rh_inproxy.specs.State.{InProxy}
 use Rattle.rh_outproxy.specs.declared.state.OutProxyConfig.{OutProxyConfig}
 use Rattle.rh_outproxy.specs.OutProxy.{OutProxy}
+use Rattle.rh_client.specs.declared.state.ClientRole.{ClientRole}
 use Rattle.rh_server.specs.States.{Server}
 use Rattle.rh_nodes.specs.Readers.{reader_of}
 use Rattle.rh_nodes.specs.World.{World}
+use Rattle.law_moves.specs.Moving.{EndEvent, Event}
 use Rattle.law_node_history.specs.Histories.{History}
 use Rattle.law_node_traces.specs.Traced.Numbers.{is_made}
 use Rattle.law_peers_routes.specs.Downwards.{GoesDown, route_of}

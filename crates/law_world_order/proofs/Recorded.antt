@@ -1,8 +1,8 @@
 -- a world of roles that settings make has numbers in their ranges
 use Rattle.std.proofs.Common.{ℕ, suc, ◌≤◌, IsTrue, ◌||◌, ◌==◌, arith, refl}
 use Rattle.std.proofs.lemmas.Bool.Decides.{nat_tests}
-use Rattle.rh_record.specs.Words.{most_number, within}
 use Rattle.rh_sig.specs.Values.{IsKeepalive, IsLifetime}
+use Rattle.rh_record.specs.Words.{most_number, within}
 use Rattle.rh_world.specs.declared.config.WorldConfig.{WorldConfig}
 use Rattle.rh_world.specs.Config as config
 use Rattle.rh_world.proofs.Ranges.{in_timeout, in_window}

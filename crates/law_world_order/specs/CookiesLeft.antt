@@ -1,8 +1,8 @@
 -- the legs that came up by events of a node, and how often one of them did (profile)
 use Rattle.std.specs.Prelude.{ℕ, suc, List, [], ◌∷◌, if◌then◌else◌}
 use Rattle.rh_line.specs.declared.leg.Leg.{Leg}
-use Rattle.law_moves.specs.Moving.{Event, ComesUp}
 use Rattle.rh_shell.specs.Shells.{same_leg}
+use Rattle.law_moves.specs.Moving.{Event, ComesUp}
 
 abbrev pub legs_up : List Event → List Leg
 legs_up [] = []

@@ -3,42 +3,42 @@ use Rattle.std.specs.Prelude.{◌≡◌, ℕ, Some, None}
 use Rattle.std.specs.declared.option.Option.{Option}
 use Rattle.rh_text.specs.declared.ends.Dir.{Dir}
 use Rattle.rh_text.specs.declared.ends.Dir.TheVariants.{U, D}
-use Rattle.rh_http.specs.declared.config.ClientConfig.{ClientConfig}
 use Rattle.rh_sig.specs.declared.name.Pipe.{Pipe}
 use Rattle.rh_sig.specs.declared.name.Pipe.TheVariants.{CiU, IsU, IsD, CoU, CoD, OsU, OsD}
+use Rattle.rh_http.specs.declared.config.ClientConfig.{ClientConfig}
 use Rattle.rh_line.specs.declared.leg.LegKind.{LegKind}
 use Rattle.rh_line.specs.declared.leg.LegKind.TheVariants.{ClientOut, OutServer, ClientIn, InServer}
 use Rattle.rh_shell.specs.Shells.{begun}
-use Rattle.law_moves.specs.Wires.{of_leg}
-use Rattle.law_moves.specs.Legible.Legible.{AreFine, AreLegible}
-use Rattle.rh_nodes.specs.Settling.{leg_at}
-use Rattle.rh_nodes.specs.Company.{Company}
-use Rattle.rh_nodes.specs.Opening.{Makers}
-use Rattle.rh_nodes.specs.World.{World}
-use Rattle.rh_client.specs.declared.state.ClientRole.{ClientRole}
-use Rattle.rh_client.specs.Client as client
-use Rattle.law_role_client.specs.Legible as client_legible
-use Rattle.rh_client.specs.State as client_state
 use Rattle.rh_inproxy.specs.declared.state.InProxyConfig.{InProxyConfig}
-use Rattle.law_role_inproxy.specs.Legible as in_legible
 use Rattle.rh_inproxy.specs.Machine as in_proxy
 use Rattle.rh_inproxy.specs.State.{InProxy}
 use Rattle.rh_inproxy.specs.State as in_state
 use Rattle.rh_outproxy.specs.declared.out_proxy.TheConstants.{ROOMS}
 use Rattle.rh_outproxy.specs.declared.state.OutProxyConfig.{OutProxyConfig}
-use Rattle.law_role_outproxy.specs.Legible as out_legible
 use Rattle.rh_outproxy.specs.Machine as out_proxy
 use Rattle.rh_outproxy.specs.OutProxy.{OutProxy, new_proxy}
-use Rattle.law_role_server.specs.Legible as server_legible
+use Rattle.rh_client.specs.declared.state.ClientRole.{ClientRole}
+use Rattle.rh_client.specs.Client as client
+use Rattle.rh_client.specs.State as client_state
 use Rattle.rh_server.specs.Servers as server
 use Rattle.rh_server.specs.States.{Server}
-use Rattle.law_node_traces.specs.Traced.Ours.{AreOurs}
+use Rattle.rh_nodes.specs.Settling.{leg_at}
+use Rattle.rh_nodes.specs.Company.{Company}
+use Rattle.rh_nodes.specs.Opening.{Makers}
+use Rattle.rh_nodes.specs.World.{World}
+use Rattle.law_moves.specs.Wires.{of_leg}
+use Rattle.law_moves.specs.Legible.Legible.{AreFine, AreLegible}
+use Rattle.law_moves.specs.ReadBack.Reading.{Begins}
+use Rattle.law_role_inproxy.specs.Legible as in_legible
+use Rattle.law_role_client.specs.Legible as client_legible
+use Rattle.law_role_server.specs.Legible as server_legible
 use Rattle.law_node_history.specs.Carried.{drawn_on}
 use Rattle.law_node_history.specs.Histories.{History}
-use Rattle.law_moves.specs.ReadBack.Reading.{Begins}
+use Rattle.law_role_outproxy.specs.Legible as out_legible
 use Rattle.law_node_streams.specs.Streams.{Stream, EndStream, IsDrawn}
-use Rattle.law_peers_routes.specs.Downwards as down
 use Rattle.law_node_begins.specs.ProxiesBegin.Pipes as pipes
+use Rattle.law_node_traces.specs.Traced.Ours.{AreOurs}
+use Rattle.law_peers_routes.specs.Downwards as down
 
 -- the numbers with which the roles were made
 pub record Numbers : Type 0 where

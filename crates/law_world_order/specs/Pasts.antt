@@ -1,21 +1,21 @@
 -- the moment of a virtual connection at which a world of roles is (MS-RPCH 3.2; profile)
+use Rattle.rh_inproxy.specs.State.{InProxy}
+use Rattle.rh_outproxy.specs.OutProxy.{OutProxy}
+use Rattle.rh_client.specs.declared.state.ClientRole.{ClientRole}
+use Rattle.rh_server.specs.States.{Server}
 use Rattle.rh_nodes.specs.Company.{Company}
 use Rattle.rh_nodes.specs.Opening.{Makers}
 use Rattle.rh_nodes.specs.Readers.{reader_of}
 use Rattle.rh_nodes.specs.World.{World}
-use Rattle.rh_client.specs.declared.state.ClientRole.{ClientRole}
-use Rattle.rh_inproxy.specs.State.{InProxy}
-use Rattle.rh_outproxy.specs.OutProxy.{OutProxy}
-use Rattle.rh_server.specs.States.{Server}
 use Rattle.law_node_history.specs.Carried.{happened}
 use Rattle.law_node_history.specs.Histories.{History}
+use Rattle.law_peers_moments.specs.Moments.{AreJoined, AreMade, IsMoment, Moves, Numbers, passages}
 use Rattle.law_node_traces.specs.Traced.Cookies.{ByChanges}
 use Rattle.law_node_traces.specs.Traced.Ours.{AreOurs, deeds, rules}
 use Rattle.law_node_traces.specs.Traced.Recordings.{history_at}
 use Rattle.law_world_order.specs.Flows as fifo
 use Rattle.law_world_order.specs.Flows.{IsFlowing, numbers_of}
 use Rattle.law_world_order.specs.Premises.{AreDistinct}
-use Rattle.law_peers_moments.specs.Moments.{AreJoined, AreMade, IsMoment, Moves, Numbers, passages}
 
 -- the numbers with which the roles of a world were made
 abbrev pub numbers : {K : Type 0} {m : Makers K InProxy OutProxy}

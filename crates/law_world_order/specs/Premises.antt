@@ -1,28 +1,28 @@
 -- what laws ask of a world of roles: numbers with which those may be made, and cookies
 use Rattle.std.specs.Prelude.{◌≡◌, ℕ, suc, List}
+use Rattle.rh_window.specs.Sides.{IsWindow}
 use Rattle.rh_rts.specs.declared.command.Cookie.{Cookie}
 use Rattle.rh_line.specs.declared.leg.LegKind.{LegKind}
-use Rattle.rh_window.specs.Sides.{IsWindow}
-use Rattle.law_moves.specs.Moving.{Event}
-use Rattle.law_moves.specs.Passages.Rising.{CameUpWith}
+use Rattle.rh_inproxy.specs.State as in_state
+use Rattle.rh_inproxy.specs.State.{InProxy}
+use Rattle.rh_outproxy.specs.OutProxy.{OutProxy}
+use Rattle.rh_client.specs.declared.state.ClientRole.{ClientRole}
+use Rattle.rh_server.specs.States.{Server}
 use Rattle.rh_nodes.specs.Opening.{Makers}
 use Rattle.rh_nodes.specs.Settling.{leg_at}
 use Rattle.rh_nodes.specs.World.{World}
+use Rattle.law_moves.specs.Moving.{Event}
+use Rattle.law_moves.specs.Passages.Rising.{CameUpWith}
+use Rattle.law_role_inproxy.specs.Legible as in_legible
+use Rattle.law_role_client.specs.Legible as client_legible
 use Rattle.law_node_history.specs.Drawn.{AreLeft}
 use Rattle.law_node_history.specs.Histories.{IsNew}
-use Rattle.law_node_traces.specs.Traced.Cookies.{ByChanges}
-use Rattle.law_node_traces.specs.Traced.Ours.{AreOurs, deeds, rules}
+use Rattle.law_role_outproxy.specs.Legible as out_legible
 use Rattle.rh_world.specs.declared.any_world.AnyWorld.{AnyWorld}
 use Rattle.rh_world.specs.declared.any_world.AnyWorld.TheVariants.{Before, Direct, Settings, Roles}
-use Rattle.law_role_client.specs.Legible as client_legible
-use Rattle.law_role_inproxy.specs.Legible as in_legible
-use Rattle.rh_inproxy.specs.State as in_state
-use Rattle.law_role_outproxy.specs.Legible as out_legible
+use Rattle.law_node_traces.specs.Traced.Cookies.{ByChanges}
+use Rattle.law_node_traces.specs.Traced.Ours.{AreOurs, deeds, rules}
 use Rattle.law_world_order.specs.Flows.{Numbers, numbers_of}
-use Rattle.rh_client.specs.declared.state.ClientRole.{ClientRole}
-use Rattle.rh_inproxy.specs.State.{InProxy}
-use Rattle.rh_outproxy.specs.OutProxy.{OutProxy}
-use Rattle.rh_server.specs.States.{Server}
 
 -- each is in its range, and has its size
 pub record AreInRange (numbers : Numbers) : Type 0 where

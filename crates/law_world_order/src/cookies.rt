@@ -2,18 +2,18 @@
 
 ghost use Rattle.std.specs.Prelude.{◌≡◌, ◌≤◌, ◌+◌, suc, List, []};
 ghost use Rattle.rh_record.specs.declared.line.Line.{Line};
-ghost use Rattle.rh_nodes.specs.Opening.{Makers};
-ghost use Rattle.rh_nodes.specs.World.{World};
-ghost use Rattle.rh_client.specs.declared.channels.TheConstants.{LAST_NUMBER};
-ghost use Rattle.rh_client.specs.declared.state.ClientRole.{ClientRole};
 ghost use Rattle.rh_inproxy.specs.State.{InProxy};
 ghost use Rattle.rh_outproxy.specs.OutProxy.{OutProxy};
+ghost use Rattle.rh_client.specs.declared.channels.TheConstants.{LAST_NUMBER};
+ghost use Rattle.rh_client.specs.declared.state.ClientRole.{ClientRole};
 ghost use Rattle.rh_server.specs.States.{Server};
+ghost use Rattle.rh_nodes.specs.Opening.{Makers};
+ghost use Rattle.rh_nodes.specs.World.{World};
 ghost use Rattle.law_node_history.specs.Drawn.{DrawnByLines};
 ghost use Rattle.law_node_history.specs.Histories.{IsNew};
-ghost use Rattle.law_node_traces.specs.Traced.Ours.{AreOurs, deeds, rules};
 ghost use Rattle.rh_world.specs.declared.any_world.AnyWorld.TheVariants.{Before};
 ghost use Rattle.rh_world.specs.Any.{after, step};
+ghost use Rattle.law_node_traces.specs.Traced.Ours.{AreOurs, deeds, rules};
 ghost use Rattle.law_world_order.specs.Premises.{AreLeftIn};
 
 use law_node_causes::a_clients_leg_comes_up_once;

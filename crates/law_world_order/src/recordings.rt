@@ -2,8 +2,8 @@
 
 ghost use Rattle.std.specs.Prelude.{List};
 ghost use Rattle.rh_record.specs.declared.line.Line.{Line};
-ghost use Rattle.rh_world.specs.Any.{run};
 ghost use Rattle.rh_record.specs.Events.Order.{IsOrdered};
+ghost use Rattle.rh_world.specs.Any.{run};
 ghost use Rattle.law_world_reports.specs.Ordering.Recordings.{OffersBehindFirst};
 
 use crate::worlds::roles_keep_order;

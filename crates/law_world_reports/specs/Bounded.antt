@@ -6,11 +6,11 @@ use Rattle.rh_inproxy.specs.State.{InProxy}
 use Rattle.rh_outproxy.specs.OutProxy.{OutProxy}
 use Rattle.rh_nodes.specs.declared.place.Place.{Place}
 use Rattle.rh_nodes.specs.declared.place.Place.TheVariants.{Absent, Here, Gone}
+use Rattle.law_node_history.specs.Histories.{in_place, out_place}
 use Rattle.rh_world.specs.declared.any_world.AnyWorld.{AnyWorld}
 use Rattle.rh_world.specs.declared.any_world.AnyWorld.TheVariants.{Before, Direct, Settings, Roles}
 use Rattle.rh_world.specs.Roles as roles
 use Rattle.law_role_windows.specs.Held.{Holds}
-use Rattle.law_node_history.specs.Histories.{in_place, out_place}
 
 -- a proxy that is there holds at most this window
 abbrev pub HoldsHere : {S : Type 0} → (S → Line) → ℕ → Place S → Type 0

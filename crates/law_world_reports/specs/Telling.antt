@@ -7,18 +7,18 @@ use Rattle.rh_line.specs.declared.state.Take.{Take}
 use Rattle.rh_line.specs.declared.state.Take.TheVariants as takes
 use Rattle.rh_record.specs.declared.answer.Who.{Who}
 use Rattle.rh_record.specs.declared.answer.Who.TheVariants as who
+use Rattle.rh_record.specs.Events.Events.{Event, Ends, Closes, Stops, given, taken}
 use Rattle.rh_shell.specs.Ends.{take_answer}
-use Rattle.law_moves.specs.Moving.{EndEvent}
 use Rattle.rh_nodes.specs.Company.{Company, Rulebook}
 use Rattle.rh_nodes.specs.Giving.{Deeds}
 use Rattle.rh_nodes.specs.Opening.{Makers}
 use Rattle.rh_nodes.specs.World.{World}
+use Rattle.law_moves.specs.Moving.{EndEvent}
 use Rattle.law_node_history.specs.Changes as changes
 use Rattle.law_node_history.specs.Changes.{Change, ByLines}
 use Rattle.law_node_history.specs.Closes.{HasClosed}
 use Rattle.law_node_history.specs.Histories.{History, all_noted, nothing}
 use Rattle.law_node_streams.specs.Streams.{all_given, all_taken}
-use Rattle.rh_record.specs.Events.Events.{Event, Ends, Closes, Stops, given, taken}
 
 abbrev pub node_of : Side → Who
 node_of Client = who.Client

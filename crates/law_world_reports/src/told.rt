@@ -5,17 +5,17 @@ ghost use Rattle.std.specs.Prelude.{◌≡◌, ◌++◌, ℕ, List, [], ◌∷�
 ghost use Rattle.rh_text.specs.declared.ends.Side.{Side};
 ghost use Rattle.rh_line.specs.declared.cause.Cause.{Cause};
 ghost use Rattle.rh_record.specs.declared.line.Line.{Line};
-ghost use Rattle.law_moves.specs.Moving.{IsClosed};
+ghost use Rattle.rh_record.specs.Events.Events.{Closes, Event, events, given, offered, taken};
 ghost use Rattle.rh_nodes.specs.Company.{Company, Rulebook};
 ghost use Rattle.rh_nodes.specs.Giving.{Deeds};
 ghost use Rattle.rh_nodes.specs.Opening.{Makers};
 ghost use Rattle.rh_nodes.specs.Steps.{told};
 ghost use Rattle.rh_nodes.specs.World.{World};
+ghost use Rattle.law_moves.specs.Moving.{IsClosed};
 ghost use Rattle.law_node_history.specs.Changes as changes;
 ghost use Rattle.law_node_history.specs.Changes.{Change, Leads};
 ghost use Rattle.law_node_history.specs.Closes.{HasClosed};
 ghost use Rattle.law_node_history.specs.Histories.{AreRuns, History, all_noted};
-ghost use Rattle.rh_record.specs.Events.Events.{Closes, Event, events, given, offered, taken};
 ghost use Rattle.law_world_reports.specs.Telling.{Moment, StandsStill, node_of};
 ghost use Rattle.law_world_reports.specs.Telling.{GoesOn, end_events, end_given, end_taken, in_the_end, until};
 

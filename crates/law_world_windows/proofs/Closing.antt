@@ -10,6 +10,13 @@ use Rattle.rh_record.specs.declared.answer.Who.{Who}
 use Rattle.rh_record.specs.declared.answer.Who.TheVariants as who
 use Rattle.rh_shell.specs.Rules.{Rules}
 use Rattle.rh_shell.specs.Shells.{Shell}
+use Rattle.rh_inproxy.specs.Machine as in_proxy
+use Rattle.rh_inproxy.specs.State.{InProxy}
+use Rattle.rh_outproxy.specs.Machine as out_proxy
+use Rattle.rh_outproxy.specs.OutProxy.{OutProxy}
+use Rattle.rh_client.specs.declared.state.ClientRole.{ClientRole}
+use Rattle.rh_server.specs.Servers as server
+use Rattle.rh_server.specs.States.{Server}
 use Rattle.rh_nodes.specs.declared.event.Event.{Event}
 use Rattle.rh_nodes.specs.declared.event.Event.TheVariants.{Comes}
 use Rattle.rh_nodes.specs.declared.place.Place.{Place}
@@ -20,18 +27,11 @@ use Rattle.rh_nodes.specs.Opening.{Makers}
 use Rattle.rh_nodes.specs.Places as places
 use Rattle.rh_nodes.specs.Wires.{receiver}
 use Rattle.rh_nodes.specs.World.{World, at}
-use Rattle.rh_client.specs.declared.state.ClientRole.{ClientRole}
-use Rattle.rh_inproxy.specs.Machine as in_proxy
-use Rattle.rh_inproxy.specs.State.{InProxy}
-use Rattle.rh_outproxy.specs.Machine as out_proxy
-use Rattle.rh_outproxy.specs.OutProxy.{OutProxy}
-use Rattle.rh_server.specs.Servers as server
-use Rattle.rh_server.specs.States.{Server}
-use Rattle.law_node_causes.specs.Closings.{ClosesWith, MayClose}
 use Rattle.law_node_history.specs.Changes.{Change, IsFed, MayChange}
 use Rattle.law_node_history.specs.Closes.{ClosesNode}
 use Rattle.law_node_history.specs.Histories.{in_place, out_place}
 use Rattle.law_node_history.proofs.Numbers.{answered}
+use Rattle.law_node_causes.specs.Closings.{ClosesWith, MayClose}
 use Rattle.law_node_traces.specs.Traced.Cookies.{ByChanges}
 use Rattle.law_node_traces.specs.Traced.Ours.{AreOurs, deeds, rules}
 use Rattle.law_world_order.specs.Flows.{numbers_of}

@@ -7,19 +7,19 @@ use Rattle.rh_text.specs.declared.ends.Side.TheVariants as side
 use Rattle.rh_line.specs.declared.leg.Leg.{Leg}
 use Rattle.rh_record.specs.declared.answer.Who.{Who}
 use Rattle.rh_record.specs.declared.answer.Who.TheVariants as who
-use Rattle.law_moves.specs.Moving as moving
-use Rattle.law_moves.specs.Moving.{EndEvent, Happens, after_end_event, after_end_events, after_event, after_events}
 use Rattle.rh_shell.specs.Shells.{Shell, bytes}
+use Rattle.rh_inproxy.specs.State.{InProxy}
+use Rattle.rh_outproxy.specs.OutProxy.{OutProxy}
+use Rattle.rh_client.specs.declared.state.ClientRole.{ClientRole}
+use Rattle.rh_server.specs.States.{Server}
 use Rattle.rh_nodes.specs.declared.place.Place.{Place}
 use Rattle.rh_nodes.specs.declared.place.Place.TheVariants.{Here}
 use Rattle.rh_nodes.specs.Halves.{is_same}
 use Rattle.rh_nodes.specs.Legs as legs
 use Rattle.rh_nodes.specs.Wires.{receiver}
 use Rattle.rh_nodes.specs.World.{World, at}
-use Rattle.rh_client.specs.declared.state.ClientRole.{ClientRole}
-use Rattle.rh_inproxy.specs.State.{InProxy}
-use Rattle.rh_outproxy.specs.OutProxy.{OutProxy}
-use Rattle.rh_server.specs.States.{Server}
+use Rattle.law_moves.specs.Moving as moving
+use Rattle.law_moves.specs.Moving.{EndEvent, Happens, after_end_event, after_end_events, after_event, after_events}
 use Rattle.law_node_history.specs.Carried.{happened, heard_on}
 use Rattle.law_node_history.specs.Changes.{IsFed}
 use Rattle.law_node_history.specs.Histories.{History, at_place, in_place, made_by, noted, out_place, told_to}

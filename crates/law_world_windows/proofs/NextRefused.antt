@@ -5,12 +5,12 @@ use Rattle.std.proofs.lemmas.Bool.{eqb-true}
 use Rattle.std.specs.Prelude.{slice_index, ◌==◌, ◌&&◌}
 use Rattle.std.specs.declared.option.Option.{Option}
 use Rattle.std.specs.declared.result.Result.{Result}
-use Rattle.rh_http.specs.declared.refusal.Refusal.{Refusal}
 use Rattle.rh_pdu.specs.declared.fault.HeadFault.{HeadFault}
 use Rattle.rh_pdu.specs.Header.{rts, header_length, frag_of, head_fault}
 use Rattle.rh_sig.specs.declared.fault.SigFault.TheVariants as sig
 use Rattle.rh_sig.specs.declared.name.Pipe.{Pipe}
 use Rattle.rh_sig.specs.declared.named.Named.{Named}
+use Rattle.rh_http.specs.declared.refusal.Refusal.{Refusal}
 use Rattle.rh_line.specs.declared.leg.Leg.{Leg}
 use Rattle.rh_line.specs.declared.cause.Cause.{Cause}
 use Rattle.rh_line.specs.declared.cause.Cause.TheVariants as cause
@@ -28,14 +28,14 @@ use Rattle.rh_shell.specs.declared.reading.PacketFault.TheVariants as unread
 use Rattle.rh_shell.specs.declared.stage.Stage.{Stage}
 use Rattle.rh_shell.specs.declared.stage.Stage.TheVariants as stage
 use Rattle.rh_shell.specs.declared.stop.Stop.{Stop}
-use Rattle.law_moves.specs.Carrying.{message_in, named_messages}
 use Rattle.rh_shell.specs.Hearing.{Turn, goes, stops, stop, head_row, begun_body, behind_head, behind_frame, row_by, close_row, cause_of, one_more, is_zero, is_upward, is_ping, take_ping, take_packet, take_frame, is_greeting, heading, touched, with_intake, take, hear_byte, hear, heard}
 use Rattle.rh_shell.specs.Intakes.{Intake, Came, Nothing, Head, Greeting, Frame, Fault, Over, on_byte, byte_by, text_by, frame_by, frame_byte, holds, behind, is_whole_head, is_whole_greeting, is_full, length_told, counted}
-use Rattle.law_moves.specs.Laws.{ClosedWith}
 use Rattle.rh_shell.specs.NearEnds.{NearEnd, is_over}
 use Rattle.rh_shell.specs.Readings.{packet_of}
 use Rattle.rh_shell.specs.Rules.{Message, Pdu, Packet, Rules, Row}
 use Rattle.rh_shell.specs.Shells.{Shell, bytes_at, bytes_by, end_at, stop_by, stopped, with_end}
+use Rattle.law_moves.specs.Carrying.{message_in, named_messages}
+use Rattle.law_moves.specs.Laws.{ClosedWith}
 use Rattle.law_moves.specs.ReadBack.Reading.{Reading, frame_read, read_by, read_byte, reading, reading_after, begin, messages_read, messages_from}
 use Rattle.law_moves.specs.ReadBack.Well.{Answers, ByteIsWell, FrameIsWell, HeaderIsWell}
 use Rattle.law_node_streams.specs.Streams.{Seated, is_live}

@@ -6,10 +6,10 @@ use Rattle.rh_line.specs.declared.leg.Leg.{Leg}
 use Rattle.rh_shell.specs.declared.course.Course.{Course}
 use Rattle.rh_shell.specs.declared.course.Course.TheVariants.{Going, Closed, Refusing}
 use Rattle.rh_shell.specs.Hearing.{hear}
-use Rattle.law_moves.specs.Laws.{ClosedWith, Stays}
 use Rattle.rh_shell.specs.NearEnds.{NearEnd}
 use Rattle.rh_shell.specs.Rules.{Rules}
 use Rattle.rh_shell.specs.Shells.{Shell, bytes, bytes_at, bytes_by, end_at}
+use Rattle.law_moves.specs.Laws.{ClosedWith, Stays}
 
 module _ {S : Type 0} (rules : Rules S) (leg : Leg) where
   -- the node goes on behind the front, and the byte behind that closes it

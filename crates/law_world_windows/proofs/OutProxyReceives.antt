@@ -6,12 +6,13 @@ use Rattle.std.specs.Prelude.{IfSome, nat_le}
 use Rattle.std.specs.List.{AllByRecursion}
 use Rattle.std.specs.declared.option.Option.{Option}
 use Rattle.std.specs.declared.result.Result.{Result}
-use Rattle.rh_rts.specs.declared.command.Cookie.{Cookie}
-use Rattle.rh_sig.specs.declared.named.Named.{Named}
-use Rattle.rh_sig.specs.declared.named.Named.TheVariants as named
 use Rattle.rh_window.specs.Sides.{IsWindow, Receiver}
 use Rattle.rh_window.specs.Sending.{may_send}
 use Rattle.rh_window.specs.declared.recv_window.Ack.{Ack}
+use Rattle.law_order.proofs.ByNumber.{by_test}
+use Rattle.rh_rts.specs.declared.command.Cookie.{Cookie}
+use Rattle.rh_sig.specs.declared.named.Named.{Named}
+use Rattle.rh_sig.specs.declared.named.Named.TheVariants as named
 use Rattle.rh_line.specs.Lines as lines
 use Rattle.rh_line.specs.Lines.{Incoming, Line, due, is_empty, moved_on, released, settled, taken as taken_line}
 use Rattle.rh_line.specs.declared.line_fault.LineFault.{LineFault}
@@ -19,13 +20,10 @@ use Rattle.rh_line.specs.declared.line_fault.LineFault.TheVariants as line_fault
 use Rattle.rh_line.specs.declared.leg.Leg.{Leg}
 use Rattle.rh_line.specs.declared.leg.LegKind.TheVariants.{ClientOut}
 use Rattle.rh_line.specs.declared.which.Which.TheVariants.{Current}
-use Rattle.law_order.proofs.ByNumber.{by_test}
 use Rattle.rh_shell.specs.declared.answers.Count.{Count}
 use Rattle.rh_shell.specs.declared.due.Due.{Due}
 use Rattle.rh_shell.specs.Rules.{Message, Pdu, Packet}
 use Rattle.rh_shell.specs.Shells.{same_leg}
-use Rattle.law_moves.specs.Moves.{Move, AreAllowed, started, all_moved}
-use Rattle.law_moves.specs.Wires.{of_leg}
 use Rattle.rh_outproxy.specs.declared.state.Answer.{Answer}
 use Rattle.rh_outproxy.specs.declared.state.Answer.TheVariants as answers
 use Rattle.rh_outproxy.specs.declared.state.Channel.{Channel}
@@ -40,8 +38,10 @@ use Rattle.rh_outproxy.specs.Putting.{Pick, ping_room, or_else, answer_by, put_a
 use Rattle.rh_outproxy.specs.Putting.{put as put_of}
 use Rattle.rh_outproxy.specs.Machine.{packet, pdu, on_co, on_os}
 use Rattle.rh_outproxy.specs.Machine.{rules as proxy_rules}
-use Rattle.law_node_streams.proofs.Streams.LegLogs.{same_back}
+use Rattle.law_moves.specs.Moves.{Move, AreAllowed, started, all_moved}
+use Rattle.law_moves.specs.Wires.{of_leg}
 use Rattle.law_role_windows.specs.Held.{Holds}
+use Rattle.law_node_streams.proofs.Streams.LegLogs.{same_back}
 use Rattle.law_world_windows.specs.Hops.{os_leg, pdu_bytes, edge_in, greatest_edge, IsTrueAck, IsNoWindow, RefusesBehind, ReceivesWithin}
 use Rattle.law_world_windows.proofs.Legs.{on, same_other}
 use Rattle.law_world_windows.proofs.Counts.{bytes_rise, all_later, all_append}

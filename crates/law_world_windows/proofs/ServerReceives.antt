@@ -6,12 +6,16 @@ use Rattle.std.specs.Prelude.{slice_get, IfSome}
 use Rattle.std.specs.List.{AllByRecursion}
 use Rattle.std.specs.declared.option.Option.{Option}
 use Rattle.std.specs.declared.result.Result.{Result}
-use Rattle.rh_rts.specs.declared.command.Cookie.{Cookie}
-use Rattle.rh_sig.specs.declared.named.Named.{Named}
-use Rattle.rh_sig.specs.declared.named.Named.TheVariants as named
+use Rattle.std.proofs.lemmas.List.{append-nil}
 use Rattle.rh_window.specs.Sides.{IsWindow, Receiver}
 use Rattle.rh_window.specs.Receiving as windows
 use Rattle.rh_window.specs.declared.recv_window.Ack.{Ack}
+use Rattle.law_order.specs.Logs.{Log}
+use Rattle.law_order.specs.Taking.{TakerLaw}
+use Rattle.law_order.proofs.ByNumber.{by_test, same_number}
+use Rattle.rh_rts.specs.declared.command.Cookie.{Cookie}
+use Rattle.rh_sig.specs.declared.named.Named.{Named}
+use Rattle.rh_sig.specs.declared.named.Named.TheVariants as named
 use Rattle.rh_line.specs.Lines as lines
 use Rattle.rh_line.specs.Lines.{Incoming, Line, admitted, released, settled as settled_line, moved_on, taken as taken_line, is_empty, due, after_admit, after_finish, after_open_next, after_tell, after_told}
 use Rattle.rh_line.specs.Queue.{front_length}
@@ -22,20 +26,14 @@ use Rattle.rh_line.specs.declared.leg.LegKind.{LegKind}
 use Rattle.rh_line.specs.declared.leg.LegKind.TheVariants.{ClientOut, OutServer, ClientIn, InServer}
 use Rattle.rh_line.specs.declared.which.Which.{Which}
 use Rattle.rh_line.specs.declared.which.Which.TheVariants.{Current, Next}
-use Rattle.law_order.specs.Logs.{Log}
-use Rattle.law_order.specs.Taking.{TakerLaw}
-use Rattle.law_order.proofs.ByNumber.{by_test, same_number}
 use Rattle.rh_shell.specs.declared.answers.Count.{Count}
 use Rattle.rh_shell.specs.declared.answers.Refused.TheVariants as refused
 use Rattle.rh_shell.specs.declared.due.Due.{Due}
 use Rattle.rh_shell.specs.Rules.{Message, Text, Pdu, Packet}
 use Rattle.rh_shell.specs.Shells.{same_leg}
 use Rattle.rh_shell.specs.Waiting.{Waiting, taken as taken_out}
-use Rattle.law_moves.specs.Moves.{EndMove, AreAllowedAtEnd, end_started, all_end_moved}
-use Rattle.law_moves.specs.Wires.{of_leg}
 use Rattle.rh_shell.specs.Hearing.{greeting as greeting_text}
 use Rattle.rh_server.specs.declared.state.Greeting.TheVariants as greetings
-use Rattle.std.proofs.lemmas.List.{append-nil}
 use Rattle.rh_server.specs.declared.out_line.Kind.TheVariants as kind
 use Rattle.rh_server.specs.declared.state.Edge.{Edge}
 use Rattle.rh_server.specs.declared.state.Edge.TheVariants as edges
@@ -60,6 +58,8 @@ use Rattle.rh_server.specs.Putting.{Pick, or_else, put_in_greeting, told_by, was
 use Rattle.rh_server.specs.Putting.{put_by as put_by_kind}
 use Rattle.rh_server.specs.Servers.{on_is, on_os, packet_by, pdu_by, first, acts as server_acts}
 use Rattle.rh_server.specs.Servers.{rules as server_rules}
+use Rattle.law_moves.specs.Moves.{EndMove, AreAllowedAtEnd, end_started, all_end_moved}
+use Rattle.law_moves.specs.Wires.{of_leg}
 use Rattle.law_role_server.specs.Order.{taker_of}
 use Rattle.law_node_history.proofs.Wired.{same_itself}
 use Rattle.law_role_windows.specs.Held.{Holds}

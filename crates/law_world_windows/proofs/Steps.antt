@@ -10,8 +10,8 @@ use Rattle.rh_line.specs.declared.leg.Leg.{Leg}
 use Rattle.rh_shell.specs.declared.answers.Count.{Count}
 use Rattle.rh_shell.specs.declared.end_role.GiveRefused.{GiveRefused}
 use Rattle.rh_shell.specs.Rules.{Rules, Acts, Row, Message, Pdu, Packet}
-use Rattle.law_moves.specs.Moves.{Move, Up, HeadCame, PduCame, PacketCame, Puts, IsDrawn, Marks, Pings, Passage, AreAllowed, moved, all_moved, taken_by, put_by, EndMove, Moves, Gives, Takes, Closes, Recycles, EndPassage, AreAllowedAtEnd, end_moved, all_end_moved, end_now_at, given_by, with_first}
 use Rattle.rh_shell.specs.Shells.{same_leg}
+use Rattle.law_moves.specs.Moves.{Move, Up, HeadCame, PduCame, PacketCame, Puts, IsDrawn, Marks, Pings, Passage, AreAllowed, moved, all_moved, taken_by, put_by, EndMove, Moves, Gives, Takes, Closes, Recycles, EndPassage, AreAllowedAtEnd, end_moved, all_end_moved, end_now_at, given_by, with_first}
 use Rattle.law_moves.specs.Wires.{of_leg}
 use Rattle.law_node_streams.proofs.Streams.LegLogs.{one_more}
 use Rattle.law_world_windows.proofs.Legs.{on}

@@ -1,10 +1,10 @@
 //! How an in proxy sends to the server. Its function does nothing: its contract is the law.
 
 ghost use Rattle.std.specs.Prelude.{List};
-ghost use Rattle.law_moves.specs.Moves.{AreAllowed, Move, all_moved, started};
 ghost use Rattle.rh_inproxy.specs.declared.state.InProxyConfig.{InProxyConfig};
 ghost use Rattle.rh_inproxy.specs.Machine.{rules};
 ghost use Rattle.rh_inproxy.specs.State.{first};
+ghost use Rattle.law_moves.specs.Moves.{AreAllowed, Move, all_moved, started};
 ghost use Rattle.law_world_windows.specs.Hops.{SendsWithin, is_leg};
 
 /// Whatever moves an in proxy makes: the bytes of RPC PDUs that it put on its is leg are at most

@@ -7,8 +7,8 @@ ghost use Rattle.rh_client.specs.declared.state.ClientRole.{ClientRole};
 ghost use Rattle.law_node_history.specs.Changes.{Change, MayChange};
 ghost use Rattle.law_node_history.specs.Closes.{ClosesNode};
 ghost use Rattle.law_node_traces.specs.Traced.Ours.{rules};
-ghost use Rattle.law_world_windows.specs.Hops.{is_leg, os_leg};
 ghost use Rattle.law_world_order.specs.Premises.{AtEachMoment, InNewWorlds};
+ghost use Rattle.law_world_windows.specs.Hops.{is_leg, os_leg};
 
 use crate::in_proxy::an_in_proxy_sends_within_the_servers_window;
 use crate::out_proxy::an_out_proxy_receives_within_its_window;

@@ -10,8 +10,8 @@ use Rattle.rh_pdu.specs.Header.{frag_of, head_fault}
 use Rattle.rh_pdu.proofs.Headers.{frag_same, head_same}
 use Rattle.rh_sig.specs.declared.name.Pipe.{Pipe}
 use Rattle.rh_shell.specs.declared.stage.Stage.TheVariants as stage
-use Rattle.law_moves.specs.Carrying.{message_in}
 use Rattle.rh_shell.specs.Rules.{Message}
+use Rattle.law_moves.specs.Carrying.{message_in}
 use Rattle.law_moves.specs.ReadBack.Reading.{Reading, frame_read, read_by, reading}
 use Rattle.law_moves.proofs.ReadBack.Taking.{TakesAt}
 

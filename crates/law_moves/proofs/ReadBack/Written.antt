@@ -4,6 +4,7 @@ use Rattle.std.specs.Fmt.{decimal, digit_glyph, digits, digits_onto}
 use Rattle.std.specs.List.{list_all}
 use Rattle.std.proofs.lemmas.Bool.Decides.{nat_tests}
 use Rattle.std.proofs.lemmas.List.{length-append}
+use Rattle.law_order.proofs.ByNumber.{by_test}
 use Rattle.rh_http.specs.declared.config.ClientConfig.{ClientConfig}
 use Rattle.rh_http.specs.declared.refusal.Refusal.{Refusal}
 use Rattle.rh_http.specs.declared.refusal.Refusal.TheVariants.{Bad, Missing, Unavailable}
@@ -14,7 +15,6 @@ use Rattle.rh_http.proofs.Lines.{ArePlain}
 use Rattle.rh_http.proofs.Printable.{both_pass, host_visible, is_printable, is_visible, printable}
 use Rattle.rh_http.proofs.TextLemmas.{method_short, request_parts}
 use Rattle.rh_http.proofs.Written.{plain}
-use Rattle.law_order.proofs.ByNumber.{by_test}
 use Rattle.rh_shell.specs.Intakes.{is_whole_head}
 use Rattle.law_moves.specs.ReadBack.Reading.{IsWholeText}
 use Rattle.law_moves.proofs.ReadBack.Lines.{whole_lines}

@@ -1,11 +1,11 @@
 -- packets that are counted on all legs of a kind (profile)
 use Rattle.std.specs.Prelude.{ℕ, zero, suc, ◌+◌, Bool}
+use Rattle.std.specs.Prelude.{List}
 use Rattle.rh_sig.specs.declared.named.Named.{Named}
 use Rattle.rh_line.specs.declared.leg.LegKind.{LegKind}
 use Rattle.law_moves.specs.Moves.{OnLeg}
 use Rattle.law_moves.specs.Wires.{of_leg}
 use Rattle.law_moves.specs.Passages.Passing.{count_of}
-use Rattle.std.specs.Prelude.{List}
 
 -- the sum over the numbers below one
 abbrev pub sum_below : (ℕ → ℕ) → ℕ → ℕ

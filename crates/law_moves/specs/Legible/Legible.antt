@@ -3,16 +3,16 @@
 use Rattle.std.specs.Prelude.{◌≡◌, List, [], ◌∷◌, Some, None, Ok}
 use Rattle.std.specs.List.{AllByRecursion}
 use Rattle.std.specs.declared.option.Option.{Option}
-use Rattle.rh_rts.specs.Commands.{HaveSizes}
 use Rattle.rh_pdu.specs.Frames.{IsFrame, IsPdu}
+use Rattle.rh_rts.specs.Commands.{HaveSizes}
 use Rattle.rh_sig.specs.declared.name.Pipe.{Pipe}
 use Rattle.rh_sig.specs.declared.named.Named.{Named}
 use Rattle.rh_sig.specs.Names.{IsCarried}
 use Rattle.rh_sig.specs.Values.{AreInRange, MayBeWritten, commands_of, name_of_named}
 use Rattle.rh_line.specs.declared.leg.Leg.{Leg}
+use Rattle.rh_shell.specs.Rules.{Message, Text, Pdu, Packet, spell}
 use Rattle.law_moves.specs.Carrying.{message_in, named_messages}
 use Rattle.law_moves.specs.Moves.{OnLeg, Passage}
-use Rattle.rh_shell.specs.Rules.{Message, Text, Pdu, Packet, spell}
 
 -- ---- what may be put
 

@@ -4,8 +4,8 @@ use Rattle.std.specs.Prelude.{◌≡◌, ◌≤◌, ℕ, List, [], ◌∷◌, Bo
 use Rattle.rh_sig.specs.declared.named.Named.{Named}
 use Rattle.rh_shell.specs.declared.answers.Count.{Count}
 use Rattle.rh_shell.specs.declared.answers.Count.TheVariants as count
-use Rattle.law_moves.specs.Moves.{Move, PacketCame, Passage, moved, EndMove, Moves, EndPassage, end_moved}
 use Rattle.rh_shell.specs.Rules.{Acts, Message, Rules}
+use Rattle.law_moves.specs.Moves.{Move, PacketCame, Passage, moved, EndMove, Moves, EndPassage, end_moved}
 use Rattle.law_moves.specs.Wires.{of_leg}
 use Rattle.law_moves.specs.Passages.Passing.{count_of}
 

@@ -2,16 +2,16 @@
 
 ghost use Rattle.std.specs.Prelude.{ℕ, ◌≡◌, ◌++◌, List, []};
 ghost use Rattle.std.specs.declared.option.Option.{Option};
+ghost use Rattle.rh_pdu.specs.Frames.{IsFrame};
+ghost use Rattle.rh_sig.specs.declared.name.Pipe.{Pipe};
 ghost use Rattle.rh_http.specs.declared.config.ClientConfig.{ClientConfig};
 ghost use Rattle.rh_http.specs.declared.refusal.Refusal.{Refusal};
 ghost use Rattle.rh_http.specs.Texts.{in_request, out_request, refusal_text, response_text};
-ghost use Rattle.rh_pdu.specs.Frames.{IsFrame};
-ghost use Rattle.rh_sig.specs.declared.name.Pipe.{Pipe};
 ghost use Rattle.rh_shell.specs.declared.stage.Stage.TheVariants as stage;
-ghost use Rattle.law_moves.specs.Carrying.{message_in};
 ghost use Rattle.rh_shell.specs.Hearing.{greeting};
 ghost use Rattle.rh_shell.specs.Intakes.{is_whole_greeting, is_whole_head};
 ghost use Rattle.rh_shell.specs.NearEnds.{first_stage};
+ghost use Rattle.law_moves.specs.Carrying.{message_in};
 ghost use Rattle.law_moves.specs.ReadBack.Reading.{IsWholeText, ReadsNothing};
 
 /// Each head that is written has its one blank line at its end, whatever its numbers, and a

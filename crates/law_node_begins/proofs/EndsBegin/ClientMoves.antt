@@ -2,26 +2,26 @@
 use Rattle.std.proofs.Common.{◌≡◌, ℕ, true, false, List, [], Some, None, inl, arith, refl, subst}
 use Rattle.std.specs.List.{AllByRecursion}
 use Rattle.std.specs.declared.option.Option.{Option}
-use Rattle.rh_http.specs.declared.config.ClientConfig.{ClientConfig}
-use Rattle.rh_http.specs.Texts.{in_request, out_request}
 use Rattle.rh_sig.specs.declared.name.Pipe.{Pipe}
 use Rattle.rh_sig.specs.declared.name.Pipe.TheVariants.{CiU, CoU}
+use Rattle.rh_http.specs.declared.config.ClientConfig.{ClientConfig}
+use Rattle.rh_http.specs.Texts.{in_request, out_request}
 use Rattle.rh_line.specs.declared.leg.Leg.{Leg}
 use Rattle.rh_line.specs.declared.leg.LegKind.{LegKind}
 use Rattle.rh_line.specs.declared.leg.LegKind.TheVariants.{ClientOut, OutServer, ClientIn, InServer}
 use Rattle.rh_shell.specs.Intakes.{is_whole_head}
 use Rattle.rh_shell.specs.Rules.{Message}
-use Rattle.law_moves.specs.Wires.{of_leg}
-use Rattle.law_moves.specs.Moves.{OnLeg, EndMove}
+use Rattle.rh_shell.specs.declared.stage.Stage.TheVariants as stage
+use Rattle.rh_shell.specs.NearEnds.{first_stage}
 use Rattle.rh_client.specs.declared.state.ClientRole.{ClientRole}
 use Rattle.rh_client.specs.State.{ci, co, first}
 use Rattle.rh_client.specs.Client.{rules, acts}
-use Rattle.law_role_client.specs.Order.{client_started, client_moved, AreAllowedMoves}
-use Rattle.law_role_client.specs.Legible.{pipe_to, pipe_put}
-use Rattle.rh_shell.specs.declared.stage.Stage.TheVariants as stage
-use Rattle.rh_shell.specs.NearEnds.{first_stage}
+use Rattle.law_moves.specs.Wires.{of_leg}
+use Rattle.law_moves.specs.Moves.{OnLeg, EndMove}
 use Rattle.law_moves.specs.ReadBack.Reading.{IsWholeText, Begins}
 use Rattle.law_moves.specs.ReadBack.Well.{Answers, IsWellText, TextIsWell}
+use Rattle.law_role_client.specs.Order.{client_started, client_moved, AreAllowedMoves}
+use Rattle.law_role_client.specs.Legible.{pipe_to, pipe_put}
 use Rattle.law_node_begins.specs.EndsBegin.{BeginsLegs, WritesOnUp, came_up}
 use Rattle.law_node_begins.proofs.EndsBegin.Stands.{Logs, logs_of, begins, fine_well, none_well}
 use Rattle.law_node_begins.proofs.EndsBegin.Moves.{StepsKeep, moves_keep}

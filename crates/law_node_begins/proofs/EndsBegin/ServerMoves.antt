@@ -2,25 +2,25 @@
 use Rattle.std.proofs.Common.{◌≡◌, ℕ, List, [], Some, None, inl, arith, refl, sym, subst}
 use Rattle.std.specs.List.{AllByRecursion}
 use Rattle.std.specs.declared.option.Option.{Option}
+use Rattle.law_order.proofs.ByNumber.{by_test}
 use Rattle.rh_rts.specs.declared.command.Cookie.{Cookie}
 use Rattle.rh_sig.specs.declared.name.Pipe.{Pipe}
 use Rattle.rh_sig.specs.declared.name.Pipe.TheVariants.{IsD, OsD}
 use Rattle.rh_line.specs.declared.leg.Leg.{Leg}
 use Rattle.rh_line.specs.declared.leg.LegKind.{LegKind}
 use Rattle.rh_line.specs.declared.leg.LegKind.TheVariants.{ClientOut, OutServer, ClientIn, InServer}
-use Rattle.law_order.proofs.ByNumber.{by_test}
 use Rattle.rh_shell.specs.Hearing.{greeting as greeting_text}
 use Rattle.rh_shell.specs.Intakes.{is_whole_head, is_whole_greeting}
-use Rattle.law_moves.specs.Wires.{of_leg}
-use Rattle.law_moves.specs.Moves.{OnLeg, EndMove, AreAllowedAtEnd, end_started, all_end_moved}
-use Rattle.law_role_server.specs.Legible.{pipe_to, pipe_put}
+use Rattle.rh_shell.specs.declared.stage.Stage.TheVariants as stage
+use Rattle.rh_shell.specs.NearEnds.{first_stage}
 use Rattle.rh_server.specs.States.{Server}
 use Rattle.rh_server.specs.Opening.{may_up_by, up_by, up}
 use Rattle.rh_server.specs.Servers.{rules, acts, first}
-use Rattle.rh_shell.specs.declared.stage.Stage.TheVariants as stage
-use Rattle.rh_shell.specs.NearEnds.{first_stage}
+use Rattle.law_moves.specs.Wires.{of_leg}
+use Rattle.law_moves.specs.Moves.{OnLeg, EndMove, AreAllowedAtEnd, end_started, all_end_moved}
 use Rattle.law_moves.specs.ReadBack.Reading.{IsWholeText, Begins}
 use Rattle.law_moves.specs.ReadBack.Well.{Answers, IsWellText, TextIsWell}
+use Rattle.law_role_server.specs.Legible.{pipe_to, pipe_put}
 use Rattle.law_node_begins.specs.EndsBegin.{BeginsLegs}
 use Rattle.law_node_begins.proofs.EndsBegin.Stands.{Logs, logs_of, begins, fine_well, none_well}
 use Rattle.law_node_begins.proofs.EndsBegin.Moves.{StepsKeep, moves_keep}

@@ -11,11 +11,11 @@ use Rattle.rh_sig.specs.declared.name.Pipe.TheVariants.{CoD}
 use Rattle.rh_sig.specs.Naming.{named_of, name_on}
 use Rattle.rh_sig.specs.Looking.{names, fits}
 use Rattle.rh_http.specs.Texts.{response_text}
-use Rattle.law_moves.specs.Carrying.{message_in}
 use Rattle.rh_shell.specs.Readings.{packet_of}
-use Rattle.law_moves.specs.ReadBack.Well.{FrameIsWell, is_packet}
 use Rattle.rh_inproxy.specs.Opening.{echo_answer, echo_packet}
 use Rattle.rh_outproxy.specs.Putting as out_proxy
+use Rattle.law_moves.specs.Carrying.{message_in}
+use Rattle.law_moves.specs.ReadBack.Well.{FrameIsWell, is_packet}
 
 pub in_text : response_text 20 ++ echo_packet ≡ echo_answer
 unfolding response_text echo_answer digits

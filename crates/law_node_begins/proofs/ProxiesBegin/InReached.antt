@@ -4,17 +4,15 @@ use Rattle.std.specs.Prelude.{if◌then◌else◌, nat_le, IfSome}
 use Rattle.std.proofs.lemmas.List.Folds.{list_any-append}
 use Rattle.std.specs.List.{list_any, AllByRecursion}
 use Rattle.std.proofs.lemmas.Bool.{and_parts, eqb-true, or_left}
+use Rattle.std.specs.declared.result.Result.{Result}
+use Rattle.law_order.proofs.ByNumber.{by_test}
+use Rattle.rh_rts.specs.declared.command.Cookie.{Cookie}
 use Rattle.rh_http.specs.declared.fault.HttpFault.{HttpFault}
 use Rattle.rh_http.specs.Heads.Verdicts.{Asked, request_verdict}
-use Rattle.std.specs.declared.result.Result.{Result}
-use Rattle.rh_rts.specs.declared.command.Cookie.{Cookie}
 use Rattle.rh_line.specs.declared.leg.Leg.{Leg}
 use Rattle.rh_line.specs.declared.leg.LegKind.TheVariants.{ClientIn}
-use Rattle.law_order.proofs.ByNumber.{by_test}
 use Rattle.rh_shell.specs.declared.answers.HeadRefused.{HeadRefused}
 use Rattle.rh_shell.specs.declared.answers.HeadTaken.{HeadTaken}
-use Rattle.law_moves.specs.Moves.{Move, OnLeg}
-use Rattle.law_moves.specs.Moves as moves
 use Rattle.rh_shell.specs.Rules.{Message, Text}
 use Rattle.rh_shell.specs.Shells.{same_leg}
 use Rattle.rh_inproxy.specs.declared.opening.TheConstants.{ECHO_LENGTH, GREATEST_LENGTHS}
@@ -33,10 +31,12 @@ use Rattle.rh_inproxy.specs.Machine.{rules}
 use Rattle.rh_inproxy.specs.Opening.{accepted, accepts, accepts_later, connected, channel_asked, echo_answer, echo_asked, echo_by, head_by, is_absent, may_accept, may_up, put_echo, up, wants, wants_server}
 use Rattle.rh_inproxy.specs.Putting.{next, put}
 use Rattle.rh_inproxy.specs.State.{InProxy, first, has_come, has_opened, is_client_leg, is_server_leg}
+use Rattle.law_moves.specs.Moves.{Move, OnLeg}
+use Rattle.law_moves.specs.Moves as moves
 use Rattle.law_moves.specs.ReadBack.Reading.{IsNoText}
+use Rattle.law_node_streams.specs.Streams.{is_up_on}
 use Rattle.law_node_begins.specs.ProxiesBegin.Pipes.{ci, is}
 use Rattle.law_node_begins.specs.ProxiesBegin.Reached.{came_up_by, IsKnown}
-use Rattle.law_node_streams.specs.Streams.{is_up_on}
 use Rattle.law_node_begins.proofs.ProxiesBegin.Legs.{itself, leg_is, of_kind, each_append}
 use Rattle.law_node_begins.proofs.ProxiesBegin.Turning.{MovesKeep}
 use Rattle.law_node_begins.proofs.ProxiesBegin.InGoes.{Seen, seen, stays, newest_of, alone, not_client, Goes, GoesPut, FirstOn, pdu_goes, packet_goes, mark_goes, ping_goes, drawn_goes, server_goes}

@@ -2,12 +2,11 @@
 use Rattle.std.proofs.Common.{◌≡◌, ◌⊎◌, inl, inr, ℕ, List, [], ◌∷◌, ◌++◌, true, false, Some, None, refl, ap, ◌∙◌, subst, rules}
 use Rattle.std.specs.Prelude.{if◌then◌else◌, IfSome}
 use Rattle.std.specs.List.{AllByRecursion}
+use Rattle.law_order.proofs.ByNumber.{by_test}
 use Rattle.rh_rts.specs.declared.command.Cookie.{Cookie}
 use Rattle.rh_sig.specs.declared.named.Named.{Named}
 use Rattle.rh_line.specs.declared.leg.Leg.{Leg}
-use Rattle.law_order.proofs.ByNumber.{by_test}
 use Rattle.rh_shell.specs.declared.answers.Count.{Count}
-use Rattle.law_moves.specs.Moves.{Move, OnLeg}
 use Rattle.rh_shell.specs.Rules.{Message}
 use Rattle.rh_shell.specs.Shells.{same_leg}
 use Rattle.rh_outproxy.specs.declared.state.Answer.{Answer}
@@ -20,6 +19,7 @@ use Rattle.rh_outproxy.specs.Ending.{drawn}
 use Rattle.rh_outproxy.specs.Machine.{packet, on_co, on_os}
 use Rattle.rh_outproxy.specs.Machine.{rules as proxy_rules}
 use Rattle.rh_outproxy.specs.Putting.{Pick, answer_by, next_co, next_os, or_else, put, put_answer}
+use Rattle.law_moves.specs.Moves.{Move, OnLeg}
 use Rattle.law_moves.specs.ReadBack.Reading.{IsNoText}
 use Rattle.law_node_begins.specs.ProxiesBegin.Pipes.{co, os}
 use Rattle.law_node_begins.proofs.ProxiesBegin.Legs.{each_append}

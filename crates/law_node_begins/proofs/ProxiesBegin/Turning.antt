@@ -5,20 +5,20 @@ use Rattle.std.specs.List.{list_any}
 use Rattle.std.specs.declared.option.Option.{Option}
 use Rattle.std.proofs.lemmas.List.{append-nil}
 use Rattle.std.proofs.lemmas.Bool.{or_parts}
+use Rattle.law_order.proofs.ByNumber.{by_test}
 use Rattle.rh_rts.specs.declared.command.Cookie.{Cookie}
 use Rattle.rh_sig.specs.declared.name.Pipe.{Pipe}
 use Rattle.rh_sig.specs.declared.named.Named.{Named}
 use Rattle.rh_line.specs.declared.leg.Leg.{Leg}
-use Rattle.law_order.proofs.ByNumber.{by_test}
 use Rattle.rh_shell.specs.declared.answers.Count.{Count}
 use Rattle.rh_shell.specs.declared.stage.Stage.{Stage}
 use Rattle.rh_shell.specs.declared.stage.Stage.TheVariants as stage
-use Rattle.law_moves.specs.Moves.{Move, Up, HeadCame, PduCame, PacketCame, Puts, IsDrawn, Marks, Pings, OnLeg, Passage, MayMove, AreAllowed, moved, all_moved, started, taken_by, put_by}
 use Rattle.rh_shell.specs.NearEnds.{first_stage}
 use Rattle.rh_shell.specs.Rules.{Rules, Row, Message, Pdu, Packet}
 use Rattle.rh_shell.specs.Shells.{same_leg}
-use Rattle.law_node_streams.specs.Streams.{is_head_on}
+use Rattle.law_moves.specs.Moves.{Move, Up, HeadCame, PduCame, PacketCame, Puts, IsDrawn, Marks, Pings, OnLeg, Passage, MayMove, AreAllowed, moved, all_moved, started, taken_by, put_by}
 use Rattle.law_moves.specs.Turns.{Stages, none_up, with_stage, behind_head, stages_after, takes_frames, IsInTurn, AreInTurn, AreInTurnFrom}
+use Rattle.law_node_streams.specs.Streams.{is_head_on}
 use Rattle.law_node_begins.proofs.ProxiesBegin.Legs.{leg_is}
 
 -- ---- moves

@@ -2,10 +2,10 @@
 use Rattle.std.specs.Prelude.{ℕ, ◌≡◌, ◌⊎◌, List, Bool, true}
 use Rattle.std.specs.List.{list_any}
 use Rattle.rh_line.specs.declared.leg.Leg.{Leg}
-use Rattle.law_moves.specs.Moves.{Move}
 use Rattle.rh_inproxy.specs.declared.state.InProxyConfig.{InProxyConfig}
-use Rattle.law_node_begins.specs.ProxiesBegin.Pipes.{ci}
+use Rattle.law_moves.specs.Moves.{Move}
 use Rattle.law_node_streams.specs.Streams.{is_up_on}
+use Rattle.law_node_begins.specs.ProxiesBegin.Pipes.{ci}
 
 -- the leg came up by one of the moves
 abbrev pub came_up_by : Leg → List Move → Bool

@@ -7,9 +7,9 @@ ghost use Rattle.rh_http.specs.declared.config.ClientConfig.{ClientConfig};
 ghost use Rattle.rh_line.specs.declared.leg.Leg.{Leg};
 ghost use Rattle.law_moves.specs.Moves.{EndMove};
 ghost use Rattle.law_moves.specs.Wires.{of_leg};
+ghost use Rattle.law_moves.specs.ReadBack.Well.{Answers, IsWellText};
 ghost use Rattle.law_role_client.specs.Legible.{pipe_put};
 ghost use Rattle.law_role_client.specs.Order.{AreAllowedMoves, client_moved};
-ghost use Rattle.law_moves.specs.ReadBack.Well.{Answers, IsWellText};
 ghost use Rattle.law_node_begins.specs.EndsBegin.{Asks, BeginsLegs, WritesOnUp};
 
 use law_moves::{texts_are_whole, texts_read_well};

@@ -3,11 +3,11 @@
 ghost use Rattle.std.specs.Prelude.{ℕ, List};
 ghost use Rattle.std.specs.List.{AllByRecursion};
 ghost use Rattle.rh_line.specs.declared.leg.Leg.{Leg};
-ghost use Rattle.law_moves.specs.Moves.{EndMove, AreAllowedAtEnd, end_started, all_end_moved};
-ghost use Rattle.law_role_server.specs.Legible.{pipe_put};
 ghost use Rattle.rh_server.specs.Servers.{rules, acts, first};
+ghost use Rattle.law_moves.specs.Moves.{EndMove, AreAllowedAtEnd, end_started, all_end_moved};
 ghost use Rattle.law_moves.specs.Wires.{of_leg};
 ghost use Rattle.law_moves.specs.ReadBack.Well.{Answers, IsWellText};
+ghost use Rattle.law_role_server.specs.Legible.{pipe_put};
 ghost use Rattle.law_node_begins.specs.EndsBegin.{BeginsLegs};
 
 use law_moves::{texts_are_whole, texts_read_well};

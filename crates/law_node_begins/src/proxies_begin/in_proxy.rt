@@ -3,23 +3,23 @@
 
 ghost use Rattle.std.specs.Prelude.{ℕ, ◌≡◌, ◌≤◌, List, [], true, false, Some, None};
 ghost use Rattle.std.specs.List.{AllByRecursion};
+ghost use Rattle.std.specs.List.{AllByRecursion};
 ghost use Rattle.rh_sig.specs.declared.name.Pipe.TheVariants.{IsU};
 ghost use Rattle.rh_line.specs.declared.leg.Leg.{Leg};
-ghost use Rattle.law_moves.specs.Moves.{Move, started, all_moved, AreAllowed};
 ghost use Rattle.rh_shell.specs.Shells.{same_leg};
-ghost use Rattle.law_moves.specs.Wires.{of_leg};
 ghost use Rattle.rh_inproxy.specs.declared.state.InProxyConfig.{InProxyConfig};
 ghost use Rattle.rh_inproxy.specs.InReplacement.{has_passed};
 ghost use Rattle.rh_inproxy.specs.Machine.{rules};
 ghost use Rattle.rh_inproxy.specs.State.{first, is_client_leg};
-ghost use Rattle.std.specs.List.{AllByRecursion};
+ghost use Rattle.law_moves.specs.Moves.{Move, started, all_moved, AreAllowed};
+ghost use Rattle.law_moves.specs.Wires.{of_leg};
 ghost use Rattle.law_moves.specs.ReadBack.Reading.{Begins};
-ghost use Rattle.law_node_begins.specs.ProxiesBegin.Echoes.{AsksNoEcho};
 ghost use Rattle.law_moves.specs.ReadBack.Well.{Answers, IsWellText, is_packet};
+ghost use Rattle.law_moves.specs.Turns.{AreInTurn, RefusesInTurn};
+ghost use Rattle.law_node_streams.specs.Streams.{RefusesFirst};
+ghost use Rattle.law_node_begins.specs.ProxiesBegin.Echoes.{AsksNoEcho};
 ghost use Rattle.law_node_begins.specs.ProxiesBegin.Pipes.{ci, is, in_pipe};
 ghost use Rattle.law_node_begins.specs.ProxiesBegin.Reached.{IsKnown, came_up_by};
-ghost use Rattle.law_node_streams.specs.Streams.{RefusesFirst};
-ghost use Rattle.law_moves.specs.Turns.{AreInTurn, RefusesInTurn};
 
 use law_moves::{heads_have_no_messages, texts_are_whole, texts_read_well};
 

@@ -2,20 +2,20 @@
 //! laws.
 
 ghost use Rattle.std.specs.Prelude.{◌≡◌, List, [], false, Some};
+ghost use Rattle.std.specs.List.{AllByRecursion};
 ghost use Rattle.rh_sig.specs.declared.name.Pipe.TheVariants.{CoD, OsU};
 ghost use Rattle.rh_line.specs.declared.leg.Leg.{Leg};
-ghost use Rattle.law_moves.specs.Moves.{Move, started, all_moved, AreAllowed};
 ghost use Rattle.rh_shell.specs.Shells.{same_leg};
-ghost use Rattle.law_moves.specs.Wires.{of_leg};
 ghost use Rattle.rh_outproxy.specs.declared.state.OutProxyConfig.{OutProxyConfig};
 ghost use Rattle.rh_outproxy.specs.Machine.{rules};
 ghost use Rattle.rh_outproxy.specs.OutProxy.{new_proxy};
-ghost use Rattle.std.specs.List.{AllByRecursion};
+ghost use Rattle.law_moves.specs.Moves.{Move, started, all_moved, AreAllowed};
+ghost use Rattle.law_moves.specs.Wires.{of_leg};
 ghost use Rattle.law_moves.specs.ReadBack.Reading.{Begins};
 ghost use Rattle.law_moves.specs.ReadBack.Well.{Answers, IsWellText, is_packet};
-ghost use Rattle.law_node_begins.specs.ProxiesBegin.Pipes.{co, os, out_pipe};
-ghost use Rattle.law_node_streams.specs.Streams.{RefusesFirst};
 ghost use Rattle.law_moves.specs.Turns.{AreInTurn, RefusesInTurn};
+ghost use Rattle.law_node_streams.specs.Streams.{RefusesFirst};
+ghost use Rattle.law_node_begins.specs.ProxiesBegin.Pipes.{co, os, out_pipe};
 
 use law_moves::{heads_have_no_messages, texts_are_whole, texts_read_well};
 

@@ -7,8 +7,8 @@ ghost use Rattle.rh_inproxy.specs.State.{first};
 ghost use Rattle.rh_outproxy.specs.declared.state.OutProxyConfig.{OutProxyConfig};
 ghost use Rattle.rh_outproxy.specs.Machine as out_proxy;
 ghost use Rattle.rh_outproxy.specs.OutProxy.{new_proxy};
-ghost use Rattle.law_node_begins.specs.ProxiesBegin.Pipes.{in_pipe, out_pipe};
 ghost use Rattle.law_node_streams.specs.Streams.{HasPipes};
+ghost use Rattle.law_node_begins.specs.ProxiesBegin.Pipes.{in_pipe, out_pipe};
 
 /// The pipe that a proxy reads on a leg never changes.
 pub fn proxies_keep_their_pipes()

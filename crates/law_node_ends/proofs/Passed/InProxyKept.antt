@@ -6,23 +6,22 @@ use Rattle.std.proofs.lemmas.Bool.Decides.{nat_tests}
 use Rattle.std.specs.Prelude.{if◌then◌else◌}
 use Rattle.std.specs.declared.option.Option.{Option}
 use Rattle.std.specs.declared.result.Result.{Result}
-use Rattle.rh_http.specs.declared.fault.HttpFault.{HttpFault}
-use Rattle.rh_http.specs.Lengths.{greatest_echo}
-use Rattle.rh_http.specs.Heads.Verdicts.{Asked}
+use Rattle.law_order.proofs.ByNumber.{by_test, same_number}
 use Rattle.rh_rts.specs.declared.command.Cookie.{Cookie}
 use Rattle.rh_sig.specs.declared.named.Named.{Named}
 use Rattle.rh_sig.specs.declared.named.Named.TheVariants.{ConnB1, ConnB3, InR1A1, InR1A5, InR1B1, InR1B2, OutR1A7, EndA1, Ack, AckTo, KeepAlive}
+use Rattle.rh_http.specs.declared.fault.HttpFault.{HttpFault}
+use Rattle.rh_http.specs.Lengths.{greatest_echo}
+use Rattle.rh_http.specs.Heads.Verdicts.{Asked}
 use Rattle.rh_line.specs.declared.leg.Leg.{Leg}
 use Rattle.rh_line.specs.declared.which.Which.{Which}
 use Rattle.rh_line.specs.declared.which.Which.TheVariants.{Current, Next}
 use Rattle.rh_line.specs.Lines as line
-use Rattle.law_order.proofs.ByNumber.{by_test, same_number}
 use Rattle.rh_shell.specs.declared.answers.Count.{Count}
 use Rattle.rh_shell.specs.declared.answers.HeadRefused.{HeadRefused}
 use Rattle.rh_shell.specs.declared.answers.HeadTaken.{HeadTaken}
 use Rattle.rh_shell.specs.declared.answers.Refused.TheVariants as refused
 use Rattle.rh_shell.specs.NearEnds.{is_ended}
-use Rattle.law_moves.specs.Moves.{is_at_work}
 use Rattle.rh_inproxy.specs.declared.state.ClientLeg.{ClientLeg}
 use Rattle.rh_inproxy.specs.declared.state.Handover.{Handover}
 use Rattle.rh_inproxy.specs.declared.state.Handover.TheVariants.{Before, Came, Passed}
@@ -46,6 +45,7 @@ use Rattle.rh_inproxy.specs.OutReplacement.{on_out_r1_a7}
 use Rattle.rh_inproxy.specs.Time.{on_keep_alive}
 use Rattle.rh_inproxy.specs.Machine.{pdu, packet, on_channel, on_channel_by, on_ci, on_is}
 use Rattle.rh_inproxy.specs.Machine.{rules as proxy_rules}
+use Rattle.law_moves.specs.Moves.{is_at_work}
 
 -- what the fact is about
 pub record Seen : Type 0 where

@@ -2,13 +2,12 @@
 use Rattle.std.proofs.Common.{◌≡◌, ◌⊎◌, inl, inr, ℕ, suc, ◌<◌, ◌≤◌, ◌==◌, Bool, true, false, true≢false, ◌&&◌, ◌||◌, not, List, nat_le, nat_lt, arith, refl, sym, ◌∙◌, subst, ap}
 use Rattle.std.proofs.lemmas.Bool.Decides.{nat_tests}
 use Rattle.std.specs.List.{AllByRecursion}
-use Rattle.rh_line.specs.declared.leg.Leg.{Leg}
 use Rattle.law_order.specs.Items.{has_end, has_handover}
 use Rattle.law_order.specs.Logs.{below, through}
 use Rattle.law_order.proofs.ItemLists.{has_end-append}
 use Rattle.law_order.proofs.ByNumber.{same_number}
+use Rattle.rh_line.specs.declared.leg.Leg.{Leg}
 use Rattle.rh_shell.specs.NearEnds.{is_ended}
-use Rattle.law_moves.specs.Moves.{AreAllowed, Move, OnLeg, Passage, started, all_moved, is_in_use}
 use Rattle.rh_inproxy.specs.declared.state.Handover.{Handover}
 use Rattle.rh_inproxy.specs.declared.state.Handover.TheVariants.{Before, Came, Passed}
 use Rattle.rh_inproxy.specs.declared.state.InProxyConfig.{InProxyConfig}
@@ -23,8 +22,9 @@ use Rattle.rh_inproxy.specs.State.{InProxy, first, hands_over}
 use Rattle.rh_inproxy.specs.Opening.{had_client, is_absent, newest, newest_by, phase_by, up, was_up}
 use Rattle.rh_inproxy.specs.Ending.{is_done, is_succeeded, newest_ended}
 use Rattle.rh_inproxy.specs.InReplacement.{has_passed}
-use Rattle.law_role_inproxy.specs.Order.{KeepsOrder, came_log, next_shelf, put_items}
 use Rattle.rh_inproxy.specs.Machine.{rules as proxy_rules}
+use Rattle.law_moves.specs.Moves.{AreAllowed, Move, OnLeg, Passage, started, all_moved, is_in_use}
+use Rattle.law_role_inproxy.specs.Order.{KeepsOrder, came_log, next_shelf, put_items}
 use Rattle.law_node_ends.specs.Passed.{AsksNoEcho, HeadsAre, IsDoneBehindEnd, IsDoneBehindEnds, IsDoneBehindMark, LosesNone, ci_leg, is_leg}
 use Rattle.law_node_ends.proofs.Passed.Allowed.{moves_keep, of_role}
 use Rattle.law_node_ends.proofs.Passed.InProxyKept.{Holds, IsBehind, IsWork, Over}

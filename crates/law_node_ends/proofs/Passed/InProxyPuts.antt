@@ -3,17 +3,16 @@ use Rattle.std.proofs.Common.{◌≡◌, inl, inr, ℕ, ◌==◌, Bool, true, fa
 use Rattle.std.proofs.lemmas.Bool.{and_parts}
 use Rattle.std.specs.Prelude.{if◌then◌else◌, IfSome}
 use Rattle.std.specs.declared.option.Option.{Option}
-use Rattle.rh_http.specs.Heads.Verdicts.{request_verdict}
-use Rattle.rh_rts.specs.declared.command.Cookie.{Cookie}
 use Rattle.rh_window.specs.declared.recv_window.Ack as told
+use Rattle.rh_window.specs.Sending.{may_send, after_sent}
+use Rattle.law_order.proofs.ByNumber.{by_test}
+use Rattle.rh_rts.specs.declared.command.Cookie.{Cookie}
+use Rattle.rh_http.specs.Heads.Verdicts.{request_verdict}
 use Rattle.rh_line.specs.declared.leg.Leg.{Leg}
 use Rattle.rh_line.specs.declared.which.Which.{Which}
 use Rattle.rh_line.specs.declared.which.Which.TheVariants.{Current, Next}
 use Rattle.rh_line.specs.Lines as line
-use Rattle.rh_window.specs.Sending.{may_send, after_sent}
-use Rattle.law_order.proofs.ByNumber.{by_test}
 use Rattle.rh_shell.specs.declared.due.Due.{Due}
-use Rattle.law_moves.specs.Moves.{HeadCame, Marks, Move}
 use Rattle.rh_shell.specs.Rules.{Message, Pdu, Packet}
 use Rattle.rh_inproxy.specs.declared.state.Handover.{Handover}
 use Rattle.rh_inproxy.specs.declared.state.Handover.TheVariants.{Before, Came, Passed}
@@ -35,6 +34,7 @@ use Rattle.rh_inproxy.specs.Putting.{put as put_of}
 use Rattle.rh_inproxy.specs.Time.{ping, put_ping}
 use Rattle.rh_inproxy.specs.Machine.{pdu, packet}
 use Rattle.rh_inproxy.specs.Machine.{rules as proxy_rules}
+use Rattle.law_moves.specs.Moves.{HeadCame, Marks, Move}
 use Rattle.law_node_ends.specs.Passed.{AsksNoEcho}
 use Rattle.law_node_ends.proofs.Passed.Allowed.{StepsKeep, of_role, role_row}
 use Rattle.law_node_ends.proofs.Passed.InProxyKept as kept

@@ -2,13 +2,13 @@
 use Rattle.std.proofs.Common.{◌≡◌, ℕ, Some, None, rules, refl, ◌∙◌}
 use Rattle.std.specs.Prelude.{IfSome}
 use Rattle.std.specs.declared.option.Option.{Option}
+use Rattle.law_order.proofs.ByNumber.{by_test}
 use Rattle.rh_sig.specs.declared.named.Named.{Named}
+use Rattle.rh_sig.specs.declared.named.Named.TheVariants as named
 use Rattle.rh_line.specs.declared.leg.LegKind.{LegKind}
 use Rattle.rh_line.specs.declared.leg.LegKind.TheVariants.{ClientOut, OutServer, ClientIn, InServer}
-use Rattle.law_order.proofs.ByNumber.{by_test}
 use Rattle.rh_shell.specs.declared.answers.Count.{Count}
 use Rattle.rh_shell.specs.Rules.{Message}
-use Rattle.rh_sig.specs.declared.named.Named.TheVariants as named
 use Rattle.rh_server.specs.declared.state.InLeg.{InLeg}
 use Rattle.rh_server.specs.States.{Server, in_leg, is_closing, is_open, out_place, without_in, without_out}
 use Rattle.rh_server.specs.Ending.{drawn_by, in_is_drawn, lost_in, mark_by, settled, with_ack_dropped}

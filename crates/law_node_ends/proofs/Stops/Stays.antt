@@ -8,12 +8,12 @@ use Rattle.rh_line.specs.declared.cause.Cause.{Cause}
 use Rattle.rh_line.specs.declared.leg.Leg.{Leg}
 use Rattle.rh_shell.specs.declared.answers.Count.{Count}
 use Rattle.rh_shell.specs.declared.end_role.GiveRefused.TheVariants as give_refused
-use Rattle.law_moves.specs.Carrying.{accepted}
 use Rattle.rh_shell.specs.Ends.{cause_of, give_where, give_to}
-use Rattle.law_moves.specs.Moves.{Move, Up, HeadCame, PduCame, PacketCame, Puts, IsDrawn, Marks, Pings, Passage, moved, taken_by, put_by, EndMove, Moves, Gives, Takes, Closes, Recycles, EndPassage, end_moved, all_end_moved, end_started, end_now_at, given_by, with_first}
-use Rattle.law_moves.specs.Moving.{AreHeld, EndEvent, Happens, IsGiven, IsTaken, IsClosed, IsRecycled, after_end_event, EndFollows}
 use Rattle.rh_shell.specs.Rules.{Rules, Acts, Row, Message, Pdu, Packet}
 use Rattle.rh_shell.specs.Shells.{Shell}
+use Rattle.law_moves.specs.Carrying.{accepted}
+use Rattle.law_moves.specs.Moves.{Move, Up, HeadCame, PduCame, PacketCame, Puts, IsDrawn, Marks, Pings, Passage, moved, taken_by, put_by, EndMove, Moves, Gives, Takes, Closes, Recycles, EndPassage, end_moved, all_end_moved, end_started, end_now_at, given_by, with_first}
+use Rattle.law_moves.specs.Moving.{AreHeld, EndEvent, Happens, IsGiven, IsTaken, IsClosed, IsRecycled, after_end_event, EndFollows}
 use Rattle.law_node_streams.specs.Streams as streams
 use Rattle.law_node_ends.specs.Stops.{GaveNoMore, GivesNoMore}
 

@@ -1,10 +1,9 @@
 -- an out proxy's legs are done at once, with its work
 use Rattle.std.proofs.Common.{◌≡◌, ◌&&◌, Bool, true, false, not, if◌then◌else◌, Some, None, refl, sym, ◌∙◌}
 use Rattle.std.specs.Prelude.{IfSome, IsTrue}
-use Rattle.rh_line.specs.declared.leg.Leg.{Leg}
 use Rattle.law_order.proofs.ByNumber.{by_test}
+use Rattle.rh_line.specs.declared.leg.Leg.{Leg}
 use Rattle.rh_shell.specs.declared.answers.Phase.TheVariants as phases
-use Rattle.law_moves.specs.Moves.{is_at_work, is_in_use}
 use Rattle.rh_shell.specs.NearEnds.{is_ended}
 use Rattle.rh_shell.specs.Rules.{Message}
 use Rattle.rh_outproxy.specs.declared.state.Answer.TheVariants as answers
@@ -13,6 +12,7 @@ use Rattle.rh_outproxy.specs.Rows.{is_co}
 use Rattle.rh_outproxy.specs.Ending.{drawn}
 use Rattle.rh_outproxy.specs.Putting.{Pick, put}
 use Rattle.rh_outproxy.specs.Machine.{rules as proxy_rules}
+use Rattle.law_moves.specs.Moves.{is_at_work, is_in_use}
 use Rattle.law_node_ends.proofs.Unused.Staying.{StaysDone, Keeps, RoleKeeps, of_use}
 
 abbrev pub Any : OutProxy → Type 0

@@ -6,8 +6,8 @@ use Rattle.std.specs.List.{list_any, position_or_len}
 use Rattle.std.specs.declared.option.Option.{Option}
 use Rattle.std.proofs.lemmas.Bool.Decides.{nat_tests}
 use Rattle.std.proofs.lemmas.List.Folds.{find_at}
-use Rattle.rh_server.specs.States.{is_some}
 use Rattle.law_order.proofs.ItemLists.{neither}
+use Rattle.rh_server.specs.States.{is_some}
 
 no_one : (a b : Bool) → a ≡ false → b ≡ false → (a || b) ≡ false
 no_one true b p q = absurd cc

@@ -2,6 +2,7 @@
 use Rattle.std.proofs.Common.{◌≡◌, ℕ, ◌==◌, ◌&&◌, ◌||◌, Bool, true, false, not, nat_lt, Some, None, arith, rules, refl, sym, ◌∙◌}
 use Rattle.std.specs.Prelude.{slice_get}
 use Rattle.std.specs.declared.option.Option.{Option}
+use Rattle.law_order.proofs.ByNumber.{by_test}
 use Rattle.rh_rts.specs.declared.command.Cookie.{Cookie}
 use Rattle.rh_sig.specs.declared.named.Named.{Named}
 use Rattle.rh_sig.specs.declared.named.Named.TheVariants as named
@@ -9,12 +10,11 @@ use Rattle.rh_line.specs.declared.leg.LegKind.{LegKind}
 use Rattle.rh_line.specs.declared.leg.LegKind.TheVariants.{ClientOut, OutServer, ClientIn, InServer}
 use Rattle.rh_line.specs.declared.which.Which.{Which}
 use Rattle.rh_line.specs.declared.which.Which.TheVariants.{Current, Next}
-use Rattle.law_order.proofs.ByNumber.{by_test}
+use Rattle.rh_line.specs.Lines.{after_finish}
 use Rattle.rh_shell.specs.declared.answers.Count.{Count}
+use Rattle.rh_shell.specs.declared.answers.Refused.TheVariants as refused
 use Rattle.rh_server.specs.declared.state.InLeg.{InLeg}
 use Rattle.rh_server.specs.declared.state.OutLeg.{OutLeg}
-use Rattle.rh_line.specs.Lines.{after_finish}
-use Rattle.rh_shell.specs.declared.answers.Refused.TheVariants as refused
 use Rattle.rh_server.specs.declared.out_line.Kind.TheVariants as kind
 use Rattle.rh_server.specs.declared.state.Edge.TheVariants.{Shut}
 use Rattle.rh_server.specs.declared.state.InStage.{InStage}

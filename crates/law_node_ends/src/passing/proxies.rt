@@ -4,15 +4,15 @@
 ghost use Rattle.std.specs.Prelude.{◌≡◌, ℕ, List, true, false};
 ghost use Rattle.std.specs.List.{AllByRecursion};
 ghost use Rattle.rh_line.specs.declared.leg.Leg.{Leg};
-ghost use Rattle.law_moves.specs.Moves.{AreAllowed, Move, all_moved, started};
 ghost use Rattle.rh_inproxy.specs.declared.state.InProxyConfig.{InProxyConfig};
 ghost use Rattle.rh_inproxy.specs.Machine.{rules as in_rules};
-ghost use Rattle.law_role_inproxy.specs.Order.{came_log as in_came, put_items as in_put};
 ghost use Rattle.rh_inproxy.specs.State.{first};
 ghost use Rattle.rh_outproxy.specs.declared.state.OutProxyConfig.{OutProxyConfig};
 ghost use Rattle.rh_outproxy.specs.Machine.{rules as out_rules};
-ghost use Rattle.law_role_outproxy.specs.Order.{came_log as out_came, put_items as out_put, server_leg};
 ghost use Rattle.rh_outproxy.specs.OutProxy.{new_proxy};
+ghost use Rattle.law_moves.specs.Moves.{AreAllowed, Move, all_moved, started};
+ghost use Rattle.law_role_inproxy.specs.Order.{came_log as in_came, put_items as in_put};
+ghost use Rattle.law_role_outproxy.specs.Order.{came_log as out_came, put_items as out_put, server_leg};
 ghost use Rattle.law_node_ends.specs.Passed.{AsksNoEcho, HeadsAre, IsDoneBehindEnd, IsDoneBehindEnds};
 ghost use Rattle.law_node_ends.specs.Passed.{IsDoneBehindMark, LosesNone, ci_leg, is_leg};
 

@@ -1,9 +1,9 @@
 //! The legs for which a server has no more use. Its function does nothing: its contract is the law.
 
 ghost use Rattle.std.specs.Prelude.{◌≡◌, ℕ, List, true};
+ghost use Rattle.rh_server.specs.Servers.{acts, first, rules};
 ghost use Rattle.law_moves.specs.Moves.{AreAllowedAtEnd, EndMove, all_end_moved, end_started};
 ghost use Rattle.law_role_server.specs.Order.{came_up, got};
-ghost use Rattle.rh_server.specs.Servers.{acts, first, rules};
 ghost use Rattle.law_node_ends.specs.Passed.{IsDoneBehindEnd, is_leg};
 
 use law_role_server::a_server_takes_in_order;

@@ -1,16 +1,16 @@
 //! What a take tells that ends. Its functions do nothing: their contracts are the laws.
 
 ghost use Rattle.std.specs.Prelude.{◌≡◌, ℕ, List};
-ghost use Rattle.rh_line.specs.declared.state.Take.TheVariants.{Ended};
 ghost use Rattle.law_order.specs.Taking.{ReportsEnd};
+ghost use Rattle.rh_line.specs.declared.state.Take.TheVariants.{Ended};
 ghost use Rattle.rh_shell.specs.Ends.{take_answer};
 ghost use Rattle.rh_shell.specs.Rules.{Acts};
 ghost use Rattle.rh_shell.specs.Shells.{Shell};
 ghost use Rattle.rh_client.specs.declared.state.ClientRole.{ClientRole};
 ghost use Rattle.rh_client.specs.Client.{acts as client_acts};
-ghost use Rattle.law_role_client.specs.Order.{taker_of as client_taker};
 ghost use Rattle.rh_server.specs.States.{Server};
 ghost use Rattle.rh_server.specs.Servers.{acts as server_acts};
+ghost use Rattle.law_role_client.specs.Order.{taker_of as client_taker};
 ghost use Rattle.law_role_server.specs.Order.{taker_of as server_taker};
 ghost use Rattle.law_node_ends.specs.Stops.{HasNothingLeft};
 

@@ -5,9 +5,9 @@ use Rattle.std.specs.declared.option.Option.{Option}
 use Rattle.rh_rts.specs.declared.command.Cookie.{Cookie}
 use Rattle.rh_sig.specs.declared.name.Pipe.{Pipe}
 use Rattle.rh_line.specs.declared.leg.Leg.{Leg}
-use Rattle.law_moves.specs.Moves.{Move, Passage}
 use Rattle.rh_shell.specs.Rules.{Rules}
 use Rattle.rh_shell.specs.Shells.{Shell}
+use Rattle.law_moves.specs.Moves.{Move, Passage}
 use Rattle.law_moves.specs.Turns.{Stages}
 use Rattle.law_node_streams.proofs.Streams.Runs.{Ran}
 use Rattle.law_node_streams.proofs.Streams.Ways.{Lifts}

@@ -10,11 +10,11 @@ use Rattle.rh_pdu.proofs.Headers.{frag_bounds, frag_same}
 use Rattle.rh_sig.specs.declared.name.Pipe.{Pipe}
 use Rattle.rh_shell.specs.declared.stage.Stage.{Stage}
 use Rattle.rh_shell.specs.declared.stage.Stage.TheVariants as stage
-use Rattle.law_moves.specs.Carrying.{message_in}
 use Rattle.rh_shell.specs.Intakes.{Intake, Came, Nothing, Head, Greeting, Frame, Fault, Over, behind, counted, is_full, length_told, is_whole_head, is_whole_greeting, text_by, frame_by, frame_byte, byte_by, on_byte}
 use Rattle.rh_shell.specs.Rules.{Message}
-use Rattle.law_node_streams.specs.Streams.{is_live}
+use Rattle.law_moves.specs.Carrying.{message_in}
 use Rattle.law_moves.specs.ReadBack.Reading.{Reading, reading, text_read, frame_read, read_by, read_byte, reading_after, messages_from}
+use Rattle.law_node_streams.specs.Streams.{is_live}
 
 -- ---- a list of bytes behind another one
 

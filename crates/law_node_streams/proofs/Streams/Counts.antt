@@ -7,8 +7,8 @@ use Rattle.rh_line.specs.declared.leg.Leg.{Leg}
 use Rattle.rh_shell.specs.declared.answers.Count.{Count}
 use Rattle.rh_shell.specs.declared.answers.Count.TheVariants as count
 use Rattle.rh_shell.specs.Hearing.{one_more}
-use Rattle.law_moves.specs.Moves.{Move, EndMove, OnLeg, Passage, EndPassage, moved, all_moved, end_moved, all_end_moved}
 use Rattle.rh_shell.specs.Rules.{Rules, Acts, Message, Pdu, Packet}
+use Rattle.law_moves.specs.Moves.{Move, EndMove, OnLeg, Passage, EndPassage, moved, all_moved, end_moved, all_end_moved}
 use Rattle.law_moves.specs.Wires.{of_leg}
 use Rattle.law_moves.specs.Passages.Counted.{Tells, AreCounted, AreCountedAtEnd, is_any, packets}
 use Rattle.law_moves.proofs.Passages.Messages.{count_append, leg_more}

@@ -3,11 +3,11 @@ use Rattle.std.proofs.Common.{◌≡◌, ℕ, List, [], ◌∷◌, ◌++◌, Ok,
 use Rattle.std.specs.declared.result.Result.{Result}
 use Rattle.std.proofs.lemmas.List.{append-nil}
 use Rattle.rh_shell.specs.declared.end_role.GiveRefused.{GiveRefused}
-use Rattle.law_moves.specs.Carrying.{accepted, first_in}
 use Rattle.rh_shell.specs.Ends as ends
+use Rattle.rh_shell.specs.Rules.{Rules, Acts}
+use Rattle.law_moves.specs.Carrying.{accepted, first_in}
 use Rattle.law_moves.specs.Moves.{EndMove, EndPassage, Gives, Takes, Closes, Recycles, AreAllowedAtEnd, MayEndMove, all_end_moved, end_moved, end_now_at, given_by, with_first}
 use Rattle.law_moves.specs.Moving.{EndLeads}
-use Rattle.rh_shell.specs.Rules.{Rules, Acts}
 
 module _ {S : Type 0} (rules : Rules S) (acts : Acts S) where
   pub all_end_moved_append : (p : EndPassage S) (ms ns : List EndMove)

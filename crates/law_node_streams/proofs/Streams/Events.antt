@@ -5,11 +5,13 @@ use Rattle.std.specs.List.{AllByRecursion, list_any}
 use Rattle.std.specs.declared.option.Option.{Option}
 use Rattle.std.proofs.lemmas.List.{take-append-drop}
 use Rattle.std.proofs.lemmas.List.Elements.{All-set}
-use Rattle.rh_rts.specs.declared.command.Cookie.{Cookie}
+use Rattle.std.proofs.lemmas.Bool.{and_parts}
+use Rattle.law_order.proofs.ItemLists.{neither}
 use Rattle.rh_pdu.specs.Frames.{IsUnfinished}
+use Rattle.rh_rts.specs.declared.command.Cookie.{Cookie}
+use Rattle.rh_sig.specs.declared.name.Pipe.{Pipe}
 use Rattle.rh_http.specs.Texts.{refusal_text}
 use Rattle.rh_http.specs.declared.refusal.Refusal.TheVariants.{Unavailable}
-use Rattle.rh_sig.specs.declared.name.Pipe.{Pipe}
 use Rattle.rh_line.specs.declared.leg.Leg.{Leg}
 use Rattle.rh_line.specs.declared.cause.Cause.{Cause}
 use Rattle.rh_line.specs.declared.cause.Cause.TheVariants as cause
@@ -20,14 +22,16 @@ use Rattle.rh_shell.specs.declared.stage.Stage.TheVariants as stage
 use Rattle.rh_shell.specs.Drawing.{Drawn, draw}
 use Rattle.rh_shell.specs.Hearing.{Turn, goes, hear, is_stopped}
 use Rattle.rh_shell.specs.Intakes.{Intake}
-use Rattle.law_moves.specs.Moves.{Move, Passage, Up, HeadCame, PduCame, PacketCame, Puts, IsDrawn, Marks, Pings, MayMove, moved}
-use Rattle.law_moves.specs.Moving.{Event, ComesUp, Hears, Ends, Breaks, Draws, Ticks, after_event, IsHeld, AreHeld}
 use Rattle.rh_shell.specs.NearEnds.{NearEnd, first_stage, is_ended, is_finished, is_marked, marked, new_end}
 use Rattle.rh_shell.specs.Rules.{Rules}
 use Rattle.rh_shell.specs.Shells.{Shell, end_at, with_end, place, close, refuse, stopped, bytes_at, bytes_by, bytes, may_up, has_room, with_leg, seated_at, free_place, up, lose, lost, ended_at, ended_by, ended, wants, is_heard, unreached_by, unreached, broken_at, broken_by, broken, put_back, drawn_at, drawn_by, drawn, same_leg, first_silent, passed_by, passed, tick, is_working}
+use Rattle.law_moves.specs.Moves.{Move, Passage, Up, HeadCame, PduCame, PacketCame, Puts, IsDrawn, Marks, Pings, MayMove, moved}
+use Rattle.law_moves.specs.Moving.{Event, ComesUp, Hears, Ends, Breaks, Draws, Ticks, after_event, IsHeld, AreHeld}
 use Rattle.law_moves.specs.Wires.{of_leg}
-use Rattle.law_node_history.specs.Carried.{drawn_in, heard_in, is_up_of}
 use Rattle.law_moves.specs.Passages.Counted.{AreCounted}
+use Rattle.law_moves.specs.Turns.{Stages, AreInTurnFrom}
+use Rattle.law_node_history.specs.Carried.{drawn_in, heard_in, is_up_of}
+use Rattle.law_node_history.proofs.Wired.{same_itself}
 use Rattle.law_node_streams.proofs.Streams.Counts.{TellsOn}
 use Rattle.law_node_streams.proofs.Streams.Draws.{Drew, draw_drew}
 use Rattle.law_node_streams.proofs.Streams.Ends.{AreApart, end_has, end_is, end_leg, end_of, leg_is, same_apart, seated_apart, seated_new, seated_other}
@@ -35,15 +39,11 @@ use Rattle.law_node_streams.proofs.Streams.Hears.{Heard, nothing_held}
 use Rattle.law_node_streams.proofs.Streams.Pings.{pings}
 use Rattle.law_node_streams.proofs.Streams.Pieces.{piece_heard}
 use Rattle.law_node_streams.specs.Streams.{is_up_on}
-use Rattle.law_moves.specs.Turns.{Stages, AreInTurnFrom}
 use Rattle.law_node_streams.proofs.Streams.Staging.{IsNext, LeavesStages, all_stages, anything, leaves_none, next_itself, reached_stays, stage_none, stage_other}
 use Rattle.law_node_streams.proofs.Streams.Seats.{StopKeeps, at_work, on_answers, on_left, on_stopped, staged_on, beside_seat, here_seat, left_as, left_of, left_self, marked_left, seat, seated_held, silent_closed, silent_none, stop_here, stop_keeps, stop_there, was_seat}
 use Rattle.law_node_streams.proofs.Streams.Turns as turns
 use Rattle.law_node_streams.proofs.Streams.Turns.{Nowhere, Sits, Answers, IsOn, IsStaged, IsLeft, IsQuiet, IsSilent, Turns, Passes, Tells, Comes, Fails, more_there, seat_by}
 use Rattle.law_node_streams.proofs.Streams.Ways.{Way, IsRaised, Lifts, nowhere, or_false, way_none, way_one}
-use Rattle.law_node_history.proofs.Wired.{same_itself}
-use Rattle.std.proofs.lemmas.Bool.{and_parts}
-use Rattle.law_order.proofs.ItemLists.{neither}
 
 pub no_lift : (With : Leg → Cookie → Type 0) (move : Move)
     → ((leg : Leg) → is_up_on leg move ≡ false) → Lifts With move

@@ -12,15 +12,15 @@ use Rattle.rh_line.specs.declared.leg.Leg.{Leg}
 use Rattle.rh_shell.specs.declared.answers.Count.{Count}
 use Rattle.rh_shell.specs.declared.heading.Heading.{Heading}
 use Rattle.rh_shell.specs.declared.reading.PacketFault.{PacketFault}
-use Rattle.law_moves.specs.Carrying.{on_leg, message_in, named_messages}
 use Rattle.rh_shell.specs.Hearing.{take_frame, take_packet, take_ping, close_row, is_ping, one_more, is_zero, is_upward}
-use Rattle.law_moves.specs.Moves.{Move, Passage, PduCame, PacketCame, taken_by, is_in_use}
 use Rattle.rh_shell.specs.Readings.{packet_of}
 use Rattle.rh_shell.specs.Rules.{Rules, Row, Message, Pdu, Packet}
+use Rattle.law_moves.specs.Carrying.{on_leg, message_in, named_messages}
+use Rattle.law_moves.specs.Moves.{Move, Passage, PduCame, PacketCame, taken_by, is_in_use}
 use Rattle.law_moves.specs.Wires.{of_leg}
 use Rattle.law_moves.specs.Passages.Counted.{Tells, AreCounted, packets}
-use Rattle.law_node_streams.proofs.Streams.Counts.{TellsOn, ToldBy, tells_packet, tells_pdu}
 use Rattle.law_moves.specs.Turns.{Stages, AreInTurnFrom, none_up, takes_frames}
+use Rattle.law_node_streams.proofs.Streams.Counts.{TellsOn, ToldBy, tells_packet, tells_pdu}
 use Rattle.law_node_streams.proofs.Streams.Staging.{LeavesStages, all_stages, leaves_none}
 use Rattle.law_node_streams.proofs.Streams.Ways.{Way, nowhere, way_none, way_one}
 

@@ -2,14 +2,14 @@
 use Rattle.std.proofs.Common.{◌≡◌, ℕ, List, [], ◌∷◌, cond, Bool, true, false, Some, None, refl, ap, ◌∙◌, sym, subst}
 use Rattle.std.specs.Prelude.{is_some, not}
 use Rattle.std.specs.declared.option.Option.{Option}
+use Rattle.std.proofs.lemmas.Bool.{and_parts}
 use Rattle.rh_line.specs.declared.leg.Leg.{Leg}
-use Rattle.law_moves.specs.Moves.{Passage, Pings, moved}
 use Rattle.rh_shell.specs.NearEnds.{NearEnd, is_finished}
 use Rattle.rh_shell.specs.Rules.{Rules}
 use Rattle.rh_shell.specs.Shells.{is_quiet, is_quiet_by, pinged}
+use Rattle.law_moves.specs.Moves.{Passage, Pings, moved}
 use Rattle.law_node_streams.proofs.Streams.Staging.{LeavesStages, anything, leaves_none, leaves_then}
 use Rattle.law_node_streams.proofs.Streams.Ways.{Way, nowhere, way_none, way_one, way_then}
-use Rattle.std.proofs.lemmas.Bool.{and_parts}
 
 module _ {S : Type 0} (rules : Rules S) where
   -- moves lead to this role, and log nothing

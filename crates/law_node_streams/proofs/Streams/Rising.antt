@@ -7,14 +7,14 @@ use Rattle.rh_rts.specs.declared.command.Cookie.{Cookie}
 use Rattle.rh_line.specs.declared.leg.Leg.{Leg}
 use Rattle.rh_shell.specs.declared.stage.Stage.{Stage}
 use Rattle.rh_shell.specs.declared.stage.Stage.TheVariants as stage
-use Rattle.law_moves.specs.Moves.{Move, Up, HeadCame, PduCame, PacketCame, Puts, IsDrawn, Marks, Pings, EndMove, Moves, Gives, Takes, Closes, Recycles}
-use Rattle.law_moves.specs.Moving.{Event, ComesUp}
 use Rattle.rh_shell.specs.NearEnds.{first_stage}
 use Rattle.rh_shell.specs.Rules.{Rules}
 use Rattle.rh_shell.specs.Shells.{same_leg}
+use Rattle.law_moves.specs.Moves.{Move, Up, HeadCame, PduCame, PacketCame, Puts, IsDrawn, Marks, Pings, EndMove, Moves, Gives, Takes, Closes, Recycles}
+use Rattle.law_moves.specs.Moving.{Event, ComesUp}
 use Rattle.law_moves.specs.Passages.Rising.{AreUpFirst, CameUpWith, HasComeUp, IsUpFirst, WasUp}
-use Rattle.law_node_streams.specs.Streams.{ComesUpWith, IsCookie, RisesWith}
 use Rattle.law_moves.specs.Turns.{Stages, IsInTurn, behind_head, stages_after, takes_frames, with_stage}
+use Rattle.law_node_streams.specs.Streams.{ComesUpWith, IsCookie, RisesWith}
 use Rattle.law_node_streams.proofs.Streams.Ends.{leg_is}
 use Rattle.law_node_streams.proofs.Streams.Ways.{Lifts}
 

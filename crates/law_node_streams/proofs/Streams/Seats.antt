@@ -14,9 +14,9 @@ use Rattle.rh_shell.specs.declared.stage.Stage.{Stage}
 use Rattle.rh_shell.specs.declared.stop.Stop.{Stop}
 use Rattle.rh_shell.specs.Hearing.{is_stopped}
 use Rattle.rh_shell.specs.Intakes.{Intake}
-use Rattle.law_moves.specs.Moving.{IsHeld}
 use Rattle.rh_shell.specs.NearEnds.{NearEnd, is_ended, marked}
 use Rattle.rh_shell.specs.Shells.{Shell, with_end, place, stop_by, stopped, bytes, seated_at, same_leg, is_working_by, state_by}
+use Rattle.law_moves.specs.Moving.{IsHeld}
 use Rattle.law_node_streams.proofs.Streams.Ends.{IsLeftOf, end_of, leg_is, set_beside, set_here}
 use Rattle.law_node_streams.proofs.Streams.Staging.{IsNext}
 use Rattle.law_node_streams.proofs.Streams.Ways.{or_false}

@@ -4,28 +4,28 @@ use Rattle.std.specs.Prelude.{is_some}
 use Rattle.std.specs.List.{list_any}
 use Rattle.std.specs.declared.option.Option.{Option}
 use Rattle.std.proofs.lemmas.List.{append-nil}
+use Rattle.rh_sig.specs.declared.name.Pipe.{Pipe}
 use Rattle.rh_http.specs.declared.refusal.Refusal.{Refusal}
 use Rattle.rh_http.specs.declared.refusal.Refusal.TheVariants.{Unavailable}
 use Rattle.rh_http.specs.Texts.{refusal_text}
-use Rattle.rh_sig.specs.declared.name.Pipe.{Pipe}
 use Rattle.rh_line.specs.declared.leg.Leg.{Leg}
 use Rattle.rh_shell.specs.declared.course.Course.{Course}
 use Rattle.rh_shell.specs.declared.course.Course.TheVariants.{Going, Closed, Refusing}
 use Rattle.rh_shell.specs.declared.stage.Stage.{Stage}
 use Rattle.rh_shell.specs.declared.stop.Stop.{Stop}
-use Rattle.law_moves.specs.Carrying.{on_leg}
 use Rattle.rh_shell.specs.Drawing.{Drawn}
 use Rattle.rh_shell.specs.Hearing.{Turn}
-use Rattle.law_moves.specs.Moves.{Move, Passage, OnLeg}
 use Rattle.rh_shell.specs.NearEnds.{NearEnd, is_marked, new_end}
 use Rattle.rh_shell.specs.Rules.{Rules, Message}
 use Rattle.rh_shell.specs.Shells.{same_leg}
+use Rattle.law_moves.specs.Carrying.{on_leg}
+use Rattle.law_moves.specs.Moves.{Move, Passage, OnLeg}
 use Rattle.law_moves.specs.Wires.{of_leg}
+use Rattle.law_node_history.proofs.Wired.{same_itself}
 use Rattle.law_node_streams.specs.Streams.{is_head_on}
 use Rattle.law_node_streams.proofs.Streams.Draws.{Drew}
 use Rattle.law_node_streams.proofs.Streams.Hears.{Heard}
 use Rattle.law_node_streams.proofs.Streams.Staging.{IsNext}
-use Rattle.law_node_history.proofs.Wired.{same_itself}
 
 -- ---- what a node has of a leg
 

@@ -11,15 +11,15 @@ use Rattle.rh_shell.specs.declared.course.Course.{Course}
 use Rattle.rh_shell.specs.declared.course.Course.TheVariants.{Going, Closed, Refusing}
 use Rattle.rh_shell.specs.declared.stop.Stop.{Stop}
 use Rattle.rh_shell.specs.Hearing.{Turn, goes, hear}
-use Rattle.law_moves.specs.Laws.{ClosedWith}
 use Rattle.rh_shell.specs.NearEnds.{NearEnd}
 use Rattle.rh_shell.specs.Rules.{Rules}
 use Rattle.rh_shell.specs.Shells.{Shell, bytes_at, bytes_by, end_at, place, stop_by, stopped, with_end}
+use Rattle.rh_client.specs.declared.state.ClientRole.{ClientRole}
+use Rattle.rh_client.specs.Client as client
 use Rattle.rh_nodes.specs.declared.event.Event.{Event}
 use Rattle.rh_nodes.specs.declared.event.Event.TheVariants.{Comes}
 use Rattle.rh_nodes.specs.Telling.{tell}
-use Rattle.rh_client.specs.declared.state.ClientRole.{ClientRole}
-use Rattle.rh_client.specs.Client as client
+use Rattle.law_moves.specs.Laws.{ClosedWith}
 use Rattle.law_node_causes.specs.Closings.{ClosesWith, ComesFrom, IsPiece, MayClose}
 use Rattle.law_node_causes.specs.Reasons.{ComesAmiss}
 use Rattle.law_node_traces.specs.OwnLegs.{IsAmissOn, IsOfClient, KeepsEnds, KeepsLegs}

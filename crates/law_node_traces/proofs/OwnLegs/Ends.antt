@@ -19,10 +19,10 @@ use Rattle.rh_shell.specs.declared.stop.Stop.{Stop}
 use Rattle.rh_shell.specs.Drawing.{Drawn, draw, drawn, put_on, begun_now, filled, left_by, next_byte}
 use Rattle.rh_shell.specs.Ends.{cause_of, give_where, take_where, close_where, recycle_where}
 use Rattle.rh_shell.specs.Hearing.{Turn, goes, heard, hear, hear_byte, is_stopped}
-use Rattle.law_moves.specs.Moving.{Event, ComesUp, Hears, Ends, Breaks, Draws, Ticks, after_event, after_events, EndEvent, Happens, IsGiven, IsTaken, IsClosed, IsRecycled, after_end_event, after_end_events}
 use Rattle.rh_shell.specs.NearEnds.{NearEnd, new_end, marked, is_empty, is_ended, is_finished, is_marked, is_over}
 use Rattle.rh_shell.specs.Rules.{Rules, Acts, put_into}
 use Rattle.rh_shell.specs.Shells.{Shell, begun, close, refuse, stop_by, stopped, end_at, with_end, place, free_place, has_room, is_working, state_of, may_up, with_leg, up, seated_at, bytes_at, bytes_by, lose, lost, ended_at, ended_by, wants, is_heard, unreached, unreached_by, broken_at, broken_by, put_back, drawn_at, drawn_by, same_leg, first_silent, passed, passed_by}
+use Rattle.law_moves.specs.Moving.{Event, ComesUp, Hears, Ends, Breaks, Draws, Ticks, after_event, after_events, EndEvent, Happens, IsGiven, IsTaken, IsClosed, IsRecycled, after_end_event, after_end_events}
 use Rattle.law_node_causes.specs.Reasons.{StandsIn}
 
 -- ---- lists of ends

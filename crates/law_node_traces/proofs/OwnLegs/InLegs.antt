@@ -18,12 +18,12 @@ use Rattle.rh_shell.specs.declared.stop.Stop.{Stop}
 use Rattle.rh_shell.specs.Hearing.{Turn, behind_head, goes, head_row, hear, heard, touched, with_intake}
 use Rattle.rh_shell.specs.Hearing.{take as taken}
 use Rattle.rh_shell.specs.Intakes.{Intake, Came, Nothing, Head, Greeting, Frame, Fault, Over, byte_by, is_whole_head, on_byte, text_by}
-use Rattle.law_moves.specs.Moving.{EndEvent, after_end_events}
 use Rattle.rh_shell.specs.NearEnds.{NearEnd, first_stage, new_end}
 use Rattle.rh_client.specs.declared.state.ClientRole.{ClientRole}
 use Rattle.rh_client.specs.Client as client
 use Rattle.rh_client.specs.Opening.{head_by, pipe_by, wants_by}
 use Rattle.rh_client.specs.State as client_state
+use Rattle.law_moves.specs.Moving.{EndEvent, after_end_events}
 use Rattle.law_node_traces.specs.OwnLegs.{IsOfClient, KeepsEnds}
 use Rattle.law_node_traces.proofs.OwnLegs.Ends.{StaysSo, each_there, new_end_so, piece_so}
 use Rattle.law_node_traces.proofs.OwnLegs.LegKinds.{heard_leg}

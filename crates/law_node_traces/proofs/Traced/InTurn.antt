@@ -8,7 +8,6 @@ use Rattle.rh_line.specs.declared.leg.Leg.{Leg}
 use Rattle.rh_line.specs.declared.leg.LegKind.TheVariants.{ClientOut, ClientIn}
 use Rattle.rh_record.specs.declared.answer.Who.{Who}
 use Rattle.rh_record.specs.declared.answer.Who.TheVariants.{Client, Server, In, Out}
-use Rattle.law_moves.specs.Moving as moving
 use Rattle.rh_nodes.specs.declared.event.Event.{Event}
 use Rattle.rh_nodes.specs.declared.event.Event.TheVariants.{Comes, Ends, Breaks, Passes}
 use Rattle.rh_nodes.specs.declared.place.Place.{Place}
@@ -21,6 +20,7 @@ use Rattle.rh_nodes.specs.Opening.{Makers, reader_before}
 use Rattle.rh_nodes.specs.Settling.{leg_at}
 use Rattle.rh_nodes.specs.Wires.{sender, receiver}
 use Rattle.rh_nodes.specs.World.{World, at}
+use Rattle.law_moves.specs.Moving as moving
 use Rattle.law_node_history.specs.Changes.{Change, IsTold, IsFed, IsDrawn, GoesUp, RaisesAlone, OpensIn, OpensOut, OpensSame, MayChange, Leads}
 use Rattle.law_node_history.specs.Histories.{History, heard, to_node, told_to, made_by, at_place, in_place, out_place, noted, all_noted, nothing, IsNew}
 use Rattle.law_node_history.specs.Carried.{came_up, happened, events_of, IsTraced, LegsComeUpOnce}

@@ -14,9 +14,6 @@ use Rattle.rh_shell.specs.declared.answers.Phase.TheVariants as phase
 use Rattle.rh_shell.specs.declared.course.Course.{Course}
 use Rattle.rh_shell.specs.declared.course.Course.TheVariants.{Going, Closed, Refusing}
 use Rattle.rh_shell.specs.Drawing.{draw}
-use Rattle.law_moves.specs.Laws.{ClosedWith}
-use Rattle.law_moves.specs.Moving as moving
-use Rattle.law_moves.specs.Moving.{after_event, after_events}
 use Rattle.rh_shell.specs.NearEnds.{NearEnd, is_marked}
 use Rattle.rh_shell.specs.Rules.{Rules}
 use Rattle.rh_shell.specs.Shells.{Shell, state_by, state_of, verdict_by, with_verdict, may_up, with_leg, end_at, drawn_at, drawn_by, put_back}
@@ -26,6 +23,9 @@ use Rattle.rh_nodes.specs.declared.place.Place.{Place}
 use Rattle.rh_nodes.specs.declared.place.Place.TheVariants.{Here}
 use Rattle.rh_nodes.specs.Settling.{leg_at}
 use Rattle.rh_nodes.specs.Telling.{cause_in, closing, told}
+use Rattle.law_moves.specs.Laws.{ClosedWith}
+use Rattle.law_moves.specs.Moving as moving
+use Rattle.law_moves.specs.Moving.{after_event, after_events}
 use Rattle.law_node_history.specs.Histories.{IsRun, heard}
 use Rattle.law_node_causes.specs.Closings.{ClosesWith}
 use Rattle.law_node_causes.specs.Refusals.{MayRefuseOn}

@@ -3,10 +3,9 @@ use Rattle.std.proofs.Common.{◌≡◌, ℕ, ◌-◌, ◌≤◌, List, Bool, tr
 use Rattle.std.specs.Prelude.{◌<◌, ◌≢◌, ◌||◌, nat_lt}
 use Rattle.std.proofs.lemmas.Bool.{true≢false, cases_eq, ltb-true, eq-eqb, ne_eqb}
 use Rattle.rh_text.specs.declared.ends.Side.TheVariants as side
+use Rattle.rh_rts.specs.declared.command.Cookie.{Cookie}
 use Rattle.rh_line.specs.declared.leg.LegKind.TheVariants.{ClientIn}
 use Rattle.rh_record.specs.declared.answer.Who.TheVariants.{Client, Server, In, Out}
-use Rattle.rh_rts.specs.declared.command.Cookie.{Cookie}
-use Rattle.law_moves.specs.Moving as moving
 use Rattle.rh_shell.specs.Rules.{Rules}
 use Rattle.rh_nodes.specs.declared.event.Event.TheVariants.{Comes}
 use Rattle.rh_nodes.specs.declared.place.Place.{Place}
@@ -23,6 +22,7 @@ use Rattle.rh_nodes.specs.Readers.{reader_of, with_reader}
 use Rattle.rh_nodes.specs.Settling.{leg_at}
 use Rattle.rh_nodes.specs.Wires.{sender, receiver}
 use Rattle.rh_nodes.specs.World.{World, at}
+use Rattle.law_moves.specs.Moving as moving
 use Rattle.law_node_history.specs.Changes.{Change, may_have, IsTold, IsFed, IsDrawn, GoesUp, RaisesAlone, GoesDown, OpensIn, OpensOut, OpensSame, Gives, Takes, Closes, RecyclesIn, RecyclesOut, MovesTo, Draws, Reports, MayChange, changed, Leads}
 use Rattle.law_node_history.specs.Histories.{History, in_place, nothing, IsNew}
 use Rattle.law_node_history.specs.Carried.{came_up, events_of, IsTraced, LegsComeUpOnce}

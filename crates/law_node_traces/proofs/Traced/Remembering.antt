@@ -5,19 +5,19 @@ use Rattle.rh_rts.specs.declared.command.Cookie.{Cookie}
 use Rattle.rh_line.specs.declared.leg.Leg.{Leg}
 use Rattle.rh_line.specs.declared.leg.LegKind.{LegKind}
 use Rattle.rh_line.specs.declared.leg.LegKind.TheVariants.{ClientOut, OutServer, ClientIn, InServer}
-use Rattle.law_moves.specs.Moving as moving
-use Rattle.law_moves.specs.Moving.{EndEvent, after_event, after_events, after_end_events}
 use Rattle.rh_shell.specs.Rules.{Rules, Acts}
 use Rattle.rh_shell.specs.Shells.{Shell, has_room, is_working, may_up}
-use Rattle.rh_client.specs.declared.state.ClientRole.{ClientRole}
-use Rattle.rh_client.specs.Client as client
-use Rattle.rh_client.specs.Opening.{wants_by}
 use Rattle.rh_inproxy.specs.State.{InProxy}
 use Rattle.rh_inproxy.specs.Opening as ins
 use Rattle.rh_outproxy.specs.OutProxy.{OutProxy}
 use Rattle.rh_outproxy.specs.Opening as outs
 use Rattle.rh_outproxy.specs.Rows.{is_co}
 use Rattle.rh_outproxy.specs.OutProxy.{is_client_down}
+use Rattle.rh_client.specs.declared.state.ClientRole.{ClientRole}
+use Rattle.rh_client.specs.Client as client
+use Rattle.rh_client.specs.Opening.{wants_by}
+use Rattle.law_moves.specs.Moving as moving
+use Rattle.law_moves.specs.Moving.{EndEvent, after_event, after_events, after_end_events}
 use Rattle.law_node_history.specs.Carried.{ComesUpOnce, ComesUpOnceAtEnd, is_of_client}
 use Rattle.law_node_history.proofs.Connecting.{or_left}
 use Rattle.law_node_history.proofs.Once.{once_remembered, once_remembered_at_end}

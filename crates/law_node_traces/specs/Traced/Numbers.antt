@@ -3,12 +3,12 @@ use Rattle.std.specs.Prelude.{◌≡◌, ◌≢◌, ◌<◌, ◌≤◌, ◌⊎�
 use Rattle.std.specs.List.{AllByRecursion}
 use Rattle.rh_rts.specs.declared.command.TheConstants.{COOKIE_LEN}
 use Rattle.rh_line.specs.declared.leg.LegKind.TheVariants.{ClientIn, InServer}
-use Rattle.law_moves.specs.Moving.{Event, ComesUp}
 use Rattle.rh_nodes.specs.Company.{Company}
 use Rattle.rh_nodes.specs.Places.{is_absent}
 use Rattle.rh_nodes.specs.Readers.{reader_of}
 use Rattle.rh_nodes.specs.Settling.{leg_at}
 use Rattle.rh_nodes.specs.World.{World}
+use Rattle.law_moves.specs.Moving.{Event, ComesUp}
 use Rattle.law_node_history.specs.Carried.{came_up, happened}
 use Rattle.law_node_history.specs.Histories.{History, in_place}
 

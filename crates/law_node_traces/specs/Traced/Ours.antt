@@ -2,11 +2,6 @@
 use Rattle.std.specs.Prelude.{◌≡◌, ℕ}
 use Rattle.rh_http.specs.declared.config.ClientConfig.{ClientConfig}
 use Rattle.rh_shell.specs.Shells.{begun}
-use Rattle.rh_nodes.specs.Company.{Company, Rulebook, rules_of}
-use Rattle.rh_nodes.specs.Giving.{Deeds, deeds_of}
-use Rattle.rh_nodes.specs.Opening.{Makers}
-use Rattle.rh_client.specs.declared.state.ClientRole.{ClientRole}
-use Rattle.rh_client.specs.Client as client
 use Rattle.rh_inproxy.specs.declared.state.InProxyConfig.{InProxyConfig}
 use Rattle.rh_inproxy.specs.State.{InProxy}
 use Rattle.rh_inproxy.specs.Machine as in_proxy
@@ -14,8 +9,13 @@ use Rattle.rh_outproxy.specs.declared.out_proxy.TheConstants as out_proxies
 use Rattle.rh_outproxy.specs.declared.state.OutProxyConfig.{OutProxyConfig}
 use Rattle.rh_outproxy.specs.OutProxy.{OutProxy, new_proxy}
 use Rattle.rh_outproxy.specs.Machine as out_proxy
+use Rattle.rh_client.specs.declared.state.ClientRole.{ClientRole}
+use Rattle.rh_client.specs.Client as client
 use Rattle.rh_server.specs.States.{Server}
 use Rattle.rh_server.specs.Servers as server
+use Rattle.rh_nodes.specs.Company.{Company, Rulebook, rules_of}
+use Rattle.rh_nodes.specs.Giving.{Deeds, deeds_of}
+use Rattle.rh_nodes.specs.Opening.{Makers}
 
 -- the rules of the four roles, and what the two ends do besides
 abbrev pub rules : Rulebook ClientRole Server InProxy OutProxy

@@ -6,14 +6,13 @@ use Rattle.std.specs.List.{AllByRecursion}
 use Rattle.std.specs.Prelude.{nat_le, IfSome}
 use Rattle.std.specs.declared.option.Option.{Option}
 use Rattle.std.specs.declared.result.Result.{Result}
+use Rattle.law_order.proofs.ByNumber.{by_test}
 use Rattle.rh_http.specs.declared.fault.HttpFault.{HttpFault}
 use Rattle.rh_http.specs.Lengths.{greatest_echo}
 use Rattle.rh_http.specs.Heads.Verdicts.{Asked, request_verdict}
 use Rattle.rh_line.specs.declared.leg.Leg.{Leg}
-use Rattle.law_order.proofs.ByNumber.{by_test}
 use Rattle.rh_shell.specs.Rules.{Message, Pdu, Packet}
 use Rattle.rh_shell.specs.Shells.{same_leg}
-use Rattle.law_moves.specs.Moves.{Move, Up, HeadCame, PduCame, PacketCame, Puts, IsDrawn, Marks, Pings, Passage, started, moved, all_moved, taken_by, put_by}
 use Rattle.rh_outproxy.specs.declared.state.OutProxyConfig.{OutProxyConfig}
 use Rattle.rh_outproxy.specs.OutProxy.{OutProxy, new_proxy}
 use Rattle.rh_outproxy.specs.Rows.{Done}
@@ -22,10 +21,11 @@ use Rattle.rh_outproxy.specs.Putting.{Pick}
 use Rattle.rh_outproxy.specs.Putting.{put as put_of}
 use Rattle.rh_outproxy.specs.Machine.{pdu, packet}
 use Rattle.rh_outproxy.specs.Machine.{rules as proxy_rules}
-use Rattle.law_role_client_rows.specs.Putting.{out_length}
-use Rattle.law_role_outproxy.specs.Counted.{co_leg}
+use Rattle.law_moves.specs.Moves.{Move, Up, HeadCame, PduCame, PacketCame, Puts, IsDrawn, Marks, Pings, Passage, started, moved, all_moved, taken_by, put_by}
 use Rattle.law_moves.specs.Turns.{Stages, none_up, stages_after, AreInTurn, AreInTurnFrom, IsInTurn}
+use Rattle.law_role_outproxy.specs.Counted.{co_leg}
 use Rattle.law_role_outproxy.specs.Refusing.{asked_after, asked_by, last_asked}
+use Rattle.law_role_client_rows.specs.Putting.{out_length}
 use Rattle.law_peers_expects.specs.Asked.Asking.{AsksNoEcho}
 use Rattle.law_peers_expects.specs.Asked.Requests.{AsksFor, IsRequest}
 use Rattle.law_peers_expects.proofs.Asked.Standing.{Core, Seen, seen, IsQuiet, itself, same_up, same_drawn, same_mark, same_packet, same_pdu, same_put, Stands, move_stands, starts}

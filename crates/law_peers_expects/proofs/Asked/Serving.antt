@@ -5,24 +5,23 @@ use Rattle.std.specs.List.{AllByRecursion}
 use Rattle.std.specs.Prelude.{nat_le, IfSome}
 use Rattle.std.specs.declared.option.Option.{Option}
 use Rattle.std.specs.declared.result.Result.{Result}
+use Rattle.rh_window.specs.Sending.{may_send}
+use Rattle.rh_window.specs.declared.recv_window.Ack.{Ack}
+use Rattle.law_order.proofs.ByNumber.{by_test}
+use Rattle.rh_rts.specs.declared.command.Cookie.{Cookie}
+use Rattle.rh_sig.specs.declared.named.Named.{Named}
 use Rattle.rh_http.specs.declared.fault.HttpFault.{HttpFault}
 use Rattle.rh_http.specs.Lengths.{greatest_echo}
 use Rattle.rh_http.specs.Texts.{response_text}
 use Rattle.rh_http.specs.Heads.Verdicts.{Asked, request_verdict}
-use Rattle.rh_rts.specs.declared.command.Cookie.{Cookie}
-use Rattle.rh_sig.specs.declared.named.Named.{Named}
-use Rattle.rh_window.specs.Sending.{may_send}
-use Rattle.rh_window.specs.declared.recv_window.Ack.{Ack}
 use Rattle.rh_line.specs.declared.leg.Leg.{Leg}
 use Rattle.rh_line.specs.Lines.{is_empty}
-use Rattle.law_order.proofs.ByNumber.{by_test}
 use Rattle.rh_shell.specs.declared.answers.HeadRefused.{HeadRefused}
 use Rattle.rh_shell.specs.declared.answers.HeadTaken.{HeadTaken}
 use Rattle.rh_shell.specs.declared.due.Due.{Due}
 use Rattle.rh_shell.specs.Intakes.{is_whole_head}
 use Rattle.rh_shell.specs.Rules.{Message, Pdu, Packet}
 use Rattle.rh_shell.specs.Shells.{same_leg}
-use Rattle.law_moves.specs.Moves.{OnLeg, Move, Up, HeadCame, PduCame, PacketCame, Puts, IsDrawn, Marks, Pings, Passage, started, moved, all_moved, taken_by, put_by}
 use Rattle.rh_outproxy.specs.declared.state.Answer.{Answer}
 use Rattle.rh_outproxy.specs.declared.state.Answer.TheVariants as answers
 use Rattle.rh_outproxy.specs.declared.state.Channel.{Channel}
@@ -37,10 +36,11 @@ use Rattle.rh_outproxy.specs.Putting.{Pick, ping_room, or_else, answer_by, behin
 use Rattle.rh_outproxy.specs.Putting.{put as put_of}
 use Rattle.rh_outproxy.specs.Machine.{pdu, packet}
 use Rattle.rh_outproxy.specs.Machine.{rules as proxy_rules}
+use Rattle.law_moves.specs.Moves.{OnLeg, Move, Up, HeadCame, PduCame, PacketCame, Puts, IsDrawn, Marks, Pings, Passage, started, moved, all_moved, taken_by, put_by}
 use Rattle.law_moves.proofs.Passages.Messages.{all_append}
-use Rattle.law_role_outproxy.specs.Counted.{co_leg}
 use Rattle.law_moves.specs.ReadBack.Reading.{IsWholeText}
 use Rattle.law_moves.specs.Turns.{Stages, none_up, stages_after, IsInTurn, AreInTurn, AreInTurnFrom}
+use Rattle.law_role_outproxy.specs.Counted.{co_leg}
 use Rattle.law_peers_expects.specs.Asked.Asking.{AsksNoEcho}
 use Rattle.law_peers_expects.proofs.Asked.EchoTexts.{IsNoEcho, other_message}
 use Rattle.law_peers_expects.proofs.Asked.Standing.{Seen, seen, same_pdu, same_packet, same_mark, itself, Stands, starts, move_stands}

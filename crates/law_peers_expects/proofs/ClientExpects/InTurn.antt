@@ -4,9 +4,9 @@ use Rattle.std.proofs.Common.{◌≡◌, ℕ, ◌+◌, ◌<◌, ◌≤◌, nat_l
 use Rattle.std.proofs.lemmas.Bool.Decides.{nat_tests}
 use Rattle.rh_sig.specs.declared.named.Named.{Named}
 use Rattle.rh_line.specs.declared.leg.LegKind.TheVariants.{ClientOut, OutServer}
+use Rattle.rh_client.specs.State.{co}
 use Rattle.law_moves.specs.Moves.{OnLeg}
 use Rattle.law_moves.specs.Chains.Sums.{count_on}
-use Rattle.rh_client.specs.State.{co}
 use Rattle.law_role_client.specs.Counted.Counting.{StandsOnEach, is_among, once_if, total}
 use Rattle.law_role_server.specs.Counted.Counting.{IsOnEachFrom, often}
 

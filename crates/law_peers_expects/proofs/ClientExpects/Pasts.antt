@@ -2,14 +2,14 @@
 use Rattle.std.proofs.Common.{◌≡◌, ◌≤◌, ℕ, List, [], ◌∷◌, ◌++◌, refl, sym, ap, ◌∙◌, subst}
 use Rattle.std.proofs.lemmas.List.{append_assoc, append-nil}
 use Rattle.rh_line.specs.declared.leg.LegKind.TheVariants.{ClientOut}
-use Rattle.law_moves.specs.Moves.{AreAllowedAtEnd, EndMove, EndPassage, all_end_moved, end_moved, end_started}
-use Rattle.law_node_streams.proofs.Streams.EndMoves.{all_end_moved_append}
 use Rattle.rh_client.specs.declared.state.ClientRole.{ClientRole}
 use Rattle.rh_client.specs.Client.{acts, rules}
 use Rattle.rh_client.specs.State.{first}
+use Rattle.law_moves.specs.Moves.{AreAllowedAtEnd, EndMove, EndPassage, all_end_moved, end_moved, end_started}
 use Rattle.law_role_client.specs.Counted.Counting.{StandsOnEach, is_out_r1_a2}
 use Rattle.law_role_client.specs.Counted.Replacing.{out_asked, out_wanted}
 use Rattle.law_role_client.proofs.Counted.Standing.{stands_none, stands_on}
+use Rattle.law_node_streams.proofs.Streams.EndMoves.{all_end_moved_append}
 use Rattle.law_peers_moments.specs.Moments.{IsMoment, Moves, Numbers, client_behind, server_behind}
 use Rattle.law_peers_expects.proofs.ClientExpects.GoingRound.{RoundLaws, are_asked}
 use Rattle.law_peers_expects.proofs.ClientExpects.Wishes.{AreAsked, brings, brought}

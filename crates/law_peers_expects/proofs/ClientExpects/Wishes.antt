@@ -8,21 +8,21 @@ use Rattle.rh_line.specs.declared.leg.LegKind.{LegKind}
 use Rattle.rh_line.specs.declared.leg.LegKind.TheVariants.{ClientOut, OutServer, ClientIn, InServer}
 use Rattle.rh_shell.specs.declared.answers.Count.{Count}
 use Rattle.rh_shell.specs.declared.end_role.GiveRefused.{GiveRefused}
-use Rattle.law_moves.specs.Moves.{EndMove, EndPassage, Passage, OnLeg, Moves, Gives, Takes, Closes, Recycles, Up, HeadCame, PduCame, PacketCame, Puts, IsDrawn, Marks, Pings, taken_by, put_by, given_by, with_first, end_moved, end_now_at}
 use Rattle.rh_shell.specs.Rules.{Message, Row, Text, Pdu, Packet}
-use Rattle.law_moves.specs.Wires.{of_leg}
-use Rattle.law_moves.specs.Passages.Passing.{count_of}
-use Rattle.law_moves.proofs.Passages.Messages.{count_append}
-use Rattle.law_moves.specs.Chains.Sums.{count_on}
 use Rattle.rh_client.specs.declared.state.ClientRole.{ClientRole}
 use Rattle.rh_client.specs.State.{Done, co}
 use Rattle.rh_client.specs.Client.{acts, rules, packet_by, packet_on, pdu_by}
 use Rattle.rh_client.specs.Acknowledging.{on_pdu}
+use Rattle.rh_server.specs.States.{Server}
+use Rattle.law_moves.specs.Moves.{EndMove, EndPassage, Passage, OnLeg, Moves, Gives, Takes, Closes, Recycles, Up, HeadCame, PduCame, PacketCame, Puts, IsDrawn, Marks, Pings, taken_by, put_by, given_by, with_first, end_moved, end_now_at}
+use Rattle.law_moves.specs.Wires.{of_leg}
+use Rattle.law_moves.specs.Passages.Passing.{count_of}
+use Rattle.law_moves.proofs.Passages.Messages.{count_append}
+use Rattle.law_moves.specs.Chains.Sums.{count_on}
+use Rattle.law_moves.proofs.PacketKinds.Counts.{here_more}
 use Rattle.law_role_client.specs.Counted.Counting.{StandsOnEach, is_out_r1_a2}
 use Rattle.law_role_client.specs.Counted.Replacing.{out_asked, out_wanted}
 use Rattle.law_role_client.proofs.Counted.Standing.{passes, stands_next, stands_on, stands_stays}
-use Rattle.law_moves.proofs.PacketKinds.Counts.{here_more}
-use Rattle.rh_server.specs.States.{Server}
 use Rattle.law_role_server.specs.Counted.Counting.{IsOnEachFrom, is_out_r1_a1, out_put}
 use Rattle.law_peers_expects.proofs.ClientExpects.InTurn.{is_behind}
 

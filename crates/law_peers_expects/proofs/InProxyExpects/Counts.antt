@@ -5,28 +5,28 @@ use Rattle.rh_sig.specs.declared.named.Named.{Named}
 use Rattle.rh_sig.specs.declared.named.Named.TheVariants as named
 use Rattle.rh_line.specs.declared.leg.LegKind.{LegKind}
 use Rattle.rh_line.specs.declared.leg.LegKind.TheVariants.{ClientIn, ClientOut, InServer, OutServer}
-use Rattle.law_moves.specs.Moves.{OnLeg, Passage}
 use Rattle.rh_shell.specs.Rules.{Message, Text, Pdu, Packet}
 use Rattle.rh_shell.specs.Shells.{one_if}
-use Rattle.rh_client.specs.declared.state.ClientRole.{ClientRole}
 use Rattle.rh_inproxy.specs.State.{InProxy}
 use Rattle.rh_outproxy.specs.OutProxy.{OutProxy}
+use Rattle.rh_client.specs.declared.state.ClientRole.{ClientRole}
 use Rattle.rh_server.specs.declared.state.Stage.{Stage}
 use Rattle.rh_server.specs.declared.state.Stage.TheVariants as stages
 use Rattle.rh_server.specs.States.{Server}
+use Rattle.law_moves.specs.Moves.{OnLeg, Passage}
 use Rattle.law_moves.specs.Passages.Passing.{count_of, of_kind}
-use Rattle.law_role_client.specs.Counted.Counting as at_client
-use Rattle.law_role_client.specs.Counted.Opening.{opened}
-use Rattle.law_role_client.specs.Counted.Replacing.{in_asked}
 use Rattle.law_moves.specs.PacketKinds as at_proxy
-use Rattle.law_role_inproxy.specs.Counted.{PutsForWhatCame}
-use Rattle.law_role_outproxy.specs.Counted.{ForwardsWhatCame, OpensWhatCame}
-use Rattle.law_role_server.specs.Counted.Counting as at_server
-use Rattle.law_role_server.specs.Counted.Opening.{OpensOnce, since_conn_a2, since_conn_b2, since_open}
 use Rattle.law_moves.specs.Chains.Sums.{count_on, sum_below}
 use Rattle.law_moves.specs.Chains.Ways.{AreFronts, Logs, total}
 use Rattle.law_moves.proofs.Chains.Along.{by_in_proxies, by_proxies}
 use Rattle.law_moves.proofs.Chains.Summing.{all_legs}
+use Rattle.law_role_inproxy.specs.Counted.{PutsForWhatCame}
+use Rattle.law_role_client.specs.Counted.Counting as at_client
+use Rattle.law_role_client.specs.Counted.Opening.{opened}
+use Rattle.law_role_client.specs.Counted.Replacing.{in_asked}
+use Rattle.law_role_server.specs.Counted.Counting as at_server
+use Rattle.law_role_server.specs.Counted.Opening.{OpensOnce, since_conn_a2, since_conn_b2, since_open}
+use Rattle.law_role_outproxy.specs.Counted.{ForwardsWhatCame, OpensWhatCame}
 use Rattle.law_peers_moments.specs.GoingRound.{announced}
 use Rattle.law_peers_expects.proofs.InProxyExpects.Fronts.{same_counts}
 

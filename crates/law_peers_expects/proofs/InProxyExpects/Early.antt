@@ -6,21 +6,21 @@ use Rattle.rh_sig.specs.declared.named.Named.TheVariants as named
 use Rattle.rh_line.specs.declared.leg.Leg.{Leg}
 use Rattle.rh_line.specs.declared.leg.LegKind.{LegKind}
 use Rattle.rh_line.specs.declared.leg.LegKind.TheVariants.{ClientIn, ClientOut}
-use Rattle.law_moves.specs.Moves.{EndMove, OnLeg}
 use Rattle.rh_shell.specs.Shells.{is_of}
-use Rattle.law_moves.specs.Wires.{of_leg}
-use Rattle.law_role_client.specs.Order.{client_moved}
 use Rattle.rh_client.specs.State.{ci, co}
+use Rattle.law_moves.specs.Moves.{EndMove, OnLeg}
+use Rattle.law_moves.specs.Wires.{of_leg}
 use Rattle.law_moves.specs.Passages.Passing.{count_of}
+use Rattle.law_moves.specs.Chains.Sums.{count_on}
+use Rattle.law_moves.proofs.Chains.Summing.{some_legs}
+use Rattle.law_role_inproxy.specs.Counted.{PutsForWhatCame}
+use Rattle.law_role_client.specs.Order.{client_moved}
 use Rattle.law_role_client.specs.Counted.Counting.{StandsOnEach, is_conn_a1, is_conn_b1, is_conn_c2, total}
 use Rattle.law_role_client.specs.Counted.Naming.{NamesIns, NamesOuts}
 use Rattle.law_role_client.specs.Counted.Opening.{opened}
-use Rattle.law_role_client_rows.specs.Putting.{HasOpened, OpenedBefore}
-use Rattle.law_role_inproxy.specs.Counted.{PutsForWhatCame}
-use Rattle.law_role_outproxy.specs.Counted.{ForwardsWhatCame, OpensWhatCame}
 use Rattle.law_role_server.specs.Counted.Opening.{OpensOnce}
-use Rattle.law_moves.specs.Chains.Sums.{count_on}
-use Rattle.law_moves.proofs.Chains.Summing.{some_legs}
+use Rattle.law_role_outproxy.specs.Counted.{ForwardsWhatCame, OpensWhatCame}
+use Rattle.law_role_client_rows.specs.Putting.{HasOpened, OpenedBefore}
 use Rattle.law_peers_moments.proofs.GoingRound.Fronts.{are_fronts}
 use Rattle.law_peers_moments.specs.Moments.{AreMade, IsMoment, IsPast, Moves, Numbers, client_behind, in_behind, out_behind, passages, server_behind}
 use Rattle.law_peers_expects.proofs.InProxyExpects.Counts.{opened_behind}

@@ -1,15 +1,13 @@
 -- what an in proxy knows of the packet that opened it, and what leaves that alone
 use Rattle.std.proofs.Common.{◌≡◌, ℕ, Bool, true, false, if◌then◌else◌, List, [], ◌∷◌, ◌++◌, Some, None, refl, sym, ◌∙◌, subst, rules}
 use Rattle.std.specs.declared.option.Option.{Option}
+use Rattle.law_order.proofs.ByNumber.{by_test}
 use Rattle.rh_sig.specs.declared.named.Named.{Named}
 use Rattle.rh_sig.specs.declared.named.Named.TheVariants as named
 use Rattle.rh_line.specs.declared.leg.Leg.{Leg}
 use Rattle.rh_line.specs.declared.which.Which.{Which}
-use Rattle.law_order.proofs.ByNumber.{by_test}
 use Rattle.rh_shell.specs.declared.answers.Count.{Count}
 use Rattle.rh_shell.specs.declared.due.Due.{Due}
-use Rattle.law_moves.specs.Moves.{OnLeg}
-use Rattle.law_moves.specs.Wires.{of_leg}
 use Rattle.rh_inproxy.specs.declared.state.Entry.{Entry}
 use Rattle.rh_inproxy.specs.declared.state.Entry.TheVariants.{Connects, Replaces}
 use Rattle.rh_inproxy.specs.declared.state.Opener.{Opener}
@@ -18,6 +16,8 @@ use Rattle.rh_inproxy.specs.Opening.{head, drawn, is_absent, opener_of}
 use Rattle.rh_inproxy.specs.State.{InProxy}
 use Rattle.rh_inproxy.specs.Time.{on_keep_alive, ping}
 use Rattle.rh_inproxy.specs.Machine.{pdu, on_is}
+use Rattle.law_moves.specs.Moves.{OnLeg}
+use Rattle.law_moves.specs.Wires.{of_leg}
 use Rattle.law_moves.specs.Passages.Passing.{HasOne}
 use Rattle.law_moves.proofs.Passages.Messages.{leg_more, one_more_so}
 use Rattle.law_moves.proofs.PacketKinds.Waits.{waits}

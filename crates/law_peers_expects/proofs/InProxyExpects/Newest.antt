@@ -3,16 +3,16 @@ use Rattle.std.proofs.Common.{◌≡◌, ℕ, ◌==◌, ◌&&◌, Bool, true, fa
 use Rattle.std.proofs.lemmas.Bool.{and_parts, eqb-true}
 use Rattle.std.specs.Prelude.{IfSome}
 use Rattle.std.specs.declared.option.Option.{Option}
+use Rattle.rh_window.specs.Sending.{may_send}
+use Rattle.rh_window.specs.declared.recv_window.Ack.{Ack}
+use Rattle.law_order.proofs.ByNumber.{by_test}
 use Rattle.rh_rts.specs.declared.command.Cookie.{Cookie}
 use Rattle.rh_sig.specs.declared.named.Named.{Named}
 use Rattle.rh_sig.specs.declared.named.Named.TheVariants as named
-use Rattle.rh_window.specs.Sending.{may_send}
-use Rattle.rh_window.specs.declared.recv_window.Ack.{Ack}
 use Rattle.rh_line.specs.Lines as line
 use Rattle.rh_line.specs.declared.leg.Leg.{Leg}
 use Rattle.rh_line.specs.declared.which.Which.{Which}
 use Rattle.rh_line.specs.declared.which.Which.TheVariants.{Current, Next}
-use Rattle.law_order.proofs.ByNumber.{by_test}
 use Rattle.rh_shell.specs.declared.answers.Count.{Count}
 use Rattle.rh_shell.specs.declared.answers.Refused.TheVariants as refused
 use Rattle.rh_shell.specs.declared.due.Due.{Due}

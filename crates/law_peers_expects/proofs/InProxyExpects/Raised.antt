@@ -4,13 +4,10 @@ use Rattle.std.proofs.lemmas.Bool.{and_parts}
 use Rattle.std.proofs.lemmas.Bool.Decides.{nat_tests}
 use Rattle.std.specs.List.{list_any}
 use Rattle.std.specs.declared.option.Option.{Option}
-use Rattle.rh_line.specs.declared.leg.Leg.{Leg}
 use Rattle.law_order.proofs.ByNumber.{by_test}
-use Rattle.law_moves.specs.Moves.{Move, Up, HeadCame, PduCame, PacketCame, Puts, IsDrawn, Marks, Pings, OnLeg, Passage, all_moved, moved, put_by, started, taken_by}
+use Rattle.rh_line.specs.declared.leg.Leg.{Leg}
 use Rattle.rh_shell.specs.Rules.{Message, Pdu, Packet}
 use Rattle.rh_shell.specs.Shells.{same_leg}
-use Rattle.law_node_streams.specs.Streams.{is_up_on}
-use Rattle.rh_client.specs.State.{ci}
 use Rattle.rh_inproxy.specs.declared.state.InProxyConfig.{InProxyConfig}
 use Rattle.rh_inproxy.specs.declared.state.Opener.{Opener}
 use Rattle.rh_inproxy.specs.declared.state.Opening.{Opening}
@@ -24,7 +21,10 @@ use Rattle.rh_inproxy.specs.Putting.{put as put_of}
 use Rattle.rh_inproxy.specs.State.{InProxy, first, is_client_leg}
 use Rattle.rh_inproxy.specs.Time.{ping}
 use Rattle.rh_inproxy.specs.Machine.{packet, pdu, rules}
+use Rattle.rh_client.specs.State.{ci}
+use Rattle.law_moves.specs.Moves.{Move, Up, HeadCame, PduCame, PacketCame, Puts, IsDrawn, Marks, Pings, OnLeg, Passage, all_moved, moved, put_by, started, taken_by}
 use Rattle.law_moves.proofs.Passages.Logs.{moves_keep}
+use Rattle.law_node_streams.specs.Streams.{is_up_on}
 use Rattle.law_peers_expects.specs.InProxyExpects.Expected.{CameUpByMoves}
 use Rattle.law_peers_expects.proofs.InProxyExpects.Announces.{Holds, starts, steps}
 use Rattle.law_peers_expects.proofs.InProxyExpects.Known as known

@@ -8,23 +8,23 @@ use Rattle.rh_sig.specs.declared.named.Named.TheVariants as named
 use Rattle.rh_line.specs.declared.leg.Leg.{Leg}
 use Rattle.rh_line.specs.declared.leg.LegKind.{LegKind}
 use Rattle.rh_line.specs.declared.leg.LegKind.TheVariants.{ClientIn}
-use Rattle.law_moves.specs.Moves.{EndMove, OnLeg, Passage, started}
 use Rattle.rh_shell.specs.Shells.{is_of}
-use Rattle.law_moves.specs.Wires.{of_leg}
-use Rattle.law_role_client.specs.Order.{AreAllowedMoves, client_moved}
-use Rattle.rh_client.specs.State.{ci}
 use Rattle.rh_inproxy.specs.Machine.{rules}
 use Rattle.rh_inproxy.specs.State.{InProxy, first, same_cookie}
+use Rattle.rh_client.specs.State.{ci}
+use Rattle.law_moves.specs.Moves.{EndMove, OnLeg, Passage, started}
+use Rattle.law_moves.specs.Wires.{of_leg}
 use Rattle.law_moves.specs.Passages.Passing.{BeginsIn, Has, HasOne, HasBegunIn}
 use Rattle.law_moves.specs.Passages.Rising.{HasComeUp}
 use Rattle.law_moves.proofs.Passages.Messages.{one_so}
+use Rattle.law_moves.specs.PacketKinds as at_proxy
+use Rattle.law_moves.specs.Chains.Sums.{count_on}
+use Rattle.law_role_inproxy.specs.Counted.{PutsForWhatCame, is_leg}
+use Rattle.law_role_inproxy.specs.Refusing.{IsUntold}
+use Rattle.law_role_client.specs.Order.{AreAllowedMoves, client_moved}
 use Rattle.law_role_client.specs.Counted.Counting.{StandsOnEach, is_in_r1_a1, is_in_r1_a5, total}
 use Rattle.law_role_client.specs.Counted.Replacing.{ReplacesIns, in_answered, in_asked}
 use Rattle.law_role_client_rows.specs.Putting.{OpensInChannels}
-use Rattle.law_role_inproxy.specs.Counted.{PutsForWhatCame, is_leg}
-use Rattle.law_moves.specs.PacketKinds as at_proxy
-use Rattle.law_role_inproxy.specs.Refusing.{IsUntold}
-use Rattle.law_moves.specs.Chains.Sums.{count_on}
 use Rattle.law_peers_moments.specs.GoingRound.{GoRound, announced}
 use Rattle.law_peers_moments.proofs.GoingRound.Fronts.{are_fronts}
 use Rattle.law_peers_moments.specs.Moments.{IsJoined, IsMoment, IsPast, Moves, Numbers, Passages, ReadInTurn, client_behind, in_behind, passages, server_behind}

@@ -5,37 +5,37 @@ use Rattle.std.proofs.lemmas.Bool.Decides.{nat_tests}
 use Rattle.std.proofs.lemmas.List.{append_assoc}
 use Rattle.std.specs.Prelude.{nat_le, nat_lt}
 use Rattle.std.specs.List.{AllByRecursion}
+use Rattle.law_order.proofs.ByNumber.{test_other}
 use Rattle.rh_rts.specs.declared.command.Cookie.{Cookie}
 use Rattle.rh_sig.specs.declared.named.Named.{Named}
 use Rattle.rh_sig.specs.declared.named.Named.TheVariants as named
 use Rattle.rh_line.specs.declared.leg.LegKind.TheVariants.{ClientOut, OutServer}
-use Rattle.law_order.proofs.ByNumber.{test_other}
 use Rattle.rh_shell.specs.declared.answers.Count.{Count}
 use Rattle.rh_shell.specs.declared.answers.Refused.{Refused}
 use Rattle.rh_shell.specs.declared.answers.Refused.TheVariants as refused
-use Rattle.law_moves.specs.Moves.{OnLeg, Passage}
 use Rattle.rh_shell.specs.Rules.{Message, Text, Pdu, Packet}
-use Rattle.law_moves.specs.Wires.{of_leg}
-use Rattle.rh_nodes.specs.Settling.{leg_at}
-use Rattle.law_moves.specs.ReadBack.Reading.{all_read_of}
-use Rattle.law_moves.specs.Passages.Passing.{count_of, of_kind, BeginsOut, Has, HasBegunOut, HasOne}
-use Rattle.law_moves.specs.Passages.Counted.{Tells, packets}
-use Rattle.law_moves.proofs.Passages.Messages.{one_so}
 use Rattle.rh_outproxy.specs.Machine.{rules as out_rules}
 use Rattle.rh_outproxy.specs.OutProxy.{OutProxy}
 use Rattle.rh_server.specs.declared.state.Stage.{Stage}
 use Rattle.rh_server.specs.declared.state.Stage.TheVariants as stage
+use Rattle.rh_nodes.specs.Settling.{leg_at}
+use Rattle.law_moves.specs.Moves.{OnLeg, Passage}
+use Rattle.law_moves.specs.Wires.{of_leg}
+use Rattle.law_moves.specs.ReadBack.Reading.{all_read_of}
+use Rattle.law_moves.specs.Passages.Passing.{count_of, of_kind, BeginsOut, Has, HasBegunOut, HasOne}
+use Rattle.law_moves.specs.Passages.Counted.{Tells, packets}
+use Rattle.law_moves.proofs.Passages.Messages.{one_so}
+use Rattle.law_moves.specs.PacketKinds as at_proxy
 use Rattle.law_role_client.specs.Counted.Counting as at_client
 use Rattle.law_role_client.specs.Counted.Naming.{NamesOuts}
 use Rattle.law_role_server.specs.Counted.Counting as at_server
 use Rattle.law_role_server.specs.Counted.Opening.{since_conn_a2, since_open}
+use Rattle.law_role_outproxy.specs.Counted.{IsOpenedBy, NamesNew, NamesSuccessor, OpensAsAsked, OpensWhatCame}
+use Rattle.law_role_outproxy.specs.Refusing.{CarriesNone, IsUnjoined, MismatchFromServer, PassesNone, RefusesFor, TakesNone, UnexpectedFromServer, from_client, from_server}
 use Rattle.law_role_server_rows.specs.Putting.Copying.{Copies}
 use Rattle.law_role_server_rows.specs.Putting.Greeting.{IsFrame}
 use Rattle.law_role_server_rows.specs.Putting.Puts.{behind_all, first_turn, os, PacketStands, Stands}
 use Rattle.law_role_server_rows.specs.Refusing.Cookies.{IsOutChannel, OpensOut}
-use Rattle.law_moves.specs.PacketKinds as at_proxy
-use Rattle.law_role_outproxy.specs.Counted.{IsOpenedBy, NamesNew, NamesSuccessor, OpensAsAsked, OpensWhatCame}
-use Rattle.law_role_outproxy.specs.Refusing.{CarriesNone, IsUnjoined, MismatchFromServer, PassesNone, RefusesFor, TakesNone, UnexpectedFromServer, from_client, from_server}
 use Rattle.law_role_server_rows.specs.InTurn.Channels.{IsToOutProxy, IsWritten, MayFollowEnd}
 use Rattle.law_peers_moments.specs.Expecting.{Expects, IsAhead, IsAmiss}
 use Rattle.law_peers_moments.specs.Moments.{IsMoment, Moves, Numbers, Passages, passages}

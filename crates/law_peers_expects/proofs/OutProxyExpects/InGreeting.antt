@@ -7,12 +7,13 @@ use Rattle.std.specs.Prelude.{if◌then◌else◌, IfSome, is_ok, ◌||◌, not,
 use Rattle.std.specs.List.{AllByRecursion, list_any}
 use Rattle.std.specs.declared.option.Option.{Option}
 use Rattle.std.specs.declared.result.Result.{Result}
-use Rattle.rh_rts.specs.declared.command.Cookie.{Cookie}
-use Rattle.rh_sig.specs.declared.named.Named.{Named}
-use Rattle.rh_sig.specs.declared.named.Named.TheVariants.{ConnB1, InR1A1, InR1A5, InR2A2, AckTo, OutR1A7, OutR1A8, KeepAlive, EndA1, Ping}
 use Rattle.rh_window.specs.Sending.{may_send}
 use Rattle.rh_window.specs.Receiving as windows
 use Rattle.rh_window.specs.declared.recv_window.Ack.{Ack}
+use Rattle.law_order.proofs.ByNumber.{by_test}
+use Rattle.rh_rts.specs.declared.command.Cookie.{Cookie}
+use Rattle.rh_sig.specs.declared.named.Named.{Named}
+use Rattle.rh_sig.specs.declared.named.Named.TheVariants.{ConnB1, InR1A1, InR1A5, InR2A2, AckTo, OutR1A7, OutR1A8, KeepAlive, EndA1, Ping}
 use Rattle.rh_line.specs.Lines as line
 use Rattle.rh_line.specs.Lines.{Line, Incoming, first_line}
 use Rattle.rh_line.specs.declared.leg.Leg.{Leg}
@@ -21,11 +22,9 @@ use Rattle.rh_line.specs.declared.line_fault.LineFault.TheVariants.{Window, Over
 use Rattle.rh_line.specs.declared.which.Which.{Which}
 use Rattle.rh_line.specs.declared.which.Which.TheVariants.{Current, Next}
 use Rattle.rh_line.specs.declared.leg.LegKind.TheVariants.{ClientIn}
-use Rattle.law_order.proofs.ByNumber.{by_test}
 use Rattle.rh_shell.specs.declared.answers.Count.{Count}
 use Rattle.rh_shell.specs.declared.due.Due.{Due}
 use Rattle.rh_shell.specs.Rules.{Message, Pdu, Packet}
-use Rattle.law_moves.specs.Moves.{Move, OnLeg, all_moved, started}
 use Rattle.rh_shell.specs.Waiting as waits
 use Rattle.rh_inproxy.specs.declared.state.InProxyConfig.{InProxyConfig}
 use Rattle.rh_inproxy.specs.declared.state.Entry.{Entry}
@@ -49,10 +48,11 @@ use Rattle.rh_inproxy.specs.Time.{put_ping, ping}
 use Rattle.rh_inproxy.specs.Machine as machine
 use Rattle.rh_inproxy.specs.Machine.{pdu, packet, on_channel, on_channel_by, on_ci, on_is}
 use Rattle.rh_inproxy.specs.Machine.{rules as proxy_rules}
-use Rattle.law_role_client.specs.Counted.Counting.{is_greeting}
+use Rattle.law_moves.specs.Moves.{Move, OnLeg, all_moved, started}
 use Rattle.law_moves.specs.Passages.Passing.{of_kind}
 use Rattle.law_moves.proofs.Passages.Logs.{RowKeeps, PutKeeps, StepsKeep, moves_keep}
 use Rattle.law_moves.proofs.Passages.Messages.{all_append, kind_more}
+use Rattle.law_role_client.specs.Counted.Counting.{is_greeting}
 use Rattle.law_role_windows.specs.Acknowledging.Acks.{OfPacket}
 use Rattle.law_peers_expects.specs.OutProxyExpects.Early.{HasGreeted, IsQuiet, PutsQuietly}
 use Rattle.law_peers_expects.proofs.OutProxyExpects.Logs.{all_front, all_behind}

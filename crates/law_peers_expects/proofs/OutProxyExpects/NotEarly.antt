@@ -6,40 +6,40 @@ use Rattle.std.specs.Prelude.{IsTrue}
 use Rattle.std.specs.List.{AllByRecursion}
 use Rattle.rh_text.specs.declared.ends.Side.{Side}
 use Rattle.rh_text.specs.declared.ends.Side.TheVariants as side
+use Rattle.rh_keep.specs.Meters.{started as metered, may_put}
 use Rattle.rh_rts.specs.declared.command.Cookie.{Cookie}
-use Rattle.rh_http.specs.declared.config.ClientConfig.{ClientConfig}
 use Rattle.rh_sig.specs.declared.named.Named.{Named}
 use Rattle.rh_sig.specs.declared.named.Named.TheVariants.{ConnC1, ConnC2, ConnA2, AckTo}
 use Rattle.rh_sig.specs.Values.{IsLifetime}
-use Rattle.rh_keep.specs.Meters.{started as metered, may_put}
+use Rattle.rh_http.specs.declared.config.ClientConfig.{ClientConfig}
 use Rattle.rh_line.specs.declared.leg.Leg.{Leg}
 use Rattle.rh_line.specs.declared.leg.LegKind.{LegKind}
 use Rattle.rh_line.specs.declared.leg.LegKind.TheVariants.{ClientOut, OutServer, ClientIn, InServer}
 use Rattle.rh_record.specs.declared.answer.Who.TheVariants as who
-use Rattle.law_moves.specs.Moves.{AreAllowedAtEnd, EndMove, Move, OnLeg, all_end_moved, all_moved, end_started, started}
 use Rattle.rh_shell.specs.Rules.{Message, Text, Pdu, Packet}
-use Rattle.law_moves.specs.Wires.{of_leg}
-use Rattle.rh_nodes.specs.Settling.{leg_at}
-use Rattle.law_moves.specs.Passages.Passing.{count_of, of_kind}
-use Rattle.law_moves.proofs.Passages.Messages.{each_so}
-use Rattle.law_moves.specs.Chains.Ways.{total}
-use Rattle.law_moves.proofs.Chains.Along.{by_proxies}
-use Rattle.law_role_windows.specs.Acknowledging.Acks.{OfPacket}
-use Rattle.rh_client.specs.Client as clients
-use Rattle.rh_client.specs.State as client_state
 use Rattle.rh_inproxy.specs.declared.state.InProxyConfig.{InProxyConfig}
 use Rattle.rh_inproxy.specs.Machine as in_proxy
 use Rattle.rh_inproxy.specs.State as in_state
 use Rattle.rh_outproxy.specs.Machine as out_proxy
 use Rattle.rh_outproxy.specs.declared.state.OutProxyConfig.{OutProxyConfig}
 use Rattle.rh_outproxy.specs.OutProxy.{new_proxy}
+use Rattle.rh_client.specs.Client as clients
+use Rattle.rh_client.specs.State as client_state
+use Rattle.rh_nodes.specs.Settling.{leg_at}
+use Rattle.law_moves.specs.Moves.{AreAllowedAtEnd, EndMove, Move, OnLeg, all_end_moved, all_moved, end_started, started}
+use Rattle.law_moves.specs.Wires.{of_leg}
+use Rattle.law_moves.specs.Passages.Passing.{count_of, of_kind}
+use Rattle.law_moves.proofs.Passages.Messages.{each_so}
+use Rattle.law_moves.specs.Chains.Ways.{total}
+use Rattle.law_moves.proofs.Chains.Along.{by_proxies}
+use Rattle.law_moves.specs.PacketKinds as at_proxy
 use Rattle.law_role_client.specs.Counted.Counting as at_client
 use Rattle.law_role_client.specs.Counted.Opening.{OpensOnce}
 use Rattle.law_role_server.specs.Counted.Counting as at_server
 use Rattle.law_role_server.specs.Counted.BeforeC1.{HasRoom, HasRoomIn, HaveRoom}
-use Rattle.law_moves.specs.PacketKinds as at_proxy
 use Rattle.law_role_outproxy.specs.Counted.{ForwardsWhatCame}
 use Rattle.law_role_outproxy.specs.Putting.{IsAck, IsToServer, OpensServer}
+use Rattle.law_role_windows.specs.Acknowledging.Acks.{OfPacket}
 use Rattle.law_peers_moments.specs.Moments.{AreJoined, AreMade, Moves, Numbers, Passages, end_of, out_behind, passages}
 use Rattle.law_peers_moments.proofs.Joining.{co_back, in_front, is_front, os_back, os_front}
 use Rattle.law_peers_moments.proofs.Read.{front_count}

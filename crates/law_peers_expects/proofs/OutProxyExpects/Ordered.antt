@@ -3,19 +3,19 @@ use Rattle.std.proofs.Common.{◌≡◌, ◌⊎◌, ℕ, zero, suc, ◌+◌, ◌
 use Rattle.std.proofs.lemmas.Bool.{false≢true}
 use Rattle.std.proofs.lemmas.List.{append_assoc}
 use Rattle.std.specs.List.{AllByRecursion}
+use Rattle.law_order.proofs.ByNumber.{test_same}
 use Rattle.rh_rts.specs.declared.command.Cookie.{Cookie}
 use Rattle.rh_sig.specs.declared.named.Named.{Named}
 use Rattle.rh_sig.specs.declared.named.Named.TheVariants.{AckTo, ConnC1}
 use Rattle.rh_line.specs.declared.leg.LegKind.TheVariants.{OutServer, InServer}
-use Rattle.law_order.proofs.ByNumber.{test_same}
-use Rattle.law_moves.specs.Moves.{AreAllowedAtEnd, EndMove, OnLeg, Passage, all_end_moved, end_started}
 use Rattle.rh_shell.specs.Rules.{Message, Text, Pdu, Packet}
-use Rattle.law_moves.specs.Wires.{of_leg}
-use Rattle.rh_nodes.specs.Settling.{leg_at}
-use Rattle.law_moves.specs.Passages.Passing.{count_of, of_kind, Has}
-use Rattle.law_moves.proofs.Passages.Messages.{count_append}
 use Rattle.rh_server.specs.Servers.{acts, first, rules}
 use Rattle.rh_server.specs.States.{Server}
+use Rattle.rh_nodes.specs.Settling.{leg_at}
+use Rattle.law_moves.specs.Moves.{AreAllowedAtEnd, EndMove, OnLeg, Passage, all_end_moved, end_started}
+use Rattle.law_moves.specs.Wires.{of_leg}
+use Rattle.law_moves.specs.Passages.Passing.{count_of, of_kind, Has}
+use Rattle.law_moves.proofs.Passages.Messages.{count_append}
 use Rattle.law_role_server.specs.Counted.BeforeC1.{HaveRoom, MayGoBefore}
 use Rattle.law_role_server.specs.Counted.Counting.{in_came, is_ack_to, is_conn_c1, out_put}
 use Rattle.law_role_server.specs.Counted.Opening.{OpensOnce}

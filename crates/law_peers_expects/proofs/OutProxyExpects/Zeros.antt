@@ -4,8 +4,8 @@ use Rattle.std.proofs.Common.{ℕ, refl}
 use Rattle.rh_rts.specs.declared.command.Cookie.{Cookie}
 use Rattle.rh_sig.specs.declared.named.Named.TheVariants.{AckTo}
 use Rattle.rh_line.specs.declared.leg.LegKind.TheVariants.{OutServer, ClientIn, InServer}
-use Rattle.law_moves.specs.Wires.{of_leg}
 use Rattle.rh_nodes.specs.Settling.{leg_at}
+use Rattle.law_moves.specs.Wires.{of_leg}
 use Rattle.law_moves.specs.Passages.Passing.{Has}
 use Rattle.law_role_windows.specs.Acknowledging.Acks.{IsPassedOn, PassesOn}
 use Rattle.law_role_windows.proofs.Acknowledging.Found.{has_found}

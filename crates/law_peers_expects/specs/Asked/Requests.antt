@@ -3,9 +3,9 @@
 use Rattle.std.specs.Prelude.{◌≡◌, ℕ, suc, List, true, false, is_some, Ok}
 use Rattle.std.specs.List.{AllByRecursion}
 use Rattle.rh_http.specs.Heads.Verdicts.{Asked, request_verdict}
-use Rattle.law_moves.specs.Moves.{Move, HeadCame, Passage}
 use Rattle.rh_shell.specs.Shells.{same_leg}
 use Rattle.rh_outproxy.specs.OutProxy.{OutProxy}
+use Rattle.law_moves.specs.Moves.{Move, HeadCame, Passage}
 use Rattle.law_role_outproxy.specs.Counted.{co_leg}
 use Rattle.law_role_client_rows.specs.Putting.{out_length}
 

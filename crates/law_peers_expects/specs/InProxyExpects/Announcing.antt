@@ -4,9 +4,9 @@ use Rattle.std.specs.Prelude.{ℕ, ◌≡◌, List}
 use Rattle.rh_rts.specs.declared.command.Cookie.{Cookie}
 use Rattle.rh_sig.specs.declared.named.Named.{Named}
 use Rattle.rh_sig.specs.declared.named.Named.TheVariants.{ConnB1, ConnB2, InR1A1, InR1A2}
+use Rattle.rh_inproxy.specs.State.{InProxy}
 use Rattle.law_moves.specs.Moves.{OnLeg, Passage}
 use Rattle.law_moves.specs.Wires.{of_leg}
-use Rattle.rh_inproxy.specs.State.{InProxy}
 use Rattle.law_moves.specs.Passages.Passing.{Has, HasOne}
 use Rattle.law_role_inproxy.specs.Counted.{is_leg}
 use Rattle.law_role_inproxy.specs.Refusing.{ci_leg}

@@ -6,14 +6,14 @@ use Rattle.rh_sig.specs.declared.named.Named.TheVariants.{AckTo, ConnA2}
 use Rattle.rh_sig.specs.Values.{IsLifetime}
 use Rattle.rh_line.specs.declared.leg.LegKind.TheVariants.{ClientIn}
 use Rattle.rh_shell.specs.Rules.{Message}
-use Rattle.law_moves.specs.Moves.{OnLeg, Passage}
-use Rattle.law_moves.specs.Passages.Passing.{of_kind}
-use Rattle.law_role_windows.specs.Acknowledging.Acks.{OfPacket}
 use Rattle.rh_inproxy.specs.State.{InProxy}
 use Rattle.rh_server.specs.States.{Server}
+use Rattle.law_moves.specs.Moves.{OnLeg, Passage}
+use Rattle.law_moves.specs.Passages.Passing.{of_kind}
 use Rattle.law_role_client.specs.Counted.Counting.{is_greeting}
 use Rattle.law_role_server.specs.Counted.Counting.{in_came, is_ack_to, is_conn_c1, out_put}
 use Rattle.law_role_server.specs.Counted.BeforeC1.{HaveRoom}
+use Rattle.law_role_windows.specs.Acknowledging.Acks.{OfPacket}
 use Rattle.law_peers_moments.specs.Moments.{Numbers}
 
 -- ---- an in proxy

@@ -1,9 +1,9 @@
 -- what is asked of the numbers of a virtual connection, and of the cookies of its OUT channels
 use Rattle.std.specs.Prelude.{ℕ}
 use Rattle.rh_window.specs.Sides.{IsWindow}
-use Rattle.law_moves.specs.Passages.Rising.{HasComeUp}
 use Rattle.rh_client.specs.State.{co}
 use Rattle.rh_server.specs.States.{no_cookie}
+use Rattle.law_moves.specs.Passages.Rising.{HasComeUp}
 use Rattle.law_peers_moments.specs.Moments.{Moves, Numbers}
 use Rattle.law_peers_expects.specs.OutProxyExpects.Early.{HaveLifetimes}
 

@@ -1,10 +1,10 @@
 //! A client expects what comes. Its function does nothing: its contract is the law.
 
 ghost use Rattle.std.specs.Prelude.{ℕ};
-ghost use Rattle.law_moves.specs.Wires.{of_leg};
-ghost use Rattle.law_moves.specs.ReadBack.Reading.{all_read_of};
 ghost use Rattle.rh_client.specs.Client.{rules};
 ghost use Rattle.rh_client.specs.State.{co};
+ghost use Rattle.law_moves.specs.Wires.{of_leg};
+ghost use Rattle.law_moves.specs.ReadBack.Reading.{all_read_of};
 ghost use Rattle.law_peers_moments.specs.Expecting.{Expects};
 ghost use Rattle.law_peers_moments.specs.Moments.{IsMoment, Moves, Numbers, client_behind, out_behind};
 

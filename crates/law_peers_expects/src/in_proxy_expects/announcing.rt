@@ -1,10 +1,10 @@
 //! What an in proxy tells the server first. Its function does nothing: its contract is the law.
 
 ghost use Rattle.std.specs.Prelude.{List};
-ghost use Rattle.law_moves.specs.Moves.{Move, all_moved, started};
 ghost use Rattle.rh_inproxy.specs.declared.state.InProxyConfig.{InProxyConfig};
 ghost use Rattle.rh_inproxy.specs.Machine.{rules};
 ghost use Rattle.rh_inproxy.specs.State.{first};
+ghost use Rattle.law_moves.specs.Moves.{Move, all_moved, started};
 ghost use Rattle.law_peers_expects.specs.InProxyExpects.Announcing.{AnnouncesWhatCame};
 
 /// Whatever moves an in proxy makes, allowed or not: each CONN/B2 that it put on its is leg has the

@@ -2,9 +2,9 @@
 //! law.
 
 ghost use Rattle.std.specs.Prelude.{ℕ, ◌≡◌, ◌≤◌};
-ghost use Rattle.law_moves.specs.Wires.{of_leg};
-ghost use Rattle.rh_client.specs.State.{ci};
 ghost use Rattle.rh_inproxy.specs.Machine.{rules};
+ghost use Rattle.rh_client.specs.State.{ci};
+ghost use Rattle.law_moves.specs.Wires.{of_leg};
 ghost use Rattle.law_moves.specs.ReadBack.Reading.{all_read_of};
 ghost use Rattle.law_role_inproxy.specs.Counted.{is_leg};
 ghost use Rattle.law_peers_moments.specs.Expecting.{Expects};

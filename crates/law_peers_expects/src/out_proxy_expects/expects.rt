@@ -2,8 +2,8 @@
 //! contract is the law.
 
 ghost use Rattle.std.specs.Prelude.{ℕ};
-ghost use Rattle.law_moves.specs.Wires.{of_leg};
 ghost use Rattle.rh_outproxy.specs.Machine.{rules};
+ghost use Rattle.law_moves.specs.Wires.{of_leg};
 ghost use Rattle.law_moves.specs.ReadBack.Reading.{all_read_of};
 ghost use Rattle.law_role_server_rows.specs.Putting.Puts.{os};
 ghost use Rattle.law_peers_moments.specs.Expecting.{Expects};

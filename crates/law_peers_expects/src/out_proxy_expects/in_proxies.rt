@@ -2,10 +2,10 @@
 //! law.
 
 ghost use Rattle.std.specs.Prelude.{List};
-ghost use Rattle.law_moves.specs.Moves.{Move, all_moved, started};
 ghost use Rattle.rh_inproxy.specs.declared.state.InProxyConfig.{InProxyConfig};
 ghost use Rattle.rh_inproxy.specs.Machine.{rules};
 ghost use Rattle.rh_inproxy.specs.State.{first};
+ghost use Rattle.law_moves.specs.Moves.{Move, all_moved, started};
 ghost use Rattle.law_peers_expects.specs.OutProxyExpects.Early.{PutsQuietly};
 
 /// Whatever moves an in proxy makes, allowed or not: as long as CONN/B1 and Pings alone came from

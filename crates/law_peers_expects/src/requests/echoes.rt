@@ -4,15 +4,15 @@
 ghost use Rattle.std.specs.Prelude.{List, Some};
 ghost use Rattle.std.specs.List.{AllByRecursion};
 ghost use Rattle.rh_sig.specs.declared.name.Pipe.TheVariants.{CoD};
-ghost use Rattle.law_moves.specs.Moves.{AreAllowed, Move, all_moved, started};
-ghost use Rattle.law_moves.specs.Wires.{of_leg};
 ghost use Rattle.rh_outproxy.specs.declared.state.OutProxyConfig.{OutProxyConfig};
 ghost use Rattle.rh_outproxy.specs.Machine.{rules};
 ghost use Rattle.rh_outproxy.specs.OutProxy.{new_proxy};
+ghost use Rattle.law_moves.specs.Moves.{AreAllowed, Move, all_moved, started};
+ghost use Rattle.law_moves.specs.Wires.{of_leg};
 ghost use Rattle.law_moves.specs.Passages.Counted.{AreCounted};
-ghost use Rattle.law_role_outproxy.specs.Counted.{co_leg};
 ghost use Rattle.law_moves.specs.ReadBack.Well.{Answers, IsWellText};
 ghost use Rattle.law_moves.specs.Turns.{AreInTurn};
+ghost use Rattle.law_role_outproxy.specs.Counted.{co_leg};
 ghost use Rattle.law_peers_expects.specs.Asked.Asking.{AsksNoEcho, ServesClient};
 
 use law_moves::{texts_are_whole, texts_read_well};

@@ -2,10 +2,10 @@
 //! its contract is the law.
 
 ghost use Rattle.std.specs.Prelude.{ℕ};
-ghost use Rattle.law_moves.specs.Wires.{of_leg};
 ghost use Rattle.rh_outproxy.specs.Machine.{rules};
-ghost use Rattle.law_role_outproxy.specs.Counted.{co_leg};
+ghost use Rattle.law_moves.specs.Wires.{of_leg};
 ghost use Rattle.law_moves.specs.ReadBack.Reading.{all_read_of};
+ghost use Rattle.law_role_outproxy.specs.Counted.{co_leg};
 ghost use Rattle.law_peers_moments.specs.Expecting.{Expects};
 ghost use Rattle.law_peers_moments.specs.Moments.{AreMade, Moves, Numbers, client_behind, out_behind};
 ghost use Rattle.law_peers_expects.specs.Asked.Requests.{HasAsked};

@@ -4,26 +4,24 @@ use Rattle.std.proofs.lemmas.Bool.{and_parts, eqb-true}
 use Rattle.std.proofs.lemmas.List.{append-nil, append_assoc}
 use Rattle.std.specs.Prelude.{IfSome}
 use Rattle.std.specs.declared.option.Option.{Option}
+use Rattle.std.specs.List.{list_any}
+use Rattle.rh_window.specs.declared.recv_window.Ack.{Ack}
+use Rattle.law_order.proofs.ByNumber.{by_test}
 use Rattle.rh_rts.specs.declared.command.Cookie.{Cookie}
 use Rattle.rh_rts.specs.declared.command.TheConstants.{TO_OUT_PROXY}
 use Rattle.rh_sig.specs.declared.named.Named.{Named}
 use Rattle.rh_sig.specs.declared.named.Named.TheVariants as named
-use Rattle.rh_window.specs.declared.recv_window.Ack.{Ack}
 use Rattle.rh_line.specs.declared.leg.Leg.{Leg}
 use Rattle.rh_line.specs.declared.leg.LegKind.TheVariants.{ClientOut, OutServer}
-use Rattle.law_order.proofs.ByNumber.{by_test}
 use Rattle.rh_shell.specs.declared.answers.Count.{Count}
 use Rattle.rh_shell.specs.declared.due.Due.{Due}
-use Rattle.law_moves.specs.Moves.{AreAllowed, OnLeg, Move, all_moved, started}
 use Rattle.rh_shell.specs.Rules.{Message, Pdu, Packet}
 use Rattle.rh_shell.specs.Shells.{same_leg}
-use Rattle.std.specs.List.{list_any}
 use Rattle.rh_shell.specs.Waiting.{Waiting}
 use Rattle.rh_shell.specs.Waiting as waits
 use Rattle.rh_shell.specs.declared.due.Origin.TheVariants as origins
 use Rattle.rh_outproxy.specs.declared.state.Answer.TheVariants as answers
 use Rattle.rh_outproxy.specs.declared.state.ServerLeg.TheVariants as servers
-use Rattle.law_moves.specs.Wires.{of_leg}
 use Rattle.rh_outproxy.specs.declared.state.Answer.{Answer}
 use Rattle.rh_outproxy.specs.declared.state.Channel.{Channel}
 use Rattle.rh_outproxy.specs.declared.state.Channel.TheVariants as channels
@@ -40,18 +38,20 @@ use Rattle.rh_outproxy.specs.Putting.{Pick, or_else, answer_by, put_answer, wait
 use Rattle.rh_outproxy.specs.Putting.{put as put_of}
 use Rattle.rh_outproxy.specs.Machine.{pdu, packet, on_co, on_os}
 use Rattle.rh_outproxy.specs.Machine.{rules as proxy_rules}
-use Rattle.law_role_client.specs.Counted.Counting.{is_in_a4}
+use Rattle.law_moves.specs.Moves.{AreAllowed, OnLeg, Move, all_moved, started}
+use Rattle.law_moves.specs.Wires.{of_leg}
 use Rattle.law_moves.specs.PacketKinds.{is_out_r1_a1, is_out_r1_a2}
 use Rattle.law_moves.proofs.Passages.Logs.{PutKeeps, RowKeeps}
+use Rattle.law_moves.specs.Passages.Passing.{count_of}
+use Rattle.law_moves.proofs.Passages.Messages.{count_append, count_rises, leg_more}
+use Rattle.law_moves.proofs.PacketKinds.Counts.{here_more, leg_is}
+use Rattle.law_moves.proofs.PacketKinds.Waits.{IsNoAck}
+use Rattle.law_role_client.specs.Counted.Counting.{is_in_a4}
+use Rattle.law_role_outproxy.specs.Counted.{co_leg, os_leg}
+use Rattle.law_peers_room.specs.OutRoom.Waits.{is_in_a3, packets_of}
 use Rattle.law_peers_forwarding.proofs.Answering.Allowed.{MayKeep, may_moves_keep}
 use Rattle.law_peers_forwarding.proofs.Answering.Until.{merged_count, merged_until, packets_more, until_behind, until_between, until_on, until_over, until_rises}
 use Rattle.law_peers_forwarding.specs.Answering.Passing.{AnswersKeepBefore, count_until}
-use Rattle.law_moves.specs.Passages.Passing.{count_of}
-use Rattle.law_moves.proofs.Passages.Messages.{count_append, count_rises, leg_more}
-use Rattle.law_role_outproxy.specs.Counted.{co_leg, os_leg}
-use Rattle.law_moves.proofs.PacketKinds.Counts.{here_more, leg_is}
-use Rattle.law_moves.proofs.PacketKinds.Waits.{IsNoAck}
-use Rattle.law_peers_room.specs.OutRoom.Waits.{is_in_a3, packets_of}
 
 -- the packets that go to the client, and those that wait behind them
 abbrev line_of : List Due → List Message → List Message

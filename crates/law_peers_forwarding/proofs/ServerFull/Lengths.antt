@@ -5,6 +5,7 @@ use Rattle.std.proofs.lemmas.Bool.Decides.{nat_tests}
 use Rattle.std.proofs.lemmas.List.Sums.{sum_by-cons, sum_by_push}
 use Rattle.std.specs.List.{AllByRecursion, list_any}
 use Rattle.std.specs.declared.option.Option.{Option}
+use Rattle.law_order.proofs.ByNumber.{by_test}
 use Rattle.rh_rts.specs.declared.command.Cookie.{Cookie}
 use Rattle.rh_sig.specs.declared.named.Named.{Named}
 use Rattle.rh_sig.specs.declared.named.Named.TheVariants as named
@@ -12,16 +13,13 @@ use Rattle.rh_line.specs.declared.leg.Leg.{Leg}
 use Rattle.rh_line.specs.declared.leg.LegKind.{LegKind}
 use Rattle.rh_line.specs.declared.leg.LegKind.TheVariants.{ClientOut, OutServer, ClientIn, InServer}
 use Rattle.rh_line.proofs.Queues.{each_push}
-use Rattle.law_order.proofs.ByNumber.{by_test}
-use Rattle.law_moves.proofs.Passages.Logs.{ActsKeep, PutKeeps, RowKeeps, StepsKeep, end_moves_keep}
-use Rattle.law_moves.proofs.Passages.Messages.{all_append}
 use Rattle.rh_shell.specs.declared.answers.Count.{Count}
 use Rattle.rh_shell.specs.declared.due.Due.{Due}
 use Rattle.rh_shell.specs.declared.due.Origin.{Origin}
 use Rattle.rh_shell.specs.declared.due.Origin.TheVariants.{Forwarded}
-use Rattle.law_moves.specs.Moves.{OnLeg, EndMove, end_started}
 use Rattle.rh_shell.specs.Rules.{Packet, Pdu}
 use Rattle.rh_shell.specs.Waiting.{Key, Waiting, added, are_one, better, count, edge_of, forwarded, is_of, key_of, merged, own, pushed, takes, to_forward, with_due, without_first}
+use Rattle.rh_shell.specs.declared.answers.Refused.TheVariants as refused
 use Rattle.rh_server.specs.declared.out_line.Kind.{Kind}
 use Rattle.rh_server.specs.declared.out_line.Kind.TheVariants as kinds
 use Rattle.rh_server.specs.OutLines.{are_kind, is_ack, is_kind, kind_of, waits}
@@ -32,7 +30,9 @@ use Rattle.rh_server.specs.Ending.{give}
 use Rattle.rh_server.specs.Putting.{Pick, put_by as put_by_kind}
 use Rattle.rh_server.specs.Servers.{acts, first, on_is, packet_by, pdu}
 use Rattle.rh_server.specs.Servers.{rules as server_rules}
-use Rattle.rh_shell.specs.declared.answers.Refused.TheVariants as refused
+use Rattle.law_moves.proofs.Passages.Logs.{ActsKeep, PutKeeps, RowKeeps, StepsKeep, end_moves_keep}
+use Rattle.law_moves.proofs.Passages.Messages.{all_append}
+use Rattle.law_moves.specs.Moves.{OnLeg, EndMove, end_started}
 use Rattle.law_role_server.specs.Counted.Counting.{waiting_of}
 use Rattle.law_role_server.proofs.Counted.Dues.{Apart, HasOrigin, HaveOrigins, IsOfKind, adds_forwarded, alone_none, none_waits, others_have, push_waits}
 use Rattle.law_role_server_in.specs.Handovers.{passed}

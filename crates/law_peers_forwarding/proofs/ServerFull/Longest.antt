@@ -5,31 +5,31 @@ use Rattle.std.proofs.lemmas.Bool.Decides.{nat_tests}
 use Rattle.std.proofs.lemmas.Slice.Eq.{bytes_eq-Decides}
 use Rattle.std.specs.Prelude.{nat_le}
 use Rattle.std.specs.Str.{bytes_eq}
+use Rattle.law_order.proofs.ByNumber.{same_number}
 use Rattle.rh_rts.specs.declared.command.Cookie.{Cookie}
 use Rattle.rh_sig.specs.declared.named.Named.{Named}
 use Rattle.rh_sig.specs.declared.named.Named.TheVariants as named
 use Rattle.rh_line.specs.declared.leg.Leg.{Leg}
 use Rattle.rh_line.specs.declared.leg.LegKind.TheVariants.{OutServer}
-use Rattle.law_order.proofs.ByNumber.{same_number}
-use Rattle.law_moves.proofs.Passages.Logs.{ActsKeep, PutKeeps, RowKeeps, StepsKeep, end_moves_keep}
-use Rattle.law_moves.specs.Passages.Passing.{count_of, of_kind}
-use Rattle.law_moves.proofs.Passages.Messages.{count_append, kind_more}
-use Rattle.law_node_streams.proofs.Streams.EndMoves.{all_end_moved_append}
 use Rattle.rh_shell.specs.declared.due.Due.{Due}
-use Rattle.law_moves.specs.Moves.{EndMove, EndPassage, OnLeg, Passage, all_end_moved, end_moved, end_started}
 use Rattle.rh_shell.specs.Rules.{Row, Pdu, Packet}
 use Rattle.rh_server.specs.States.{Server}
 use Rattle.rh_server.specs.Putting.{Pick}
 use Rattle.rh_server.specs.Servers.{acts, first, rules}
+use Rattle.law_moves.proofs.Passages.Logs.{ActsKeep, PutKeeps, RowKeeps, StepsKeep, end_moves_keep}
+use Rattle.law_moves.specs.Passages.Passing.{count_of, of_kind}
+use Rattle.law_moves.proofs.Passages.Messages.{count_append, kind_more}
+use Rattle.law_moves.specs.Moves.{EndMove, EndPassage, OnLeg, Passage, all_end_moved, end_moved, end_started}
 use Rattle.law_role_server.specs.Counted.Counting.{in_came, is_ack_to, often, out_put, waiting_of, waits_for}
-use Rattle.law_peers_in_channels.proofs.ServerExpects.Fronts.{behind_all}
+use Rattle.law_node_streams.proofs.Streams.EndMoves.{all_end_moved_append}
+use Rattle.law_peers_moments.specs.GoingRound.{taken_in}
 use Rattle.law_role_server_in.specs.Handovers.{passed}
+use Rattle.law_peers_in_channels.proofs.ServerExpects.Fronts.{behind_all}
+use Rattle.law_peers_in_channels.proofs.InHandovers.Crossing.{Crossing, crossing}
 use Rattle.law_peers_room.specs.ServerRoom.Forwarding.{ForwardsAcks}
 use Rattle.law_peers_room.specs.ServerRoom.Overtaking.{is_ack_for}
-use Rattle.law_peers_in_channels.proofs.InHandovers.Crossing.{Crossing, crossing}
-use Rattle.law_peers_moments.specs.GoingRound.{taken_in}
-use Rattle.law_peers_forwarding.specs.ServerFull.Oldest.{HasOldest, Oldest, due_in}
 use Rattle.law_peers_room.proofs.ServerRoom.Ahead.{same_cookies}
+use Rattle.law_peers_forwarding.specs.ServerFull.Oldest.{HasOldest, Oldest, due_in}
 use Rattle.law_peers_forwarding.proofs.ServerFull.Kept.{what_came}
 use Rattle.law_peers_forwarding.proofs.ServerFull.Quiet.{quiet_by}
 

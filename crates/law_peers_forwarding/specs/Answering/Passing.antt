@@ -2,15 +2,15 @@
 -- profile's; the packets are of MS-RPCH 2.2.4)
 use Rattle.std.specs.Prelude.{ℕ, suc, ◌≤◌, Bool, if◌then◌else◌, List, [], ◌∷◌}
 use Rattle.rh_sig.specs.declared.named.Named.{Named}
-use Rattle.law_moves.specs.Moves.{Passage}
 use Rattle.rh_shell.specs.Rules.{Message, Text, Pdu, Packet}
-use Rattle.law_moves.specs.Wires.{of_leg}
+use Rattle.rh_outproxy.specs.OutProxy.{OutProxy}
 use Rattle.rh_client.specs.declared.state.ClientRole.{ClientRole}
 use Rattle.rh_server.specs.States.{Server}
-use Rattle.rh_outproxy.specs.OutProxy.{OutProxy}
+use Rattle.law_moves.specs.Moves.{Passage}
+use Rattle.law_moves.specs.Wires.{of_leg}
 use Rattle.law_moves.specs.Passages.Passing.{count_of}
-use Rattle.law_role_client.specs.Counted.Counting.{is_in_a4}
 use Rattle.law_moves.specs.PacketKinds.{is_out_r1_a1, is_out_r1_a2}
+use Rattle.law_role_client.specs.Counted.Counting.{is_in_a4}
 use Rattle.law_role_outproxy.specs.Counted.{co_leg, os_leg}
 use Rattle.law_peers_room.specs.OutRoom.Waits.{behind, from_server, is_in_a3, to_client}
 

@@ -4,8 +4,8 @@ use Rattle.std.specs.Prelude.{ℕ, suc, ◌≡◌, ◌⊎◌, ◌≤◌, List, [
 use Rattle.rh_rts.specs.declared.command.Cookie.{Cookie}
 use Rattle.rh_rts.specs.declared.command.TheConstants.{TO_CLIENT}
 use Rattle.rh_sig.specs.declared.named.Named.TheVariants.{AckTo}
-use Rattle.law_moves.specs.Moves.{EndMove}
 use Rattle.rh_shell.specs.Rules.{Packet}
+use Rattle.law_moves.specs.Moves.{EndMove}
 use Rattle.law_moves.specs.Wires.{of_leg}
 use Rattle.law_moves.specs.ReadBack.Reading.{all_read_of}
 use Rattle.law_role_inproxy.specs.Counted.{is_leg}

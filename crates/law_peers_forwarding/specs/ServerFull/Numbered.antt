@@ -4,16 +4,16 @@ use Rattle.std.specs.Prelude.{ℕ, suc, ◌≡◌, ◌+◌, ◌<◌, ◌≤◌, 
 use Rattle.rh_rts.specs.declared.command.Cookie.{Cookie}
 use Rattle.rh_rts.specs.declared.command.TheConstants.{TO_CLIENT}
 use Rattle.rh_sig.specs.declared.named.Named.TheVariants.{AckTo}
-use Rattle.law_moves.specs.Moves.{EndMove}
 use Rattle.rh_shell.specs.Rules.{Packet}
+use Rattle.law_moves.specs.Moves.{EndMove}
 use Rattle.law_moves.specs.Wires.{of_leg}
 use Rattle.law_moves.specs.ReadBack.Reading.{all_read_of}
 use Rattle.law_role_inproxy.specs.Counted.{is_leg}
 use Rattle.law_role_server.specs.Counted.Counting.{in_came, is_in_r1_a6, is_in_r2_a2}
-use Rattle.law_role_server_in.specs.Refusing.{came_at}
-use Rattle.law_peers_in_channels.specs.InChannels.{IsAnnouncedOn, passed}
 use Rattle.law_peers_moments.specs.Expecting.{IsAhead}
 use Rattle.law_peers_moments.specs.Moments.{Moves, Numbers, in_behind, server_behind}
+use Rattle.law_role_server_in.specs.Refusing.{came_at}
+use Rattle.law_peers_in_channels.specs.InChannels.{IsAnnouncedOn, passed}
 use Rattle.law_peers_room.specs.ServerRoom.Answered.{IsAnswered}
 use Rattle.law_peers_room.specs.ServerRoom.Overtaking.{is_ack_for}
 

@@ -3,11 +3,11 @@
 use Rattle.std.specs.Prelude.{ℕ, ◌≡◌, ◌+◌, ◌<◌, ◌≤◌, ◌++◌, List, [], ◌∷◌}
 use Rattle.rh_rts.specs.declared.command.Cookie.{Cookie}
 use Rattle.rh_rts.specs.declared.command.TheConstants.{TO_CLIENT}
-use Rattle.law_moves.specs.Moves.{EndMove}
 use Rattle.rh_server.specs.States.{Server}
+use Rattle.law_moves.specs.Moves.{EndMove}
 use Rattle.law_role_server.specs.Counted.Counting.{in_came, is_ack_to, is_in_r1_a3, is_in_r2_a3, out_put, waits_for}
-use Rattle.law_role_server_in.specs.Handovers.{passed}
 use Rattle.law_peers_moments.specs.GoingRound.{taken_in}
+use Rattle.law_role_server_in.specs.Handovers.{passed}
 use Rattle.law_peers_room.specs.ServerRoom.Overtaking.{is_ack_for}
 
 -- IN_R1/A3 and IN_R2/A3 that are due

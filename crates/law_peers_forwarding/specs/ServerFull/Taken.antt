@@ -1,10 +1,10 @@
 -- how many IN channels a server answers while an acknowledgement waits (MS-RPCH 3.2.1)
 use Rattle.std.specs.Prelude.{ℕ, ◌+◌, ◌*◌, ◌≤◌, ◌++◌, ◌∷◌, [], List, length}
 use Rattle.rh_sig.specs.declared.lengths.TheConstants.{ACK_TO_LEN}
-use Rattle.law_moves.specs.Moves.{EndMove, Passage}
 use Rattle.rh_server.specs.States.{Server}
-use Rattle.law_role_server_in.specs.Handovers.{passed}
+use Rattle.law_moves.specs.Moves.{EndMove, Passage}
 use Rattle.law_peers_moments.specs.GoingRound.{taken_in}
+use Rattle.law_role_server_in.specs.Handovers.{passed}
 use Rattle.law_peers_room.specs.ServerRoom.Overtaking.{AreLong, ack_room}
 use Rattle.law_peers_forwarding.specs.ServerFull.Oldest.{Oldest}
 pub use Rattle.law_peers_forwarding.specs.ServerFull.Oldest.{due_in}

@@ -2,10 +2,10 @@
 //! its contract is the law.
 
 ghost use Rattle.std.specs.Prelude.{List};
-ghost use Rattle.law_moves.specs.Moves.{AreAllowed, Move, all_moved, started};
 ghost use Rattle.rh_outproxy.specs.declared.state.OutProxyConfig.{OutProxyConfig};
 ghost use Rattle.rh_outproxy.specs.Machine.{rules};
 ghost use Rattle.rh_outproxy.specs.OutProxy.{new_proxy};
+ghost use Rattle.law_moves.specs.Moves.{AreAllowed, Move, all_moved, started};
 ghost use Rattle.law_peers_forwarding.specs.Answering.Passing.{AnswersKeepBefore};
 
 /// Whatever happens to an out proxy: it puts no more IN_R1/A4 and IN_R2/A4 to its client before the

@@ -3,8 +3,8 @@
 
 ghost use Rattle.std.specs.Prelude.{List, length, ℕ, ◌+◌, ◌≤◌};
 ghost use Rattle.rh_shell.specs.declared.waiting.TheConstants.{OWN_ROOM};
-ghost use Rattle.law_moves.specs.Moves.{EndMove};
 ghost use Rattle.rh_server.specs.declared.out_line.TheConstants.{LINE_ROOM};
+ghost use Rattle.law_moves.specs.Moves.{EndMove};
 ghost use Rattle.law_role_server_in.specs.Handovers.{passed};
 ghost use Rattle.law_peers_forwarding.specs.ServerFull.Filled.{FillsFirst};
 

@@ -6,10 +6,10 @@ use Rattle.rh_sig.specs.declared.named.Named.{Named}
 use Rattle.rh_line.specs.declared.leg.Leg.{Leg}
 use Rattle.rh_line.specs.declared.leg.LegKind.{LegKind}
 use Rattle.rh_line.specs.declared.leg.LegKind.TheVariants.{InServer, OutServer}
-use Rattle.law_moves.specs.Moves.{EndMove, EndPassage, OnLeg, Passage, all_end_moved, end_moved, end_started}
 use Rattle.rh_shell.specs.Rules.{Acts, Message, Row, Rules, Packet, Pdu}
 use Rattle.rh_server.specs.Servers.{acts, first, rules}
 use Rattle.rh_server.specs.States.{Server}
+use Rattle.law_moves.specs.Moves.{EndMove, EndPassage, OnLeg, Passage, all_end_moved, end_moved, end_started}
 use Rattle.law_moves.specs.Passages.Passing.{count_of, of_kind}
 use Rattle.law_moves.proofs.Passages.Logs.{ActsKeep, PutKeeps, RowKeeps, StepsKeep, end_moves_keep}
 use Rattle.law_moves.proofs.Passages.Messages.{count_rises, kind_more}

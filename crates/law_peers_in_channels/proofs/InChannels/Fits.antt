@@ -5,8 +5,8 @@ use Rattle.std.proofs.lemmas.Bool.{cases_eq}
 use Rattle.std.proofs.lemmas.Bool.Decides.{nat_tests}
 use Rattle.std.specs.Prelude.{nat_le}
 use Rattle.rh_sig.specs.declared.named.Named.{Named}
-use Rattle.law_moves.specs.Moves.{Passage}
 use Rattle.rh_server.specs.States.{Server}
+use Rattle.law_moves.specs.Moves.{Passage}
 use Rattle.law_role_server.specs.Counted.Counting.{is_conn_b2, is_in_r1_a2, is_in_r2_a2}
 use Rattle.law_role_server_in.specs.Refusing.{came_at, first_at}
 use Rattle.law_peers_in_channels.specs.InChannels.{IsAnnouncedOn, channels}

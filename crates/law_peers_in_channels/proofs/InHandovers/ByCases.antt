@@ -3,8 +3,8 @@ use Rattle.std.proofs.Common.{List}
 use Rattle.rh_sig.specs.declared.named.Named.{Named}
 use Rattle.rh_sig.specs.declared.named.Named.TheVariants.{InR1A2, InR1A6, InR2A2}
 use Rattle.rh_line.specs.declared.leg.Leg.{Leg}
-use Rattle.law_moves.specs.Moves.{Passage}
 use Rattle.rh_shell.specs.Rules.{Message, Rules}
+use Rattle.law_moves.specs.Moves.{Passage}
 use Rattle.law_peers_moments.specs.Expecting.{Expects}
 use Rattle.law_peers_in_channels.specs.ServerExpects.Expected.{AnnouncesNone, ExpectsPdus, ExpectsThose}
 use Rattle.law_peers_in_channels.specs.InSuccessors.Successors.{Announces}

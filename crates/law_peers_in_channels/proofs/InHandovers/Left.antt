@@ -4,16 +4,16 @@ use Rattle.std.proofs.lemmas.Bool.Decides.{nat_tests}
 use Rattle.rh_rts.specs.declared.command.Cookie.{Cookie}
 use Rattle.rh_sig.specs.declared.named.Named.{Named}
 use Rattle.rh_sig.specs.declared.named.Named.TheVariants.{InR1A5}
-use Rattle.law_moves.specs.Moves.{Passage}
 use Rattle.rh_shell.specs.Rules.{Message, Text, Pdu, Packet}
-use Rattle.law_moves.specs.Wires.{of_leg}
 use Rattle.rh_client.specs.State.{ci}
 use Rattle.rh_client.specs.declared.state.ClientRole.{ClientRole}
+use Rattle.law_moves.specs.Moves.{Passage}
+use Rattle.law_moves.specs.Wires.{of_leg}
 use Rattle.law_moves.specs.Passages.Passing.{Has, HasBegunIn, HasOne, count_of}
+use Rattle.law_role_inproxy.specs.Putting.Puts.{Leaves}
 use Rattle.law_role_client.specs.Counted.Counting.{is_among, is_in_r1_a5, once_if}
 use Rattle.law_role_client.specs.Counted.Naming.{NamesIns}
 use Rattle.law_role_client.specs.Counted.Replacing.{ReplacesIns, in_answered, in_handed_over}
-use Rattle.law_role_inproxy.specs.Putting.Puts.{Leaves}
 use Rattle.law_peers_in_channels.proofs.ServerExpects.Logs.{counted_some}
 
 leaves_has : (successor : Cookie) (ms : List Message) → HasOne (Leaves successor) ms

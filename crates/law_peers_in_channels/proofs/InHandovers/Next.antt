@@ -4,14 +4,14 @@ use Rattle.std.proofs.Common.{◌≡◌, ◌⊎◌, ℕ, zero, suc, ◌+◌, ◌
 use Rattle.std.proofs.lemmas.Bool.Decides.{nat_tests}
 use Rattle.std.proofs.lemmas.List.{append-nil}
 use Rattle.std.specs.Prelude.{nat_lt}
-use Rattle.law_moves.specs.Moves.{EndMove, Passage}
 use Rattle.rh_server.specs.States.{Server}
+use Rattle.law_moves.specs.Moves.{EndMove, Passage}
 use Rattle.law_role_server.specs.Counted.Counting.{in_came, is_conn_b2, is_in_r1_a2, is_in_r1_a3, is_in_r2_a2, out_put}
+use Rattle.law_peers_moments.specs.GoingRound.{announced, taken_in}
+use Rattle.law_peers_moments.specs.Moments.{IsMoment, Moves, Numbers}
 use Rattle.law_role_server_in.specs.Handovers.{HadOpened, IsLastAnswered}
 use Rattle.law_role_server_in.specs.Refusing.{came_at, first_at}
-use Rattle.law_peers_moments.specs.GoingRound.{announced, taken_in}
 use Rattle.law_peers_in_channels.specs.InChannels.{AreAnnounced, IsAnnouncedOn, channels, passed}
-use Rattle.law_peers_moments.specs.Moments.{IsMoment, Moves, Numbers}
 use Rattle.law_peers_in_channels.proofs.InHandovers.Known.{Known, Next, behind_is, connected, next_announced, none_waits}
 
 none_or_some : (n : ℕ) → (n ≡ 0) ⊎ (1 ≤ n)

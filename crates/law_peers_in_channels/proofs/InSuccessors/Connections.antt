@@ -5,18 +5,18 @@ use Rattle.rh_rts.specs.declared.command.Cookie.{Cookie}
 use Rattle.rh_sig.specs.declared.named.Named.{Named}
 use Rattle.rh_sig.specs.declared.named.Named.TheVariants.{Ack, ConnA1, ConnA2, ConnB2, InR1A2, InR1A6, InR2A2, OutR1A4}
 use Rattle.rh_line.specs.declared.leg.Leg.{Leg}
-use Rattle.law_moves.specs.Moves.{OnLeg}
 use Rattle.rh_shell.specs.Rules.{Message, Text, Pdu, Packet}
-use Rattle.law_moves.specs.Wires.{of_leg}
-use Rattle.rh_outproxy.specs.declared.state.OutProxyConfig.{OutProxyConfig}
 use Rattle.rh_inproxy.specs.declared.state.InProxyConfig.{InProxyConfig}
+use Rattle.rh_outproxy.specs.declared.state.OutProxyConfig.{OutProxyConfig}
+use Rattle.law_moves.specs.Moves.{OnLeg}
+use Rattle.law_moves.specs.Wires.{of_leg}
 use Rattle.law_moves.specs.Passages.Passing.{HasOne}
-use Rattle.law_role_client.specs.Counted.Naming.{EachBehind, NamesOut}
-use Rattle.law_role_server_rows.specs.Refusing.Cookies.{Connects}
-use Rattle.law_role_outproxy.specs.Counted.{NamesNew}
-use Rattle.law_role_outproxy.specs.Putting.{AcksPacket, IsAck, IsToServer, OpensServer}
 use Rattle.law_role_inproxy.specs.Putting.Puts as puts
 use Rattle.law_role_inproxy.specs.Putting.Puts.{ci, IsRest, IsStream}
+use Rattle.law_role_client.specs.Counted.Naming.{EachBehind, NamesOut}
+use Rattle.law_role_outproxy.specs.Counted.{NamesNew}
+use Rattle.law_role_outproxy.specs.Putting.{AcksPacket, IsAck, IsToServer, OpensServer}
+use Rattle.law_role_server_rows.specs.Refusing.Cookies.{Connects}
 use Rattle.law_peers_in_channels.proofs.ServerExpects.Streams.{first_one}
 use Rattle.law_peers_in_channels.proofs.InSuccessors.Logs.{each_one}
 use Rattle.law_peers_in_channels.proofs.InSuccessors.Streams.{pings_rest}

@@ -9,30 +9,30 @@ use Rattle.rh_line.specs.declared.leg.LegKind.TheVariants.{InServer, OutServer}
 use Rattle.rh_shell.specs.declared.answers.Count.{Count}
 use Rattle.rh_shell.specs.declared.answers.Refused.{Refused}
 use Rattle.rh_shell.specs.declared.answers.Refused.TheVariants as refused
-use Rattle.law_moves.specs.Moves.{Passage, is_in_use}
 use Rattle.rh_shell.specs.Rules.{Message, Packet}
-use Rattle.law_moves.specs.Wires.{of_leg}
+use Rattle.rh_inproxy.specs.State.{InProxy}
 use Rattle.rh_client.specs.declared.state.ClientRole.{ClientRole}
 use Rattle.rh_client.specs.State.{ci}
-use Rattle.rh_inproxy.specs.State.{InProxy}
-use Rattle.law_role_server.specs.Order.{came_up}
 use Rattle.rh_server.specs.Servers.{rules as server_rules}
 use Rattle.rh_server.specs.States.{Server}
+use Rattle.law_moves.specs.Moves.{Passage, is_in_use}
+use Rattle.law_moves.specs.Wires.{of_leg}
 use Rattle.law_moves.specs.ReadBack.Reading.{all_read_of}
 use Rattle.law_moves.specs.Passages.Counted.{packets, Tells}
 use Rattle.law_moves.specs.Passages.Passing.{HasOne}
 use Rattle.law_moves.specs.Passages.Rising.{HasComeUp}
 use Rattle.law_moves.proofs.Passages.Messages.{one_so}
-use Rattle.law_role_client.specs.Counted.Replacing.{in_answered, in_asked}
 use Rattle.law_role_inproxy.specs.Counted.{is_leg}
 use Rattle.law_role_inproxy.specs.Putting.Puts as puts
 use Rattle.law_role_inproxy.specs.Putting.Puts.{IsFront, Joins}
+use Rattle.law_role_client.specs.Counted.Replacing.{in_answered, in_asked}
+use Rattle.law_role_server.specs.Order.{came_up}
 use Rattle.law_role_server.specs.Counted.Counting.{is_conn_b2, is_in_r1_a2, is_in_r2_a2}
 use Rattle.law_role_server_rows.specs.Refusing.Cookies.{IsConnection}
 use Rattle.law_role_server_rows.specs.Refusing.Refusing.{IsOther}
-use Rattle.law_role_server_in.specs.Refusing.{NewestNames, UnexpectedInR1A2, UnexpectedInR2A2, came_at}
 use Rattle.law_peers_moments.specs.Expecting.{IsAhead, IsAmiss}
 use Rattle.law_peers_moments.specs.Moments.{IsMoment, Moves, Numbers}
+use Rattle.law_role_server_in.specs.Refusing.{NewestNames, UnexpectedInR1A2, UnexpectedInR2A2, came_at}
 use Rattle.law_peers_in_channels.specs.ServerExpects.Expected.{ExpectsThose}
 use Rattle.law_peers_in_channels.specs.InChannels.{IsNextChannel, channels}
 use Rattle.law_peers_in_channels.specs.InSuccessors.Successors.{Announces}

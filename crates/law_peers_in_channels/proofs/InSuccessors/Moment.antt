@@ -7,41 +7,41 @@ use Rattle.rh_rts.specs.declared.command.Cookie.{Cookie}
 use Rattle.rh_sig.specs.declared.named.Named.{Named}
 use Rattle.rh_sig.specs.declared.named.Named.TheVariants.{InR1A1}
 use Rattle.rh_line.specs.declared.leg.LegKind.TheVariants.{ClientIn, InServer, OutServer}
-use Rattle.law_moves.specs.Moves.{Passage}
 use Rattle.rh_shell.specs.Rules.{Message}
-use Rattle.law_moves.specs.Wires.{of_leg}
+use Rattle.rh_inproxy.specs.State.{InProxy}
+use Rattle.rh_outproxy.specs.OutProxy.{OutProxy}
 use Rattle.rh_client.specs.declared.state.ClientRole.{ClientRole}
 use Rattle.rh_client.specs.Client.{rules as client_rules}
 use Rattle.rh_client.specs.State.{ci}
-use Rattle.law_node_causes.specs.Numbers.{ClientIsNumbered}
-use Rattle.rh_inproxy.specs.State.{InProxy}
-use Rattle.rh_outproxy.specs.OutProxy.{OutProxy}
-use Rattle.law_role_server.specs.Order.{came_up}
 use Rattle.rh_server.specs.States.{Server, in_leg, is_some}
+use Rattle.law_moves.specs.Moves.{Passage}
+use Rattle.law_moves.specs.Wires.{of_leg}
 use Rattle.law_moves.specs.ReadBack.Reading.{all_read_of}
 use Rattle.law_moves.specs.Passages.Passing.{BeginsIn, HasOne}
 use Rattle.law_moves.specs.Passages.Rising.{HasComeUp}
 use Rattle.law_moves.specs.Chains.Sums.{count_on}
 use Rattle.law_moves.proofs.Chains.Summing.{some_legs, sum_rises}
+use Rattle.law_role_inproxy.specs.Counted.{is_leg}
+use Rattle.law_role_inproxy.specs.Putting.Puts as puts
+use Rattle.law_role_inproxy.specs.Putting.Puts.{IsStream, Joins, PutsInOrder}
 use Rattle.law_role_client.specs.Counted.Counting.{is_in_r1_a1}
 use Rattle.law_role_client.specs.Counted.Naming.{EachBehind, NamesOut}
 use Rattle.law_role_client.specs.Counted.Replacing.{ReplacesIns, in_answered, in_asked}
-use Rattle.law_role_client_rows.specs.Putting.{OpenedBefore, OpensInChannels}
-use Rattle.law_role_inproxy.specs.Counted.{is_leg}
-use Rattle.law_role_outproxy.specs.Counted.{NamesNew, co_leg, os_leg}
-use Rattle.law_role_inproxy.specs.Putting.Puts as puts
-use Rattle.law_role_inproxy.specs.Putting.Puts.{IsStream, Joins, PutsInOrder}
-use Rattle.law_role_outproxy.specs.Putting.{IsToServer, PutsToServer}
+use Rattle.law_role_server.specs.Order.{came_up}
 use Rattle.law_role_server.specs.Counted.Answering.{AreAnswered}
 use Rattle.law_role_server.specs.Counted.Counting.{in_came, is_conn_b2, is_in_r1_a2, is_in_r2_a2}
+use Rattle.law_node_causes.specs.Numbers.{ClientIsNumbered}
+use Rattle.law_role_outproxy.specs.Counted.{NamesNew, co_leg, os_leg}
+use Rattle.law_role_outproxy.specs.Putting.{IsToServer, PutsToServer}
+use Rattle.law_role_client_rows.specs.Putting.{OpenedBefore, OpensInChannels}
 use Rattle.law_role_server_rows.specs.Refusing.Cookies.{Connects, IsConnection}
 use Rattle.law_role_server_rows.specs.Refusing.Refusing as rows
-use Rattle.law_role_server_in.specs.Refusing.{IsOpening, NewestNames, RefusesInFor, came_at, first_at, in_ups}
 use Rattle.law_peers_moments.specs.GoingRound.{InGoesRound}
 use Rattle.law_peers_moments.specs.Expecting.{IsAhead}
 use Rattle.law_peers_moments.specs.Moments.{IsMoment, Moves, Numbers, client_behind, in_behind, out_behind, passages, server_behind}
 use Rattle.law_peers_moments.proofs.Joining.{co_front, in_front, in_reads, is_front, os_front}
 use Rattle.law_peers_moments.proofs.Read.{front_one}
+use Rattle.law_role_server_in.specs.Refusing.{IsOpening, NewestNames, RefusesInFor, came_at, first_at, in_ups}
 use Rattle.law_peers_in_channels.proofs.ServerExpects.Logs.{counted_some, leg_of_all, some_leg}
 use Rattle.law_peers_in_channels.proofs.ServerExpects.Streams.{first_one}
 use Rattle.law_peers_in_channels.specs.InChannels.{AnnounceNext, AreAnnounced, IsAnnouncedOn, channels}

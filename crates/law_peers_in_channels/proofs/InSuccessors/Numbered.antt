@@ -2,8 +2,6 @@
 use Rattle.std.proofs.Common.{◌≡◌, ◌⊎◌, ◌==◌, ◌&&◌, ◌||◌, ℕ, ◌+◌, ◌<◌, ◌≤◌, nat_lt, Bool, true, false, inl, inr, refl, arith}
 use Rattle.std.proofs.lemmas.Bool.Decides.{nat_tests}
 use Rattle.rh_http.specs.declared.config.ClientConfig.{ClientConfig}
-use Rattle.law_moves.specs.Moves.{Passage}
-use Rattle.law_moves.specs.Wires.{of_leg}
 use Rattle.rh_client.specs.declared.channels.TheConstants.{LAST_NUMBER}
 use Rattle.rh_client.specs.declared.replacement.Replacement.{Replacement}
 use Rattle.rh_client.specs.declared.replacement.Replacement.TheVariants.{NoneUnderWay, In, Out}
@@ -14,6 +12,8 @@ use Rattle.rh_client.specs.Client.{rules}
 use Rattle.rh_client.specs.Opening.{was_in_up}
 use Rattle.rh_client.specs.Replacements.{is_in}
 use Rattle.rh_client.specs.State.{ci, first, is_in_successor, is_writing}
+use Rattle.law_moves.specs.Moves.{Passage}
+use Rattle.law_moves.specs.Wires.{of_leg}
 use Rattle.law_moves.specs.Passages.Passing.{count_of}
 use Rattle.law_role_client.specs.Counted.Counting.{is_among, is_in_r1_a1, once_if}
 use Rattle.law_role_client.specs.Counted.Replacing.{InIsAt, ReplacesIns, in_answered, in_asked}

@@ -7,19 +7,19 @@ use Rattle.rh_line.specs.declared.leg.LegKind.TheVariants.{ClientOut, OutServer}
 use Rattle.rh_shell.specs.Rules.{Message, Text, Pdu, Packet}
 use Rattle.law_moves.specs.Passages.Passing.{count_of, of_kind}
 use Rattle.law_moves.proofs.Chains.Along.{by_proxies}
+use Rattle.law_moves.specs.PacketKinds as at_proxy
 use Rattle.law_role_client.specs.Counted.Counting as at_client
 use Rattle.law_role_client.specs.Counted.Opening as opening
 use Rattle.law_role_client.specs.Counted.Opening.{opened}
 use Rattle.law_role_client.specs.Counted.Replacing.{in_asked}
-use Rattle.law_moves.specs.PacketKinds as at_proxy
-use Rattle.law_role_outproxy.specs.Counted.{ForwardsWhatCame}
 use Rattle.law_role_server.specs.Counted.Counting as at_server
 use Rattle.law_role_server.specs.Counted.Counting.{in_came}
 use Rattle.law_role_server.specs.Counted.Opening.{IsText, OpensOnce}
-use Rattle.law_role_server_in.specs.Refusing as in_rows
+use Rattle.law_role_outproxy.specs.Counted.{ForwardsWhatCame}
 use Rattle.law_peers_moments.proofs.GoingRound.Fronts.{are_fronts, logs_of}
 use Rattle.law_peers_moments.proofs.GoingRound.Rounding.{once, same_counts}
 use Rattle.law_peers_moments.specs.Moments.{AreJoined, Passages}
+use Rattle.law_role_server_in.specs.Refusing as in_rows
 
 conn_c2 : (m : Named) → once (at_client.is_conn_c2 m) ≡ once (at_proxy.is_conn_c2 m)
 conn_c2 (ConnC2 version window timeout) = refl

@@ -6,17 +6,17 @@ use Rattle.std.specs.Prelude.{IsTrue}
 use Rattle.rh_rts.specs.declared.command.Cookie.{Cookie}
 use Rattle.rh_line.specs.declared.leg.Leg.{Leg}
 use Rattle.rh_line.specs.declared.leg.LegKind.TheVariants.{InServer}
-use Rattle.law_moves.specs.Moves.{Up, HeadCame, PduCame, PacketCame, Puts, IsDrawn, Marks, Pings, EndMove, Moves, Gives, Takes, Closes, Recycles, MayEndMove, EndPassage, end_moved, all_end_moved, AreAllowedAtEnd}
 use Rattle.rh_shell.specs.Rules.{Acts, Rules}
 use Rattle.rh_shell.specs.Shells.{is_of, same_leg}
-use Rattle.law_node_history.proofs.Wired.{cases_leg}
-use Rattle.law_role_server.specs.Order.{came_up, is_up}
+use Rattle.law_moves.specs.Moves.{Up, HeadCame, PduCame, PacketCame, Puts, IsDrawn, Marks, Pings, EndMove, Moves, Gives, Takes, Closes, Recycles, MayEndMove, EndPassage, end_moved, all_end_moved, AreAllowedAtEnd}
 use Rattle.law_moves.specs.Chains.Sums.{sum_below}
 use Rattle.law_moves.proofs.Chains.Summing.{sum_rises}
-use Rattle.law_role_server.specs.Counted.Counting.{leg_at}
-use Rattle.law_role_server_in.specs.Refusing.{in_ups}
 use Rattle.law_moves.specs.Passages.Rising.{HasComeUp}
+use Rattle.law_role_server.specs.Order.{came_up, is_up}
+use Rattle.law_role_server.specs.Counted.Counting.{leg_at}
+use Rattle.law_node_history.proofs.Wired.{cases_leg}
 use Rattle.law_node_causes.specs.Once.{ComesUpOnce, KeepsUp}
+use Rattle.law_role_server_in.specs.Refusing.{in_ups}
 use Rattle.law_peers_in_channels.proofs.InSuccessors.Sums.{sum_more}
 
 leg_same : (a b : Leg) → same_leg a b ≡ true → a ≡ b

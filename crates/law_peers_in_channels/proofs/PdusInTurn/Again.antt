@@ -3,10 +3,10 @@ use Rattle.std.proofs.Common.{◌≡◌, ℕ, zero, suc, ◌+◌, ◌==◌, ◌&
 use Rattle.std.specs.Prelude.{slice_get, slice_set}
 use Rattle.std.specs.List.{position_or_len}
 use Rattle.std.specs.declared.option.Option.{Option}
+use Rattle.law_order.proofs.ByNumber.{by_test}
 use Rattle.rh_sig.specs.declared.named.Named.TheVariants as named
 use Rattle.rh_line.specs.Lines.{after_tell}
 use Rattle.rh_line.specs.declared.which.Which.TheVariants.{Current}
-use Rattle.law_order.proofs.ByNumber.{by_test}
 use Rattle.rh_shell.specs.Rules.{Packet}
 use Rattle.rh_server.specs.declared.state.Edge.TheVariants.{Told}
 use Rattle.rh_server.specs.declared.state.InLeg.{InLeg}

@@ -2,19 +2,19 @@
 use Rattle.std.proofs.Common.{◌≡◌, ℕ, suc, ◌+◌, ◌≤◌, Bool, if◌then◌else◌, List, [], ◌∷◌, refl, ap, ◌∙◌, subst, arith}
 use Rattle.rh_sig.specs.declared.named.Named.{Named}
 use Rattle.rh_sig.specs.declared.named.Named.TheVariants as named
-use Rattle.law_moves.specs.Moves.{Passage}
 use Rattle.rh_shell.specs.Rules.{Message, Text, Pdu, Packet}
+use Rattle.rh_server.specs.States.{Server}
+use Rattle.law_moves.specs.Moves.{Passage}
 use Rattle.law_moves.specs.Wires.{of_leg}
 use Rattle.law_moves.specs.Passages.Passing.{count_of}
-use Rattle.rh_server.specs.States.{Server}
-use Rattle.law_role_server.specs.Counted.Counting as at_server
-use Rattle.law_role_server_in.specs.Refusing as in_rows
 use Rattle.law_role_inproxy.specs.Putting.Puts.{HasPdu, is_leg}
 use Rattle.law_role_inproxy.specs.Putting.Standing.{SendsWhereTold}
 use Rattle.law_role_inproxy.specs.Putting.Standing as at_proxy
+use Rattle.law_role_server.specs.Counted.Counting as at_server
 use Rattle.law_peers_moments.specs.Moments.{AreJoined, AreMade, Moves, Numbers, in_behind, passages, server_behind}
 use Rattle.law_peers_moments.proofs.Joining.{is_back}
 use Rattle.law_peers_moments.proofs.Read.{front_count}
+use Rattle.law_role_server_in.specs.Refusing as in_rows
 use Rattle.law_peers_in_channels.specs.PdusInTurn.Telling.{IsTold, TellsBehind}
 use Rattle.law_peers_in_channels.specs.PdusInTurn.Turns.{ComeBehindHandovers}
 

@@ -5,21 +5,18 @@ use Rattle.std.proofs.lemmas.Bool.Decides.{nat_tests}
 use Rattle.std.specs.Prelude.{IfSome, IsTrue}
 use Rattle.std.specs.declared.option.Option.{Option}
 use Rattle.std.specs.declared.result.Result.{Result}
-use Rattle.rh_rts.specs.declared.command.Cookie.{Cookie}
-use Rattle.rh_sig.specs.declared.named.Named.TheVariants as named
 use Rattle.rh_window.specs.declared.recv_window.Ack.{Ack}
-use Rattle.rh_line.specs.declared.leg.Leg.{Leg}
-use Rattle.rh_line.specs.declared.leg.LegKind.{LegKind}
-use Rattle.rh_line.specs.declared.leg.LegKind.TheVariants.{ClientOut, OutServer, ClientIn, InServer}
 use Rattle.law_order.specs.Items.{has_handover}
 use Rattle.law_order.specs.Taking.{TakerLaw}
 use Rattle.law_order.proofs.ByNumber.{by_test, other_number, same_number}
-use Rattle.law_moves.specs.Passages.Passing.{count_of}
+use Rattle.rh_rts.specs.declared.command.Cookie.{Cookie}
+use Rattle.rh_sig.specs.declared.named.Named.TheVariants as named
+use Rattle.rh_line.specs.declared.leg.Leg.{Leg}
+use Rattle.rh_line.specs.declared.leg.LegKind.{LegKind}
+use Rattle.rh_line.specs.declared.leg.LegKind.TheVariants.{ClientOut, OutServer, ClientIn, InServer}
 use Rattle.rh_shell.specs.declared.end_role.GiveRefused.{GiveRefused}
-use Rattle.law_moves.specs.Moves.{Up, HeadCame, PduCame, PacketCame, Puts, IsDrawn, Marks, Pings, Passage, EndMove, Moves, Gives, Takes, Closes, Recycles, EndPassage, MayEndMove, AreAllowedAtEnd, OnLeg, all_end_moved, end_moved, end_now_at, end_started, given_by, is_at_work, is_in_use, put_by, taken_by, with_first}
 use Rattle.rh_shell.specs.Rules.{Message, Pdu, Packet, Row}
 use Rattle.rh_shell.specs.Shells.{is_of}
-use Rattle.law_moves.specs.Wires.{of_leg}
 use Rattle.rh_server.specs.declared.state.InLeg.{InLeg}
 use Rattle.rh_server.specs.declared.state.Leaving.{Leaving}
 use Rattle.rh_server.specs.declared.state.Leaving.TheVariants as leaving
@@ -28,18 +25,21 @@ use Rattle.rh_server.specs.declared.state.Tells.TheVariants as tells
 use Rattle.rh_server.specs.declared.state.Stage.{Stage}
 use Rattle.rh_server.specs.Ending.{in_is_done}
 use Rattle.rh_server.specs.Opening.{has_room, may_up_by}
-use Rattle.law_role_server.specs.Order.{came_up, following, got, has_leg, is_up, taker_of}
 use Rattle.rh_server.specs.Putting.{Pick, ack_due, or_else, put_ack, put_ack_by, put_b1, put_b1_by, put_in, put_in_by, put_tells, put_tells_by, was_current}
 use Rattle.rh_server.specs.Servers.{acts, first, rules}
 use Rattle.rh_server.specs.States.{Server, has_left, in_leg, in_place, is_due, is_lost, is_open, is_some, stays, with_in}
+use Rattle.law_moves.specs.Passages.Passing.{count_of}
+use Rattle.law_moves.specs.Moves.{Up, HeadCame, PduCame, PacketCame, Puts, IsDrawn, Marks, Pings, Passage, EndMove, Moves, Gives, Takes, Closes, Recycles, EndPassage, MayEndMove, AreAllowedAtEnd, OnLeg, all_end_moved, end_moved, end_now_at, end_started, given_by, is_at_work, is_in_use, put_by, taken_by, with_first}
+use Rattle.law_moves.specs.Wires.{of_leg}
+use Rattle.law_role_server.specs.Order.{came_up, following, got, has_leg, is_up, taker_of}
 use Rattle.law_role_server.specs.Counted.Counting.{is_conn_b2, is_in_r1_a2, is_in_r1_a6, leg_at, often_at}
+use Rattle.law_role_server_rows.specs.InTurn.Answers.{AnswersInOrder, is_in_r1_b1}
 use Rattle.law_role_server_in.specs.Handovers.{passed}
 use Rattle.law_role_server_in.specs.Refusing.{came_at, first_at, is_in_r1_b2, put_at}
 use Rattle.law_role_server_in.proofs.Places.{number_found}
 use Rattle.law_role_server_in.proofs.Steps.{in_use, known}
 use Rattle.law_role_server_in.proofs.Takes.{IsKept}
 use Rattle.law_role_server_in.proofs.Tallies.{here, often_more, once_more, other_here}
-use Rattle.law_role_server_rows.specs.InTurn.Answers.{AnswersInOrder, is_in_r1_b1}
 use Rattle.law_peers_in_channels.proofs.ServerExpects.Fronts.{all_fronts, behind_all}
 use Rattle.law_peers_in_channels.specs.PdusInTurn.Telling.{IsTold, TellsBehind}
 use Rattle.law_peers_in_channels.proofs.PdusInTurn.Again.{behind, first_put, kept, same_stage, second_put}

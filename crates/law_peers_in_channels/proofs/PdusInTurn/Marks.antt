@@ -1,11 +1,11 @@
 -- handover marks among what a server took, by counts
 use Rattle.std.proofs.Common.{◌≡◌, ℕ, ◌≤◌, ◌&&◌, Bool, true, false, true≢false, nat_eq, if◌then◌else◌, List, [], ◌∷◌, ◌++◌, refl, sym, subst, arith}
+use Rattle.law_order.specs.Items.{Item, has_handover}
 use Rattle.rh_sig.specs.declared.named.Named.TheVariants as named
 use Rattle.rh_line.specs.declared.leg.LegKind.TheVariants.{InServer}
-use Rattle.law_order.specs.Items.{Item, has_handover}
-use Rattle.law_moves.specs.Moves.{OnLeg}
 use Rattle.rh_shell.specs.Rules.{Message, Text, Pdu, Packet}
 use Rattle.rh_shell.specs.Shells.{is_of}
+use Rattle.law_moves.specs.Moves.{OnLeg}
 use Rattle.law_moves.specs.Wires.{of_leg}
 use Rattle.law_moves.specs.Passages.Passing.{count_of}
 use Rattle.law_role_server.specs.Order.{in_items, items_if, items_on}

@@ -4,8 +4,8 @@ use Rattle.std.specs.List.{AllByRecursion}
 use Rattle.rh_sig.specs.declared.named.Named.TheVariants.{EndA2}
 use Rattle.rh_shell.specs.Rules.{Message, Text, Pdu, Packet}
 use Rattle.law_moves.specs.Passages.Passing.{count_of}
-use Rattle.law_role_server.specs.Counted.Counting.{is_end_a2}
 use Rattle.law_role_inproxy.specs.Putting.Standing.{EndsLast, MayFollowEnd}
+use Rattle.law_role_server.specs.Counted.Counting.{is_end_a2}
 
 module _ (m : Message) (later : List Message) (barred : MayFollowEnd m → ⊥) where
   none_follows : (ms : List Message) → AllByRecursion MayFollowEnd (ms ++ m ∷ later) → ⊥

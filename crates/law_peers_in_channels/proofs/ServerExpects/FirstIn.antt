@@ -5,10 +5,10 @@ use Rattle.rh_rts.specs.declared.command.Cookie.{Cookie}
 use Rattle.rh_sig.specs.declared.named.Named.{Named}
 use Rattle.rh_sig.specs.declared.named.Named.TheVariants.{ConnB1, ConnB2}
 use Rattle.rh_line.specs.declared.leg.LegKind.TheVariants.{ClientIn}
-use Rattle.law_moves.specs.Moves.{Passage}
-use Rattle.law_moves.specs.Wires.{of_leg}
 use Rattle.rh_client.specs.declared.state.ClientRole.{ClientRole}
 use Rattle.rh_client.specs.State.{ci}
+use Rattle.law_moves.specs.Moves.{Passage}
+use Rattle.law_moves.specs.Wires.{of_leg}
 use Rattle.law_moves.specs.Passages.Passing.{count_of, HasOne}
 use Rattle.law_role_client.specs.Counted.Counting.{is_among, is_conn_b1, once_if, total}
 use Rattle.law_role_client.specs.Counted.Naming.{NamesIns}

@@ -8,8 +8,8 @@ use Rattle.rh_line.specs.declared.leg.Leg.{Leg}
 use Rattle.rh_shell.specs.Rules.{Message, Text, Pdu, Packet}
 use Rattle.rh_client.specs.State.{co}
 use Rattle.law_moves.specs.Passages.Passing.{count_of}
-use Rattle.law_role_client.specs.Counted.Counting as at_client
 use Rattle.law_moves.specs.PacketKinds as at_proxy
+use Rattle.law_role_client.specs.Counted.Counting as at_client
 use Rattle.law_role_server.specs.Counted.Counting as at_server
 use Rattle.law_role_client_rows.specs.Putting.{SwitchesFrom}
 use Rattle.law_peers_in_channels.proofs.ServerExpects.Cookies.{cookie_same, is_same, same_cookie}

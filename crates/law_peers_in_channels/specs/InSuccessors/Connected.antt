@@ -3,8 +3,8 @@
 use Rattle.std.specs.Prelude.{ℕ, ◌≡◌, ◌≤◌, IsTrue}
 use Rattle.rh_rts.specs.declared.command.Cookie.{Cookie}
 use Rattle.rh_client.specs.State.{ci}
-use Rattle.law_role_server.specs.Order.{came_up}
 use Rattle.law_moves.specs.Passages.Rising.{HasComeUp}
+use Rattle.law_role_server.specs.Order.{came_up}
 use Rattle.law_peers_moments.specs.Moments.{Moves}
 
 -- channel n came up at the client, and the in proxy of its number reads it

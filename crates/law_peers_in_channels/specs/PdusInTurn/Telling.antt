@@ -1,8 +1,8 @@
 -- on which is legs a server tells its window (MS-RPCH 3.2.1; successors are this profile's)
 use Rattle.std.specs.Prelude.{ℕ, ◌+◌, ◌<◌, ◌≤◌, List, IsTrue}
+use Rattle.rh_server.specs.States.{Server}
 use Rattle.law_moves.specs.Moves.{EndMove, Passage}
 use Rattle.law_role_server.specs.Order.{came_up}
-use Rattle.rh_server.specs.States.{Server}
 use Rattle.law_role_server.specs.Counted.Counting.{is_conn_b3, is_in_r1_a6}
 use Rattle.law_role_server_in.specs.Refusing.{came_at, first_at, is_in_r1_b2, put_at}
 

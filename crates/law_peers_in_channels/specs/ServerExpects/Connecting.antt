@@ -5,9 +5,9 @@ use Rattle.rh_sig.specs.declared.named.Named.{Named}
 use Rattle.rh_sig.specs.declared.named.Named.TheVariants.{ConnA2, ConnB1, ConnB2}
 use Rattle.rh_line.specs.declared.leg.Leg.{Leg}
 use Rattle.rh_line.specs.declared.leg.LegKind.TheVariants.{ClientIn}
+use Rattle.rh_inproxy.specs.State.{InProxy}
 use Rattle.law_moves.specs.Moves.{Passage}
 use Rattle.law_moves.specs.Wires.{of_leg}
-use Rattle.rh_inproxy.specs.State.{InProxy}
 use Rattle.law_moves.specs.Passages.Passing.{count_of, of_kind}
 
 -- CONN/B1 of a connection whose cookie passes a test

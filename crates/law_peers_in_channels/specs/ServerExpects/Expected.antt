@@ -5,8 +5,8 @@ use Rattle.rh_sig.specs.declared.named.Named.TheVariants.{InR1A2, InR1A6, InR2A2
 use Rattle.rh_line.specs.declared.leg.Leg.{Leg}
 use Rattle.rh_shell.specs.declared.answers.Count.{Count}
 use Rattle.rh_shell.specs.declared.answers.Refused.{Refused}
-use Rattle.law_moves.specs.Moves.{Passage, is_in_use}
 use Rattle.rh_shell.specs.Rules.{Message, Rules, Pdu, Packet}
+use Rattle.law_moves.specs.Moves.{Passage, is_in_use}
 use Rattle.law_moves.specs.Wires.{of_leg}
 use Rattle.law_moves.specs.Passages.Counted.{Tells, packets}
 use Rattle.law_peers_moments.specs.Expecting.{IsAhead, IsAmiss}

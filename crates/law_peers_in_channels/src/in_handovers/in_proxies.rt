@@ -2,8 +2,8 @@
 //! stands on: its contract is the law.
 
 ghost use Rattle.std.specs.Prelude.{ℕ};
-ghost use Rattle.law_moves.specs.Wires.{of_leg};
 ghost use Rattle.rh_server.specs.Servers.{rules};
+ghost use Rattle.law_moves.specs.Wires.{of_leg};
 ghost use Rattle.law_moves.specs.ReadBack.Reading.{all_read_of};
 ghost use Rattle.law_role_inproxy.specs.Counted.{is_leg};
 ghost use Rattle.law_peers_moments.specs.Expecting.{Expects};

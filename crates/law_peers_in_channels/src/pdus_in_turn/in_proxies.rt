@@ -2,10 +2,10 @@
 //! it stands on: its contract is the law.
 
 ghost use Rattle.std.specs.Prelude.{List};
-ghost use Rattle.law_moves.specs.Moves.{AreAllowed, Move, all_moved, started};
 ghost use Rattle.rh_inproxy.specs.declared.state.InProxyConfig.{InProxyConfig};
 ghost use Rattle.rh_inproxy.specs.Machine.{rules};
 ghost use Rattle.rh_inproxy.specs.State.{first};
+ghost use Rattle.law_moves.specs.Moves.{AreAllowed, Move, all_moved, started};
 ghost use Rattle.law_peers_in_channels.specs.PdusInTurn.Passing.{HoldsBack};
 
 use law_role_inproxy::an_in_proxy_keeps_order;

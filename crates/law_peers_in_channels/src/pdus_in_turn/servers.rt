@@ -2,8 +2,8 @@
 //! that it stands on: its contract is the law.
 
 ghost use Rattle.std.specs.Prelude.{List, ℕ};
-ghost use Rattle.law_moves.specs.Moves.{AreAllowedAtEnd, EndMove, end_started};
 ghost use Rattle.rh_server.specs.Servers.{acts, first, rules};
+ghost use Rattle.law_moves.specs.Moves.{AreAllowedAtEnd, EndMove, end_started};
 ghost use Rattle.law_role_server_in.specs.Handovers.{passed};
 ghost use Rattle.law_peers_in_channels.specs.PdusInTurn.Telling.{TellsBehind};
 

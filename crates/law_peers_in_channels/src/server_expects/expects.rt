@@ -1,8 +1,8 @@
 //! What a server expects of its proxies. These functions do nothing: their contracts are the laws.
 
 ghost use Rattle.std.specs.Prelude.{ℕ};
-ghost use Rattle.law_moves.specs.Wires.{of_leg};
 ghost use Rattle.rh_server.specs.Servers.{rules};
+ghost use Rattle.law_moves.specs.Wires.{of_leg};
 ghost use Rattle.law_moves.specs.ReadBack.Reading.{all_read_of};
 ghost use Rattle.law_role_inproxy.specs.Counted.{is_leg};
 ghost use Rattle.law_role_outproxy.specs.Counted.{os_leg};

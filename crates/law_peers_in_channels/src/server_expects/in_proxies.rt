@@ -2,11 +2,11 @@
 //! do nothing: their contracts are the laws.
 
 ghost use Rattle.std.specs.Prelude.{List};
-ghost use Rattle.law_moves.specs.Moves.{AreAllowed, Move, all_moved, started};
-ghost use Rattle.law_moves.specs.Turns.{AreInTurn};
 ghost use Rattle.rh_inproxy.specs.declared.state.InProxyConfig.{InProxyConfig};
 ghost use Rattle.rh_inproxy.specs.Machine.{rules};
 ghost use Rattle.rh_inproxy.specs.State.{first};
+ghost use Rattle.law_moves.specs.Moves.{AreAllowed, Move, all_moved, started};
+ghost use Rattle.law_moves.specs.Turns.{AreInTurn};
 ghost use Rattle.law_role_inproxy.specs.Putting.Puts.{PutsInOrder};
 ghost use Rattle.law_peers_in_channels.specs.ServerExpects.Connecting.{ConnectsForWhatCame};
 

@@ -6,17 +6,17 @@ use Rattle.rh_sig.specs.declared.named.Named.TheVariants as named
 use Rattle.rh_line.specs.declared.leg.LegKind.TheVariants.{ClientIn, ClientOut, InServer, OutServer}
 use Rattle.rh_shell.specs.Rules.{Message, Text, Pdu, Packet}
 use Rattle.law_moves.specs.Passages.Passing.{count_of, of_kind}
+use Rattle.law_moves.specs.PacketKinds as at_proxy
+use Rattle.law_moves.specs.Chains.Sums.{count_on}
+use Rattle.law_moves.specs.Chains.Ways.{AreFronts, Logs, total}
+use Rattle.law_moves.proofs.Chains.Along.{by_in_proxies, by_proxies}
+use Rattle.law_role_inproxy.specs.Counted.{PutsForWhatCame}
 use Rattle.law_role_client.specs.Counted.Counting as at_client
 use Rattle.law_role_client.specs.Counted.Replacing.{ReplacesIns, ReplacesOuts, AsksWhereWanted}
 use Rattle.law_role_server.specs.Counted.Answering.{AreAnswered}
 use Rattle.law_role_server.specs.Counted.Counting as at_server
 use Rattle.law_role_server.specs.Counted.Replacing.{AreInTurn}
-use Rattle.law_moves.specs.PacketKinds as at_proxy
-use Rattle.law_role_inproxy.specs.Counted.{PutsForWhatCame}
 use Rattle.law_role_outproxy.specs.Counted.{ForwardsWhatCame, OpensWhatCame}
-use Rattle.law_moves.specs.Chains.Sums.{count_on}
-use Rattle.law_moves.specs.Chains.Ways.{AreFronts, Logs, total}
-use Rattle.law_moves.proofs.Chains.Along.{by_in_proxies, by_proxies}
 use Rattle.law_peers_moments.specs.Moments.{AreJoined, Passages}
 use Rattle.law_peers_moments.specs.GoingRound.{GoRound, InGoesRound, OutGoesRound}
 use Rattle.law_peers_moments.proofs.GoingRound.Fronts.{are_fronts, logs_of}

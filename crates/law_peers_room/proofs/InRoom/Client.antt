@@ -2,22 +2,18 @@
 use Rattle.std.proofs.Common.{◌≡◌, ℕ, ◌+◌, ◌==◌, ◌&&◌, ◌||◌, nat_le, Bool, true, false, not, List, [], length, Ok, Err, inl, inr, refl, ◌∙◌, subst, ◌∷◌, ◌++◌}
 use Rattle.std.proofs.lemmas.Bool.{and_parts, false≢true, true≢false}
 use Rattle.std.specs.declared.result.Result.{Result}
-use Rattle.rh_rts.specs.declared.command.Cookie.{Cookie}
-use Rattle.rh_http.specs.declared.config.ClientConfig.{ClientConfig}
+use Rattle.law_order.proofs.ByNumber.{by_test, same_number}
 use Rattle.rh_pdu.specs.Checking.{checked, pdu_fault}
 use Rattle.rh_pdu.specs.declared.fault.PduFault.{PduFault}
+use Rattle.rh_rts.specs.declared.command.Cookie.{Cookie}
+use Rattle.rh_http.specs.declared.config.ClientConfig.{ClientConfig}
 use Rattle.rh_line.specs.Lines.{after_take}
 use Rattle.rh_line.specs.Queue.{total, queue_bytes}
 use Rattle.rh_line.specs.declared.leg.Leg.{Leg}
 use Rattle.rh_line.specs.declared.leg.LegKind.{LegKind}
 use Rattle.rh_line.specs.declared.leg.LegKind.TheVariants.{ClientOut, OutServer, ClientIn, InServer}
-use Rattle.law_order.proofs.ByNumber.{by_test, same_number}
 use Rattle.rh_shell.specs.declared.end_role.GiveRefused.TheVariants.{Closing, Full}
 use Rattle.rh_shell.specs.Rules.{Pdu, Packet, Message}
-use Rattle.law_moves.specs.Moves.{OnLeg, EndMove}
-use Rattle.law_moves.specs.Passages.Passing.{of_kind}
-use Rattle.law_moves.specs.Passages.Rising.{HasComeUp}
-use Rattle.law_moves.proofs.Passages.Logs.{RowKeeps}
 use Rattle.rh_client.specs.declared.state.ClientRole.{ClientRole}
 use Rattle.rh_client.specs.Channels.{in_up, is_up, out_up}
 use Rattle.rh_client.specs.Replacements.{is_out}
@@ -27,6 +23,10 @@ use Rattle.rh_client.specs.Ending.{Given, give, give_pdu, drawn_by}
 use Rattle.rh_client.specs.Time.{ping_by}
 use Rattle.rh_client.specs.Client.{acts, pdu_by, packet_by}
 use Rattle.rh_client.specs.Client.{rules as client_rules}
+use Rattle.law_moves.specs.Moves.{OnLeg, EndMove}
+use Rattle.law_moves.specs.Passages.Passing.{of_kind}
+use Rattle.law_moves.specs.Passages.Rising.{HasComeUp}
+use Rattle.law_moves.proofs.Passages.Logs.{RowKeeps}
 use Rattle.law_role_client.specs.Order.{AreAllowedMoves, client_moved, client_started}
 use Rattle.law_role_client.proofs.Sending.Steps.{StepsKeep, end_moves_keep}
 use Rattle.law_peers_room.specs.InRoom.Acks.{AcksFrom}

@@ -2,26 +2,20 @@
 use Rattle.std.proofs.Common.{◌≡◌, ℕ, ◌+◌, ◌==◌, true, if◌then◌else◌, List, [], ◌∷◌, ◌++◌, length, Some, None, arith, rules, refl, sym, ap, ◌∙◌, subst}
 use Rattle.std.specs.Prelude.{IfSome}
 use Rattle.std.specs.declared.option.Option.{Option}
+use Rattle.rh_window.specs.Sending.{after_sent, may_send}
+use Rattle.rh_window.specs.declared.recv_window.Ack as told
+use Rattle.law_order.proofs.ByNumber.{by_test}
 use Rattle.rh_rts.specs.declared.command.Cookie.{Cookie}
 use Rattle.rh_sig.specs.declared.named.Named.{Named}
 use Rattle.rh_sig.specs.declared.named.Named.TheVariants as named
-use Rattle.rh_window.specs.Sending.{after_sent, may_send}
-use Rattle.rh_window.specs.declared.recv_window.Ack as told
 use Rattle.rh_line.specs.Lines as line
 use Rattle.rh_line.specs.declared.leg.Leg.{Leg}
 use Rattle.rh_line.specs.declared.which.Which.{Which}
 use Rattle.rh_line.specs.declared.which.Which.TheVariants.{Current, Next}
-use Rattle.law_order.proofs.ByNumber.{by_test}
 use Rattle.rh_shell.specs.declared.due.Due.{Due}
-use Rattle.law_moves.specs.Moves.{OnLeg, Move, started, all_moved}
 use Rattle.rh_shell.specs.Rules.{Pdu, Packet}
 use Rattle.rh_shell.specs.Shells.{one_if}
 use Rattle.rh_shell.specs.Waiting as waits
-use Rattle.law_moves.specs.Wires.{of_leg}
-use Rattle.law_moves.specs.Passages.Passing.{count_of}
-use Rattle.law_moves.proofs.Passages.Logs.{PutKeeps, StepsKeep, moves_keep}
-use Rattle.law_moves.proofs.Passages.Messages.{count_append}
-use Rattle.law_role_server.specs.Counted.Counting.{is_out_r1_a8}
 use Rattle.rh_inproxy.specs.declared.state.InProxyConfig.{InProxyConfig}
 use Rattle.rh_inproxy.specs.declared.state.Joining.TheVariants.{TellsServer, Told, Follows}
 use Rattle.rh_inproxy.specs.declared.state.Opening.{Opening}
@@ -42,8 +36,14 @@ use Rattle.rh_inproxy.specs.Passing.{passed as pdu_passed, next_pdu, put_pdu}
 use Rattle.rh_inproxy.specs.Putting.{put as put_of, next, waiting_by, put_waiting, put_control, put_early, put_stream, put_behind, put_mark}
 use Rattle.rh_inproxy.specs.Time.{ping, put_ping}
 use Rattle.rh_inproxy.specs.Machine.{rules as proxy_rules}
-use Rattle.law_role_inproxy.specs.Counted.{is_leg}
+use Rattle.law_moves.specs.Moves.{OnLeg, Move, started, all_moved}
+use Rattle.law_moves.specs.Wires.{of_leg}
+use Rattle.law_moves.specs.Passages.Passing.{count_of}
+use Rattle.law_moves.proofs.Passages.Logs.{PutKeeps, StepsKeep, moves_keep}
+use Rattle.law_moves.proofs.Passages.Messages.{count_append}
 use Rattle.law_moves.proofs.PacketKinds.Counts.{here_more, leg_is, one_counts}
+use Rattle.law_role_inproxy.specs.Counted.{is_leg}
+use Rattle.law_role_server.specs.Counted.Counting.{is_out_r1_a8}
 use Rattle.law_peers_room.specs.InRoom.Waiting.{AreApart, WaitFrom, WaitsInTurn, passed}
 use Rattle.law_peers_room.proofs.InRoom.Seen.{Holds, Same, Seen, Sound, behind_of, followed_holds, put_one, same_holds, seen}
 use Rattle.law_peers_room.proofs.InRoom.Came.{packet_holds, pdu_holds, up_holds}

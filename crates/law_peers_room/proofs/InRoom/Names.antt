@@ -4,9 +4,9 @@ use Rattle.std.proofs.lemmas.Bool.Decides.{nat_tests}
 use Rattle.std.specs.List.{AllByRecursion}
 use Rattle.rh_rts.specs.declared.command.Cookie.{Cookie}
 use Rattle.rh_line.specs.declared.leg.Leg.{Leg}
-use Rattle.law_moves.proofs.Passages.Messages.{each_so}
 use Rattle.rh_client.specs.Channels.{no_cookie}
 use Rattle.rh_client.specs.State.{co}
+use Rattle.law_moves.proofs.Passages.Messages.{each_so}
 
 abbrev pub AreDistinct : List Cookie → Type 0
 AreDistinct [] = Unit {0}

@@ -5,16 +5,16 @@ use Rattle.rh_rts.specs.declared.command.Cookie.{Cookie}
 use Rattle.rh_sig.specs.declared.named.Named.TheVariants.{AckTo, EndA1, InR1A5, OutR1A7}
 use Rattle.rh_line.specs.declared.leg.Leg.{Leg}
 use Rattle.rh_line.specs.declared.leg.LegKind.TheVariants.{ClientIn}
-use Rattle.law_moves.specs.Moves.{OnLeg}
 use Rattle.rh_shell.specs.Rules.{Message, Text, Pdu, Packet}
 use Rattle.rh_shell.specs.Shells.{is_of, same_leg}
+use Rattle.rh_client.specs.State.{ci}
+use Rattle.law_moves.specs.Moves.{OnLeg}
 use Rattle.law_moves.specs.Wires.{of_leg}
 use Rattle.law_moves.specs.Passages.Passing.{count_of, of_kind}
 use Rattle.law_moves.specs.Chains.Sums.{count_on, sum_below}
 use Rattle.law_moves.proofs.Chains.Summing.{sum_rises}
 use Rattle.law_role_client.specs.Counted.Counting.{is_out_r1_a7}
 use Rattle.law_role_client_rows.specs.InTurn.Turns.{Turn, StandFrom, behind}
-use Rattle.rh_client.specs.State.{ci}
 use Rattle.law_peers_room.specs.InRoom.Acks.{AcksFrom, AcksOnEach, IsNear}
 
 -- ---- sums

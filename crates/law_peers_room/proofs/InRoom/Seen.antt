@@ -2,28 +2,28 @@
 use Rattle.std.proofs.Common.{◌≡◌, ℕ, suc, ◌+◌, ◌≤◌, ◌<◌, ◌==◌, Bool, true, false, ◌&&◌, if◌then◌else◌, List, [], ◌∷◌, ◌++◌, Some, None, Ok, Err, arith, refl, sym, ap, ◌∙◌, subst}
 use Rattle.std.proofs.lemmas.Bool.Decides.{nat_tests}
 use Rattle.std.specs.declared.option.Option.{Option}
+use Rattle.law_order.proofs.ByNumber.{by_test}
 use Rattle.rh_line.specs.declared.leg.Leg.{Leg}
 use Rattle.rh_line.specs.declared.leg.LegKind.TheVariants.{ClientIn}
 use Rattle.rh_line.specs.declared.which.Which.{Which}
 use Rattle.rh_line.specs.declared.which.Which.TheVariants.{Current, Next}
-use Rattle.law_order.proofs.ByNumber.{by_test}
 use Rattle.rh_shell.specs.declared.waiting.TheConstants.{FORWARDED_ROOM}
-use Rattle.law_moves.specs.Moves.{OnLeg}
 use Rattle.rh_shell.specs.Rules.{Message}
 use Rattle.rh_shell.specs.Shells.{is_of, same_leg}
 use Rattle.rh_shell.specs.Waiting.{Waiting}
-use Rattle.law_moves.specs.Wires.{of_leg}
-use Rattle.law_moves.specs.Passages.Passing.{count_of, of_kind}
-use Rattle.law_moves.proofs.Passages.Messages.{count_append, leg_more, kind_more}
-use Rattle.law_moves.proofs.Passages.Logs.{RowKeeps}
-use Rattle.law_role_client.specs.Counted.Counting.{is_out_r1_a7}
-use Rattle.law_role_server.specs.Counted.Counting.{is_out_r1_a8}
 use Rattle.rh_inproxy.specs.declared.state.Successor.{Successor}
 use Rattle.rh_inproxy.specs.declared.state.Successor.TheVariants as successors
 use Rattle.rh_inproxy.specs.Answers.{Done}
 use Rattle.rh_inproxy.specs.State.{InProxy, channel_of, has_opened, next_of, follows, followed, is_client_leg}
-use Rattle.law_role_inproxy.specs.Counted.{is_leg}
 use Rattle.rh_client.specs.State.{ci}
+use Rattle.law_moves.specs.Moves.{OnLeg}
+use Rattle.law_moves.specs.Wires.{of_leg}
+use Rattle.law_moves.specs.Passages.Passing.{count_of, of_kind}
+use Rattle.law_moves.proofs.Passages.Messages.{count_append, leg_more, kind_more}
+use Rattle.law_moves.proofs.Passages.Logs.{RowKeeps}
+use Rattle.law_role_inproxy.specs.Counted.{is_leg}
+use Rattle.law_role_client.specs.Counted.Counting.{is_out_r1_a7}
+use Rattle.law_role_server.specs.Counted.Counting.{is_out_r1_a8}
 use Rattle.law_peers_room.specs.InRoom.Waiting.{AreApart, WaitFrom, passed, switches}
 use Rattle.law_peers_room.proofs.InRoom.Turns.{wait_more}
 

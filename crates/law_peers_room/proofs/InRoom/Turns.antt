@@ -4,17 +4,17 @@ use Rattle.std.proofs.lemmas.Bool.{and_parts, eqb-true}
 use Rattle.std.proofs.lemmas.Slice.Eq.{bytes_eq-Decides}
 use Rattle.std.specs.Str.{bytes_eq}
 use Rattle.std.specs.declared.option.Option.{Option}
+use Rattle.law_order.proofs.ByNumber.{by_test}
 use Rattle.rh_rts.specs.declared.command.Cookie.{Cookie}
 use Rattle.rh_sig.specs.declared.named.Named.{Named}
 use Rattle.rh_sig.specs.declared.named.Named.TheVariants.{AckTo, OutR1A8}
-use Rattle.law_order.proofs.ByNumber.{by_test}
 use Rattle.rh_shell.specs.declared.due.Due.{Due}
-use Rattle.law_moves.specs.Moves.{OnLeg}
 use Rattle.rh_shell.specs.Rules.{Packet}
 use Rattle.rh_shell.specs.Shells.{one_if}
 use Rattle.rh_shell.specs.Waiting.{Key, key_of, are_one, better, edge_of, merged, takes, to_forward}
-use Rattle.law_role_server.specs.Counted.Counting.{is_out_r1_a8}
 use Rattle.rh_client.specs.State.{ci}
+use Rattle.law_moves.specs.Moves.{OnLeg}
+use Rattle.law_role_server.specs.Counted.Counting.{is_out_r1_a8}
 use Rattle.law_peers_room.specs.InRoom.Waiting.{switches, CameBehind, IsInTurn, WaitFrom}
 
 -- ---- keys

@@ -3,18 +3,17 @@ use Rattle.std.proofs.Common.{◌≡◌, ℕ, suc, ◌+◌, ◌≤◌, ◌==◌,
 use Rattle.std.proofs.lemmas.Bool.Decides.{nat_tests}
 use Rattle.std.proofs.lemmas.List.Sums.{count_by-le-length}
 use Rattle.std.specs.List.{AllByRecursion, list_any}
+use Rattle.law_order.proofs.ByNumber.{by_test}
 use Rattle.rh_rts.specs.declared.command.Cookie.{Cookie}
 use Rattle.rh_rts.specs.declared.command.TheConstants.{TO_OUT_PROXY}
 use Rattle.rh_sig.specs.declared.named.Named.{Named}
 use Rattle.rh_sig.specs.declared.named.Named.TheVariants as named
 use Rattle.rh_line.specs.declared.leg.Leg.{Leg}
-use Rattle.law_order.proofs.ByNumber.{by_test}
 use Rattle.rh_shell.specs.declared.answers.Count.{Count}
 use Rattle.rh_shell.specs.declared.answers.Refused.TheVariants as refused
 use Rattle.rh_shell.specs.declared.due.Due.{Due}
 use Rattle.rh_shell.specs.declared.due.Origin.TheVariants.{Forwarded}
 use Rattle.rh_shell.specs.declared.waiting.TheConstants.{FORWARDED_ROOM}
-use Rattle.law_moves.specs.Moves.{Passage}
 use Rattle.rh_shell.specs.Rules.{Row, Message, Packet}
 use Rattle.rh_shell.specs.Waiting.{Waiting, count, is_of, merged, pushed, takes, to_forward, with_due}
 use Rattle.rh_shell.specs.Waiting as waits
@@ -27,9 +26,10 @@ use Rattle.rh_outproxy.specs.Acknowledging.{on_ack, on_ack_to}
 use Rattle.rh_outproxy.specs.Ending.{on_end_b1}
 use Rattle.rh_outproxy.specs.OutReplacement.{on_out_r1_a9}
 use Rattle.rh_outproxy.specs.Machine.{packet, on_co, on_os}
+use Rattle.law_moves.specs.Moves.{Passage}
 use Rattle.law_moves.specs.Passages.Passing.{count_of}
-use Rattle.law_role_client.specs.Counted.Counting.{is_in_a4}
 use Rattle.law_moves.specs.PacketKinds.{is_conn_c2, is_out_r1_a2, is_out_r1_a6}
+use Rattle.law_role_client.specs.Counted.Counting.{is_in_a4}
 use Rattle.law_peers_room.specs.OutRoom.Room.{HasRoom, PassOneByOne}
 use Rattle.law_peers_room.specs.OutRoom.Waits.{IsForwarded, IsToForward, WaitsInOrder, cookie_in, cookies_in, packets_of, waiting_at}
 

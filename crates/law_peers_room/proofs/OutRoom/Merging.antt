@@ -7,10 +7,10 @@ use Rattle.std.proofs.lemmas.Slice.Eq.{bytes_eq-Decides}
 use Rattle.std.specs.Prelude.{bytes_eq}
 use Rattle.std.specs.List.{AllByRecursion, list_any}
 use Rattle.std.specs.declared.option.Option.{Option}
+use Rattle.law_order.proofs.ByNumber.{by_test}
 use Rattle.rh_rts.specs.declared.command.Cookie.{Cookie}
 use Rattle.rh_sig.specs.declared.named.Named.{Named}
 use Rattle.rh_sig.specs.declared.named.Named.TheVariants.{AckTo}
-use Rattle.law_order.proofs.ByNumber.{by_test}
 use Rattle.rh_shell.specs.declared.due.Due.{Due}
 use Rattle.rh_shell.specs.declared.due.Origin.TheVariants.{Forwarded}
 use Rattle.rh_shell.specs.Rules.{Message}
@@ -18,8 +18,8 @@ use Rattle.rh_shell.specs.Shells.{one_if}
 use Rattle.rh_shell.specs.Waiting.{Waiting, Key, key_of, are_one, better, edge_of, merged, takes, with_due, pushed, to_forward, count, forwarded}
 use Rattle.law_moves.specs.Passages.Passing.{count_of, HasOne}
 use Rattle.law_moves.proofs.Passages.Messages.{all_append}
-use Rattle.law_role_client.specs.Counted.Counting.{is_in_a4}
 use Rattle.law_moves.proofs.PacketKinds.Waits.{waits}
+use Rattle.law_role_client.specs.Counted.Counting.{is_in_a4}
 use Rattle.law_peers_room.specs.OutRoom.Waits.{AcksFor, AreDifferent, IsForwarded, IsToForward, behind, cookie_in, cookies_in, is_in_a3, packets_of}
 use Rattle.law_peers_room.proofs.OutRoom.Behind.{fewer_behind, more_behind}
 

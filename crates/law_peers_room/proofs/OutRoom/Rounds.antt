@@ -6,13 +6,13 @@ use Rattle.rh_sig.specs.declared.named.Named.TheVariants as named
 use Rattle.rh_line.specs.declared.leg.LegKind.TheVariants.{ClientOut, OutServer}
 use Rattle.law_moves.specs.Moves.{OnLeg}
 use Rattle.law_moves.specs.Passages.Passing.{of_kind}
-use Rattle.law_role_client.specs.Counted.Counting as at_client
-use Rattle.law_role_server.specs.Counted.Counting as at_server
-use Rattle.law_role_server.specs.Counted.Counting.{out_put}
 use Rattle.law_moves.specs.PacketKinds as at_proxy
 use Rattle.law_moves.specs.Chains.Sums.{count_on, sum_below}
 use Rattle.law_moves.specs.Chains.Ways.{AreFronts, Logs, total}
 use Rattle.law_moves.proofs.Chains.Summing.{all_legs, some_legs, sum_rises}
+use Rattle.law_role_client.specs.Counted.Counting as at_client
+use Rattle.law_role_server.specs.Counted.Counting as at_server
+use Rattle.law_role_server.specs.Counted.Counting.{out_put}
 use Rattle.law_peers_moments.specs.Moments.{AreJoined, Passages}
 use Rattle.law_peers_moments.specs.GoingRound.{GoRound}
 use Rattle.law_peers_moments.proofs.GoingRound.Fronts.{are_fronts, logs_of}

@@ -4,22 +4,20 @@ use Rattle.std.proofs.lemmas.Bool.{and_parts, eqb-true}
 use Rattle.std.proofs.lemmas.List.{append-nil}
 use Rattle.std.specs.Prelude.{IfSome}
 use Rattle.std.specs.declared.option.Option.{Option}
+use Rattle.rh_window.specs.declared.recv_window.Ack.{Ack}
+use Rattle.law_order.proofs.ByNumber.{by_test}
 use Rattle.rh_rts.specs.declared.command.Cookie.{Cookie}
 use Rattle.rh_rts.specs.declared.command.TheConstants.{TO_OUT_PROXY}
 use Rattle.rh_sig.specs.declared.named.Named.{Named}
 use Rattle.rh_sig.specs.declared.named.Named.TheVariants as named
-use Rattle.rh_window.specs.declared.recv_window.Ack.{Ack}
 use Rattle.rh_line.specs.declared.leg.Leg.{Leg}
-use Rattle.law_order.proofs.ByNumber.{by_test}
 use Rattle.rh_shell.specs.declared.answers.Count.{Count}
 use Rattle.rh_shell.specs.declared.due.Due.{Due}
 use Rattle.rh_shell.specs.declared.waiting.TheConstants.{FORWARDED_ROOM}
-use Rattle.law_moves.specs.Moves.{OnLeg, Move, all_moved, started}
 use Rattle.rh_shell.specs.Rules.{Message, Pdu, Packet}
 use Rattle.rh_shell.specs.Shells.{same_leg, one_if}
 use Rattle.rh_shell.specs.Waiting.{Waiting}
 use Rattle.rh_shell.specs.Waiting as waits
-use Rattle.law_moves.specs.Wires.{of_leg}
 use Rattle.rh_outproxy.specs.declared.state.Answer.{Answer}
 use Rattle.rh_outproxy.specs.declared.state.Channel.{Channel}
 use Rattle.rh_outproxy.specs.declared.state.Channel.TheVariants as channels
@@ -34,13 +32,15 @@ use Rattle.rh_outproxy.specs.Putting.{Pick, or_else, answer_by, put_answer, wait
 use Rattle.rh_outproxy.specs.Putting.{put as put_of}
 use Rattle.rh_outproxy.specs.Machine.{pdu, packet, on_co, on_os}
 use Rattle.rh_outproxy.specs.Machine.{rules as proxy_rules}
-use Rattle.law_role_client.specs.Counted.Counting.{is_in_a4}
+use Rattle.law_moves.specs.Moves.{OnLeg, Move, all_moved, started}
+use Rattle.law_moves.specs.Wires.{of_leg}
 use Rattle.law_moves.specs.PacketKinds.{is_conn_c1, is_conn_c2, is_out_r1_a1, is_out_r1_a2, is_out_r1_a5, is_out_r1_a6}
 use Rattle.law_moves.proofs.Passages.Logs.{PutKeeps, RowKeeps, StepsKeep, moves_keep}
 use Rattle.law_moves.proofs.Passages.Messages.{leg_more}
-use Rattle.law_role_outproxy.specs.Counted.{co_leg, os_leg}
 use Rattle.law_moves.proofs.PacketKinds.Counts.{here_more, leg_is}
 use Rattle.law_moves.proofs.PacketKinds.Waits.{IsNoAck, IsSame, refused_waits}
+use Rattle.law_role_client.specs.Counted.Counting.{is_in_a4}
+use Rattle.law_role_outproxy.specs.Counted.{co_leg, os_leg}
 use Rattle.law_peers_room.specs.OutRoom.Waits.{IsForwarded, is_in_a3}
 use Rattle.law_peers_room.proofs.OutRoom.Held.{SameAck, CountsNone, InOrder, IsForwardedAs, first_put, more_came, nothing_waits, one_more_waits, other_put}
 use Rattle.law_peers_room.proofs.OutRoom.Merging.{forwarded_so}

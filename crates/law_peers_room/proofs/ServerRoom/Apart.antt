@@ -4,13 +4,13 @@ use Rattle.std.proofs.lemmas.Bool.{false≢true}
 use Rattle.std.proofs.lemmas.List.Sums.{sum_by-cons}
 use Rattle.std.specs.List.{AllByRecursion, list_any}
 use Rattle.std.specs.declared.option.Option.{Option}
-use Rattle.rh_sig.specs.declared.named.Named.{Named}
 use Rattle.law_order.proofs.ByNumber.{by_test}
-use Rattle.law_moves.proofs.Passages.Messages.{all_append}
+use Rattle.rh_sig.specs.declared.named.Named.{Named}
 use Rattle.rh_shell.specs.declared.due.Due.{Due}
 use Rattle.rh_shell.specs.declared.due.Origin.TheVariants.{Forwarded}
 use Rattle.rh_shell.specs.Waiting.{Key, Waiting, are_one, better, edge_of, is_of, key_of, merged, own, takes, to_forward, without_first}
 use Rattle.rh_shell.specs.Waiting as waits
+use Rattle.law_moves.proofs.Passages.Messages.{all_append}
 use Rattle.law_role_server.specs.Counted.Counting.{is_ack_to, waiting_of}
 use Rattle.law_peers_room.proofs.ServerRoom.Ahead.{same_keys}
 

@@ -2,10 +2,10 @@
 use Rattle.std.proofs.Common.{◌≡◌, ℕ, suc, ◌+◌, ◌*◌, ◌≤◌, Bool, true, false, true≢false, List, Some, sym, ◌∙◌, subst, arith}
 use Rattle.std.specs.Prelude.{IfSome, slice_get, slice_set}
 use Rattle.std.specs.List.{AllByRecursion}
-use Rattle.rh_rts.specs.declared.command.Cookie.{Cookie}
 use Rattle.rh_keep.specs.Meters.{after_put}
-use Rattle.law_moves.proofs.Passages.Messages.{each_so}
+use Rattle.rh_rts.specs.declared.command.Cookie.{Cookie}
 use Rattle.rh_server.specs.declared.state.OutLeg.{OutLeg}
+use Rattle.law_moves.proofs.Passages.Messages.{each_so}
 use Rattle.law_peers_room.proofs.ServerRoom.Legs.{each_got, others_so, sorted_set}
 use Rattle.law_peers_room.proofs.ServerRoom.Meters.{Seen, Phase, InTurn, IsRefused, HasRoom, IsBase, Base, IsTotal, IsNow, IsKept, Kept, Fine}
 

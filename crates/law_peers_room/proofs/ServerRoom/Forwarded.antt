@@ -6,6 +6,7 @@ use Rattle.std.specs.Prelude.{IfSome, find, nat_le, slice_get}
 use Rattle.std.specs.List.{list_any}
 use Rattle.std.specs.declared.option.Option.{Option}
 use Rattle.std.specs.declared.result.Result.{Result}
+use Rattle.law_order.proofs.ByNumber.{by_test, same_number}
 use Rattle.rh_rts.specs.declared.command.Cookie.{Cookie}
 use Rattle.rh_sig.specs.declared.named.Named.{Named}
 use Rattle.rh_sig.specs.declared.named.Named.TheVariants as named
@@ -16,14 +17,11 @@ use Rattle.rh_line.specs.declared.leg.LegKind.TheVariants.{ClientOut, OutServer,
 use Rattle.rh_line.specs.declared.which.Which.{Which}
 use Rattle.rh_line.specs.declared.which.Which.TheVariants.{Current, Next}
 use Rattle.rh_line.specs.Lines.{after_finish, after_take}
-use Rattle.law_order.proofs.ByNumber.{by_test, same_number}
-use Rattle.law_moves.proofs.Passages.Logs.{ActsKeep, PutKeeps, RowKeeps, StepsKeep, end_moves_keep}
 use Rattle.rh_shell.specs.declared.answers.Count.{Count}
 use Rattle.rh_shell.specs.declared.answers.Refused.TheVariants as refused
 use Rattle.rh_shell.specs.declared.due.Due.{Due}
 use Rattle.rh_shell.specs.declared.due.Origin.TheVariants.{Forwarded}
 use Rattle.rh_shell.specs.declared.end_role.RecycleRefused.{RecycleRefused}
-use Rattle.law_moves.specs.Moves.{OnLeg, EndMove, end_started}
 use Rattle.rh_shell.specs.Rules.{Message, Packet, Pdu, Row}
 use Rattle.rh_shell.specs.Waiting.{Waiting, added, merged, pushed, taken, takes, to_forward, with_due, without_first}
 use Rattle.rh_shell.specs.Waiting as waits
@@ -48,6 +46,8 @@ use Rattle.rh_server.specs.Ending.{completed, drawn_by, give, in_is_drawn, is_co
 use Rattle.rh_server.specs.Putting.{Pick, or_else, counts, counts_at, gate, gate_at, is_end_due, may_end_at, may_go_at, next_out, out_greeting_at, pdu_by, put_by as put_by_kind, put_end, put_in, put_open, put_out_at, put_out_greeting, put_pdu, put_pdu_or_end, put_waiting, settled_pick, waiting_at, waiting_by, was_put}
 use Rattle.rh_server.specs.Servers.{acts, first, on_is, on_os, packet_by, pdu}
 use Rattle.rh_server.specs.Servers.{rules as server_rules}
+use Rattle.law_moves.proofs.Passages.Logs.{ActsKeep, PutKeeps, RowKeeps, StepsKeep, end_moves_keep}
+use Rattle.law_moves.specs.Moves.{OnLeg, EndMove, end_started}
 use Rattle.law_role_server.specs.Counted.Counting.{is_ack_to, waits_for}
 use Rattle.law_role_server_in.specs.Handovers.{passed}
 use Rattle.law_peers_room.specs.ServerRoom.Forwarding.{ForwardsAcks, IsFull, IsFullFor, is_ack_at}

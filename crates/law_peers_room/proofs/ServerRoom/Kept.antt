@@ -1,20 +1,15 @@
 -- an in proxy acknowledges in order, whatever happens
 use Rattle.std.proofs.Common.{◌≡◌, inl, inr, ℕ, suc, ◌==◌, Bool, true, false, if◌then◌else◌, List, [], ◌∷◌, ◌++◌, Some, None, Ok, Err, refl, sym, ap, ◌∙◌, subst, arith}
 use Rattle.std.proofs.lemmas.List.{append-nil}
+use Rattle.law_order.proofs.ByNumber.{by_test, same_number, test_same}
 use Rattle.rh_rts.specs.declared.command.Cookie.{Cookie}
 use Rattle.rh_sig.specs.declared.named.Named.{Named}
 use Rattle.rh_sig.specs.declared.named.Named.TheVariants as named
 use Rattle.rh_line.specs.declared.leg.Leg.{Leg}
 use Rattle.rh_line.specs.declared.leg.LegKind.{LegKind}
 use Rattle.rh_line.specs.declared.leg.LegKind.TheVariants.{ClientOut, OutServer, ClientIn, InServer}
-use Rattle.law_order.proofs.ByNumber.{by_test, same_number, test_same}
-use Rattle.law_moves.specs.Moves.{OnLeg, Move, all_moved, started}
 use Rattle.rh_shell.specs.Rules.{Message, Text, Pdu, Packet}
 use Rattle.rh_shell.specs.Shells.{same_leg}
-use Rattle.law_moves.specs.Wires.{of_leg}
-use Rattle.law_moves.specs.Passages.Passing.{HasOne}
-use Rattle.law_moves.proofs.Passages.Logs.{PutKeeps, RowKeeps, StepsKeep, moves_keep}
-use Rattle.law_moves.proofs.Passages.Messages.{last_one_so, leg_more}
 use Rattle.rh_inproxy.specs.declared.state.InProxyConfig.{InProxyConfig}
 use Rattle.rh_inproxy.specs.declared.state.Work.{Work}
 use Rattle.rh_inproxy.specs.declared.state.Work.TheVariants as works
@@ -27,6 +22,11 @@ use Rattle.rh_inproxy.specs.Putting as putting
 use Rattle.rh_inproxy.specs.Putting.{next}
 use Rattle.rh_inproxy.specs.State.{InProxy, first, is_client_leg, is_server_leg}
 use Rattle.rh_inproxy.specs.Time.{ping}
+use Rattle.law_moves.specs.Moves.{OnLeg, Move, all_moved, started}
+use Rattle.law_moves.specs.Wires.{of_leg}
+use Rattle.law_moves.specs.Passages.Passing.{HasOne}
+use Rattle.law_moves.proofs.Passages.Logs.{PutKeeps, RowKeeps, StepsKeep, moves_keep}
+use Rattle.law_moves.proofs.Passages.Messages.{last_one_so, leg_more}
 use Rattle.law_role_inproxy.specs.Putting.Puts.{CameOn, HasPdu, ci, is_leg}
 use Rattle.law_peers_room.specs.ServerRoom.Acks.{AcknowledgesInOrder, Acknowledge, IsOfTwo}
 use Rattle.law_peers_room.proofs.ServerRoom.Channels.{seen, known_stays, same_moves, used_stays}

@@ -3,8 +3,8 @@ use Rattle.std.proofs.Common.{◌≡◌, ◌<◌, ◌≤◌, ℕ, zero, suc, Lis
 use Rattle.std.specs.Prelude.{slice_get, slice_set, remove, IfSome}
 use Rattle.std.specs.List.{AllByRecursion}
 use Rattle.std.specs.declared.option.Option.{Option}
-use Rattle.law_moves.proofs.Passages.Messages.{all_append}
 use Rattle.rh_server.specs.declared.state.OutLeg.{OutLeg}
+use Rattle.law_moves.proofs.Passages.Messages.{all_append}
 
 -- ---- any elements
 

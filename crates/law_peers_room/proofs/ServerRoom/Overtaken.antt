@@ -9,12 +9,7 @@ use Rattle.rh_sig.specs.declared.named.Named.TheVariants as named
 use Rattle.rh_line.specs.declared.leg.Leg.{Leg}
 use Rattle.rh_line.specs.declared.leg.LegKind.{LegKind}
 use Rattle.rh_line.specs.declared.leg.LegKind.TheVariants.{ClientOut, OutServer, ClientIn, InServer}
-use Rattle.law_moves.specs.Moves.{OnLeg, EndMove, EndPassage, Passage, all_end_moved, end_started}
 use Rattle.rh_shell.specs.Rules.{Message, Text, Pdu, Packet}
-use Rattle.law_moves.specs.Passages.Passing.{count_of, of_kind}
-use Rattle.law_moves.proofs.Passages.Logs.{ActsKeep, PutKeeps, RowKeeps, StepsKeep, end_moves_keep}
-use Rattle.law_moves.proofs.Passages.Messages.{count_append, kind_more}
-use Rattle.law_node_streams.proofs.Streams.EndMoves.{all_end_moved_append}
 use Rattle.rh_shell.specs.Waiting.{Waiting}
 use Rattle.rh_server.specs.declared.state.OutLeg.{OutLeg}
 use Rattle.rh_server.specs.declared.state.Replacement.{Replacement}
@@ -27,7 +22,12 @@ use Rattle.rh_server.specs.Ending.{close, give, drawn_by, mark_by}
 use Rattle.rh_server.specs.Putting.{Pick, put_in, put_out_at, put_by as put_by_kind}
 use Rattle.rh_server.specs.Servers.{acts, first, packet_by, pdu}
 use Rattle.rh_server.specs.Servers.{rules as server_rules}
+use Rattle.law_moves.specs.Moves.{OnLeg, EndMove, EndPassage, Passage, all_end_moved, end_started}
+use Rattle.law_moves.specs.Passages.Passing.{count_of, of_kind}
+use Rattle.law_moves.proofs.Passages.Logs.{ActsKeep, PutKeeps, RowKeeps, StepsKeep, end_moves_keep}
+use Rattle.law_moves.proofs.Passages.Messages.{count_append, kind_more}
 use Rattle.law_role_server.specs.Counted.Counting.{is_in_r1_a3, is_in_r2_a3, leg_at, often}
+use Rattle.law_node_streams.proofs.Streams.EndMoves.{all_end_moved_append}
 use Rattle.law_role_server_in.specs.Handovers.{passed}
 use Rattle.law_peers_room.specs.ServerRoom.Overtaking.{AreLong, FewOvertake, IsLong, IsLongOn, answer_bytes, is_ack_for}
 use Rattle.law_peers_room.proofs.ServerRoom.Ahead as ahead

@@ -6,17 +6,17 @@ use Rattle.std.specs.Str.{bytes_eq}
 use Rattle.std.specs.Prelude.{count_by, find}
 use Rattle.std.specs.List.{AllByRecursion}
 use Rattle.std.specs.declared.option.Option.{Option}
+use Rattle.law_order.proofs.ByNumber.{same_number, test_other}
 use Rattle.rh_rts.specs.declared.command.Cookie.{Cookie}
 use Rattle.rh_sig.specs.declared.named.Named.{Named}
 use Rattle.rh_sig.specs.declared.named.Named.TheVariants as named
-use Rattle.law_order.proofs.ByNumber.{same_number, test_other}
 use Rattle.rh_shell.specs.declared.due.Due.{Due}
-use Rattle.law_moves.specs.Moves.{EndMove}
 use Rattle.rh_shell.specs.Waiting.{Key, Waiting, are_one, key_of}
 use Rattle.rh_server.specs.declared.state.OutLeg.{OutLeg}
 use Rattle.rh_server.specs.Acknowledging.{has_ack_by, has_ack_elsewhere, is_of_channel}
 use Rattle.rh_server.specs.OutLines.{is_ack_of}
 use Rattle.rh_server.specs.States.{Server, is_some}
+use Rattle.law_moves.specs.Moves.{EndMove}
 use Rattle.law_role_server.specs.Counted.Counting.{is_ack_to, waiting_of}
 use Rattle.law_role_server_in.specs.Handovers.{passed}
 use Rattle.law_peers_room.specs.ServerRoom.Owning.{AcksHaveLegs}

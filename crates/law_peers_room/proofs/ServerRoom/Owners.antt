@@ -6,16 +6,16 @@ use Rattle.std.proofs.lemmas.Option.{get_or_from_slice_get}
 use Rattle.std.specs.Prelude.{IfSome, slice_get, slice_set, remove}
 use Rattle.std.specs.List.{AllByRecursion}
 use Rattle.std.specs.declared.option.Option.{Option}
+use Rattle.law_order.proofs.ByNumber.{by_test}
 use Rattle.rh_rts.specs.declared.command.Cookie.{Cookie}
 use Rattle.rh_sig.specs.declared.named.Named.{Named}
-use Rattle.law_order.proofs.ByNumber.{by_test}
-use Rattle.law_moves.proofs.Passages.Messages.{all_append, each_so}
 use Rattle.rh_shell.specs.declared.due.Due.{Due}
 use Rattle.rh_shell.specs.Waiting.{Key, are_one, better, key_of, merged, own, takes, to_forward, without_first}
 use Rattle.rh_server.specs.declared.state.OutLeg.{OutLeg}
 use Rattle.rh_server.specs.Acknowledging.{channel_leg, channel_place, is_of_channel, number_by}
 use Rattle.rh_server.specs.OutLines.{is_ack_of}
 use Rattle.rh_server.specs.States.{out_at, same_cookie}
+use Rattle.law_moves.proofs.Passages.Messages.{all_append, each_so}
 use Rattle.law_peers_room.proofs.ServerRoom.Ahead.{same_keys}
 use Rattle.law_peers_room.proofs.ServerRoom.Apart.{Apart, any_of, better_key}
 use Rattle.law_peers_room.proofs.ServerRoom.Legs.{some_same}

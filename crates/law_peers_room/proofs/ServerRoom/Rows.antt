@@ -5,10 +5,11 @@ use Rattle.std.proofs.lemmas.List.Sums.{count_by-le-length}
 use Rattle.std.specs.Prelude.{is_ok, nat_le}
 use Rattle.std.specs.declared.option.Option.{Option}
 use Rattle.std.specs.declared.result.Result.{Result}
+use Rattle.rh_window.specs.Receiving as windows
+use Rattle.law_order.proofs.ByNumber.{by_test, same_number}
 use Rattle.rh_rts.specs.declared.command.Cookie.{Cookie}
 use Rattle.rh_sig.specs.declared.named.Named.{Named}
 use Rattle.rh_sig.specs.declared.named.Named.TheVariants as named
-use Rattle.rh_window.specs.Receiving as windows
 use Rattle.rh_line.specs.Lines as line
 use Rattle.rh_line.specs.Lines.{Incoming}
 use Rattle.rh_line.specs.declared.leg.Leg.{Leg}
@@ -16,16 +17,12 @@ use Rattle.rh_line.specs.declared.line_fault.LineFault.{LineFault}
 use Rattle.rh_line.specs.declared.line_fault.LineFault.TheVariants.{Window, Over}
 use Rattle.rh_line.specs.declared.which.Which.{Which}
 use Rattle.rh_line.specs.declared.which.Which.TheVariants.{Current, Next}
-use Rattle.law_order.proofs.ByNumber.{by_test, same_number}
 use Rattle.rh_shell.specs.declared.answers.Count.{Count}
 use Rattle.rh_shell.specs.declared.answers.Refused.{Refused}
 use Rattle.rh_shell.specs.declared.answers.Refused.TheVariants as refused
 use Rattle.rh_shell.specs.declared.due.Due.{Due}
 use Rattle.rh_shell.specs.declared.due.Origin.TheVariants.{Forwarded}
-use Rattle.law_moves.specs.Moves.{OnLeg}
 use Rattle.rh_shell.specs.Waiting as waiting
-use Rattle.law_moves.specs.Wires.{of_leg}
-use Rattle.law_moves.specs.Passages.Passing.{BeginsIn}
 use Rattle.rh_inproxy.specs.declared.opening.TheConstants.{GREATEST_LENGTHS, KEEPALIVE}
 use Rattle.rh_inproxy.specs.declared.state.ClientLeg.{ClientLeg}
 use Rattle.rh_inproxy.specs.declared.state.Entry.TheVariants.{Connects, Replaces}
@@ -46,6 +43,9 @@ use Rattle.rh_inproxy.specs.Opening.{accepted, accepts, accepts_later, awaits_pa
 use Rattle.rh_inproxy.specs.Passing as passing
 use Rattle.rh_inproxy.specs.State.{InProxy, channel_of, has_a5, has_come, has_opened, is_client_leg, is_joined, is_server_leg, next_of, same_cookie}
 use Rattle.rh_inproxy.specs.Time.{on_keep_alive, ping}
+use Rattle.law_moves.specs.Moves.{OnLeg}
+use Rattle.law_moves.specs.Wires.{of_leg}
+use Rattle.law_moves.specs.Passages.Passing.{BeginsIn}
 use Rattle.law_role_inproxy.specs.Putting.Puts.{CameOn, HasPdu, ci}
 use Rattle.law_peers_room.proofs.ServerRoom.Channels.{seen, Same, told, IsUsedLeg, IsIdle, IsLater, IsBehind, MayWait, Known, Moves, same_moves, moves_on, settles}
 use Rattle.law_peers_room.proofs.ServerRoom.Dues.{Joins, forwarded_joins}

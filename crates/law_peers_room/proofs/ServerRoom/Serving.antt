@@ -9,18 +9,17 @@ use Rattle.std.specs.Str.{bytes_eq}
 use Rattle.std.specs.List.{list_any}
 use Rattle.std.specs.declared.option.Option.{Option}
 use Rattle.std.specs.declared.result.Result.{Result}
+use Rattle.rh_keep.specs.Meters.{started}
+use Rattle.law_order.proofs.ByNumber.{by_test, same_number}
 use Rattle.rh_rts.specs.declared.command.Cookie.{Cookie}
 use Rattle.rh_sig.specs.declared.named.Named.{Named}
 use Rattle.rh_sig.specs.declared.named.Named.TheVariants as named
-use Rattle.rh_keep.specs.Meters.{started}
 use Rattle.rh_line.specs.declared.leg.Leg.{Leg}
 use Rattle.rh_line.specs.declared.leg.LegKind.{LegKind}
 use Rattle.rh_line.specs.declared.leg.LegKind.TheVariants.{ClientOut, OutServer, ClientIn, InServer}
 use Rattle.rh_line.specs.declared.which.Which.{Which}
 use Rattle.rh_line.specs.declared.which.Which.TheVariants.{Current, Next}
 use Rattle.rh_line.specs.Lines.{after_finish, after_take}
-use Rattle.law_order.proofs.ByNumber.{by_test, same_number}
-use Rattle.law_moves.proofs.Passages.Messages.{each_so}
 use Rattle.rh_shell.specs.declared.answers.Count.{Count}
 use Rattle.rh_shell.specs.declared.answers.Refused.TheVariants as refused
 use Rattle.rh_shell.specs.declared.due.Due.{Due}
@@ -48,6 +47,7 @@ use Rattle.rh_server.specs.InReplacement.{announced, becomes_current, first_wait
 use Rattle.rh_server.specs.OutReplacement.{answered_by, answered_on, asks, confirms, is_under_way, last_number, may_answer, on_out_r1_a4, on_out_r1_a8, out_r1_a4_at, out_r1_a4_by, out_r1_a8_at, recycle, wishes}
 use Rattle.rh_server.specs.Ending.{completed, drawn_by, give, in_is_drawn, is_complete, lost_in, mark_by, on_end_a2, settled, with_ack_dropped, without_ack_of}
 use Rattle.rh_server.specs.Servers.{on_is, on_os, packet_by, pdu}
+use Rattle.law_moves.proofs.Passages.Messages.{each_so}
 use Rattle.law_peers_room.specs.ServerRoom.Overtaking.{IsLong}
 use Rattle.law_peers_room.proofs.ServerRoom.Ahead as ahead
 use Rattle.law_peers_room.proofs.ServerRoom.Legs.{each_got, others_so, sorted_set}

@@ -2,17 +2,17 @@
 -- (MS-RPCH 3.2.1.1; successors are this profile's)
 use Rattle.std.specs.Prelude.{ℕ, suc, ◌≡◌, ◌⊎◌, ◌+◌, ◌≤◌, List, [], ◌∷◌}
 use Rattle.rh_rts.specs.declared.command.Cookie.{Cookie}
-use Rattle.rh_http.specs.declared.config.ClientConfig.{ClientConfig}
 use Rattle.rh_sig.specs.declared.named.Named.TheVariants.{AckTo, OutR1A7}
+use Rattle.rh_http.specs.declared.config.ClientConfig.{ClientConfig}
 use Rattle.rh_line.specs.declared.leg.Leg.{Leg}
 use Rattle.rh_line.specs.declared.leg.LegKind.TheVariants.{ClientIn}
-use Rattle.law_moves.specs.Moves.{OnLeg, EndMove}
 use Rattle.rh_shell.specs.Rules.{Message, Packet}
+use Rattle.rh_client.specs.Channels.{no_cookie}
+use Rattle.rh_client.specs.State.{ci, co}
+use Rattle.law_moves.specs.Moves.{OnLeg, EndMove}
 use Rattle.law_moves.specs.Wires.{of_leg}
 use Rattle.law_moves.specs.Passages.Rising.{HasComeUp}
 use Rattle.law_moves.specs.Chains.Sums.{count_on, sum_below}
-use Rattle.rh_client.specs.Channels.{no_cookie}
-use Rattle.rh_client.specs.State.{ci, co}
 use Rattle.law_role_client.specs.Order.{client_moved}
 use Rattle.law_role_client.specs.Counted.Counting.{is_out_r1_a7}
 

@@ -5,10 +5,10 @@ use Rattle.rh_line.specs.declared.leg.Leg.{Leg}
 use Rattle.rh_shell.specs.declared.answers.Count.{Count}
 use Rattle.rh_shell.specs.declared.answers.Refused.TheVariants as refused
 use Rattle.rh_shell.specs.declared.due.Origin.TheVariants.{Forwarded}
-use Rattle.law_moves.specs.Moves.{Passage}
 use Rattle.rh_shell.specs.Waiting.{count}
 use Rattle.rh_inproxy.specs.Machine.{rules}
 use Rattle.rh_inproxy.specs.State.{InProxy}
+use Rattle.law_moves.specs.Moves.{Passage}
 
 -- so many wait at most: OUT_R1/A8 once, and acknowledgements of nine OUT channels, and of none
 abbrev pub FewWait : Passage InProxy → Type 0

@@ -9,16 +9,16 @@ use Rattle.rh_line.specs.declared.leg.LegKind.TheVariants.{ClientIn}
 use Rattle.rh_shell.specs.declared.due.Due.{Due}
 use Rattle.rh_shell.specs.declared.waiting.TheConstants.{FORWARDED_ROOM}
 use Rattle.rh_shell.specs.Rules.{Packet}
-use Rattle.law_moves.specs.Moves.{OnLeg, Passage}
 use Rattle.rh_shell.specs.Shells.{one_if}
 use Rattle.rh_shell.specs.Waiting.{takes}
+use Rattle.rh_inproxy.specs.State.{InProxy}
+use Rattle.rh_client.specs.State.{ci}
+use Rattle.law_moves.specs.Moves.{OnLeg, Passage}
 use Rattle.law_moves.specs.Wires.{of_leg}
 use Rattle.law_moves.specs.Passages.Passing.{count_of, of_kind}
-use Rattle.rh_client.specs.State.{ci}
+use Rattle.law_role_inproxy.specs.Counted.{is_leg}
 use Rattle.law_role_client.specs.Counted.Counting.{is_out_r1_a7}
 use Rattle.law_role_server.specs.Counted.Counting.{is_out_r1_a8}
-use Rattle.law_role_inproxy.specs.Counted.{is_leg}
-use Rattle.rh_inproxy.specs.State.{InProxy}
 
 -- OUT_R1/A7 that came on all ci legs, and OUT_R1/A8 that were put on the is leg of this number
 abbrev pub switches : List OnLeg → ℕ

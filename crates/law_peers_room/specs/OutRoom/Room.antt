@@ -7,13 +7,13 @@ use Rattle.rh_sig.specs.declared.named.Named.{Named}
 use Rattle.rh_line.specs.declared.leg.Leg.{Leg}
 use Rattle.rh_shell.specs.declared.answers.Count.{Count}
 use Rattle.rh_shell.specs.declared.answers.Refused.TheVariants as refused
-use Rattle.law_moves.specs.Moves.{Passage}
 use Rattle.rh_shell.specs.Rules.{Message}
 use Rattle.rh_outproxy.specs.Machine.{rules}
 use Rattle.rh_outproxy.specs.OutProxy.{OutProxy}
+use Rattle.law_moves.specs.Moves.{Passage}
 use Rattle.law_moves.specs.Passages.Passing.{count_of, HasOne}
-use Rattle.law_role_client.specs.Counted.Counting.{is_in_a4}
 use Rattle.law_moves.specs.PacketKinds.{is_conn_c1, is_out_r1_a1, is_out_r1_a2, is_out_r1_a5, is_out_r1_a6}
+use Rattle.law_role_client.specs.Counted.Counting.{is_in_a4}
 use Rattle.law_peers_room.specs.OutRoom.Waits.{AcksFor, AreDifferent, from_server, is_in_a3, to_client, waiting_at}
 
 -- ---- at a moment

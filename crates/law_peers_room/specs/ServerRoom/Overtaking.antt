@@ -2,16 +2,16 @@
 -- announcements of IN channels (MS-RPCH 2.2.4, 3.2.5; when they go is this profile's)
 use Rattle.std.specs.Prelude.{ℕ, ◌+◌, ◌-◌, ◌*◌, ◌≤◌, ◌++◌, List, length, Bool, Some}
 use Rattle.std.specs.List.{AllByRecursion}
+use Rattle.rh_keep.specs.declared.meter.TheConstants.{RESERVE}
 use Rattle.rh_rts.specs.declared.command.Cookie.{Cookie}
 use Rattle.rh_rts.specs.declared.command.TheConstants.{TO_CLIENT}
 use Rattle.rh_sig.specs.declared.lengths.TheConstants.{ACK_TO_LEN, IN_R1_A3_LEN, IN_R2_A3_LEN}
 use Rattle.rh_sig.specs.declared.named.Named.{Named}
 use Rattle.rh_sig.specs.declared.named.Named.TheVariants.{ConnA2, OutR1A4}
-use Rattle.rh_keep.specs.declared.meter.TheConstants.{RESERVE}
-use Rattle.law_moves.specs.Moves.{EndMove, OnLeg, Passage}
 use Rattle.rh_shell.specs.Rules.{Text, Pdu, Packet}
 use Rattle.rh_shell.specs.Waiting.{are_one, key_of}
 use Rattle.rh_server.specs.States.{Server}
+use Rattle.law_moves.specs.Moves.{EndMove, OnLeg, Passage}
 use Rattle.law_role_server.specs.Counted.Counting.{is_in_r1_a3, is_in_r2_a3, out_put, waits_for}
 use Rattle.law_role_server_in.specs.Handovers.{passed}
 

@@ -1,10 +1,10 @@
 //! What waits in an in proxy. This function does nothing: its contract is the law.
 
 ghost use Rattle.std.specs.Prelude.{List};
-ghost use Rattle.law_moves.specs.Moves.{Move, all_moved, started};
 ghost use Rattle.rh_inproxy.specs.declared.state.InProxyConfig.{InProxyConfig};
 ghost use Rattle.rh_inproxy.specs.Machine.{rules};
 ghost use Rattle.rh_inproxy.specs.State.{first};
+ghost use Rattle.law_moves.specs.Moves.{Move, all_moved, started};
 ghost use Rattle.law_peers_room.specs.InRoom.Waiting.{WaitsInTurn};
 
 /// Whatever moves an in proxy makes, allowed or not: what waits to be forwarded is OUT_R1/A8 and

@@ -1,10 +1,10 @@
 //! What waits at an out proxy to be forwarded. Its function does nothing: its contract is the law.
 
 ghost use Rattle.std.specs.Prelude.{List};
-ghost use Rattle.law_moves.specs.Moves.{Move, all_moved, started};
 ghost use Rattle.rh_outproxy.specs.declared.state.OutProxyConfig.{OutProxyConfig};
 ghost use Rattle.rh_outproxy.specs.Machine.{rules};
 ghost use Rattle.rh_outproxy.specs.OutProxy.{new_proxy};
+ghost use Rattle.law_moves.specs.Moves.{Move, all_moved, started};
 ghost use Rattle.law_peers_room.specs.OutRoom.Waits.{WaitsInOrder};
 
 /// Whatever moves an out proxy makes, allowed or not: its room for what is to be forwarded is that

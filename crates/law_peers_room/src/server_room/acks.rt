@@ -1,10 +1,10 @@
 //! Which channels an in proxy acknowledges. This function does nothing: its contract is the law.
 
 ghost use Rattle.std.specs.Prelude.{List};
-ghost use Rattle.law_moves.specs.Moves.{Move, all_moved, started};
 ghost use Rattle.rh_inproxy.specs.declared.state.InProxyConfig.{InProxyConfig};
 ghost use Rattle.rh_inproxy.specs.Machine.{rules};
 ghost use Rattle.rh_inproxy.specs.State.{first};
+ghost use Rattle.law_moves.specs.Moves.{Move, all_moved, started};
 ghost use Rattle.law_peers_room.specs.ServerRoom.Acks.{AcknowledgesInOrder};
 
 /// Whatever moves an in proxy makes, allowed or not: on its is leg each acknowledgement to the

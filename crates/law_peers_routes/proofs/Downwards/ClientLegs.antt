@@ -4,7 +4,9 @@ use Rattle.std.proofs.Common.{◌≡◌, ℕ, ◌<◌, ◌==◌, ◌&&◌, ◌||
 use Rattle.std.proofs.lemmas.Bool.{true≢false}
 use Rattle.std.proofs.lemmas.Bool.Decides.{nat_tests}
 use Rattle.std.specs.declared.option.Option.{Option}
+use Rattle.law_order.proofs.ByNumber.{by_test}
 use Rattle.rh_rts.specs.declared.command.Cookie.{Cookie}
+use Rattle.rh_sig.specs.declared.named.Named.{Named}
 use Rattle.rh_http.specs.declared.config.ClientConfig.{ClientConfig}
 use Rattle.rh_line.specs.Lines.{after_take}
 use Rattle.rh_line.specs.declared.leg.Leg.{Leg}
@@ -12,14 +14,9 @@ use Rattle.rh_line.specs.declared.leg.LegKind.{LegKind}
 use Rattle.rh_line.specs.declared.leg.LegKind.TheVariants.{ClientOut, OutServer, ClientIn, InServer}
 use Rattle.rh_line.specs.declared.which.Which.{Which}
 use Rattle.rh_line.specs.declared.which.Which.TheVariants.{Current, Next}
-use Rattle.law_order.proofs.ByNumber.{by_test}
-use Rattle.rh_sig.specs.declared.named.Named.{Named}
 use Rattle.rh_shell.specs.Rules.{Message, Pdu, Packet}
 use Rattle.rh_shell.specs.Shells.{same_leg}
-use Rattle.law_moves.specs.Wires.{of_leg}
 use Rattle.rh_shell.specs.declared.answers.Count.{Count}
-use Rattle.law_moves.specs.Moves.{Passage, EndPassage, Move, EndMove, Up, HeadCame, PduCame, PacketCame, Puts, IsDrawn, Marks, Pings, Moves, Gives, Takes, Closes, Recycles, taken_by, given_by, with_first, end_now_at, moved, end_moved, all_end_moved}
-use Rattle.law_moves.specs.Moves as shell
 use Rattle.rh_client.specs.declared.state.ClientRole.{ClientRole}
 use Rattle.rh_client.specs.State.{Done, co, unexpected, is_open, is_current, is_out_successor, is_writing, is_in_successor}
 use Rattle.rh_client.specs.Replacements.{is_out}
@@ -29,6 +26,9 @@ use Rattle.rh_client.specs.Ending.{Given, give, take, drawn_by}
 use Rattle.rh_client.specs.Time.{ping_by}
 use Rattle.rh_client.specs.Putting.{Pick, put, put_by}
 use Rattle.rh_client.specs.Client.{rules as client_rules, acts, packet, on_packet, pdu, pdu_by}
+use Rattle.law_moves.specs.Wires.{of_leg}
+use Rattle.law_moves.specs.Moves.{Passage, EndPassage, Move, EndMove, Up, HeadCame, PduCame, PacketCame, Puts, IsDrawn, Marks, Pings, Moves, Gives, Takes, Closes, Recycles, taken_by, given_by, with_first, end_now_at, moved, end_moved, all_end_moved}
+use Rattle.law_moves.specs.Moves as shell
 use Rattle.law_role_client.specs.Order.{client_started, client_moved}
 use Rattle.law_node_streams.proofs.Streams.Ends.{leg_is}
 use Rattle.law_node_streams.proofs.Streams.LegLogs.{of_other}

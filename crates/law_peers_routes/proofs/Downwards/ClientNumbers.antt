@@ -2,18 +2,19 @@
 use Rattle.std.proofs.Common.{◌≡◌, ℕ, ◌+◌, ◌<◌, ◌==◌, ◌&&◌, ◌||◌, not, Bool, true, false, nat_lt, if◌then◌else◌, Some, None, Ok, Err, IfSome, arith, rules, refl, sym, subst}
 use Rattle.std.specs.declared.option.Option.{Option}
 use Rattle.std.specs.declared.result.Result.{Result}
-use Rattle.rh_rts.specs.declared.command.Cookie.{Cookie}
+use Rattle.rh_window.specs.declared.recv_window.Ack.{Ack}
 use Rattle.rh_keep.specs.Meters.{may_put, fits}
+use Rattle.law_order.proofs.ByNumber.{by_test}
+use Rattle.rh_rts.specs.declared.command.Cookie.{Cookie}
 use Rattle.rh_sig.specs.declared.named.Named.{Named}
 use Rattle.rh_sig.specs.declared.named.Named.TheVariants as named
-use Rattle.rh_window.specs.declared.recv_window.Ack.{Ack}
+use Rattle.rh_sig.specs.declared.lengths.TheConstants.{CONN_B1_LEN, IN_R1_A1_LEN, IN_R1_A5_LEN, OUT_R1_A7_LEN, END_A1_LEN, ACK_TO_LEN, PING_LEN}
 use Rattle.rh_line.specs.Lines.{after_finish}
 use Rattle.rh_line.specs.Queue.{front_length}
 use Rattle.rh_line.specs.declared.leg.LegKind.{LegKind}
 use Rattle.rh_line.specs.declared.leg.LegKind.TheVariants.{ClientOut, OutServer, ClientIn, InServer}
 use Rattle.rh_line.specs.declared.which.Which.{Which}
 use Rattle.rh_line.specs.declared.which.Which.TheVariants.{Current, Next}
-use Rattle.law_order.proofs.ByNumber.{by_test}
 use Rattle.rh_shell.specs.Rules.{Message, Packet}
 use Rattle.rh_shell.specs.declared.answers.Count.{Count}
 use Rattle.rh_shell.specs.declared.answers.Phase.TheVariants as phase
@@ -22,7 +23,6 @@ use Rattle.rh_shell.specs.declared.end_role.RecycleRefused.TheVariants.{Last}
 use Rattle.rh_client.specs.declared.channels.Opening.{Opening}
 use Rattle.rh_client.specs.declared.channels.Opening.TheVariants.{NotUp, Request, First, Second, Put}
 use Rattle.rh_client.specs.declared.channels.TheConstants.{LAST_NUMBER}
-use Rattle.rh_sig.specs.declared.lengths.TheConstants.{CONN_B1_LEN, IN_R1_A1_LEN, IN_R1_A5_LEN, OUT_R1_A7_LEN, END_A1_LEN, ACK_TO_LEN, PING_LEN}
 use Rattle.rh_client.specs.declared.replacement.Replacement.{Replacement}
 use Rattle.rh_client.specs.declared.replacement.Replacement.TheVariants.{NoneUnderWay, In, Out}
 use Rattle.rh_client.specs.declared.replacement.InStage.TheVariants as in_stage

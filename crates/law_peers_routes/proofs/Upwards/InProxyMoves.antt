@@ -3,12 +3,11 @@ use Rattle.std.proofs.Common.{◌≡◌, ℕ, ◌+◌, ◌==◌, ◌<◌, ◌≤
 use Rattle.std.proofs.lemmas.List.{append-nil, append_assoc}
 use Rattle.std.proofs.lemmas.Bool.{or_left, or_right}
 use Rattle.std.specs.Prelude.{if◌then◌else◌}
+use Rattle.law_order.proofs.ByNumber.{by_test, same_number, other_number}
 use Rattle.rh_line.specs.declared.leg.Leg.{Leg}
 use Rattle.rh_line.specs.declared.leg.LegKind.{LegKind}
 use Rattle.rh_line.specs.declared.leg.LegKind.TheVariants.{ClientOut, OutServer, ClientIn, InServer}
-use Rattle.law_order.proofs.ByNumber.{by_test, same_number, other_number}
 use Rattle.rh_shell.specs.Rules.{Message, Pdu, Packet}
-use Rattle.law_moves.specs.Moves.{Move, Up, HeadCame, PduCame, PacketCame, Puts, IsDrawn, Marks, Pings, Passage, MayMove, AreAllowed, moved, all_moved, started, taken_by, put_by}
 use Rattle.rh_shell.specs.Shells.{same_leg}
 use Rattle.rh_inproxy.specs.declared.opening.TheConstants.{GREATEST_LENGTHS}
 use Rattle.rh_inproxy.specs.declared.state.Handover.{Handover}
@@ -28,8 +27,9 @@ use Rattle.rh_inproxy.specs.Opening.{is_absent, accepts, accepts_later, may_acce
 use Rattle.rh_inproxy.specs.Putting.{put}
 use Rattle.rh_inproxy.specs.State.{InProxy, first, has_come}
 use Rattle.rh_inproxy.specs.Time.{ping}
-use Rattle.law_node_begins.specs.ProxiesBegin.Pipes.{ci as client_leg, is as server_leg}
+use Rattle.law_moves.specs.Moves.{Move, Up, HeadCame, PduCame, PacketCame, Puts, IsDrawn, Marks, Pings, Passage, MayMove, AreAllowed, moved, all_moved, started, taken_by, put_by}
 use Rattle.law_node_streams.specs.Streams.{is_up_on}
+use Rattle.law_node_begins.specs.ProxiesBegin.Pipes.{ci as client_leg, is as server_leg}
 use Rattle.law_peers_routes.proofs.Upwards.Rising.{or_nothing, rose, rose_more}
 use Rattle.law_peers_routes.proofs.Upwards.Told.{tells, told_more, carried}
 use Rattle.law_peers_routes.proofs.Upwards.InProxySteps.{seen, top, untold, AreQuiet, IsLast, Goes, Later, same_later, same_pdu, same_head, same_drawn, same_mark, same_ping, packet_later, PickGoes, put_goes}

@@ -3,25 +3,25 @@ use Rattle.std.proofs.Common.{◌≡◌, ◌≢◌, ◌⊎◌, ℕ, zero, suc, �
 use Rattle.std.proofs.lemmas.Bool.{true≢false, cases_eq, and_parts, eq-eqb, lt-ltb, ltb-true, or_right}
 use Rattle.std.proofs.lemmas.Bool.Decides.{nat_tests}
 use Rattle.std.specs.Prelude.{if◌then◌else◌}
-use Rattle.rh_http.specs.declared.config.ClientConfig.{ClientConfig}
 use Rattle.law_order.specs.Items.{Item, has_handover}
 use Rattle.law_order.specs.Logs.{Log}
 use Rattle.law_order.specs.Passing.{PasserLaw}
 use Rattle.law_order.specs.Routes.{Route, IsRoute}
 use Rattle.law_order.specs.Taking.{Taker, TakerLaw}
 use Rattle.law_order.proofs.ByNumber.{same_number, other_number, test_other}
-use Rattle.law_moves.specs.Moves.{EndPassage, end_started}
-use Rattle.law_moves.specs.Moving.{Event, EndEvent}
-use Rattle.law_node_history.specs.Carried.{came_up}
+use Rattle.rh_http.specs.declared.config.ClientConfig.{ClientConfig}
 use Rattle.rh_inproxy.specs.declared.state.InProxyConfig.{InProxyConfig}
 use Rattle.rh_inproxy.specs.declared.state.Successor.{Successor}
 use Rattle.rh_inproxy.specs.declared.state.Successor.TheVariants.{Absent, Up, Joined}
 use Rattle.rh_inproxy.specs.InReplacement.{has_passed}
 use Rattle.rh_inproxy.specs.Opening.{is_absent}
-use Rattle.law_role_inproxy.specs.Order as proxy_order
-use Rattle.law_role_server.specs.Order as server_order
 use Rattle.rh_server.specs.Servers as server
 use Rattle.rh_server.specs.States.{Server}
+use Rattle.law_moves.specs.Moves.{EndPassage, end_started}
+use Rattle.law_moves.specs.Moving.{Event, EndEvent}
+use Rattle.law_role_inproxy.specs.Order as proxy_order
+use Rattle.law_role_server.specs.Order as server_order
+use Rattle.law_node_history.specs.Carried.{came_up}
 use Rattle.law_node_begins.specs.ProxiesBegin.Pipes.{ci as client_leg}
 use Rattle.law_peers_routes.specs.Upwards.{GoesUp, has_leg, is_known, up_route}
 use Rattle.law_peers_routes.proofs.Upwards.Counts.{AreRead, AreMade, IsCarried, Counted, none_counted}

@@ -4,6 +4,7 @@ use Rattle.std.specs.Prelude.{slice_get, slice_set, remove, position, IfSome, if
 use Rattle.std.specs.List.{AllByRecursion, position_or_len}
 use Rattle.std.specs.declared.option.Option.{Option}
 use Rattle.std.specs.declared.result.Result.{Result}
+use Rattle.law_order.proofs.ByNumber.{by_test, same_number}
 use Rattle.rh_rts.specs.declared.command.Cookie.{Cookie}
 use Rattle.rh_sig.specs.declared.named.Named.{Named}
 use Rattle.rh_sig.specs.declared.named.Named.TheVariants as named
@@ -13,10 +14,12 @@ use Rattle.rh_line.specs.declared.line_fault.LineFault.{LineFault}
 use Rattle.rh_line.specs.declared.line_fault.LineFault.TheVariants.{Window, Over}
 use Rattle.rh_line.specs.declared.which.Which.{Which}
 use Rattle.rh_line.specs.declared.which.Which.TheVariants.{Current, Next}
-use Rattle.law_order.proofs.ByNumber.{by_test, same_number}
+use Rattle.rh_line.specs.declared.leg.LegKind.{LegKind}
+use Rattle.rh_line.specs.declared.leg.LegKind.TheVariants.{ClientOut, OutServer, ClientIn, InServer}
 use Rattle.rh_shell.specs.declared.answers.Count.{Count}
 use Rattle.rh_shell.specs.Rules.{Packet}
 use Rattle.rh_shell.specs.Waiting.{added}
+use Rattle.rh_shell.specs.declared.answers.Refused.TheVariants as refused
 use Rattle.rh_server.specs.declared.state.Edge.TheVariants.{Shut}
 use Rattle.rh_server.specs.declared.state.Stage.{Stage}
 use Rattle.rh_server.specs.declared.state.Stage.TheVariants as stage
@@ -28,17 +31,14 @@ use Rattle.rh_server.specs.OutLines.{waits}
 use Rattle.rh_server.specs.States.{Server, is_open, is_fresh, is_waiting, stays, without_out, same_cookie, in_place, in_at, in_leg, set_at, removed_at, with_in, without_in}
 use Rattle.rh_server.specs.Opening.{Done, took, refuse, unexpected, is_first, opens, first_in, with_first_in, conn_b2_at, on_conn_a2, on_conn_b2}
 use Rattle.rh_server.specs.Acknowledging.{channel_at, admitted_by, admitted_on, on_pdu, on_ack_to, on_ack, on_ping_traffic}
-use Rattle.rh_line.specs.declared.leg.LegKind.{LegKind}
-use Rattle.rh_line.specs.declared.leg.LegKind.TheVariants.{ClientOut, OutServer, ClientIn, InServer}
-use Rattle.rh_shell.specs.declared.answers.Refused.TheVariants as refused
 use Rattle.rh_server.specs.declared.state.Tells.TheVariants as tells
 use Rattle.rh_server.specs.declared.state.Leaving.TheVariants as leaving
 use Rattle.rh_server.specs.OutReplacement.{on_out_r1_a4, on_out_r1_a8}
 use Rattle.rh_server.specs.Ending.{end_a2_on_leg, end_a2_waiting, end_a2_at, on_end_a2, in_is_drawn, drawn_by, drawn, lost_in, mark_by, mark, settled, with_ack_dropped}
 use Rattle.rh_server.specs.Servers.{on_is, on_os, packet, packet_by, pdu_by}
 use Rattle.rh_server.specs.InReplacement.{ended_if, opens_next, opens_leg, waiting_place, first_waiting, next_opened, becomes_current, moved_if, take, has_fresh_below, announced, in_r1_a2_by, in_r1_a2_at, on_in_r1_a2, leaves_by, hands_over, on_in_r1_a6, in_r2_a2_on, on_in_r2_a2}
-use Rattle.law_peers_routes.proofs.Upwards.Told.{tells}
 use Rattle.law_moves.proofs.Legible.Each.{each_so}
+use Rattle.law_peers_routes.proofs.Upwards.Told.{tells}
 
 -- ---- what holds of each element of a list
 

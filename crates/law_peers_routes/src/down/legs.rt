@@ -1,13 +1,13 @@
 //! Laws of the legs downwards. These functions do nothing: their contracts are the laws.
 
 ghost use Rattle.std.specs.Prelude.{ℕ, List};
-ghost use Rattle.rh_http.specs.declared.config.ClientConfig.{ClientConfig};
 ghost use Rattle.law_order.specs.Logs.{IsLeg};
+ghost use Rattle.rh_http.specs.declared.config.ClientConfig.{ClientConfig};
+ghost use Rattle.rh_outproxy.specs.declared.state.OutProxyConfig.{OutProxyConfig};
 ghost use Rattle.law_moves.specs.Moving.{Event, EndEvent};
 ghost use Rattle.law_role_client.specs.Order as client_order;
-ghost use Rattle.rh_outproxy.specs.declared.state.OutProxyConfig.{OutProxyConfig};
-ghost use Rattle.law_role_outproxy.specs.Order as proxy_order;
 ghost use Rattle.law_role_server.specs.Order as server_order;
+ghost use Rattle.law_role_outproxy.specs.Order as proxy_order;
 ghost use Rattle.law_peers_routes.specs.Downwards.{GoesDown};
 
 use law_moves::{heads_have_no_messages, of_a_refusal_nothing_comes, what_comes_was_put};

@@ -2,7 +2,6 @@
 use Rattle.std.proofs.Common.{◌≡◌, ℕ, ◌+◌, ◌≤◌, Bool, true, false, true≢false, List, [], ◌∷◌, ◌++◌, arith, refl, sym, ap, ◌∙◌, subst}
 use Rattle.rh_http.specs.declared.config.ClientConfig.{ClientConfig}
 use Rattle.rh_line.specs.declared.leg.LegKind.TheVariants.{ClientOut, ClientIn}
-use Rattle.law_moves.specs.Moves.{OnLeg, Passage, EndMove, end_started, all_end_moved, AreAllowedAtEnd}
 use Rattle.rh_client.specs.declared.replacement.Replacement.{Replacement}
 use Rattle.rh_client.specs.declared.replacement.Replacement.TheVariants.{NoneUnderWay, In, Out}
 use Rattle.rh_client.specs.declared.replacement.InStage.TheVariants as in_stage
@@ -11,6 +10,7 @@ use Rattle.rh_client.specs.declared.state.ClientRole.{ClientRole}
 use Rattle.rh_client.specs.State.{first}
 use Rattle.rh_client.specs.Channels.{is_put}
 use Rattle.rh_client.specs.Client.{acts, rules}
+use Rattle.law_moves.specs.Moves.{OnLeg, Passage, EndMove, end_started, all_end_moved, AreAllowedAtEnd}
 use Rattle.law_role_client.proofs.ClientLogs.{of_kind}
 use Rattle.law_role_client.specs.Counted.Counting.{is_in_r1_a1, is_in_a4, is_in_r1_a5, total, once_if}
 use Rattle.law_role_client.specs.Counted.Replacing.{in_asked, in_answered, in_handed_over, InIsAt, ReplacesIns}

@@ -1,19 +1,19 @@
 -- a client names its IN channels
 use Rattle.std.proofs.Common.{◌≡◌, ◌⊎◌, ℕ, ◌+◌, ◌≤◌, Bool, true, false, true≢false, List, [], ◌∷◌, ◌++◌, inl, inr, arith, refl, sym, ap, ◌∙◌, subst}
-use Rattle.rh_http.specs.declared.config.ClientConfig.{ClientConfig}
 use Rattle.rh_rts.specs.declared.command.Cookie.{Cookie}
 use Rattle.rh_sig.specs.declared.named.Named.TheVariants.{ConnB1, InR1A1, InR1A5}
 use Rattle.rh_sig.specs.declared.ranges.TheConstants.{PROTOCOL_VERSION}
+use Rattle.rh_http.specs.declared.config.ClientConfig.{ClientConfig}
 use Rattle.rh_line.specs.declared.leg.Leg.{Leg}
 use Rattle.rh_line.specs.declared.leg.LegKind.TheVariants.{ClientIn}
 use Rattle.rh_shell.specs.Rules.{Message, Text, Pdu, Packet}
-use Rattle.law_moves.specs.Moves.{OnLeg, Passage, EndMove, end_started, all_end_moved, AreAllowedAtEnd}
-use Rattle.law_moves.specs.Wires.{of_leg}
-use Rattle.law_moves.specs.Passages.Passing.{Has, BeginsIn, HasBegunIn}
 use Rattle.rh_client.specs.State.{first, ci}
 use Rattle.rh_client.specs.Channels.{no_cookie}
 use Rattle.rh_client.specs.Client.{acts, rules}
 use Rattle.rh_client.specs.declared.state.ClientRole.{ClientRole}
+use Rattle.law_moves.specs.Moves.{OnLeg, Passage, EndMove, end_started, all_end_moved, AreAllowedAtEnd}
+use Rattle.law_moves.specs.Wires.{of_leg}
+use Rattle.law_moves.specs.Passages.Passing.{Has, BeginsIn, HasBegunIn}
 use Rattle.law_role_client.specs.Counted.Counting.{is_conn_b1, is_in_r1_a1, is_in_r1_a5, total}
 use Rattle.law_role_client.specs.Counted.Replacing.{ReplacesIns}
 use Rattle.law_role_client.specs.Counted.Naming.{EachBehind, NamesIn, NamesIns}

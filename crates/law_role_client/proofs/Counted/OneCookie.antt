@@ -8,11 +8,11 @@ use Rattle.rh_line.specs.declared.leg.Leg.{Leg}
 use Rattle.rh_line.specs.declared.leg.LegKind.{LegKind}
 use Rattle.rh_line.specs.declared.leg.LegKind.TheVariants.{ClientIn, ClientOut}
 use Rattle.rh_shell.specs.Rules.{Message, Text, Pdu, Packet}
-use Rattle.law_moves.specs.Moves.{OnLeg}
 use Rattle.rh_shell.specs.Shells.{is_of}
+use Rattle.rh_client.specs.State.{ci, co}
+use Rattle.law_moves.specs.Moves.{OnLeg}
 use Rattle.law_moves.specs.Wires.{of_leg}
 use Rattle.law_moves.specs.Passages.Passing.{BeginsIn, BeginsOut, HasBegunIn, HasBegunOut, HasOne, count_of}
-use Rattle.rh_client.specs.State.{ci, co}
 use Rattle.law_role_client.specs.Counted.Counting.{is_conn_a1, is_conn_b1, is_in_r1_a1, is_out_r1_a3, is_among, once_if, total, StandsOnEach}
 
 either_count : (one other : Named → Bool) (ms : List Message)

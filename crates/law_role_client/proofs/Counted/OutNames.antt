@@ -1,19 +1,19 @@
 -- a client names its OUT channels
 use Rattle.std.proofs.Common.{◌≡◌, ◌⊎◌, ℕ, ◌+◌, ◌≤◌, Bool, true, false, true≢false, List, [], ◌∷◌, ◌++◌, inl, inr, arith, refl, sym, ap, ◌∙◌, subst}
-use Rattle.rh_http.specs.declared.config.ClientConfig.{ClientConfig}
 use Rattle.rh_rts.specs.declared.command.Cookie.{Cookie}
 use Rattle.rh_sig.specs.declared.named.Named.TheVariants.{ConnA1, OutR1A3, OutR1A7}
 use Rattle.rh_sig.specs.declared.ranges.TheConstants.{PROTOCOL_VERSION}
+use Rattle.rh_http.specs.declared.config.ClientConfig.{ClientConfig}
 use Rattle.rh_line.specs.declared.leg.Leg.{Leg}
 use Rattle.rh_line.specs.declared.leg.LegKind.TheVariants.{ClientOut, ClientIn}
 use Rattle.rh_shell.specs.Rules.{Message, Text, Pdu, Packet}
-use Rattle.law_moves.specs.Moves.{OnLeg, Passage, EndMove, end_started, all_end_moved, AreAllowedAtEnd}
-use Rattle.law_moves.specs.Wires.{of_leg}
-use Rattle.law_moves.specs.Passages.Passing.{Has, BeginsOut, HasBegunOut}
 use Rattle.rh_client.specs.State.{first, co}
 use Rattle.rh_client.specs.Channels.{no_cookie}
 use Rattle.rh_client.specs.Client.{acts, rules}
 use Rattle.rh_client.specs.declared.state.ClientRole.{ClientRole}
+use Rattle.law_moves.specs.Moves.{OnLeg, Passage, EndMove, end_started, all_end_moved, AreAllowedAtEnd}
+use Rattle.law_moves.specs.Wires.{of_leg}
+use Rattle.law_moves.specs.Passages.Passing.{Has, BeginsOut, HasBegunOut}
 use Rattle.law_role_client.proofs.ClientLogs.{of_kind}
 use Rattle.law_role_client.specs.Counted.Counting.{is_conn_a1, is_out_r1_a3, is_out_r1_a7, total}
 use Rattle.law_role_client.specs.Counted.Replacing.{ReplacesOuts}

@@ -3,6 +3,7 @@ use Rattle.std.proofs.Common.{◌≡◌, ◌⊎◌, inl, inr, ℕ, ◌==◌, Boo
 use Rattle.std.proofs.lemmas.Bool.{and_parts}
 use Rattle.std.specs.Option.{is_some}
 use Rattle.std.specs.declared.option.Option.{Option}
+use Rattle.law_order.proofs.ByNumber.{by_test, same_number}
 use Rattle.rh_rts.specs.declared.command.Cookie.{Cookie}
 use Rattle.rh_sig.specs.declared.named.Named.{Named}
 use Rattle.rh_sig.specs.declared.named.Named.TheVariants as named
@@ -11,12 +12,9 @@ use Rattle.rh_line.specs.declared.leg.Leg.{Leg}
 use Rattle.rh_line.specs.declared.leg.LegKind.{LegKind}
 use Rattle.rh_line.specs.declared.leg.LegKind.TheVariants.{ClientOut, OutServer, ClientIn, InServer}
 use Rattle.rh_line.specs.declared.which.Which.{Which}
-use Rattle.law_order.proofs.ByNumber.{by_test, same_number}
 use Rattle.rh_shell.specs.declared.answers.Count.{Count}
 use Rattle.rh_shell.specs.declared.answers.Phase.TheVariants as phase
 use Rattle.rh_shell.specs.Rules.{Row, Pdu, Packet}
-use Rattle.law_moves.specs.Moves.{OnLeg}
-use Rattle.law_moves.proofs.Passages.Logs.{Fact, RowKeeps}
 use Rattle.rh_client.specs.declared.channels.Opening.{Opening}
 use Rattle.rh_client.specs.declared.channels.Opening.TheVariants.{NotUp, Request, First, Second, Put}
 use Rattle.rh_client.specs.declared.channels.TheConstants.{LAST_NUMBER}
@@ -38,6 +36,8 @@ use Rattle.rh_client.specs.Ending.{give, drawn_by, on_end_b2, end_on, end_channe
 use Rattle.rh_client.specs.Time.{ping_by}
 use Rattle.rh_client.specs.Client as client
 use Rattle.rh_client.specs.Client.{on_packet, packet_by}
+use Rattle.law_moves.specs.Moves.{OnLeg}
+use Rattle.law_moves.proofs.Passages.Logs.{Fact, RowKeeps}
 use Rattle.law_role_client.proofs.Counted.Views.{View, view, view_by, way_of, out_way, is_in_way, is_out_way, newest_out, marks, unmarked, EventsKeep}
 use Rattle.law_role_client.proofs.Counted.Replacements as replacements
 use Rattle.law_role_client.proofs.Counted.Replacements.{at_replacement, same_holds, begin_out_holds, settled_holds, passed_holds}

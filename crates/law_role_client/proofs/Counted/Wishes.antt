@@ -5,7 +5,6 @@ use Rattle.rh_line.specs.declared.leg.LegKind.TheVariants.{ClientOut}
 use Rattle.rh_shell.specs.declared.answers.Phase.{Phase}
 use Rattle.rh_shell.specs.declared.answers.Phase.TheVariants as phase
 use Rattle.rh_shell.specs.NearEnds.{is_ended}
-use Rattle.law_moves.specs.Moves.{OnLeg, Passage, EndMove, end_started, all_end_moved, AreAllowedAtEnd}
 use Rattle.rh_client.specs.declared.channels.TheConstants.{LAST_NUMBER}
 use Rattle.rh_client.specs.declared.replacement.Replacement.{Replacement}
 use Rattle.rh_client.specs.declared.replacement.Replacement.TheVariants.{NoneUnderWay, In, Out}
@@ -18,6 +17,7 @@ use Rattle.rh_client.specs.State.{first, is_open, is_opening}
 use Rattle.rh_client.specs.Channels.{is_asked}
 use Rattle.rh_client.specs.Replacements.{has_out, with_in, with_out}
 use Rattle.rh_client.specs.Client.{acts, rules}
+use Rattle.law_moves.specs.Moves.{OnLeg, Passage, EndMove, end_started, all_end_moved, AreAllowedAtEnd}
 use Rattle.law_role_client.proofs.ClientLogs.{of_kind}
 use Rattle.law_role_client.specs.Counted.Counting.{is_out_r1_a2, is_out_r1_a3, total, once_if}
 use Rattle.law_role_client.specs.Counted.Replacing.{is_to_ask, out_waits, AsksWhereWanted}

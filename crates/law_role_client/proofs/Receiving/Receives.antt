@@ -4,13 +4,14 @@ use Rattle.std.proofs.lemmas.Bool.{and_parts}
 use Rattle.std.specs.List.{AllByRecursion}
 use Rattle.std.specs.declared.option.Option.{Option}
 use Rattle.std.specs.declared.result.Result.{Result}
-use Rattle.rh_rts.specs.declared.command.Cookie.{Cookie}
 use Rattle.rh_window.specs.Sides.{IsWindow}
 use Rattle.rh_window.specs.Sending.{ack_verdict}
 use Rattle.rh_window.specs.declared.fault.BadAck.{BadAck}
-use Rattle.rh_http.specs.declared.config.ClientConfig.{ClientConfig}
+use Rattle.law_order.proofs.ByNumber.{by_test, same_number}
+use Rattle.rh_rts.specs.declared.command.Cookie.{Cookie}
 use Rattle.rh_sig.specs.declared.named.Named.{Named}
 use Rattle.rh_sig.specs.declared.named.Named.TheVariants as named
+use Rattle.rh_http.specs.declared.config.ClientConfig.{ClientConfig}
 use Rattle.rh_line.specs.Lines as lines
 use Rattle.rh_line.specs.declared.leg.Leg.{Leg}
 use Rattle.rh_line.specs.declared.leg.LegKind.{LegKind}
@@ -19,15 +20,9 @@ use Rattle.rh_line.specs.declared.line_fault.LineFault.{LineFault}
 use Rattle.rh_line.specs.declared.line_fault.LineFault.TheVariants.{Window, Over}
 use Rattle.rh_line.specs.declared.which.Which.{Which}
 use Rattle.rh_line.specs.declared.which.Which.TheVariants.{Current, Next}
-use Rattle.law_order.proofs.ByNumber.{by_test, same_number}
 use Rattle.rh_shell.specs.declared.answers.Count.{Count}
 use Rattle.rh_shell.specs.Rules.{Message, Packet}
 use Rattle.rh_shell.specs.Shells.{same_leg}
-use Rattle.law_moves.specs.Moves.{OnLeg, Up, EndMove, Moves, Passage, EndPassage, end_moved, MayEndMove, AreAllowedAtEnd}
-use Rattle.law_moves.specs.Wires.{of_leg}
-use Rattle.law_moves.specs.Passages.Passing.{pdu_bytes, Has}
-use Rattle.law_moves.specs.Passages.Rising.{HasComeUp, WasUp, IsUpFirst, AreUpFirst}
-use Rattle.law_moves.proofs.Passages.Logs.{ActsKeep}
 use Rattle.rh_client.specs.declared.channels.InChannel.{InChannel}
 use Rattle.rh_client.specs.declared.state.ClientRole.{ClientRole}
 use Rattle.rh_client.specs.Channels.{is_named, is_up}
@@ -38,6 +33,11 @@ use Rattle.rh_client.specs.Ending.{give, drawn}
 use Rattle.rh_client.specs.Time.{ping}
 use Rattle.rh_client.specs.Client.{packet_by, on_packet, acts as client_acts}
 use Rattle.rh_client.specs.Client.{rules as client_rules}
+use Rattle.law_moves.specs.Moves.{OnLeg, Up, EndMove, Moves, Passage, EndPassage, end_moved, MayEndMove, AreAllowedAtEnd}
+use Rattle.law_moves.specs.Wires.{of_leg}
+use Rattle.law_moves.specs.Passages.Passing.{pdu_bytes, Has}
+use Rattle.law_moves.specs.Passages.Rising.{HasComeUp, WasUp, IsUpFirst, AreUpFirst}
+use Rattle.law_moves.proofs.Passages.Logs.{ActsKeep}
 use Rattle.law_role_client.specs.Order.{AreAllowedMoves, client_moved, client_started}
 use Rattle.law_role_client.specs.Receiving.{IsBehindWindow, IsBehindAcks, RefusesBehind, IsNoWindow, IsTrueAck}
 use Rattle.law_role_client.proofs.Receiving.Along.{May, Past, AllMay, IsNoUp, LetStepsKeep, let_moves_keep}

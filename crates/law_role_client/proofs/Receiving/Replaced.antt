@@ -2,15 +2,12 @@
 use Rattle.std.proofs.Common.{◌≡◌, ℕ, suc, ◌+◌, ◌≤◌, ◌<◌, Bool, true, false, true≢false, ◌&&◌, nat_lt, List, [], ◌∷◌, Ok, Err, arith, refl, sym, ap, ◌∙◌, subst}
 use Rattle.std.proofs.lemmas.Bool.{and_parts}
 use Rattle.std.specs.declared.result.Result.{Result}
+use Rattle.law_order.proofs.ByNumber.{by_test}
 use Rattle.rh_line.specs.Lines as lines
 use Rattle.rh_line.specs.Lines.{Incoming, after_open_next, is_empty, moved_on, released, settled as settled_line}
-use Rattle.law_order.proofs.ByNumber.{by_test}
 use Rattle.rh_shell.specs.declared.answers.Phase.TheVariants as phase
 use Rattle.rh_shell.specs.declared.end_role.RecycleRefused.{RecycleRefused}
 use Rattle.rh_shell.specs.declared.end_role.RecycleRefused.TheVariants.{Last}
-use Rattle.law_moves.specs.Moves.{OnLeg}
-use Rattle.law_moves.specs.Wires.{of_leg}
-use Rattle.law_moves.specs.Passages.Passing.{pdu_bytes}
 use Rattle.rh_client.specs.declared.channels.OutChannel.{OutChannel}
 use Rattle.rh_client.specs.declared.channels.TheConstants.{LAST_NUMBER}
 use Rattle.rh_client.specs.declared.replacement.Replacement.{Replacement}
@@ -27,6 +24,9 @@ use Rattle.rh_client.specs.State.{co, is_over, begin_in, begin_out, after_in, af
 use Rattle.rh_client.specs.InReplacement.{recycle_by, wish_by, wished, wants_successor}
 use Rattle.rh_client.specs.OutReplacement.{succeeded, ended_or, pass_by, passed}
 use Rattle.rh_client.specs.Putting.{settled_or_wished}
+use Rattle.law_moves.specs.Moves.{OnLeg}
+use Rattle.law_moves.specs.Wires.{of_leg}
+use Rattle.law_moves.specs.Passages.Passing.{pdu_bytes}
 use Rattle.law_role_client.proofs.Receiving.Windows.{Counts, released_counts}
 use Rattle.law_role_client.proofs.Receiving.Facts.{Channel, Seen, Known, IsRisen, Kept, told_grows}
 

@@ -4,6 +4,7 @@ use Rattle.std.proofs.lemmas.Bool.{and_parts}
 use Rattle.std.proofs.lemmas.Bool.Decides.{nat_tests}
 use Rattle.std.specs.declared.option.Option.{Option}
 use Rattle.std.specs.declared.result.Result.{Result}
+use Rattle.law_order.proofs.ByNumber.{by_test, same_number}
 use Rattle.rh_rts.specs.declared.command.Cookie.{Cookie}
 use Rattle.rh_sig.specs.declared.named.Named.{Named}
 use Rattle.rh_sig.specs.declared.named.Named.TheVariants as named
@@ -16,14 +17,9 @@ use Rattle.rh_line.specs.declared.line_fault.LineFault.{LineFault}
 use Rattle.rh_line.specs.declared.line_fault.LineFault.TheVariants.{Window, Over}
 use Rattle.rh_line.specs.declared.which.Which.{Which}
 use Rattle.rh_line.specs.declared.which.Which.TheVariants.{Current, Next}
-use Rattle.law_order.proofs.ByNumber.{by_test, same_number}
 use Rattle.rh_shell.specs.declared.answers.Count.{Count}
 use Rattle.rh_shell.specs.Rules.{Message, Pdu, Packet}
 use Rattle.rh_shell.specs.Shells.{kind_number, same_leg}
-use Rattle.law_moves.specs.Moves.{OnLeg}
-use Rattle.law_moves.specs.Wires.{of_leg}
-use Rattle.law_moves.specs.Passages.Passing.{pdu_bytes}
-use Rattle.law_moves.proofs.Passages.Logs.{Fact, RowKeeps}
 use Rattle.rh_client.specs.declared.channels.TheConstants.{LAST_NUMBER}
 use Rattle.rh_client.specs.declared.channels.Opening.{Opening}
 use Rattle.rh_client.specs.declared.channels.Opening.TheVariants.{NotUp, Request, First, Second, Put}
@@ -42,6 +38,10 @@ use Rattle.rh_client.specs.Ending.{end_channel, end_on}
 use Rattle.rh_client.specs.InReplacement.{on_in_r1_a4, on_in_r2_a4}
 use Rattle.rh_client.specs.OutReplacement.{a2_by, on_out_r1_a2, a6_by, on_out_r1_a6, a10_by, passed}
 use Rattle.rh_client.specs.Client.{pdu_by, packet_by, on_packet}
+use Rattle.law_moves.specs.Moves.{OnLeg}
+use Rattle.law_moves.specs.Wires.{of_leg}
+use Rattle.law_moves.specs.Passages.Passing.{pdu_bytes}
+use Rattle.law_moves.proofs.Passages.Logs.{Fact, RowKeeps}
 use Rattle.law_role_client.proofs.Receiving.Windows.{Counts, leg_counts, admitted_told, admitted_released, admitted_counts, refused_same}
 use Rattle.law_role_client.proofs.Receiving.Facts.{Seen, Known, Kept, kept_more}
 use Rattle.law_role_client.proofs.Receiving.Replaced.{seen, Same, same_holds, by_replacement, none_out, begin_out_holds, settles, current_changes, next_changes}

@@ -2,13 +2,12 @@
 use Rattle.std.proofs.Common.{◌≡◌, suc, ◌+◌, nat_lt, Bool, true, false, if◌then◌else◌, List, Ok, Err, arith, refl, sym, ap, ◌∙◌, subst}
 use Rattle.std.proofs.lemmas.Bool.{false≢true}
 use Rattle.std.specs.declared.result.Result.{Result}
+use Rattle.law_order.proofs.ByNumber.{by_test}
 use Rattle.rh_rts.specs.declared.command.Cookie.{Cookie}
 use Rattle.rh_line.specs.declared.leg.Leg.{Leg}
-use Rattle.law_order.proofs.ByNumber.{by_test}
 use Rattle.rh_shell.specs.declared.answers.Phase.TheVariants as phase
 use Rattle.rh_shell.specs.declared.end_role.RecycleRefused.{RecycleRefused}
 use Rattle.rh_shell.specs.declared.end_role.RecycleRefused.TheVariants.{Last}
-use Rattle.law_moves.specs.Moves.{OnLeg}
 use Rattle.rh_client.specs.declared.channels.TheConstants.{LAST_NUMBER}
 use Rattle.rh_client.specs.declared.replacement.Replacement.{Replacement}
 use Rattle.rh_client.specs.declared.replacement.Replacement.TheVariants.{NoneUnderWay, In, Out}
@@ -24,6 +23,7 @@ use Rattle.rh_client.specs.State.{is_opening, is_over, settled, begin_in, begin_
 use Rattle.rh_client.specs.InReplacement.{wish_by, wants_successor, wished, recycle_by, handed_over}
 use Rattle.rh_client.specs.OutReplacement.{succeeded, ended_or, pass_at, pass_by, passed}
 use Rattle.rh_client.specs.Putting.{settled_or_wished}
+use Rattle.law_moves.specs.Moves.{OnLeg}
 use Rattle.law_role_client.proofs.Sending.Facts.{Seen, seen, put_bytes, IsSo, Kept}
 use Rattle.law_role_client.proofs.Sending.Channels.{unknown, with_out_successor}
 

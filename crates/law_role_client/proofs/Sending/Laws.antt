@@ -4,14 +4,15 @@ use Rattle.std.proofs.lemmas.Bool.{false≢true, and_parts}
 use Rattle.std.proofs.lemmas.Bool.Decides.{nat_tests}
 use Rattle.std.specs.declared.option.Option.{Option}
 use Rattle.std.specs.declared.result.Result.{Result}
-use Rattle.rh_rts.specs.declared.command.Cookie.{Cookie}
-use Rattle.rh_http.specs.declared.config.ClientConfig.{ClientConfig}
-use Rattle.rh_pdu.specs.Checking.{checked, pdu_fault}
-use Rattle.rh_pdu.specs.declared.fault.PduFault.{PduFault}
 use Rattle.rh_window.specs.Sending.{bad_ack}
 use Rattle.rh_window.specs.declared.range.TheConstants.{GREATEST_WINDOW}
+use Rattle.law_order.proofs.ByNumber.{by_test, same_number}
+use Rattle.rh_pdu.specs.Checking.{checked, pdu_fault}
+use Rattle.rh_pdu.specs.declared.fault.PduFault.{PduFault}
+use Rattle.rh_rts.specs.declared.command.Cookie.{Cookie}
 use Rattle.rh_sig.specs.declared.named.Named.{Named}
 use Rattle.rh_sig.specs.declared.named.Named.TheVariants as named
+use Rattle.rh_http.specs.declared.config.ClientConfig.{ClientConfig}
 use Rattle.rh_line.specs.Lines.{admit_verdict, after_take}
 use Rattle.rh_line.specs.Queue.{total, queue_bytes}
 use Rattle.rh_line.specs.declared.leg.Leg.{Leg}
@@ -20,11 +21,9 @@ use Rattle.rh_line.specs.declared.leg.LegKind.TheVariants.{ClientOut, OutServer,
 use Rattle.rh_line.specs.declared.line_fault.LineFault.{LineFault}
 use Rattle.rh_line.specs.declared.line_fault.LineFault.TheVariants as line_fault
 use Rattle.rh_line.specs.declared.which.Which.{Which}
-use Rattle.law_order.proofs.ByNumber.{by_test, same_number}
 use Rattle.rh_shell.specs.declared.answers.Count.{Count}
 use Rattle.rh_shell.specs.declared.end_role.GiveRefused.TheVariants.{Closing, Full}
 use Rattle.rh_shell.specs.Rules.{Row}
-use Rattle.law_moves.specs.Moves.{OnLeg, EndMove}
 use Rattle.rh_shell.specs.Shells.{is_of}
 use Rattle.rh_client.specs.declared.channels.InChannel.{InChannel}
 use Rattle.rh_client.specs.declared.channels.Opening.TheVariants.{Request}
@@ -38,9 +37,10 @@ use Rattle.rh_client.specs.Ending.{Given, give, give_pdu, close, take, drawn_by}
 use Rattle.rh_client.specs.Time.{ping_by}
 use Rattle.rh_client.specs.Client.{pdu_by, on_packet, packet_by, acts}
 use Rattle.rh_client.specs.Client.{rules as client_rules}
+use Rattle.law_moves.specs.Moves.{OnLeg, EndMove}
+use Rattle.law_moves.specs.Passages.Rising.{HasComeUp}
 use Rattle.law_role_client.specs.Order.{AreAllowedMoves, client_moved, client_started}
 use Rattle.law_role_client.specs.Sending.{BeginsByCookie, RefusesFalseAcks, IsInRange, SendsAsTold}
-use Rattle.law_moves.specs.Passages.Rising.{HasComeUp}
 use Rattle.law_role_client.proofs.Sending.Steps.{StepsKeep, end_moves_keep}
 use Rattle.law_role_client.proofs.Sending.Facts.{seen_in, IsKnownIn, Kept}
 use Rattle.law_role_client.proofs.Sending.Channels.{unknown, known_up, with_writing, with_successor, with_leaving, with_current, with_out_successor}

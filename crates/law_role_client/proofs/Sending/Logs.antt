@@ -3,20 +3,20 @@ use Rattle.std.proofs.Common.{◌≡◌, ◌⊎◌, ℕ, ◌≤◌, nat_le, Bool
 use Rattle.std.specs.Prelude.{max}
 use Rattle.std.proofs.lemmas.Bool.Decides.{nat_tests}
 use Rattle.std.proofs.lemmas.List.{append-nil}
+use Rattle.law_order.proofs.ByNumber.{test_same}
 use Rattle.rh_rts.specs.declared.command.Cookie.{Cookie}
 use Rattle.rh_sig.specs.declared.named.Named.{Named}
 use Rattle.rh_sig.specs.declared.named.Named.TheVariants.{ConnC2, InR1A4, AckTo}
 use Rattle.rh_line.specs.declared.leg.Leg.{Leg}
 use Rattle.rh_line.specs.declared.leg.LegKind.{LegKind}
 use Rattle.rh_line.specs.declared.leg.LegKind.TheVariants.{ClientOut}
-use Rattle.law_moves.specs.Moves.{OnLeg}
 use Rattle.rh_shell.specs.Rules.{Message, Text, Pdu, Packet}
 use Rattle.rh_shell.specs.Shells.{same_leg}
+use Rattle.rh_client.specs.State.{co}
+use Rattle.law_moves.specs.Moves.{OnLeg}
 use Rattle.law_moves.specs.Wires.{of_leg}
-use Rattle.law_order.proofs.ByNumber.{test_same}
 use Rattle.law_moves.specs.Passages.Passing.{pdu_bytes, Has, HasOn, HasOne}
 use Rattle.law_moves.proofs.Passages.Messages.{leg_more, has_more, has_last, bytes_append, one_more_so}
-use Rattle.rh_client.specs.State.{co}
 use Rattle.law_role_client.specs.Sending.{TellsEdge, IsWithin}
 
 -- ---- on a leg

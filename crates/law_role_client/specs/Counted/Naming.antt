@@ -7,11 +7,11 @@ use Rattle.rh_sig.specs.declared.named.Named.TheVariants.{ConnA1, ConnB1, InR1A1
 use Rattle.rh_sig.specs.declared.named.Named.TheVariants.{OutR1A3, OutR1A7}
 use Rattle.rh_line.specs.declared.leg.LegKind.TheVariants.{ClientIn, ClientOut}
 use Rattle.rh_shell.specs.Rules.{Text, Pdu, Packet}
+use Rattle.rh_client.specs.declared.state.ClientRole.{ClientRole}
+use Rattle.rh_client.specs.State.{ci, co}
 use Rattle.law_moves.specs.Moves.{OnLeg, Passage}
 use Rattle.law_moves.specs.Wires.{of_leg}
 use Rattle.law_moves.specs.Passages.Passing.{Has, HasBegunIn, HasBegunOut}
-use Rattle.rh_client.specs.declared.state.ClientRole.{ClientRole}
-use Rattle.rh_client.specs.State.{ci, co}
 use Rattle.law_role_client.specs.Counted.Counting.{is_conn_a1, is_conn_b1, is_out_r1_a7, total, StandsOnEach}
 
 -- each message of a log is so, behind those before it

@@ -3,10 +3,10 @@ use Rattle.std.specs.Prelude.{ℕ, ◌≡◌, ◌≤◌, true, false}
 use Rattle.std.specs.List.{AllByRecursion}
 use Rattle.rh_line.specs.declared.leg.LegKind.TheVariants.{ClientIn, ClientOut}
 use Rattle.rh_shell.specs.Rules.{Message}
-use Rattle.law_moves.specs.Moves.{Passage}
-use Rattle.law_moves.specs.Passages.Passing.{of_kind}
 use Rattle.rh_client.specs.declared.state.ClientRole.{ClientRole}
 use Rattle.rh_client.specs.State.{is_opening}
+use Rattle.law_moves.specs.Moves.{Passage}
+use Rattle.law_moves.specs.Passages.Passing.{of_kind}
 use Rattle.law_role_client.specs.Counted.Counting.{is_conn_c2, is_greeting, total}
 use Rattle.law_role_client.specs.Counted.Replacing.{in_asked, in_answered, in_handed_over, out_wanted, out_asked, out_answered, out_switched, out_finished}
 

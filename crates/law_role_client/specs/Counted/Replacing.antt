@@ -2,7 +2,6 @@
 -- put (profile)
 use Rattle.std.specs.Prelude.{ℕ, ◌≡◌, ◌+◌, ◌≤◌, Bool, false, not}
 use Rattle.rh_line.specs.declared.leg.LegKind.TheVariants.{ClientIn, ClientOut}
-use Rattle.law_moves.specs.Moves.{Passage}
 use Rattle.rh_shell.specs.NearEnds.{is_ended}
 use Rattle.rh_client.specs.declared.replacement.Replacement.{Replacement}
 use Rattle.rh_client.specs.declared.replacement.Replacement.TheVariants.{NoneUnderWay, In, Out}
@@ -11,6 +10,7 @@ use Rattle.rh_client.specs.declared.replacement.OutStage.TheVariants as out_stag
 use Rattle.rh_client.specs.declared.state.ClientRole.{ClientRole}
 use Rattle.rh_client.specs.Channels.{is_put, is_asked}
 use Rattle.rh_client.specs.Replacements.{has_out}
+use Rattle.law_moves.specs.Moves.{Passage}
 use Rattle.law_role_client.specs.Counted.Counting.{is_in_r1_a1, is_in_a4, is_in_r1_a5, is_out_r1_a2, is_out_r1_a3, is_out_r1_a6, is_out_r1_a7, is_out_r1_a10, total, once_if, StandsOnEach}
 
 -- ---- IN channels

@@ -2,9 +2,9 @@
 
 ghost use Rattle.std.specs.Prelude.{List};
 ghost use Rattle.rh_http.specs.declared.config.ClientConfig.{ClientConfig};
-ghost use Rattle.law_moves.specs.Moves.{AreAllowedAtEnd, EndMove, all_end_moved, end_started};
 ghost use Rattle.rh_client.specs.Client.{acts, rules};
 ghost use Rattle.rh_client.specs.State.{first};
+ghost use Rattle.law_moves.specs.Moves.{AreAllowedAtEnd, EndMove, all_end_moved, end_started};
 ghost use Rattle.law_role_client.specs.Counted.Naming.{NamesIns, NamesOuts};
 
 /// Whatever happens to a client: its CONN/B1 and its IN_R1/A1 name the connection. Each IN_R1/A1

@@ -2,9 +2,9 @@
 
 ghost use Rattle.std.specs.Prelude.{List};
 ghost use Rattle.rh_http.specs.declared.config.ClientConfig.{ClientConfig};
-ghost use Rattle.law_moves.specs.Moves.{AreAllowedAtEnd, EndMove, all_end_moved, end_started};
 ghost use Rattle.rh_client.specs.Client.{acts, rules};
 ghost use Rattle.rh_client.specs.State.{first};
+ghost use Rattle.law_moves.specs.Moves.{AreAllowedAtEnd, EndMove, all_end_moved, end_started};
 ghost use Rattle.law_role_client.specs.Counted.Replacing.{AsksWhereWanted, ReplacesIns, ReplacesOuts};
 
 /// Whatever happens to a client: it asks for a successor of an IN channel by IN_R1/A1 only once

@@ -2,18 +2,18 @@
 use Rattle.std.proofs.Common.{◌≡◌, ◌⊎◌, ℕ, zero, suc, List, [], ◌∷◌, ◌++◌, arith, inl, inr, refl, sym, subst}
 use Rattle.std.specs.List.{AllByRecursion}
 use Rattle.rh_rts.specs.declared.command.Cookie.{Cookie}
-use Rattle.rh_http.specs.declared.config.ClientConfig.{ClientConfig}
 use Rattle.rh_sig.specs.declared.named.Named.{Named}
 use Rattle.rh_sig.specs.declared.named.Named.TheVariants.{InR1A5, OutR1A7, OutR2C1, EndA1, AckTo, Ping}
+use Rattle.rh_http.specs.declared.config.ClientConfig.{ClientConfig}
 use Rattle.rh_line.specs.declared.leg.Leg.{Leg}
 use Rattle.rh_shell.specs.Rules.{Message, Text, Pdu, Packet}
+use Rattle.rh_client.specs.State.{ci, co}
 use Rattle.law_moves.specs.Moves.{EndMove}
 use Rattle.law_moves.specs.Wires.{of_leg}
 use Rattle.law_moves.specs.Passages.Counted.{packets}
 use Rattle.law_moves.specs.Passages.Passing.{HasOne}
 use Rattle.law_moves.specs.Passages.Rising.{HasComeUp}
 use Rattle.law_moves.proofs.Passages.Messages.{each_so}
-use Rattle.rh_client.specs.State.{ci, co}
 use Rattle.law_role_client.specs.Order.{client_moved}
 use Rattle.law_role_client_rows.specs.Putting.{Begins, IsBegun, IsChannel, IsPacket, IsBehind, IsBehindPacket, OpenedBefore, OpensInChannels, OpensOutChannels, OutRest, in_way, out_way}
 use Rattle.law_role_client_rows.proofs.InTurn.Lists.{nothing, head_of, tail_of, each_at}

@@ -5,7 +5,6 @@ use Rattle.law_order.proofs.ByNumber.{by_test}
 use Rattle.rh_shell.specs.declared.answers.Phase.TheVariants as phase
 use Rattle.rh_shell.specs.declared.end_role.RecycleRefused.{RecycleRefused}
 use Rattle.rh_shell.specs.declared.end_role.RecycleRefused.TheVariants.{Last}
-use Rattle.law_moves.specs.Moves.{OnLeg}
 use Rattle.rh_client.specs.declared.channels.TheConstants.{LAST_NUMBER}
 use Rattle.rh_client.specs.declared.replacement.Replacement.{Replacement}
 use Rattle.rh_client.specs.declared.replacement.Replacement.TheVariants.{NoneUnderWay, In, Out}
@@ -20,6 +19,7 @@ use Rattle.rh_client.specs.State.{is_over, begin_in, begin_out, after_in, after_
 use Rattle.rh_client.specs.InReplacement.{wish_by, wants_successor, wished, recycle_by}
 use Rattle.rh_client.specs.OutReplacement.{succeeded, ended_or, pass_at, pass_by, passed}
 use Rattle.rh_client.specs.Putting.{settled_or_wished}
+use Rattle.law_moves.specs.Moves.{OnLeg}
 use Rattle.law_role_client_rows.proofs.InTurn.Facts.{IsSo, view, idle, idles, replacing}
 
 module _ (put : List OnLeg) where

@@ -4,9 +4,9 @@ use Rattle.std.proofs.lemmas.Bool.{false≢true}
 use Rattle.rh_line.specs.Lines.{is_empty}
 use Rattle.rh_line.specs.declared.leg.Leg.{Leg}
 use Rattle.rh_shell.specs.Rules.{Message}
-use Rattle.law_moves.specs.Moves.{OnLeg}
 use Rattle.rh_client.specs.declared.state.ClientRole.{ClientRole}
 use Rattle.rh_client.specs.Replacements.{is_in}
+use Rattle.law_moves.specs.Moves.{OnLeg}
 use Rattle.law_role_client_rows.specs.InTurn.Turns.{Turn, behind, behind_all, first_turn, Stands, StandFrom}
 
 behind_more : (t : Turn) (log : List OnLeg) (one : OnLeg)

@@ -2,10 +2,10 @@
 use Rattle.std.proofs.Common.{List, [], ◌∷◌, subst}
 use Rattle.rh_sig.specs.declared.named.Named.{Named}
 use Rattle.rh_sig.specs.declared.named.Named.TheVariants.{Ping}
-use Rattle.law_moves.specs.Moves.{OnLeg}
 use Rattle.rh_shell.specs.Rules.{Message, Text, Pdu, Packet}
-use Rattle.law_moves.specs.Wires.{of_leg}
 use Rattle.rh_client.specs.State.{ci, co}
+use Rattle.law_moves.specs.Moves.{OnLeg}
+use Rattle.law_moves.specs.Wires.{of_leg}
 use Rattle.law_role_client_rows.specs.Putting.{IsPacket}
 use Rattle.law_role_client_rows.specs.InTurn.Asking.{AsksIn, AsksOut, IsNoAsk, IsText, AsksOnce, AsksOnceOnEach}
 use Rattle.law_role_client_rows.specs.InTurn.Pings.{HasNoPingFirst, BeginsWithoutPing}

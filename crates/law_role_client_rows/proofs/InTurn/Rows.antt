@@ -2,6 +2,7 @@
 use Rattle.std.proofs.Common.{◌≡◌, ℕ, ◌==◌, nat_lt, Bool, true, false, ◌&&◌, ◌||◌, not, if◌then◌else◌, List, Some, None, Ok, Err, refl, ap, ◌∙◌}
 use Rattle.std.specs.Option.{is_some}
 use Rattle.std.specs.declared.option.Option.{Option}
+use Rattle.law_order.proofs.ByNumber.{by_test}
 use Rattle.rh_rts.specs.declared.command.Cookie.{Cookie}
 use Rattle.rh_sig.specs.declared.named.Named.{Named}
 use Rattle.rh_sig.specs.declared.named.Named.TheVariants as named
@@ -9,12 +10,9 @@ use Rattle.rh_line.specs.Lines.{channel_of, after_end, after_finish}
 use Rattle.rh_line.specs.declared.leg.LegKind.{LegKind}
 use Rattle.rh_line.specs.declared.leg.LegKind.TheVariants.{ClientOut, OutServer, ClientIn, InServer}
 use Rattle.rh_line.specs.declared.which.Which.{Which}
-use Rattle.law_order.proofs.ByNumber.{by_test}
 use Rattle.rh_shell.specs.declared.answers.Count.{Count}
 use Rattle.rh_shell.specs.declared.answers.Phase.TheVariants as phase
 use Rattle.rh_shell.specs.Hearing.{is_zero}
-use Rattle.law_moves.specs.Moves.{OnLeg}
-use Rattle.law_moves.proofs.Passages.Logs.{RowKeeps}
 use Rattle.rh_client.specs.declared.channels.TheConstants.{LAST_NUMBER}
 use Rattle.rh_client.specs.declared.replacement.Replacement.{Replacement}
 use Rattle.rh_client.specs.declared.replacement.Replacement.TheVariants.{NoneUnderWay, In, Out}
@@ -34,6 +32,8 @@ use Rattle.rh_client.specs.InReplacement.{answer_at, answer_by, answered, on_in_
 use Rattle.rh_client.specs.OutReplacement.{a2_by, on_out_r1_a2, a6_at, a6_by, on_out_r1_a6, passed, a10_at, a10_by, on_out_r1_a10}
 use Rattle.rh_client.specs.Ending.{end_channel, end_on, on_end_b2}
 use Rattle.rh_client.specs.Client.{pdu_by, on_packet, packet_by}
+use Rattle.law_moves.specs.Moves.{OnLeg}
+use Rattle.law_moves.proofs.Passages.Logs.{RowKeeps}
 use Rattle.law_role_client_rows.proofs.InTurn.Facts.{Holds, idles}
 use Rattle.law_role_client_rows.proofs.InTurn.Changes.{So, begin_out_so, passed_so}
 

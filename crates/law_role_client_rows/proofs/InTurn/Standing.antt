@@ -1,18 +1,18 @@
 -- what follows, for the messages of a ci leg, of where each message of a log stands
 use Rattle.std.proofs.Common.{◌≡◌, ◌⊎◌, ℕ, suc, ◌<◌, ◌≤◌, ◌&&◌, ◌==◌, true, false, true≢false, List, [], ◌∷◌, ◌++◌, arith, inl, inr, refl, sym, ◌∙◌, subst}
 use Rattle.std.proofs.lemmas.Bool.{false≢true}
+use Rattle.law_order.proofs.ByNumber.{by_test, same_number}
 use Rattle.rh_sig.specs.declared.named.Named.{Named}
 use Rattle.rh_sig.specs.declared.named.Named.TheVariants.{ConnA1, ConnB1, InR1A1, InR1A5, OutR1A3, OutR1A7, OutR2C1, EndA1, AckTo, KeepAlive, Ping}
 use Rattle.rh_line.specs.declared.leg.Leg.{Leg}
 use Rattle.rh_line.specs.declared.leg.LegKind.{LegKind}
 use Rattle.rh_line.specs.declared.leg.LegKind.TheVariants.{ClientOut}
-use Rattle.law_order.proofs.ByNumber.{by_test, same_number}
 use Rattle.rh_shell.specs.Rules.{Message, Text, Pdu, Packet}
-use Rattle.law_moves.specs.Moves.{OnLeg}
 use Rattle.rh_shell.specs.Shells.{kind_number, same_leg}
+use Rattle.rh_client.specs.State.{ci}
+use Rattle.law_moves.specs.Moves.{OnLeg}
 use Rattle.law_moves.specs.Wires.{of_leg}
 use Rattle.law_moves.specs.Passages.Passing.{Has}
-use Rattle.rh_client.specs.State.{ci}
 use Rattle.law_role_client_rows.proofs.InTurn.Lists.{nothing, head_of, tail_of, each_at, split, split_more}
 use Rattle.law_role_client_rows.specs.InTurn.Turns.{Turn, behind, IsNear, PacketStands, Stands, StandFrom, WritesInTurn, first_turn}
 use Rattle.law_role_client_rows.specs.InTurn.Ends.{IsNoPdu, HasNoPdu, IsNoEnd, HasNoEnd, EndsByInR1A5, EndsOnce, EndsAll, FollowNoEnd}

@@ -2,15 +2,14 @@
 use Rattle.std.proofs.Common.{◌≡◌, ◌+◌, nat_lt, Bool, true, false, true≢false, ◌&&◌, List, Ok, Err, refl, sym, ◌∙◌, subst}
 use Rattle.std.proofs.lemmas.Bool.{false≢true, and_parts}
 use Rattle.std.specs.declared.result.Result.{Result}
+use Rattle.rh_keep.specs.Meters.{wanted}
+use Rattle.law_order.proofs.ByNumber.{by_test}
 use Rattle.rh_rts.specs.declared.command.Cookie.{Cookie}
 use Rattle.rh_http.specs.declared.config.ClientConfig.{ClientConfig}
-use Rattle.rh_keep.specs.Meters.{wanted}
 use Rattle.rh_line.specs.declared.leg.Leg.{Leg}
-use Rattle.law_order.proofs.ByNumber.{by_test}
 use Rattle.rh_shell.specs.declared.answers.Phase.TheVariants as phase
 use Rattle.rh_shell.specs.declared.end_role.RecycleRefused.{RecycleRefused}
 use Rattle.rh_shell.specs.declared.end_role.RecycleRefused.TheVariants.{Last}
-use Rattle.law_moves.specs.Moves.{OnLeg}
 use Rattle.rh_client.specs.declared.channels.TheConstants.{LAST_NUMBER}
 use Rattle.rh_client.specs.declared.replacement.Replacement.{Replacement}
 use Rattle.rh_client.specs.declared.replacement.Replacement.TheVariants.{NoneUnderWay, In, Out}
@@ -25,6 +24,7 @@ use Rattle.rh_client.specs.State.{is_open, is_over, begin_in, begin_out, after_i
 use Rattle.rh_client.specs.InReplacement.{wish_by, wants_successor, wished, recycle_by, handed_over}
 use Rattle.rh_client.specs.OutReplacement.{succeeded, ended_or, pass_at, pass_by, passed}
 use Rattle.rh_client.specs.Putting.{settled_or_wished}
+use Rattle.law_moves.specs.Moves.{OnLeg}
 use Rattle.law_role_client_rows.specs.Putting.{in_way, out_way, HasOpened}
 use Rattle.law_role_client_rows.proofs.Putting.Channels.{begins, succeeds}
 use Rattle.law_role_client_rows.proofs.Putting.Facts.{Kept}

@@ -1,16 +1,16 @@
 -- the channels of a direction, by what was put on their legs: a channel in use and its successor
 use Rattle.std.proofs.Common.{◌≡◌, ◌≢◌, ◌⊎◌, ℕ, suc, ◌+◌, ◌<◌, nat_eq, Bool, true, false, true≢false, ◌&&◌, ◌||◌, not, List, [], ◌∷◌, ◌++◌, arith, inl, inr, refl, sym, ap, ◌∙◌, subst}
 use Rattle.std.proofs.lemmas.Bool.{false≢true, and_parts}
+use Rattle.law_order.proofs.ByNumber.{same_number, other_number, test_same, test_other}
 use Rattle.rh_rts.specs.declared.command.Cookie.{Cookie}
 use Rattle.rh_line.specs.declared.leg.Leg.{Leg}
-use Rattle.law_order.proofs.ByNumber.{same_number, other_number, test_same, test_other}
 use Rattle.rh_shell.specs.Rules.{Message}
-use Rattle.law_moves.specs.Moves.{OnLeg}
 use Rattle.rh_shell.specs.Shells.{kind_number, same_leg}
-use Rattle.law_moves.specs.Wires.{of_leg}
 use Rattle.rh_client.specs.declared.channels.Opening.{Opening}
 use Rattle.rh_client.specs.declared.channels.Opening.TheVariants.{NotUp, Request, First, Second, Put}
 use Rattle.rh_client.specs.Channels.{no_cookie, is_up, is_asked}
+use Rattle.law_moves.specs.Moves.{OnLeg}
+use Rattle.law_moves.specs.Wires.{of_leg}
 use Rattle.law_role_client_rows.proofs.Putting.Fronts.{leg_here, leg_other, HasNone, IsAt, is_none, none_is_so}
 use Rattle.law_role_client_rows.specs.Putting.{Direction, leg_of, IsChannel}
 

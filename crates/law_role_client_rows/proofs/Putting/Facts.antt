@@ -2,15 +2,11 @@
 use Rattle.std.proofs.Common.{◌≡◌, ℕ, suc, Bool, true, false, List, [], ◌∷◌, ◌++◌, refl, sym, ap, ◌∙◌, subst}
 use Rattle.std.proofs.lemmas.List.{append-nil}
 use Rattle.rh_rts.specs.declared.command.Cookie.{Cookie}
-use Rattle.rh_http.specs.declared.config.ClientConfig.{ClientConfig}
 use Rattle.rh_sig.specs.declared.named.Named.TheVariants.{ConnC2, OutR1A7}
+use Rattle.rh_http.specs.declared.config.ClientConfig.{ClientConfig}
 use Rattle.rh_line.specs.declared.leg.Leg.{Leg}
 use Rattle.rh_line.specs.declared.leg.LegKind.TheVariants.{ClientIn}
-use Rattle.law_moves.specs.Moves.{OnLeg}
 use Rattle.rh_shell.specs.Rules.{Message, Packet}
-use Rattle.law_moves.specs.Wires.{of_leg}
-use Rattle.law_moves.specs.Passages.Passing.{Has, of_kind}
-use Rattle.law_moves.proofs.Passages.Messages.{leg_more, kind_more, has_more, has_last}
 use Rattle.rh_client.specs.declared.channels.InChannel.{InChannel}
 use Rattle.rh_client.specs.declared.channels.OutChannel.{OutChannel}
 use Rattle.rh_client.specs.declared.replacement.Replacement.{Replacement}
@@ -23,6 +19,10 @@ use Rattle.rh_client.specs.declared.state.ClientRole.{ClientRole}
 use Rattle.rh_client.specs.Replacements.{is_none, is_in, is_out}
 use Rattle.rh_client.specs.State.{is_open, ci, co}
 use Rattle.rh_client.specs.Acknowledging.{is_switched_by}
+use Rattle.law_moves.specs.Moves.{OnLeg}
+use Rattle.law_moves.specs.Wires.{of_leg}
+use Rattle.law_moves.specs.Passages.Passing.{Has, of_kind}
+use Rattle.law_moves.proofs.Passages.Messages.{leg_more, kind_more, has_more, has_last}
 use Rattle.law_role_client_rows.specs.Putting.{in_way, out_way, HasOpened, SwitchesFrom}
 use Rattle.law_role_client_rows.proofs.Putting.Fronts.{leg_here}
 use Rattle.law_role_client_rows.proofs.Putting.Channels.{Channel, AreSo, puts_elsewhere, last}

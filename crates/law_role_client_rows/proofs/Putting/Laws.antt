@@ -3,21 +3,18 @@ use Rattle.std.proofs.Common.{◌≡◌, ◌⊎◌, ℕ, ◌+◌, ◌==◌, nat_
 use Rattle.std.proofs.lemmas.Bool.{false≢true}
 use Rattle.std.specs.declared.option.Option.{Option}
 use Rattle.std.specs.declared.result.Result.{Result}
-use Rattle.rh_rts.specs.declared.command.Cookie.{Cookie}
-use Rattle.rh_http.specs.declared.config.ClientConfig.{ClientConfig}
+use Rattle.law_order.proofs.ByNumber.{by_test}
 use Rattle.rh_pdu.specs.Checking.{checked, pdu_fault}
 use Rattle.rh_pdu.specs.declared.fault.PduFault.{PduFault}
+use Rattle.rh_rts.specs.declared.command.Cookie.{Cookie}
+use Rattle.rh_http.specs.declared.config.ClientConfig.{ClientConfig}
 use Rattle.rh_line.specs.Queue.{total, queue_bytes}
 use Rattle.rh_line.specs.declared.leg.Leg.{Leg}
 use Rattle.rh_line.specs.declared.leg.LegKind.{LegKind}
 use Rattle.rh_line.specs.declared.leg.LegKind.TheVariants.{ClientOut, OutServer, ClientIn, InServer}
-use Rattle.law_order.proofs.ByNumber.{by_test}
 use Rattle.rh_shell.specs.declared.end_role.GiveRefused.TheVariants.{Closing, Full}
 use Rattle.rh_shell.specs.declared.end_role.RecycleRefused.TheVariants.{Last}
 use Rattle.rh_shell.specs.Rules.{Rules, Acts, Message}
-use Rattle.law_moves.specs.Moves.{OnLeg, Up, Puts, Passage, put_by, EndMove, Moves, Recycles, EndPassage, MayEndMove, AreAllowedAtEnd, end_moved, all_end_moved}
-use Rattle.law_moves.specs.Wires.{of_leg}
-use Rattle.law_moves.proofs.Passages.Logs.{PutKeeps}
 use Rattle.rh_client.specs.declared.state.ClientRole.{ClientRole}
 use Rattle.rh_client.specs.Channels.{in_up, out_up}
 use Rattle.rh_client.specs.State.{first, is_open, is_writing, is_in_successor, is_current, ci, co}
@@ -26,8 +23,11 @@ use Rattle.rh_client.specs.Ending.{Given, give, give_pdu, drawn_by}
 use Rattle.rh_client.specs.Time.{ping_by}
 use Rattle.rh_client.specs.Client.{acts}
 use Rattle.rh_client.specs.Client.{rules as client_rules}
-use Rattle.law_role_client.specs.Order.{AreAllowedMoves, client_moved, client_started}
+use Rattle.law_moves.specs.Moves.{OnLeg, Up, Puts, Passage, put_by, EndMove, Moves, Recycles, EndPassage, MayEndMove, AreAllowedAtEnd, end_moved, all_end_moved}
+use Rattle.law_moves.specs.Wires.{of_leg}
+use Rattle.law_moves.proofs.Passages.Logs.{PutKeeps}
 use Rattle.law_moves.specs.Passages.Rising.{HasComeUp}
+use Rattle.law_role_client.specs.Order.{AreAllowedMoves, client_moved, client_started}
 use Rattle.law_role_client.proofs.Sending.Steps.{StepsKeep, end_moves_keep}
 use Rattle.law_role_client_rows.specs.Putting.{in_way, out_way, HasOpened, OpenedBefore, OpensInChannels, OpensOutChannels, SwitchesInOrder}
 use Rattle.law_role_client_rows.proofs.Putting.Channels.{starts, ups}

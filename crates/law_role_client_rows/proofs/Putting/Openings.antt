@@ -5,11 +5,11 @@ use Rattle.rh_rts.specs.declared.command.Cookie.{Cookie}
 use Rattle.rh_sig.specs.declared.named.Named.{Named}
 use Rattle.rh_line.specs.declared.leg.Leg.{Leg}
 use Rattle.rh_shell.specs.Rules.{Message, Text, Packet}
-use Rattle.law_moves.specs.Moves.{OnLeg}
-use Rattle.law_moves.specs.Wires.{of_leg}
 use Rattle.rh_client.specs.declared.channels.Opening.{Opening}
 use Rattle.rh_client.specs.declared.channels.Opening.TheVariants.{Request, First, Second, Put}
 use Rattle.rh_client.specs.Channels.{is_up, is_asked}
+use Rattle.law_moves.specs.Moves.{OnLeg}
+use Rattle.law_moves.specs.Wires.{of_leg}
 use Rattle.law_role_client_rows.proofs.Putting.Fronts.{HasFirst, IsAt, text_more, first_more, second_more, rest_more, first_is_more, none_is}
 use Rattle.law_role_client_rows.proofs.Putting.Channels.{Channel, AreSo, puts_now, puts_next, down_none, down_unasked}
 use Rattle.law_role_client_rows.specs.Putting.{Direction, leg_of}

@@ -4,16 +4,13 @@ use Rattle.std.proofs.lemmas.Bool.{and_parts}
 use Rattle.std.specs.Option.{is_some}
 use Rattle.std.specs.declared.option.Option.{Option}
 use Rattle.std.specs.declared.result.Result.{Result}
+use Rattle.law_order.proofs.ByNumber.{by_test}
 use Rattle.rh_line.specs.Lines.{Line, is_empty, released, settled as settled_line, moved_on}
 use Rattle.rh_line.specs.Lines as lines
-use Rattle.law_order.proofs.ByNumber.{by_test}
 use Rattle.rh_shell.specs.declared.answers.Phase.{Phase}
 use Rattle.rh_shell.specs.declared.answers.Phase.TheVariants as phase
 use Rattle.rh_shell.specs.declared.end_role.RecycleRefused.{RecycleRefused}
 use Rattle.rh_shell.specs.declared.end_role.RecycleRefused.TheVariants.{Last}
-use Rattle.law_moves.specs.Moves.{OnLeg}
-use Rattle.law_moves.specs.Wires.{of_leg}
-use Rattle.law_moves.specs.Passages.Passing.{count_of}
 use Rattle.rh_client.specs.declared.channels.TheConstants.{LAST_NUMBER}
 use Rattle.rh_client.specs.declared.replacement.Replacement.{Replacement}
 use Rattle.rh_client.specs.declared.replacement.Replacement.TheVariants.{NoneUnderWay, In, Out}
@@ -29,6 +26,9 @@ use Rattle.rh_client.specs.State.{is_opening, is_open, is_over, co, settled, beg
 use Rattle.rh_client.specs.InReplacement.{recycle_by, wish_by, wished, wants_successor}
 use Rattle.rh_client.specs.OutReplacement.{succeeded, ended_or, pass_by, passed}
 use Rattle.rh_client.specs.Putting.{settled_or_wished}
+use Rattle.law_moves.specs.Moves.{OnLeg}
+use Rattle.law_moves.specs.Wires.{of_leg}
+use Rattle.law_moves.specs.Passages.Passing.{count_of}
 use Rattle.law_role_client_rows.specs.Refusing.{is_conn_a3}
 
 -- ---- what is read

@@ -2,16 +2,15 @@
 use Rattle.std.proofs.Common.{◌≡◌, ◌⊎◌, ◌<◌, ◌≤◌, inl, inr, ℕ, ◌+◌, ◌==◌, Bool, true, false, true≢false, not, ◌&&◌, ◌||◌, nat_lt, if◌then◌else◌, List, Ok, Err, arith, refl, sym, ap, ◌∙◌}
 use Rattle.std.proofs.lemmas.Bool.Decides.{nat_tests}
 use Rattle.std.specs.declared.result.Result.{Result}
-use Rattle.rh_rts.specs.declared.command.Cookie.{Cookie}
-use Rattle.rh_sig.specs.declared.named.Named.TheVariants as named
 use Rattle.rh_window.specs.declared.fault.BadAck.{BadAck}
 use Rattle.law_order.specs.Taking.{TakerLaw}
 use Rattle.law_order.proofs.ByNumber.{same_number, other_number}
+use Rattle.rh_rts.specs.declared.command.Cookie.{Cookie}
+use Rattle.rh_sig.specs.declared.named.Named.TheVariants as named
 use Rattle.rh_shell.specs.declared.answers.Phase.{Phase}
 use Rattle.rh_shell.specs.declared.answers.Phase.TheVariants as phase
 use Rattle.rh_shell.specs.declared.answers.Refused.TheVariants as refused
 use Rattle.rh_shell.specs.NearEnds.{is_ended}
-use Rattle.law_moves.specs.Moves.{Passage}
 use Rattle.rh_client.specs.declared.channels.TheConstants.{LAST_NUMBER}
 use Rattle.rh_client.specs.declared.replacement.Replacement.{Replacement}
 use Rattle.rh_client.specs.declared.replacement.Replacement.TheVariants.{NoneUnderWay, In, Out}
@@ -24,6 +23,7 @@ use Rattle.rh_client.specs.State.{Done, unexpected, is_open, is_opening, is_curr
 use Rattle.rh_client.specs.Acknowledging.{on_ack_to, ack_named, acked, ack_row_by}
 use Rattle.rh_client.specs.InReplacement.{answer_by}
 use Rattle.rh_client.specs.OutReplacement.{a2_by, a6_by, a10_by, on_out_r1_a2, on_out_r1_a6}
+use Rattle.law_moves.specs.Moves.{Passage}
 use Rattle.law_role_client.specs.Order.{taker_of, has_leg, came_log}
 use Rattle.law_role_client.specs.Counted.Counting.{once_if}
 use Rattle.law_role_client.specs.Counted.Opening.{opened, OpensOnce}

@@ -4,14 +4,14 @@ use Rattle.std.specs.Prelude.{ℕ, suc, ◌≡◌, ◌≤◌, ◌⊎◌, ◌++�
 use Rattle.std.specs.List.{AllByRecursion}
 use Rattle.rh_sig.specs.declared.named.Named.{Named}
 use Rattle.rh_sig.specs.declared.named.Named.TheVariants.{ConnA1, ConnB1, InR1A1, OutR1A3, OutR2C1, KeepAlive}
+use Rattle.rh_line.specs.declared.leg.Leg.{Leg}
 use Rattle.rh_shell.specs.Rules.{Message, Text, Pdu, Packet}
+use Rattle.rh_client.specs.State.{ci, co}
 use Rattle.law_moves.specs.Moves.{OnLeg, EndMove}
 use Rattle.law_moves.specs.Wires.{of_leg}
 use Rattle.law_moves.specs.Passages.Counted.{packets}
 use Rattle.law_moves.specs.Passages.Passing.{Has, HasOne}
 use Rattle.law_moves.specs.Passages.Rising.{HasComeUp}
-use Rattle.rh_line.specs.declared.leg.Leg.{Leg}
-use Rattle.rh_client.specs.State.{ci, co}
 use Rattle.law_role_client_rows.specs.Putting.{IsPacket, IsBehindPacket}
 
 -- ---- packets that ask

@@ -5,10 +5,10 @@ use Rattle.std.specs.List.{AllByRecursion}
 use Rattle.rh_rts.specs.declared.command.Cookie.{Cookie}
 use Rattle.rh_sig.specs.declared.named.Named.TheVariants.{InR1A5, EndA1}
 use Rattle.rh_shell.specs.Rules.{Message, Text, Pdu, Packet}
+use Rattle.rh_client.specs.State.{ci}
 use Rattle.law_moves.specs.Moves.{OnLeg}
 use Rattle.law_moves.specs.Wires.{of_leg}
 use Rattle.law_moves.specs.Passages.Passing.{Has}
-use Rattle.rh_client.specs.State.{ci}
 
 abbrev pub IsNoPdu : Message → Type 0
 IsNoPdu (Text bytes) = Unit {0}

@@ -1,10 +1,10 @@
 -- a client begins no leg by a Ping (profile)
 use Rattle.std.specs.Prelude.{ℕ, ◌≡◌, List, [], ◌∷◌}
 use Rattle.rh_sig.specs.declared.named.Named.TheVariants.{Ping}
-use Rattle.law_moves.specs.Moves.{OnLeg}
 use Rattle.rh_shell.specs.Rules.{Message, Text, Pdu, Packet}
-use Rattle.law_moves.specs.Wires.{of_leg}
 use Rattle.rh_client.specs.State.{ci, co}
+use Rattle.law_moves.specs.Moves.{OnLeg}
+use Rattle.law_moves.specs.Wires.{of_leg}
 
 abbrev pub HasNoPingFirst : List Message → Type 0
 HasNoPingFirst [] = Unit {0}

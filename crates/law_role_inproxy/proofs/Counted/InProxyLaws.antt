@@ -4,18 +4,18 @@ use Rattle.rh_rts.specs.declared.command.Cookie.{Cookie}
 use Rattle.rh_sig.specs.declared.named.Named.{Named}
 use Rattle.rh_line.specs.declared.leg.Leg.{Leg}
 use Rattle.rh_line.specs.declared.leg.LegKind.TheVariants.{ClientIn}
-use Rattle.law_moves.specs.Moves.{Move, started, all_moved}
-use Rattle.law_moves.specs.Wires.{of_leg}
 use Rattle.rh_inproxy.specs.declared.state.Handover.{Handover}
 use Rattle.rh_inproxy.specs.declared.state.Handover.TheVariants.{Before, Came, Passed}
 use Rattle.rh_inproxy.specs.InReplacement.{has_passed}
 use Rattle.rh_inproxy.specs.declared.state.InProxyConfig.{InProxyConfig}
 use Rattle.rh_inproxy.specs.State.{first}
 use Rattle.rh_inproxy.specs.Machine.{rules as proxy_rules}
+use Rattle.law_moves.specs.Moves.{Move, started, all_moved}
+use Rattle.law_moves.specs.Wires.{of_leg}
 use Rattle.law_moves.specs.Passages.Passing.{count_of, of_kind}
 use Rattle.law_moves.specs.PacketKinds.{is_conn_b1, is_conn_b2, is_in_r1_a1, is_in_a2, is_in_r1_a5, is_in_r1_a6, is_out_r1_a7, is_out_r1_a8}
-use Rattle.law_role_inproxy.specs.Counted.{is_leg, PutsForWhatCame, HappensOnce}
 use Rattle.law_moves.proofs.PacketKinds.Counts.{count_none, none}
+use Rattle.law_role_inproxy.specs.Counted.{is_leg, PutsForWhatCame, HappensOnce}
 use Rattle.law_role_inproxy.proofs.Counted.InProxyOwes.{Leads}
 use Rattle.law_role_inproxy.proofs.Counted.InProxyPays.{handover_owes, in_proxy_owes, in_proxy_pays}
 use Rattle.law_role_inproxy.proofs.Counted.InProxyOnce.{in_proxy_opens_once}

@@ -1,14 +1,13 @@
 -- behind IN_R1/A6 an in proxy puts only Pings; so each message stands in its order
 use Rattle.std.proofs.Common.{◌≡◌, ℕ, ◌&&◌, ◌||◌, Bool, true, false, true≢false, not, List, [], ◌∷◌, ◌++◌, Some, None, refl, sym, ap, ◌∙◌, subst}
 use Rattle.std.specs.declared.option.Option.{Option}
-use Rattle.rh_sig.specs.declared.named.Named.TheVariants as named
 use Rattle.rh_window.specs.declared.recv_window.Ack.{Ack}
+use Rattle.law_order.proofs.ByNumber.{by_test}
+use Rattle.rh_sig.specs.declared.named.Named.TheVariants as named
 use Rattle.rh_line.specs.Lines as line
 use Rattle.rh_line.specs.declared.which.Which.TheVariants.{Current}
-use Rattle.law_order.proofs.ByNumber.{by_test}
 use Rattle.rh_shell.specs.declared.due.Due.{Due}
 use Rattle.rh_shell.specs.Rules.{Message, Packet}
-use Rattle.law_moves.specs.Moves.{OnLeg}
 use Rattle.rh_inproxy.specs.declared.state.Handover.{Handover}
 use Rattle.rh_inproxy.specs.declared.state.Handover.TheVariants as handovers
 use Rattle.rh_inproxy.specs.declared.state.InProxyConfig.{InProxyConfig}
@@ -25,6 +24,7 @@ use Rattle.rh_inproxy.specs.Passing.{next_pdu, put_pdu}
 use Rattle.rh_inproxy.specs.Putting.{next, waiting_by, put_waiting, put_control, put_early, put_stream, put_behind, put_mark}
 use Rattle.rh_inproxy.specs.State.{InProxy, has_a5, has_come, hands_over}
 use Rattle.rh_inproxy.specs.Time.{put_ping}
+use Rattle.law_moves.specs.Moves.{OnLeg}
 use Rattle.law_role_inproxy.proofs.Putting.Fronts.{ping_more}
 use Rattle.law_role_inproxy.proofs.Putting.Sounds.{seen, IsLeaving, IsQuiet, told, told_by, last, same_moves}
 use Rattle.law_role_inproxy.proofs.Putting.Tests.{neither, same_settled}

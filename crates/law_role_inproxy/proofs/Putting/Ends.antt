@@ -1,10 +1,10 @@
 -- behind END/A2 an in proxy puts neither an RPC PDU nor END/A2
 use Rattle.std.proofs.Common.{ℕ, ◌==◌, Bool, true, false, if◌then◌else◌, List, [], ◌∷◌, ◌++◌, sym, subst}
 use Rattle.std.specs.List.{AllByRecursion}
+use Rattle.law_order.specs.Items.{Item, Piece, Stop, Handover, IsBehindEnd, IsChannel}
 use Rattle.rh_sig.specs.declared.named.Named.TheVariants as named
 use Rattle.rh_line.specs.declared.leg.LegKind.{LegKind}
 use Rattle.rh_line.specs.declared.leg.LegKind.TheVariants.{ClientOut, OutServer, ClientIn, InServer}
-use Rattle.law_order.specs.Items.{Item, Piece, Stop, Handover, IsBehindEnd, IsChannel}
 use Rattle.rh_shell.specs.Rules.{Message, Text, Pdu, Packet}
 use Rattle.law_moves.specs.Moves.{OnLeg}
 use Rattle.law_moves.specs.Wires.{of_leg}

@@ -4,11 +4,11 @@ use Rattle.std.specs.declared.option.Option.{Option}
 use Rattle.rh_sig.specs.declared.named.Named.{Named}
 use Rattle.rh_sig.specs.declared.named.Named.TheVariants as named
 use Rattle.rh_shell.specs.Rules.{Message, Text, Pdu, Packet}
+use Rattle.rh_inproxy.specs.declared.state.InProxyConfig.{InProxyConfig}
 use Rattle.law_moves.specs.Moves.{OnLeg}
 use Rattle.law_moves.specs.Wires.{of_leg}
 use Rattle.law_moves.specs.Passages.Passing.{BeginsIn, HasOne}
 use Rattle.law_moves.proofs.Passages.Messages.{all_append, leg_more, one_more_so}
-use Rattle.rh_inproxy.specs.declared.state.InProxyConfig.{InProxyConfig}
 use Rattle.law_role_inproxy.specs.Putting.Puts.{ci, CameOn, CameFirst, IsFront, Acknowledges, Joins, Leaves, Switches, Connects, Replaces, IsFirst, IsPlainPacket, IsPlain, IsPing, HasPdu, IsRest, IsStream}
 
 -- the last ci leg that the server was told, until IN_R1/A6

@@ -2,18 +2,17 @@
 use Rattle.std.proofs.Common.{◌≡◌, ℕ, suc, ◌-◌, ◌≤◌, ◌==◌, ◌&&◌, Bool, true, false, not, if◌then◌else◌, List, [], ◌∷◌, ◌++◌, length, Some, None, inl, refl, sym, ap, ◌∙◌, subst, arith}
 use Rattle.std.proofs.lemmas.Bool.{and_parts}
 use Rattle.std.specs.declared.option.Option.{Option}
-use Rattle.rh_rts.specs.declared.command.Cookie.{Cookie}
-use Rattle.rh_sig.specs.declared.named.Named.TheVariants as named
 use Rattle.rh_window.specs.Sending.{may_send, after_sent}
 use Rattle.rh_window.specs.Sides.{Sender}
 use Rattle.rh_window.specs.declared.recv_window.Ack.{Ack}
+use Rattle.law_order.proofs.ByNumber.{by_test}
+use Rattle.rh_rts.specs.declared.command.Cookie.{Cookie}
+use Rattle.rh_sig.specs.declared.named.Named.TheVariants as named
 use Rattle.rh_line.specs.Lines as line
 use Rattle.rh_line.specs.declared.which.Which.{Which}
 use Rattle.rh_line.specs.declared.which.Which.TheVariants.{Current, Next}
-use Rattle.law_order.proofs.ByNumber.{by_test}
 use Rattle.rh_shell.specs.declared.due.Due.{Due}
 use Rattle.rh_shell.specs.Rules.{Message, Pdu, Packet}
-use Rattle.law_moves.specs.Moves.{OnLeg}
 use Rattle.rh_shell.specs.Waiting as waiting
 use Rattle.rh_inproxy.specs.declared.state.ClientLeg.{ClientLeg}
 use Rattle.rh_inproxy.specs.declared.state.Handover.{Handover}
@@ -33,6 +32,7 @@ use Rattle.rh_inproxy.specs.Passing.{next_pdu, passed, put_pdu}
 use Rattle.rh_inproxy.specs.Putting.{next, waiting_by, put_waiting, put_control, put_early, put_stream, put_behind, put_mark}
 use Rattle.rh_inproxy.specs.State.{InProxy, followed}
 use Rattle.rh_inproxy.specs.Time.{put_ping}
+use Rattle.law_moves.specs.Moves.{OnLeg}
 use Rattle.law_moves.specs.Passages.Passing.{BeginsIn}
 use Rattle.law_role_inproxy.specs.Putting.Puts.{Came, IsPlain}
 use Rattle.law_role_inproxy.proofs.Putting.Fronts.{plain_first, more_at}

@@ -1,8 +1,8 @@
 -- what is so of each message that an in proxy may put, kind by kind, is so of the one that it puts
 use Rattle.std.proofs.Common.{ℕ, if◌then◌else◌, Some, None}
 use Rattle.std.specs.Prelude.{IfSome}
-use Rattle.rh_line.specs.declared.leg.Leg.{Leg}
 use Rattle.law_order.proofs.ByNumber.{by_test}
+use Rattle.rh_line.specs.declared.leg.Leg.{Leg}
 use Rattle.rh_shell.specs.Rules.{Message}
 use Rattle.rh_inproxy.specs.Acknowledging.{current_ack, next_ack, put_acks}
 use Rattle.rh_inproxy.specs.Answers.{Pick, or_else}

@@ -3,30 +3,27 @@ use Rattle.std.proofs.Common.{◌≡◌, ℕ, suc, ◌==◌, ◌&&◌, ◌||◌,
 use Rattle.std.proofs.lemmas.Bool.{and_parts}
 use Rattle.std.specs.declared.option.Option.{Option}
 use Rattle.std.specs.Prelude.{is_ok}
+use Rattle.std.specs.declared.result.Result.{Result}
+use Rattle.rh_window.specs.Receiving as windows
+use Rattle.law_order.proofs.ByNumber.{by_test, same_number}
 use Rattle.rh_rts.specs.declared.command.Cookie.{Cookie}
 use Rattle.rh_sig.specs.declared.named.Named.{Named}
 use Rattle.rh_sig.specs.declared.named.Named.TheVariants as named
-use Rattle.std.specs.declared.result.Result.{Result}
-use Rattle.rh_window.specs.Receiving as windows
 use Rattle.rh_line.specs.Lines as line
 use Rattle.rh_line.specs.Lines.{Incoming}
 use Rattle.rh_line.specs.declared.line_fault.LineFault.{LineFault}
 use Rattle.rh_line.specs.declared.line_fault.LineFault.TheVariants.{Window, Over}
-use Rattle.law_moves.specs.Wires.{of_leg}
-use Rattle.law_moves.proofs.Passages.Messages.{all_append}
-use Rattle.rh_inproxy.specs.Passing as passing
-use Rattle.rh_inproxy.specs.Machine as machine
 use Rattle.rh_line.specs.declared.leg.Leg.{Leg}
 use Rattle.rh_line.specs.declared.which.Which.{Which}
 use Rattle.rh_line.specs.declared.which.Which.TheVariants.{Current, Next}
-use Rattle.law_order.proofs.ByNumber.{by_test, same_number}
 use Rattle.rh_shell.specs.declared.answers.Count.{Count}
 use Rattle.rh_shell.specs.declared.answers.Refused.{Refused}
 use Rattle.rh_shell.specs.declared.answers.Refused.TheVariants as refused
 use Rattle.rh_shell.specs.declared.due.Due.{Due}
 use Rattle.rh_shell.specs.declared.due.Origin.TheVariants.{Forwarded}
 use Rattle.rh_shell.specs.Waiting as waiting
-use Rattle.law_moves.specs.Moves.{OnLeg}
+use Rattle.rh_inproxy.specs.Passing as passing
+use Rattle.rh_inproxy.specs.Machine as machine
 use Rattle.rh_inproxy.specs.declared.state.ClientLeg.{ClientLeg}
 use Rattle.rh_inproxy.specs.declared.state.Handover.TheVariants as handovers
 use Rattle.rh_inproxy.specs.declared.state.InProxyConfig.{InProxyConfig}
@@ -46,6 +43,9 @@ use Rattle.rh_inproxy.specs.Time.{on_keep_alive}
 use Rattle.rh_inproxy.specs.Machine.{pdu, packet, on_channel, on_channel_by, on_ci, on_is}
 use Rattle.rh_inproxy.specs.declared.opening.TheConstants.{KEEPALIVE}
 use Rattle.rh_inproxy.specs.declared.state.Entry.TheVariants.{Connects, Replaces}
+use Rattle.law_moves.specs.Wires.{of_leg}
+use Rattle.law_moves.proofs.Passages.Messages.{all_append}
+use Rattle.law_moves.specs.Moves.{OnLeg}
 use Rattle.law_moves.specs.Passages.Passing.{BeginsIn}
 use Rattle.law_role_inproxy.specs.Putting.Puts as puts
 use Rattle.law_role_inproxy.specs.Putting.Puts.{CameOn, CameFirst, HasPdu, Joins, Leaves, Switches, Acknowledges, IsPlainPacket}

@@ -1,20 +1,15 @@
 -- an in proxy puts an RPC PDU on its is leg only where the server told its window there
 use Rattle.std.proofs.Common.{◌⊎◌, ℕ, ◌+◌, ◌≤◌, ◌&&◌, Bool, true, false, inl, inr, if◌then◌else◌, List, [], ◌∷◌, ◌++◌, length, Some, None, Ok, Err, refl, sym, ap, ◌∙◌, subst, arith}
+use Rattle.law_order.proofs.ByNumber.{by_test, same_number, test_same}
 use Rattle.rh_pdu.specs.Frames.{IsPdu}
 use Rattle.rh_sig.specs.declared.named.Named.{Named}
 use Rattle.rh_sig.specs.declared.named.Named.TheVariants as named
 use Rattle.rh_line.specs.declared.leg.Leg.{Leg}
 use Rattle.rh_line.specs.declared.leg.LegKind.{LegKind}
 use Rattle.rh_line.specs.declared.leg.LegKind.TheVariants.{ClientOut, OutServer, ClientIn, InServer}
-use Rattle.law_order.proofs.ByNumber.{by_test, same_number, test_same}
-use Rattle.law_moves.specs.Passages.Passing.{count_of}
-use Rattle.law_moves.proofs.Passages.Logs.{RowKeeps, PutKeeps}
-use Rattle.law_moves.proofs.Passages.Messages.{count_append, count_rises, leg_more}
 use Rattle.rh_shell.specs.declared.answers.Count.{Count}
 use Rattle.rh_shell.specs.Rules.{Message, Pdu, Packet}
-use Rattle.law_moves.specs.Moves.{OnLeg, Move, Up, HeadCame, PduCame, PacketCame, Puts, IsDrawn, Marks, Pings, MayMove, AreAllowed, Passage, started, moved, all_moved, taken_by, put_by}
 use Rattle.rh_shell.specs.Shells.{same_leg}
-use Rattle.law_moves.specs.Wires.{of_leg}
 use Rattle.rh_inproxy.specs.declared.state.InProxyConfig.{InProxyConfig}
 use Rattle.rh_inproxy.specs.Answers.{Done, Pick, unexpected}
 use Rattle.rh_inproxy.specs.Acknowledging.{on_ack}
@@ -26,6 +21,11 @@ use Rattle.rh_inproxy.specs.State.{InProxy, first, is_server_leg}
 use Rattle.rh_inproxy.specs.Time.{ping}
 use Rattle.rh_inproxy.specs.Machine.{on_ci, on_is, packet, pdu}
 use Rattle.rh_inproxy.specs.Machine.{rules as proxy_rules}
+use Rattle.law_moves.specs.Passages.Passing.{count_of}
+use Rattle.law_moves.proofs.Passages.Logs.{RowKeeps, PutKeeps}
+use Rattle.law_moves.proofs.Passages.Messages.{count_append, count_rises, leg_more}
+use Rattle.law_moves.specs.Moves.{OnLeg, Move, Up, HeadCame, PduCame, PacketCame, Puts, IsDrawn, Marks, Pings, MayMove, AreAllowed, Passage, started, moved, all_moved, taken_by, put_by}
+use Rattle.law_moves.specs.Wires.{of_leg}
 use Rattle.law_role_inproxy.specs.Putting.Puts.{ci, is_leg, HasPdu}
 use Rattle.law_role_inproxy.specs.Putting.Standing.{is_conn_b3, is_in_r1_b2, SendsWhereTold}
 use Rattle.law_role_inproxy.proofs.Putting.Laws.{more_by}

@@ -2,18 +2,13 @@
 use Rattle.std.proofs.Common.{◌≡◌, ℕ, suc, ◌&&◌, Bool, true, false, true≢false, not, List, [], ◌∷◌, ◌++◌, Some, None, refl, sym, ap, ◌∙◌, subst, rules}
 use Rattle.std.proofs.lemmas.Bool.{and_parts}
 use Rattle.std.specs.declared.option.Option.{Option}
+use Rattle.std.specs.List.{AllByRecursion}
+use Rattle.law_order.proofs.ByNumber.{by_test}
 use Rattle.rh_sig.specs.declared.named.Named.{Named}
 use Rattle.rh_line.specs.Lines as line
 use Rattle.rh_line.specs.Lines.{Line}
-use Rattle.law_order.proofs.ByNumber.{by_test}
 use Rattle.rh_shell.specs.declared.due.Due.{Due}
 use Rattle.rh_shell.specs.Waiting.{Waiting}
-use Rattle.law_moves.specs.Moves.{OnLeg}
-use Rattle.law_moves.specs.Wires.{of_leg}
-use Rattle.law_moves.specs.Passages.Passing.{BeginsIn}
-use Rattle.law_moves.proofs.Passages.Messages.{one_so}
-use Rattle.std.specs.List.{AllByRecursion}
-use Rattle.law_moves.proofs.Passages.Messages.{each_so}
 use Rattle.rh_inproxy.specs.declared.state.ClientLeg.{ClientLeg}
 use Rattle.rh_inproxy.specs.declared.state.Entry.{Entry}
 use Rattle.rh_inproxy.specs.declared.state.Entry.TheVariants.{Connects, Replaces}
@@ -29,6 +24,11 @@ use Rattle.rh_inproxy.specs.declared.state.Successor.TheVariants.{Absent, Up, Jo
 use Rattle.rh_inproxy.specs.Ending.{is_announced, is_succeeded}
 use Rattle.rh_inproxy.specs.Opening.{is_absent}
 use Rattle.rh_inproxy.specs.State.{InProxy, has_opened, is_joined, follows, followed}
+use Rattle.law_moves.specs.Moves.{OnLeg}
+use Rattle.law_moves.specs.Wires.{of_leg}
+use Rattle.law_moves.specs.Passages.Passing.{BeginsIn}
+use Rattle.law_moves.proofs.Passages.Messages.{one_so}
+use Rattle.law_moves.proofs.Passages.Messages.{each_so}
 use Rattle.law_role_inproxy.specs.Putting.Puts as puts
 use Rattle.law_role_inproxy.specs.Putting.Puts.{CameOn, CameFirst, HasPdu, Joins, Leaves, IsPlainPacket}
 use Rattle.law_role_inproxy.proofs.Putting.Fronts.{came_stays, first_stays_first, packet_stays, pdu_stays}

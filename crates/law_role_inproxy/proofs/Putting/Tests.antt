@@ -1,13 +1,12 @@
 -- what leaves the facts of an in proxy alone, and what tests tell of them
 use Rattle.std.proofs.Common.{◌≡◌, ℕ, suc, ◌&&◌, ◌||◌, Bool, true, false, not, if◌then◌else◌, List, refl, ◌∙◌, rules}
+use Rattle.law_order.proofs.ByNumber.{by_test}
 use Rattle.rh_rts.specs.declared.command.Cookie.{Cookie}
 use Rattle.rh_sig.specs.declared.named.Named.{Named}
 use Rattle.rh_sig.specs.declared.named.Named.TheVariants as named
 use Rattle.rh_line.specs.declared.leg.Leg.{Leg}
 use Rattle.rh_line.specs.declared.which.Which.{Which}
-use Rattle.law_order.proofs.ByNumber.{by_test}
 use Rattle.rh_shell.specs.declared.due.Due.{Due}
-use Rattle.law_moves.specs.Moves.{OnLeg}
 use Rattle.rh_inproxy.specs.declared.state.ClientLeg.{ClientLeg}
 use Rattle.rh_inproxy.specs.declared.state.Handover.{Handover}
 use Rattle.rh_inproxy.specs.declared.state.Handover.TheVariants as handovers
@@ -24,6 +23,7 @@ use Rattle.rh_inproxy.specs.Opening.{head, drawn, is_absent, awaits_packet, on_c
 use Rattle.rh_inproxy.specs.State.{InProxy, has_come, has_opened, hands_over, is_joined}
 use Rattle.rh_inproxy.specs.Time.{on_keep_alive, ping}
 use Rattle.rh_inproxy.specs.Machine.{on_is}
+use Rattle.law_moves.specs.Moves.{OnLeg}
 use Rattle.law_role_inproxy.specs.Putting.Puts.{CameOn, Leaves}
 use Rattle.law_role_inproxy.proofs.Putting.Sounds.{Same, IsOpening, IsLeaving, IsQuiet, told_by}
 

@@ -2,12 +2,12 @@
 use Rattle.std.proofs.Common.{◌≡◌, Bool, true, false, nat_lt, List, [], ◌∷◌, refl}
 use Rattle.std.specs.Prelude.{if◌then◌else◌}
 use Rattle.std.specs.List.{AllByRecursion, list_any}
-use Rattle.rh_sig.specs.declared.named.Named.{Named}
 use Rattle.law_order.proofs.ByNumber.{by_test}
-use Rattle.law_moves.proofs.Passages.Messages.{all_append}
+use Rattle.rh_sig.specs.declared.named.Named.{Named}
 use Rattle.rh_shell.specs.declared.due.Due.{Due}
 use Rattle.rh_shell.specs.declared.due.Origin.TheVariants.{Forwarded}
 use Rattle.rh_shell.specs.Waiting.{Waiting, better, edge_of, merged, takes, with_due, pushed, to_forward, count, forwarded}
+use Rattle.law_moves.proofs.Passages.Messages.{all_append}
 
 module _ (P : Named → Type 0) where
   abbrev pub EachIs : List Due → Type 0

@@ -5,13 +5,14 @@ use Rattle.std.specs.List.{AllByRecursion}
 use Rattle.std.specs.Prelude.{IfSome, is_ok, nat_le}
 use Rattle.std.specs.declared.option.Option.{Option}
 use Rattle.std.specs.declared.result.Result.{Result}
-use Rattle.rh_rts.specs.declared.command.Cookie.{Cookie}
-use Rattle.rh_sig.specs.declared.named.Named.{Named}
-use Rattle.rh_sig.specs.declared.named.Named.TheVariants as named
 use Rattle.rh_window.specs.declared.fault.BadAck.{BadAck}
 use Rattle.rh_window.specs.declared.recv_window.Ack.{Ack}
 use Rattle.rh_window.specs.Sending.{ack_verdict, after_acked, may_send, unsent}
 use Rattle.rh_window.specs.Sides.{Sender}
+use Rattle.law_order.proofs.ByNumber.{by_test}
+use Rattle.rh_rts.specs.declared.command.Cookie.{Cookie}
+use Rattle.rh_sig.specs.declared.named.Named.{Named}
+use Rattle.rh_sig.specs.declared.named.Named.TheVariants as named
 use Rattle.rh_line.specs.declared.leg.Leg.{Leg}
 use Rattle.rh_line.specs.declared.line_fault.LineFault.{LineFault}
 use Rattle.rh_line.specs.declared.line_fault.LineFault.TheVariants.{Window, Over}
@@ -19,8 +20,6 @@ use Rattle.rh_line.specs.declared.which.Which.{Which}
 use Rattle.rh_line.specs.declared.which.Which.TheVariants.{Current, Next}
 use Rattle.rh_line.specs.Lines as line
 use Rattle.rh_line.specs.Lines.{Incoming, Line}
-use Rattle.law_order.proofs.ByNumber.{by_test}
-use Rattle.law_moves.proofs.Passages.Messages.{all_append}
 use Rattle.rh_shell.specs.declared.answers.Count.{Count}
 use Rattle.rh_shell.specs.declared.due.Due.{Due}
 use Rattle.rh_shell.specs.Rules.{Message, Text, Pdu, Packet}
@@ -44,6 +43,7 @@ use Rattle.rh_inproxy.specs.Putting.{put as put_of, put_waiting, waiting_by}
 use Rattle.rh_inproxy.specs.State.{InProxy, channel_of, has_a5, is_client_leg, same_cookie}
 use Rattle.rh_inproxy.specs.Time.{on_keep_alive, ping, put_ping}
 use Rattle.rh_inproxy.specs.Machine.{on_channel_by, on_ci, pdu, pdu_by}
+use Rattle.law_moves.proofs.Passages.Messages.{all_append}
 use Rattle.law_role_inproxy.proofs.Putting.Picks.{put_so}
 
 -- what the facts are about

@@ -2,20 +2,20 @@
 use Rattle.std.proofs.Common.{◌≡◌, ℕ, suc, zero, ◌<◌, ◌≤◌, ◌==◌, ◌&&◌, Bool, true, false, nat_eq, if◌then◌else◌, List, [], ◌∷◌, ◌++◌, inl, inr, refl, sym, ap, subst, ◌∙◌, arith}
 use Rattle.std.specs.Prelude.{◌⊎◌}
 use Rattle.std.proofs.lemmas.Bool.{or_cases}
-use Rattle.rh_sig.specs.declared.named.Named.{Named}
-use Rattle.rh_sig.specs.declared.named.Named.TheVariants as named
-use Rattle.rh_line.specs.Lines.{is_empty}
 use Rattle.law_order.specs.Items.{Item, pdus, has_end, has_handover}
 use Rattle.law_order.specs.Logs as logs
 use Rattle.law_order.proofs.ByNumber.{same_number, other_number, test_same, test_other}
 use Rattle.law_order.proofs.ItemLists.{has_end-append}
-use Rattle.law_moves.specs.Moves.{OnLeg}
+use Rattle.rh_sig.specs.declared.named.Named.{Named}
+use Rattle.rh_sig.specs.declared.named.Named.TheVariants as named
+use Rattle.rh_line.specs.Lines.{is_empty}
 use Rattle.rh_shell.specs.Rules.{Message, Text, Pdu, Packet}
 use Rattle.rh_shell.specs.Shells.{kind_number, same_leg}
+use Rattle.law_moves.specs.Moves.{OnLeg}
 use Rattle.law_moves.specs.Wires.{of_leg}
-use Rattle.law_role_inproxy.specs.Order.{came_log, is_on, item_came}
 use Rattle.law_moves.specs.Passages.Passing.{Has, count_of}
 use Rattle.law_moves.specs.PacketKinds.{is_in_r1_a5}
+use Rattle.law_role_inproxy.specs.Order.{came_log, is_on, item_came}
 use Rattle.law_role_inproxy.specs.Refusing.{HasPduIn, ci_leg}
 
 -- ---- of a log

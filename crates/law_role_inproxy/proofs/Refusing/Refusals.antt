@@ -5,12 +5,13 @@ use Rattle.std.proofs.lemmas.Bool.Decides.{nat_tests}
 use Rattle.std.specs.Prelude.{◌⊎◌}
 use Rattle.std.specs.declared.option.Option.{Option}
 use Rattle.std.specs.declared.result.Result.{Result}
-use Rattle.rh_rts.specs.declared.command.Cookie.{Cookie}
-use Rattle.rh_sig.specs.declared.named.Named.{Named}
-use Rattle.rh_sig.specs.declared.named.Named.TheVariants as named
 use Rattle.rh_window.specs.declared.fault.WindowExceeded.{WindowExceeded}
 use Rattle.rh_window.specs.Receiving as windows
 use Rattle.rh_window.specs.Sending.{ack_verdict, after_acked}
+use Rattle.law_order.proofs.ByNumber.{by_test, other_number}
+use Rattle.rh_rts.specs.declared.command.Cookie.{Cookie}
+use Rattle.rh_sig.specs.declared.named.Named.{Named}
+use Rattle.rh_sig.specs.declared.named.Named.TheVariants as named
 use Rattle.rh_line.specs.Lines as line
 use Rattle.rh_line.specs.declared.line_fault.LineFault.{LineFault}
 use Rattle.rh_line.specs.declared.line_fault.LineFault.TheVariants.{Over}
@@ -18,12 +19,9 @@ use Rattle.rh_line.specs.declared.leg.Leg.{Leg}
 use Rattle.rh_line.specs.declared.leg.LegKind.TheVariants.{ClientIn}
 use Rattle.rh_line.specs.declared.which.Which.{Which}
 use Rattle.rh_line.specs.declared.which.Which.TheVariants.{Current, Next}
-use Rattle.law_order.proofs.ByNumber.{by_test, other_number}
 use Rattle.rh_shell.specs.declared.answers.Count.{Count}
 use Rattle.rh_shell.specs.declared.answers.Refused.TheVariants as refused
-use Rattle.law_moves.specs.Moves.{Passage, is_in_use}
 use Rattle.rh_shell.specs.Shells.{one_if}
-use Rattle.law_moves.specs.Wires.{of_leg}
 use Rattle.rh_inproxy.specs.declared.state.Joining.TheVariants.{TellsServer, Told, Follows}
 use Rattle.rh_inproxy.specs.declared.state.Opener.{Opener}
 use Rattle.rh_inproxy.specs.declared.state.Opening.{Opening}
@@ -41,11 +39,13 @@ use Rattle.rh_inproxy.specs.Passing.{pdu_by}
 use Rattle.rh_inproxy.specs.State.{InProxy, channel_of, hands_over, has_a5, is_client_leg, is_server_leg, same_cookie}
 use Rattle.rh_inproxy.specs.Machine.{on_channel, on_channel_by, on_ci, on_is, packet, pdu, rules}
 use Rattle.rh_inproxy.specs.Machine.{pdu_by as machine_pdu_by}
+use Rattle.law_moves.specs.Moves.{Passage, is_in_use}
+use Rattle.law_moves.specs.Wires.{of_leg}
 use Rattle.law_moves.specs.Passages.Passing.{BeginsIn, Has, HasBegunIn, HasOne, count_of}
 use Rattle.law_moves.proofs.Passages.Messages.{one_so}
-use Rattle.law_role_inproxy.specs.Counted.{is_leg}
 use Rattle.law_moves.proofs.PacketKinds.Counts.{leg_is}
 use Rattle.law_moves.specs.PacketKinds.{is_in_r1_a6, opens_server}
+use Rattle.law_role_inproxy.specs.Counted.{is_leg}
 use Rattle.law_role_inproxy.specs.Refusing.{HasPacket, HasPdu, IsEnded, IsLeft, IsNew, IsUntold, is_in_r2_a2, Mismatch, NamesConnection, RefusesFor, Unexpected, UnexpectedOnClient, UnexpectedOnServer, UnexpectedPdu, UnexpectedPduBy, ci_leg}
 use Rattle.law_role_inproxy.proofs.Refusing.Legs.{All, IsBehind, Joins, Opened, Opens, Starts, bound, client_is, last, plain, seen}
 use Rattle.law_role_inproxy.proofs.Refusing.Steps.{newcomer_is}

@@ -4,17 +4,15 @@ use Rattle.std.proofs.lemmas.Bool.{eqb-true}
 use Rattle.std.proofs.lemmas.Bool.Decides.{nat_tests}
 use Rattle.std.specs.Prelude.{◌⊎◌}
 use Rattle.std.specs.declared.option.Option.{Option}
+use Rattle.law_order.proofs.ByNumber.{by_test}
 use Rattle.rh_rts.specs.declared.command.Cookie.{Cookie}
 use Rattle.rh_sig.specs.declared.named.Named.{Named}
 use Rattle.rh_line.specs.Lines as line
 use Rattle.rh_line.specs.declared.leg.Leg.{Leg}
 use Rattle.rh_line.specs.declared.leg.LegKind.TheVariants.{ClientIn}
 use Rattle.rh_line.specs.declared.which.Which.{Which}
-use Rattle.law_order.proofs.ByNumber.{by_test}
 use Rattle.rh_shell.specs.declared.answers.Count.{Count}
-use Rattle.law_moves.specs.Moves.{OnLeg}
 use Rattle.rh_shell.specs.Rules.{Packet}
-use Rattle.law_moves.specs.Wires.{of_leg}
 use Rattle.rh_inproxy.specs.declared.state.ClientLeg.{ClientLeg}
 use Rattle.rh_inproxy.specs.declared.state.Edge.{Edge}
 use Rattle.rh_inproxy.specs.declared.state.Joining.TheVariants.{Told}
@@ -32,11 +30,13 @@ use Rattle.rh_inproxy.specs.OutReplacement.{on_out_r1_a7}
 use Rattle.rh_inproxy.specs.State.{InProxy, follows, has_opened, is_joined}
 use Rattle.rh_inproxy.specs.Time.{on_keep_alive, ping}
 use Rattle.rh_inproxy.specs.Machine.{pdu}
+use Rattle.law_moves.specs.Moves.{OnLeg}
+use Rattle.law_moves.specs.Wires.{of_leg}
 use Rattle.law_moves.specs.Passages.Passing.{BeginsIn, HasOne, HasBegunIn, count_of}
 use Rattle.law_moves.specs.Passages.Counted.{packets, is_any}
-use Rattle.law_role_inproxy.specs.Counted.{is_leg}
 use Rattle.law_moves.specs.PacketKinds.{is_conn_b1, is_in_r1_a1, opens_server}
 use Rattle.law_moves.proofs.PacketKinds.Counts.{leg_at_most, leg_rises, leg_here, kind_at_most}
+use Rattle.law_role_inproxy.specs.Counted.{is_leg}
 use Rattle.law_role_inproxy.specs.Refusing.{any, ci_leg}
 use Rattle.law_role_inproxy.proofs.Refusing.Legs.{All, Opens, Opened, Same, Seen, Starts, bound, leg_sum, on_client, one_last, opened_more, plain, seen}
 

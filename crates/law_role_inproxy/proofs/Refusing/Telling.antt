@@ -4,24 +4,22 @@ use Rattle.std.proofs.lemmas.Bool.{and_parts}
 use Rattle.std.proofs.lemmas.Bool.Decides.{nat_tests}
 use Rattle.std.specs.Prelude.{IfSome}
 use Rattle.std.specs.declared.option.Option.{Option}
+use Rattle.rh_window.specs.Sending.{may_send}
+use Rattle.rh_window.specs.declared.recv_window.Ack.{Ack}
+use Rattle.law_order.proofs.ByNumber.{by_test}
 use Rattle.rh_rts.specs.declared.command.Cookie.{Cookie}
 use Rattle.rh_sig.specs.declared.named.Named.{Named}
 use Rattle.rh_sig.specs.declared.named.Named.TheVariants as named
-use Rattle.rh_window.specs.Sending.{may_send}
-use Rattle.rh_window.specs.declared.recv_window.Ack.{Ack}
 use Rattle.rh_line.specs.Lines as line
 use Rattle.rh_line.specs.declared.leg.Leg.{Leg}
 use Rattle.rh_line.specs.declared.which.Which.{Which}
 use Rattle.rh_line.specs.declared.which.Which.TheVariants.{Current, Next}
-use Rattle.law_order.proofs.ByNumber.{by_test}
 use Rattle.rh_shell.specs.declared.answers.Count.{Count}
 use Rattle.rh_shell.specs.declared.answers.Refused.TheVariants as refused
 use Rattle.rh_shell.specs.declared.due.Due.{Due}
-use Rattle.law_moves.specs.Moves.{OnLeg, Move, started, all_moved}
 use Rattle.rh_shell.specs.Rules.{Message, Pdu, Packet}
 use Rattle.rh_shell.specs.Shells.{one_if}
 use Rattle.rh_shell.specs.Waiting as waiting
-use Rattle.law_moves.specs.Wires.{of_leg}
 use Rattle.rh_inproxy.specs.declared.state.Entry.{Entry}
 use Rattle.rh_inproxy.specs.declared.state.Entry.TheVariants.{Connects, Replaces}
 use Rattle.rh_inproxy.specs.declared.state.InProxyConfig.{InProxyConfig}
@@ -42,11 +40,13 @@ use Rattle.rh_inproxy.specs.State.{InProxy, first, channel_of, has_a5, is_client
 use Rattle.rh_inproxy.specs.Time.{on_keep_alive, ping, put_ping}
 use Rattle.rh_inproxy.specs.Machine.{pdu, packet, on_channel, on_channel_by, on_ci, on_is}
 use Rattle.rh_inproxy.specs.Machine.{rules as proxy_rules}
+use Rattle.law_moves.specs.Moves.{OnLeg, Move, started, all_moved}
+use Rattle.law_moves.specs.Wires.{of_leg}
 use Rattle.law_moves.specs.Passages.Passing.{count_of}
 use Rattle.law_moves.proofs.Passages.Logs.{RowKeeps, PutKeeps, StepsKeep, moves_keep}
-use Rattle.law_role_inproxy.specs.Counted.{is_leg}
 use Rattle.law_moves.proofs.PacketKinds.Counts.{leg_at_most, one_counts}
 use Rattle.law_moves.proofs.PacketKinds.Waits.{IsSame, waits, forwarded_waits, refused_waits}
+use Rattle.law_role_inproxy.specs.Counted.{is_leg}
 use Rattle.law_role_inproxy.specs.Refusing.{is_in_r2_a2}
 use Rattle.law_role_inproxy.proofs.Refusing.Steps.{absent_is, newcomer_is}
 use Rattle.law_role_inproxy.proofs.Refusing.Told.{Behind, IsTold, Same, Seen, Tells, no_ack, same_conn_b1, same_drawn, same_end, same_head, same_is, same_keep_alive, same_mark, same_pdu, same_ping, same_settled, seen, settles, stays, told}

@@ -4,18 +4,18 @@ use Rattle.std.specs.Prelude.{ℕ, suc, ◌≡◌, ◌≤◌, ◌⊎◌, List, [
 use Rattle.std.specs.List.{AllByRecursion}
 use Rattle.rh_rts.specs.declared.command.Cookie.{Cookie}
 use Rattle.rh_rts.specs.declared.command.TheConstants.{TO_CLIENT, TO_OUT_PROXY, TO_SERVER}
-use Rattle.rh_sig.specs.declared.ranges.TheConstants.{PROTOCOL_VERSION}
 use Rattle.rh_rts.specs.declared.command.Address4or16.TheVariants.{V4}
+use Rattle.rh_sig.specs.declared.ranges.TheConstants.{PROTOCOL_VERSION}
 use Rattle.rh_sig.specs.declared.named.Named.{Named}
 use Rattle.rh_sig.specs.declared.named.Named.TheVariants.{ConnB1, ConnB2, InR1A1, InR1A2, InR1A5, InR1A6, InR2A2, OutR1A7, OutR1A8, EndA2, AckTo, Ping}
 use Rattle.rh_line.specs.declared.leg.Leg.{Leg}
 use Rattle.rh_line.specs.declared.leg.LegKind.TheVariants.{ClientIn, InServer}
 use Rattle.rh_shell.specs.Rules.{Rules, Message, Text, Pdu, Packet}
+use Rattle.rh_inproxy.specs.declared.state.InProxyConfig.{InProxyConfig}
+use Rattle.rh_inproxy.specs.State.{InProxy}
 use Rattle.law_moves.specs.Moves.{OnLeg, Move, Puts, Passage, moved}
 use Rattle.law_moves.specs.Wires.{of_leg}
 use Rattle.law_moves.specs.Passages.Passing.{BeginsIn, HasOne}
-use Rattle.rh_inproxy.specs.declared.state.InProxyConfig.{InProxyConfig}
-use Rattle.rh_inproxy.specs.State.{InProxy}
 
 -- ---- what came
 

@@ -5,11 +5,11 @@ use Rattle.std.specs.List.{AllByRecursion}
 use Rattle.rh_sig.specs.declared.named.Named.{Named}
 use Rattle.rh_sig.specs.declared.named.Named.TheVariants.{ConnB3, InR1B2, EndA2}
 use Rattle.rh_shell.specs.Rules.{Message, Text, Pdu, Packet}
+use Rattle.rh_inproxy.specs.declared.state.InProxyConfig.{InProxyConfig}
+use Rattle.rh_inproxy.specs.State.{InProxy}
 use Rattle.law_moves.specs.Moves.{Passage}
 use Rattle.law_moves.specs.Wires.{of_leg}
 use Rattle.law_moves.specs.Passages.Passing.{count_of}
-use Rattle.rh_inproxy.specs.declared.state.InProxyConfig.{InProxyConfig}
-use Rattle.rh_inproxy.specs.State.{InProxy}
 use Rattle.law_role_inproxy.specs.Putting.Puts.{is_leg, HasPdu}
 
 -- ---- the window of the server

@@ -2,17 +2,17 @@
 use Rattle.std.proofs.Common.{true, false, ◌≤◌, Bool, List, refl, arith}
 use Rattle.rh_sig.specs.declared.named.Named.{Named}
 use Rattle.rh_line.specs.declared.leg.Leg.{Leg}
-use Rattle.law_moves.specs.Moves.{Move, AreAllowed, started, all_moved}
-use Rattle.law_moves.specs.Wires.{of_leg}
 use Rattle.rh_outproxy.specs.declared.state.OutProxyConfig.{OutProxyConfig}
 use Rattle.rh_outproxy.specs.OutProxy.{new_proxy}
 use Rattle.rh_outproxy.specs.Machine.{rules}
+use Rattle.law_moves.specs.Moves.{Move, AreAllowed, started, all_moved}
+use Rattle.law_moves.specs.Wires.{of_leg}
 use Rattle.law_moves.specs.Passages.Passing.{count_of}
 use Rattle.law_moves.specs.PacketKinds.{is_conn_a1, is_conn_a2, is_conn_a3, is_conn_c1, is_conn_c2, is_in_r1_a3, is_in_r1_a4, is_in_r2_a3, is_in_r2_a4, is_out_r1_a1, is_out_r1_a2, is_out_r1_a3, is_out_r1_a4, is_out_r1_a5, is_out_r1_a6, is_out_r1_a9, is_out_r1_a10, is_end_b1, is_end_b2}
-use Rattle.law_role_outproxy.specs.Counted.{co_leg, os_leg, ForwardsWhatCame, OpensWhatCame}
 use Rattle.law_moves.proofs.PacketKinds.Counts.{none, count_none}
-use Rattle.law_role_outproxy.proofs.Counted.OutProxyOwes.{Leads, MayUp}
 use Rattle.law_moves.proofs.PacketKinds.Pays.{allowed_rise, any_rise}
+use Rattle.law_role_outproxy.specs.Counted.{co_leg, os_leg, ForwardsWhatCame, OpensWhatCame}
+use Rattle.law_role_outproxy.proofs.Counted.OutProxyOwes.{Leads, MayUp}
 use Rattle.law_role_outproxy.proofs.Counted.OutProxyPays.{out_proxy_pays}
 
 -- ---- kinds

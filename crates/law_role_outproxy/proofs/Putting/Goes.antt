@@ -3,16 +3,21 @@ use Rattle.std.proofs.Common.{◌≡◌, ℕ, ◌+◌, ◌≤◌, ◌&&◌, Bool
 use Rattle.std.proofs.lemmas.Bool.{and_parts}
 use Rattle.std.specs.Prelude.{nat_le, IfSome}
 use Rattle.std.specs.declared.option.Option.{Option}
-use Rattle.rh_http.specs.Heads.Verdicts.{Asked}
+use Rattle.rh_window.specs.Sending.{may_send}
+use Rattle.rh_window.specs.declared.recv_window.Ack.{Ack}
+use Rattle.law_order.proofs.ByNumber.{by_test}
 use Rattle.rh_rts.specs.declared.command.Cookie.{Cookie}
 use Rattle.rh_sig.specs.declared.named.Named.{Named}
+use Rattle.rh_http.specs.Heads.Verdicts.{Asked}
 use Rattle.rh_line.specs.declared.leg.Leg.{Leg}
-use Rattle.law_order.proofs.ByNumber.{by_test}
+use Rattle.rh_line.specs.Lines.{is_empty}
 use Rattle.rh_shell.specs.declared.answers.Count.{Count}
 use Rattle.rh_shell.specs.declared.answers.Count.TheVariants as count
 use Rattle.rh_shell.specs.declared.stage.Stage.{Stage}
 use Rattle.rh_shell.specs.declared.stage.Stage.TheVariants as stage
 use Rattle.rh_shell.specs.Rules.{Message}
+use Rattle.rh_shell.specs.declared.due.Due.{Due}
+use Rattle.rh_shell.specs.Waiting.{with_due}
 use Rattle.rh_outproxy.specs.declared.state.Answer.{Answer}
 use Rattle.rh_outproxy.specs.declared.state.Answer.TheVariants as answers
 use Rattle.rh_outproxy.specs.declared.state.Channel.{Channel}
@@ -20,11 +25,6 @@ use Rattle.rh_outproxy.specs.declared.state.Channel.TheVariants as channels
 use Rattle.rh_outproxy.specs.declared.state.ClientLeg.TheVariants as clients
 use Rattle.rh_outproxy.specs.declared.state.OutProxyConfig.{OutProxyConfig}
 use Rattle.rh_outproxy.specs.declared.state.ServerLeg.{ServerLeg}
-use Rattle.rh_window.specs.Sending.{may_send}
-use Rattle.rh_window.specs.declared.recv_window.Ack.{Ack}
-use Rattle.rh_line.specs.Lines.{is_empty}
-use Rattle.rh_shell.specs.declared.due.Due.{Due}
-use Rattle.rh_shell.specs.Waiting.{with_due}
 use Rattle.rh_outproxy.specs.declared.state.Mark.TheVariants as marks
 use Rattle.rh_outproxy.specs.OutProxy.{OutProxy, is_known, is_server_down, is_server_first, is_due, is_echo_put, is_ping_due, joined}
 use Rattle.rh_outproxy.specs.Rows.{is_co, is_os, is_first, forwarded, passed_on}
@@ -38,8 +38,8 @@ use Rattle.rh_outproxy.specs.Machine.{pdu}
 use Rattle.law_moves.specs.Passages.Passing.{HasOne}
 use Rattle.law_moves.specs.Passages.Counted.{packets, Tells}
 use Rattle.law_moves.proofs.Passages.Messages.{one_more_so}
-use Rattle.law_role_outproxy.specs.Counted.{co_leg, os_leg, NamesNew, NamesSuccessor}
 use Rattle.law_moves.specs.Turns.{Stages, takes_frames}
+use Rattle.law_role_outproxy.specs.Counted.{co_leg, os_leg, NamesNew, NamesSuccessor}
 
 -- ---- what was asked
 

@@ -4,10 +4,9 @@ use Rattle.std.proofs.lemmas.List.{append-nil}
 use Rattle.std.specs.List.{AllByRecursion}
 use Rattle.std.specs.declared.option.Option.{Option}
 use Rattle.rh_rts.specs.declared.command.Cookie.{Cookie}
-use Rattle.law_moves.proofs.Passages.Messages.{all_append}
-use Rattle.rh_http.specs.Heads.Verdicts.{Asked}
 use Rattle.rh_sig.specs.declared.named.Named.{Named}
 use Rattle.rh_sig.specs.declared.named.Named.TheVariants as named
+use Rattle.rh_http.specs.Heads.Verdicts.{Asked}
 use Rattle.rh_shell.specs.declared.due.Due.{Due}
 use Rattle.rh_shell.specs.declared.waiting.TheConstants.{FORWARDED_ROOM}
 use Rattle.rh_shell.specs.Rules.{Message, Text, Packet}
@@ -25,6 +24,7 @@ use Rattle.rh_outproxy.specs.declared.state.Ping.TheVariants as pings
 use Rattle.rh_outproxy.specs.declared.state.ServerLeg.{ServerLeg}
 use Rattle.rh_outproxy.specs.OutProxy.{OutProxy, is_client_marked, is_known, is_server_down, is_successor, joined}
 use Rattle.rh_outproxy.specs.Putting.{behind_response, echo_text}
+use Rattle.law_moves.proofs.Passages.Messages.{all_append}
 use Rattle.law_role_outproxy.specs.Putting.{response, PassesPacket, IsPassed, OpensClient}
 use Rattle.law_role_outproxy.proofs.Putting.Forms.{IsPing, HasOpened, IsBegun, Follows, Each, WaitsOpening, begun_so, begun_same, pings_open, opened_more, opened_came, follows_more, follows_came, each_came, waits_came, passes_more}
 

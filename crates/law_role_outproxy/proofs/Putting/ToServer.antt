@@ -2,20 +2,18 @@
 use Rattle.std.proofs.Common.{◌≡◌, ℕ, ◌||◌, Bool, true, false, true≢false, if◌then◌else◌, List, [], ◌∷◌, ◌++◌, length, Some, None, Ok, Err, refl, sym, ap, ◌∙◌, subst}
 use Rattle.std.specs.Prelude.{IfSome}
 use Rattle.std.specs.declared.option.Option.{Option}
+use Rattle.rh_window.specs.Receiving as windows
+use Rattle.rh_window.specs.Sending.{after_sent, may_send}
+use Rattle.rh_window.specs.declared.recv_window.Ack.{Ack}
+use Rattle.law_order.proofs.ByNumber.{by_test}
 use Rattle.rh_rts.specs.declared.command.Cookie.{Cookie}
 use Rattle.rh_sig.specs.declared.named.Named.{Named}
 use Rattle.rh_sig.specs.declared.named.Named.TheVariants as named
 use Rattle.rh_sig.specs.declared.ranges.TheConstants.{PROTOCOL_VERSION}
-use Rattle.rh_window.specs.Receiving as windows
-use Rattle.rh_window.specs.Sending.{after_sent, may_send}
-use Rattle.rh_window.specs.declared.recv_window.Ack.{Ack}
 use Rattle.rh_line.specs.Lines.{Incoming, after_take, after_told, fresh, due}
 use Rattle.rh_line.specs.declared.leg.Leg.{Leg}
 use Rattle.rh_line.specs.declared.which.Which.TheVariants.{Current}
-use Rattle.law_order.proofs.ByNumber.{by_test}
 use Rattle.rh_shell.specs.Rules.{Message, Pdu, Packet}
-use Rattle.law_moves.specs.Moves.{OnLeg, Move, Up, HeadCame, PduCame, PacketCame, Puts, IsDrawn, Marks, Pings, Passage, started, all_moved, taken_by, put_by, AreAllowed}
-use Rattle.law_moves.specs.Wires.{of_leg}
 use Rattle.rh_outproxy.specs.declared.state.Channel.{Channel}
 use Rattle.rh_outproxy.specs.declared.state.Channel.TheVariants as channels
 use Rattle.rh_outproxy.specs.declared.state.ClientLeg.TheVariants as clients
@@ -31,14 +29,16 @@ use Rattle.rh_outproxy.specs.Putting.{Pick, or_else, put_answer, put_waiting, pd
 use Rattle.rh_outproxy.specs.Putting.{put as put_of}
 use Rattle.rh_outproxy.specs.Machine.{pdu, packet}
 use Rattle.rh_outproxy.specs.Machine.{rules as proxy_rules}
-use Rattle.law_role_outproxy.proofs.Conditions.{either_left, either_right}
-use Rattle.law_role_outproxy.proofs.OrderKept.{works_where}
+use Rattle.law_moves.specs.Moves.{OnLeg, Move, Up, HeadCame, PduCame, PacketCame, Puts, IsDrawn, Marks, Pings, Passage, started, all_moved, taken_by, put_by, AreAllowed}
+use Rattle.law_moves.specs.Wires.{of_leg}
 use Rattle.law_moves.specs.Passages.Passing.{HasOne}
 use Rattle.law_moves.specs.Passages.Counted.{AreCounted}
 use Rattle.law_moves.proofs.Passages.Logs.{RowKeeps, PutKeeps}
-use Rattle.law_role_outproxy.specs.Counted.{co_leg, os_leg, NamesNew}
 use Rattle.law_moves.proofs.PacketKinds.Counts.{here_more, other_more}
 use Rattle.law_moves.specs.Turns.{AreInTurn}
+use Rattle.law_role_outproxy.proofs.Conditions.{either_left, either_right}
+use Rattle.law_role_outproxy.proofs.OrderKept.{works_where}
+use Rattle.law_role_outproxy.specs.Counted.{co_leg, os_leg, NamesNew}
 use Rattle.law_role_outproxy.specs.Putting.{OpensServer, PutsToServer}
 use Rattle.law_role_outproxy.proofs.Putting.Goes.{IsAsked}
 use Rattle.law_role_outproxy.proofs.Putting.Turns.{Keeps, keeps_all, here, there, is_wanted}

@@ -6,15 +6,15 @@ use Rattle.std.proofs.lemmas.Bool.Decides.{nat_tests}
 use Rattle.std.specs.Prelude.{nat_le}
 use Rattle.std.specs.declared.option.Option.{Option}
 use Rattle.std.specs.declared.result.Result.{Result}
-use Rattle.rh_http.specs.declared.fault.HttpFault.{HttpFault}
-use Rattle.rh_http.specs.Lengths.{greatest_echo}
-use Rattle.rh_http.specs.Heads.Verdicts.{Asked, request_verdict}
+use Rattle.law_order.proofs.ByNumber.{by_test}
 use Rattle.rh_rts.specs.declared.command.Cookie.{Cookie}
 use Rattle.rh_sig.specs.declared.name.Pipe.TheVariants.{CoU, OsD}
 use Rattle.rh_sig.specs.declared.named.Named.{Named}
 use Rattle.rh_sig.specs.declared.named.Named.TheVariants as named
+use Rattle.rh_http.specs.declared.fault.HttpFault.{HttpFault}
+use Rattle.rh_http.specs.Lengths.{greatest_echo}
+use Rattle.rh_http.specs.Heads.Verdicts.{Asked, request_verdict}
 use Rattle.rh_line.specs.declared.leg.Leg.{Leg}
-use Rattle.law_order.proofs.ByNumber.{by_test}
 use Rattle.rh_shell.specs.declared.answers.Behind.TheVariants.{Frames, PassedOver}
 use Rattle.rh_shell.specs.declared.answers.Count.{Count}
 use Rattle.rh_shell.specs.declared.answers.HeadRefused.{HeadRefused}
@@ -24,8 +24,6 @@ use Rattle.rh_shell.specs.declared.stage.Stage.TheVariants as stage
 use Rattle.rh_shell.specs.NearEnds.{first_stage}
 use Rattle.rh_shell.specs.Rules.{Message, Packet, Pdu}
 use Rattle.rh_shell.specs.Shells.{same_leg}
-use Rattle.law_moves.specs.Moves.{OnLeg, Move, Up, HeadCame, PduCame, PacketCame, Puts, IsDrawn, Marks, Pings, Passage, started, moved, all_moved, taken_by, put_by, MayMove, AreAllowed}
-use Rattle.law_moves.specs.Wires.{of_leg}
 use Rattle.rh_outproxy.specs.declared.state.Answer.TheVariants as answers
 use Rattle.rh_outproxy.specs.declared.state.Channel.{Channel}
 use Rattle.rh_outproxy.specs.declared.state.Channel.TheVariants as channels
@@ -42,12 +40,14 @@ use Rattle.rh_outproxy.specs.Putting.{Pick}
 use Rattle.rh_outproxy.specs.Putting.{put as put_of}
 use Rattle.rh_outproxy.specs.Machine.{pdu, packet, on_co, on_os}
 use Rattle.rh_outproxy.specs.Machine.{rules as proxy_rules}
+use Rattle.law_moves.specs.Moves.{OnLeg, Move, Up, HeadCame, PduCame, PacketCame, Puts, IsDrawn, Marks, Pings, Passage, started, moved, all_moved, taken_by, put_by, MayMove, AreAllowed}
+use Rattle.law_moves.specs.Wires.{of_leg}
 use Rattle.law_moves.specs.Passages.Counted.{IsCounted, AreCounted, is_any}
 use Rattle.law_moves.proofs.Passages.Logs.{RowKeeps}
 use Rattle.law_moves.proofs.Passages.Messages.{leg_more, last_one_so, count_append, count_rises}
-use Rattle.law_role_outproxy.specs.Counted.{co_leg, os_leg, NamesNew, NamesSuccessor}
 use Rattle.law_moves.proofs.PacketKinds.Counts.{leg_is, here_more}
 use Rattle.law_moves.specs.Turns.{Stages, none_up, with_stage, behind_head, stages_after, takes_frames, IsInTurn, AreInTurn, AreInTurnFrom}
+use Rattle.law_role_outproxy.specs.Counted.{co_leg, os_leg, NamesNew, NamesSuccessor}
 use Rattle.law_role_outproxy.proofs.Putting.Goes.{IsAsked, Seen, seen, is_unheard, IsUnasked, Turns, Goes, PickGoes, asked_more, unheard_takes, goes_same, same_pdu, same_c1, same_forwarded, same_passed, same_ack, same_a9, same_end, goes_mark, goes_drawn, put_goes}
 
 -- ---- moves

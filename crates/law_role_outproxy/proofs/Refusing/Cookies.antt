@@ -1,17 +1,16 @@
 -- where an out proxy refuses a packet for its cookie, it is an acknowledgement for the proxy
 use Rattle.std.proofs.Common.{◌≡◌, ℕ, ◌≤◌, ◌==◌, if◌then◌else◌, List, Some, Ok, Err, sym, ap, ◌∙◌, subst, rules}
 use Rattle.std.specs.declared.result.Result.{Result}
+use Rattle.rh_window.specs.declared.fault.BadAck.{BadAck}
+use Rattle.rh_window.specs.Sending.{ack_verdict}
+use Rattle.law_order.proofs.ByNumber.{by_test}
 use Rattle.rh_rts.specs.declared.command.Cookie.{Cookie}
 use Rattle.rh_rts.specs.declared.command.TheConstants.{TO_OUT_PROXY}
 use Rattle.rh_sig.specs.declared.named.Named.{Named}
 use Rattle.rh_sig.specs.declared.named.Named.TheVariants as named
-use Rattle.rh_window.specs.declared.fault.BadAck.{BadAck}
-use Rattle.rh_window.specs.Sending.{ack_verdict}
 use Rattle.rh_line.specs.declared.leg.Leg.{Leg}
-use Rattle.law_order.proofs.ByNumber.{by_test}
 use Rattle.rh_shell.specs.declared.answers.Count.{Count}
 use Rattle.rh_shell.specs.declared.answers.Refused.TheVariants as refused
-use Rattle.law_moves.specs.Moves.{Passage}
 use Rattle.rh_shell.specs.Rules.{Row}
 use Rattle.rh_outproxy.specs.declared.state.Channel.{Channel}
 use Rattle.rh_outproxy.specs.declared.state.Channel.TheVariants as channels
@@ -22,6 +21,7 @@ use Rattle.rh_outproxy.specs.Acknowledging.{on_ack, ack_by, acked, ack_row, on_a
 use Rattle.rh_outproxy.specs.Ending.{on_end_b1}
 use Rattle.rh_outproxy.specs.OutReplacement.{on_out_r1_a9}
 use Rattle.rh_outproxy.specs.Machine.{pdu, packet, on_co, on_os}
+use Rattle.law_moves.specs.Moves.{Passage}
 use Rattle.law_moves.specs.Passages.Passing.{count_of, HasBegunOut}
 use Rattle.law_moves.specs.PacketKinds.{opens_client}
 use Rattle.law_role_outproxy.specs.Refusing.{from_client, MismatchFromServer, Mismatch}

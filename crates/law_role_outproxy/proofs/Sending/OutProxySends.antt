@@ -5,23 +5,21 @@ use Rattle.std.proofs.lemmas.Slice.Eq.{bytes_eq-Decides}
 use Rattle.std.specs.Prelude.{if◌then◌else◌, IfSome}
 use Rattle.std.specs.declared.option.Option.{Option}
 use Rattle.std.specs.declared.result.Result.{Result}
-use Rattle.rh_rts.specs.declared.command.Cookie.{Cookie}
-use Rattle.rh_rts.specs.declared.command.TheConstants.{TO_OUT_PROXY}
-use Rattle.rh_sig.specs.declared.named.Named.{Named}
-use Rattle.rh_sig.specs.declared.named.Named.TheVariants as named
 use Rattle.rh_window.specs.Sides.{Sender}
 use Rattle.rh_window.specs.Sending.{may_send, after_acked, ack_verdict}
 use Rattle.rh_window.specs.declared.fault.BadAck.{BadAck}
 use Rattle.rh_window.specs.declared.range.TheConstants.{GREATEST_WINDOW}
 use Rattle.rh_window.specs.declared.recv_window.Ack.{Ack}
-use Rattle.rh_line.specs.declared.leg.Leg.{Leg}
 use Rattle.law_order.proofs.ByNumber.{by_test}
+use Rattle.rh_rts.specs.declared.command.Cookie.{Cookie}
+use Rattle.rh_rts.specs.declared.command.TheConstants.{TO_OUT_PROXY}
+use Rattle.rh_sig.specs.declared.named.Named.{Named}
+use Rattle.rh_sig.specs.declared.named.Named.TheVariants as named
+use Rattle.rh_line.specs.declared.leg.Leg.{Leg}
 use Rattle.rh_shell.specs.declared.answers.Count.{Count}
 use Rattle.rh_shell.specs.declared.answers.Refused.TheVariants as refused
 use Rattle.rh_shell.specs.declared.due.Due.{Due}
 use Rattle.rh_shell.specs.Rules.{Message, Pdu, Packet}
-use Rattle.law_moves.specs.Moves.{OnLeg, Move, started, all_moved}
-use Rattle.law_moves.specs.Wires.{of_leg}
 use Rattle.rh_outproxy.specs.declared.state.Answer.{Answer}
 use Rattle.rh_outproxy.specs.declared.state.Channel.{Channel}
 use Rattle.rh_outproxy.specs.declared.state.Channel.TheVariants as channels
@@ -37,6 +35,8 @@ use Rattle.rh_outproxy.specs.Putting.{Pick, or_else, answer_by, put_answer, wait
 use Rattle.rh_outproxy.specs.Putting.{put as put_of}
 use Rattle.rh_outproxy.specs.Machine.{pdu, packet, on_co, on_os}
 use Rattle.rh_outproxy.specs.Machine.{rules as proxy_rules}
+use Rattle.law_moves.specs.Moves.{OnLeg, Move, started, all_moved}
+use Rattle.law_moves.specs.Wires.{of_leg}
 use Rattle.law_moves.specs.Passages.Passing.{pdu_bytes, HasBegunOut}
 use Rattle.law_moves.proofs.Passages.Logs.{RowKeeps, PutKeeps, StepsKeep, moves_keep}
 use Rattle.law_role_outproxy.specs.Sending.{co_leg, os_leg, OpensOnce, RefusesFalseAcks, IsInRange, IsNoWindow, SendsWithin}

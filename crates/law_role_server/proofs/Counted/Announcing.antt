@@ -3,15 +3,14 @@ use Rattle.std.proofs.Common.{◌≡◌, ◌⊎◌, inl, inr, ℕ, suc, ◌+◌,
 use Rattle.std.proofs.lemmas.Bool.{false≢true, and_parts}
 use Rattle.std.specs.List.{AllByRecursion}
 use Rattle.std.specs.declared.option.Option.{Option}
+use Rattle.law_order.proofs.ByNumber.{by_test}
 use Rattle.rh_sig.specs.declared.named.Named.{Named}
 use Rattle.rh_sig.specs.declared.named.Named.TheVariants as named
 use Rattle.rh_line.proofs.Queues.{each_push}
 use Rattle.rh_line.specs.Lines.{Line, after_take, after_finish, is_empty, released, moved_on}
 use Rattle.rh_line.specs.Lines.{settled as line_settled, taken as line_taken}
 use Rattle.rh_line.specs.declared.leg.LegKind.TheVariants.{OutServer, InServer}
-use Rattle.law_order.proofs.ByNumber.{by_test}
 use Rattle.rh_shell.specs.declared.due.Due.{Due}
-use Rattle.law_moves.specs.Moves.{OnLeg}
 use Rattle.rh_shell.specs.Waiting.{own}
 use Rattle.rh_server.specs.declared.state.Edge.TheVariants.{Shut}
 use Rattle.rh_server.specs.declared.state.InStage.{InStage}
@@ -22,6 +21,7 @@ use Rattle.rh_server.specs.declared.out_line.Kind.TheVariants as kind
 use Rattle.rh_server.specs.OutLines.{is_ack, is_kind, waits}
 use Rattle.rh_server.specs.States.{Server, is_fresh, is_waiting, stays, in_place, set_at}
 use Rattle.rh_server.specs.InReplacement.{opens_next, opens_leg, first_waiting, next_opened, becomes_current, moved_if}
+use Rattle.law_moves.specs.Moves.{OnLeg}
 use Rattle.law_role_server.specs.Counted.Counting.{is_in_r1_a2, is_in_r1_a3, is_in_r2_a2, is_in_r2_a3, often, often_at, waiting_of}
 use Rattle.law_role_server.specs.Counted.Answering.{how_many, waits_on}
 use Rattle.law_role_server.proofs.Counted.Dues.{Apart, IsOfKind, HaveOrigins, HasOrigin, push_waits, none_found}

@@ -4,19 +4,16 @@ use Rattle.std.proofs.lemmas.Bool.{false≢true, and_parts, and_from}
 use Rattle.std.proofs.lemmas.Bool.Decides.{nat_tests}
 use Rattle.std.specs.Prelude.{IfSome, slice_get, slice_set, remove}
 use Rattle.std.specs.List.{AllByRecursion, list_any}
-use Rattle.rh_sig.specs.declared.named.Named.{Named}
-use Rattle.rh_sig.specs.declared.named.Named.TheVariants as named
 use Rattle.rh_window.specs.Sending.{may_send}
 use Rattle.rh_keep.specs.Meters.{Meter, started, may_put, fits}
+use Rattle.law_order.proofs.ByNumber.{by_test, same_number}
+use Rattle.rh_sig.specs.declared.named.Named.{Named}
+use Rattle.rh_sig.specs.declared.named.Named.TheVariants as named
 use Rattle.rh_line.proofs.Queues.{each_push}
 use Rattle.rh_line.specs.declared.leg.LegKind.TheVariants.{OutServer}
-use Rattle.law_order.proofs.ByNumber.{by_test, same_number}
 use Rattle.rh_shell.specs.declared.due.Due.{Due}
 use Rattle.rh_shell.specs.declared.due.Origin.TheVariants.{Forwarded}
-use Rattle.law_moves.specs.Moves.{OnLeg}
 use Rattle.rh_shell.specs.Waiting.{Waiting, own, to_forward, takes, edge_of, better, merged, with_due, pushed, count, forwarded, without_first}
-use Rattle.law_moves.specs.Passages.Passing.{of_kind}
-use Rattle.law_moves.proofs.Passages.Messages.{all_append, kind_more}
 use Rattle.rh_server.specs.declared.state.Stage.{Stage}
 use Rattle.rh_server.specs.declared.state.Stage.TheVariants as stage
 use Rattle.rh_server.specs.declared.state.OutLeg.{OutLeg}
@@ -25,6 +22,9 @@ use Rattle.rh_server.specs.OutLines.{Gate, lets, lets_packet}
 use Rattle.rh_server.specs.OutLegs.{may_go, may_end}
 use Rattle.rh_server.specs.States.{Server, is_steady, same_cookie}
 use Rattle.rh_server.specs.Putting.{gate, counts, was_put}
+use Rattle.law_moves.specs.Moves.{OnLeg}
+use Rattle.law_moves.specs.Passages.Passing.{of_kind}
+use Rattle.law_moves.proofs.Passages.Messages.{all_append, kind_more}
 use Rattle.law_role_server.specs.Counted.Counting.{is_ack_to, is_conn_c1}
 use Rattle.law_role_server.specs.Counted.Opening.{since_open}
 use Rattle.law_role_server.specs.Counted.BeforeC1.{MayGoBefore}

@@ -3,15 +3,13 @@ use Rattle.std.proofs.Common.{◌≡◌, ◌⊎◌, inl, inr, ℕ, ◌+◌, ◌=
 use Rattle.std.proofs.lemmas.Bool.{false≢true, and_parts}
 use Rattle.std.specs.List.{AllByRecursion}
 use Rattle.std.specs.declared.option.Option.{Option}
+use Rattle.law_order.proofs.ByNumber.{by_test, same_number}
 use Rattle.rh_rts.specs.declared.command.Cookie.{Cookie}
 use Rattle.rh_sig.specs.declared.named.Named.{Named}
 use Rattle.rh_line.specs.Lines.{after_take}
 use Rattle.rh_line.specs.declared.leg.LegKind.TheVariants.{OutServer, InServer}
-use Rattle.law_order.proofs.ByNumber.{by_test, same_number}
 use Rattle.rh_shell.specs.declared.answers.Count.{Count}
 use Rattle.rh_shell.specs.declared.answers.Refused.TheVariants as refused
-use Rattle.law_moves.specs.Moves.{OnLeg}
-use Rattle.law_moves.proofs.Passages.Logs.{RowKeeps}
 use Rattle.rh_server.specs.declared.state.Stage.{Stage}
 use Rattle.rh_server.specs.declared.state.Stage.TheVariants as stage
 use Rattle.rh_server.specs.declared.state.OutLeg.{OutLeg}
@@ -23,6 +21,8 @@ use Rattle.rh_server.specs.States.{Server, is_open, is_steady, same_cookie, out_
 use Rattle.rh_server.specs.Opening.{Done, refuse, unexpected, is_first}
 use Rattle.rh_server.specs.InReplacement.{moved_if, take, in_r1_a2_at, on_in_r1_a2, has_fresh_below, on_in_r1_a6, on_in_r2_a2}
 use Rattle.rh_server.specs.OutReplacement.{answered_by, answered_on, out_r1_a4_by, out_r1_a4_at, may_answer, on_out_r1_a4, out_r1_a8_at, on_out_r1_a8}
+use Rattle.law_moves.specs.Moves.{OnLeg}
+use Rattle.law_moves.proofs.Passages.Logs.{RowKeeps}
 use Rattle.law_role_server.specs.Counted.Counting.{is_ack_to, is_conn_c1, is_in_r1_a3, often}
 use Rattle.law_role_server.specs.Counted.Opening.{since_open}
 use Rattle.law_role_server.specs.Counted.BeforeC1.{HasRoomIn, HaveRoom}

@@ -2,20 +2,18 @@
 use Rattle.std.proofs.Common.{◌≡◌, inl, ℕ, ◌==◌, ◌&&◌, not, Bool, true, false, if◌then◌else◌, List, [], ◌∷◌, ◌++◌, Some, None, Ok, Err, arith, refl, rules, sym, ap, ◌∙◌, subst}
 use Rattle.std.specs.Prelude.{IfSome, slice_get, slice_set}
 use Rattle.std.specs.declared.option.Option.{Option}
+use Rattle.rh_window.specs.Sending.{after_acked}
+use Rattle.rh_keep.specs.Meters.{started, may_put}
+use Rattle.law_order.proofs.ByNumber.{by_test}
 use Rattle.rh_rts.specs.declared.command.Cookie.{Cookie}
 use Rattle.rh_sig.specs.declared.named.Named.{Named}
 use Rattle.rh_sig.specs.declared.named.Named.TheVariants as named
-use Rattle.rh_keep.specs.Meters.{started, may_put}
-use Rattle.rh_window.specs.Sending.{after_acked}
 use Rattle.rh_line.specs.declared.leg.LegKind.{LegKind}
 use Rattle.rh_line.specs.declared.leg.LegKind.TheVariants.{ClientOut, OutServer, ClientIn, InServer}
-use Rattle.law_order.proofs.ByNumber.{by_test}
 use Rattle.rh_shell.specs.declared.answers.Count.{Count}
 use Rattle.rh_shell.specs.declared.answers.Refused.TheVariants as refused
 use Rattle.rh_shell.specs.Rules.{Packet}
-use Rattle.law_moves.specs.Moves.{OnLeg}
 use Rattle.rh_shell.specs.Waiting.{Waiting, takes, forwarded}
-use Rattle.law_moves.proofs.Passages.Logs.{RowKeeps}
 use Rattle.rh_server.specs.declared.state.Stage.{Stage}
 use Rattle.rh_server.specs.declared.state.Stage.TheVariants as stage
 use Rattle.rh_server.specs.declared.state.OutLeg.{OutLeg}
@@ -28,6 +26,8 @@ use Rattle.rh_server.specs.Acknowledging.{forward_by, forwards, forwards_writing
 use Rattle.rh_server.specs.InReplacement.{on_in_r1_a2, on_in_r1_a6, on_in_r2_a2}
 use Rattle.rh_server.specs.OutReplacement.{on_out_r1_a4, on_out_r1_a8}
 use Rattle.rh_server.specs.Ending.{on_end_a2}
+use Rattle.law_moves.specs.Moves.{OnLeg}
+use Rattle.law_moves.proofs.Passages.Logs.{RowKeeps}
 use Rattle.law_role_server.specs.Counted.Counting.{is_ack_to, is_in_r1_a3, is_in_r2_a3, often, leg_at}
 use Rattle.law_role_server.specs.Counted.Opening.{since_open}
 use Rattle.law_role_server.proofs.Counted.Logs.{often_more}

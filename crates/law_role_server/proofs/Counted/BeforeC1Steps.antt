@@ -5,26 +5,23 @@ use Rattle.std.specs.Prelude.{IfSome, slice_get, slice_set, find}
 use Rattle.std.specs.List.{AllByRecursion}
 use Rattle.std.specs.declared.option.Option.{Option}
 use Rattle.std.specs.declared.result.Result.{Result}
+use Rattle.rh_window.specs.declared.recv_window.Ack.{Ack}
+use Rattle.law_order.proofs.ByNumber.{by_test}
 use Rattle.rh_rts.specs.declared.command.Cookie.{Cookie}
 use Rattle.rh_sig.specs.declared.named.Named.{Named}
 use Rattle.rh_sig.specs.declared.named.Named.TheVariants as named
-use Rattle.rh_window.specs.declared.recv_window.Ack.{Ack}
 use Rattle.rh_line.proofs.Queues.{each_push}
 use Rattle.rh_line.specs.Queue.{front_length}
 use Rattle.rh_line.specs.declared.leg.Leg.{Leg}
 use Rattle.rh_line.specs.declared.leg.LegKind.{LegKind}
 use Rattle.rh_line.specs.declared.leg.LegKind.TheVariants.{ClientOut, OutServer, ClientIn, InServer}
-use Rattle.law_order.proofs.ByNumber.{by_test}
 use Rattle.rh_shell.specs.declared.answers.Count.{Count}
 use Rattle.rh_shell.specs.declared.answers.Phase.TheVariants as phase
 use Rattle.rh_shell.specs.declared.due.Due.{Due}
 use Rattle.rh_shell.specs.declared.end_role.GiveRefused.{GiveRefused}
 use Rattle.rh_shell.specs.Rules.{Message, Text, Pdu, Packet}
 use Rattle.rh_shell.specs.Hearing.{greeting as greeting_text}
-use Rattle.law_moves.specs.Moves.{OnLeg, EndMove, Moves, Gives, Takes, Closes, Recycles, EndPassage, AreAllowedAtEnd, MayEndMove, end_started, end_moved, all_end_moved, end_now_at, given_by, with_first}
 use Rattle.rh_shell.specs.Waiting.{Waiting, taken}
-use Rattle.law_moves.specs.Passages.Passing.{of_kind}
-use Rattle.law_moves.proofs.Passages.Logs.{PutKeeps, StepsKeep, moves_keep}
 use Rattle.rh_server.specs.declared.state.Stage.{Stage}
 use Rattle.rh_server.specs.declared.state.Stage.TheVariants as stage
 use Rattle.rh_server.specs.declared.state.Greeting.TheVariants as greetings
@@ -41,6 +38,9 @@ use Rattle.rh_server.specs.Ending.{give, is_complete, completed, settled, drawn_
 use Rattle.rh_server.specs.Putting.{Pick, or_else, put_in_greeting, put_tells_by, put_tells, put_b1_by, put_b1, put_ack_by, put_ack, ack_due, put_in_by, out_greeting_at, put_out_greeting, was_put, waiting_by, waiting_at, put_waiting, gate, gate_at, may_go_at, may_end_at, is_end_due, pdu_by, put_pdu, put_end, put_pdu_or_end, next_out, settled_pick, put_open, put_out_at, put_by}
 use Rattle.rh_server.specs.Servers.{acts, first, pdu}
 use Rattle.rh_server.specs.Servers.{rules as server_rules}
+use Rattle.law_moves.specs.Moves.{OnLeg, EndMove, Moves, Gives, Takes, Closes, Recycles, EndPassage, AreAllowedAtEnd, MayEndMove, end_started, end_moved, all_end_moved, end_now_at, given_by, with_first}
+use Rattle.law_moves.specs.Passages.Passing.{of_kind}
+use Rattle.law_moves.proofs.Passages.Logs.{PutKeeps, StepsKeep, moves_keep}
 use Rattle.law_role_server.specs.Counted.Counting.{is_ack_to, is_conn_c1, in_came, out_put, often, leg_at}
 use Rattle.law_role_server.specs.Counted.Opening.{since_open}
 use Rattle.law_role_server.specs.Counted.BeforeC1.{HaveRoom, MayGoBefore}

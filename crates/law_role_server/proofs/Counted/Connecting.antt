@@ -4,14 +4,11 @@ use Rattle.std.proofs.lemmas.Bool.{false≢true, and_parts}
 use Rattle.std.specs.Prelude.{slice_set, IfSome}
 use Rattle.std.specs.List.{AllByRecursion}
 use Rattle.std.specs.declared.option.Option.{Option}
+use Rattle.law_order.proofs.ByNumber.{by_test, same_number}
 use Rattle.rh_sig.specs.declared.named.Named.{Named}
 use Rattle.rh_sig.specs.declared.named.Named.TheVariants as named
 use Rattle.rh_line.specs.Lines.{after_take}
 use Rattle.rh_line.specs.declared.leg.LegKind.TheVariants.{OutServer, InServer}
-use Rattle.law_order.proofs.ByNumber.{by_test, same_number}
-use Rattle.law_moves.specs.Moves.{OnLeg}
-use Rattle.law_moves.specs.Passages.Passing.{of_kind}
-use Rattle.law_moves.proofs.Passages.Logs.{RowKeeps}
 use Rattle.rh_server.specs.declared.state.Stage.{Stage}
 use Rattle.rh_server.specs.declared.state.Stage.TheVariants as stage
 use Rattle.rh_server.specs.declared.state.Edge.TheVariants.{Shut}
@@ -25,6 +22,9 @@ use Rattle.rh_server.specs.States.{Server, is_open, is_fresh, is_waiting, stays,
 use Rattle.rh_server.specs.Opening.{Done}
 use Rattle.rh_server.specs.InReplacement.{opens_next, opens_leg, first_waiting, next_opened, becomes_current, moved_if, take}
 use Rattle.rh_server.specs.Ending.{is_complete, completed, settled}
+use Rattle.law_moves.specs.Moves.{OnLeg}
+use Rattle.law_moves.specs.Passages.Passing.{of_kind}
+use Rattle.law_moves.proofs.Passages.Logs.{RowKeeps}
 use Rattle.law_role_server.specs.Counted.Counting.{is_conn_a2, is_conn_b2, is_conn_b3, is_conn_c1, is_in_r1_a2, is_in_r1_a3, is_in_r2_a2, is_in_r2_a3, often}
 use Rattle.law_role_server.specs.Counted.Answering.{how_many}
 use Rattle.law_role_server.specs.Counted.Opening.{since_conn_a2, since_conn_b2, since_open, IsText}

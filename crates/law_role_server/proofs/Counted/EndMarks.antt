@@ -1,15 +1,15 @@
 -- what ends a channel comes once at most on its is leg
 use Rattle.std.proofs.Common.{◌≡◌, ℕ, suc, ◌≤◌, ◌==◌, ◌&&◌, Bool, true, false, nat_eq, if◌then◌else◌, List, [], ◌∷◌, ◌++◌, arith, refl, sym, ap, subst}
 use Rattle.std.proofs.lemmas.Bool.Decides.{nat_tests}
+use Rattle.law_order.specs.Items.{Item, Piece, Stop, Handover, IsBehindEnd, IsChannel}
 use Rattle.rh_sig.specs.declared.named.Named.TheVariants as named
 use Rattle.rh_line.specs.declared.leg.LegKind.{LegKind}
 use Rattle.rh_line.specs.declared.leg.LegKind.TheVariants.{ClientOut, OutServer, ClientIn, InServer}
 use Rattle.rh_shell.specs.Rules.{Message, Text, Pdu, Packet}
-use Rattle.law_moves.specs.Moves.{OnLeg}
 use Rattle.rh_shell.specs.Shells.{same_leg, is_of}
+use Rattle.law_moves.specs.Moves.{OnLeg}
 use Rattle.law_moves.specs.Wires.{of_leg}
 use Rattle.law_moves.specs.Passages.Passing.{count_of}
-use Rattle.law_order.specs.Items.{Item, Piece, Stop, Handover, IsBehindEnd, IsChannel}
 use Rattle.law_role_server.specs.Order.{in_items, items_if, items_on}
 use Rattle.law_role_server.specs.Counted.Counting.{is_end_a2, is_in_r1_a6, often_at, leg_at}
 

@@ -1,14 +1,14 @@
 -- a message more, and how often packets passed
 use Rattle.std.proofs.Common.{◌≡◌, ℕ, suc, ◌+◌, ◌≤◌, ◌<◌, ◌==◌, Bool, true, false, true≢false, if◌then◌else◌, List, [], ◌∷◌, ◌++◌, arith, refl, sym, ap, ◌∙◌, subst}
 use Rattle.std.proofs.lemmas.Bool.Decides.{nat_tests}
+use Rattle.law_order.proofs.ByNumber.{same_number, other_number, test_same, test_other}
 use Rattle.rh_sig.specs.declared.named.Named.{Named}
 use Rattle.rh_line.specs.declared.leg.Leg.{Leg}
 use Rattle.rh_line.specs.declared.leg.LegKind.{LegKind}
 use Rattle.rh_line.specs.declared.leg.LegKind.TheVariants.{ClientOut, OutServer, ClientIn, InServer}
-use Rattle.law_order.proofs.ByNumber.{same_number, other_number, test_same, test_other}
-use Rattle.law_moves.specs.Moves.{OnLeg}
 use Rattle.rh_shell.specs.Rules.{Message}
 use Rattle.rh_shell.specs.Shells.{same_leg, is_of}
+use Rattle.law_moves.specs.Moves.{OnLeg}
 use Rattle.law_moves.specs.Wires.{of_leg}
 use Rattle.law_moves.specs.Passages.Passing.{count_of, of_kind}
 use Rattle.law_moves.proofs.Passages.Messages.{count_append, leg_more, kind_more}

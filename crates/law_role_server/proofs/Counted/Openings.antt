@@ -3,14 +3,14 @@ use Rattle.std.proofs.Common.{◌≡◌, ◌+◌, ◌≤◌, Bool, true, false, 
 use Rattle.std.specs.List.{AllByRecursion}
 use Rattle.rh_line.specs.declared.leg.LegKind.TheVariants.{OutServer, InServer}
 use Rattle.rh_shell.specs.declared.due.Due.{Due}
-use Rattle.law_moves.specs.Moves.{OnLeg}
-use Rattle.law_moves.specs.Passages.Passing.{of_kind}
-use Rattle.law_moves.proofs.Passages.Messages.{all_append, kind_more}
 use Rattle.rh_server.specs.declared.state.Stage.{Stage}
 use Rattle.rh_server.specs.declared.state.Stage.TheVariants as stage
 use Rattle.rh_server.specs.declared.state.InLeg.{InLeg}
 use Rattle.rh_server.specs.declared.state.Tells.{Tells}
 use Rattle.rh_server.specs.declared.state.Tells.TheVariants as tells
+use Rattle.law_moves.specs.Moves.{OnLeg}
+use Rattle.law_moves.specs.Passages.Passing.{of_kind}
+use Rattle.law_moves.proofs.Passages.Messages.{all_append, kind_more}
 use Rattle.law_role_server.specs.Counted.Counting.{is_conn_a2, is_conn_b2, is_conn_b3, is_conn_c1, is_in_r1_a2, is_in_r2_a2, often, waiting_of}
 use Rattle.law_role_server.specs.Counted.Answering.{how_many}
 use Rattle.law_role_server.specs.Counted.Opening.{since_conn_a2, since_conn_b2, since_open, IsText}

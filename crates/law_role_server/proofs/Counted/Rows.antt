@@ -2,6 +2,7 @@
 use Rattle.std.proofs.Common.{◌≡◌, ℕ, ◌+◌, ◌≤◌, ◌==◌, ◌&&◌, ◌||◌, not, Bool, true, false, true≢false, List, [], ◌∷◌, ◌++◌, nat_lt, Some, None, arith, refl, rules, sym, ap, ◌∙◌, subst}
 use Rattle.std.proofs.lemmas.Bool.{false≢true, and_parts, not-true, not-false, or_parts}
 use Rattle.std.specs.declared.option.Option.{Option}
+use Rattle.law_order.proofs.ByNumber.{by_test, same_number}
 use Rattle.rh_rts.specs.declared.command.Cookie.{Cookie}
 use Rattle.rh_sig.specs.declared.named.Named.{Named}
 use Rattle.rh_sig.specs.declared.named.Named.TheVariants as named
@@ -10,14 +11,10 @@ use Rattle.rh_line.specs.declared.leg.LegKind.{LegKind}
 use Rattle.rh_line.specs.declared.leg.LegKind.TheVariants.{ClientOut, OutServer, ClientIn, InServer}
 use Rattle.rh_line.specs.declared.which.Which.{Which}
 use Rattle.rh_line.specs.declared.which.Which.TheVariants.{Current, Next}
-use Rattle.law_order.proofs.ByNumber.{by_test, same_number}
 use Rattle.rh_shell.specs.declared.answers.Count.{Count}
 use Rattle.rh_shell.specs.declared.answers.Refused.TheVariants as refused
 use Rattle.rh_shell.specs.Rules.{Packet}
-use Rattle.law_moves.specs.Moves.{OnLeg}
 use Rattle.rh_shell.specs.Waiting.{own}
-use Rattle.law_moves.specs.Passages.Passing.{count_of}
-use Rattle.law_moves.proofs.Passages.Logs.{RowKeeps}
 use Rattle.rh_server.specs.declared.state.Stage.{Stage}
 use Rattle.rh_server.specs.declared.state.Stage.TheVariants as stage
 use Rattle.rh_server.specs.declared.state.InStage.{InStage}
@@ -33,6 +30,9 @@ use Rattle.rh_server.specs.InReplacement.{next_opened, moved_if, announced, in_r
 use Rattle.rh_server.specs.OutReplacement.{on_out_r1_a4, on_out_r1_a8}
 use Rattle.rh_server.specs.Ending.{is_over_on, end_a2_on_leg, end_a2_waiting, end_a2_at, on_end_a2}
 use Rattle.rh_server.specs.Servers.{packet_by, on_is, on_os}
+use Rattle.law_moves.specs.Moves.{OnLeg}
+use Rattle.law_moves.specs.Passages.Passing.{count_of}
+use Rattle.law_moves.proofs.Passages.Logs.{RowKeeps}
 use Rattle.law_role_server.specs.Counted.Counting.{is_conn_a2, is_conn_b2, is_conn_c1, is_in_r1_a2, is_in_r1_a3, is_in_r2_a2, often, leg_at, waiting_of}
 use Rattle.law_role_server.specs.Counted.Answering.{how_many}
 use Rattle.law_role_server.specs.Counted.Opening.{since_open}

@@ -2,17 +2,15 @@
 use Rattle.std.proofs.Common.{◌≡◌, ℕ, ◌+◌, ◌≤◌, ◌==◌, ◌&&◌, Bool, true, false, true≢false, if◌then◌else◌, List, [], ◌∷◌, ◌++◌, Some, None, arith, refl, rules, sym, ap, ◌∙◌}
 use Rattle.std.proofs.lemmas.Bool.{false≢true, and_parts}
 use Rattle.std.specs.declared.option.Option.{Option}
+use Rattle.law_order.proofs.ByNumber.{by_test, same_number}
 use Rattle.rh_rts.specs.declared.command.Cookie.{Cookie}
 use Rattle.rh_line.specs.declared.leg.Leg.{Leg}
 use Rattle.rh_line.specs.declared.leg.LegKind.{LegKind}
 use Rattle.rh_line.specs.declared.leg.LegKind.TheVariants.{ClientOut, OutServer, ClientIn, InServer}
-use Rattle.law_order.proofs.ByNumber.{by_test, same_number}
 use Rattle.rh_shell.specs.declared.answers.Count.{Count}
 use Rattle.rh_shell.specs.declared.answers.Phase.TheVariants as phase
 use Rattle.rh_shell.specs.declared.due.Due.{Due}
 use Rattle.rh_shell.specs.Rules.{Pdu}
-use Rattle.law_moves.specs.Moves.{OnLeg, Passage, EndMove, end_started, all_end_moved}
-use Rattle.law_moves.proofs.Passages.Logs.{StepsKeep, ActsKeep, end_moves_keep}
 use Rattle.rh_server.specs.declared.state.Stage.{Stage}
 use Rattle.rh_server.specs.declared.state.Stage.TheVariants as stage
 use Rattle.rh_server.specs.declared.state.Leaving.{Leaving}
@@ -25,6 +23,8 @@ use Rattle.rh_server.specs.OutReplacement.{recycle}
 use Rattle.rh_server.specs.Ending.{give, settled, drawn_by, in_is_drawn, mark_by, lost_in, with_ack_dropped}
 use Rattle.rh_server.specs.Servers.{acts, first, pdu}
 use Rattle.rh_server.specs.Servers.{rules as server_rules}
+use Rattle.law_moves.specs.Moves.{OnLeg, Passage, EndMove, end_started, all_end_moved}
+use Rattle.law_moves.proofs.Passages.Logs.{StepsKeep, ActsKeep, end_moves_keep}
 use Rattle.law_role_server.specs.Counted.Counting.{is_conn_b2, is_conn_b3, often}
 use Rattle.law_role_server.specs.Counted.Answering.{how_many, AreAnswered, BeginOnce}
 use Rattle.law_role_server.specs.Counted.Opening.{since_conn_a2, since_conn_b2, since_open, OpensOnce}

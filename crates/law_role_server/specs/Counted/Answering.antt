@@ -1,9 +1,9 @@
 -- IN channels are announced and answered (profile)
 use Rattle.std.specs.Prelude.{ℕ, suc, ◌≡◌, ◌+◌, ◌≤◌, Bool, List, [], ◌∷◌, if◌then◌else◌}
 use Rattle.rh_line.specs.declared.leg.LegKind.TheVariants.{InServer}
-use Rattle.law_moves.specs.Moves.{Passage}
 use Rattle.rh_server.specs.declared.state.InLeg.{InLeg}
 use Rattle.rh_server.specs.States.{Server, is_waiting}
+use Rattle.law_moves.specs.Moves.{Passage}
 use Rattle.law_role_server.specs.Counted.Counting.{is_conn_b2, is_end_a2, is_in_r1_a2, is_in_r1_a3, is_in_r1_a6, is_in_r2_a2, is_in_r2_a3, in_came, out_put, often_at, waits_for}
 
 -- how many is legs pass a test

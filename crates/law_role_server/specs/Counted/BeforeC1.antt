@@ -1,14 +1,14 @@
 -- CONN/C1 goes first on the OUT channel (MS-RPCH 3.2.5; profile)
 use Rattle.std.specs.Prelude.{◌≡◌, List, true, IsTrue}
 use Rattle.std.specs.List.{AllByRecursion}
+use Rattle.rh_keep.specs.Meters.{started, may_put}
 use Rattle.rh_rts.specs.declared.command.TheConstants.{TO_OUT_PROXY}
 use Rattle.rh_sig.specs.declared.lengths.TheConstants.{CONN_C1_LEN}
 use Rattle.rh_sig.specs.declared.named.Named.{Named}
 use Rattle.rh_sig.specs.declared.named.Named.TheVariants.{ConnA2}
-use Rattle.rh_keep.specs.Meters.{started, may_put}
 use Rattle.rh_shell.specs.Rules.{Message, Text, Pdu, Packet}
-use Rattle.law_moves.specs.Moves.{OnLeg}
 use Rattle.rh_server.specs.declared.opening.TheConstants.{BEFORE_FIRST}
+use Rattle.law_moves.specs.Moves.{OnLeg}
 use Rattle.law_role_server.specs.Counted.Counting.{is_ack_to}
 
 -- the lifetime that CONN/A2 tells has room for CONN/C1 behind CONN/A3, and for the reserve

@@ -6,10 +6,10 @@ use Rattle.rh_line.specs.declared.leg.Leg.{Leg}
 use Rattle.rh_line.specs.declared.leg.LegKind.{LegKind}
 use Rattle.rh_line.specs.declared.leg.LegKind.TheVariants.{OutServer, InServer}
 use Rattle.rh_shell.specs.declared.due.Due.{Due}
+use Rattle.rh_server.specs.States.{Server}
 use Rattle.law_moves.specs.Moves.{OnLeg, Passage}
 use Rattle.law_moves.specs.Wires.{of_leg}
 use Rattle.law_moves.specs.Passages.Passing.{count_of, of_kind}
-use Rattle.rh_server.specs.States.{Server}
 
 -- ---- packets (MS-RPCH 2.2.4)
 

@@ -1,8 +1,8 @@
 //! How a server answers IN channels. Its function does nothing: its contract is the law.
 
 ghost use Rattle.std.specs.Prelude.{List, ℕ};
-ghost use Rattle.law_moves.specs.Moves.{AreAllowedAtEnd, EndMove, all_end_moved, end_started};
 ghost use Rattle.rh_server.specs.Servers.{acts, first, rules};
+ghost use Rattle.law_moves.specs.Moves.{AreAllowedAtEnd, EndMove, all_end_moved, end_started};
 ghost use Rattle.law_role_server.specs.Counted.Answering.{AreAnswered, BeginOnce, EndOnce};
 
 use crate::a_server_takes_in_order;

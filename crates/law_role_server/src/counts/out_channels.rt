@@ -1,8 +1,8 @@
 //! How a server replaces OUT channels. Its function does nothing: its contract is the law.
 
 ghost use Rattle.std.specs.Prelude.{List, ℕ};
-ghost use Rattle.law_moves.specs.Moves.{EndMove, all_end_moved, end_started};
 ghost use Rattle.rh_server.specs.Servers.{acts, first, rules};
+ghost use Rattle.law_moves.specs.Moves.{EndMove, all_end_moved, end_started};
 ghost use Rattle.law_role_server.specs.Counted.Replacing.{AreInTurn, ArePutInTurn, AreReplaced};
 
 /// Whatever moves a server makes, allowed or not: it writes on the channel behind as many as

@@ -1,20 +1,15 @@
 -- each CONN/A2 came on the first os leg, and each CONN/B2 on the first is leg
 use Rattle.std.proofs.Common.{◌≡◌, ℕ, ◌+◌, ◌==◌, ◌&&◌, List, [], ◌∷◌, ◌++◌, Bool, true, false, not, if◌then◌else◌, Some, None, Ok, Err, arith, refl, sym, ap, ◌∙◌, subst}
 use Rattle.std.proofs.lemmas.Bool.{and_parts}
+use Rattle.law_order.proofs.ByNumber.{by_test, same_number}
 use Rattle.rh_sig.specs.declared.named.Named.{Named}
 use Rattle.rh_sig.specs.declared.named.Named.TheVariants as named
 use Rattle.rh_line.specs.declared.leg.Leg.{Leg}
 use Rattle.rh_line.specs.declared.leg.LegKind.{LegKind}
 use Rattle.rh_line.specs.declared.leg.LegKind.TheVariants.{ClientOut, OutServer, ClientIn, InServer}
-use Rattle.law_order.proofs.ByNumber.{by_test, same_number}
-use Rattle.law_moves.specs.Passages.Passing.{count_of, of_kind}
-use Rattle.law_moves.proofs.Passages.Messages.{count_append, leg_more, kind_more}
-use Rattle.law_moves.proofs.Passages.Logs.{RowKeeps, PutKeeps, StepsKeep, ActsKeep, end_moves_keep}
 use Rattle.rh_shell.specs.declared.answers.Count.{Count}
 use Rattle.rh_shell.specs.Rules.{Message, Packet, Pdu}
-use Rattle.law_moves.specs.Moves.{OnLeg, EndMove, end_started, all_end_moved}
 use Rattle.rh_shell.specs.Shells.{is_of, same_leg}
-use Rattle.law_moves.specs.Wires.{of_leg}
 use Rattle.rh_server.specs.declared.out_line.Kind.TheVariants as kinds
 use Rattle.rh_server.specs.OutLines.{waits}
 use Rattle.rh_server.specs.States.{Server}
@@ -23,6 +18,11 @@ use Rattle.rh_server.specs.Putting.{Pick}
 use Rattle.rh_server.specs.Putting.{put as put_on}
 use Rattle.rh_server.specs.Servers.{packet_by, pdu_by, first, acts}
 use Rattle.rh_server.specs.Servers.{rules as server_rules}
+use Rattle.law_moves.specs.Passages.Passing.{count_of, of_kind}
+use Rattle.law_moves.proofs.Passages.Messages.{count_append, leg_more, kind_more}
+use Rattle.law_moves.proofs.Passages.Logs.{RowKeeps, PutKeeps, StepsKeep, ActsKeep, end_moves_keep}
+use Rattle.law_moves.specs.Moves.{OnLeg, EndMove, end_started, all_end_moved}
+use Rattle.law_moves.specs.Wires.{of_leg}
 use Rattle.law_role_server.specs.Counted.Counting.{is_conn_a2, is_conn_b2, leg_at, often, often_at}
 
 -- a row takes packets that pass a test only on the first leg of a kind

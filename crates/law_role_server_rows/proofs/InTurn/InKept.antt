@@ -2,10 +2,9 @@
 use Rattle.std.proofs.Common.{◌≡◌, ℕ, ◌==◌, ◌<◌, ◌+◌, ◌&&◌, Bool, true, false, true≢false, List, [], ◌∷◌, ◌++◌, Some, None, arith, refl, sym, ap, ◌∙◌, subst}
 use Rattle.std.proofs.lemmas.Bool.{false≢true}
 use Rattle.std.specs.declared.option.Option.{Option}
+use Rattle.law_order.proofs.ByNumber.{same_number, test_same, test_other}
 use Rattle.rh_rts.specs.declared.command.Cookie.{Cookie}
 use Rattle.rh_line.specs.declared.leg.LegKind.TheVariants.{InServer}
-use Rattle.law_order.proofs.ByNumber.{same_number, test_same, test_other}
-use Rattle.law_moves.specs.Moves.{OnLeg}
 use Rattle.rh_shell.specs.Rules.{Message}
 use Rattle.rh_server.specs.declared.state.Greeting.TheVariants.{Put}
 use Rattle.rh_server.specs.declared.state.InLeg.{InLeg}
@@ -19,10 +18,11 @@ use Rattle.rh_server.specs.declared.state.Tells.{Tells}
 use Rattle.rh_server.specs.declared.state.Tells.TheVariants as tells
 use Rattle.rh_server.specs.States.{has_left, is_fresh, in_place, removed_at, set_at}
 use Rattle.rh_server.specs.Opening.{in_leg_up}
+use Rattle.law_moves.specs.Moves.{OnLeg}
 use Rattle.law_role_server.specs.Counted.Counting.{is_conn_b2, is_in_r1_a2, is_in_r1_a6}
+use Rattle.law_role_server.proofs.Numbered.{Absent, Once, absent_at, absent_push, absent_removed, absent_set, once_at, once_first, once_map, once_push, once_removed, once_set}
 use Rattle.law_role_server_rows.specs.Putting.Copying.{Begins, CameAt}
 use Rattle.law_role_server_rows.proofs.Putting.Each.{came_more}
-use Rattle.law_role_server.proofs.Numbered.{Absent, Once, absent_at, absent_push, absent_removed, absent_set, once_at, once_first, once_map, once_push, once_removed, once_set}
 use Rattle.law_role_server_rows.specs.InTurn.Answers.{Came, AnswersOn}
 use Rattle.law_role_server_rows.proofs.InTurn.InLogs.{Base, Written, answers_so, came_so, written_so}
 use Rattle.law_role_server_rows.proofs.InTurn.InPlaces.{Found, Placed, placed}

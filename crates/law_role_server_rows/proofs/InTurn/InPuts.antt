@@ -4,21 +4,17 @@ use Rattle.std.proofs.lemmas.Bool.{false≢true, true≢false, and_parts, or_par
 use Rattle.std.proofs.lemmas.List.{append-nil}
 use Rattle.std.specs.Prelude.{IfSome, slice_get}
 use Rattle.std.specs.declared.option.Option.{Option}
+use Rattle.rh_window.specs.declared.recv_window.Ack.{Ack}
+use Rattle.law_order.proofs.ByNumber.{by_test, same_number, test_same, other_number}
 use Rattle.rh_rts.specs.declared.command.Cookie.{Cookie}
 use Rattle.rh_sig.specs.declared.named.Named.TheVariants as named
-use Rattle.rh_window.specs.declared.recv_window.Ack.{Ack}
 use Rattle.rh_line.specs.Lines.{after_tell, after_told, due}
 use Rattle.rh_line.specs.declared.leg.LegKind.{LegKind}
 use Rattle.rh_line.specs.declared.leg.LegKind.TheVariants.{ClientOut, OutServer, ClientIn, InServer}
 use Rattle.rh_line.specs.declared.which.Which.TheVariants.{Current}
-use Rattle.law_order.proofs.ByNumber.{by_test, same_number, test_same, other_number}
-use Rattle.law_moves.proofs.Passages.Logs.{PutKeeps}
-use Rattle.law_moves.proofs.Passages.Messages.{leg_more}
 use Rattle.rh_shell.specs.Hearing.{greeting as greeting_text}
 use Rattle.rh_shell.specs.NearEnds.{is_ended}
 use Rattle.rh_shell.specs.Rules.{Message, Text, Packet}
-use Rattle.law_moves.specs.Moves.{OnLeg, is_at_work}
-use Rattle.law_moves.specs.Wires.{of_leg}
 use Rattle.rh_server.specs.declared.state.Edge.TheVariants.{Told}
 use Rattle.rh_server.specs.declared.state.Greeting.{Greeting}
 use Rattle.rh_server.specs.declared.state.Greeting.TheVariants.{Due, Put}
@@ -37,11 +33,15 @@ use Rattle.rh_server.specs.OutReplacement.{wished}
 use Rattle.rh_server.specs.Ending.{completed, is_complete, settled}
 use Rattle.rh_server.specs.Putting.{Pick, or_else, told_by, was_current, put_tells_by, put_tells, put_b1_by, put_b1, ack_due, put_ack_by, put_ack, put_in_by, out_greeting_at, put_out_greeting, next_out, settled_pick, put_open, put_out_at, put_by as put_by_kind}
 use Rattle.rh_server.specs.Servers.{rules as server_rules}
+use Rattle.law_moves.proofs.Passages.Logs.{PutKeeps}
+use Rattle.law_moves.proofs.Passages.Messages.{leg_more}
+use Rattle.law_moves.specs.Moves.{OnLeg, is_at_work}
+use Rattle.law_moves.specs.Wires.{of_leg}
 use Rattle.law_role_server.specs.Counted.Counting.{leg_at}
+use Rattle.law_role_server.proofs.Numbered.{once_map}
 use Rattle.law_role_server_rows.specs.Putting.Copying.{Begins, CameAt}
 use Rattle.law_role_server_rows.specs.Putting.Greeting.{is}
 use Rattle.law_role_server_rows.proofs.Putting.Each.{number_found}
-use Rattle.law_role_server.proofs.Numbered.{once_map}
 use Rattle.law_role_server_rows.specs.InTurn.Answers.{AcksAt, AnswersOn, TellsAt}
 use Rattle.law_role_server_rows.proofs.InTurn.InView.{Alone, view, out_alone}
 use Rattle.law_role_server_rows.proofs.InTurn.InLogs.{Base, IsTold, Written, acked, base_answers, greeted, left, told, told_answers}

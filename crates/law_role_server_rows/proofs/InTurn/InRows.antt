@@ -3,15 +3,11 @@ use Rattle.std.proofs.Common.{◌≡◌, ℕ, ◌+◌, ◌&&◌, ◌||◌, Bool,
 use Rattle.std.proofs.lemmas.Bool.{false≢true, true≢false}
 use Rattle.std.specs.Prelude.{IfSome, IsTrue}
 use Rattle.std.specs.declared.option.Option.{Option}
+use Rattle.law_order.proofs.ByNumber.{by_test}
 use Rattle.rh_rts.specs.declared.command.Cookie.{Cookie}
 use Rattle.rh_sig.specs.declared.named.Named.{Named}
 use Rattle.rh_line.specs.declared.leg.LegKind.TheVariants.{InServer}
-use Rattle.law_order.proofs.ByNumber.{by_test}
-use Rattle.law_moves.specs.Passages.Passing.{count_of}
-use Rattle.law_moves.proofs.Passages.Messages.{count_append, leg_more}
 use Rattle.rh_shell.specs.Rules.{Message, Packet}
-use Rattle.law_moves.specs.Moves.{OnLeg, is_at_work, is_in_use}
-use Rattle.law_moves.specs.Wires.{of_leg}
 use Rattle.rh_server.specs.declared.state.Edge.TheVariants.{Shut}
 use Rattle.rh_server.specs.declared.state.InLeg.{InLeg}
 use Rattle.rh_server.specs.declared.state.InStage.{InStage}
@@ -28,6 +24,10 @@ use Rattle.rh_server.specs.Opening.{first_in}
 use Rattle.rh_server.specs.InReplacement.{opens_next, opens_leg, first_waiting, waiting_place, next_opened, becomes_current, moved_if, announced}
 use Rattle.rh_server.specs.Ending.{in_is_done}
 use Rattle.rh_server.specs.Servers.{rules as server_rules}
+use Rattle.law_moves.specs.Passages.Passing.{count_of}
+use Rattle.law_moves.proofs.Passages.Messages.{count_append, leg_more}
+use Rattle.law_moves.specs.Moves.{OnLeg, is_at_work, is_in_use}
+use Rattle.law_moves.specs.Wires.{of_leg}
 use Rattle.law_role_server.specs.Counted.Counting.{is_conn_b2, is_in_r1_a2, is_in_r1_a6, leg_at, often_at}
 use Rattle.law_role_server_rows.specs.Putting.Copying.{Begins, CameAt}
 use Rattle.law_role_server_rows.proofs.Putting.Each.{came_last, has_one, own_leg}

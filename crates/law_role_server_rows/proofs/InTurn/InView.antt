@@ -2,10 +2,10 @@
 use Rattle.std.proofs.Common.{◌≡◌, ℕ, ◌==◌, ◌&&◌, List, Some, None, refl, rules}
 use Rattle.std.specs.Prelude.{IfSome, slice_get}
 use Rattle.std.specs.declared.option.Option.{Option}
+use Rattle.law_order.proofs.ByNumber.{by_test}
 use Rattle.rh_sig.specs.declared.named.Named.{Named}
 use Rattle.rh_sig.specs.declared.named.Named.TheVariants as named
 use Rattle.rh_line.specs.Queue.{front_length}
-use Rattle.law_order.proofs.ByNumber.{by_test}
 use Rattle.rh_shell.specs.declared.due.Due.{Due}
 use Rattle.rh_shell.specs.Rules.{Message, Packet}
 use Rattle.rh_shell.specs.Waiting.{Waiting, taken}

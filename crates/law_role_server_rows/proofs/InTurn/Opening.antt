@@ -4,10 +4,10 @@ use Rattle.std.proofs.lemmas.Bool.Decides.{nat_tests}
 use Rattle.std.specs.List.{AllByRecursion}
 use Rattle.rh_sig.specs.declared.named.Named.{Named}
 use Rattle.rh_line.specs.declared.leg.LegKind.TheVariants.{OutServer, InServer}
-use Rattle.law_moves.specs.Moves.{OnLeg, Passage}
 use Rattle.rh_shell.specs.Rules.{Message, Text, Pdu, Packet}
-use Rattle.law_moves.specs.Passages.Passing.{count_of, of_kind}
 use Rattle.rh_server.specs.States.{Server}
+use Rattle.law_moves.specs.Moves.{OnLeg, Passage}
+use Rattle.law_moves.specs.Passages.Passing.{count_of, of_kind}
 use Rattle.law_role_server.specs.Counted.Counting.{is_conn_a2, is_conn_b2, is_conn_c1, in_came, out_came, often_at}
 use Rattle.law_role_server.specs.Counted.Opening.{IsText, OpensOnce}
 use Rattle.law_role_server_rows.specs.Putting.Greeting.{IsFrame}

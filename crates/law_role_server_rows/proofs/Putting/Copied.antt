@@ -3,6 +3,7 @@ use Rattle.std.proofs.Common.{◌≡◌, ◌⊎◌, ℕ, ◌&&◌, ◌||◌, Boo
 use Rattle.std.specs.Prelude.{IfSome}
 use Rattle.std.specs.List.{AllByRecursion}
 use Rattle.std.specs.declared.option.Option.{Option}
+use Rattle.law_order.proofs.ByNumber.{by_test}
 use Rattle.rh_rts.specs.declared.command.Cookie.{Cookie}
 use Rattle.rh_sig.specs.declared.named.Named.{Named}
 use Rattle.rh_sig.specs.declared.named.Named.TheVariants as named
@@ -10,9 +11,7 @@ use Rattle.rh_line.specs.Lines.{Line, after_open_next, after_take, after_finish}
 use Rattle.rh_line.proofs.Queues.{each_push}
 use Rattle.rh_line.specs.declared.leg.LegKind.{LegKind}
 use Rattle.rh_line.specs.declared.leg.LegKind.TheVariants.{InServer}
-use Rattle.law_order.proofs.ByNumber.{by_test}
 use Rattle.rh_shell.specs.declared.due.Due.{Due}
-use Rattle.law_moves.specs.Moves.{OnLeg}
 use Rattle.rh_shell.specs.Waiting.{Waiting, added, own}
 use Rattle.rh_server.specs.declared.out_line.Kind.TheVariants as kinds
 use Rattle.rh_server.specs.declared.state.Stage.{Stage}
@@ -27,6 +26,7 @@ use Rattle.rh_server.specs.States.{Server, no_cookie, in_leg, in_place, set_at, 
 use Rattle.rh_server.specs.InReplacement.{ended_if, opens_next, opens_leg, first_waiting, waiting_place, next_opened, becomes_current, moved_if, take}
 use Rattle.rh_server.specs.OutReplacement.{asks, wishes, wished}
 use Rattle.rh_server.specs.Ending.{is_complete, completed, settled}
+use Rattle.law_moves.specs.Moves.{OnLeg}
 use Rattle.law_role_server_rows.specs.Putting.Copying.{IsConnB2, IsInR1A2, Begins, CameAt, CopiesAt}
 use Rattle.law_role_server_rows.proofs.Putting.Each.{each_in, each_set, each_removed, came_more, copies_more}
 

@@ -5,27 +5,24 @@ use Rattle.std.specs.Prelude.{IfSome, nat_le, slice_get, find}
 use Rattle.std.specs.List.{AllByRecursion}
 use Rattle.std.specs.declared.option.Option.{Option}
 use Rattle.std.specs.declared.result.Result.{Result}
+use Rattle.rh_window.specs.declared.recv_window.Ack.{Ack}
+use Rattle.law_order.proofs.ByNumber.{by_test, same_number}
 use Rattle.rh_pdu.specs.Checking.{pdu_fault}
 use Rattle.rh_pdu.specs.declared.fault.PduFault.{PduFault}
 use Rattle.rh_rts.specs.declared.command.Cookie.{Cookie}
 use Rattle.rh_sig.specs.declared.named.Named.{Named}
 use Rattle.rh_sig.specs.declared.named.Named.TheVariants as named
-use Rattle.rh_window.specs.declared.recv_window.Ack.{Ack}
 use Rattle.rh_line.specs.Lines.{after_tell, after_told, due}
 use Rattle.rh_line.specs.Queue.{front_length, queue_bytes}
 use Rattle.rh_line.specs.declared.leg.LegKind.{LegKind}
 use Rattle.rh_line.specs.declared.leg.LegKind.TheVariants.{ClientOut, OutServer, ClientIn, InServer}
 use Rattle.rh_line.specs.declared.which.Which.TheVariants.{Current}
 use Rattle.rh_line.proofs.Queues.{each_push}
-use Rattle.law_order.proofs.ByNumber.{by_test, same_number}
 use Rattle.rh_shell.specs.declared.answers.Count.{Count}
 use Rattle.rh_shell.specs.declared.due.Due.{Due}
 use Rattle.rh_shell.specs.declared.end_role.GiveRefused.{GiveRefused}
 use Rattle.rh_shell.specs.Rules.{Pdu, Packet}
-use Rattle.law_moves.specs.Moves.{OnLeg, EndMove, end_started, all_end_moved}
 use Rattle.rh_shell.specs.Waiting.{taken}
-use Rattle.law_moves.proofs.Passages.Messages.{all_append}
-use Rattle.law_moves.proofs.Passages.Logs.{RowKeeps, PutKeeps, StepsKeep, ActsKeep, end_moves_keep}
 use Rattle.rh_server.specs.declared.state.EndMark.TheVariants as end_mark
 use Rattle.rh_server.specs.declared.state.Edge.TheVariants.{Told}
 use Rattle.rh_server.specs.declared.state.Greeting.TheVariants as greeting
@@ -43,6 +40,9 @@ use Rattle.rh_server.specs.Putting.{Pick, or_else, put_by, told_by, put_in_greet
 use Rattle.rh_server.specs.Servers.{acts, first, packet_by}
 use Rattle.rh_server.specs.Servers.{pdu_by as pdu_by_kind}
 use Rattle.rh_server.specs.Servers.{rules as server_rules}
+use Rattle.law_moves.specs.Moves.{OnLeg, EndMove, end_started, all_end_moved}
+use Rattle.law_moves.proofs.Passages.Messages.{all_append}
+use Rattle.law_moves.proofs.Passages.Logs.{RowKeeps, PutKeeps, StepsKeep, ActsKeep, end_moves_keep}
 use Rattle.law_role_server_rows.specs.Putting.Copying.{leg_at, Copies, CopiesWhatCame}
 use Rattle.law_role_server_rows.proofs.Putting.Each.{each_found, each_without, number_found, came_last, all_more}
 use Rattle.law_role_server_rows.proofs.Putting.Copied.{LegHas, DueCopies, ChannelHas, Fine, fine_more, line_is, legs_are, packets_are, leg_found, leg_set, leg_gone, takes_kept, settles}

@@ -5,6 +5,7 @@ use Rattle.std.specs.Prelude.{IfSome, nat_lt}
 use Rattle.std.specs.List.{AllByRecursion, list_any}
 use Rattle.std.specs.declared.option.Option.{Option}
 use Rattle.std.specs.declared.result.Result.{Result}
+use Rattle.law_order.proofs.ByNumber.{by_test, same_number}
 use Rattle.rh_rts.specs.declared.command.Cookie.{Cookie}
 use Rattle.rh_sig.specs.declared.named.Named.{Named}
 use Rattle.rh_sig.specs.declared.named.Named.TheVariants as named
@@ -16,16 +17,12 @@ use Rattle.rh_line.specs.declared.line_fault.LineFault.{LineFault}
 use Rattle.rh_line.specs.declared.line_fault.LineFault.TheVariants.{Window, Over}
 use Rattle.rh_line.specs.declared.which.Which.{Which}
 use Rattle.rh_line.specs.declared.which.Which.TheVariants.{Current, Next}
-use Rattle.law_order.proofs.ByNumber.{by_test, same_number}
 use Rattle.rh_shell.specs.declared.answers.Count.{Count}
 use Rattle.rh_shell.specs.declared.answers.Refused.TheVariants as refused
 use Rattle.rh_shell.specs.declared.due.Due.{Due}
 use Rattle.rh_shell.specs.declared.due.Origin.TheVariants.{Forwarded}
 use Rattle.rh_shell.specs.declared.end_role.RecycleRefused.{RecycleRefused}
-use Rattle.law_moves.specs.Moves.{OnLeg}
 use Rattle.rh_shell.specs.Waiting.{Waiting, to_forward, pushed, with_due, merged, better, takes, edge_of, count as count_of, forwarded}
-use Rattle.law_moves.specs.Wires.{of_leg}
-use Rattle.law_moves.specs.Passages.Passing.{Has}
 use Rattle.rh_server.specs.declared.state.Stage.{Stage}
 use Rattle.rh_server.specs.declared.state.Stage.TheVariants as stage
 use Rattle.rh_server.specs.declared.state.InStage.{InStage}
@@ -45,6 +42,9 @@ use Rattle.rh_server.specs.InReplacement.{announced, in_r1_a2_by, in_r1_a2_at, o
 use Rattle.rh_server.specs.OutReplacement.{asks, recycle, is_under_way, last_number, answered_by, answered_on, out_r1_a4_by, out_r1_a4_at, may_answer, on_out_r1_a4, confirms, out_r1_a8_at, on_out_r1_a8}
 use Rattle.rh_server.specs.Ending.{end_a2_on_leg, end_a2_waiting, is_over_on, end_a2_at, on_end_a2}
 use Rattle.rh_server.specs.Servers.{on_is, on_os, packet_by}
+use Rattle.law_moves.specs.Moves.{OnLeg}
+use Rattle.law_moves.specs.Wires.{of_leg}
+use Rattle.law_moves.specs.Passages.Passing.{Has}
 use Rattle.law_role_server_rows.specs.Putting.Copying.{leg_at, IsConnB2, IsInR1A2, IsOutR1A4, Begins, CameAt, CopiesAt}
 use Rattle.law_role_server_rows.proofs.Putting.Each.{each_merged, has_one, number_found}
 use Rattle.law_role_server_rows.proofs.Putting.Copied.{StageHas, WaitHas, LegHas, DueCopies, Fine, finish_size, stage_is, line_is, packets_are, packet_added, leg_found, leg_set, next_opens, moves, asks_kept}

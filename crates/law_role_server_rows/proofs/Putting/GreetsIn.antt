@@ -4,28 +4,24 @@ use Rattle.std.proofs.lemmas.Bool.{and_parts}
 use Rattle.std.proofs.lemmas.List.{append-nil}
 use Rattle.std.specs.Prelude.{IfSome, slice_get, slice_set}
 use Rattle.std.specs.declared.option.Option.{Option}
+use Rattle.rh_window.specs.declared.recv_window.Ack.{Ack}
+use Rattle.law_order.proofs.ByNumber.{by_test, same_number}
 use Rattle.rh_rts.specs.declared.command.Cookie.{Cookie}
 use Rattle.rh_sig.specs.declared.named.Named.{Named}
 use Rattle.rh_sig.specs.declared.named.Named.TheVariants as named
-use Rattle.rh_window.specs.declared.recv_window.Ack.{Ack}
 use Rattle.rh_line.specs.Lines.{after_tell, after_told, after_finish, after_take}
 use Rattle.rh_line.specs.declared.leg.Leg.{Leg}
 use Rattle.rh_line.specs.declared.leg.LegKind.{LegKind}
 use Rattle.rh_line.specs.declared.leg.LegKind.TheVariants.{ClientOut, OutServer, ClientIn, InServer}
 use Rattle.rh_line.specs.declared.which.Which.{Which}
 use Rattle.rh_line.specs.declared.which.Which.TheVariants.{Current, Next}
-use Rattle.law_order.proofs.ByNumber.{by_test, same_number}
+use Rattle.rh_line.specs.Queue.{front_length}
 use Rattle.rh_shell.specs.Hearing.{greeting as greeting_text}
 use Rattle.rh_shell.specs.declared.answers.Count.{Count}
 use Rattle.rh_shell.specs.declared.answers.Refused.TheVariants as refused
 use Rattle.rh_shell.specs.Rules.{Message, Text, Pdu, Packet}
-use Rattle.law_moves.specs.Moves.{OnLeg, EndMove, end_started, all_end_moved}
 use Rattle.rh_shell.specs.Waiting.{Waiting, taken}
-use Rattle.law_moves.specs.Wires.{of_leg}
-use Rattle.rh_line.specs.Queue.{front_length}
 use Rattle.rh_shell.specs.declared.due.Due.{Due}
-use Rattle.law_moves.proofs.Passages.Messages.{leg_more}
-use Rattle.law_moves.proofs.Passages.Logs.{RowKeeps, PutKeeps, StepsKeep, ActsKeep, end_moves_keep}
 use Rattle.rh_server.specs.declared.state.Edge.TheVariants.{Told, Shut}
 use Rattle.rh_server.specs.declared.state.Greeting.{Greeting}
 use Rattle.rh_server.specs.declared.state.Greeting.TheVariants as greeting
@@ -51,9 +47,13 @@ use Rattle.rh_server.specs.Ending.{give, settled, in_is_drawn, drawn_by, with_ac
 use Rattle.rh_server.specs.Putting.{Pick, or_else, told_by, was_current, put_tells_by, put_tells, put_b1_by, put_b1, put_ack_by, put_ack, ack_due, put_in_by, out_greeting_at, put_out_greeting, gate_at, counts, was_put, waiting_by, waiting_at, put_waiting, may_go_at, pdu_by, put_pdu, may_end_at, is_end_due, put_end, put_pdu_or_end, next_out, settled_pick, put_open, put_out_at, put_out, put_by}
 use Rattle.rh_server.specs.Servers.{acts, first, on_is, on_os, packet_by, pdu}
 use Rattle.rh_server.specs.Servers.{rules as server_rules}
+use Rattle.law_moves.specs.Moves.{OnLeg, EndMove, end_started, all_end_moved}
+use Rattle.law_moves.specs.Wires.{of_leg}
+use Rattle.law_moves.proofs.Passages.Messages.{leg_more}
+use Rattle.law_moves.proofs.Passages.Logs.{RowKeeps, PutKeeps, StepsKeep, ActsKeep, end_moves_keep}
+use Rattle.law_role_server.proofs.Numbered.{once_at}
 use Rattle.law_role_server_rows.specs.Putting.Copying.{leg_at}
 use Rattle.law_role_server_rows.specs.Putting.Greeting.{is, IsFrame, MayGreet, GreetsFirst}
-use Rattle.law_role_server.proofs.Numbered.{once_at}
 use Rattle.law_role_server_rows.proofs.Putting.Each.{number_found}
 use Rattle.law_role_server_rows.proofs.Putting.Greets.{IsAs, IsSo, Greets, greets_start, greets_removed, greets_up, greets_frame, greets_text, greets_other, greets_let, greets_newer}
 use Rattle.law_role_server_rows.proofs.Putting.GreetsOut.{is_when_due, is_when_put, greets_out}

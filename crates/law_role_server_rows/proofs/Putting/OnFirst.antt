@@ -8,11 +8,11 @@ use Rattle.rh_line.specs.declared.leg.Leg.{Leg}
 use Rattle.rh_line.specs.declared.leg.LegKind.{LegKind}
 use Rattle.rh_line.specs.declared.leg.LegKind.TheVariants.{ClientOut, OutServer, ClientIn, InServer}
 use Rattle.rh_shell.specs.Rules.{Message, Text, Pdu, Packet}
+use Rattle.rh_server.specs.States.{Server}
+use Rattle.rh_server.specs.Putting.{Pick, put_by}
 use Rattle.law_moves.specs.Moves.{OnLeg}
 use Rattle.law_moves.specs.Passages.Passing.{of_kind}
 use Rattle.law_moves.proofs.Passages.Logs.{PutKeeps}
-use Rattle.rh_server.specs.States.{Server}
-use Rattle.rh_server.specs.Putting.{Pick, put_by}
 use Rattle.law_role_server.specs.Counted.BeforeC1.{MayGoBefore}
 use Rattle.law_role_server_rows.specs.Putting.Puts.{Turn, behind, behind_all, first_turn, os, Stands, StandFrom}
 use Rattle.law_role_server_rows.specs.Putting.First.{IsOnFirst, ConnC1GoesOnFirst}

@@ -4,17 +4,17 @@ use Rattle.std.proofs.lemmas.Bool.{false≢true, and_parts}
 use Rattle.std.proofs.lemmas.List.Quantifiers.{position-Some}
 use Rattle.std.proofs.lemmas.Option.{get_or_from_slice_get}
 use Rattle.std.specs.Prelude.{IfSome, slice_get, find}
+use Rattle.rh_keep.specs.Meters.{may_put}
+use Rattle.law_order.proofs.ByNumber.{by_test, same_number}
 use Rattle.rh_sig.specs.declared.named.Named.{Named}
 use Rattle.rh_sig.specs.declared.named.Named.TheVariants as named
-use Rattle.law_order.proofs.ByNumber.{by_test, same_number}
 use Rattle.rh_shell.specs.declared.due.Due.{Due}
-use Rattle.law_moves.specs.Moves.{OnLeg}
 use Rattle.rh_server.specs.declared.state.EndMark.{EndMark}
 use Rattle.rh_server.specs.declared.state.Giving.{Giving}
 use Rattle.rh_server.specs.declared.state.OutLeg.{OutLeg}
 use Rattle.rh_server.specs.OutLines.{Gate, lets_packet}
-use Rattle.rh_keep.specs.Meters.{may_put}
 use Rattle.rh_server.specs.States.{Server, same_cookie, is_closing, is_put, is_nil, out_place}
+use Rattle.law_moves.specs.Moves.{OnLeg}
 use Rattle.law_role_server_rows.specs.Putting.Puts.{Turn, behind, behind_all, first_turn, os, PacketStands, Stands, StandFrom}
 
 pub behind_more : (t : Turn) (log : List OnLeg) (one : OnLeg)

@@ -5,24 +5,19 @@ use Rattle.std.specs.Prelude.{slice_get, slice_set, IfSome, IsTrue}
 use Rattle.std.specs.List.{AllByRecursion}
 use Rattle.std.specs.declared.option.Option.{Option}
 use Rattle.std.proofs.lemmas.List.Quantifiers.{position-Some}
+use Rattle.rh_window.specs.Sending.{unsent, after_acked}
+use Rattle.rh_keep.specs.Meters.{started}
+use Rattle.law_order.proofs.ByNumber.{by_test, same_number, test_other}
 use Rattle.rh_rts.specs.declared.command.Cookie.{Cookie}
 use Rattle.rh_sig.specs.declared.named.Named.{Named}
 use Rattle.rh_sig.specs.declared.named.Named.TheVariants as named
-use Rattle.rh_keep.specs.Meters.{started}
-use Rattle.rh_window.specs.Sending.{unsent, after_acked}
 use Rattle.rh_line.specs.declared.leg.Leg.{Leg}
 use Rattle.rh_line.specs.declared.leg.LegKind.{LegKind}
 use Rattle.rh_line.specs.declared.leg.LegKind.TheVariants.{ClientOut, OutServer, ClientIn, InServer}
-use Rattle.law_order.proofs.ByNumber.{by_test, same_number, test_other}
-use Rattle.law_moves.specs.Passages.Passing.{count_of}
-use Rattle.law_moves.proofs.Passages.Messages.{each_so, count_append, leg_more}
-use Rattle.law_moves.proofs.Passages.Logs.{RowKeeps}
 use Rattle.rh_shell.specs.declared.answers.Count.{Count}
 use Rattle.rh_shell.specs.declared.answers.Refused.TheVariants as refused
 use Rattle.rh_shell.specs.Rules.{Message, Packet}
-use Rattle.law_moves.specs.Moves.{OnLeg, is_in_use, is_at_work}
 use Rattle.rh_shell.specs.Shells.{same_leg}
-use Rattle.law_moves.specs.Wires.{of_leg}
 use Rattle.rh_server.specs.declared.state.OutLeg.{OutLeg}
 use Rattle.rh_server.specs.declared.state.Stage.{Stage}
 use Rattle.rh_server.specs.declared.state.Stage.TheVariants as stage
@@ -36,6 +31,11 @@ use Rattle.rh_server.specs.OutReplacement.{answered_by, answered_on, out_r1_a4_b
 use Rattle.rh_server.specs.Ending.{on_end_a2}
 use Rattle.rh_server.specs.Servers.{on_is, on_os, packet_by}
 use Rattle.rh_server.specs.Servers.{rules as server_rules}
+use Rattle.law_moves.specs.Passages.Passing.{count_of}
+use Rattle.law_moves.proofs.Passages.Messages.{each_so, count_append, leg_more}
+use Rattle.law_moves.proofs.Passages.Logs.{RowKeeps}
+use Rattle.law_moves.specs.Moves.{OnLeg, is_in_use, is_at_work}
+use Rattle.law_moves.specs.Wires.{of_leg}
 use Rattle.law_role_server.specs.Counted.Counting.{leg_at, often_at}
 use Rattle.law_role_server_rows.proofs.Refusing.Places.{all_at, all_set}
 use Rattle.law_role_server_rows.proofs.Refusing.Ascending.{Ascends, within_at, ascends_set, others_so}

@@ -5,16 +5,15 @@ use Rattle.std.proofs.lemmas.Bool.Decides.{not_from_Decides}
 use Rattle.std.proofs.lemmas.Slice.Eq.{bytes_eq-Decides}
 use Rattle.std.specs.Prelude.{slice_get, bytes_eq, IfSome}
 use Rattle.std.specs.declared.option.Option.{Option}
+use Rattle.law_order.proofs.ByNumber.{by_test}
 use Rattle.rh_rts.specs.declared.command.Cookie.{Cookie}
 use Rattle.rh_sig.specs.declared.named.Named.{Named}
 use Rattle.rh_sig.specs.declared.named.Named.TheVariants as named
 use Rattle.rh_line.specs.declared.leg.LegKind.{LegKind}
 use Rattle.rh_line.specs.declared.leg.LegKind.TheVariants.{ClientOut, OutServer, ClientIn, InServer}
-use Rattle.law_order.proofs.ByNumber.{by_test}
 use Rattle.rh_shell.specs.declared.answers.Count.{Count}
 use Rattle.rh_shell.specs.declared.answers.Refused.TheVariants as refused
 use Rattle.rh_shell.specs.Rules.{Row}
-use Rattle.law_moves.specs.Moves.{OnLeg, Passage}
 use Rattle.rh_server.specs.declared.state.InLeg.{InLeg}
 use Rattle.rh_server.specs.declared.state.OutLeg.{OutLeg}
 use Rattle.rh_server.specs.declared.state.Replacement.{Replacement}
@@ -28,6 +27,7 @@ use Rattle.rh_server.specs.InReplacement.{announced, in_r1_a2_by, in_r1_a2_at, o
 use Rattle.rh_server.specs.OutReplacement.{answered_on, out_r1_a4_by, out_r1_a4_at, on_out_r1_a4, out_r1_a8_at, on_out_r1_a8}
 use Rattle.rh_server.specs.Ending.{on_end_a2}
 use Rattle.rh_server.specs.Servers.{packet_by, on_is, on_os}
+use Rattle.law_moves.specs.Moves.{OnLeg, Passage}
 use Rattle.law_role_server.specs.Counted.Counting.{is_out_r1_a9, out_put}
 use Rattle.law_role_server_rows.specs.Refusing.Cookies.{IsConnection, IsOutChannel}
 use Rattle.law_role_server_rows.specs.Refusing.Refusing.{IsOther, MismatchIn, MismatchOut, MismatchBy}

@@ -4,15 +4,13 @@ use Rattle.std.proofs.lemmas.Bool.{false≢true, and_parts}
 use Rattle.std.specs.Prelude.{slice_get, IfSome, IsTrue}
 use Rattle.std.specs.List.{AllByRecursion}
 use Rattle.std.specs.declared.option.Option.{Option}
+use Rattle.law_order.proofs.ByNumber.{by_test, other_number}
 use Rattle.rh_rts.specs.declared.command.Cookie.{Cookie}
 use Rattle.rh_sig.specs.declared.named.Named.{Named}
 use Rattle.rh_line.specs.declared.leg.LegKind.TheVariants.{OutServer}
-use Rattle.law_order.proofs.ByNumber.{by_test, other_number}
-use Rattle.law_moves.specs.Passages.Passing.{count_of, of_kind}
 use Rattle.rh_shell.specs.declared.answers.Count.{Count}
 use Rattle.rh_shell.specs.declared.answers.Refused.TheVariants as refused
 use Rattle.rh_shell.specs.Rules.{Message, Text, Pdu, Packet}
-use Rattle.law_moves.specs.Moves.{Passage, is_in_use, is_at_work}
 use Rattle.rh_shell.specs.NearEnds.{is_ended}
 use Rattle.rh_server.specs.declared.state.OutLeg.{OutLeg}
 use Rattle.rh_server.specs.declared.state.Replacement.{Replacement}
@@ -26,10 +24,12 @@ use Rattle.rh_server.specs.Opening.{Done, unexpected, refuse, is_first}
 use Rattle.rh_server.specs.Acknowledging.{acked_at, acked_in, acked_cookie, on_ack}
 use Rattle.rh_server.specs.OutReplacement.{answered_by, answered_on, out_r1_a4_by, out_r1_a4_at, is_asked, may_answer, on_out_r1_a4}
 use Rattle.rh_server.specs.Servers.{rules as server_rules}
+use Rattle.law_moves.specs.Passages.Passing.{count_of, of_kind}
+use Rattle.law_moves.specs.Moves.{Passage, is_in_use, is_at_work}
+use Rattle.law_moves.specs.Passages.Counted.{Tells}
 use Rattle.law_role_server.specs.Counted.Counting.{is_conn_a2, is_out_r1_a1, is_out_r1_a4, is_out_r1_a9, out_came, out_put, leg_at, often_at}
 use Rattle.law_role_server.specs.Counted.Opening.{since_conn_a2, since_conn_b2, IsText, OpensOnce}
 use Rattle.law_role_server.specs.Counted.Replacing.{since_asked, since_answered, ArePutInTurn, AreReplaced}
-use Rattle.law_moves.specs.Passages.Counted.{Tells}
 use Rattle.law_role_server_rows.specs.Refusing.Refusing.{IsUnbegun}
 use Rattle.law_role_server_rows.proofs.Refusing.Writing.{has_place, Writes}
 use Rattle.law_role_server_rows.proofs.Refusing.FirstLeg.{AreFirst}

@@ -14,8 +14,8 @@ use Rattle.rh_server.specs.declared.out_line.Kind.TheVariants as kind
 use Rattle.rh_server.specs.OutLines.{is_kind, is_own}
 use Rattle.rh_server.specs.States.{is_some}
 use Rattle.rh_server.specs.Opening.{is_first}
-use Rattle.law_role_server.specs.Counted.Counting.{is_conn_c1, is_out_r1_a1, is_out_r1_a5, is_out_r1_a9, waiting_of}
 use Rattle.law_moves.specs.Passages.Counted.{Tells}
+use Rattle.law_role_server.specs.Counted.Counting.{is_conn_c1, is_out_r1_a1, is_out_r1_a5, is_out_r1_a9, waiting_of}
 
 pub one_fails : (a b : Bool) → a && b ≡ false → (a ≡ false) ⊎ (b ≡ false)
 one_fails false b e = inl refl

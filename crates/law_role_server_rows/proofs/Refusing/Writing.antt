@@ -3,18 +3,16 @@ use Rattle.std.proofs.Common.{◌≡◌, ◌⊎◌, inl, inr, ℕ, zero, suc, �
 use Rattle.std.proofs.lemmas.Bool.{false≢true, and_parts}
 use Rattle.std.specs.Prelude.{slice_get, slice_set, remove, IsTrue}
 use Rattle.std.specs.declared.option.Option.{Option}
+use Rattle.rh_window.specs.Sending.{unsent, after_acked}
+use Rattle.rh_keep.specs.Meters.{started}
+use Rattle.law_order.proofs.ByNumber.{by_test, same_number, other_number}
 use Rattle.rh_rts.specs.declared.command.Cookie.{Cookie}
 use Rattle.rh_sig.specs.declared.named.Named.{Named}
 use Rattle.rh_sig.specs.declared.named.Named.TheVariants as named
-use Rattle.rh_keep.specs.Meters.{started}
-use Rattle.rh_window.specs.Sending.{unsent, after_acked}
 use Rattle.rh_line.specs.declared.leg.LegKind.{LegKind}
 use Rattle.rh_line.specs.declared.leg.LegKind.TheVariants.{ClientOut, OutServer, ClientIn, InServer}
-use Rattle.law_order.proofs.ByNumber.{by_test, same_number, other_number}
-use Rattle.law_moves.proofs.Passages.Logs.{RowKeeps}
 use Rattle.rh_shell.specs.declared.answers.Count.{Count}
 use Rattle.rh_shell.specs.declared.answers.Refused.TheVariants as refused
-use Rattle.law_moves.specs.Moves.{OnLeg, is_in_use}
 use Rattle.rh_shell.specs.Waiting.{taken}
 use Rattle.rh_server.specs.declared.state.OutLeg.{OutLeg}
 use Rattle.rh_server.specs.declared.state.Replacement.{Replacement}
@@ -31,6 +29,8 @@ use Rattle.rh_server.specs.OutReplacement.{answered_by, answered_on, out_r1_a4_b
 use Rattle.rh_server.specs.Ending.{on_end_a2}
 use Rattle.rh_server.specs.Servers.{on_is, on_os, packet_by}
 use Rattle.rh_server.specs.Servers.{rules as server_rules}
+use Rattle.law_moves.proofs.Passages.Logs.{RowKeeps}
+use Rattle.law_moves.specs.Moves.{OnLeg, is_in_use}
 use Rattle.law_role_server.specs.Counted.Counting.{leg_at}
 use Rattle.law_role_server.specs.Counted.Opening.{since_conn_a2}
 use Rattle.law_role_server.specs.Counted.Replacing.{since_answered}

@@ -4,19 +4,17 @@ use Rattle.std.proofs.lemmas.Bool.{false≢true, and_parts}
 use Rattle.std.proofs.lemmas.Bool.Decides.{nat_tests}
 use Rattle.std.specs.Prelude.{slice_get, remove, find, IfSome, IsTrue}
 use Rattle.std.specs.declared.option.Option.{Option}
+use Rattle.rh_keep.specs.Meters.{fits}
+use Rattle.law_order.proofs.ByNumber.{by_test}
 use Rattle.rh_rts.specs.declared.command.Cookie.{Cookie}
 use Rattle.rh_sig.specs.declared.named.Named.{Named}
 use Rattle.rh_sig.specs.declared.named.Named.TheVariants as named
-use Rattle.rh_keep.specs.Meters.{fits}
 use Rattle.rh_line.specs.Queue.{front_length}
 use Rattle.rh_line.specs.declared.leg.Leg.{Leg}
 use Rattle.rh_line.specs.declared.leg.LegKind.{LegKind}
 use Rattle.rh_line.specs.declared.leg.LegKind.TheVariants.{ClientOut, OutServer, ClientIn, InServer}
-use Rattle.law_order.proofs.ByNumber.{by_test}
-use Rattle.law_moves.proofs.Passages.Logs.{PutKeeps, ActsKeep}
 use Rattle.rh_shell.specs.declared.due.Due.{Due}
 use Rattle.rh_shell.specs.Rules.{Message, Packet, Pdu}
-use Rattle.law_moves.specs.Moves.{OnLeg, EndMove, AreAllowedAtEnd, end_started, all_end_moved}
 use Rattle.rh_shell.specs.Waiting.{Waiting, taken}
 use Rattle.rh_server.specs.declared.state.Greeting.TheVariants as greetings
 use Rattle.rh_server.specs.declared.state.OutLeg.{OutLeg}
@@ -34,6 +32,8 @@ use Rattle.rh_server.specs.Ending.{give, completed, is_complete, settled, in_is_
 use Rattle.rh_server.specs.Putting.{Pick, or_else, put_in, out_greeting_at, put_out_greeting, gate, gate_at, counts, counts_at, was_put, waiting_by, waiting_at, put_waiting, may_go_at, went_at, pdu_by as put_pdu_by, put_pdu, is_end_due, may_end_at, put_end, put_pdu_or_end, next_out, settled_pick, put_open, put_out_at, put_by as put_by_kind}
 use Rattle.rh_server.specs.Servers.{pdu_by, packet_by, first, acts}
 use Rattle.rh_server.specs.Servers.{rules as server_rules}
+use Rattle.law_moves.proofs.Passages.Logs.{PutKeeps, ActsKeep}
+use Rattle.law_moves.specs.Moves.{OnLeg, EndMove, AreAllowedAtEnd, end_started, all_end_moved}
 use Rattle.law_role_server.specs.Counted.Opening.{since_conn_a2}
 use Rattle.law_role_server.specs.Counted.Replacing.{since_answered}
 use Rattle.law_role_server_rows.proofs.Refusing.Allowed.{MayKeep, allowed_keep}

@@ -3,10 +3,10 @@ use Rattle.std.specs.Prelude.{ℕ, ◌≡◌, ◌⊎◌}
 use Rattle.rh_rts.specs.declared.command.Cookie.{Cookie}
 use Rattle.rh_rts.specs.declared.command.TheConstants.{TO_OUT_PROXY}
 use Rattle.rh_sig.specs.declared.named.Named.TheVariants.{AckTo}
+use Rattle.rh_server.specs.States.{Server, no_cookie}
 use Rattle.law_moves.specs.Moves.{Passage}
 use Rattle.law_moves.specs.Wires.{of_leg}
 use Rattle.law_moves.specs.Passages.Passing.{Has}
-use Rattle.rh_server.specs.States.{Server, no_cookie}
 use Rattle.law_role_server_rows.specs.Putting.Puts.{os}
 use Rattle.law_role_server_rows.specs.Refusing.Cookies.{IsOutChannel}
 

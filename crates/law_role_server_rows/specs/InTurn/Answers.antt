@@ -6,11 +6,11 @@ use Rattle.rh_sig.specs.declared.named.Named.{Named}
 use Rattle.rh_sig.specs.declared.named.Named.TheVariants.{ConnB3, InR1B1, InR1B2, Ack}
 use Rattle.rh_line.specs.declared.leg.LegKind.TheVariants.{InServer}
 use Rattle.rh_shell.specs.Hearing.{greeting}
-use Rattle.law_moves.specs.Moves.{OnLeg, Passage}
 use Rattle.rh_shell.specs.Rules.{Message, Text, Packet}
+use Rattle.rh_server.specs.States.{Server}
+use Rattle.law_moves.specs.Moves.{OnLeg, Passage}
 use Rattle.law_moves.specs.Wires.{of_leg}
 use Rattle.law_moves.specs.Passages.Passing.{Has}
-use Rattle.rh_server.specs.States.{Server}
 use Rattle.law_role_server.specs.Counted.Counting.{is_conn_b2, is_conn_b3, is_in_r1_a2, is_in_r1_a6, often_at}
 use Rattle.law_role_server_rows.specs.Putting.Copying.{Begins, CameAt}
 use Rattle.law_role_server_rows.specs.Putting.Greeting.{is}

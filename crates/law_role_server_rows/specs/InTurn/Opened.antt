@@ -1,10 +1,10 @@
 -- a server writes on OUT channels once it is open (MS-RPCH 3.2.5)
 use Rattle.std.specs.Prelude.{ℕ, ◌≡◌, ◌≤◌, List, ◌∷◌, ◌++◌}
 use Rattle.rh_line.specs.declared.leg.LegKind.TheVariants.{OutServer, InServer}
-use Rattle.law_moves.specs.Moves.{Passage}
 use Rattle.rh_shell.specs.Rules.{Message}
-use Rattle.law_moves.specs.Wires.{of_leg}
 use Rattle.rh_server.specs.States.{Server}
+use Rattle.law_moves.specs.Moves.{Passage}
+use Rattle.law_moves.specs.Wires.{of_leg}
 use Rattle.law_role_server.specs.Counted.Counting.{is_conn_a2, is_conn_b2, is_conn_c1, in_came, out_came, out_put, often_at}
 use Rattle.law_role_server_rows.specs.Putting.Greeting.{IsFrame}
 use Rattle.law_role_server_rows.specs.Putting.Puts.{os}

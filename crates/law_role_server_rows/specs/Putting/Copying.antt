@@ -10,10 +10,10 @@ use Rattle.rh_line.specs.declared.leg.Leg.{Leg}
 use Rattle.rh_line.specs.declared.leg.LegKind.{LegKind}
 use Rattle.rh_line.specs.declared.leg.LegKind.TheVariants.{OutServer, InServer}
 use Rattle.rh_shell.specs.Rules.{Text, Pdu, Packet}
+use Rattle.rh_server.specs.States.{Server, no_cookie}
 use Rattle.law_moves.specs.Moves.{OnLeg, Passage}
 use Rattle.law_moves.specs.Wires.{of_leg}
 use Rattle.law_moves.specs.Passages.Passing.{HasOne, HasOn}
-use Rattle.rh_server.specs.States.{Server, no_cookie}
 
 -- ---- what came
 

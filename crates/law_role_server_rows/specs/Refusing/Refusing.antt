@@ -9,12 +9,12 @@ use Rattle.rh_line.specs.declared.leg.LegKind.{LegKind}
 use Rattle.rh_line.specs.declared.leg.LegKind.TheVariants.{ClientOut, OutServer, ClientIn, InServer}
 use Rattle.rh_shell.specs.declared.answers.Count.{Count}
 use Rattle.rh_shell.specs.declared.answers.Refused.TheVariants as refused
-use Rattle.law_moves.specs.Moves.{Passage, is_in_use}
-use Rattle.law_moves.specs.Wires.{of_leg}
 use Rattle.rh_server.specs.States.{Server}
 use Rattle.rh_server.specs.Servers.{rules}
-use Rattle.law_role_server.specs.Counted.Counting.{is_conn_a2, is_conn_b2, is_out_r1_a1, is_out_r1_a4, is_out_r1_a5, is_out_r1_a8, is_out_r1_a9, in_came, out_came, out_put, often_at}
+use Rattle.law_moves.specs.Moves.{Passage, is_in_use}
+use Rattle.law_moves.specs.Wires.{of_leg}
 use Rattle.law_moves.specs.Passages.Counted.{packets, Tells}
+use Rattle.law_role_server.specs.Counted.Counting.{is_conn_a2, is_conn_b2, is_out_r1_a1, is_out_r1_a4, is_out_r1_a5, is_out_r1_a8, is_out_r1_a9, in_came, out_came, out_put, often_at}
 use Rattle.law_role_server_rows.specs.Refusing.Cookies.{IsConnection, IsOutChannel}
 
 -- ---- first on the leg, or not

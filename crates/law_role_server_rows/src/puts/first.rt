@@ -2,8 +2,8 @@
 
 ghost use Rattle.std.specs.Prelude.{◌≡◌, List, ℕ};
 ghost use Rattle.rh_rts.specs.declared.command.TheConstants.{TO_CLIENT};
-ghost use Rattle.law_moves.specs.Moves.{AreAllowedAtEnd, EndMove, all_end_moved, end_started};
 ghost use Rattle.rh_server.specs.Servers.{acts, first, rules};
+ghost use Rattle.law_moves.specs.Moves.{AreAllowedAtEnd, EndMove, all_end_moved, end_started};
 ghost use Rattle.law_role_server.specs.Counted.Counting.{in_came, is_ack_to, is_conn_c1, out_put};
 ghost use Rattle.law_role_server.specs.Counted.BeforeC1.{HaveRoom};
 ghost use Rattle.law_role_server_rows.specs.Putting.First.{ConnC1GoesOnFirst};

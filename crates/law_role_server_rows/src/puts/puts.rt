@@ -2,8 +2,8 @@
 //! are the laws.
 
 ghost use Rattle.std.specs.Prelude.{List, ℕ};
-ghost use Rattle.law_moves.specs.Moves.{EndMove, all_end_moved, end_started};
 ghost use Rattle.rh_server.specs.Servers.{acts, first, rules};
+ghost use Rattle.law_moves.specs.Moves.{EndMove, all_end_moved, end_started};
 ghost use Rattle.law_role_server_rows.specs.Putting.Copying.{CopiesWhatCame};
 ghost use Rattle.law_role_server_rows.specs.Putting.Greeting.{GreetsFirst};
 ghost use Rattle.law_role_server_rows.specs.Putting.Puts.{WritesInTurn};

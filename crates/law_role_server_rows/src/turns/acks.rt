@@ -2,8 +2,8 @@
 //! the law.
 
 ghost use Rattle.std.specs.Prelude.{List, ℕ};
-ghost use Rattle.law_moves.specs.Moves.{AreAllowedAtEnd, EndMove, all_end_moved, end_started};
 ghost use Rattle.rh_server.specs.Servers.{acts, first, rules};
+ghost use Rattle.law_moves.specs.Moves.{AreAllowedAtEnd, EndMove, all_end_moved, end_started};
 ghost use Rattle.law_role_server_rows.specs.InTurn.Acks.{PassesOnOwn};
 
 use crate::refusals::what_a_server_refuses;

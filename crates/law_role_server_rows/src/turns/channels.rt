@@ -1,8 +1,8 @@
 //! On which OUT channels a server writes. Its function does nothing: its contract is the law.
 
 ghost use Rattle.std.specs.Prelude.{List, ℕ};
-ghost use Rattle.law_moves.specs.Moves.{EndMove, all_end_moved, end_started};
 ghost use Rattle.rh_server.specs.Servers.{acts, first, rules};
+ghost use Rattle.law_moves.specs.Moves.{EndMove, all_end_moved, end_started};
 ghost use Rattle.law_role_server_rows.specs.InTurn.Channels.{WritesOnBegun};
 
 use crate::puts::{a_server_greets_first, a_server_writes_in_turn};

@@ -1,8 +1,8 @@
 //! What a server puts on is legs. Its function does nothing: its contract is the law.
 
 ghost use Rattle.std.specs.Prelude.{List, ℕ};
-ghost use Rattle.law_moves.specs.Moves.{AreAllowedAtEnd, EndMove, all_end_moved, end_started};
 ghost use Rattle.rh_server.specs.Servers.{acts, first, rules};
+ghost use Rattle.law_moves.specs.Moves.{AreAllowedAtEnd, EndMove, all_end_moved, end_started};
 ghost use Rattle.law_role_server_rows.specs.InTurn.Answers.{AnswersInOrder};
 
 /// Whatever moves a server makes that are allowed: what it put on an is leg, as far as it was put,

@@ -1,8 +1,8 @@
 //! How many OUT channels a server asks for. Its function does nothing: its contract is the law.
 
 ghost use Rattle.std.specs.Prelude.{List, ℕ};
-ghost use Rattle.law_moves.specs.Moves.{EndMove, all_end_moved, end_started};
 ghost use Rattle.rh_server.specs.Servers.{acts, first, rules};
+ghost use Rattle.law_moves.specs.Moves.{EndMove, all_end_moved, end_started};
 ghost use Rattle.law_role_server_rows.specs.InTurn.Numbers.{HasNumbers};
 
 use law_role_server::a_server_replaces_out_channels_one_by_one;

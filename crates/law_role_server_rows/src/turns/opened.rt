@@ -1,8 +1,8 @@
 //! When a server writes on OUT channels. Its function does nothing: its contract is the law.
 
 ghost use Rattle.std.specs.Prelude.{List, ℕ};
-ghost use Rattle.law_moves.specs.Moves.{EndMove, all_end_moved, end_started};
 ghost use Rattle.rh_server.specs.Servers.{acts, first, rules};
+ghost use Rattle.law_moves.specs.Moves.{EndMove, all_end_moved, end_started};
 ghost use Rattle.law_role_server_rows.specs.InTurn.Opened.{OpensFirst};
 
 use law_role_server::a_server_opens_once;

@@ -7,13 +7,13 @@ use Rattle.rh_sig.specs.declared.named.Named.{Named}
 use Rattle.rh_sig.specs.declared.named.Named.TheVariants.{AckTo}
 use Rattle.rh_line.specs.declared.leg.Leg.{Leg}
 use Rattle.rh_shell.specs.Rules.{Text, Pdu, Packet}
-use Rattle.law_moves.specs.Moves.{OnLeg}
-use Rattle.law_moves.specs.Wires.{of_leg}
 use Rattle.rh_inproxy.specs.declared.state.Joining.{Joining}
 use Rattle.rh_inproxy.specs.declared.state.Successor.{Successor}
 use Rattle.rh_inproxy.specs.declared.state.Successor.TheVariants.{Absent, Up, Joined}
 use Rattle.rh_inproxy.specs.InReplacement.{is_newcomer}
 use Rattle.rh_inproxy.specs.Opening.{leg_of}
+use Rattle.law_moves.specs.Moves.{OnLeg}
+use Rattle.law_moves.specs.Wires.{of_leg}
 use Rattle.law_moves.proofs.Passages.Messages.{each_so}
 use Rattle.law_role_windows.specs.Acknowledging.Acks.{ci_leg as ci, OfPacket, IsTrueOn, IsTrue}
 use Rattle.law_role_windows.proofs.Acknowledging.Legs.{leg_begun, leg_rises}

@@ -5,26 +5,26 @@ use Rattle.std.proofs.lemmas.Bool.Decides.{nat_tests}
 use Rattle.std.specs.Prelude.{if◌then◌else◌, IfSome, is_ok, nat_le}
 use Rattle.std.specs.declared.option.Option.{Option}
 use Rattle.std.specs.declared.result.Result.{Result}
-use Rattle.rh_rts.specs.declared.command.Cookie.{Cookie}
 use Rattle.rh_window.specs.Sides.{IsWindow}
 use Rattle.rh_window.specs.Receiving as windows
 use Rattle.rh_window.specs.declared.recv_window.Ack.{Ack}
 use Rattle.rh_window.specs.declared.fault.WindowExceeded.{WindowExceeded}
+use Rattle.law_order.proofs.ByNumber.{by_test}
+use Rattle.rh_rts.specs.declared.command.Cookie.{Cookie}
 use Rattle.rh_line.specs.Lines as line
 use Rattle.rh_line.specs.Lines.{Line, Incoming}
 use Rattle.rh_line.specs.Queue.{total}
 use Rattle.rh_line.specs.declared.line_fault.LineFault.{LineFault}
 use Rattle.rh_line.specs.declared.line_fault.LineFault.TheVariants.{Over}
 use Rattle.rh_line.proofs.Queues.{each_push, total_push}
-use Rattle.law_order.proofs.ByNumber.{by_test}
 use Rattle.rh_shell.specs.declared.due.Due.{Due}
 use Rattle.rh_shell.specs.Rules.{Message}
-use Rattle.law_moves.specs.Moves.{OnLeg}
-use Rattle.law_moves.specs.Wires.{of_leg}
 use Rattle.rh_inproxy.specs.declared.state.ClientLeg.{ClientLeg}
 use Rattle.rh_inproxy.specs.declared.state.Successor.{Successor}
 use Rattle.rh_inproxy.specs.declared.state.Successor.TheVariants.{Absent, Up, Joined}
 use Rattle.rh_inproxy.specs.State.{is_joined, follows}
+use Rattle.law_moves.specs.Moves.{OnLeg}
+use Rattle.law_moves.specs.Wires.{of_leg}
 use Rattle.law_moves.specs.Passages.Passing.{pdu_bytes, HasBegunIn}
 use Rattle.law_role_windows.specs.Acknowledging.Acks.{ci_leg as ci, OfPacket, IsTrueOn}
 use Rattle.law_role_windows.proofs.Acknowledging.Legs.{leg_begun, leg_rises}

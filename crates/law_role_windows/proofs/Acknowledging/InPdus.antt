@@ -5,6 +5,7 @@ use Rattle.std.proofs.lemmas.Bool.Decides.{nat_tests}
 use Rattle.std.specs.Prelude.{if◌then◌else◌, nat_le}
 use Rattle.std.specs.declared.option.Option.{Option}
 use Rattle.std.specs.declared.result.Result.{Result}
+use Rattle.law_order.proofs.ByNumber.{by_test}
 use Rattle.rh_line.specs.Lines as line
 use Rattle.rh_line.specs.Lines.{Line, Incoming}
 use Rattle.rh_line.specs.declared.line_fault.LineFault.{LineFault}
@@ -12,13 +13,11 @@ use Rattle.rh_line.specs.declared.line_fault.LineFault.TheVariants.{Window, Over
 use Rattle.rh_line.specs.declared.leg.Leg.{Leg}
 use Rattle.rh_line.specs.declared.which.Which.{Which}
 use Rattle.rh_line.specs.declared.which.Which.TheVariants.{Current, Next}
-use Rattle.law_order.proofs.ByNumber.{by_test}
 use Rattle.rh_shell.specs.declared.answers.Count.{Count}
 use Rattle.rh_shell.specs.declared.due.Due.{Due}
 use Rattle.rh_shell.specs.Rules.{Message, Pdu}
 use Rattle.rh_shell.specs.Shells.{same_leg}
-use Rattle.law_moves.specs.Moves.{OnLeg}
-use Rattle.law_moves.specs.Wires.{of_leg}
+use Rattle.rh_shell.specs.Waiting.{count}
 use Rattle.rh_inproxy.specs.declared.opening.TheConstants.{GREATEST_LENGTHS}
 use Rattle.rh_inproxy.specs.declared.state.ClientLeg.{ClientLeg}
 use Rattle.rh_inproxy.specs.declared.state.Opening.{Opening}
@@ -35,7 +34,8 @@ use Rattle.rh_inproxy.specs.Time.{ping}
 use Rattle.rh_inproxy.specs.Machine as machine
 use Rattle.rh_inproxy.specs.Machine.{pdu, packet, on_channel, on_channel_by, on_ci, on_is}
 use Rattle.rh_inproxy.specs.Machine.{rules as proxy_rules}
-use Rattle.rh_shell.specs.Waiting.{count}
+use Rattle.law_moves.specs.Moves.{OnLeg}
+use Rattle.law_moves.specs.Wires.{of_leg}
 use Rattle.law_moves.proofs.Passages.Logs.{RowKeeps}
 use Rattle.law_role_windows.specs.Acknowledging.Acks.{ci_leg as ci}
 use Rattle.law_role_windows.proofs.Acknowledging.Legs.{leg_counts}

@@ -2,13 +2,13 @@
 use Rattle.std.proofs.Common.{ℕ, true≢false, arith, refl, sym, List, []}
 use Rattle.std.specs.List.{AllByRecursion}
 use Rattle.rh_window.specs.Sides.{IsWindow}
-use Rattle.law_moves.specs.Moves.{Move, Passage, started, all_moved}
 use Rattle.rh_inproxy.specs.declared.state.InProxyConfig.{InProxyConfig}
 use Rattle.rh_inproxy.specs.State.{InProxy, first}
 use Rattle.rh_inproxy.specs.Opening.{head, drawn}
 use Rattle.rh_inproxy.specs.Ending.{mark}
 use Rattle.rh_inproxy.specs.Time.{ping}
 use Rattle.rh_inproxy.specs.Machine.{rules as proxy_rules}
+use Rattle.law_moves.specs.Moves.{Move, Passage, started, all_moved}
 use Rattle.law_moves.proofs.Passages.Logs.{StepsKeep, moves_keep}
 use Rattle.law_role_windows.specs.Acknowledging.Acks.{IsTrue}
 use Rattle.law_role_windows.specs.Acknowledging.Receiving.{ReceivesOn}

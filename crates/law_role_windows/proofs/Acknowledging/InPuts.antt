@@ -2,22 +2,20 @@
 use Rattle.std.proofs.Common.{◌≡◌, ℕ, ◌+◌, ◌-◌, ◌≤◌, ◌==◌, Bool, true, false, true≢false, ◌||◌, List, [], ◌∷◌, ◌++◌, length, Some, None, arith, refl, rules, sym, ap, ◌∙◌, subst}
 use Rattle.std.specs.Prelude.{if◌then◌else◌, IfSome}
 use Rattle.std.specs.declared.option.Option.{Option}
-use Rattle.rh_sig.specs.declared.named.Named.TheVariants.{InR2A2, AckTo}
 use Rattle.rh_window.specs.Sides.{IsWindow}
 use Rattle.rh_window.specs.Receiving as windows
 use Rattle.rh_window.specs.Sending.{may_send}
 use Rattle.rh_window.specs.declared.recv_window.Ack.{Ack}
+use Rattle.law_order.proofs.ByNumber.{by_test}
+use Rattle.rh_sig.specs.declared.named.Named.TheVariants.{InR2A2, AckTo}
 use Rattle.rh_line.specs.Lines as line
 use Rattle.rh_line.specs.Lines.{Line, Incoming}
 use Rattle.rh_line.specs.declared.leg.Leg.{Leg}
 use Rattle.rh_line.specs.declared.which.Which.{Which}
 use Rattle.rh_line.specs.declared.which.Which.TheVariants.{Current, Next}
-use Rattle.law_order.proofs.ByNumber.{by_test}
 use Rattle.rh_shell.specs.declared.due.Due.{Due}
 use Rattle.rh_shell.specs.Rules.{Message, Pdu, Packet}
-use Rattle.law_moves.specs.Moves.{OnLeg}
 use Rattle.rh_shell.specs.Waiting as waits
-use Rattle.law_moves.specs.Wires.{of_leg}
 use Rattle.rh_inproxy.specs.declared.state.ClientLeg.{ClientLeg}
 use Rattle.rh_inproxy.specs.declared.state.Entry.{Entry}
 use Rattle.rh_inproxy.specs.declared.state.Entry.TheVariants.{Connects, Replaces}
@@ -39,6 +37,8 @@ use Rattle.rh_inproxy.specs.Passing.{passed, next_pdu, put_pdu}
 use Rattle.rh_inproxy.specs.Putting.{put as put_of, next, waiting_by, put_waiting, put_control, put_early, put_stream, put_behind, put_mark}
 use Rattle.rh_inproxy.specs.Time.{put_ping}
 use Rattle.rh_inproxy.specs.Machine.{pdu}
+use Rattle.law_moves.specs.Moves.{OnLeg}
+use Rattle.law_moves.specs.Wires.{of_leg}
 use Rattle.law_moves.proofs.Passages.Logs.{PutKeeps}
 use Rattle.law_role_windows.specs.Acknowledging.Acks.{ci_leg as ci, OfPacket}
 use Rattle.law_role_windows.proofs.Acknowledging.Waiting.{EachIs}

@@ -5,20 +5,18 @@ use Rattle.std.proofs.lemmas.Bool.{and_parts, eqb-true}
 use Rattle.std.proofs.lemmas.Bool.Decides.{nat_tests}
 use Rattle.std.specs.Prelude.{if◌then◌else◌, nat_le}
 use Rattle.std.specs.declared.option.Option.{Option}
+use Rattle.rh_window.specs.Receiving as windows
+use Rattle.law_order.proofs.ByNumber.{by_test}
 use Rattle.rh_rts.specs.declared.command.Cookie.{Cookie}
 use Rattle.rh_sig.specs.declared.named.Named.{Named}
 use Rattle.rh_sig.specs.declared.named.Named.TheVariants.{AckTo, ConnB1, InR1A1}
-use Rattle.rh_window.specs.Receiving as windows
 use Rattle.rh_line.specs.Lines as line
 use Rattle.rh_line.specs.Lines.{Incoming}
 use Rattle.rh_line.specs.declared.line_fault.LineFault.TheVariants.{Over}
 use Rattle.rh_line.specs.declared.leg.LegKind.TheVariants.{InServer}
 use Rattle.rh_line.specs.declared.which.Which.{Which}
 use Rattle.rh_line.specs.declared.which.Which.TheVariants.{Current, Next}
-use Rattle.law_order.proofs.ByNumber.{by_test}
 use Rattle.rh_shell.specs.declared.answers.Count.{Count}
-use Rattle.law_moves.specs.Moves.{OnLeg}
-use Rattle.law_moves.specs.Wires.{of_leg}
 use Rattle.rh_inproxy.specs.declared.state.Successor.{Successor}
 use Rattle.rh_inproxy.specs.declared.state.Successor.TheVariants.{Absent, Up, Joined}
 use Rattle.rh_inproxy.specs.Answers.{Done, unexpected}
@@ -28,6 +26,8 @@ use Rattle.rh_inproxy.specs.Machine.{packet, pdu, on_channel, on_channel_by, on_
 use Rattle.rh_inproxy.specs.Opening.{on_conn_b1}
 use Rattle.rh_inproxy.specs.Passing.{on_pdu, pdu_by}
 use Rattle.rh_inproxy.specs.State.{InProxy, channel_of, next_of, has_opened, has_a5}
+use Rattle.law_moves.specs.Moves.{OnLeg}
+use Rattle.law_moves.specs.Wires.{of_leg}
 use Rattle.law_moves.specs.Passages.Passing.{pdu_bytes}
 use Rattle.law_role_windows.specs.Acknowledging.Acks.{ci_leg as ci}
 use Rattle.law_role_windows.specs.Acknowledging.Receiving.{EndsBehind, RefusesOnly}

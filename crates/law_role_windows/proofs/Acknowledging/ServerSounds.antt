@@ -4,6 +4,7 @@ use Rattle.std.specs.Prelude.{if◌then◌else◌, IfSome, nat_lt}
 use Rattle.std.specs.List.{AllByRecursion}
 use Rattle.std.specs.declared.option.Option.{Option}
 use Rattle.std.specs.declared.result.Result.{Result}
+use Rattle.law_order.proofs.ByNumber.{by_test}
 use Rattle.rh_rts.specs.declared.command.Cookie.{Cookie}
 use Rattle.rh_sig.specs.declared.named.Named.{Named}
 use Rattle.rh_sig.specs.declared.named.Named.TheVariants as named
@@ -14,13 +15,11 @@ use Rattle.rh_line.specs.declared.which.Which.{Which}
 use Rattle.rh_line.specs.declared.which.Which.TheVariants.{Current, Next}
 use Rattle.rh_line.specs.Lines.{after_end, after_finish}
 use Rattle.rh_line.proofs.Queues.{each_push}
-use Rattle.law_order.proofs.ByNumber.{by_test}
 use Rattle.rh_shell.specs.declared.answers.Count.{Count}
 use Rattle.rh_shell.specs.declared.answers.Refused.TheVariants as refused
 use Rattle.rh_shell.specs.declared.due.Due.{Due}
 use Rattle.rh_shell.specs.declared.end_role.RecycleRefused.{RecycleRefused}
 use Rattle.rh_shell.specs.declared.end_role.RecycleRefused.TheVariants.{Busy, Last}
-use Rattle.law_moves.specs.Moves.{OnLeg}
 use Rattle.rh_shell.specs.Waiting.{Waiting, own, added}
 use Rattle.rh_server.specs.declared.state.Stage.{Stage}
 use Rattle.rh_server.specs.declared.state.Stage.TheVariants as stage
@@ -41,6 +40,7 @@ use Rattle.rh_server.specs.OutReplacement.{asks, recycle, is_under_way, last_num
 use Rattle.rh_server.specs.Ending.{is_over_on, end_a2_on_leg, end_a2_waiting, end_a2_at, on_end_a2, is_complete, completed, settled, drawn_by, in_is_drawn, mark_by, lost_in, without_ack_of, with_ack_dropped}
 use Rattle.rh_server.specs.declared.state.Tells.TheVariants as tells
 use Rattle.rh_server.specs.declared.state.Leaving.TheVariants as leaving
+use Rattle.law_moves.specs.Moves.{OnLeg}
 use Rattle.law_moves.proofs.Passages.Messages.{each_so}
 use Rattle.law_role_windows.specs.Acknowledging.Windows.{TellsOn, ByConnB2, ByInR1A2}
 use Rattle.law_role_windows.proofs.Acknowledging.Lists.{all_at, all_set, all_removed}

@@ -6,8 +6,8 @@ use Rattle.rh_sig.specs.declared.named.Named.TheVariants.{AckTo, ConnB2, ConnC1,
 use Rattle.rh_line.specs.declared.leg.Leg.{Leg}
 use Rattle.rh_line.specs.declared.leg.LegKind.{LegKind}
 use Rattle.rh_shell.specs.Rules.{Packet}
-use Rattle.law_moves.specs.Moves.{OnLeg}
 use Rattle.rh_shell.specs.Shells.{is_of}
+use Rattle.law_moves.specs.Moves.{OnLeg}
 use Rattle.law_moves.specs.Passages.Passing.{Has, HasOn, HasOne}
 use Rattle.law_moves.proofs.Passages.Messages.{has_more, has_last, one_more_so, last_one_so}
 use Rattle.law_role_windows.specs.Acknowledging.Acks.{IsPassedOn, OfPacket}

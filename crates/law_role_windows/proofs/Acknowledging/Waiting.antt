@@ -2,9 +2,9 @@
 use Rattle.std.proofs.Common.{◌≡◌, Bool, true, false, nat_lt, List, [], ◌∷◌, Some, refl}
 use Rattle.std.specs.Prelude.{if◌then◌else◌, IfSome, find}
 use Rattle.std.specs.List.{AllByRecursion, list_any}
+use Rattle.law_order.proofs.ByNumber.{by_test}
 use Rattle.rh_sig.specs.declared.named.Named.{Named}
 use Rattle.rh_line.proofs.Queues.{each_push}
-use Rattle.law_order.proofs.ByNumber.{by_test}
 use Rattle.rh_shell.specs.declared.due.Due.{Due}
 use Rattle.rh_shell.specs.declared.due.Origin.TheVariants.{Forwarded}
 use Rattle.rh_shell.specs.Waiting.{Waiting, better, edge_of, merged, takes, with_due, pushed, to_forward, count, forwarded, without_first}

@@ -2,8 +2,6 @@
 
 ghost use Rattle.std.specs.Prelude.{List, ℕ};
 ghost use Rattle.rh_line.specs.declared.leg.LegKind.TheVariants.{ClientIn, InServer, OutServer};
-ghost use Rattle.law_moves.specs.Moves.{EndMove, Move, all_end_moved, all_moved};
-ghost use Rattle.law_moves.specs.Moves.{end_started, started};
 ghost use Rattle.rh_inproxy.specs.declared.state.InProxyConfig.{InProxyConfig};
 ghost use Rattle.rh_inproxy.specs.Machine.{rules as in_rules};
 ghost use Rattle.rh_inproxy.specs.State.{first as first_in};
@@ -11,6 +9,8 @@ ghost use Rattle.rh_outproxy.specs.declared.state.OutProxyConfig.{OutProxyConfig
 ghost use Rattle.rh_outproxy.specs.Machine.{rules as out_rules};
 ghost use Rattle.rh_outproxy.specs.OutProxy.{new_proxy};
 ghost use Rattle.rh_server.specs.Servers.{acts, first as first_server, rules as server_rules};
+ghost use Rattle.law_moves.specs.Moves.{EndMove, Move, all_end_moved, all_moved};
+ghost use Rattle.law_moves.specs.Moves.{end_started, started};
 ghost use Rattle.law_role_windows.specs.Acknowledging.Acks.{PassesOn};
 
 /// Whatever moves an in proxy makes, allowed or not: each acknowledgement to an out proxy that it

@@ -4,10 +4,10 @@
 ghost use Rattle.std.specs.Prelude.{List, ℕ};
 ghost use Rattle.std.specs.List.{AllByRecursion};
 ghost use Rattle.rh_window.specs.Sides.{IsWindow};
-ghost use Rattle.law_moves.specs.Moves.{Move, all_moved, started};
 ghost use Rattle.rh_inproxy.specs.declared.state.InProxyConfig.{InProxyConfig};
 ghost use Rattle.rh_inproxy.specs.Machine.{rules};
 ghost use Rattle.rh_inproxy.specs.State.{first};
+ghost use Rattle.law_moves.specs.Moves.{Move, all_moved, started};
 ghost use Rattle.law_role_windows.specs.Acknowledging.Acks.{IsTrue};
 ghost use Rattle.law_role_windows.specs.Acknowledging.Receiving.{ReceivesOn};
 

@@ -3,9 +3,9 @@
 ghost use Rattle.std.specs.Prelude.{List};
 ghost use Rattle.rh_window.specs.Sides.{IsWindow};
 ghost use Rattle.rh_http.specs.declared.config.ClientConfig.{ClientConfig};
+ghost use Rattle.rh_client.specs.Client.{rules, acts, first_client};
 ghost use Rattle.law_moves.specs.Moves.{EndMove};
 ghost use Rattle.law_moves.specs.Moving.{EndEvent, after_end_events};
-ghost use Rattle.rh_client.specs.Client.{rules, acts, first_client};
 ghost use Rattle.law_role_client.specs.Order.{AreAllowedMoves, client_moved};
 ghost use Rattle.law_role_windows.specs.Held.{Holds};
 

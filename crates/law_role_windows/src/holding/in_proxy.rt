@@ -2,11 +2,11 @@
 
 ghost use Rattle.std.specs.Prelude.{List};
 ghost use Rattle.rh_window.specs.Sides.{IsWindow};
-ghost use Rattle.law_moves.specs.Moves.{Move, started, all_moved, AreAllowed};
-ghost use Rattle.law_moves.specs.Moving.{Event, after_events};
 ghost use Rattle.rh_inproxy.specs.declared.state.InProxyConfig.{InProxyConfig};
 ghost use Rattle.rh_inproxy.specs.State.{first};
 ghost use Rattle.rh_inproxy.specs.Machine.{rules, first_node};
+ghost use Rattle.law_moves.specs.Moves.{Move, started, all_moved, AreAllowed};
+ghost use Rattle.law_moves.specs.Moving.{Event, after_events};
 ghost use Rattle.law_role_windows.specs.Held.{Holds};
 
 use law_moves::roles_move_by_their_rules;

@@ -2,13 +2,13 @@
 
 ghost use Rattle.std.specs.Prelude.{List};
 ghost use Rattle.rh_window.specs.Sides.{IsWindow};
-ghost use Rattle.law_moves.specs.Moves.{Move, started, all_moved, AreAllowed};
-ghost use Rattle.law_moves.specs.Moving.{Event, after_events};
 ghost use Rattle.rh_shell.specs.Shells.{begun};
 ghost use Rattle.rh_outproxy.specs.declared.out_proxy.TheConstants.{ROOMS};
 ghost use Rattle.rh_outproxy.specs.declared.state.OutProxyConfig.{OutProxyConfig};
 ghost use Rattle.rh_outproxy.specs.OutProxy.{new_proxy};
 ghost use Rattle.rh_outproxy.specs.Machine.{rules};
+ghost use Rattle.law_moves.specs.Moves.{Move, started, all_moved, AreAllowed};
+ghost use Rattle.law_moves.specs.Moving.{Event, after_events};
 ghost use Rattle.law_role_windows.specs.Held.{Holds};
 
 use law_moves::roles_move_by_their_rules;

@@ -2,9 +2,9 @@
 
 ghost use Rattle.std.specs.Prelude.{ℕ, List};
 ghost use Rattle.rh_window.specs.Sides.{IsWindow};
+ghost use Rattle.rh_server.specs.Servers.{first, rules, acts, new_server};
 ghost use Rattle.law_moves.specs.Moves.{EndMove, end_started, all_end_moved, AreAllowedAtEnd};
 ghost use Rattle.law_moves.specs.Moving.{EndEvent, after_end_events};
-ghost use Rattle.rh_server.specs.Servers.{first, rules, acts, new_server};
 ghost use Rattle.law_role_windows.specs.Held.{Holds};
 
 use law_moves::ends_move_by_their_rules;

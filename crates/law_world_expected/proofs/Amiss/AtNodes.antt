@@ -5,9 +5,9 @@ use Rattle.std.specs.Prelude.{Some}
 use Rattle.std.specs.List.{AllByRecursion}
 use Rattle.std.specs.declared.option.Option.{Option}
 use Rattle.rh_text.specs.declared.ends.Dir.{Dir}
+use Rattle.rh_sig.specs.declared.name.Pipe.{Pipe}
 use Rattle.rh_http.specs.declared.config.ClientConfig.{ClientConfig}
 use Rattle.rh_http.specs.Texts.{in_request, out_request}
-use Rattle.rh_sig.specs.declared.name.Pipe.{Pipe}
 use Rattle.rh_line.specs.declared.cause.Cause.{Cause}
 use Rattle.rh_line.specs.declared.leg.Leg.{Leg}
 use Rattle.rh_line.specs.declared.leg.LegKind.{LegKind}
@@ -18,22 +18,9 @@ use Rattle.rh_shell.specs.declared.answers.Refused.{Refused}
 use Rattle.rh_shell.specs.declared.course.Course.TheVariants.{Going}
 use Rattle.rh_shell.specs.declared.stage.Stage.TheVariants as stage
 use Rattle.rh_shell.specs.Intakes.{is_whole_head}
-use Rattle.law_moves.specs.Moves.{EndMove, EndPassage, Passage}
 use Rattle.rh_shell.specs.NearEnds.{NearEnd}
 use Rattle.rh_shell.specs.Rules.{Message, Text, Pdu, Packet, Rules}
 use Rattle.rh_shell.specs.Shells.{Shell, begun, end_at}
-use Rattle.law_moves.specs.Wires.{of_leg}
-use Rattle.law_moves.proofs.Legible.Each.{each_so}
-use Rattle.rh_nodes.specs.declared.event.Event.TheVariants.{Comes}
-use Rattle.rh_nodes.specs.declared.place.Place.TheVariants.{Here}
-use Rattle.rh_nodes.specs.Opening.{Makers}
-use Rattle.rh_nodes.specs.Readers.{reader_of}
-use Rattle.rh_nodes.specs.Wires.{receiver}
-use Rattle.rh_nodes.specs.World.{World, at}
-use Rattle.rh_client.specs.declared.state.ClientRole.{ClientRole}
-use Rattle.rh_client.specs.Client as client
-use Rattle.rh_client.specs.State as client_state
-use Rattle.law_role_client.specs.Order.{AreAllowedMoves, client_moved}
 use Rattle.rh_inproxy.specs.declared.state.InProxyConfig.{InProxyConfig}
 use Rattle.rh_inproxy.specs.Machine as in_proxy
 use Rattle.rh_inproxy.specs.State.{InProxy}
@@ -42,27 +29,40 @@ use Rattle.rh_outproxy.specs.declared.out_proxy.TheConstants.{ROOMS}
 use Rattle.rh_outproxy.specs.declared.state.OutProxyConfig.{OutProxyConfig}
 use Rattle.rh_outproxy.specs.Machine as out_proxy
 use Rattle.rh_outproxy.specs.OutProxy.{OutProxy, new_proxy}
+use Rattle.rh_client.specs.declared.state.ClientRole.{ClientRole}
+use Rattle.rh_client.specs.Client as client
+use Rattle.rh_client.specs.State as client_state
 use Rattle.rh_server.specs.Servers as server
 use Rattle.rh_server.specs.States.{Server}
-use Rattle.law_node_causes.specs.Closings.{ClosesWith}
-use Rattle.law_node_begins.specs.EndsBegin.{Asks}
+use Rattle.rh_nodes.specs.declared.event.Event.TheVariants.{Comes}
+use Rattle.rh_nodes.specs.declared.place.Place.TheVariants.{Here}
+use Rattle.rh_nodes.specs.Opening.{Makers}
+use Rattle.rh_nodes.specs.Readers.{reader_of}
+use Rattle.rh_nodes.specs.Wires.{receiver}
+use Rattle.rh_nodes.specs.World.{World, at}
+use Rattle.law_moves.specs.Moves.{EndMove, EndPassage, Passage}
+use Rattle.law_moves.specs.Wires.{of_leg}
+use Rattle.law_moves.proofs.Legible.Each.{each_so}
+use Rattle.law_moves.specs.ReadBack.Reading.{IsWholeText}
+use Rattle.law_moves.specs.ReadBack.Well.{Answers, ReadsWell}
+use Rattle.law_role_client.specs.Order.{AreAllowedMoves, client_moved}
 use Rattle.law_node_history.specs.Carried.{IsTraced, LegsComeUpOnce, AreAccepted, AreAcceptedAtEnd, ComesUpOnce, ComesUpOnceAtEnd, events_of, happened, heard_on}
 use Rattle.law_node_history.specs.Changes.{IsFed, MayChange}
 use Rattle.law_node_history.specs.Histories.{History, in_place, out_place}
-use Rattle.law_node_begins.specs.ProxiesBegin.Pipes.{in_pipe, out_pipe}
-use Rattle.law_peers_routes.specs.Downwards as down
-use Rattle.law_moves.specs.ReadBack.Reading.{IsWholeText}
-use Rattle.law_moves.specs.ReadBack.Well.{Answers, ReadsWell}
+use Rattle.law_node_causes.specs.Closings.{ClosesWith}
 use Rattle.law_node_streams.specs.Streams.{HasPipes, NeverRefuses, StaysUnused, StaysUnusedAtEnd}
+use Rattle.law_peers_moments.specs.Moments.{Passages}
+use Rattle.law_node_begins.specs.EndsBegin.{Asks}
+use Rattle.law_node_begins.specs.ProxiesBegin.Pipes.{in_pipe, out_pipe}
 use Rattle.law_node_traces.specs.Traced.Cookies.{ByChanges}
 use Rattle.law_node_traces.specs.Traced.Turns.{HearInTurn}
 use Rattle.law_node_traces.specs.Traced.Ours.{AreOurs, deeds, rules}
+use Rattle.law_peers_routes.specs.Downwards as down
 use Rattle.law_world_order.specs.Flows.{IsFlowing, numbers_of, read_on}
 use Rattle.law_world_order.proofs.Heard.{node_reads, reads_on}
+use Rattle.law_world_order.proofs.Legs.{Reads}
 use Rattle.law_world_windows.proofs.Moment.{Laws, NodeLaws, behind}
 use Rattle.law_world_windows.proofs.Stopping.{Readings}
-use Rattle.law_world_order.proofs.Legs.{Reads}
-use Rattle.law_peers_moments.specs.Moments.{Passages}
 use Rattle.law_world_expected.specs.Amiss.{AmissNext, amiss_by}
 use Rattle.law_world_expected.proofs.Amiss.Bytes.{HaveNames}
 use Rattle.law_world_expected.proofs.Amiss.Known.{KnowsLegs, KnowsLegsAtEnd, end_knows, node_knows}

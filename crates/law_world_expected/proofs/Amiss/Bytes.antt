@@ -26,12 +26,12 @@ use Rattle.rh_shell.specs.declared.reading.PacketFault.TheVariants as unread
 use Rattle.rh_shell.specs.declared.stage.Stage.{Stage}
 use Rattle.rh_shell.specs.declared.stage.Stage.TheVariants as stage
 use Rattle.rh_shell.specs.declared.stop.Stop.{Stop}
-use Rattle.law_moves.specs.Carrying.{message_in, named_messages}
 use Rattle.rh_shell.specs.Hearing.{goes, stops, stop, head_row, begun_body, behind_head, behind_frame, row_by, close_row, cause_of, one_more, is_zero, is_upward, is_ping, take_ping, take_packet, take_frame, is_greeting, heading, touched, with_intake, take, heard}
 use Rattle.rh_shell.specs.Intakes.{Intake, Came, Nothing, Head, Greeting, Frame, Fault, Over, on_byte, byte_by, text_by, frame_by, frame_byte, holds, behind, is_whole_head, is_whole_greeting, is_full, length_told, counted}
 use Rattle.rh_shell.specs.NearEnds.{NearEnd}
 use Rattle.rh_shell.specs.Readings.{packet_of}
 use Rattle.rh_shell.specs.Rules.{Message, Pdu, Packet, Rules, Row}
+use Rattle.law_moves.specs.Carrying.{message_in, named_messages}
 use Rattle.law_moves.specs.ReadBack.Reading.{Reading, frame_read, read_by, read_byte, reading}
 use Rattle.law_moves.specs.ReadBack.Well.{Answers, ByteIsWell, FrameIsWell, HeaderIsWell}
 use Rattle.law_node_streams.specs.Streams.{is_live}

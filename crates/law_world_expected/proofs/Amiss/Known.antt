@@ -8,18 +8,18 @@ use Rattle.rh_sig.specs.declared.name.Pipe.{Pipe}
 use Rattle.rh_line.specs.declared.leg.Leg.{Leg}
 use Rattle.rh_shell.specs.declared.course.Course.TheVariants.{Going}
 use Rattle.rh_shell.specs.declared.rooms.Rooms.{Rooms}
-use Rattle.law_moves.specs.Moves.{Move, Passage, end_started}
-use Rattle.law_moves.specs.Moving.{ComesUp, EndEvent, Event, Happens, IsClosed, IsGiven, IsRecycled, IsTaken, Hears, Ends, Breaks, Draws, Ticks, after_end_event, after_end_events, after_event, after_events}
 use Rattle.rh_shell.specs.NearEnds.{NearEnd, is_over}
 use Rattle.rh_shell.specs.Rules.{Acts, Message, Rules}
 use Rattle.rh_shell.specs.Shells.{Shell, begun, end_at, may_up}
+use Rattle.law_moves.specs.Moves.{Move, Passage, end_started}
+use Rattle.law_moves.specs.Moving.{ComesUp, EndEvent, Event, Happens, IsClosed, IsGiven, IsRecycled, IsTaken, Hears, Ends, Breaks, Draws, Ticks, after_end_event, after_end_events, after_event, after_events}
+use Rattle.law_moves.specs.Passages.Counted.{Tells, packets}
+use Rattle.law_moves.specs.ReadBack.Reading.{messages_read}
+use Rattle.law_moves.specs.Turns.{RefusesInTurn}
 use Rattle.law_node_history.specs.Carried.{AreAccepted, AreAcceptedAtEnd, ComesUpOnce, ComesUpOnceAtEnd, IsAccepted, came_up, end_drawn_on, drawn_on, happened, heard_on, is_up_of}
 use Rattle.law_node_history.proofs.Runs.{end_events_append, events_append}
 use Rattle.law_node_causes.specs.Once.{WasUp}
-use Rattle.law_moves.specs.Passages.Counted.{Tells, packets}
-use Rattle.law_moves.specs.ReadBack.Reading.{messages_read}
 use Rattle.law_node_streams.specs.Streams.{HasPipes, HearsInTurn, NeverRefuses, StaysUnused, StaysUnusedAtEnd, all_given, all_taken, is_live}
-use Rattle.law_moves.specs.Turns.{RefusesInTurn}
 use Rattle.law_node_streams.proofs.Streams.AtEnds as at_ends
 use Rattle.law_node_streams.proofs.Streams.Ends.{end_is, end_of, leg_is}
 use Rattle.law_node_streams.proofs.Streams.Kept.{IsSeated, Kept}

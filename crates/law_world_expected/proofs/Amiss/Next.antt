@@ -9,10 +9,10 @@ use Rattle.rh_shell.specs.declared.answers.Count.TheVariants as count
 use Rattle.rh_shell.specs.declared.answers.Refused.{Refused}
 use Rattle.rh_shell.specs.declared.course.Course.TheVariants.{Going}
 use Rattle.rh_shell.specs.Hearing.{is_upward, is_zero}
-use Rattle.law_moves.specs.Moves.{Passage, is_in_use}
 use Rattle.rh_shell.specs.NearEnds.{NearEnd, is_ended, is_marked, is_over}
 use Rattle.rh_shell.specs.Rules.{Message, Text, Pdu, Packet, Rules}
 use Rattle.rh_shell.specs.Shells.{Shell, end_at}
+use Rattle.law_moves.specs.Moves.{Passage, is_in_use}
 use Rattle.law_moves.specs.Wires.{of_leg}
 use Rattle.law_moves.specs.Passages.Counted.{Tells, packets}
 use Rattle.law_moves.specs.ReadBack.Reading.{all_read_of, messages_read}

@@ -4,8 +4,8 @@ use Rattle.std.specs.declared.option.Option.{Option}
 use Rattle.rh_sig.specs.declared.name.Pipe.{Pipe}
 use Rattle.rh_line.specs.declared.leg.Leg.{Leg}
 use Rattle.rh_shell.specs.declared.answers.Refused.TheVariants as refused
-use Rattle.law_moves.specs.Moves.{Passage}
 use Rattle.rh_shell.specs.Rules.{Message, Text, Pdu, Packet, Row, Rules}
+use Rattle.law_moves.specs.Moves.{Passage}
 use Rattle.law_moves.specs.ReadBack.Reading.{all_read_of}
 use Rattle.law_peers_moments.specs.Expecting.{IsAhead}
 use Rattle.law_world_expected.specs.Amiss.{AmissNext, NextIsAmiss, RefusesBy}

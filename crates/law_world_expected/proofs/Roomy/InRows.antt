@@ -3,9 +3,9 @@ use Rattle.std.proofs.Common.{ℕ, List}
 use Rattle.std.specs.Prelude.{◌&&◌, ◌||◌, Some, None, Ok, Err}
 use Rattle.std.specs.declared.option.Option.{Option}
 use Rattle.std.specs.declared.result.Result.{Result}
-use Rattle.rh_rts.specs.declared.command.Cookie.{Cookie}
 use Rattle.rh_window.specs.declared.fault.BadAck.{BadAck}
 use Rattle.rh_window.specs.Sending.{ack_verdict, after_acked}
+use Rattle.rh_rts.specs.declared.command.Cookie.{Cookie}
 use Rattle.rh_sig.specs.declared.named.Named.{Named}
 use Rattle.rh_sig.specs.declared.named.Named.TheVariants as named
 use Rattle.rh_line.specs.declared.leg.LegKind.TheVariants.{InServer}
@@ -13,7 +13,6 @@ use Rattle.rh_line.specs.declared.line_fault.LineFault.{LineFault}
 use Rattle.rh_line.specs.declared.line_fault.LineFault.TheVariants as line_fault
 use Rattle.rh_line.specs.declared.which.Which.{Which}
 use Rattle.rh_line.specs.Lines as line
-use Rattle.rh_nodes.specs.Settling.{leg_at}
 use Rattle.rh_inproxy.specs.declared.state.Opener.{Opener}
 use Rattle.rh_inproxy.specs.Acknowledging.{ack_for, acked_by}
 use Rattle.rh_inproxy.specs.Answers.{unexpected}
@@ -23,6 +22,7 @@ use Rattle.rh_inproxy.specs.Machine as machine
 use Rattle.rh_inproxy.specs.Passing as passing
 use Rattle.rh_inproxy.specs.State.{InProxy, channel_of, has_a5, is_client_leg, is_server_leg, same_cookie}
 use Rattle.rh_inproxy.specs.Opening.{is_connection, is_replacement, is_unknown, opener_of}
+use Rattle.rh_nodes.specs.Settling.{leg_at}
 use Rattle.law_world_expected.specs.Roomy.{PacketsFindRoom, PdusFindRoom}
 use Rattle.law_world_expected.proofs.Roomy.Fitting.{RowFits, either}
 

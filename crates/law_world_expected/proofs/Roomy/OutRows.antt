@@ -10,12 +10,12 @@ use Rattle.rh_line.specs.declared.line_fault.LineFault.TheVariants as line_fault
 use Rattle.rh_line.specs.declared.which.Which.TheVariants.{Current}
 use Rattle.rh_line.specs.Lines.{admit_verdict}
 use Rattle.rh_shell.specs.declared.answers.Count.{Count}
-use Rattle.rh_nodes.specs.Settling.{leg_at}
 use Rattle.rh_outproxy.specs.Acknowledging.{line_row, on_pdu}
 use Rattle.rh_outproxy.specs.Machine.{on_co, rules}
 use Rattle.rh_outproxy.specs.Opening.{new_length, successor_length, told_length}
 use Rattle.rh_outproxy.specs.OutProxy.{OutProxy, is_successor}
 use Rattle.rh_outproxy.specs.Rows.{is_co, is_first, is_os, is_second, takes_pdus, unexpected}
+use Rattle.rh_nodes.specs.Settling.{leg_at}
 use Rattle.law_world_expected.specs.Roomy.{FindsRoom, PacketsFindRoom, PdusFindRoom}
 use Rattle.law_world_expected.proofs.Roomy.Fitting.{RowFits, either}
 

@@ -3,9 +3,9 @@
 
 ghost use Rattle.rh_line.specs.declared.leg.LegKind.{LegKind};
 ghost use Rattle.rh_line.specs.declared.leg.LegKind.TheVariants.{ClientOut, InServer, OutServer};
-ghost use Rattle.rh_client.specs.Client as client;
 ghost use Rattle.rh_inproxy.specs.Machine as in_proxy;
 ghost use Rattle.rh_outproxy.specs.Machine as out_proxy;
+ghost use Rattle.rh_client.specs.Client as client;
 ghost use Rattle.rh_server.specs.Servers as server;
 ghost use Rattle.law_world_expected.specs.Roomy.{PacketsFindRoom, PdusFindRoom};
 

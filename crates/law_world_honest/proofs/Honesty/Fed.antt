@@ -16,12 +16,20 @@ use Rattle.rh_record.specs.declared.answer.Who.{Who}
 use Rattle.rh_record.specs.declared.answer.Who.TheVariants as who
 use Rattle.rh_shell.specs.declared.course.Course.TheVariants.{Going}
 use Rattle.rh_shell.specs.declared.rooms.Rooms.{Rooms}
-use Rattle.law_moves.specs.Moving as moving
-use Rattle.law_moves.specs.Moving.{EndEvent, after_end_events, after_events}
 use Rattle.rh_shell.specs.NearEnds.{NearEnd}
 use Rattle.rh_shell.specs.Rules.{Acts, Message, Rules}
 use Rattle.rh_shell.specs.Shells.{Shell, begun, end_at}
-use Rattle.law_moves.specs.Wires.{of_leg}
+use Rattle.rh_inproxy.specs.Machine as in_proxy
+use Rattle.rh_inproxy.specs.State.{InProxy}
+use Rattle.rh_inproxy.specs.State as in_state
+use Rattle.rh_outproxy.specs.declared.out_proxy.TheConstants.{ROOMS}
+use Rattle.rh_outproxy.specs.Machine as out_proxy
+use Rattle.rh_outproxy.specs.OutProxy.{OutProxy, new_proxy}
+use Rattle.rh_client.specs.declared.state.ClientRole.{ClientRole}
+use Rattle.rh_client.specs.Client as client
+use Rattle.rh_client.specs.State as client_state
+use Rattle.rh_server.specs.Servers as server
+use Rattle.rh_server.specs.States.{Server}
 use Rattle.rh_nodes.specs.declared.event.Event.{Event}
 use Rattle.rh_nodes.specs.declared.event.Event.TheVariants.{Comes}
 use Rattle.rh_nodes.specs.declared.place.Place.{Place}
@@ -34,18 +42,10 @@ use Rattle.rh_nodes.specs.Places as places
 use Rattle.rh_nodes.specs.Readers.{reader_of}
 use Rattle.rh_nodes.specs.Wires.{receiver}
 use Rattle.rh_nodes.specs.World.{World, at}
-use Rattle.rh_client.specs.declared.state.ClientRole.{ClientRole}
-use Rattle.rh_client.specs.Client as client
-use Rattle.rh_client.specs.State as client_state
-use Rattle.rh_inproxy.specs.Machine as in_proxy
-use Rattle.rh_inproxy.specs.State.{InProxy}
-use Rattle.rh_inproxy.specs.State as in_state
-use Rattle.rh_outproxy.specs.declared.out_proxy.TheConstants.{ROOMS}
-use Rattle.rh_outproxy.specs.Machine as out_proxy
-use Rattle.rh_outproxy.specs.OutProxy.{OutProxy, new_proxy}
-use Rattle.rh_server.specs.Servers as server
-use Rattle.rh_server.specs.States.{Server}
-use Rattle.law_node_causes.specs.Closings.{ClosesWith}
+use Rattle.law_moves.specs.Moving as moving
+use Rattle.law_moves.specs.Moving.{EndEvent, after_end_events, after_events}
+use Rattle.law_moves.specs.Wires.{of_leg}
+use Rattle.law_moves.specs.ReadBack.Well.{Answers, ReadsWell, is_named, is_packet}
 use Rattle.law_node_history.specs.Carried.{IsTraced, drawn_on, end_drawn_on, events_of, happened, heard_on}
 use Rattle.law_node_history.specs.Changes.{Change, IsFed}
 use Rattle.law_node_history.specs.Closes.{ClosesNode}
@@ -53,7 +53,7 @@ use Rattle.law_node_history.specs.Histories.{History, IsRun, at_place, in_place,
 use Rattle.law_node_history.proofs.Appended.{happened_more, heard_append}
 use Rattle.law_node_history.proofs.Numbers.{answered}
 use Rattle.law_node_history.proofs.Wired.{same_itself}
-use Rattle.law_moves.specs.ReadBack.Well.{Answers, ReadsWell, is_named, is_packet}
+use Rattle.law_node_causes.specs.Closings.{ClosesWith}
 use Rattle.law_node_streams.specs.Streams.{EndStream, Seated, Stream}
 use Rattle.law_node_traces.specs.Traced.Ours.{AreOurs, deeds, rules}
 use Rattle.law_world_order.specs.Flows.{IsFlowing, numbers_of, read_on}

@@ -26,13 +26,13 @@ use Rattle.rh_world.specs.Any.{act, after, prepared}
 use Rattle.rh_world.specs.declared.config.WorldConfig.{WorldConfig}
 use Rattle.rh_world.specs.Config as config_ranges
 use Rattle.rh_world.specs.Roles as roles
+use Rattle.law_node_traces.specs.Traced.Cookies.{ByChanges}
+use Rattle.law_node_traces.proofs.Traced.ByChanges.{lines_by_changes}
 use Rattle.law_world_reports.proofs.Bounded.Reached.{IsRecorded, behind_lines, prepared_is_recorded, reached_draws}
 use Rattle.law_world_reports.specs.Closed.Licences.{IsLicensed, midst}
 use Rattle.law_world_reports.specs.Closed.Recordings.{IsLicensedIn}
 use Rattle.law_world_reports.proofs.Closed.Refused.{leads_midst}
 use Rattle.law_world_reports.proofs.Closed.Showing.{shown_draws}
-use Rattle.law_node_traces.specs.Traced.Cookies.{ByChanges}
-use Rattle.law_node_traces.proofs.Traced.ByChanges.{lines_by_changes}
 use Rattle.law_world_order.specs.Flows.{numbers_of}
 use Rattle.law_world_order.specs.Premises.{AreInRange, AreLeftIn}
 use Rattle.law_world_order.proofs.Recorded.{in_range, ours}

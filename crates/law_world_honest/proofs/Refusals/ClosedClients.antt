@@ -2,8 +2,8 @@
 use Rattle.std.proofs.Common.{◌≡◌, ℕ, List, [], ◌∷◌, ◌++◌, append_assoc, cond, Bool, Some, None, refl, sym, ap, ◌∙◌, subst}
 use Rattle.std.specs.declared.option.Option.{Option}
 use Rattle.std.proofs.lemmas.List.{append-nil}
-use Rattle.rh_http.specs.declared.config.ClientConfig.{ClientConfig}
 use Rattle.law_order.proofs.Prefixes.{prefix_trans}
+use Rattle.rh_http.specs.declared.config.ClientConfig.{ClientConfig}
 use Rattle.rh_line.specs.declared.cause.Cause.{Cause}
 use Rattle.rh_line.specs.declared.cause.Cause.TheVariants as cause
 use Rattle.rh_line.specs.declared.leg.Leg.{Leg}
@@ -12,20 +12,20 @@ use Rattle.rh_line.specs.declared.state.State.TheVariants as state
 use Rattle.rh_shell.specs.declared.course.Course.{Course}
 use Rattle.rh_shell.specs.declared.course.Course.TheVariants.{Going, Closed, Refusing}
 use Rattle.rh_shell.specs.Ends.{cause_of, give_where, take_where, close_where, recycle_where}
-use Rattle.law_moves.specs.Laws.{ClosedWith}
-use Rattle.law_moves.specs.Moving.{Event, Hears, EndEvent, Happens, IsGiven, IsTaken, IsClosed, IsRecycled, after_event, after_end_event, after_end_events}
 use Rattle.rh_shell.specs.Rules.{Rules, Acts}
 use Rattle.rh_shell.specs.Shells.{Shell, state_of}
+use Rattle.rh_client.specs.declared.state.ClientRole.{ClientRole}
+use Rattle.rh_client.specs.Client as client
+use Rattle.law_moves.specs.Laws.{ClosedWith}
+use Rattle.law_moves.specs.Moving.{Event, Hears, EndEvent, Happens, IsGiven, IsTaken, IsClosed, IsRecycled, after_event, after_end_event, after_end_events}
 use Rattle.law_node_history.specs.Carried.{AreAcceptedAtEnd, happened, heard_in, heard_on}
 use Rattle.law_node_history.specs.Histories.{heard}
 use Rattle.law_node_history.proofs.Appended.{heard_append, happened_append}
-use Rattle.rh_client.specs.declared.state.ClientRole.{ClientRole}
-use Rattle.rh_client.specs.Client as client
-use Rattle.law_node_streams.specs.Streams.{HearsInTurn}
-use Rattle.law_world_honest.specs.Refusals.Refused.{BeginsRefused, HeardRefusal}
-use Rattle.law_node_traces.proofs.Traced.LostLegs.{closes_now, one_cause}
-use Rattle.law_world_honest.proofs.Refusals.Heard.{ClientLaws, heard_refusal}
 use Rattle.law_node_history.proofs.Wired.{same_itself}
+use Rattle.law_node_streams.specs.Streams.{HearsInTurn}
+use Rattle.law_node_traces.proofs.Traced.LostLegs.{closes_now, one_cause}
+use Rattle.law_world_honest.specs.Refusals.Refused.{BeginsRefused, HeardRefusal}
+use Rattle.law_world_honest.proofs.Refusals.Heard.{ClientLaws, heard_refusal}
 
 -- ---- an act of an end closes nothing
 

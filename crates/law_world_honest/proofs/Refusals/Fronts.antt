@@ -5,9 +5,9 @@ use Rattle.std.proofs.lemmas.List.{append-nil}
 use Rattle.rh_sig.specs.declared.name.Pipe.{Pipe}
 use Rattle.rh_line.specs.declared.leg.Leg.{Leg}
 use Rattle.rh_shell.specs.declared.rooms.Rooms.{Rooms}
-use Rattle.law_moves.specs.Moving.{Event, after_event}
 use Rattle.rh_shell.specs.Rules.{Rules}
 use Rattle.rh_shell.specs.Shells.{Shell, begun}
+use Rattle.law_moves.specs.Moving.{Event, after_event}
 use Rattle.law_node_history.specs.Carried.{AreAccepted, ComesUpOnce}
 use Rattle.law_node_streams.specs.Streams.{HasPipes, HearsInTurn, StaysUnused, Stream}
 use Rattle.law_world_order.proofs.Flowing.{NodeStreams}

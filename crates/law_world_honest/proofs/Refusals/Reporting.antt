@@ -19,8 +19,6 @@ use Rattle.rh_record.specs.declared.answer.Who.{Who}
 use Rattle.rh_record.specs.declared.answer.Who.TheVariants as who
 use Rattle.rh_record.specs.declared.line.Line.{Line}
 use Rattle.rh_record.specs.declared.line.Line.TheVariants.{First, Set}
-use Rattle.law_moves.specs.Laws.{ClosedWith}
-use Rattle.law_moves.specs.Moving as moving
 use Rattle.rh_nodes.specs.declared.event.Event.{Event}
 use Rattle.rh_nodes.specs.declared.event.Event.TheVariants.{Comes, Ends, Breaks, Passes}
 use Rattle.rh_nodes.specs.declared.place.Place.{Place}
@@ -35,6 +33,8 @@ use Rattle.rh_nodes.specs.Steps.{step_line}
 use Rattle.rh_nodes.specs.Legs as legs
 use Rattle.rh_nodes.specs.Wires.{receiver, sender}
 use Rattle.rh_nodes.specs.World.{at, node_by}
+use Rattle.law_moves.specs.Laws.{ClosedWith}
+use Rattle.law_moves.specs.Moving as moving
 use Rattle.law_node_history.specs.Carried.{IsTraced, LegsComeUpOnce, came_up, events_of}
 use Rattle.law_node_history.specs.Changes.{Change, IsTold, IsFed, IsDrawn, GoesUp, RaisesAlone, OpensIn, OpensOut, OpensSame, Reports, AreAllowed, ByLines, Leads, all_changed, changed}
 use Rattle.law_node_history.specs.Closes.{ClosesNode, HasClosed, IsOneOf, told_by}
@@ -47,6 +47,7 @@ use Rattle.law_node_history.proofs.Recordings.{traced_first}
 use Rattle.law_node_history.proofs.Tracing.{change_is_traced}
 use Rattle.law_node_history.proofs.Wired.{is_up_at}
 use Rattle.law_node_history.proofs.Working.{works_by_lines, works_more, works_none, works_then}
+use Rattle.law_node_history.proofs.Reporting.{one_of_both}
 use Rattle.rh_world.specs.declared.any_world.AnyWorld.{AnyWorld}
 use Rattle.rh_world.specs.declared.any_world.AnyWorld.TheVariants.{Before, Direct, Settings, Roles}
 use Rattle.rh_world.specs.declared.config.WorldConfig.{WorldConfig}
@@ -60,7 +61,6 @@ use Rattle.law_world_reports.proofs.Closed.Going.{one_before}
 use Rattle.law_world_order.proofs.Recorded.{new}
 use Rattle.law_world_honest.specs.Refusals.Refused.{IsUnreached}
 use Rattle.law_world_honest.specs.Refusals.Reported.{ReportsBreak}
-use Rattle.law_node_history.proofs.Reporting.{one_of_both}
 
 -- ---- what changes tell
 

@@ -7,10 +7,10 @@ use Rattle.rh_line.specs.declared.cause.Cause.TheVariants as cause
 use Rattle.rh_line.specs.declared.leg.Leg.{Leg}
 use Rattle.rh_shell.specs.declared.course.Course.{Course}
 use Rattle.rh_shell.specs.declared.course.Course.TheVariants.{Going, Closed, Refusing}
-use Rattle.law_moves.specs.Moving.{Event, Breaks, after_event, after_events}
 use Rattle.rh_shell.specs.NearEnds.{NearEnd, is_ended, is_finished, marked}
 use Rattle.rh_shell.specs.Rules.{Rules}
 use Rattle.rh_shell.specs.Shells.{Shell, broken_at, broken_by, close, end_at, lose, lost, unreached, wants, with_end}
+use Rattle.law_moves.specs.Moving.{Event, Breaks, after_event, after_events}
 use Rattle.law_node_history.specs.Carried.{AreAccepted, ComesUpOnce, came_up}
 
 abbrev Refuses : Course → Type 0

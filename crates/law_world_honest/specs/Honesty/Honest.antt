@@ -8,9 +8,9 @@ use Rattle.rh_line.specs.declared.leg.LegKind.{LegKind}
 use Rattle.rh_line.specs.declared.leg.LegKind.TheVariants.{ClientOut, ClientIn}
 use Rattle.rh_record.specs.declared.answer.Who.{Who}
 use Rattle.rh_record.specs.declared.answer.Who.TheVariants.{Client, Server, In, Out}
-use Rattle.rh_client.specs.Client as client
 use Rattle.rh_inproxy.specs.Machine as in_proxy
 use Rattle.rh_outproxy.specs.Machine as out_proxy
+use Rattle.rh_client.specs.Client as client
 use Rattle.rh_server.specs.Servers as server
 use Rattle.law_moves.specs.ReadBack.Well.{Answers, is_named, is_packet}
 use Rattle.law_world_order.specs.Flows.{read_on}

@@ -1,8 +1,8 @@
 -- rows that refuse a value out of range in an acknowledgement alone (MS-RPCH 3.2)
 use Rattle.std.specs.Prelude.{ℕ, ◌≡◌, List, Err}
 use Rattle.rh_window.specs.declared.fault.TheConstants.{FLOW_CONTROL_ACK}
-use Rattle.rh_line.specs.declared.leg.Leg.{Leg}
 use Rattle.rh_sig.specs.declared.named.Named.{Named}
+use Rattle.rh_line.specs.declared.leg.Leg.{Leg}
 use Rattle.rh_shell.specs.declared.answers.Count.{Count}
 use Rattle.rh_shell.specs.declared.answers.Refused.TheVariants as refused
 use Rattle.rh_shell.specs.Rules.{Row, Rules}

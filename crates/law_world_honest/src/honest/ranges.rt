@@ -1,9 +1,9 @@
 //! Which values the rows of the roles refuse as out of range. This function does nothing: its
 //! contract is the law.
 
-ghost use Rattle.rh_client.specs.Client as client;
 ghost use Rattle.rh_inproxy.specs.Machine as in_proxy;
 ghost use Rattle.rh_outproxy.specs.Machine as out_proxy;
+ghost use Rattle.rh_client.specs.Client as client;
 ghost use Rattle.rh_server.specs.Servers as server;
 ghost use Rattle.law_world_honest.specs.Honesty.Rows.{RefusesAcks};
 

@@ -1,9 +1,9 @@
 //! What closes no node of a recording. This function does nothing: its contract is the law.
 
 ghost use Rattle.std.specs.Prelude.{List, ℕ};
-ghost use Rattle.rh_http.specs.declared.fault.HttpFault.{HttpFault};
 ghost use Rattle.rh_pdu.specs.declared.fault.HeadFault.{HeadFault};
 ghost use Rattle.rh_rts.specs.declared.fault.RtsFault.{RtsFault};
+ghost use Rattle.rh_http.specs.declared.fault.HttpFault.{HttpFault};
 ghost use Rattle.rh_line.specs.declared.cause.Cause.TheVariants.{BadFrame, BadHead, BadPacket};
 ghost use Rattle.rh_line.specs.declared.leg.Leg.{Leg};
 ghost use Rattle.rh_record.specs.declared.answer.Answer.TheVariants.{NodeClosed};

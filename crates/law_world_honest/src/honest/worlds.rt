@@ -2,30 +2,30 @@
 //! are the laws.
 
 ghost use Rattle.std.specs.Prelude.{◌≡◌, List, ℕ};
-ghost use Rattle.rh_http.specs.declared.fault.HttpFault.{HttpFault};
+ghost use Rattle.rh_text.specs.declared.ends.Dir.{Dir};
+ghost use Rattle.rh_window.specs.declared.fault.TheConstants.{FLOW_CONTROL_ACK};
 ghost use Rattle.rh_pdu.specs.declared.fault.HeadFault.{HeadFault};
 ghost use Rattle.rh_rts.specs.declared.fault.RtsFault.{RtsFault};
-ghost use Rattle.rh_window.specs.declared.fault.TheConstants.{FLOW_CONTROL_ACK};
-ghost use Rattle.rh_text.specs.declared.ends.Dir.{Dir};
+ghost use Rattle.rh_http.specs.declared.fault.HttpFault.{HttpFault};
 ghost use Rattle.rh_line.specs.declared.cause.Cause.{Cause};
 ghost use Rattle.rh_line.specs.declared.cause.Cause.TheVariants.{BadFrame, BadHead, BadPacket};
 ghost use Rattle.rh_line.specs.declared.cause.Cause.TheVariants.{OutOfRange};
 ghost use Rattle.rh_line.specs.declared.leg.Leg.{Leg};
 ghost use Rattle.rh_record.specs.declared.answer.Who.{Who};
-ghost use Rattle.rh_nodes.specs.World.{at};
 ghost use Rattle.rh_client.specs.declared.state.ClientRole.{ClientRole};
+ghost use Rattle.rh_nodes.specs.World.{at};
+ghost use Rattle.rh_nodes.specs.Wires.{receiver};
+ghost use Rattle.law_moves.specs.ReadBack.Well.{ReadsWell};
 ghost use Rattle.law_node_history.specs.Carried.{end_node, events_of, heard_on};
 ghost use Rattle.law_node_history.specs.Changes.{Change, IsFed, MayChange, changed};
 ghost use Rattle.law_node_history.specs.Closes.{ClosesNode};
 ghost use Rattle.law_node_history.specs.Histories.{noted};
-ghost use Rattle.rh_nodes.specs.Wires.{receiver};
-ghost use Rattle.law_moves.specs.ReadBack.Well.{ReadsWell};
+ghost use Rattle.law_node_streams.specs.Streams.{IsFirstHead};
 ghost use Rattle.law_node_traces.specs.Traced.Ours.{deeds, rules};
 ghost use Rattle.law_node_traces.specs.Traced.Recordings.{history_at};
 ghost use Rattle.law_world_order.specs.Flows.{read_on};
 ghost use Rattle.law_world_order.specs.FirstTexts.{IsPort};
 ghost use Rattle.law_world_order.specs.Premises.{AtEachMoment, InNewWorlds};
-ghost use Rattle.law_node_streams.specs.Streams.{IsFirstHead};
 ghost use Rattle.law_world_honest.specs.Honesty.Heads.{HeadIsRead};
 ghost use Rattle.law_world_honest.specs.Honesty.Honest.{IsOfNode, well_on};
 

@@ -3,19 +3,19 @@
 
 ghost use Rattle.std.specs.Prelude.{ℕ};
 ghost use Rattle.std.specs.List.{AllByRecursion};
-ghost use Rattle.rh_nodes.specs.Opening.{Makers};
-ghost use Rattle.rh_nodes.specs.World.{World};
-ghost use Rattle.rh_client.specs.declared.state.ClientRole.{ClientRole};
 ghost use Rattle.rh_inproxy.specs.State.{InProxy};
 ghost use Rattle.rh_outproxy.specs.OutProxy.{OutProxy};
+ghost use Rattle.rh_client.specs.declared.state.ClientRole.{ClientRole};
 ghost use Rattle.rh_server.specs.States.{Server};
+ghost use Rattle.rh_nodes.specs.Opening.{Makers};
+ghost use Rattle.rh_nodes.specs.World.{World};
 ghost use Rattle.law_node_history.specs.Histories.{IsNew};
+ghost use Rattle.law_peers_expects.specs.Asked.Requests.{IsRequest};
 ghost use Rattle.law_node_traces.specs.Traced.Cookies.{ByChanges};
 ghost use Rattle.law_node_traces.specs.Traced.Ours.{AreOurs, deeds, rules};
 ghost use Rattle.law_node_traces.specs.Traced.Recordings.{history_at};
 ghost use Rattle.law_world_order.specs.Flows.{IsFlowing, numbers_of};
 ghost use Rattle.law_world_order.specs.FirstTexts.{IsPort};
-ghost use Rattle.law_peers_expects.specs.Asked.Requests.{IsRequest};
 ghost use Rattle.law_world_honest.specs.WorldAsked.{IsOwnHead};
 
 use law_moves::texts_are_whole;

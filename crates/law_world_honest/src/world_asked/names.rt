@@ -5,15 +5,15 @@ ghost use Rattle.std.specs.Prelude.{ℕ, Some};
 ghost use Rattle.rh_text.specs.declared.ends.Dir.TheVariants.{D};
 ghost use Rattle.rh_sig.specs.declared.name.Pipe.TheVariants.{CoD};
 ghost use Rattle.rh_line.specs.declared.leg.LegKind.TheVariants.{ClientOut};
+ghost use Rattle.rh_client.specs.declared.state.ClientRole.{ClientRole};
 ghost use Rattle.rh_nodes.specs.Settling.{leg_at};
 ghost use Rattle.rh_nodes.specs.Wires.{receiver};
-ghost use Rattle.rh_client.specs.declared.state.ClientRole.{ClientRole};
+ghost use Rattle.law_moves.specs.ReadBack.Well.{ReadsWell, is_named};
 ghost use Rattle.law_node_history.specs.Carried.{end_node, events_of, heard_on};
 ghost use Rattle.law_node_history.specs.Changes.{Change, MayChange, changed};
 ghost use Rattle.law_node_history.specs.Histories.{noted};
 ghost use Rattle.law_node_traces.specs.Traced.Ours.{deeds, rules};
 ghost use Rattle.law_node_traces.specs.Traced.Recordings.{history_at};
-ghost use Rattle.law_moves.specs.ReadBack.Well.{ReadsWell, is_named};
 ghost use Rattle.law_world_order.specs.FirstTexts.{IsPort};
 ghost use Rattle.law_world_order.specs.Premises.{AtEachMoment, InNewWorlds};
 

@@ -5,8 +5,8 @@ use Rattle.std.specs.List.{AllByRecursion}
 use Rattle.rh_line.specs.declared.leg.Leg.{Leg}
 use Rattle.rh_line.specs.declared.leg.LegKind.{LegKind}
 use Rattle.rh_line.specs.declared.leg.LegKind.TheVariants.{ClientIn, ClientOut}
-use Rattle.rh_nodes.specs.Settling.{leg_at}
 use Rattle.rh_shell.specs.Shells.{same_leg}
+use Rattle.rh_nodes.specs.Settling.{leg_at}
 use Rattle.law_moves.specs.Chains.Sums.{sum_below}
 use Rattle.law_world_order.specs.CookiesLeft.{times}
 

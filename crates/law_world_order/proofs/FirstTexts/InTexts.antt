@@ -4,14 +4,10 @@ use Rattle.std.proofs.Common.{◌≡◌, ℕ, ◌==◌, List, ◌∷◌, ◌++�
 use Rattle.std.specs.Prelude.{if◌then◌else◌}
 use Rattle.std.specs.List.{AllByRecursion}
 use Rattle.std.specs.Fmt.{digits}
-use Rattle.rh_http.specs.Texts.{response_text}
 use Rattle.law_order.proofs.ByNumber.{by_test}
+use Rattle.rh_http.specs.Texts.{response_text}
 use Rattle.rh_line.specs.declared.leg.Leg.{Leg}
-use Rattle.law_moves.specs.Carrying.{spelled}
 use Rattle.rh_shell.specs.Rules.{Message, Text, spell}
-use Rattle.law_moves.specs.Moves.{Passage, started}
-use Rattle.law_moves.specs.Moving.{Leads}
-use Rattle.law_moves.specs.Wires.{of_leg}
 use Rattle.rh_inproxy.specs.declared.state.InProxyConfig.{InProxyConfig}
 use Rattle.rh_inproxy.specs.declared.state.Work.{Work}
 use Rattle.rh_inproxy.specs.declared.state.Work.TheVariants as works
@@ -21,6 +17,10 @@ use Rattle.rh_inproxy.specs.Machine.{rules as proxy_rules}
 use Rattle.rh_inproxy.specs.Opening.{echo_answer, echo_by, echo_packet, put_echo}
 use Rattle.rh_inproxy.specs.Putting.{next, put}
 use Rattle.rh_inproxy.specs.State.{InProxy, first, is_client_leg, is_server_leg}
+use Rattle.law_moves.specs.Carrying.{spelled}
+use Rattle.law_moves.specs.Moves.{Passage, started}
+use Rattle.law_moves.specs.Moving.{Leads}
+use Rattle.law_moves.specs.Wires.{of_leg}
 use Rattle.law_world_order.proofs.FirstTexts.PutAll.{Picked, all_put}
 
 echo_is : response_text 20 ++ echo_packet ≡ echo_answer

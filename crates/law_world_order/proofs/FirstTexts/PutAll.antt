@@ -6,9 +6,9 @@ use Rattle.std.specs.declared.option.Option.{Option}
 use Rattle.law_order.proofs.ByNumber.{by_test}
 use Rattle.rh_line.specs.declared.leg.Leg.{Leg}
 use Rattle.rh_shell.specs.Rules.{Message, Row, Rules, Pdu, Packet}
+use Rattle.rh_shell.specs.Shells.{same_leg}
 use Rattle.law_moves.specs.Moves.{Move, Up, HeadCame, PduCame, PacketCame, Puts, IsDrawn, Marks, Pings, OnLeg, Passage, started, moved, put_by, taken_by}
 use Rattle.law_moves.specs.Moving.{Leads}
-use Rattle.rh_shell.specs.Shells.{same_leg}
 use Rattle.law_moves.specs.Wires.{of_leg}
 use Rattle.law_moves.proofs.Leading.{leads_keep}
 use Rattle.law_node_streams.proofs.Streams.Ends.{leg_is}

@@ -2,30 +2,30 @@
 use Rattle.std.proofs.Common.{◌≡◌, ℕ, zero, suc, List, [], ◌∷◌, if◌then◌else◌, refl, sym, ap, subst}
 use Rattle.std.specs.List.{AllByRecursion}
 use Rattle.rh_window.specs.Sides.{IsWindow}
-use Rattle.rh_line.specs.declared.leg.Leg.{Leg}
-use Rattle.law_moves.specs.Moves.{EndMove, EndPassage, Move, Moves, Up, HeadCame, PduCame, PacketCame, Puts, IsDrawn, Marks, Pings, Gives, Takes, Closes, Recycles, OnLeg, Passage, all_end_moved, all_moved, end_started, started}
-use Rattle.law_moves.specs.Wires.{of_leg}
-use Rattle.law_moves.specs.Legible.Legible.{AreLegible, IsLegible}
 use Rattle.rh_http.specs.declared.config.ClientConfig.{ClientConfig}
-use Rattle.rh_client.specs.declared.state.ClientRole.{ClientRole}
-use Rattle.law_role_client.specs.Legible as client_legible
-use Rattle.law_role_client.specs.Legible.{HasCookieAtEnd, HasCookies, HaveCookies}
-use Rattle.law_role_client.specs.Order.{client_moved}
+use Rattle.rh_line.specs.declared.leg.Leg.{Leg}
 use Rattle.rh_inproxy.specs.declared.state.InProxyConfig.{InProxyConfig}
-use Rattle.law_role_inproxy.specs.Legible as in_legible
 use Rattle.rh_inproxy.specs.Machine as in_proxy
 use Rattle.rh_inproxy.specs.State.{InProxy}
 use Rattle.rh_inproxy.specs.State as in_state
 use Rattle.rh_outproxy.specs.declared.state.OutProxyConfig.{OutProxyConfig}
-use Rattle.law_role_outproxy.specs.Legible as out_legible
 use Rattle.rh_outproxy.specs.Machine as out_proxy
 use Rattle.rh_outproxy.specs.OutProxy.{OutProxy, new_proxy}
-use Rattle.law_role_server.specs.Legible as server_legible
+use Rattle.rh_client.specs.declared.state.ClientRole.{ClientRole}
 use Rattle.rh_server.specs.Servers as server
 use Rattle.rh_server.specs.States.{Server}
+use Rattle.law_moves.specs.Moves.{EndMove, EndPassage, Move, Moves, Up, HeadCame, PduCame, PacketCame, Puts, IsDrawn, Marks, Pings, Gives, Takes, Closes, Recycles, OnLeg, Passage, all_end_moved, all_moved, end_started, started}
+use Rattle.law_moves.specs.Wires.{of_leg}
+use Rattle.law_moves.specs.Legible.Legible.{AreLegible, IsLegible}
+use Rattle.law_role_inproxy.specs.Legible as in_legible
+use Rattle.law_role_client.specs.Legible as client_legible
+use Rattle.law_role_client.specs.Legible.{HasCookieAtEnd, HasCookies, HaveCookies}
+use Rattle.law_role_client.specs.Order.{client_moved}
+use Rattle.law_role_server.specs.Legible as server_legible
 use Rattle.law_node_history.specs.Carried.{came_up}
 use Rattle.law_node_history.specs.Histories.{History}
 use Rattle.law_node_history.proofs.Wired.{same_itself}
+use Rattle.law_role_outproxy.specs.Legible as out_legible
 use Rattle.law_node_streams.specs.Streams.{IsCookie, RisesWith}
 use Rattle.law_world_order.specs.Flows.{AllFine, AllLegible, Flows, Numbers}
 use Rattle.law_world_order.specs.Premises.{AreInRange}

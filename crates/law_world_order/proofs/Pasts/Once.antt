@@ -2,9 +2,9 @@
 use Rattle.std.proofs.Common.{◌≡◌, ◌⊎◌, inl, inr, List, [], ◌∷◌, ◌++◌, Bool, true, false, ◌||◌, refl, sym, ap, ◌∙◌, subst}
 use Rattle.rh_rts.specs.declared.command.Cookie.{Cookie}
 use Rattle.rh_line.specs.declared.leg.Leg.{Leg}
-use Rattle.law_moves.specs.Moving.{ComesUp, EndEvent, Happens, IsClosed, IsGiven, IsRecycled, IsTaken, after_end_events}
 use Rattle.rh_shell.specs.Rules.{Acts, Rules}
 use Rattle.rh_shell.specs.Shells.{Shell, may_up}
+use Rattle.law_moves.specs.Moving.{ComesUp, EndEvent, Happens, IsClosed, IsGiven, IsRecycled, IsTaken, after_end_events}
 use Rattle.law_moves.specs.Passages.Rising.{CameUpWith}
 use Rattle.law_node_history.specs.Carried.{AreAcceptedAtEnd, ComesUpOnceAtEnd, IsAcceptedAtEnd, came_up, happened}
 use Rattle.law_node_history.proofs.Appended.{came_append, end_accepted_append, happened_append}

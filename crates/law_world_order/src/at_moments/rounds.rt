@@ -1,9 +1,9 @@
 //! Replacements in a world of roles. This function does nothing: its contract is the law.
 
+ghost use Rattle.law_peers_moments.specs.GoingRound.{GoRound};
 ghost use Rattle.law_node_traces.specs.Traced.Recordings.{history_at};
 ghost use Rattle.law_world_order.specs.Flows.{IsFlowing, numbers_of};
 ghost use Rattle.law_world_order.specs.Premises.{AtEachMoment, InNewWorlds};
-ghost use Rattle.law_peers_moments.specs.GoingRound.{GoRound};
 
 use crate::at_moments::worlds::a_world_of_roles_is_at_a_moment;
 use law_peers_moments::replacements_go_round;

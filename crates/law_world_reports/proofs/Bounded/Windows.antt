@@ -1,17 +1,12 @@
 -- each node of a world of roles holds at most its window, whatever happened there
 use Rattle.std.proofs.Common.{◌≡◌, ℕ, List, refl, sym, subst}
+use Rattle.rh_text.specs.declared.ends.Side.TheVariants.{Server}
 use Rattle.rh_window.specs.Sides.{IsWindow}
 use Rattle.rh_http.specs.declared.config.ClientConfig.{ClientConfig}
 use Rattle.rh_line.specs.Lines as lines
 use Rattle.rh_record.specs.declared.line.Line.{Line}
-use Rattle.law_moves.specs.Moving as moving
-use Rattle.law_moves.specs.Moving.{EndEvent, after_events, after_end_events}
 use Rattle.rh_shell.specs.Rules.{Rules}
 use Rattle.rh_shell.specs.Shells.{Shell, begun}
-use Rattle.rh_client.specs.declared.state.ClientRole.{ClientRole}
-use Rattle.rh_client.specs.Client as clients
-use Rattle.rh_server.specs.Servers as servers
-use Rattle.rh_server.specs.States as states
 use Rattle.rh_inproxy.specs.declared.state.InProxyConfig.{InProxyConfig}
 use Rattle.rh_inproxy.specs.Machine as in_proxies
 use Rattle.rh_inproxy.specs.State.{InProxy}
@@ -19,10 +14,15 @@ use Rattle.rh_outproxy.specs.declared.out_proxy.TheConstants.{ROOMS}
 use Rattle.rh_outproxy.specs.declared.state.OutProxyConfig.{OutProxyConfig}
 use Rattle.rh_outproxy.specs.Machine as out_proxies
 use Rattle.rh_outproxy.specs.OutProxy.{OutProxy, new_proxy}
+use Rattle.rh_client.specs.declared.state.ClientRole.{ClientRole}
+use Rattle.rh_client.specs.Client as clients
+use Rattle.rh_server.specs.Servers as servers
+use Rattle.rh_server.specs.States as states
 use Rattle.rh_nodes.specs.declared.place.Place.{Place}
 use Rattle.rh_nodes.specs.declared.place.Place.TheVariants.{Absent, Here, Gone}
 use Rattle.rh_nodes.specs.Cookies.{cookie_of}
-use Rattle.rh_text.specs.declared.ends.Side.TheVariants.{Server}
+use Rattle.law_moves.specs.Moving as moving
+use Rattle.law_moves.specs.Moving.{EndEvent, after_events, after_end_events}
 use Rattle.law_node_history.specs.Changes.{Leads, Turn, after_turns}
 use Rattle.law_node_history.specs.Histories.{History, AreRuns, IsRun, all_noted, nothing, in_place, out_place}
 use Rattle.law_node_history.proofs.Leading.{cast_kept}

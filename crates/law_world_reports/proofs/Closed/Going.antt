@@ -7,9 +7,9 @@ use Rattle.rh_nodes.specs.Opening.{Makers}
 use Rattle.rh_nodes.specs.Reports.{and_then}
 use Rattle.rh_nodes.specs.World.{World}
 use Rattle.law_node_history.specs.Closes.{IsOneOf}
+use Rattle.law_node_history.proofs.Reported.{one_behind}
 use Rattle.law_world_reports.specs.Closed.Shows.{ShownWorks}
 use Rattle.law_world_reports.proofs.Closed.Showing.{shown_none, shown_then}
-use Rattle.law_node_history.proofs.Reported.{one_behind}
 
 pub one_before : {X : Type 0} (x : X) (xs ys : List X) → IsOneOf x xs → IsOneOf x (xs ++ ys)
 one_before x [] ys h = absurd h

@@ -15,7 +15,6 @@ use Rattle.rh_record.specs.declared.line.Line.{Line}
 use Rattle.rh_shell.specs.declared.course.Course.{Course}
 use Rattle.rh_shell.specs.declared.course.Course.TheVariants.{Going, Closed, Refusing}
 use Rattle.rh_shell.specs.Hearing.{hear}
-use Rattle.law_moves.specs.Laws.{ClosedWith}
 use Rattle.rh_shell.specs.NearEnds.{NearEnd}
 use Rattle.rh_shell.specs.Rules.{Rules}
 use Rattle.rh_shell.specs.Shells.{Shell, bytes_at, bytes_by, end_at}
@@ -33,6 +32,7 @@ use Rattle.rh_nodes.specs.Places as places
 use Rattle.rh_nodes.specs.Steps.{step, step_line}
 use Rattle.rh_nodes.specs.Telling as telling
 use Rattle.rh_nodes.specs.World.{World}
+use Rattle.law_moves.specs.Laws.{ClosedWith}
 use Rattle.law_node_history.specs.Changes.{Change, Works, changed, all_changed}
 use Rattle.law_node_history.specs.Closes.{IsOneOf, IsClosedBy, told_by}
 use Rattle.law_node_history.specs.Histories.{in_place, out_place}

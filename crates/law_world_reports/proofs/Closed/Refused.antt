@@ -14,9 +14,15 @@ use Rattle.rh_record.specs.declared.answer.Answer.TheVariants as answer
 use Rattle.rh_record.specs.declared.answer.Who.{Who}
 use Rattle.rh_record.specs.declared.answer.Who.TheVariants.{Client, Server, In, Out}
 use Rattle.rh_record.specs.declared.line.Line.{Line}
-use Rattle.law_moves.specs.Moving.{EndEvent, after_end_events}
 use Rattle.rh_shell.specs.Rules.{Rules}
 use Rattle.rh_shell.specs.Shells.{Shell}
+use Rattle.rh_inproxy.specs.State.{InProxy}
+use Rattle.rh_inproxy.specs.Machine as in_proxies
+use Rattle.rh_outproxy.specs.OutProxy.{OutProxy}
+use Rattle.rh_outproxy.specs.Machine as out_proxies
+use Rattle.rh_client.specs.declared.state.ClientRole.{ClientRole}
+use Rattle.rh_client.specs.Client as clients
+use Rattle.rh_server.specs.Servers as servers
 use Rattle.rh_nodes.specs.declared.event.Event.{Event}
 use Rattle.rh_nodes.specs.declared.event.Event.TheVariants.{Comes}
 use Rattle.rh_nodes.specs.declared.place.Place.{Place}
@@ -31,23 +37,17 @@ use Rattle.rh_nodes.specs.Readers.{reader_of}
 use Rattle.rh_nodes.specs.Steps.{step_line}
 use Rattle.rh_nodes.specs.Wires.{receiver}
 use Rattle.rh_nodes.specs.World.{World, node_by}
+use Rattle.law_moves.specs.Moving.{EndEvent, after_end_events}
 use Rattle.law_node_history.specs.Changes.{Change, AreAllowed, Leads, changed}
 use Rattle.law_node_history.specs.Closes.{IsOneOf}
 use Rattle.law_node_history.specs.Histories.{AreRuns, all_noted, in_place, out_place, nothing}
 use Rattle.law_node_history.proofs.Leading.{leads_then}
 use Rattle.law_node_history.proofs.Noting.{begins, changes_are_noted}
 use Rattle.law_node_history.proofs.Numbers.{answered}
+use Rattle.law_node_causes.specs.Closings.{ClosesWith, IsResponse}
 use Rattle.rh_world.specs.declared.any_world.AnyWorld.{AnyWorld}
 use Rattle.rh_world.specs.declared.any_world.AnyWorld.TheVariants.{Before, Direct, Settings, Roles}
 use Rattle.rh_world.specs.Roles as roles
-use Rattle.rh_client.specs.declared.state.ClientRole.{ClientRole}
-use Rattle.rh_client.specs.Client as clients
-use Rattle.rh_server.specs.Servers as servers
-use Rattle.rh_inproxy.specs.State.{InProxy}
-use Rattle.rh_inproxy.specs.Machine as in_proxies
-use Rattle.rh_outproxy.specs.OutProxy.{OutProxy}
-use Rattle.rh_outproxy.specs.Machine as out_proxies
-use Rattle.law_node_causes.specs.Closings.{ClosesWith, IsResponse}
 use Rattle.law_world_reports.specs.Closed.Licences.{IsLicensed, ShowsMove, midst}
 use Rattle.law_world_reports.specs.Closed.Recordings.{IsLicensedAt, IsLicensedIn, RefusesClient, IsRefusedIn}
 use Rattle.law_world_reports.proofs.Closed.Recorded.{IsReached, Reached}

@@ -7,10 +7,15 @@ use Rattle.rh_line.specs.declared.leg.Leg.{Leg}
 use Rattle.rh_record.specs.declared.answer.Who.{Who}
 use Rattle.rh_record.specs.declared.answer.Who.TheVariants.{Client, Server, In, Out}
 use Rattle.rh_record.specs.declared.line.Line.{Line}
-use Rattle.law_moves.specs.Moving as moving
-use Rattle.law_moves.specs.Moving.{EndEvent, after_end_events, after_events}
 use Rattle.rh_shell.specs.Rules.{Rules}
 use Rattle.rh_shell.specs.Shells.{Shell}
+use Rattle.rh_inproxy.specs.declared.state.InProxyConfig.{InProxyConfig}
+use Rattle.rh_inproxy.specs.Machine as in_proxies
+use Rattle.rh_outproxy.specs.OutProxy.{OutProxy}
+use Rattle.rh_outproxy.specs.Machine as out_proxies
+use Rattle.rh_client.specs.Client as clients
+use Rattle.rh_server.specs.States as states
+use Rattle.rh_server.specs.Servers as servers
 use Rattle.rh_nodes.specs.declared.event.Event.{Event}
 use Rattle.rh_nodes.specs.declared.place.Place.{Place}
 use Rattle.rh_nodes.specs.declared.place.Place.TheVariants.{Absent, Here, Gone}
@@ -18,21 +23,16 @@ use Rattle.rh_nodes.specs.Company as company
 use Rattle.rh_nodes.specs.Cookies.{cookie_of}
 use Rattle.rh_nodes.specs.Places as places
 use Rattle.rh_nodes.specs.World.{World}
+use Rattle.law_moves.specs.Moving as moving
+use Rattle.law_moves.specs.Moving.{EndEvent, after_end_events, after_events}
 use Rattle.law_node_history.specs.Histories.{IsRun, all_noted, in_place, nothing}
 use Rattle.law_node_history.proofs.Leading.{cast_kept}
 use Rattle.law_node_history.proofs.Numbers.{answered}
+use Rattle.law_node_causes.specs.Closings.{ClosesWith}
+use Rattle.law_node_causes.specs.Watching.{ClientFellSilent, InProxyFellSilent}
 use Rattle.rh_world.specs.declared.any_world.AnyWorld.{AnyWorld}
 use Rattle.rh_world.specs.declared.any_world.AnyWorld.TheVariants.{Before, Direct, Settings, Roles}
 use Rattle.rh_world.specs.Roles as roles
-use Rattle.rh_client.specs.Client as clients
-use Rattle.rh_server.specs.States as states
-use Rattle.rh_server.specs.Servers as servers
-use Rattle.rh_inproxy.specs.declared.state.InProxyConfig.{InProxyConfig}
-use Rattle.rh_inproxy.specs.Machine as in_proxies
-use Rattle.rh_outproxy.specs.OutProxy.{OutProxy}
-use Rattle.rh_outproxy.specs.Machine as out_proxies
-use Rattle.law_node_causes.specs.Closings.{ClosesWith}
-use Rattle.law_node_causes.specs.Watching.{ClientFellSilent, InProxyFellSilent}
 use Rattle.law_world_reports.specs.Closed.Licences.{midst}
 use Rattle.law_world_reports.specs.Closed.Recordings.{IsLicensedAt, IsLicensedIn}
 use Rattle.law_world_reports.specs.Closed.Silences.{FellSilent, IsSilentAt, IsSilentIn}

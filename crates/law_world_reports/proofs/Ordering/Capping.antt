@@ -6,6 +6,7 @@ use Rattle.rh_text.specs.declared.ends.Side.TheVariants.{Client, Server}
 use Rattle.rh_record.specs.declared.answer.Answer.{Answer}
 use Rattle.rh_record.specs.declared.answer.Answer.TheVariants.{Up, Down}
 use Rattle.rh_record.specs.declared.line.Line.{Line}
+use Rattle.rh_record.specs.Events.Events.{Event, event, events, given, offered, taken}
 use Rattle.rh_nodes.specs.declared.counts.Counts.{Counts}
 use Rattle.rh_nodes.specs.Company.{Rulebook}
 use Rattle.rh_nodes.specs.Counts.{none, one_more}
@@ -13,7 +14,6 @@ use Rattle.rh_nodes.specs.Giving.{Deeds}
 use Rattle.rh_nodes.specs.Opening.{Makers}
 use Rattle.rh_nodes.specs.Steps.{last, last_of, told}
 use Rattle.rh_nodes.specs.World.{World}
-use Rattle.rh_record.specs.Events.Events.{Event, event, events, given, offered, taken}
 use Rattle.law_world_reports.specs.Ordering.Counted.{CountsCapped, capped_count}
 use Rattle.law_world_reports.proofs.Ordering.Passing.{count_more, counted, counts_of}
 use Rattle.law_world_reports.proofs.Ordering.Counting.{CountsTold, reports}

@@ -12,6 +12,8 @@ use Rattle.rh_record.specs.declared.answer.Who.{Who}
 use Rattle.rh_record.specs.declared.answer.Who.TheVariants as who
 use Rattle.rh_record.specs.declared.line.Line.{Line}
 use Rattle.rh_record.specs.declared.line.Line.TheVariants as line
+use Rattle.rh_record.specs.Events.Events as events
+use Rattle.rh_record.specs.Events.Events.{Event, event, events, offer, offered}
 use Rattle.rh_shell.specs.Ends as ends
 use Rattle.rh_nodes.specs.declared.closing.Closing.{Closing}
 use Rattle.rh_nodes.specs.Closings.{lines}
@@ -25,8 +27,6 @@ use Rattle.rh_nodes.specs.World.{World}
 use Rattle.law_node_history.specs.Changes.{Change, Gives, Takes, Closes, RecyclesIn, RecyclesOut, Reports, GoesQuietly, all_changed, changed, is_quiet, is_silent}
 use Rattle.law_node_history.proofs.Lines.{leg_goes}
 use Rattle.law_node_history.proofs.Rounds.{open_goes, carry_all_goes, end_all_goes}
-use Rattle.rh_record.specs.Events.Events as events
-use Rattle.rh_record.specs.Events.Events.{Event, event, events, offer, offered}
 use Rattle.law_world_reports.proofs.Ordering.Passing.{Passes, both, passes_none, passes_then, still}
 use Rattle.law_world_reports.proofs.Ordering.GivesAndTakes.{TellsTake, line_tells, give_up, give_down, take_up, take_down, took_passes}
 

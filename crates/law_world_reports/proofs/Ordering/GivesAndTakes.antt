@@ -9,11 +9,11 @@ use Rattle.rh_line.specs.declared.give_fault.GiveFault.{GiveFault}
 use Rattle.rh_record.specs.declared.answer.Answer.TheVariants as answer
 use Rattle.rh_record.specs.declared.answer.TakeAnswer.{TakeAnswer}
 use Rattle.rh_record.specs.declared.answer.TakeAnswer.TheVariants as takes
+use Rattle.rh_record.specs.Events.Events.{Event, Gives, Refuses, Takes, Ends, event, events, given, of_end}
 use Rattle.rh_shell.specs.Shells.{Shell}
 use Rattle.rh_nodes.specs.Giving.{given_down, given_up, taken_down, taken_up}
 use Rattle.rh_nodes.specs.Settling.{took}
 use Rattle.rh_nodes.specs.World.{World}
-use Rattle.rh_record.specs.Events.Events.{Event, Gives, Refuses, Takes, Ends, event, events, given, of_end}
 use Rattle.law_world_reports.proofs.Ordering.Passing.{Passes, both, counted, passes_none, still}
 
 -- ---- one event

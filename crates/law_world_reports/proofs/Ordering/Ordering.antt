@@ -3,22 +3,22 @@ use Rattle.std.proofs.Common.{◌≡◌, ◌++◌, ℕ, List, [], ◌∷◌, tru
 use Rattle.std.proofs.lemmas.List.{append_assoc, append-nil, append_cancel_left, take-append-drop}
 use Rattle.rh_text.specs.declared.ends.Side.{Side}
 use Rattle.rh_text.specs.declared.ends.Side.TheVariants as side
-use Rattle.law_moves.specs.Moving.{IsClosed}
+use Rattle.rh_record.specs.Events.Events.{Event, Ends, Closes, Stops, StopsTaking, StopsGiving, other, given, taken}
+use Rattle.rh_record.specs.Events.Order.{IsPrefix}
 use Rattle.rh_shell.specs.Shells.{Shell}
+use Rattle.rh_inproxy.specs.State.{InProxy}
+use Rattle.rh_outproxy.specs.OutProxy.{OutProxy}
+use Rattle.rh_client.specs.declared.state.ClientRole.{ClientRole}
+use Rattle.rh_server.specs.States.{Server, is_closing}
 use Rattle.rh_nodes.specs.Opening.{Makers}
 use Rattle.rh_nodes.specs.World.{World}
+use Rattle.law_moves.specs.Moving.{IsClosed}
 use Rattle.law_node_history.specs.Changes as changes
 use Rattle.law_node_history.specs.Changes.{Change, Leads, of_line}
 use Rattle.law_node_history.specs.Histories.{AreRuns, History, all_noted, nothing}
-use Rattle.rh_client.specs.declared.state.ClientRole.{ClientRole}
-use Rattle.rh_inproxy.specs.State.{InProxy}
-use Rattle.rh_outproxy.specs.OutProxy.{OutProxy}
-use Rattle.rh_server.specs.States.{Server, is_closing}
 use Rattle.law_node_streams.specs.Streams.{all_given}
-use Rattle.rh_record.specs.Events.Events.{Event, Ends, Closes, Stops, StopsTaking, StopsGiving, other, given, taken}
-use Rattle.rh_record.specs.Events.Order.{IsPrefix}
-use Rattle.law_world_reports.specs.Telling.{Moment, GoesOn, end_events, end_given, until, in_the_end}
 use Rattle.law_node_traces.specs.Traced.Ours.{deeds, rules}
+use Rattle.law_world_reports.specs.Telling.{Moment, GoesOn, end_events, end_given, until, in_the_end}
 use Rattle.law_world_reports.specs.Ordering.Ends.{GivesUntilClosing, IsClosing}
 use Rattle.law_world_reports.specs.Ordering.Premises.{KeepsOrder}
 use Rattle.law_world_reports.proofs.Telling.Behind.{taken_append}

@@ -4,10 +4,10 @@ use Rattle.std.specs.List.{list_all}
 use Rattle.std.proofs.lemmas.Bool.{and_parts}
 use Rattle.rh_text.specs.declared.ends.Side.{Side}
 use Rattle.rh_text.specs.declared.ends.Side.TheVariants.{Client, Server}
+use Rattle.rh_record.specs.Events.Events.{Event, Gives, Refuses, Takes, given, taken}
 use Rattle.rh_nodes.specs.declared.counts.Counts.{Counts}
 use Rattle.rh_nodes.specs.Counts.{one_more}
 use Rattle.rh_nodes.specs.World.{World}
-use Rattle.rh_record.specs.Events.Events.{Event, Gives, Refuses, Takes, given, taken}
 
 -- a count after these PDUs more
 abbrev pub count_more : List (List ℕ) → ℕ → ℕ

@@ -16,12 +16,12 @@ use Rattle.rh_line.specs.declared.state.Take.TheVariants as taken
 use Rattle.rh_record.specs.declared.answer.Answer.TheVariants as answer
 use Rattle.rh_record.specs.declared.answer.TakeAnswer.{TakeAnswer}
 use Rattle.rh_record.specs.declared.answer.TakeAnswer.TheVariants as takes
+use Rattle.rh_record.specs.Events.Events.{Event, Silent, event, of_end}
+use Rattle.rh_record.specs.Events.Events as events
 use Rattle.rh_shell.specs.declared.course.Course.{Course}
 use Rattle.rh_shell.specs.declared.course.Course.TheVariants.{Going, Closed, Refusing}
-use Rattle.law_moves.specs.Carrying.{accepted, first_in, handed, handed_by}
 use Rattle.rh_shell.specs.Ends as ends
 use Rattle.rh_shell.specs.Ends.{cause_of}
-use Rattle.law_moves.specs.Laws.{ClosedWith}
 use Rattle.rh_shell.specs.Rules.{Acts}
 use Rattle.rh_shell.specs.Shells.{Shell}
 use Rattle.rh_nodes.specs.Company.{Rulebook}
@@ -30,11 +30,11 @@ use Rattle.rh_nodes.specs.Opening.{Makers}
 use Rattle.rh_nodes.specs.Settling.{took, take_one}
 use Rattle.rh_nodes.specs.Steps.{answered, reported}
 use Rattle.rh_nodes.specs.World.{World}
+use Rattle.law_moves.specs.Carrying.{accepted, first_in, handed, handed_by}
+use Rattle.law_moves.specs.Laws.{ClosedWith}
 use Rattle.law_node_history.specs.Changes.{Change, Gives, Takes, Closes, RecyclesIn, RecyclesOut, MayChange, changed, of_line}
 use Rattle.law_node_history.specs.Closes.{HasClosed}
 use Rattle.law_node_history.proofs.Working.{works_one}
-use Rattle.rh_record.specs.Events.Events.{Event, Silent, event, of_end}
-use Rattle.rh_record.specs.Events.Events as events
 use Rattle.law_world_reports.specs.Telling.{Tells, next_take, node_of}
 use Rattle.law_world_reports.proofs.Telling.Adding.{Way, Given, Taken, adds}
 use Rattle.law_world_reports.proofs.Telling.Parts.{part, part_silent, left}

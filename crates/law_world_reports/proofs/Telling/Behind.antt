@@ -3,12 +3,12 @@ use Rattle.std.proofs.Common.{◌≡◌, ◌++◌, ℕ, List, [], ◌∷◌, ref
 use Rattle.std.proofs.lemmas.List.{append_assoc, append-nil, append_cancel_left}
 use Rattle.rh_text.specs.declared.ends.Side.{Side}
 use Rattle.rh_record.specs.declared.line.Line.{Line}
+use Rattle.rh_record.specs.Events.Events.{Event, Closes, events, offered, given, taken}
 use Rattle.rh_nodes.specs.Company.{Rulebook}
 use Rattle.rh_nodes.specs.Giving.{Deeds}
 use Rattle.rh_nodes.specs.Opening.{Makers}
 use Rattle.rh_nodes.specs.Steps.{told}
 use Rattle.rh_nodes.specs.World.{World}
-use Rattle.rh_record.specs.Events.Events.{Event, Closes, events, offered, given, taken}
 use Rattle.law_world_reports.specs.Telling.{Moment, end_given, end_taken, until, in_the_end}
 use Rattle.law_world_reports.proofs.Telling.Adding.{Given, Taken}
 use Rattle.law_world_reports.proofs.Telling.Parts.{said_more, part}

@@ -3,11 +3,11 @@ use Rattle.std.proofs.Common.{◌≡◌, ◌++◌, List, [], ◌∷◌, refl, sy
 use Rattle.std.proofs.lemmas.List.{append_assoc, append-nil}
 use Rattle.rh_text.specs.declared.ends.Side.{Side}
 use Rattle.rh_text.specs.declared.ends.Side.TheVariants.{Client, Server}
-use Rattle.law_moves.specs.Moving.{IsClosed}
 use Rattle.rh_nodes.specs.Company.{Rulebook}
 use Rattle.rh_nodes.specs.Giving.{Deeds}
 use Rattle.rh_nodes.specs.Opening.{Makers}
 use Rattle.rh_nodes.specs.World.{World}
+use Rattle.law_moves.specs.Moving.{IsClosed}
 use Rattle.law_node_history.specs.Changes.{Change, Closes, changed}
 use Rattle.law_node_history.specs.Histories.{History, all_noted, noted, nothing}
 use Rattle.law_world_reports.specs.Telling.{end_events, GoesOn}

@@ -11,6 +11,8 @@ use Rattle.rh_record.specs.declared.answer.Who.{Who}
 use Rattle.rh_record.specs.declared.answer.Who.TheVariants as who
 use Rattle.rh_record.specs.declared.line.Line.{Line}
 use Rattle.rh_record.specs.declared.line.Line.TheVariants as line
+use Rattle.rh_record.specs.Events.Events.{Event, Silent, event, events, offer, offered}
+use Rattle.rh_record.specs.Events.Events as told_as
 use Rattle.rh_nodes.specs.declared.closing.Closing.{Closing}
 use Rattle.rh_nodes.specs.Closings.{lines}
 use Rattle.rh_nodes.specs.Company.{Rulebook}
@@ -26,8 +28,6 @@ use Rattle.law_node_history.proofs.Working.{works_none}
 use Rattle.law_node_history.proofs.Lines.{leg_goes, goes_step_line}
 use Rattle.law_node_history.proofs.Rounds.{open_goes, carry_all_goes, end_all_goes}
 use Rattle.law_node_history.proofs.ToReport.{closed_to_report}
-use Rattle.rh_record.specs.Events.Events.{Event, Silent, event, events, offer, offered}
-use Rattle.rh_record.specs.Events.Events as told_as
 use Rattle.law_world_reports.specs.Telling.{Tells}
 use Rattle.law_world_reports.proofs.Telling.Adding.{Way, Given, Taken, adds, quiet_lines, gains_quiet}
 use Rattle.law_world_reports.proofs.Telling.Parts.{part, part_silent, events_append}

@@ -1,10 +1,10 @@
 -- what passed an end by events behind events
 use Rattle.std.proofs.Common.{◌≡◌, ◌++◌, ℕ, List, [], ◌∷◌, map, refl, sym, ap, ◌∙◌}
 use Rattle.std.proofs.lemmas.List.{append_assoc}
-use Rattle.law_moves.specs.Moving as moving
-use Rattle.law_moves.specs.Moving.{EndEvent, Happens, after_events, after_event, after_end_event, after_end_events}
 use Rattle.rh_shell.specs.Rules.{Rules, Acts}
 use Rattle.rh_shell.specs.Shells.{Shell}
+use Rattle.law_moves.specs.Moving as moving
+use Rattle.law_moves.specs.Moving.{EndEvent, Happens, after_events, after_event, after_end_event, after_end_events}
 use Rattle.law_node_streams.specs.Streams.{all_given, given_by, all_taken, taken_by}
 
 -- for a log of what passed in each event, and nothing in one that just happens

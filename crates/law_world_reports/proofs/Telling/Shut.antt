@@ -6,15 +6,15 @@ use Rattle.rh_text.specs.declared.ends.Side.TheVariants as side
 use Rattle.rh_line.specs.declared.cause.Cause.{Cause}
 use Rattle.rh_shell.specs.declared.course.Course.{Course}
 use Rattle.rh_shell.specs.declared.course.Course.TheVariants.{Going, Closed, Refusing}
-use Rattle.law_moves.specs.Carrying.{accepted, handed_by}
 use Rattle.rh_shell.specs.Ends.{cause_of, give_where}
-use Rattle.law_moves.specs.Laws.{ClosedWith}
 use Rattle.rh_shell.specs.Rules.{Acts}
 use Rattle.rh_shell.specs.Shells.{Shell}
 use Rattle.rh_nodes.specs.Company.{Company, Rulebook}
 use Rattle.rh_nodes.specs.Giving.{Deeds}
 use Rattle.rh_nodes.specs.Opening.{Makers}
 use Rattle.rh_nodes.specs.World.{World}
+use Rattle.law_moves.specs.Carrying.{accepted, handed_by}
+use Rattle.law_moves.specs.Laws.{ClosedWith}
 use Rattle.law_node_history.specs.Changes.{Change, Gives, Takes, Closes, RecyclesIn, RecyclesOut, Reports, AreAllowed, Leads, changed}
 use Rattle.law_node_history.specs.Closes.{HasClosed}
 use Rattle.law_node_history.specs.Histories.{AreRuns, History, all_noted}

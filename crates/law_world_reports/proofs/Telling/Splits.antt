@@ -4,6 +4,7 @@ use Rattle.std.proofs.lemmas.List.{append_assoc}
 use Rattle.rh_text.specs.declared.ends.Side.{Side}
 use Rattle.rh_text.specs.declared.ends.Side.TheVariants.{Client, Server}
 use Rattle.rh_record.specs.declared.line.Line.{Line}
+use Rattle.rh_record.specs.Events.Events.{Event, Gives, Refuses, Takes, Ends, Closes, Stops, Silent, events, offered}
 use Rattle.rh_nodes.specs.Company.{Company, Rulebook}
 use Rattle.rh_nodes.specs.Giving.{Deeds}
 use Rattle.rh_nodes.specs.Opening.{Makers}
@@ -12,7 +13,6 @@ use Rattle.rh_nodes.specs.World.{World}
 use Rattle.law_node_history.specs.Changes.{Change, ByLines}
 use Rattle.law_node_history.specs.Histories.{History, all_noted, nothing}
 use Rattle.law_node_history.proofs.Working.{works_none, works_then}
-use Rattle.rh_record.specs.Events.Events.{Event, Gives, Refuses, Takes, Ends, Closes, Stops, Silent, events, offered}
 use Rattle.law_world_reports.specs.Telling.{Agrees, Tells, TellsNext, Moment}
 use Rattle.law_world_reports.proofs.Telling.Adding.{Way, Given, Taken, gains, gains_then, passed, EndsRun, all_add_to, run_all}
 use Rattle.law_world_reports.proofs.Telling.Parts.{said, part, left, said_more, said_none}

@@ -2,6 +2,7 @@
 use Rattle.std.proofs.Common.{◌≡◌, ◌++◌, ℕ, List, [], ◌∷◌, refl, sym, ap, ◌∙◌, subst}
 use Rattle.rh_text.specs.declared.ends.Side.{Side}
 use Rattle.rh_record.specs.declared.answer.Answer.{Answer}
+use Rattle.rh_record.specs.Events.Events.{Event, event, events}
 use Rattle.rh_nodes.specs.Company.{Rulebook}
 use Rattle.rh_nodes.specs.Giving.{Deeds}
 use Rattle.rh_nodes.specs.Opening.{Makers}
@@ -9,7 +10,6 @@ use Rattle.rh_nodes.specs.Reports.{and_then}
 use Rattle.rh_nodes.specs.World.{World}
 use Rattle.law_node_history.specs.Changes.{ByLines}
 use Rattle.law_node_history.proofs.Working.{works_none, works_then}
-use Rattle.rh_record.specs.Events.Events.{Event, event, events}
 use Rattle.law_world_reports.specs.Telling.{Tells}
 use Rattle.law_world_reports.proofs.Telling.Adding.{Way, gains, gains_then}
 use Rattle.law_world_reports.proofs.Telling.Parts.{part, left, events_append}

@@ -10,10 +10,10 @@ use Rattle.rh_record.specs.declared.answer.Who.TheVariants.{Client}
 use Rattle.rh_record.specs.declared.line.Line.{Line}
 use Rattle.rh_nodes.specs.Steps.{step_line}
 use Rattle.law_node_history.specs.Closes.{IsOneOf}
+use Rattle.law_node_causes.specs.Closings.{IsResponse}
 use Rattle.rh_world.specs.declared.any_world.AnyWorld.{AnyWorld}
 use Rattle.rh_world.specs.declared.any_world.AnyWorld.TheVariants.{Before, Direct, Settings, Roles}
 use Rattle.rh_world.specs.Roles as roles
-use Rattle.law_node_causes.specs.Closings.{IsResponse}
 use Rattle.law_world_reports.specs.Closed.Licences.{IsLicensed, midst}
 
 -- a line of a world of roles

@@ -12,11 +12,11 @@ use Rattle.rh_nodes.specs.Steps.{step_line}
 use Rattle.law_node_history.specs.Changes.{Leads}
 use Rattle.law_node_history.specs.Closes.{IsOneOf}
 use Rattle.law_node_history.specs.Histories.{History, all_noted, nothing}
+use Rattle.law_node_causes.specs.Watching.{ClientFellSilent, InProxyFellSilent}
 use Rattle.rh_world.specs.declared.any_world.AnyWorld.{AnyWorld}
 use Rattle.rh_world.specs.declared.any_world.AnyWorld.TheVariants.{Before, Direct, Settings, Roles}
 use Rattle.rh_world.specs.declared.config.WorldConfig.{WorldConfig}
 use Rattle.rh_world.specs.Roles as roles
-use Rattle.law_node_causes.specs.Watching.{ClientFellSilent, InProxyFellSilent}
 use Rattle.law_world_reports.specs.Closed.Licences.{midst}
 use Rattle.law_world_reports.specs.Closed.Recordings.{IsLicensedAt}
 

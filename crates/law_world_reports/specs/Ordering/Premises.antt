@@ -3,18 +3,18 @@
 use Rattle.std.specs.Prelude.{◌≡◌, Bool}
 use Rattle.rh_text.specs.declared.ends.Side.{Side}
 use Rattle.rh_line.specs.declared.state.Take.TheVariants as takes
+use Rattle.rh_record.specs.Events.Events.{other}
+use Rattle.rh_record.specs.Events.Order.{IsPrefix}
+use Rattle.rh_inproxy.specs.State.{InProxy}
+use Rattle.rh_outproxy.specs.OutProxy.{OutProxy}
+use Rattle.rh_client.specs.declared.state.ClientRole.{ClientRole}
+use Rattle.rh_server.specs.States.{Server}
 use Rattle.rh_nodes.specs.Opening.{Makers}
 use Rattle.rh_nodes.specs.World.{World}
 use Rattle.law_node_history.specs.Changes.{Change, Leads, WorksBy}
-use Rattle.rh_client.specs.declared.state.ClientRole.{ClientRole}
-use Rattle.rh_inproxy.specs.State.{InProxy}
-use Rattle.rh_outproxy.specs.OutProxy.{OutProxy}
-use Rattle.rh_server.specs.States.{Server}
-use Rattle.rh_record.specs.Events.Events.{other}
-use Rattle.rh_record.specs.Events.Order.{IsPrefix}
-use Rattle.law_world_reports.specs.Telling.{end_given, end_taken, next_take}
 use Rattle.law_node_traces.specs.Traced.Ours.{deeds, rules}
 use Rattle.law_node_traces.specs.Traced.Recordings.{history_at}
+use Rattle.law_world_reports.specs.Telling.{end_given, end_taken, next_take}
 use Rattle.law_world_reports.specs.Ordering.Ends.{IsClosing}
 
 -- all that the other end gave was taken at this one, and the other was told to close

@@ -6,12 +6,12 @@ use Rattle.rh_text.specs.declared.ends.Dir.{Dir}
 use Rattle.rh_text.specs.declared.ends.Dir.TheVariants.{U, D}
 use Rattle.rh_text.specs.declared.ends.Side.{Side}
 use Rattle.rh_text.specs.declared.ends.Side.TheVariants.{Client, Server}
+use Rattle.law_order.proofs.ByNumber.{by_test}
+use Rattle.rh_rts.specs.declared.command.TheConstants.{NO_COOKIE}
 use Rattle.rh_line.specs.declared.leg.Leg.{Leg}
 use Rattle.rh_line.specs.declared.leg.LegKind.{LegKind}
 use Rattle.rh_line.specs.declared.leg.LegKind.TheVariants.{ClientOut, OutServer, ClientIn, InServer}
-use Rattle.law_order.proofs.ByNumber.{by_test}
 use Rattle.rh_record.specs.declared.answer.Who.TheVariants as who
-use Rattle.rh_rts.specs.declared.command.TheConstants.{NO_COOKIE}
 use Rattle.rh_shell.specs.Shells as shell
 use Rattle.rh_shell.specs.Shells.{same_leg}
 use Rattle.rh_nodes.specs.declared.event.Event.{Event}

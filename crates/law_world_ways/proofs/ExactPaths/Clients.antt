@@ -1,15 +1,15 @@
 -- on each leg for which a client has no use any more the handover mark or END came
 use Rattle.std.proofs.Common.{◌≡◌, ◌⊎◌, inl, inr, ◌<◌, ◌≤◌, ℕ, List, true, false, sym, subst}
 use Rattle.std.proofs.lemmas.Bool.{cases_lt}
-use Rattle.rh_http.specs.declared.config.ClientConfig.{ClientConfig}
 use Rattle.law_order.specs.Items.{has_end, has_handover}
-use Rattle.law_moves.specs.Moves.{EndPassage, is_in_use}
-use Rattle.law_moves.specs.Moving.{EndEvent, after_end_events}
+use Rattle.rh_http.specs.declared.config.ClientConfig.{ClientConfig}
 use Rattle.rh_client.specs.declared.state.ClientRole.{ClientRole}
 use Rattle.rh_client.specs.Client as client
+use Rattle.rh_client.specs.State as client_state
+use Rattle.law_moves.specs.Moves.{EndPassage, is_in_use}
+use Rattle.law_moves.specs.Moving.{EndEvent, after_end_events}
 use Rattle.law_role_client.specs.Order as client_order
 use Rattle.law_role_client.specs.Order.{TakesInOrder, client_moved, has_leg}
-use Rattle.rh_client.specs.State as client_state
 use Rattle.law_node_streams.specs.Streams.{EndStream}
 use Rattle.law_node_begins.specs.ProxiesBegin.Pipes.{co}
 use Rattle.law_peers_routes.specs.Downwards.{client_reads}

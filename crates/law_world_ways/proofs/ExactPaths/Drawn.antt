@@ -4,13 +4,13 @@ use Rattle.std.specs.declared.option.Option.{Option}
 use Rattle.std.proofs.lemmas.Bool.{and_parts}
 use Rattle.rh_line.specs.declared.leg.Leg.{Leg}
 use Rattle.rh_shell.specs.declared.course.Course.TheVariants.{Going}
-use Rattle.law_moves.specs.Moving.{Event, after_events}
 use Rattle.rh_shell.specs.NearEnds.{NearEnd, is_empty, is_finished, is_marked, is_useless}
 use Rattle.rh_shell.specs.Rules.{Rules}
 use Rattle.rh_shell.specs.Shells.{Shell, end_at, finished, finished_at, finished_by}
 use Rattle.rh_nodes.specs.declared.place.Place.{Place}
 use Rattle.rh_nodes.specs.declared.place.Place.TheVariants.{Absent, Here, Gone}
 use Rattle.rh_nodes.specs.Places as places
+use Rattle.law_moves.specs.Moving.{Event, after_events}
 use Rattle.law_node_history.specs.Histories.{IsRun}
 use Rattle.law_world_ways.specs.OnPaths.OnWay.{left_on}
 

@@ -6,14 +6,14 @@ use Rattle.rh_shell.specs.declared.answers.Phase.{Phase}
 use Rattle.rh_shell.specs.declared.answers.Phase.TheVariants as phase
 use Rattle.rh_shell.specs.declared.course.Course.{Course}
 use Rattle.rh_shell.specs.declared.course.Course.TheVariants.{Going}
-use Rattle.law_moves.specs.Moves.{is_in_use}
-use Rattle.law_moves.specs.Moving.{Event, after_events}
 use Rattle.rh_shell.specs.NearEnds.{is_empty, is_ended, is_finished, is_marked, is_useless}
 use Rattle.rh_shell.specs.Rules.{Rules}
 use Rattle.rh_shell.specs.Shells.{Shell, finished, finished_at, finished_by, is_working_by, state_by}
 use Rattle.rh_nodes.specs.declared.place.Place.{Place}
 use Rattle.rh_nodes.specs.declared.place.Place.TheVariants.{Absent, Here, Gone}
 use Rattle.rh_nodes.specs.Places as places
+use Rattle.law_moves.specs.Moves.{is_in_use}
+use Rattle.law_moves.specs.Moving.{Event, after_events}
 use Rattle.law_node_history.specs.Histories.{IsRun}
 use Rattle.law_world_ways.specs.ExactWays.Keeping.{KeepsEnd}
 use Rattle.law_world_ways.proofs.ExactPaths.Fates.{unused}

@@ -5,10 +5,10 @@ use Rattle.rh_world.specs.declared.any_world.AnyWorld.TheVariants.{Before, Direc
 use Rattle.rh_world.specs.declared.config.WorldConfig.{WorldConfig}
 use Rattle.rh_world.specs.Config.{AreInRange}
 use Rattle.rh_world.specs.Roles as roles
-use Rattle.law_world_ways.specs.EndsInTime.InTime.{EndsInTime}
-use Rattle.law_world_ways.specs.EndsInTime.Losses.{IsEndedInTime, RolesEndInTime}
 use Rattle.law_world_order.specs.Flows.{numbers_of}
 use Rattle.law_world_order.proofs.Recorded.{ours}
+use Rattle.law_world_ways.specs.EndsInTime.InTime.{EndsInTime}
+use Rattle.law_world_ways.specs.EndsInTime.Losses.{IsEndedInTime, RolesEndInTime}
 use Rattle.law_world_ways.specs.OnPaths.Ways.{AreOnTheirWay}
 use Rattle.law_world_ways.specs.ExactPaths.Exact.{IsExact, KeepsAll, RolesKeepAll, history_until}
 use Rattle.law_world_ways.specs.ExactPaths.GoingOn.{AllGoOn}

@@ -5,15 +5,15 @@ use Rattle.law_order.proofs.ItemLists.{neither}
 use Rattle.rh_line.specs.declared.leg.Leg.{Leg}
 use Rattle.rh_shell.specs.declared.rooms.Rooms.{Rooms}
 use Rattle.rh_shell.specs.Ends.{cause_of}
-use Rattle.law_moves.specs.Moving.{AreHeld, EndEvent, Event, ComesUp, Hears, Ends, Breaks, Draws, Ticks, Happens, IsClosed, IsGiven, IsRecycled, IsTaken, after_end_event, after_end_events, after_event, after_events}
 use Rattle.rh_shell.specs.NearEnds.{NearEnd, new_end}
 use Rattle.rh_shell.specs.Rules.{Acts, Rules}
 use Rattle.rh_shell.specs.Shells.{Shell, begun, free_place, same_leg, seated_at, state_of}
+use Rattle.law_moves.specs.Moving.{AreHeld, EndEvent, Event, ComesUp, Hears, Ends, Breaks, Draws, Ticks, Happens, IsClosed, IsGiven, IsRecycled, IsTaken, after_end_event, after_end_events, after_event, after_events}
 use Rattle.law_node_history.specs.Carried.{AreAccepted, AreAcceptedAtEnd, IsAccepted, IsAcceptedAtEnd, came_up, happened, is_up_of}
-use Rattle.law_node_streams.proofs.Streams.Ends.{end_is, end_of, leg_is, set_beside}
 use Rattle.law_node_causes.specs.Once.{AreUpOnce, ComesUpOnce, KeepsUp}
 use Rattle.law_node_causes.proofs.LegChanges.{Changes, Comes, Makes, closed_legs, given_legs, makes, recycled_legs, taken_legs}
 use Rattle.law_node_causes.proofs.OnceUp.{AllFollow, AllFollowAtEnd, comes_up, first_held, first_once, run_once, run_once_at_end}
+use Rattle.law_node_streams.proofs.Streams.Ends.{end_is, end_of, leg_is, set_beside}
 use Rattle.law_world_ways.specs.ExactWays.Keeping.{KnowsLeg}
 
 -- ---- an end of another leg is put

@@ -2,23 +2,17 @@
 use Rattle.std.proofs.Common.{◌≡◌, ◌≢◌, ◌⊎◌, inl, inr, ◌≤◌, ℕ, zero, suc, Bool, true, false, true≢false, if◌then◌else◌, List, arith, Some, refl, sym, ap, ◌∙◌, subst}
 use Rattle.std.specs.List.{AllByRecursion}
 use Rattle.std.proofs.lemmas.Bool.Decides.{nat_tests}
-use Rattle.rh_http.specs.declared.config.ClientConfig.{ClientConfig}
 use Rattle.rh_text.specs.declared.ends.Dir.TheVariants.{U, D}
 use Rattle.rh_text.specs.declared.ends.Side.TheVariants as side
-use Rattle.rh_sig.specs.declared.name.Pipe.TheVariants.{CiU, IsU, CoD, OsD}
-use Rattle.rh_line.specs.declared.leg.Leg.{Leg}
-use Rattle.rh_record.specs.declared.answer.Who.TheVariants as who
 use Rattle.law_order.specs.Items.{has_end}
 use Rattle.law_order.specs.Logs.{below}
 use Rattle.law_order.specs.Paths.{reader, stops_at}
 use Rattle.law_order.specs.Routes.{Route}
-use Rattle.law_moves.specs.Moves.{EndMove, EndPassage, is_in_use}
-use Rattle.law_moves.specs.Moving.{EndEvent, Event, after_end_events, after_events}
+use Rattle.rh_sig.specs.declared.name.Pipe.TheVariants.{CiU, IsU, CoD, OsD}
+use Rattle.rh_http.specs.declared.config.ClientConfig.{ClientConfig}
+use Rattle.rh_line.specs.declared.leg.Leg.{Leg}
+use Rattle.rh_record.specs.declared.answer.Who.TheVariants as who
 use Rattle.rh_shell.specs.Shells.{begun}
-use Rattle.rh_client.specs.declared.state.ClientRole.{ClientRole}
-use Rattle.rh_client.specs.Client as client
-use Rattle.law_role_client.specs.Order as client_order
-use Rattle.law_role_client.specs.Order.{AreAllowedMoves, TakesInOrder, client_moved, has_leg}
 use Rattle.rh_inproxy.specs.declared.state.InProxyConfig.{InProxyConfig}
 use Rattle.rh_inproxy.specs.Machine as in_proxy
 use Rattle.rh_inproxy.specs.State as in_state
@@ -27,18 +21,24 @@ use Rattle.rh_outproxy.specs.declared.out_proxy.TheConstants.{ROOMS}
 use Rattle.rh_outproxy.specs.declared.state.OutProxyConfig.{OutProxyConfig}
 use Rattle.rh_outproxy.specs.Machine as out_proxy
 use Rattle.rh_outproxy.specs.OutProxy.{OutProxy, new_proxy}
+use Rattle.rh_client.specs.declared.state.ClientRole.{ClientRole}
+use Rattle.rh_client.specs.Client as client
 use Rattle.rh_server.specs.Servers as server
 use Rattle.rh_server.specs.States.{Server}
 use Rattle.rh_nodes.specs.Readers.{reader_of}
 use Rattle.rh_nodes.specs.World.{World}
+use Rattle.law_moves.specs.Moves.{EndMove, EndPassage, is_in_use}
+use Rattle.law_moves.specs.Moving.{EndEvent, Event, after_end_events, after_events}
+use Rattle.law_role_client.specs.Order as client_order
+use Rattle.law_role_client.specs.Order.{AreAllowedMoves, TakesInOrder, client_moved, has_leg}
 use Rattle.law_node_history.specs.Carried.{AreAccepted, AreAcceptedAtEnd, came_up, happened}
 use Rattle.law_node_history.specs.Histories.{History}
 use Rattle.law_node_streams.specs.Streams.{Stream}
+use Rattle.law_node_ends.specs.Passed.{AsksNoEcho, HeadsAre}
 use Rattle.law_node_begins.specs.EndsBegin.{server_reads}
 use Rattle.law_node_begins.specs.ProxiesBegin.Pipes.{ci, co, in_pipe, is, os}
 use Rattle.law_peers_routes.specs.Downwards.{proxy_reads}
 use Rattle.law_peers_routes.specs.Upwards as goes_up
-use Rattle.law_node_ends.specs.Passed.{AsksNoEcho, HeadsAre}
 use Rattle.law_world_order.specs.Directions.{down_route_of, up_route_of}
 use Rattle.law_world_order.specs.Flows.{Numbers}
 use Rattle.law_world_ways.specs.LiveIntakes.{ReadsLeg}

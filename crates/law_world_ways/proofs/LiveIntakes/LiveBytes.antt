@@ -4,6 +4,7 @@ use Rattle.std.specs.declared.option.Option.{Option}
 use Rattle.std.specs.declared.result.Result.{Result}
 use Rattle.std.proofs.lemmas.Bool.{cases_lt}
 use Rattle.std.proofs.lemmas.List.{append-nil, take_all, take-append-le}
+use Rattle.law_order.proofs.ItemLists.{neither}
 use Rattle.rh_pdu.specs.declared.fault.HeadFault.{HeadFault}
 use Rattle.rh_pdu.specs.Header.{header_length, frag_of, head_fault}
 use Rattle.rh_sig.specs.declared.name.Pipe.{Pipe}
@@ -18,15 +19,14 @@ use Rattle.rh_shell.specs.declared.answers.HeadTaken.{HeadTaken}
 use Rattle.rh_shell.specs.declared.stage.Stage.{Stage}
 use Rattle.rh_shell.specs.declared.stage.Stage.TheVariants as stage
 use Rattle.rh_shell.specs.declared.stop.Stop.{Stop}
-use Rattle.law_moves.specs.Carrying.{is_deaf}
 use Rattle.rh_shell.specs.Hearing.{Turn, goes, stops, stop, stop_head, head_row, stage_of, begun_body, behind_head, behind_frame, take_frame, is_greeting, is_stopped, heading, touched, with_intake, take as taken, hear_byte, hear, heard}
 use Rattle.rh_shell.specs.Intakes.{Intake, Came, Nothing, Head, Greeting, Frame, Over, on_byte, byte_by, text_by, frame_by, frame_byte, holds, behind, is_whole_head, is_whole_greeting, is_full, length_told, counted}
 use Rattle.rh_shell.specs.NearEnds.{NearEnd, first_stage, is_over}
 use Rattle.rh_shell.specs.Rules.{Rules}
+use Rattle.law_moves.specs.Carrying.{is_deaf}
 use Rattle.law_moves.specs.ReadBack.Reading.{IsWholeText, begin}
 use Rattle.law_node_streams.specs.Streams.{IsFirstHead, is_live}
 use Rattle.law_node_streams.proofs.Streams.Heads.{Waited, first_more}
-use Rattle.law_order.proofs.ItemLists.{neither}
 
 -- ---- while a head is waited for
 

@@ -2,8 +2,6 @@
 use Rattle.std.proofs.Common.{◌≡◌, List, [], true, ◌&&◌}
 use Rattle.rh_rts.specs.declared.command.Cookie.{Cookie}
 use Rattle.rh_line.specs.declared.leg.Leg.{Leg}
-use Rattle.law_moves.specs.Moving as moving
-use Rattle.law_moves.specs.Moving.{EndEvent, after_event, after_events, after_end_events}
 use Rattle.rh_shell.specs.Rules.{Rules, Acts}
 use Rattle.rh_shell.specs.Shells.{Shell, may_up}
 use Rattle.rh_inproxy.specs.State.{InProxy}
@@ -11,6 +9,8 @@ use Rattle.rh_inproxy.specs.Opening as in_opening
 use Rattle.rh_outproxy.specs.OutProxy.{OutProxy, is_client_down}
 use Rattle.rh_outproxy.specs.Opening as out_opening
 use Rattle.rh_outproxy.specs.Rows.{is_co}
+use Rattle.law_moves.specs.Moving as moving
+use Rattle.law_moves.specs.Moving.{EndEvent, after_event, after_events, after_end_events}
 use Rattle.law_node_history.specs.Carried.{ComesUpOnce, ComesUpOnceAtEnd}
 use Rattle.law_node_history.proofs.Connecting.{or_left}
 use Rattle.law_node_history.proofs.Once.{once_remembered, once_remembered_at_end}

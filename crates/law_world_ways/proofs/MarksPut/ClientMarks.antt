@@ -2,12 +2,11 @@
 use Rattle.std.proofs.Common.{◌≡◌, ℕ, ◌≤◌, ◌<◌, ◌==◌, ◌&&◌, ◌||◌, List, [], ◌∷◌, Bool, true, false, true≢false, not, nat_lt, arith, refl, sym, ap, ◌∙◌, subst}
 use Rattle.std.specs.List.{list_any}
 use Rattle.std.proofs.lemmas.Bool.Decides.{nat_tests}
+use Rattle.law_order.specs.Items.{Item, has_end, has_handover}
 use Rattle.rh_http.specs.declared.config.ClientConfig.{ClientConfig}
 use Rattle.rh_line.specs.declared.leg.Leg.{Leg}
-use Rattle.law_order.specs.Items.{Item, has_end, has_handover}
 use Rattle.rh_shell.specs.declared.answers.Phase.{Phase}
 use Rattle.rh_shell.specs.declared.answers.Phase.TheVariants as phase
-use Rattle.law_moves.specs.Moves.{OnLeg, Up, EndMove, EndPassage, Moves, AreAllowedAtEnd, MayEndMove, all_end_moved, end_moved}
 use Rattle.rh_shell.specs.NearEnds.{is_ended}
 use Rattle.rh_shell.specs.Rules.{Acts, Rules}
 use Rattle.rh_client.specs.declared.replacement.Replacement.{Replacement}
@@ -18,18 +17,19 @@ use Rattle.rh_client.specs.declared.replacement.Waits.TheVariants as waits
 use Rattle.rh_client.specs.declared.state.ClientRole.{ClientRole}
 use Rattle.rh_client.specs.Channels.{is_up}
 use Rattle.rh_client.specs.Client.{acts, rules}
-use Rattle.law_role_client.specs.Order.{AreAllowedMoves, GivesInOrder, client_moved, client_started, put_log}
 use Rattle.rh_client.specs.Replacements.{has_out, is_in}
 use Rattle.rh_client.specs.State.{ci, is_open}
+use Rattle.law_moves.specs.Moves.{OnLeg, Up, EndMove, EndPassage, Moves, AreAllowedAtEnd, MayEndMove, all_end_moved, end_moved}
+use Rattle.law_role_client.specs.Order.{AreAllowedMoves, GivesInOrder, client_moved, client_started, put_log}
 use Rattle.law_role_client.proofs.Counted.Allowed.{allowed_moves_keep}
 use Rattle.law_role_client.proofs.Counted.Moves.{client_keeps}
 use Rattle.law_role_client.proofs.Counted.Replacements as views
 use Rattle.law_role_client.proofs.Counted.Views.{EventsKeep, Free, InIsAnswered, InIsAsked, OutIsAnswered, OutIsAsked, OutIsFinished, OutIsSwitched, View, Way, has_in, is_in_first, is_in_way, is_out_way, waits_of, way_of}
-use Rattle.law_node_streams.specs.Streams.{is_end_up_on}
-use Rattle.law_node_streams.proofs.Streams.Ends.{leg_is}
 use Rattle.law_node_causes.specs.Numbers.{ClientIsNumbered}
 use Rattle.law_node_causes.specs.Once.{ComesUpOnce, KeepsUp}
 use Rattle.law_node_causes.proofs.ClientLegs.{first_is}
+use Rattle.law_node_streams.specs.Streams.{is_end_up_on}
+use Rattle.law_node_streams.proofs.Streams.Ends.{leg_is}
 use Rattle.law_node_ends.specs.Passed.{IsDoneBehindEnd}
 
 -- ---- where its work is done END/A1 was put on the writing channel, and no replacement goes on

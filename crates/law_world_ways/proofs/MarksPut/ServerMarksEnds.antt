@@ -2,18 +2,16 @@
 use Rattle.std.proofs.Common.{◌≡◌, ℕ, ◌==◌, List, Bool, true, true≢false, ◌&&◌, ◌||◌, not, Some, None, Ok, Err, refl, sym, ap, ◌∙◌, rules}
 use Rattle.std.proofs.lemmas.Bool.{and_parts}
 use Rattle.std.specs.Prelude.{IfSome}
+use Rattle.std.specs.declared.option.Option.{Option}
+use Rattle.law_order.proofs.ByNumber.{by_test}
 use Rattle.rh_rts.specs.declared.command.Cookie.{Cookie}
 use Rattle.rh_sig.specs.declared.named.Named.{Named}
 use Rattle.rh_sig.specs.declared.named.Named.TheVariants as named
-use Rattle.std.specs.declared.option.Option.{Option}
 use Rattle.rh_line.specs.declared.leg.Leg.{Leg}
 use Rattle.rh_line.specs.declared.leg.LegKind.{LegKind}
 use Rattle.rh_line.specs.declared.leg.LegKind.TheVariants.{ClientOut, OutServer, ClientIn, InServer}
-use Rattle.law_order.proofs.ByNumber.{by_test}
-use Rattle.law_moves.proofs.Passages.Logs.{RowKeeps, PutKeeps, StepsKeep, ActsKeep, end_moves_keep}
 use Rattle.rh_shell.specs.declared.answers.Count.{Count}
 use Rattle.rh_shell.specs.Rules.{Message, Packet, Pdu}
-use Rattle.law_moves.specs.Moves.{OnLeg, EndMove, all_end_moved, end_started}
 use Rattle.rh_shell.specs.NearEnds.{is_ended}
 use Rattle.rh_server.specs.declared.state.EndMark.{EndMark}
 use Rattle.rh_server.specs.declared.state.InLeg.{InLeg}
@@ -30,6 +28,8 @@ use Rattle.rh_server.specs.Ending.{give, are_lost, completed, is_complete, settl
 use Rattle.rh_server.specs.Putting.{Pick, or_else, put_in, put_out_greeting, put_waiting, put_pdu_or_end, next_out, settled_pick, put_open, put_out_at, put_by as put_by_kind}
 use Rattle.rh_server.specs.Servers.{pdu_by, packet_by, on_is, on_os, first, acts}
 use Rattle.rh_server.specs.Servers.{rules as server_rules}
+use Rattle.law_moves.proofs.Passages.Logs.{RowKeeps, PutKeeps, StepsKeep, ActsKeep, end_moves_keep}
+use Rattle.law_moves.specs.Moves.{OnLeg, EndMove, all_end_moved, end_started}
 use Rattle.law_role_server_rows.proofs.Refusing.Told.{Seen}
 use Rattle.law_role_server_rows.proofs.Refusing.Steps as seen
 use Rattle.law_role_server_rows.proofs.Refusing.Steps.{in_same}

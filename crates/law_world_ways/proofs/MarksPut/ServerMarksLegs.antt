@@ -5,6 +5,7 @@ use Rattle.std.proofs.lemmas.Bool.Decides.{nat_tests}
 use Rattle.std.specs.Prelude.{slice_get, remove, IfSome, IsTrue}
 use Rattle.std.specs.List.{list_any}
 use Rattle.std.specs.declared.option.Option.{Option}
+use Rattle.law_order.proofs.ByNumber.{by_test, same_number, other_number}
 use Rattle.rh_rts.specs.declared.command.Cookie.{Cookie}
 use Rattle.rh_sig.specs.declared.named.Named.{Named}
 use Rattle.rh_sig.specs.declared.named.Named.TheVariants as named
@@ -12,14 +13,10 @@ use Rattle.rh_line.specs.Queue.{front_length}
 use Rattle.rh_line.specs.declared.leg.Leg.{Leg}
 use Rattle.rh_line.specs.declared.leg.LegKind.{LegKind}
 use Rattle.rh_line.specs.declared.leg.LegKind.TheVariants.{ClientOut, OutServer, ClientIn, InServer}
-use Rattle.law_order.proofs.ByNumber.{by_test, same_number, other_number}
-use Rattle.law_moves.proofs.Passages.Logs.{RowKeeps, PutKeeps, ActsKeep}
 use Rattle.rh_shell.specs.declared.due.Due.{Due}
 use Rattle.rh_shell.specs.Rules.{Message, Packet, Pdu}
-use Rattle.law_moves.specs.Moves.{OnLeg, Up, HeadCame, PduCame, PacketCame, Puts, IsDrawn, Marks, Pings, EndMove, Moves, Gives, Takes, Closes, Recycles, EndPassage, MayEndMove, AreAllowedAtEnd, end_moved, all_end_moved}
 use Rattle.rh_shell.specs.Shells.{same_leg}
 use Rattle.rh_shell.specs.Waiting.{Waiting, taken}
-use Rattle.law_node_streams.specs.Streams.{is_end_up_on}
 use Rattle.rh_server.specs.declared.state.Greeting.TheVariants as greetings
 use Rattle.rh_server.specs.declared.state.OutLeg.{OutLeg}
 use Rattle.rh_server.specs.OutLines.{Gate, lets, length_of}
@@ -33,11 +30,14 @@ use Rattle.rh_server.specs.Ending.{give, settled, in_is_drawn, drawn_by, with_ac
 use Rattle.rh_server.specs.Putting.{Pick, or_else, put_in, out_greeting_at, put_out_greeting, gate_at, counts, counts_at, was_put, waiting_by, waiting_at, put_waiting, may_go_at, went_at, pdu_by as put_pdu_by, put_pdu, is_end_due, may_end_at, put_end, put_pdu_or_end, next_out, settled_pick, put_open, put_out_at, put_by as put_by_kind}
 use Rattle.rh_server.specs.Servers.{pdu_by, packet_by, acts}
 use Rattle.rh_server.specs.Servers.{rules as server_rules}
+use Rattle.law_moves.proofs.Passages.Logs.{RowKeeps, PutKeeps, ActsKeep}
+use Rattle.law_moves.specs.Moves.{OnLeg, Up, HeadCame, PduCame, PacketCame, Puts, IsDrawn, Marks, Pings, EndMove, Moves, Gives, Takes, Closes, Recycles, EndPassage, MayEndMove, AreAllowedAtEnd, end_moved, all_end_moved}
 use Rattle.law_role_server_rows.proofs.Refusing.Allowed.{MayKeep, allowed_keep}
 use Rattle.law_role_server_rows.proofs.Refusing.Told.{number_at}
 use Rattle.law_role_server_rows.proofs.Refusing.Steps.{PickSame, in_same, lost_same, pdu_same, give_same, take_same}
 use Rattle.law_role_server_rows.proofs.Refusing.Begun.{is_there}
 use Rattle.law_role_server_rows.proofs.Refusing.Writing.{HasLeg, has_push, has_removed}
+use Rattle.law_node_streams.specs.Streams.{is_end_up_on}
 use Rattle.law_world_ways.proofs.MarksPut.ServerMarksRows.{Same, Stands, seen_same, same_stands, set_stands, packet_stands}
 
 settled_same : (s : Server) → Same s (settled s)

@@ -3,22 +3,22 @@ use Rattle.std.proofs.Common.{◌≡◌, ◌⊎◌, inl, inr, ℕ, Bool, true, f
 use Rattle.std.specs.Prelude.{◌&&◌, ◌||◌, not}
 use Rattle.std.specs.List.{AllByRecursion}
 use Rattle.std.specs.declared.option.Option.{Option}
+use Rattle.rh_text.specs.declared.ends.Dir.{Dir}
 use Rattle.law_order.specs.Items.{Item}
 use Rattle.law_order.specs.Logs.{seen}
 use Rattle.law_order.proofs.ItemLists.{nil_front}
-use Rattle.rh_text.specs.declared.ends.Dir.{Dir}
 use Rattle.rh_sig.specs.declared.name.Pipe.{Pipe}
 use Rattle.rh_line.specs.declared.leg.Leg.{Leg}
 use Rattle.rh_shell.specs.NearEnds.{is_empty}
 use Rattle.rh_shell.specs.Rules.{Rules, Message}
 use Rattle.rh_shell.specs.Shells.{Shell}
-use Rattle.law_moves.specs.Legible.Legible.{ReadsBack}
-use Rattle.law_moves.specs.ReadBack.Reading.{Begins, messages_read, read_of}
 use Rattle.rh_nodes.specs.Company.{Company, Rulebook}
 use Rattle.rh_nodes.specs.Giving.{Deeds}
 use Rattle.rh_nodes.specs.Opening.{Makers}
 use Rattle.rh_nodes.specs.Wires.{in_flight, receiver, sender}
 use Rattle.rh_nodes.specs.World.{World, at}
+use Rattle.law_moves.specs.Legible.Legible.{ReadsBack}
+use Rattle.law_moves.specs.ReadBack.Reading.{Begins, messages_read, read_of}
 use Rattle.law_node_history.specs.Carriages.{Carriage, IsCarried, IsDone}
 use Rattle.law_node_history.specs.Carried.{AreCarried, carriage, drawn_by, ledger, wire_at}
 use Rattle.law_node_history.specs.Histories.{History}

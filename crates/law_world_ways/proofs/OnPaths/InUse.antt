@@ -3,20 +3,20 @@ use Rattle.std.proofs.Common.{◌≡◌, ◌⊎◌, inl, inr, true, false, List,
 use Rattle.std.specs.declared.option.Option.{Option}
 use Rattle.rh_text.specs.declared.ends.Dir.{Dir}
 use Rattle.rh_text.specs.declared.ends.Dir.TheVariants.{U, D}
-use Rattle.rh_sig.specs.declared.name.Pipe.{Pipe}
-use Rattle.rh_sig.specs.declared.name.Pipe.TheVariants.{CiU, IsU, CoD, OsD}
-use Rattle.rh_line.specs.declared.leg.Leg.{Leg}
 use Rattle.law_order.specs.Items.{Item}
 use Rattle.law_order.specs.Paths.{reader, stops_at}
 use Rattle.law_order.specs.Routes.{Route}
+use Rattle.rh_sig.specs.declared.name.Pipe.{Pipe}
+use Rattle.rh_sig.specs.declared.name.Pipe.TheVariants.{CiU, IsU, CoD, OsD}
+use Rattle.rh_line.specs.declared.leg.Leg.{Leg}
 use Rattle.rh_shell.specs.Rules.{Rules}
 use Rattle.rh_shell.specs.Shells.{Shell}
-use Rattle.rh_client.specs.declared.state.ClientRole.{ClientRole}
-use Rattle.rh_client.specs.Client as client
 use Rattle.rh_inproxy.specs.Machine as in_proxy
 use Rattle.rh_inproxy.specs.State.{InProxy}
 use Rattle.rh_outproxy.specs.Machine as out_proxy
 use Rattle.rh_outproxy.specs.OutProxy.{OutProxy}
+use Rattle.rh_client.specs.declared.state.ClientRole.{ClientRole}
+use Rattle.rh_client.specs.Client as client
 use Rattle.rh_server.specs.Servers as server
 use Rattle.rh_server.specs.States.{Server}
 use Rattle.rh_nodes.specs.Readers.{reader_of}

@@ -15,11 +15,11 @@ use Rattle.rh_shell.specs.declared.course.Course.TheVariants.{Going, Closed, Ref
 use Rattle.rh_shell.specs.declared.stop.Stop.{Stop}
 use Rattle.rh_shell.specs.Drawing.{Drawn, draw}
 use Rattle.rh_shell.specs.Hearing.{Turn, goes, hear}
-use Rattle.law_moves.specs.Moves.{is_in_use, started}
-use Rattle.law_moves.specs.Moving.{AreHeld, Event, ComesUp, Hears, Ends, Breaks, Draws, Ticks, IsHeld, after_event}
 use Rattle.rh_shell.specs.NearEnds.{NearEnd, is_empty, is_ended, is_finished, is_marked, is_useless, marked, new_end}
 use Rattle.rh_shell.specs.Rules.{Rules}
 use Rattle.rh_shell.specs.Shells.{Shell, bytes_at, bytes_by, broken_at, broken_by, close, drawn_at, drawn_by, end_at, ended_at, ended_by, first_silent, first_where, free_place, is_free, is_heard, is_of, is_working, lose, lost, may_up, passed, passed_by, place, put_back, refuse, same_leg, seated_at, stop_by, stopped, unreached, unreached_by, wants, with_end, with_leg}
+use Rattle.law_moves.specs.Moves.{is_in_use, started}
+use Rattle.law_moves.specs.Moving.{AreHeld, Event, ComesUp, Hears, Ends, Breaks, Draws, Ticks, IsHeld, after_event}
 use Rattle.law_node_streams.proofs.Streams.Draws.{draw_drew}
 use Rattle.law_node_streams.proofs.Streams.Ends.{end_has, end_is, end_leg, end_of, leg_is, set_beside, set_here}
 use Rattle.law_node_streams.proofs.Streams.Pieces.{piece_heard}

@@ -4,8 +4,8 @@ use Rattle.std.specs.Prelude.{◌&&◌, slice_set}
 use Rattle.std.specs.declared.option.Option.{Option}
 use Rattle.std.proofs.lemmas.Bool.{and_parts, true≢false}
 use Rattle.std.proofs.lemmas.Bool.Decides.{nat_tests}
-use Rattle.rh_rts.specs.declared.command.Cookie.{Cookie}
 use Rattle.law_order.proofs.ItemLists.{neither}
+use Rattle.rh_rts.specs.declared.command.Cookie.{Cookie}
 use Rattle.rh_line.specs.declared.cause.Cause.{Cause}
 use Rattle.rh_line.specs.declared.leg.Leg.{Leg}
 use Rattle.rh_line.specs.declared.state.State.{State}
@@ -13,22 +13,22 @@ use Rattle.rh_line.specs.declared.state.State.TheVariants as state
 use Rattle.rh_shell.specs.declared.course.Course.TheVariants.{Going}
 use Rattle.rh_shell.specs.declared.rooms.Rooms.{Rooms}
 use Rattle.rh_shell.specs.Ends.{cause_of, close_where, give_where, recycle_where, take_where}
-use Rattle.law_moves.specs.Moves.{Move, Up, HeadCame, PduCame, PacketCame, Puts, IsDrawn, Marks, Pings, Passage, EndMove, EndPassage, Moves, Gives, Takes, Closes, Recycles, AreAllowedAtEnd, MayEndMove, MayMove, all_end_moved, end_moved, end_started, is_in_use, moved, put_by, started, taken_by}
-use Rattle.law_moves.specs.Moving.{AreHeld, EndEvent, EndLeads, Event, ComesUp, Hears, Ends, Breaks, Draws, Ticks, Happens, IsClosed, IsGiven, IsRecycled, IsTaken, Leads, after_end_event, after_event}
 use Rattle.rh_shell.specs.NearEnds.{NearEnd, new_end}
 use Rattle.rh_shell.specs.Rules.{Acts, Message, Packet, Pdu, Row, Rules}
 use Rattle.rh_shell.specs.Shells.{Shell, begun, free_place, has_room, is_working, may_up, place, same_leg, seated_at, state_of, with_leg}
+use Rattle.law_moves.specs.Moves.{Move, Up, HeadCame, PduCame, PacketCame, Puts, IsDrawn, Marks, Pings, Passage, EndMove, EndPassage, Moves, Gives, Takes, Closes, Recycles, AreAllowedAtEnd, MayEndMove, MayMove, all_end_moved, end_moved, end_started, is_in_use, moved, put_by, started, taken_by}
+use Rattle.law_moves.specs.Moving.{AreHeld, EndEvent, EndLeads, Event, ComesUp, Hears, Ends, Breaks, Draws, Ticks, Happens, IsClosed, IsGiven, IsRecycled, IsTaken, Leads, after_end_event, after_event}
 use Rattle.law_moves.specs.Wires.{of_leg}
 use Rattle.law_moves.proofs.Leading.{leads_keep, leads_one, leads_then}
 use Rattle.law_node_history.specs.Carried.{IsAccepted, IsAcceptedAtEnd, came_up, happened, is_up_of}
 use Rattle.law_node_history.proofs.Wired.{same_itself}
+use Rattle.law_node_causes.specs.Once.{AreUpOnce, ComesUpOnce, KeepsUp}
+use Rattle.law_node_causes.proofs.LegChanges.{closed_legs, given_legs, recycled_legs, taken_legs}
+use Rattle.law_node_causes.proofs.OnceUp.{AllFollow, AllFollowAtEnd, Goes, comes_up, first_held, first_once, run_once, run_once_at_end}
 use Rattle.law_node_streams.specs.Streams.{StaysUnused, StaysUnusedAtEnd, is_end_up_on, is_up_on}
 use Rattle.law_node_streams.proofs.Streams.EndMoves.{did_close, did_give, did_recycle, did_take, leads_one as end_leads_one}
 use Rattle.law_node_streams.proofs.Streams.Ends.{end_is, end_leg, end_of, leg_is}
 use Rattle.law_node_streams.proofs.Streams.Turns.{more_there}
-use Rattle.law_node_causes.specs.Once.{AreUpOnce, ComesUpOnce, KeepsUp}
-use Rattle.law_node_causes.proofs.LegChanges.{closed_legs, given_legs, recycled_legs, taken_legs}
-use Rattle.law_node_causes.proofs.OnceUp.{AllFollow, AllFollowAtEnd, Goes, comes_up, first_held, first_once, run_once, run_once_at_end}
 use Rattle.law_world_ways.specs.OnPaths.Lost.{is_loss_of, was_lost}
 use Rattle.law_world_ways.proofs.OnPaths.KeptEnds.{Behind, IsAnother, IsLeft, Stands, Unused, behind}
 

@@ -2,44 +2,44 @@
 use Rattle.std.proofs.Common.{◌≡◌, ◌≢◌, ◌⊎◌, inl, inr, ℕ, Bool, true, false, List, [], ◌++◌, Some, refl, sym, ap, ◌∙◌}
 use Rattle.std.proofs.lemmas.Bool.{cases_eq}
 use Rattle.rh_text.specs.declared.ends.Dir.TheVariants.{U}
-use Rattle.rh_sig.specs.declared.name.Pipe.TheVariants.{CiU, IsU}
 use Rattle.law_order.specs.Items.{Item}
 use Rattle.law_order.specs.Logs.{seen}
 use Rattle.law_order.specs.Paths.{Arrives, reader}
 use Rattle.law_order.specs.Routes.{IsRoute, Route}
 use Rattle.law_order.proofs.ItemLists.{nil_front}
+use Rattle.rh_sig.specs.declared.name.Pipe.TheVariants.{CiU, IsU}
 use Rattle.rh_record.specs.declared.answer.Who.TheVariants as who
 use Rattle.rh_shell.specs.Shells.{Shell}
-use Rattle.law_moves.specs.Wires.{of_leg}
-use Rattle.rh_client.specs.declared.state.ClientRole.{ClientRole}
-use Rattle.rh_client.specs.Client as client
-use Rattle.law_role_client.specs.Legible as client_legible
-use Rattle.law_role_client.specs.Order.{up_items}
-use Rattle.rh_client.specs.State as client_state
-use Rattle.law_role_inproxy.specs.Legible as proxy_legible
 use Rattle.rh_inproxy.specs.Machine as in_proxy
-use Rattle.law_role_inproxy.specs.Order.{item_came, item_put, put_items}
 use Rattle.rh_inproxy.specs.State as in_state
 use Rattle.rh_inproxy.specs.State.{InProxy}
 use Rattle.rh_outproxy.specs.OutProxy.{OutProxy}
-use Rattle.law_role_server.specs.Order.{got, in_items}
+use Rattle.rh_client.specs.declared.state.ClientRole.{ClientRole}
+use Rattle.rh_client.specs.Client as client
+use Rattle.rh_client.specs.State as client_state
 use Rattle.rh_server.specs.Servers as server
 use Rattle.rh_server.specs.States.{Server}
-use Rattle.law_moves.specs.ReadBack.Reading.{messages_read}
 use Rattle.rh_nodes.specs.Company.{Company}
 use Rattle.rh_nodes.specs.Opening.{Makers}
 use Rattle.rh_nodes.specs.Readers.{reader_of}
 use Rattle.rh_nodes.specs.World.{World}
+use Rattle.law_moves.specs.Wires.{of_leg}
+use Rattle.law_moves.specs.ReadBack.Reading.{messages_read}
+use Rattle.law_role_inproxy.specs.Legible as proxy_legible
+use Rattle.law_role_inproxy.specs.Order.{item_came, item_put, put_items}
+use Rattle.law_role_client.specs.Legible as client_legible
+use Rattle.law_role_client.specs.Order.{up_items}
+use Rattle.law_role_server.specs.Order.{got, in_items}
 use Rattle.law_node_history.specs.Carried.{AreCarried, AreHeard, came_up, drawn_on, end_drawn_on, heard_on, ledger}
 use Rattle.law_node_history.specs.Histories.{History, IsRun, in_place}
-use Rattle.law_node_traces.specs.Traced.Numbers.{AreRead, is_made}
-use Rattle.law_node_traces.specs.Traced.Ours.{AreOurs, deeds, rules}
+use Rattle.law_node_streams.proofs.Streams.LegLogs.{leg_reads_back}
 use Rattle.law_node_begins.specs.EndsBegin.{client_reads}
 use Rattle.law_node_begins.specs.ProxiesBegin.Pipes.{ci, in_pipe, is}
+use Rattle.law_node_traces.specs.Traced.Numbers.{AreRead, is_made}
+use Rattle.law_node_traces.specs.Traced.Ours.{AreOurs, deeds, rules}
 use Rattle.law_peers_routes.specs.Upwards.{GoesUp, has_leg, up_route}
 use Rattle.law_peers_routes.proofs.Upwards.JoinedLegs.{client_put, in_views, proxy_came, proxy_put, server_came, up_views}
 use Rattle.law_peers_routes.proofs.Upwards.Laws.{AreBegun}
-use Rattle.law_node_streams.proofs.Streams.LegLogs.{leg_reads_back}
 use Rattle.law_world_order.specs.Flows.{Numbers, numbers_of}
 use Rattle.law_world_ways.specs.OnPaths.Forgotten.{DrawsOut, EndDrawsOut}
 use Rattle.law_world_ways.specs.OnPaths.OnWay.{is_lost, items_on_way}

@@ -1,23 +1,23 @@
 -- what was given is exactly what was taken and what is on its way (profile)
 use Rattle.std.specs.Prelude.{◌≡◌, ◌++◌}
 use Rattle.law_order.specs.Paths.{path}
-use Rattle.rh_client.specs.declared.state.ClientRole.{ClientRole}
-use Rattle.rh_client.specs.Client as client
 use Rattle.rh_inproxy.specs.State.{InProxy}
 use Rattle.rh_outproxy.specs.OutProxy.{OutProxy}
+use Rattle.rh_client.specs.declared.state.ClientRole.{ClientRole}
+use Rattle.rh_client.specs.Client as client
 use Rattle.rh_server.specs.Servers as server
 use Rattle.rh_server.specs.States.{Server}
 use Rattle.rh_nodes.specs.World.{World}
 use Rattle.law_node_history.specs.Histories.{History, all_noted, nothing}
-use Rattle.law_node_streams.specs.Streams.{all_given, all_taken}
-use Rattle.law_node_traces.specs.Traced.Ours.{AreOurs}
 use Rattle.rh_world.specs.declared.any_world.AnyWorld.{AnyWorld}
 use Rattle.rh_world.specs.declared.any_world.AnyWorld.TheVariants.{Before, Direct, Settings, Roles}
 use Rattle.rh_world.specs.declared.config.WorldConfig.{WorldConfig}
 use Rattle.rh_world.specs.Roles as roles
-use Rattle.law_world_ways.specs.EndsInTime.InTime.{EndsInTime}
+use Rattle.law_node_streams.specs.Streams.{all_given, all_taken}
+use Rattle.law_node_traces.specs.Traced.Ours.{AreOurs}
 use Rattle.law_world_order.specs.Directions.{down_route_of, up_route_of}
 use Rattle.law_world_order.specs.Flows.{Numbers, numbers_of}
+use Rattle.law_world_ways.specs.EndsInTime.InTime.{EndsInTime}
 use Rattle.law_world_ways.specs.OnPaths.Ways.{AreOnTheirWay, down_on, up_on}
 use Rattle.law_world_ways.specs.ExactPaths.GoingOn.{AllGoOn}
 

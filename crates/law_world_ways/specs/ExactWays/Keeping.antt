@@ -2,10 +2,10 @@
 use Rattle.std.specs.Prelude.{◌≡◌, ◌⊎◌, Bool, true, false, Some, None}
 use Rattle.rh_line.specs.declared.leg.Leg.{Leg}
 use Rattle.rh_shell.specs.declared.course.Course.TheVariants.{Going}
-use Rattle.law_moves.specs.Moves.{is_in_use}
 use Rattle.rh_shell.specs.NearEnds.{NearEnd, is_marked}
 use Rattle.rh_shell.specs.Rules.{Rules}
 use Rattle.rh_shell.specs.Shells.{Shell, end_at}
+use Rattle.law_moves.specs.Moves.{is_in_use}
 
 -- it keeps an end of the leg, and was not told that this ended or broke
 pub record KeepsEnd {S : Type 0} (node : Shell S) (leg : Leg) : Type 0 where

@@ -4,9 +4,9 @@ use Rattle.rh_text.specs.declared.ends.Side.{Side}
 use Rattle.rh_line.specs.declared.leg.Leg.{Leg}
 use Rattle.rh_record.specs.declared.answer.Who.{Who}
 use Rattle.rh_shell.specs.declared.course.Course.TheVariants.{Going}
-use Rattle.rh_client.specs.declared.state.ClientRole.{ClientRole}
 use Rattle.rh_inproxy.specs.State.{InProxy}
 use Rattle.rh_outproxy.specs.OutProxy.{OutProxy}
+use Rattle.rh_client.specs.declared.state.ClientRole.{ClientRole}
 use Rattle.rh_server.specs.States.{Server}
 use Rattle.rh_nodes.specs.Wires.{is_up}
 use Rattle.rh_nodes.specs.World.{World}

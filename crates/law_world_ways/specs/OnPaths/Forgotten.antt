@@ -5,23 +5,23 @@ use Rattle.rh_sig.specs.declared.name.Pipe.{Pipe}
 use Rattle.rh_line.specs.declared.leg.Leg.{Leg}
 use Rattle.rh_shell.specs.declared.course.Course.TheVariants.{Going}
 use Rattle.rh_shell.specs.declared.rooms.Rooms.{Rooms}
-use Rattle.law_moves.specs.Carrying.{spelled}
-use Rattle.law_moves.specs.Moving.{EndEvent, Event, after_end_events, after_events}
 use Rattle.rh_shell.specs.Rules.{Acts, Message, Rules}
 use Rattle.rh_shell.specs.Shells.{Shell, begun, end_at}
-use Rattle.law_moves.specs.Wires.{of_leg}
-use Rattle.rh_client.specs.declared.state.ClientRole.{ClientRole}
-use Rattle.rh_client.specs.Client as client
-use Rattle.rh_client.specs.State as client_state
 use Rattle.rh_inproxy.specs.Machine as in_proxy
 use Rattle.rh_inproxy.specs.State as in_state
 use Rattle.rh_inproxy.specs.State.{InProxy}
 use Rattle.rh_outproxy.specs.declared.out_proxy.TheConstants.{ROOMS}
 use Rattle.rh_outproxy.specs.Machine as out_proxy
 use Rattle.rh_outproxy.specs.OutProxy.{OutProxy, new_proxy}
+use Rattle.rh_client.specs.declared.state.ClientRole.{ClientRole}
+use Rattle.rh_client.specs.Client as client
+use Rattle.rh_client.specs.State as client_state
 use Rattle.rh_server.specs.Servers as server
 use Rattle.rh_server.specs.States.{Server}
 use Rattle.rh_nodes.specs.World.{World}
+use Rattle.law_moves.specs.Carrying.{spelled}
+use Rattle.law_moves.specs.Moving.{EndEvent, Event, after_end_events, after_events}
+use Rattle.law_moves.specs.Wires.{of_leg}
 use Rattle.law_node_history.specs.Carried.{came_up, drawn_on, end_drawn_on, happened}
 use Rattle.law_node_history.specs.Histories.{History}
 use Rattle.law_node_streams.specs.Streams.{EndStream, Stream}

@@ -3,9 +3,9 @@ use Rattle.std.specs.Prelude.{◌≡◌, ◌&&◌, ◌||◌, not, List, Bool, tr
 use Rattle.std.specs.declared.option.Option.{Option}
 use Rattle.rh_text.specs.declared.ends.Dir.{Dir}
 use Rattle.rh_text.specs.declared.ends.Side.{Side}
+use Rattle.law_order.specs.Items.{Item, has_end, has_handover}
 use Rattle.rh_sig.specs.declared.name.Pipe.{Pipe}
 use Rattle.rh_line.specs.declared.leg.Leg.{Leg}
-use Rattle.law_order.specs.Items.{Item, has_end, has_handover}
 use Rattle.rh_shell.specs.declared.course.Course.TheVariants.{Going}
 use Rattle.rh_shell.specs.NearEnds.{NearEnd, is_empty, is_over}
 use Rattle.rh_shell.specs.Rules.{Message, Rules}

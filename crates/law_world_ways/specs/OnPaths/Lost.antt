@@ -2,8 +2,8 @@
 use Rattle.std.specs.Prelude.{List, Bool, false}
 use Rattle.std.specs.List.{list_any}
 use Rattle.rh_line.specs.declared.leg.Leg.{Leg}
-use Rattle.law_moves.specs.Moving.{Event, Ends, Breaks}
 use Rattle.rh_shell.specs.Shells.{same_leg}
+use Rattle.law_moves.specs.Moving.{Event, Ends, Breaks}
 
 -- the node is told that the leg ended or broke
 abbrev pub is_loss_of : Leg → Event → Bool

@@ -2,33 +2,33 @@
 use Rattle.std.specs.Prelude.{◌≡◌, ◌≤◌, ◌⊎◌, not, ℕ, List, [], Bool, true, if◌then◌else◌, Some}
 use Rattle.std.specs.declared.option.Option.{Option}
 use Rattle.rh_text.specs.declared.ends.Dir.TheVariants.{U, D}
-use Rattle.rh_sig.specs.declared.name.Pipe.TheVariants.{CiU, IsU, CoD, OsD}
 use Rattle.law_order.specs.Items.{Item}
 use Rattle.law_order.specs.Paths.{Losses, OnLegs, reader}
 use Rattle.law_order.specs.Routes.{Route}
+use Rattle.rh_sig.specs.declared.name.Pipe.TheVariants.{CiU, IsU, CoD, OsD}
 use Rattle.rh_shell.specs.declared.course.Course.{Course}
-use Rattle.law_moves.specs.Moving.{after_events, after_end_events}
 use Rattle.rh_shell.specs.Rules.{Message}
 use Rattle.rh_shell.specs.Shells.{Shell, begun, is_going}
-use Rattle.rh_client.specs.declared.state.ClientRole.{ClientRole}
-use Rattle.rh_client.specs.Client as client
-use Rattle.law_role_client.specs.Order.{down_items, has_leg}
 use Rattle.rh_inproxy.specs.Machine as in_proxy
-use Rattle.law_role_inproxy.specs.Order.{item_came}
 use Rattle.rh_inproxy.specs.State.{InProxy}
 use Rattle.rh_outproxy.specs.declared.out_proxy.TheConstants.{ROOMS}
 use Rattle.rh_outproxy.specs.Machine as out_proxy
-use Rattle.law_role_outproxy.specs.Order.{from_server}
 use Rattle.rh_outproxy.specs.OutProxy.{OutProxy, new_proxy}
-use Rattle.law_role_server.specs.Order.{in_items}
+use Rattle.rh_client.specs.declared.state.ClientRole.{ClientRole}
+use Rattle.rh_client.specs.Client as client
 use Rattle.rh_server.specs.Servers as server
 use Rattle.rh_server.specs.States.{Server}
 use Rattle.rh_nodes.specs.Readers.{reader_of}
 use Rattle.rh_nodes.specs.World.{World}
+use Rattle.law_moves.specs.Moving.{after_events, after_end_events}
+use Rattle.law_role_inproxy.specs.Order.{item_came}
+use Rattle.law_role_client.specs.Order.{down_items, has_leg}
+use Rattle.law_role_server.specs.Order.{in_items}
 use Rattle.law_node_history.specs.Histories.{History, IsRun, in_place, out_place}
+use Rattle.law_role_outproxy.specs.Order.{from_server}
 use Rattle.law_node_streams.specs.Streams.{all_given, all_taken}
-use Rattle.law_node_traces.specs.Traced.Numbers.{is_made}
 use Rattle.law_node_begins.specs.ProxiesBegin.Pipes.{ci, co, is, os}
+use Rattle.law_node_traces.specs.Traced.Numbers.{is_made}
 use Rattle.law_peers_routes.specs.Upwards as goes_up
 use Rattle.law_world_order.specs.Directions.{Directions, down_route_of, up_route_of}
 use Rattle.law_world_order.specs.Flows.{Numbers}

@@ -1,18 +1,18 @@
 //! What is on its way in a world whose legs end only where they are over. These functions do
 //! nothing: their contracts are the laws.
 
-ghost use Rattle.rh_nodes.specs.World.{World};
-ghost use Rattle.rh_client.specs.declared.state.ClientRole.{ClientRole};
 ghost use Rattle.rh_inproxy.specs.State.{InProxy};
 ghost use Rattle.rh_outproxy.specs.OutProxy.{OutProxy};
+ghost use Rattle.rh_client.specs.declared.state.ClientRole.{ClientRole};
 ghost use Rattle.rh_server.specs.States.{Server};
+ghost use Rattle.rh_nodes.specs.World.{World};
 ghost use Rattle.law_node_history.specs.Histories.{all_noted, nothing};
 ghost use Rattle.law_node_traces.specs.Traced.Ours.{deeds, rules};
-ghost use Rattle.law_world_ways.specs.EndsInTime.InTime.{EndsInTime};
 ghost use Rattle.law_world_order.specs.Directions.{down_route_of, up_route_of};
 ghost use Rattle.law_world_order.specs.Flows.{numbers_of};
 ghost use Rattle.law_world_order.specs.FirstTexts.{IsPort};
 ghost use Rattle.law_world_order.specs.Premises.{InNewWorlds};
+ghost use Rattle.law_world_ways.specs.EndsInTime.InTime.{EndsInTime};
 ghost use Rattle.law_world_ways.specs.OnPaths.Ways.{AreOnTheirWay, down_lost, up_lost};
 ghost use Rattle.law_world_ways.specs.ExactWays.Pdus.{NoneStopsButBehindEnd};
 ghost use Rattle.law_world_ways.specs.ExactPaths.Exact.{IsExact};

@@ -1,8 +1,8 @@
 //! A client whose work is done. This function does nothing: its contract is the law.
 
 ghost use Rattle.std.specs.Prelude.{◌≡◌, ◌<◌, ◌≤◌, ◌||◌, ℕ, List, true};
-ghost use Rattle.rh_http.specs.declared.config.ClientConfig.{ClientConfig};
 ghost use Rattle.law_order.specs.Items.{has_end, has_handover};
+ghost use Rattle.rh_http.specs.declared.config.ClientConfig.{ClientConfig};
 ghost use Rattle.rh_shell.specs.declared.answers.Phase.TheVariants as phase;
 ghost use Rattle.law_moves.specs.Moves.{EndMove};
 ghost use Rattle.law_role_client.specs.Order.{AreAllowedMoves, came_log, client_moved, put_log};

@@ -8,13 +8,13 @@ ghost use Rattle.rh_outproxy.specs.declared.out_proxy.TheConstants.{ROOMS};
 ghost use Rattle.rh_outproxy.specs.Machine as out_proxy;
 ghost use Rattle.rh_outproxy.specs.OutProxy.{new_proxy};
 ghost use Rattle.law_node_streams.specs.Streams.{Stream};
+ghost use Rattle.law_node_ends.specs.Passed.{AsksNoEcho, HeadsAre};
 ghost use Rattle.law_node_begins.specs.ProxiesBegin.Pipes.{in_pipe};
-ghost use Rattle.law_peers_routes.specs.Downwards.{proxy_reads};
 ghost use Rattle.law_node_traces.specs.Traced.Ours.{rules};
 ghost use Rattle.law_node_traces.specs.Traced.Recordings.{history_at};
+ghost use Rattle.law_peers_routes.specs.Downwards.{proxy_reads};
 ghost use Rattle.law_world_order.specs.FirstTexts.{IsPort};
 ghost use Rattle.law_world_order.specs.Premises.{AtEachMoment, InNewWorlds};
-ghost use Rattle.law_node_ends.specs.Passed.{AsksNoEcho, HeadsAre};
 
 use crate::live_intakes::no_bytes_that_come_ask_for_an_echo;
 use law_node_begins::proxies_keep_their_pipes;

@@ -3,16 +3,16 @@
 ghost use Rattle.std.specs.Prelude.{◌≡◌, ℕ, List, false, true};
 ghost use Rattle.rh_http.specs.declared.config.ClientConfig.{ClientConfig};
 ghost use Rattle.rh_line.specs.declared.leg.Leg.{Leg};
-ghost use Rattle.law_moves.specs.Moving.{EndEvent, Event, after_end_events, after_events};
 ghost use Rattle.rh_shell.specs.Shells.{begun};
-ghost use Rattle.rh_client.specs.Client as client;
 ghost use Rattle.rh_inproxy.specs.declared.state.InProxyConfig.{InProxyConfig};
 ghost use Rattle.rh_inproxy.specs.Machine as in_proxy;
 ghost use Rattle.rh_outproxy.specs.declared.out_proxy.TheConstants.{ROOMS};
 ghost use Rattle.rh_outproxy.specs.declared.state.OutProxyConfig.{OutProxyConfig};
 ghost use Rattle.rh_outproxy.specs.Machine as out_proxy;
 ghost use Rattle.rh_outproxy.specs.OutProxy.{new_proxy};
+ghost use Rattle.rh_client.specs.Client as client;
 ghost use Rattle.rh_server.specs.Servers as server;
+ghost use Rattle.law_moves.specs.Moving.{EndEvent, Event, after_end_events, after_events};
 ghost use Rattle.law_node_history.specs.Carried.{AreAccepted, AreAcceptedAtEnd, came_up, happened};
 ghost use Rattle.law_world_ways.specs.OnPaths.Lost.{was_lost};
 ghost use Rattle.law_world_ways.specs.ExactWays.Keeping.{KeepsIfOfUse, KnowsLeg};

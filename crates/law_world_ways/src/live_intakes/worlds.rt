@@ -2,19 +2,19 @@
 
 ghost use Rattle.std.specs.Prelude.{ℕ};
 ghost use Rattle.rh_line.specs.declared.leg.Leg.{Leg};
-ghost use Rattle.law_moves.specs.Moving.{after_end_events, after_events};
 ghost use Rattle.rh_shell.specs.Shells.{begun};
-ghost use Rattle.rh_nodes.specs.Opening.{Makers};
-ghost use Rattle.rh_nodes.specs.World.{World};
-ghost use Rattle.rh_client.specs.declared.state.ClientRole.{ClientRole};
-ghost use Rattle.rh_client.specs.Client as client;
 ghost use Rattle.rh_inproxy.specs.Machine as in_proxy;
 ghost use Rattle.rh_inproxy.specs.State.{InProxy};
 ghost use Rattle.rh_outproxy.specs.declared.out_proxy.TheConstants.{ROOMS};
 ghost use Rattle.rh_outproxy.specs.Machine as out_proxy;
 ghost use Rattle.rh_outproxy.specs.OutProxy.{OutProxy, new_proxy};
+ghost use Rattle.rh_client.specs.declared.state.ClientRole.{ClientRole};
+ghost use Rattle.rh_client.specs.Client as client;
 ghost use Rattle.rh_server.specs.Servers as server;
 ghost use Rattle.rh_server.specs.States.{Server};
+ghost use Rattle.rh_nodes.specs.Opening.{Makers};
+ghost use Rattle.rh_nodes.specs.World.{World};
+ghost use Rattle.law_moves.specs.Moving.{after_end_events, after_events};
 ghost use Rattle.law_node_history.specs.Histories.{IsNew};
 ghost use Rattle.law_node_traces.specs.Traced.Cookies.{ByChanges};
 ghost use Rattle.law_node_traces.specs.Traced.Ours.{AreOurs, deeds, rules};

@@ -4,10 +4,10 @@
 ghost use Rattle.std.specs.Prelude.{◌≡◌, ℕ, List, true};
 ghost use Rattle.std.specs.List.{list_any};
 ghost use Rattle.rh_http.specs.declared.config.ClientConfig.{ClientConfig};
-ghost use Rattle.law_moves.specs.Moves.{EndMove};
 ghost use Rattle.rh_client.specs.Client.{rules};
-ghost use Rattle.law_role_client.specs.Order.{AreAllowedMoves, client_moved, put_log};
 ghost use Rattle.rh_client.specs.State.{ci};
+ghost use Rattle.law_moves.specs.Moves.{EndMove};
+ghost use Rattle.law_role_client.specs.Order.{AreAllowedMoves, client_moved, put_log};
 ghost use Rattle.law_node_streams.specs.Streams.{is_end_up_on};
 ghost use Rattle.law_node_ends.specs.Passed.{IsDoneBehindEnd};
 

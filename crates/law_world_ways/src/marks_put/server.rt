@@ -3,12 +3,12 @@
 ghost use Rattle.std.specs.Prelude.{◌≡◌, ◌≤◌, ◌<◌, ℕ, List, true, false};
 ghost use Rattle.std.specs.List.{list_any};
 ghost use Rattle.law_order.specs.Items.{has_end};
+ghost use Rattle.rh_server.specs.Acknowledging.{out_server as os};
+ghost use Rattle.rh_server.specs.Servers.{acts, first, rules};
 ghost use Rattle.law_moves.specs.Moves.{AreAllowedAtEnd, EndMove, all_end_moved, end_started};
 ghost use Rattle.law_moves.specs.Moves.{is_at_work, is_in_use};
-ghost use Rattle.law_node_streams.specs.Streams.{is_end_up_on};
-ghost use Rattle.rh_server.specs.Acknowledging.{out_server as os};
 ghost use Rattle.law_role_server.specs.Order.{sent};
-ghost use Rattle.rh_server.specs.Servers.{acts, first, rules};
+ghost use Rattle.law_node_streams.specs.Streams.{is_end_up_on};
 ghost use Rattle.law_node_ends.specs.Passed.{IsDoneBehindEnd};
 
 use law_role_server::a_server_gives_in_order;

@@ -3,13 +3,13 @@
 
 ghost use Rattle.std.specs.Prelude.{◌≡◌, ◌++◌};
 ghost use Rattle.law_order.specs.Paths.{path};
-ghost use Rattle.rh_nodes.specs.World.{World};
-ghost use Rattle.rh_client.specs.declared.state.ClientRole.{ClientRole};
-ghost use Rattle.rh_client.specs.Client as client;
 ghost use Rattle.rh_inproxy.specs.State.{InProxy};
 ghost use Rattle.rh_outproxy.specs.OutProxy.{OutProxy};
+ghost use Rattle.rh_client.specs.declared.state.ClientRole.{ClientRole};
+ghost use Rattle.rh_client.specs.Client as client;
 ghost use Rattle.rh_server.specs.States.{Server};
 ghost use Rattle.rh_server.specs.Servers as server;
+ghost use Rattle.rh_nodes.specs.World.{World};
 ghost use Rattle.law_node_history.specs.Histories.{History};
 ghost use Rattle.law_node_streams.specs.Streams.{all_given, all_taken};
 ghost use Rattle.law_node_traces.specs.Traced.Ours.{rules};

@@ -3,25 +3,13 @@ use Rattle.std.proofs.Common.{◌≡◌, ℕ, ◌≤◌, Bool, true, false, if�
 use Rattle.rh_text.specs.declared.ends.Dir.{Dir}
 use Rattle.rh_text.specs.declared.ends.Dir.TheVariants.{U}
 use Rattle.rh_text.specs.declared.ends.Side.TheVariants as side
+use Rattle.rh_window.specs.Sides.{IsWindow}
 use Rattle.rh_rts.specs.declared.command.Cookie.{Cookie}
 use Rattle.rh_http.specs.declared.config.ClientConfig.{ClientConfig}
-use Rattle.rh_window.specs.Sides.{IsWindow}
 use Rattle.rh_line.specs.declared.leg.Leg.{Leg}
 use Rattle.rh_line.specs.declared.leg.LegKind.TheVariants.{ClientIn, ClientOut}
 use Rattle.rh_record.specs.declared.answer.Who.TheVariants as who
-use Rattle.law_moves.specs.Moves.{AreAllowed, AreAllowedAtEnd, EndMove, EndPassage, Move, Passage, all_end_moved, all_moved, end_started, started}
-use Rattle.law_moves.specs.Moving.{Event, Hears, after_end_events}
 use Rattle.rh_shell.specs.Shells.{Shell}
-use Rattle.law_moves.specs.Wires.{of_leg}
-use Rattle.rh_nodes.specs.Opening.{Makers}
-use Rattle.rh_nodes.specs.Readers.{reader_of}
-use Rattle.rh_nodes.specs.World.{World, at}
-use Rattle.rh_nodes.specs.Wires.{receiver}
-use Rattle.rh_nodes.specs.Halves.{is_same}
-use Rattle.rh_nodes.specs.Legs as legs
-use Rattle.rh_client.specs.declared.state.ClientRole.{ClientRole}
-use Rattle.law_role_client.specs.Order.{AreAllowedMoves, client_moved}
-use Rattle.rh_client.specs.State.{ci, co}
 use Rattle.rh_inproxy.specs.declared.state.InProxyConfig.{InProxyConfig}
 use Rattle.rh_inproxy.specs.Machine as in_proxy
 use Rattle.rh_inproxy.specs.State.{InProxy}
@@ -29,23 +17,35 @@ use Rattle.rh_inproxy.specs.State as in_state
 use Rattle.rh_outproxy.specs.declared.state.OutProxyConfig.{OutProxyConfig}
 use Rattle.rh_outproxy.specs.Machine as out_proxy
 use Rattle.rh_outproxy.specs.OutProxy.{OutProxy, new_proxy}
+use Rattle.rh_client.specs.declared.state.ClientRole.{ClientRole}
+use Rattle.rh_client.specs.State.{ci, co}
 use Rattle.rh_server.specs.Servers as server
 use Rattle.rh_server.specs.States.{Server}
+use Rattle.rh_nodes.specs.Opening.{Makers}
+use Rattle.rh_nodes.specs.Readers.{reader_of}
+use Rattle.rh_nodes.specs.World.{World, at}
+use Rattle.rh_nodes.specs.Wires.{receiver}
+use Rattle.rh_nodes.specs.Halves.{is_same}
+use Rattle.rh_nodes.specs.Legs as legs
+use Rattle.law_moves.specs.Moves.{AreAllowed, AreAllowedAtEnd, EndMove, EndPassage, Move, Passage, all_end_moved, all_moved, end_started, started}
+use Rattle.law_moves.specs.Moving.{Event, Hears, after_end_events}
+use Rattle.law_moves.specs.Wires.{of_leg}
+use Rattle.law_moves.specs.Passages.Passing.{count_of}
+use Rattle.law_moves.specs.Passages.Rising.{AreUpFirst, CameUpWith, HasComeUp}
+use Rattle.law_role_client.specs.Order.{AreAllowedMoves, client_moved}
 use Rattle.law_node_history.specs.Carried.{happened}
 use Rattle.law_node_history.specs.Changes.{IsFed}
 use Rattle.law_node_history.specs.Histories.{History, noted, told_to}
 use Rattle.law_node_history.proofs.Appended.{happened_more}
-use Rattle.law_moves.specs.Passages.Passing.{count_of}
-use Rattle.law_moves.specs.Passages.Rising.{AreUpFirst, CameUpWith, HasComeUp}
 use Rattle.law_role_outproxy.specs.Sending.{opens}
+use Rattle.law_peers_moments.specs.Moments.{AreJoined, Passages}
+use Rattle.law_peers_moments.proofs.Read.{front_count}
 use Rattle.law_node_traces.specs.Traced.Ours.{AreOurs, deeds, rules}
 use Rattle.law_world_order.specs.Flows.{IsFlowing, numbers_of}
 use Rattle.law_world_order.specs.Premises.{AreDistinct, AreInRange}
 use Rattle.law_world_order.proofs.Joined.{all}
 use Rattle.law_world_order.proofs.Legs.{Reads}
-use Rattle.law_peers_moments.specs.Moments.{AreJoined, Passages}
 use Rattle.law_world_windows.specs.ClientHops.{HasOneWindow}
-use Rattle.law_peers_moments.proofs.Read.{front_count}
 use Rattle.law_world_windows.proofs.ClientHops.Roles.{AreApart, ClientBegins, ClientReceives, ClientSends, InProxySees, OutProxySees, ServerSees}
 use Rattle.law_world_windows.proofs.ClientHops.Routes.{AreHonest}
 

@@ -1,13 +1,13 @@
 -- the rows of a client refuse on co legs alone
 use Rattle.std.proofs.Common.{ℕ, List, rules}
 use Rattle.std.specs.Prelude.{◌&&◌, ◌||◌, ◌==◌}
-use Rattle.rh_line.specs.declared.leg.LegKind.{LegKind}
-use Rattle.rh_line.specs.declared.leg.LegKind.TheVariants.{ClientOut, OutServer, ClientIn, InServer}
+use Rattle.law_order.proofs.ByNumber.{by_test}
+use Rattle.rh_rts.specs.declared.command.Cookie.{Cookie}
 use Rattle.rh_sig.specs.declared.named.Named.{Named}
 use Rattle.rh_sig.specs.declared.named.Named.TheVariants as named
-use Rattle.law_order.proofs.ByNumber.{by_test}
+use Rattle.rh_line.specs.declared.leg.LegKind.{LegKind}
+use Rattle.rh_line.specs.declared.leg.LegKind.TheVariants.{ClientOut, OutServer, ClientIn, InServer}
 use Rattle.rh_shell.specs.declared.answers.Count.{Count}
-use Rattle.rh_rts.specs.declared.command.Cookie.{Cookie}
 use Rattle.rh_client.specs.declared.channels.InChannel.{InChannel}
 use Rattle.rh_client.specs.declared.state.ClientRole.{ClientRole}
 use Rattle.rh_client.specs.Client.{on_packet, packet_by, pdu_by, rules as client_rules}

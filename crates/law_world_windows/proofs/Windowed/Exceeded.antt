@@ -3,10 +3,10 @@ use Rattle.std.proofs.Common.{◌≡◌, inl, inr, ℕ, List, [], ◌∷◌, len
 use Rattle.std.specs.Prelude.{slice_index, ◌==◌, ◌&&◌, ◌||◌}
 use Rattle.std.specs.declared.option.Option.{Option}
 use Rattle.std.specs.declared.result.Result.{Result}
-use Rattle.rh_http.specs.declared.refusal.Refusal.{Refusal}
 use Rattle.rh_pdu.specs.Header.{rts}
 use Rattle.rh_sig.specs.declared.fault.SigFault.TheVariants as sig
 use Rattle.rh_sig.specs.declared.named.Named.{Named}
+use Rattle.rh_http.specs.declared.refusal.Refusal.{Refusal}
 use Rattle.rh_line.specs.declared.leg.Leg.{Leg}
 use Rattle.rh_line.specs.declared.cause.Cause.{Cause}
 use Rattle.rh_line.specs.declared.cause.Cause.TheVariants as cause
@@ -25,11 +25,11 @@ use Rattle.rh_shell.specs.declared.stage.Stage.TheVariants as stage
 use Rattle.rh_shell.specs.declared.stop.Stop.{Stop}
 use Rattle.rh_shell.specs.Hearing.{Turn, goes, stops, stop, head_row, begun_body, behind_head, behind_frame, row_by, close_row, one_more, is_zero, is_upward, is_ping, take_ping, take_packet, take_frame, is_greeting, heading, touched, with_intake, take, hear_byte, hear, heard, is_stopped}
 use Rattle.rh_shell.specs.Intakes.{Came, Nothing, Head, Greeting, Frame, Fault, Over, on_byte}
-use Rattle.law_moves.specs.Laws.{ClosedWith}
 use Rattle.rh_shell.specs.NearEnds.{NearEnd, is_over}
 use Rattle.rh_shell.specs.Readings.{packet_of}
 use Rattle.rh_shell.specs.Rules.{Rules, Row}
 use Rattle.rh_shell.specs.Shells.{Shell, bytes_at, bytes_by, end_at, stop_by, stopped, with_end}
+use Rattle.law_moves.specs.Laws.{ClosedWith}
 use Rattle.law_world_honest.specs.Honesty.Causes.{RowRefuses}
 
 module _ {S : Type 0} (rules : Rules S) where

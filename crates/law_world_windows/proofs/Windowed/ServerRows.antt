@@ -1,9 +1,9 @@
 -- the rows of a server refuse for a window on is legs alone, and as out of range on os legs alone
 use Rattle.std.proofs.Common.{ℕ, List, rules}
-use Rattle.rh_line.specs.declared.leg.LegKind.{LegKind}
-use Rattle.rh_line.specs.declared.leg.LegKind.TheVariants.{ClientOut, OutServer, ClientIn, InServer}
 use Rattle.rh_sig.specs.declared.named.Named.{Named}
 use Rattle.rh_sig.specs.declared.named.Named.TheVariants as named
+use Rattle.rh_line.specs.declared.leg.LegKind.{LegKind}
+use Rattle.rh_line.specs.declared.leg.LegKind.TheVariants.{ClientOut, OutServer, ClientIn, InServer}
 use Rattle.rh_shell.specs.declared.answers.Count.{Count}
 use Rattle.rh_server.specs.Acknowledging.{on_pdu}
 use Rattle.rh_server.specs.Servers.{on_is, on_os, packet_by, pdu_by, rules as server_rules}

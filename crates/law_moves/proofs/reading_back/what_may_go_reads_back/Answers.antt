@@ -10,9 +10,9 @@ use Rattle.rh_sig.specs.declared.name.Pipe.{Pipe}
 use Rattle.rh_sig.specs.declared.named.Named.{Named}
 use Rattle.rh_sig.specs.Naming.{named_of, named_bytes}
 use Rattle.rh_sig.specs.Values.{parts_of}
-use Rattle.law_moves.specs.Carrying.{message_in, named_messages}
 use Rattle.rh_shell.specs.Readings.{packet_of, packet_by, named_by}
 use Rattle.rh_shell.specs.Rules.{Message, Text, Pdu, Packet}
+use Rattle.law_moves.specs.Carrying.{message_in, named_messages}
 use Rattle.law_moves.specs.Legible.Legible.{MayGo, MayGoOn, ReadsBack, IsTaken}
 use Rattle.law_moves.specs.Moves.{OnLeg}
 use Rattle.law_moves.proofs.Legible.Each.{each_so}

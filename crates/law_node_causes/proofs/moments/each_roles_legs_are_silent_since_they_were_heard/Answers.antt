@@ -1,10 +1,10 @@
-use Rattle.rh_client.specs.Client as client
-use Rattle.rh_client.specs.State as clients
 use Rattle.rh_inproxy.specs.Machine as in_proxy
 use Rattle.rh_inproxy.specs.State as in_proxies
 use Rattle.rh_outproxy.specs.declared.out_proxy.TheConstants as out_proxies
 use Rattle.rh_outproxy.specs.OutProxy.{new_proxy}
 use Rattle.rh_outproxy.specs.Machine as out_proxy
+use Rattle.rh_client.specs.Client as client
+use Rattle.rh_client.specs.State as clients
 use Rattle.rh_server.specs.Servers as server
 use Rattle.law_node_causes.proofs.Touches.{since_is, since_is_at_end}
 use Rattle.law_node_causes.proofs.moments.each_roles_legs_are_silent_since_they_were_heard.Goals as goal

@@ -1,9 +1,9 @@
 use Rattle.std.proofs.Common.{refl}
-use Rattle.rh_client.specs.Client as client
-use Rattle.rh_client.specs.State as clients
 use Rattle.rh_inproxy.specs.State.{first}
 use Rattle.rh_inproxy.specs.Machine as in_proxy
 use Rattle.rh_outproxy.specs.Machine as out_proxy
+use Rattle.rh_client.specs.Client as client
+use Rattle.rh_client.specs.State as clients
 use Rattle.rh_server.specs.Servers as server
 use Rattle.law_node_causes.proofs.SilentLegs.{client_silent, in_silent, never_silent}
 use Rattle.law_node_causes.proofs.watching.a_node_falls_silent_since_it_was_heard.Goals as goal

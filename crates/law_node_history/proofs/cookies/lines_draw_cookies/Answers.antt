@@ -1,10 +1,10 @@
+use Rattle.rh_nodes.specs.Settling.{round}
+use Rattle.rh_nodes.specs.Steps.{step_line}
 use Rattle.law_node_history.proofs.Drawing.{drawn_rises, draws_by_lines, draws_none, draws_then}
 use Rattle.law_node_history.proofs.Lines.{draws_step_line, step_draws}
 use Rattle.law_node_history.proofs.Rounds.{draws_round}
 use Rattle.law_node_history.proofs.cookies.lines_draw_cookies.Goals as goal
 use Rattle.law_node_history.specs.Drawn.{all_risen}
-use Rattle.rh_nodes.specs.Settling.{round}
-use Rattle.rh_nodes.specs.Steps.{step_line}
 
 pub returns : goal.returns
 returns g c = record {

@@ -1,10 +1,10 @@
 use Rattle.std.proofs.Common.{ℕ, subst}
-use Rattle.law_moves.specs.Moves.{end_started}
 use Rattle.rh_client.specs.Client.{acts as client_acts, rules as client_rules}
 use Rattle.rh_client.specs.State.{ci}
 use Rattle.rh_client.specs.State.{first as first_client}
 use Rattle.rh_server.specs.Servers.{acts as server_acts, first as first_server, rules as server_rules}
 use Rattle.rh_server.specs.States.{Server}
+use Rattle.law_moves.specs.Moves.{end_started}
 use Rattle.law_node_causes.specs.Numbers.{ClientIsNumbered}
 use Rattle.law_role_outproxy.specs.Counted.{ForwardsWhatCame}
 use Rattle.law_peers_moments.specs.Moments.{out_behind}

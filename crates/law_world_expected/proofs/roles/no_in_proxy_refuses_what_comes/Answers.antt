@@ -1,7 +1,7 @@
-use Rattle.law_moves.specs.Wires.{of_leg}
-use Rattle.rh_nodes.specs.Readers.{reader_of}
-use Rattle.law_role_client.specs.Order.{client_moved}
 use Rattle.rh_client.specs.State.{ci}
+use Rattle.rh_nodes.specs.Readers.{reader_of}
+use Rattle.law_moves.specs.Wires.{of_leg}
+use Rattle.law_role_client.specs.Order.{client_moved}
 use Rattle.law_node_traces.specs.Traced.Recordings.{history_at}
 use Rattle.law_world_order.specs.Pasts.{moves_of, numbers}
 use Rattle.law_world_order.specs.Premises.{AreDistinct}

@@ -1,6 +1,6 @@
-use Rattle.rh_nodes.specs.Readers.{reader_of}
 use Rattle.rh_client.specs.State.{co}
 use Rattle.rh_server.specs.States.{no_cookie}
+use Rattle.rh_nodes.specs.Readers.{reader_of}
 use Rattle.law_world_order.specs.Pasts.{moves_of, numbers}
 use Rattle.law_world_expected.specs.Roles.{HaveCookies, OfClient, OutExpectsServer, WorldsExpect}
 use Rattle.law_world_expected.proofs.roles.no_out_proxy_refuses_its_server.Goals as goal

@@ -1,5 +1,5 @@
-use Rattle.rh_nodes.specs.Readers.{reader_of}
 use Rattle.rh_client.specs.State.{co}
+use Rattle.rh_nodes.specs.Readers.{reader_of}
 use Rattle.law_world_order.specs.Premises.{AreDistinct}
 use Rattle.law_world_order.specs.Pasts.{moves_of, numbers}
 use Rattle.law_world_expected.specs.Roles.{ClientExpects, OfClient, WorldsExpect}

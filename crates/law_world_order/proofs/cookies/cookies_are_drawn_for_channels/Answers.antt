@@ -1,10 +1,10 @@
 use Rattle.std.proofs.Common.{◌≡◌, suc, true, false, [], arith, subst}
 use Rattle.rh_line.specs.declared.leg.Leg.{Leg}
-use Rattle.law_moves.specs.Moving.{after_end_events}
 use Rattle.rh_shell.specs.Shells.{Shell, may_up}
 use Rattle.rh_client.specs.declared.channels.TheConstants.{LAST_NUMBER}
 use Rattle.rh_client.specs.declared.state.ClientRole.{ClientRole}
 use Rattle.rh_client.specs.Client as client
+use Rattle.law_moves.specs.Moving.{after_end_events}
 use Rattle.law_node_history.specs.Carried.{AreAcceptedAtEnd, came_up, happened}
 use Rattle.law_node_history.specs.Histories.{all_noted, nothing}
 use Rattle.law_node_traces.specs.Traced.Ours.{deeds, rules}

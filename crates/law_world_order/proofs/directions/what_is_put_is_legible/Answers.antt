@@ -1,11 +1,11 @@
-use Rattle.law_world_order.proofs.Legs.{Reads}
+use Rattle.law_node_traces.specs.Traced.Ours.{deeds, rules}
 use Rattle.law_peers_routes.proofs.Upwards.Unread.{refusal_unread}
+use Rattle.law_world_order.proofs.Legs.{Reads}
 use Rattle.law_world_order.proofs.Flowing.{Streaming}
 use Rattle.law_world_order.proofs.Starting.{Beginning}
 use Rattle.law_world_order.proofs.Legal.{Legalities}
 use Rattle.law_world_order.proofs.Reaching.{Tracing}
 use Rattle.law_world_order.proofs.Moments.{Known, flowing}
-use Rattle.law_node_traces.specs.Traced.Ours.{deeds, rules}
 use Rattle.law_world_order.proofs.directions.what_is_put_is_legible.Goals as goal
 
 pub returns : goal.returns

@@ -3,8 +3,8 @@ use Rattle.std.specs.Prelude.{Some, None}
 use Rattle.std.specs.declared.option.Option.{Option}
 use Rattle.law_order.proofs.Prefixes.{prefix_trans}
 use Rattle.rh_sig.specs.declared.name.Pipe.{Pipe}
-use Rattle.law_moves.specs.Carrying.{spelled}
 use Rattle.rh_shell.specs.Rules.{Message, Text, Pdu, Packet}
+use Rattle.law_moves.specs.Carrying.{spelled}
 use Rattle.law_moves.proofs.Legible.Each.{each_so}
 use Rattle.law_moves.specs.Legible.Legible.{MayGoOn, ReadsBack}
 use Rattle.law_moves.specs.ReadBack.Well.{Answers, AreTaken}

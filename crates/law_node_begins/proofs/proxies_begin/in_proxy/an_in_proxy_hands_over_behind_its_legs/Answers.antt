@@ -1,7 +1,7 @@
 use Rattle.std.proofs.Common.{arith}
-use Rattle.law_moves.specs.Moves.{all_moved, started}
 use Rattle.rh_inproxy.specs.Machine.{rules as proxy_rules}
 use Rattle.rh_inproxy.specs.State.{first}
+use Rattle.law_moves.specs.Moves.{all_moved, started}
 use Rattle.law_node_begins.proofs.ProxiesBegin.InGoes.{alone}
 use Rattle.law_node_begins.proofs.ProxiesBegin.InLaws.{reached}
 use Rattle.law_node_begins.proofs.proxies_begin.in_proxy.an_in_proxy_hands_over_behind_its_legs.Goals as goal

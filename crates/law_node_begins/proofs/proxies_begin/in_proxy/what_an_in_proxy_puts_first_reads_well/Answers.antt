@@ -1,9 +1,9 @@
 use Rattle.std.proofs.Common.{refl, subst}
 use Rattle.std.specs.Prelude.{None, Some}
-use Rattle.rh_http.specs.Texts.{response_text}
 use Rattle.rh_sig.specs.declared.name.Pipe.TheVariants.{IsU as is_u}
-use Rattle.law_moves.specs.Wires.{of_leg}
+use Rattle.rh_http.specs.Texts.{response_text}
 use Rattle.rh_inproxy.specs.Opening.{echo_packet}
+use Rattle.law_moves.specs.Wires.{of_leg}
 use Rattle.law_moves.specs.ReadBack.Well.{TextIsWell, is_packet}
 use Rattle.law_moves.proofs.ReadBack.NoTexts.{no_texts_well}
 use Rattle.law_node_begins.specs.ProxiesBegin.Pipes.{is}

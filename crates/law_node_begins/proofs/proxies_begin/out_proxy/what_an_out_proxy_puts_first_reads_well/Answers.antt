@@ -1,9 +1,9 @@
 use Rattle.std.proofs.Common.{refl}
 use Rattle.std.specs.Prelude.{Some}
-use Rattle.rh_http.specs.Texts.{response_text}
 use Rattle.rh_sig.specs.declared.name.Pipe.TheVariants.{CoD as co_d, OsU as os_u}
-use Rattle.law_moves.specs.Wires.{of_leg}
+use Rattle.rh_http.specs.Texts.{response_text}
 use Rattle.rh_outproxy.specs.Putting.{echo_packet}
+use Rattle.law_moves.specs.Wires.{of_leg}
 use Rattle.law_moves.specs.ReadBack.Well.{is_packet}
 use Rattle.law_moves.proofs.ReadBack.NoTexts.{no_texts_well}
 use Rattle.law_node_begins.specs.ProxiesBegin.Pipes.{os}

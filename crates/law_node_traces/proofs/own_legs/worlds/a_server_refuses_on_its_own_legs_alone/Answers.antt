@@ -3,12 +3,12 @@ use Rattle.rh_line.specs.declared.cause.Cause.{Cause}
 use Rattle.rh_line.specs.declared.cause.Cause.TheVariants.{CookieMismatch, Unexpected}
 use Rattle.rh_line.specs.declared.leg.Leg.{Leg}
 use Rattle.rh_record.specs.declared.answer.Who.TheVariants.{Server as AtServer}
-use Rattle.rh_nodes.specs.World.{World}
-use Rattle.rh_client.specs.declared.state.ClientRole.{ClientRole}
 use Rattle.rh_inproxy.specs.State.{InProxy}
-use Rattle.rh_server.specs.Servers as server
 use Rattle.rh_outproxy.specs.OutProxy.{OutProxy}
+use Rattle.rh_client.specs.declared.state.ClientRole.{ClientRole}
+use Rattle.rh_server.specs.Servers as server
 use Rattle.rh_server.specs.States.{Server}
+use Rattle.rh_nodes.specs.World.{World}
 use Rattle.law_node_history.specs.Changes.{Change, MayChange}
 use Rattle.law_node_history.specs.Closes.{ClosesNode}
 use Rattle.law_node_traces.specs.Traced.Ours.{rules}

@@ -1,11 +1,11 @@
 use Rattle.rh_line.specs.declared.leg.LegKind.TheVariants.{ClientIn, ClientOut, InServer, OutServer}
 use Rattle.rh_shell.specs.Shells.{begun}
-use Rattle.rh_nodes.specs.Settling.{leg_at}
 use Rattle.rh_inproxy.specs.State.{first}
 use Rattle.rh_inproxy.specs.Machine as in_proxy
 use Rattle.rh_outproxy.specs.declared.out_proxy.TheConstants as out_proxies
 use Rattle.rh_outproxy.specs.OutProxy.{new_proxy}
 use Rattle.rh_outproxy.specs.Machine as out_proxy
+use Rattle.rh_nodes.specs.Settling.{leg_at}
 use Rattle.law_node_history.specs.Histories.{in_place, out_place}
 use Rattle.law_node_traces.proofs.Traced.LostLegs.{has_reason_at}
 use Rattle.law_node_traces.proofs.traces.refusals.a_refusal_is_of_a_leg_that_failed.Goals as goal

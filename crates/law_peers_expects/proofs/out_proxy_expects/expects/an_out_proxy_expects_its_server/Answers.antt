@@ -1,15 +1,15 @@
 use Rattle.std.proofs.Common.{◌≡◌, ◌⊎◌, ℕ, inl, inr, subst}
 use Rattle.rh_rts.specs.declared.command.Cookie.{Cookie}
 use Rattle.rh_sig.specs.declared.named.Named.TheVariants.{AckTo}
+use Rattle.rh_client.specs.State.{ci, co}
+use Rattle.rh_server.specs.States.{no_cookie}
 use Rattle.law_moves.specs.Wires.{of_leg}
 use Rattle.law_moves.specs.Passages.Passing.{Has}
 use Rattle.law_moves.specs.Passages.Rising.{HasComeUp}
-use Rattle.rh_client.specs.State.{ci, co}
-use Rattle.rh_server.specs.States.{no_cookie}
-use Rattle.law_role_server_rows.specs.Putting.Puts.{os}
-use Rattle.law_role_server_rows.specs.Refusing.Cookies.{IsOutChannel}
 use Rattle.law_role_outproxy.specs.Counted.{OpensAsAsked, OpensWhatCame}
 use Rattle.law_role_outproxy.specs.Refusing.{RefusesFor}
+use Rattle.law_role_server_rows.specs.Putting.Puts.{os}
+use Rattle.law_role_server_rows.specs.Refusing.Cookies.{IsOutChannel}
 use Rattle.law_peers_moments.specs.Moments.{IsMoment, Moves, Numbers, out_behind, passages}
 use Rattle.law_peers_expects.specs.OutProxyExpects.Premises.{AreFit}
 use Rattle.law_peers_expects.proofs.OutProxyExpects.Expecting.{SeeToIt, expects}

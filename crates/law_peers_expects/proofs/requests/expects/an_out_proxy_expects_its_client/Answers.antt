@@ -1,10 +1,10 @@
 use Rattle.std.proofs.Common.{ℕ, sym, subst}
-use Rattle.law_moves.specs.Wires.{of_leg}
-use Rattle.law_role_client_rows.specs.Putting.{OpenedBefore}
 use Rattle.rh_outproxy.specs.Machine.{rules}
+use Rattle.law_moves.specs.Wires.{of_leg}
 use Rattle.law_moves.specs.Passages.Rising.{HasComeUp}
-use Rattle.law_role_outproxy.specs.Counted.{co_leg}
 use Rattle.law_moves.specs.ReadBack.Reading.{all_read_of}
+use Rattle.law_role_outproxy.specs.Counted.{co_leg}
+use Rattle.law_role_client_rows.specs.Putting.{OpenedBefore}
 use Rattle.law_peers_moments.specs.Expecting.{Expects}
 use Rattle.law_peers_moments.specs.Moments.{client_behind, out_behind}
 use Rattle.law_peers_expects.specs.Asked.Requests.{HasAsked}

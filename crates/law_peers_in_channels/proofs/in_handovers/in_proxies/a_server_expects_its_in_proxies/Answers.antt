@@ -1,5 +1,5 @@
-use Rattle.law_moves.specs.Wires.{of_leg}
 use Rattle.rh_server.specs.Servers.{rules as server_rules}
+use Rattle.law_moves.specs.Wires.{of_leg}
 use Rattle.law_moves.specs.ReadBack.Reading.{all_read_of}
 use Rattle.law_role_inproxy.specs.Counted.{is_leg}
 use Rattle.law_peers_moments.specs.Moments.{in_behind, server_behind}

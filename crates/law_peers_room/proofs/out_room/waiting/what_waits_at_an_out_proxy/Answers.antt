@@ -1,11 +1,11 @@
 use Rattle.std.proofs.Common.{◌≡◌, ℕ, ◌+◌, Bool, arith, subst}
 use Rattle.rh_sig.specs.declared.named.Named.{Named}
-use Rattle.law_moves.specs.Moves.{Passage, all_moved, started}
 use Rattle.rh_outproxy.specs.Machine.{rules as proxy_rules}
 use Rattle.rh_outproxy.specs.OutProxy.{OutProxy, new_proxy}
+use Rattle.law_moves.specs.Moves.{Passage, all_moved, started}
 use Rattle.law_moves.specs.Passages.Passing.{count_of}
-use Rattle.law_role_client.specs.Counted.Counting.{is_in_a4}
 use Rattle.law_moves.specs.PacketKinds.{is_conn_c1, is_conn_c2, is_out_r1_a1, is_out_r1_a2, is_out_r1_a5, is_out_r1_a6}
+use Rattle.law_role_client.specs.Counted.Counting.{is_in_a4}
 use Rattle.law_peers_room.specs.OutRoom.Waits.{AreOfCame, WaitsInOrder, from_server, is_in_a3, to_client, waiting_at}
 use Rattle.law_peers_room.proofs.OutRoom.Held.{AreWithin}
 use Rattle.law_peers_room.proofs.OutRoom.Merging.{Follow, all_wait, follow_acks}

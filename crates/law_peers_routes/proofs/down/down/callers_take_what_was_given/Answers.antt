@@ -1,8 +1,8 @@
 use Rattle.std.proofs.Common.{◌≡◌, ℕ, true, List, ◌∙◌, sym, subst}
 use Rattle.law_order.specs.Taking.{ReportsEnd}
 use Rattle.rh_client.specs.declared.state.ClientRole.{ClientRole}
-use Rattle.law_role_client.specs.Order.{taker_of}
 use Rattle.rh_server.specs.States.{Server, is_closing}
+use Rattle.law_role_client.specs.Order.{taker_of}
 use Rattle.law_peers_routes.specs.Downwards.{client_took}
 use Rattle.law_peers_routes.proofs.Downwards.Sides.{told}
 use Rattle.law_peers_routes.proofs.down.down.callers_take_what_was_given.Goals as goal

@@ -1,5 +1,5 @@
-use Rattle.law_moves.specs.Moves.{all_end_moved, end_started}
 use Rattle.rh_server.specs.Servers.{acts, first, rules}
+use Rattle.law_moves.specs.Moves.{all_end_moved, end_started}
 use Rattle.law_role_server_rows.proofs.InTurn.FirstLegs.{conn_a2_first, conn_b2_first}
 use Rattle.law_role_server_rows.proofs.InTurn.Opening.{opens_first}
 use Rattle.law_role_server_rows.proofs.turns.opened.a_server_opens_before_it_writes.Goals as goal

@@ -1,22 +1,22 @@
-use Rattle.rh_nodes.specs.Opening.{Makers}
-use Rattle.rh_nodes.specs.World.{World}
-use Rattle.rh_client.specs.declared.state.ClientRole.{ClientRole}
 use Rattle.rh_inproxy.specs.State.{InProxy}
 use Rattle.rh_outproxy.specs.OutProxy.{OutProxy}
+use Rattle.rh_client.specs.declared.state.ClientRole.{ClientRole}
 use Rattle.rh_server.specs.States.{Server}
+use Rattle.rh_nodes.specs.Opening.{Makers}
+use Rattle.rh_nodes.specs.World.{World}
 use Rattle.law_node_history.specs.Histories.{IsNew}
-use Rattle.law_peers_routes.proofs.Upwards.Unread.{refusal_unread}
+use Rattle.law_peers_moments.specs.Moments.{Numbers}
 use Rattle.law_node_traces.specs.Traced.Ours.{AreOurs, deeds, rules}
+use Rattle.law_peers_routes.proofs.Upwards.Unread.{refusal_unread}
 use Rattle.law_world_order.specs.Flows.{numbers_of}
 use Rattle.law_world_order.specs.Premises.{AreDistinct, AreInRange}
 use Rattle.law_world_order.proofs.Legs.{Reads}
+use Rattle.law_world_order.specs.Pasts.{numbers}
 use Rattle.law_world_windows.proofs.Moment.{Laws}
 use Rattle.law_world_windows.proofs.Stopping.{Readings}
-use Rattle.law_peers_moments.specs.Moments.{Numbers}
 use Rattle.law_world_expected.proofs.Amiss.AtNodes.{ClientKnows, RolesKnow}
 use Rattle.law_world_expected.proofs.Amiss.Closing.{EachCloses}
 use Rattle.law_world_expected.proofs.Amiss.Moments.{AllFlow}
-use Rattle.law_world_order.specs.Pasts.{numbers}
 use Rattle.law_world_expected.specs.Roles.{Facts, OfClient, Premise, WorldsExpect}
 use Rattle.law_world_expected.proofs.Closing.{AtMoment}
 use Rattle.law_world_expected.proofs.Facts.{IsKept, client_kept, distinct_of_cookies}

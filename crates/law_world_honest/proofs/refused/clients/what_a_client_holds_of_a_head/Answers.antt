@@ -1,8 +1,8 @@
 use Rattle.std.proofs.Common.{[], refl}
 use Rattle.rh_client.specs.Client.{rules, acts, first_client, rooms}
 use Rattle.rh_client.specs.State.{first}
-use Rattle.law_node_begins.specs.EndsBegin.{client_reads}
 use Rattle.law_node_history.proofs.Once.{once_remembered_at_end}
+use Rattle.law_node_begins.specs.EndsBegin.{client_reads}
 use Rattle.law_world_honest.proofs.Refusals.Heard.{ClientLaws, heard_refusal, held}
 use Rattle.law_world_honest.proofs.Refusals.ClosedClients.{closed_refused}
 use Rattle.law_world_honest.proofs.refused.clients.what_a_client_holds_of_a_head.Goals as goal

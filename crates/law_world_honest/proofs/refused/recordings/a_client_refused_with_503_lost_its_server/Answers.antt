@@ -1,12 +1,12 @@
 use Rattle.std.proofs.Common.{◌≡◌, ◌⊎◌, inl, inr, ℕ, List, arith, refl, subst}
 use Rattle.rh_line.specs.declared.leg.LegKind.TheVariants.{ClientIn, ClientOut, InServer, OutServer}
-use Rattle.rh_nodes.specs.Readers.{reader_of}
-use Rattle.rh_nodes.specs.Settling.{leg_at}
 use Rattle.rh_shell.specs.Shells.{Shell}
 use Rattle.rh_inproxy.specs.Machine as in_proxy
 use Rattle.rh_inproxy.specs.State.{InProxy}
 use Rattle.rh_outproxy.specs.Machine as out_proxy
 use Rattle.rh_outproxy.specs.OutProxy.{OutProxy}
+use Rattle.rh_nodes.specs.Readers.{reader_of}
+use Rattle.rh_nodes.specs.Settling.{leg_at}
 use Rattle.law_node_traces.specs.Traced.Refusals.{DrawsRightly}
 use Rattle.law_node_traces.specs.Traced.Recordings.{history_at}
 use Rattle.law_world_honest.specs.Refusals.Refused.{DrewRefusal}

@@ -1,17 +1,17 @@
 use Rattle.std.proofs.Common.{refl, ⊎_elim}
 use Rattle.rh_text.specs.declared.ends.Dir.TheVariants.{D}
 use Rattle.rh_line.specs.declared.leg.LegKind.TheVariants.{ClientOut}
-use Rattle.rh_nodes.specs.Settling.{leg_at}
 use Rattle.rh_shell.specs.Shells.{begun}
-use Rattle.law_moves.specs.Wires.{of_leg}
 use Rattle.rh_outproxy.specs.declared.out_proxy.TheConstants.{ROOMS}
 use Rattle.rh_outproxy.specs.Machine as out_proxy
 use Rattle.rh_outproxy.specs.OutProxy.{new_proxy}
+use Rattle.rh_nodes.specs.Settling.{leg_at}
+use Rattle.law_moves.specs.Wires.{of_leg}
 use Rattle.law_node_history.specs.Carried.{drawn_on, happened, heard_on}
 use Rattle.law_node_traces.specs.Traced.Ours.{deeds, rules}
 use Rattle.law_node_traces.specs.Traced.Recordings.{history_at}
-use Rattle.law_world_honest.proofs.Refusals.Drawn.{heard_refused, refused_more}
 use Rattle.law_world_order.proofs.FirstTexts.OutTexts.{puts_200}
+use Rattle.law_world_honest.proofs.Refusals.Drawn.{heard_refused, refused_more}
 use Rattle.law_world_honest.proofs.Refusals.Refusals.{by_drawn, put_none}
 use Rattle.law_world_honest.proofs.refused.recordings.a_refused_out_channel_was_refused_by_its_proxy.Goals as goal
 

@@ -4,8 +4,8 @@ use Rattle.rh_world.specs.declared.config.WorldConfig.{WorldConfig}
 use Rattle.rh_world.specs.Roles as roles
 use Rattle.law_node_traces.proofs.Traced.ByChanges.{lines_by_changes}
 use Rattle.law_world_order.proofs.Recorded.{in_range, new, ours}
-use Rattle.law_world_honest.proofs.Refusals.Reporting.{an_in_proxy, an_out_proxy, reported_loss}
 use Rattle.law_world_order.proofs.FirstTexts.Taken.{recorded_port}
+use Rattle.law_world_honest.proofs.Refusals.Reporting.{an_in_proxy, an_out_proxy, reported_loss}
 use Rattle.law_world_honest.proofs.refused.reports.a_refused_client_of_a_recording_lost_its_server.Goals as goal
 
 pub returns : goal.returns

@@ -3,12 +3,12 @@ use Rattle.std.specs.Prelude.{Some, is_some, true}
 use Rattle.rh_line.specs.declared.leg.LegKind.TheVariants.{ClientOut}
 use Rattle.rh_shell.specs.declared.course.Course.TheVariants.{Going}
 use Rattle.rh_shell.specs.declared.stage.Stage.TheVariants as stage
-use Rattle.law_moves.specs.Moving.{after_events}
 use Rattle.rh_shell.specs.Shells.{Shell, begun, end_at}
-use Rattle.rh_nodes.specs.Settling.{leg_at}
 use Rattle.rh_outproxy.specs.declared.out_proxy.TheConstants.{ROOMS}
 use Rattle.rh_outproxy.specs.Machine.{rules as out_rules}
 use Rattle.rh_outproxy.specs.OutProxy.{OutProxy, new_proxy}
+use Rattle.rh_nodes.specs.Settling.{leg_at}
+use Rattle.law_moves.specs.Moving.{after_events}
 use Rattle.law_node_history.specs.Carried.{AreAccepted, ComesUpOnce}
 use Rattle.law_node_history.proofs.Leading.{cast_kept}
 use Rattle.law_node_traces.specs.Traced.Ours.{deeds, rules}

@@ -1,16 +1,16 @@
 use Rattle.std.proofs.Common.{subst}
-use Rattle.law_moves.specs.Moves.{EndPassage}
+use Rattle.rh_inproxy.specs.State.{InProxy}
+use Rattle.rh_outproxy.specs.OutProxy.{OutProxy}
+use Rattle.rh_client.specs.declared.state.ClientRole.{ClientRole}
+use Rattle.rh_server.specs.States.{Server}
 use Rattle.rh_nodes.specs.Opening.{Makers}
 use Rattle.rh_nodes.specs.Readers.{reader_of}
 use Rattle.rh_nodes.specs.World.{World}
-use Rattle.rh_client.specs.declared.state.ClientRole.{ClientRole}
-use Rattle.rh_inproxy.specs.State.{InProxy}
-use Rattle.rh_outproxy.specs.OutProxy.{OutProxy}
-use Rattle.rh_server.specs.States.{Server}
-use Rattle.law_node_traces.specs.Traced.Cookies.{ByChanges}
-use Rattle.law_node_traces.specs.Traced.Ours.{AreOurs, deeds, rules}
+use Rattle.law_moves.specs.Moves.{EndPassage}
 use Rattle.law_peers_moments.specs.Moments.{server_behind}
 use Rattle.law_peers_moments.specs.GoingRound.{GoRound}
+use Rattle.law_node_traces.specs.Traced.Cookies.{ByChanges}
+use Rattle.law_node_traces.specs.Traced.Ours.{AreOurs, deeds, rules}
 use Rattle.law_world_order.specs.Pasts.{HasMoment, moves_of, numbers}
 use Rattle.law_world_order.proofs.at_moments.rounds.replacements_of_a_world_go_round.Goals as goal
 

@@ -1,16 +1,16 @@
 use Rattle.std.proofs.Common.{[], refl}
-use Rattle.rh_nodes.specs.Opening.{Makers}
-use Rattle.rh_nodes.specs.World.{World}
-use Rattle.rh_client.specs.declared.state.ClientRole.{ClientRole}
 use Rattle.rh_inproxy.specs.State.{InProxy}
 use Rattle.rh_outproxy.specs.OutProxy.{OutProxy}
+use Rattle.rh_client.specs.declared.state.ClientRole.{ClientRole}
 use Rattle.rh_server.specs.States.{Server}
+use Rattle.rh_nodes.specs.Opening.{Makers}
+use Rattle.rh_nodes.specs.World.{World}
+use Rattle.law_node_traces.specs.Traced.Ours.{AreOurs, deeds, rules}
 use Rattle.law_peers_routes.proofs.Upwards.Unread.{refusal_unread}
 use Rattle.law_world_order.proofs.Flowing.{Streaming}
 use Rattle.law_world_order.proofs.Starting.{Beginning}
 use Rattle.law_world_order.specs.Flows.{numbers_of}
 use Rattle.law_world_order.specs.Premises.{AreInRange}
-use Rattle.law_node_traces.specs.Traced.Ours.{AreOurs, deeds, rules}
 use Rattle.law_world_order.proofs.Legs.{Reads}
 use Rattle.law_world_order.proofs.Pasts.Family.{AllRise}
 use Rattle.law_world_order.proofs.Pasts.Legal.{Legalities}

@@ -1,10 +1,10 @@
 use Rattle.std.proofs.Common.{subst}
-use Rattle.rh_nodes.specs.Opening.{Makers}
-use Rattle.rh_nodes.specs.World.{World}
-use Rattle.rh_client.specs.declared.state.ClientRole.{ClientRole}
 use Rattle.rh_inproxy.specs.State.{InProxy}
 use Rattle.rh_outproxy.specs.OutProxy.{OutProxy}
+use Rattle.rh_client.specs.declared.state.ClientRole.{ClientRole}
 use Rattle.rh_server.specs.States.{Server}
+use Rattle.rh_nodes.specs.Opening.{Makers}
+use Rattle.rh_nodes.specs.World.{World}
 use Rattle.law_node_history.specs.Histories.{IsNew, all_noted, nothing}
 use Rattle.law_node_traces.specs.Traced.Ours.{AreOurs, deeds, rules}
 use Rattle.law_world_order.specs.Directions.{down_route_of, up_route_of}

@@ -3,11 +3,11 @@ use Rattle.std.specs.declared.option.Option.{Option}
 use Rattle.law_order.specs.Items.{Item}
 use Rattle.law_order.specs.Paths.{path}
 use Rattle.rh_shell.specs.Rules.{Message}
-use Rattle.law_role_client.specs.Order.{down_items, has_leg}
-use Rattle.law_role_inproxy.specs.Order.{item_came}
 use Rattle.rh_nodes.specs.Readers.{reader_of}
-use Rattle.law_role_outproxy.specs.Order.{from_server}
+use Rattle.law_role_inproxy.specs.Order.{item_came}
+use Rattle.law_role_client.specs.Order.{down_items, has_leg}
 use Rattle.law_role_server.specs.Order.{in_items}
+use Rattle.law_role_outproxy.specs.Order.{from_server}
 use Rattle.law_peers_routes.specs.Upwards as goes_up
 use Rattle.law_world_order.specs.Directions.{down_route_of, up_route_of}
 use Rattle.law_world_order.proofs.Marked.{RouteLaws, down_is_route, up_is_route}

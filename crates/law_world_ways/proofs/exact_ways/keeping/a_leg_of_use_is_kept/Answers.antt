@@ -1,10 +1,10 @@
-use Rattle.rh_client.specs.Client as client
-use Rattle.rh_client.specs.State as client_state
 use Rattle.rh_inproxy.specs.Machine as in_proxy
 use Rattle.rh_inproxy.specs.State as in_state
 use Rattle.rh_outproxy.specs.declared.out_proxy.TheConstants.{ROOMS}
 use Rattle.rh_outproxy.specs.Machine as out_proxy
 use Rattle.rh_outproxy.specs.OutProxy.{OutProxy, new_proxy}
+use Rattle.rh_client.specs.Client as client
+use Rattle.rh_client.specs.State as client_state
 use Rattle.rh_server.specs.Servers as server
 use Rattle.rh_server.specs.States.{Server}
 use Rattle.law_node_causes.specs.Numbers.{AreNumbered, ClientIsNumbered}

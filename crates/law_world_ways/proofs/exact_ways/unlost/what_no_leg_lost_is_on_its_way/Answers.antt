@@ -1,11 +1,11 @@
 use Rattle.std.proofs.Common.{◌≡◌, ap, ◌∙◌, subst}
 use Rattle.rh_shell.specs.Shells.{Shell}
-use Rattle.rh_client.specs.declared.state.ClientRole.{ClientRole}
-use Rattle.rh_client.specs.Client as client
 use Rattle.rh_inproxy.specs.Machine as in_proxy
 use Rattle.rh_inproxy.specs.State.{InProxy}
 use Rattle.rh_outproxy.specs.Machine as out_proxy
 use Rattle.rh_outproxy.specs.OutProxy.{OutProxy}
+use Rattle.rh_client.specs.declared.state.ClientRole.{ClientRole}
+use Rattle.rh_client.specs.Client as client
 use Rattle.rh_server.specs.Servers as server
 use Rattle.rh_server.specs.States.{Server}
 use Rattle.rh_nodes.specs.Opening.{Makers}

@@ -1,12 +1,12 @@
-use Rattle.rh_client.specs.Client as client
-use Rattle.rh_client.specs.State as client_state
+use Rattle.rh_shell.specs.Shells.{begun}
 use Rattle.rh_inproxy.specs.Machine as in_proxy
 use Rattle.rh_inproxy.specs.State as in_state
 use Rattle.rh_outproxy.specs.declared.out_proxy.TheConstants.{ROOMS}
 use Rattle.rh_outproxy.specs.Machine as out_proxy
 use Rattle.rh_outproxy.specs.OutProxy.{new_proxy}
+use Rattle.rh_client.specs.Client as client
+use Rattle.rh_client.specs.State as client_state
 use Rattle.rh_server.specs.Servers as server
-use Rattle.rh_shell.specs.Shells.{begun}
 use Rattle.law_node_history.specs.Carried.{happened, heard_on}
 use Rattle.law_node_begins.specs.EndsBegin.{client_reads, server_reads}
 use Rattle.law_node_begins.specs.ProxiesBegin.Pipes.{in_pipe, out_pipe}
