@@ -1,4 +1,0 @@
-//! What lines spell, and how packets are told.
-
-mod reading;
-mod telling;

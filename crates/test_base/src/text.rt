@@ -1,6 +1,0 @@
-//! Texts worked out by hand.
-
-mod digits;
-mod lines;
-mod numbers;
-mod writing;

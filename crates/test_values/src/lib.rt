@@ -1,0 +1,14 @@
+//! Tests of values that only a caller can make: parts of packets and of texts, and answers and
+//! causes with their lines. What bytes and numbers can ask for stands in `test_base`.
+#![tactic(auto)]
+
+#[cfg(test)]
+mod answers;
+#[cfg(test)]
+mod causes;
+#[cfg(test)]
+mod named;
+#[cfg(test)]
+mod packets;
+#[cfg(test)]
+mod parts;
