@@ -1,7 +1,6 @@
-//! The roles together: two at a time, and all four.
+//! All four roles together.
 
 mod ending;
-mod pairs;
 mod passing;
 mod replacing;
 

@@ -1,0 +1,3 @@
+pub mod Nodes
+pub mod Answers
+pub mod Players

@@ -1,0 +1,6 @@
+use Rattle.rh_script.proofs.StepLaws.{no_ask}
+use Rattle.rh_script.proofs.reading.parse_ask.Goals as goal
+
+pub returns-in_err-leg : goal.returns-in_err-leg
+returns-in_err-leg c =
+    rw c.from_residual.ensures (no_ask c.args.ask c.args.words.now c.in_err-leg.ensures)
